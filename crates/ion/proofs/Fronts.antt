@@ -1,18 +1,9 @@
 -- The values that a document gave so far are the front of the stream of what was heard.
 use Rattle.std.proofs.Common.{◌≡◌, ℕ, List, [], ◌∷◌, ◌++◌, refl, ap, sym, subst, ◌∙◌, true, Option, Some, None, IsNone, IfSome, option_to_list, append_assoc, append-nil, ◌↔◌}
 use Rattle.std.proofs.lemmas.List.{map-append}
-use Rattle.ion_model.specs.declared.value.Value.{Value}
-use Rattle.ion_symtab.specs.Trace.{Trace, plain, Streams, Grows}
+use Rattle.ion.specs.Names.{Begins, Catalog, Grows, Inlet, Items, Limits, Reads, Source, Streams, ToldDocument, Trace, Value, format_of, left_of, plain}
 use Rattle.ion_symtab.specs.Trace as traces
-use Rattle.ion_symtab.specs.declared.catalog.Catalog.{Catalog}
-use Rattle.ion_symtab.specs.declared.limits.Limits.{Limits}
-use Rattle.ion_symtab.specs.declared.inlet.Inlet.{Ghosts as Inlet}
-use Rattle.ion_symtab.specs.declared.items.Items.{Ghosts as Items}
-use Rattle.ion_streams.specs.Formats.{format_of}
-use Rattle.ion_streams.specs.Outcomes.{ToldDocument}
-use Rattle.ion_streams.specs.reading.Read.{left_of, Begins, Reads}
-use Rattle.ion_streams.specs.declared.source.Source.{Source}
-use Rattle.ion.specs.Given.{IsFront, GivesFront}
+use Rattle.ion.specs.Given.{GivesFront, IsFront}
 
 -- what stands in front of the values of a trace stands in front of its stream
 front_of_trace : (t : Trace) (given : List (Value × ℕ)) (s stream : List Value) → plain given ≡ s → traces.IsFront given t.given → Streams t stream

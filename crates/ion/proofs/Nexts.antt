@@ -1,19 +1,9 @@
 -- What is answered where a document went on.
 use Rattle.std.proofs.Common.{ℕ, List, ◌≡◌, ◌∷◌, [], ◌++◌, IsNone, IfSome, ◌↔◌}
-use Rattle.ion_model.specs.declared.value.Value.{Value}
-use Rattle.ion_symtab.specs.Trace.{Streams, Grows}
+use Rattle.ion.specs.Names.{Catalog, Ended, Grows, IfOpen, IfRefused, Inlet, IsReady, Items, Limits, Open, Refused, Standing, Stood, Streams, Value, format_of}
 use Rattle.ion_symtab.specs.Trace as traces
-use Rattle.ion_symtab.specs.declared.catalog.Catalog.{Catalog}
-use Rattle.ion_symtab.specs.declared.limits.Limits.{Limits}
-use Rattle.ion_symtab.specs.declared.inlet.Inlet.{Ghosts as Inlet}
-use Rattle.ion_symtab.specs.declared.items.Items.{Ghosts as Items}
-use Rattle.ion_streams.specs.Formats.{format_of}
-use Rattle.ion_streams.specs.reading.Read.{IsReady}
-use Rattle.ion_streams.specs.reading.Standing.{IfOpen, IfRefused, Stood}
-use Rattle.ion_streams.specs.declared.source.Standing.{Standing}
-use Rattle.ion_streams.specs.declared.source.Standing.TheVariants.{Open, Ended, Refused}
-use Rattle.ion.specs.Given.{IsRefused, GivesFront}
-use Rattle.ion.proofs.Fronts.{front_open, front_ended}
+use Rattle.ion.proofs.Fronts.{front_ended, front_open}
+use Rattle.ion.specs.Given.{GivesFront, IsRefused}
 
 -- where a document can't stand refused, it doesn't
 pub refused_not : {X : Type 0} (place : Standing X) → IfRefused place ⊥ → IsRefused place → ⊥

@@ -2,9 +2,8 @@
 use Rattle.std.proofs.Common.{◌≡◌, ℕ, ◌+◌, ◌≤◌, ◌==◌, Bool, true, false, List, [], ◌∷◌, ◌++◌, length, take, refl, ap, sym, ◌∙◌, arith, if◌then◌else◌, ◌<◌, cond, get_or, max, add-one, add-zero, zero-add, add_assoc, append_assoc, length-append}
 use Rattle.std.proofs.lemmas.List.Sums.{sum_by-append, count_by-le-length}
 use Rattle.std.proofs.Math.Seq.{take-suc}
-use Rattle.ion.specs.Lines.{ends_line, begins_character, end_at, lines_before, last_line, characters}
-use Rattle.ion.specs.Spots.{last_octet, spot_of, stepped, next}
-use Rattle.ion.specs.declared.spot.Spot.{Spot}
+use Rattle.ion.specs.Names.{Spot, begins_character, characters, end_at, ends_line, last_line, lines_before}
+use Rattle.ion.specs.Spots.{last_octet, next, spot_of, stepped}
 
 pub lines_snoc : (front : List ℕ) (o : ℕ) → lines_before (front ++ o ∷ []) ≡ lines_before front + (if ends_line (last_octet front) o then 1 else 0)
 lines_snoc [] o = refl

@@ -1,16 +1,7 @@
 -- What the values of a document give as an iterator.
 use Rattle.std.specs.Prelude.{◌≡◌, ℕ, ◌+◌, ◌*◌, ◌≤◌, List, [], ◌∷◌, ◌++◌, length, Bool, true, false, Option, Some, None, Result, Ok, Err}
-use Rattle.ion_model.specs.declared.value.Value.{Value}
-use Rattle.ion_symtab.specs.declared.catalog.Catalog.{Catalog}
-use Rattle.ion_symtab.specs.declared.fault.Fault.{Fault}
-use Rattle.ion_symtab.specs.declared.limits.Limits.{Limits}
-use Rattle.ion_symtab.specs.declared.inlet.Inlet.{Ghosts as Inlet}
-use Rattle.ion_symtab.specs.declared.items.Items.{Ghosts as Items}
-use Rattle.ion_streams.specs.reading.Read.{NoReadFailed}
-use Rattle.ion_streams.specs.reading.Standing.{reads_of}
-use Rattle.ion_streams.specs.declared.source.Standing.{Standing}
-use Rattle.ion.specs.declared.stop.Stop.{Stop}
-use Rattle.ion.specs.Given.{IsNext, HasGiven, IfAnswered, settled}
+use Rattle.ion.specs.Names.{Catalog, Fault, Inlet, Items, Limits, NoReadFailed, Standing, Stop, Value, reads_of}
+use Rattle.ion.specs.Given.{HasGiven, IfAnswered, IsNext, settled}
 
 -- one more item may come where it wasn't stopped
 abbrev pub still_one : Bool → ℕ

@@ -1,21 +1,6 @@
 -- What is known of a document whose values are asked for one by one.
 use Rattle.std.specs.Prelude.{◌≡◌, ℕ, List, [], ◌∷◌, ◌++◌, Bool, IsSome, Option, Some, None, Result, Ok, Err, option_to_list}
-use Rattle.ion_model.specs.declared.value.Value.{Value}
-use Rattle.ion_symtab.specs.Cause.{IsReadCause}
-use Rattle.ion_symtab.specs.Heard.{Heard, MayFollow}
-use Rattle.ion_symtab.specs.declared.catalog.Catalog.{Catalog}
-use Rattle.ion_symtab.specs.declared.fault.Fault.{Fault}
-use Rattle.ion_symtab.specs.declared.limits.Limits.{Limits}
-use Rattle.ion_symtab.specs.declared.inlet.Inlet.{Ghosts as Inlet}
-use Rattle.ion_symtab.specs.declared.items.Items.{Ghosts as Items}
-use Rattle.ion_streams.specs.Formats.{Format, format_of}
-use Rattle.ion_streams.specs.Outcomes.{ToldDocument, ToldRefused}
-use Rattle.ion_streams.specs.reading.Read.{GaveSoFar, IsWithin}
-use Rattle.ion_streams.specs.reading.Standing.{IfOpen, Stood}
-use Rattle.ion_streams.specs.declared.source.Standing.{Standing}
-use Rattle.ion_streams.specs.declared.source.Standing.TheVariants as TheStanding
-use Rattle.ion.specs.declared.stop.Stop.{Stop}
-use Rattle.ion.specs.declared.stop.Stop.TheVariants as stops
+use Rattle.ion.specs.Names.{Catalog, Fault, Format, GaveSoFar, Heard, IfOpen, Inlet, IsReadCause, IsWithin, Items, Limits, MayFollow, Standing, Stood, Stop, ToldDocument, ToldRefused, Value, format_of}
 
 -- the first values stand in front of the others
 abbrev pub IsFront : List Value → List Value → Type 0
@@ -34,8 +19,8 @@ module _ {S : Type 0} (R : Inlet S) where
   abbrev pub IsNext : {X : Type 0} → Items X → Catalog → Limits → S → S → List Value → Result (Option Value) Stop → Type 0
   IsNext I g l first now s (Ok (Some value)) = GivesFront (format_of I g l) first now (s ++ value ∷ [])
   IsNext I g l first now s (Ok None) = ToldDocument R (format_of I g l) first now s
-  IsNext I g l first now s (Err (stops.Refused refusal)) = ToldRefused R (format_of I g l) first now s refusal
-  IsNext I g l first now s (Err (stops.Fault fault)) = GaveSoFar R I g l first now s × IsReadCause R l.reads first now fault
+  IsNext I g l first now s (Err (Stop.Refused refusal)) = ToldRefused R (format_of I g l) first now s refusal
+  IsNext I g l first now s (Err (Stop.Fault fault)) = GaveSoFar R I g l first now s × IsReadCause R l.reads first now fault
 
   -- From first to now the document gave the values s, and stands there; or it did up to this fault.
   abbrev pub HasGiven : {X : Type 0} → Items X → Catalog → Limits → S → S → Standing X → Option Fault → List Value → Type 0
@@ -44,9 +29,9 @@ module _ {S : Type 0} (R : Inlet S) where
 
 -- it was found to be no document
 abbrev pub IsRefused : {X : Type 0} → Standing X → Type 0
-IsRefused (TheStanding.Open source) = ⊥
-IsRefused TheStanding.Ended = ⊥
-IsRefused (TheStanding.Refused refusal) = Unit {0}
+IsRefused (Standing.Open source) = ⊥
+IsRefused Standing.Ended = ⊥
+IsRefused (Standing.Refused refusal) = Unit {0}
 
 -- From first to now a document that had given s gave this, and stands there: s and it are the front of the stream of what was heard, and a document that was
 -- refused gave nothing more.
@@ -58,9 +43,9 @@ pub record WentOn {S X : Type 0} (R : Inlet S) (I : Items X) (g : Catalog) (l : 
 
 -- the answer where a document gave this, and stands there
 abbrev pub answer_of : {X : Type 0} → Standing X → Option Value → Result (Option Value) Stop
-answer_of (TheStanding.Open source) value = Ok value
-answer_of TheStanding.Ended value = Ok value
-answer_of (TheStanding.Refused refusal) value = Err (stops.Refused refusal)
+answer_of (Standing.Open source) value = Ok value
+answer_of Standing.Ended value = Ok value
+answer_of (Standing.Refused refusal) value = Err (Stop.Refused refusal)
 
 -- the value that an answer gives, if it gives one
 abbrev pub given_by : Result (Option Value) Stop → List Value
@@ -70,12 +55,12 @@ given_by (Err stop) = []
 -- where it isn't a fault: a value, none, or a refusal
 abbrev pub IfAnswered : Result (Option Value) Stop → Type 0 → Type 0
 IfAnswered (Ok value) P = P
-IfAnswered (Err (stops.Refused refusal)) P = P
-IfAnswered (Err (stops.Fault fault)) P = Unit {0}
+IfAnswered (Err (Stop.Refused refusal)) P = P
+IfAnswered (Err (Stop.Fault fault)) P = Unit {0}
 
 -- the answer of a document that isn't read on, which stays
 abbrev pub settled : {X : Type 0} → Standing X → Option Fault → Option (Result (Option Value) Stop)
-settled place (Some fault) = Some (Err (stops.Fault fault))
-settled (TheStanding.Open source) None = None
-settled TheStanding.Ended None = Some (Ok None)
-settled (TheStanding.Refused refusal) None = Some (Err (stops.Refused refusal))
+settled place (Some fault) = Some (Err (Stop.Fault fault))
+settled (Standing.Open source) None = None
+settled Standing.Ended None = Some (Ok None)
+settled (Standing.Refused refusal) None = Some (Err (Stop.Refused refusal))

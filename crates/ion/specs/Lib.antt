@@ -48,3 +48,4 @@ pub use Rattle.ion_symtab.specs.declared.limits.Limits
 pub use Rattle.ion_symtab.specs.declared.outlet.Outlet
 pub use Rattle.ion_symtab.specs.declared.target.Target
 pub use Rattle.ion_text.specs.Output as TextOutput
+pub mod Names

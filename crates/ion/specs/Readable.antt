@@ -1,10 +1,6 @@
 -- What a document that can be read on keeps between two calls, as a fact that has one proof.
 use Rattle.std.specs.Prelude.{◌≡◌, ℕ, ◌+◌, ◌-◌, ◌*◌, ◌<◌, ◌≤◌, ◌^◌, ◌==◌, List, [], ◌∷◌, length, Bool, true, false, Option, Some, None}
-use Rattle.ion_symtab.specs.declared.items.Items.{Ghosts as Items}
-use Rattle.ion_streams.specs.reading.Read.{left_of}
-use Rattle.ion_streams.specs.declared.source.Source.{Source}
-use Rattle.ion_streams.specs.declared.source.Standing.{Standing}
-use Rattle.ion_streams.specs.declared.source.Standing.TheVariants.{Open}
+use Rattle.ion.specs.Names.{Items, Open, Source, Standing, left_of}
 
 -- the octets begin with the one that is awaited, if one is
 abbrev pub begins_with : Option ℕ → List ℕ → Bool

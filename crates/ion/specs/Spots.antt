@@ -1,7 +1,6 @@
 -- What is kept of the octets that were gone over.
 use Rattle.std.specs.Prelude.{ℕ, ◌+◌, Bool, true, false, List, [], ◌∷◌, length, if◌then◌else◌}
-use Rattle.ion.specs.Lines.{ends_line, begins_character, lines_before, last_line, characters}
-use Rattle.ion.specs.declared.spot.Spot.{Spot}
+use Rattle.ion.specs.Names.{Spot, begins_character, characters, ends_line, last_line, lines_before}
 
 -- the last octet, or 0
 abbrev pub last_octet : List ℕ → ℕ

@@ -1,6 +1,6 @@
 //! The values of a document of either encoding.
 ghost use Rattle.std.specs.Prelude.{◌≡◌, [], IfOk, IfErr};
-ghost use Rattle.ion_streams.specs.reading.Standing.{reads_of};
+ghost use Rattle.ion.specs.Names.{reads_of};
 ghost use Rattle.ion.specs.Given.{HasGiven};
 
 use crate::one_by_one::{Values, values_by};

@@ -1,13 +1,8 @@
 //! The values of a document, one by one.
 ghost use Rattle.std.specs.Prelude.{◌≡◌, ℕ, ◌+◌, ◌^◌, ◌<◌, ◌≤◌, List, [], ◌++◌, ◌*◌, length, false, Ok, Some, None, IfOk, IfErr, OnOk, OnErr, IfSome, IsSome, option_to_list};
-ghost use Rattle.ion_model.specs.declared.value.Value.{Value};
-ghost use Rattle.ion_symtab.specs.declared.catalog.Catalog.{Catalog};
-ghost use Rattle.ion_symtab.specs.declared.limits.Limits.{Limits};
-ghost use Rattle.ion_symtab.specs.Cause.{IsReadCause};
-ghost use Rattle.ion_streams.specs.reading.Read.{IsFresh, IsReady, IsWithin, NoReadFailed, GaveSoFar};
-ghost use Rattle.ion_streams.specs.reading.Standing.{IfOpen, IfClosed, work_of, reads_of, Stood};
+ghost use Rattle.ion.specs.Names.{Catalog, GaveSoFar, IfClosed, IfOpen, IsFresh, IsReadCause, IsReady, IsWithin, Limits, NoReadFailed, Stood, Value, reads_of, work_of};
 ghost use Rattle.ion.specs.Readable.{CanGoOn};
-ghost use Rattle.ion.specs.Given.{HasGiven, IsNext, WentOn, settled, given_by, answer_of, IfAnswered};
+ghost use Rattle.ion.specs.Given.{HasGiven, IfAnswered, IsNext, WentOn, answer_of, given_by, settled};
 
 use crate::each::Each;
 use crate::stop::Stop;

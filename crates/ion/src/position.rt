@@ -1,6 +1,6 @@
 //! The place of an octet in a text.
 ghost use Rattle.std.specs.Prelude.{◌≡◌, ◌+◌, ◌≤◌, ◌⊎◌, true, false, length, IfOk, IfErr, OnOk};
-ghost use Rattle.ion.specs.Lines.{IsPosition};
+ghost use Rattle.ion.specs.Names.{IsPosition};
 
 use crate::spot::Spot;
 use ion_symtab::{Fault, Inlet};

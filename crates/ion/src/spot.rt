@@ -1,7 +1,7 @@
 //! How far a text was gone over.
 ghost use Rattle.std.specs.Prelude.{◌≡◌, ℕ, ◌+◌, ◌^◌, ◌<◌, List, [], ◌++◌, length};
-ghost use Rattle.ion.specs.Lines.{ends_line, begins_character, position};
-ghost use Rattle.ion.specs.Spots.{spot_of, next};
+ghost use Rattle.ion.specs.Names.{begins_character, ends_line, position};
+ghost use Rattle.ion.specs.Spots.{next, spot_of};
 
 use crate::position::Position;
 

@@ -3,10 +3,9 @@
 use Rattle.std.specs.Prelude.{ℕ, zero, suc, ℤ, pos, negsuc, ◌+◌, ◌/◌, ◌%◌, Bool, true, false, List, [], ◌∷◌, ◌++◌, Option, Some, None}
 use Rattle.std.specs.Fmt.{decimal, signed_decimal}
 use Rattle.ion_atoms.specs.Decimals.{DecimalParts}
+use Rattle.ion_atoms.specs.Timestamps.{TimestampParts}
 use Rattle.ion_atoms.specs.declared.timestamp.Local.{Local}
 use Rattle.ion_atoms.specs.declared.timestamp.Precision.{Precision}
-use Rattle.ion_atoms.specs.declared.timestamp.Precision.TheVariants as precisions
-use Rattle.ion_atoms.specs.Timestamps.{TimestampParts}
 
 -- a sign
 abbrev pub minus : Bool → List ℕ
@@ -59,12 +58,12 @@ offset_text (Some (negsuc n)) = 45 ∷ clock_text (suc n)
 
 -- the fields up to the precision, with `T` behind a year or a month, and the offset from minutes on
 abbrev pub cut_text : Precision → Local → Option ℤ → List ℕ
-cut_text precisions.Year l offset = four_digits l.year ++ (84 ∷ [])
-cut_text precisions.Month l offset = month_text l ++ (84 ∷ [])
-cut_text precisions.Day l offset = day_text l
-cut_text precisions.Minute l offset = minute_text l ++ offset_text offset
-cut_text precisions.Second l offset = second_text l ++ offset_text offset
-cut_text (precisions.Fraction digits) l offset = second_text l ++ (46 ∷ (padded digits l.fraction ++ offset_text offset))
+cut_text Precision.Year l offset = four_digits l.year ++ (84 ∷ [])
+cut_text Precision.Month l offset = month_text l ++ (84 ∷ [])
+cut_text Precision.Day l offset = day_text l
+cut_text Precision.Minute l offset = minute_text l ++ offset_text offset
+cut_text Precision.Second l offset = second_text l ++ offset_text offset
+cut_text (Precision.Fraction digits) l offset = second_text l ++ (46 ∷ (padded digits l.fraction ++ offset_text offset))
 
 -- the text of a timestamp: its local fields to its precision, and its offset
 abbrev pub timestamp_text : TimestampParts → List ℕ

@@ -3,13 +3,12 @@ use Rattle.std.specs.Prelude.{◌≡◌, ℕ, ℤ, pos, neg_ℤ, ◌+◌, ◌^�
 use Rattle.std.specs.Ordering.{int_eq, then_cmp, on, nat_cmp, int_cmp}
 use Rattle.std.specs.Option.{option_eq, option_cmp}
 use Rattle.std.specs.declared.cmp.Ordering.{Ordering}
+use Rattle.ion_atoms.specs.Calendar.{InYears, IsDate, minute_number}
+use Rattle.ion_atoms.specs.TimestampBounds.{farthest_offset, last_hour, last_minute, last_second, most_digits}
 use Rattle.ion_atoms.specs.declared.calendar.Date.{Date}
 use Rattle.ion_atoms.specs.declared.calendar.Minute.{Minute}
 use Rattle.ion_atoms.specs.declared.timestamp.Local.{Local}
 use Rattle.ion_atoms.specs.declared.timestamp.Precision.{Precision}
-use Rattle.ion_atoms.specs.declared.timestamp.Precision.TheVariants as precisions
-use Rattle.ion_atoms.specs.TimestampBounds.{last_hour, last_minute, last_second, farthest_offset, most_digits}
-use Rattle.ion_atoms.specs.Calendar.{IsDate, InYears, minute_number}
 
 -- local fields, how many of them are known, and the offset in minutes, None where it is unknown
 pub record TimestampParts : Type 0 where
@@ -31,12 +30,12 @@ IsTime l = (l.hour ≤ last_hour) × (l.minute ≤ last_minute) × (l.second ≤
 
 -- the fields past the precision are 1, of month and day, or 0; a fraction has 1 to 38 digits
 abbrev pub IsCut : Precision → Local → Type 0
-IsCut precisions.Year l = (l.month ≡ 1) × (l.day ≡ 1) × (l.hour ≡ 0) × (l.minute ≡ 0) × (l.second ≡ 0) × (l.fraction ≡ 0)
-IsCut precisions.Month l = (l.day ≡ 1) × (l.hour ≡ 0) × (l.minute ≡ 0) × (l.second ≡ 0) × (l.fraction ≡ 0)
-IsCut precisions.Day l = (l.hour ≡ 0) × (l.minute ≡ 0) × (l.second ≡ 0) × (l.fraction ≡ 0)
-IsCut precisions.Minute l = (l.second ≡ 0) × (l.fraction ≡ 0)
-IsCut precisions.Second l = l.fraction ≡ 0
-IsCut (precisions.Fraction digits) l = (1 ≤ digits) × (digits ≤ most_digits) × (l.fraction < 10 ^ digits)
+IsCut Precision.Year l = (l.month ≡ 1) × (l.day ≡ 1) × (l.hour ≡ 0) × (l.minute ≡ 0) × (l.second ≡ 0) × (l.fraction ≡ 0)
+IsCut Precision.Month l = (l.day ≡ 1) × (l.hour ≡ 0) × (l.minute ≡ 0) × (l.second ≡ 0) × (l.fraction ≡ 0)
+IsCut Precision.Day l = (l.hour ≡ 0) × (l.minute ≡ 0) × (l.second ≡ 0) × (l.fraction ≡ 0)
+IsCut Precision.Minute l = (l.second ≡ 0) × (l.fraction ≡ 0)
+IsCut Precision.Second l = l.fraction ≡ 0
+IsCut (Precision.Fraction digits) l = (1 ≤ digits) × (digits ≤ most_digits) × (l.fraction < 10 ^ digits)
 
 -- less than a day either way
 abbrev pub IsOffset : ℤ → Type 0
@@ -44,9 +43,9 @@ IsOffset minutes = (neg_ℤ (pos farthest_offset) ≤ℤ minutes) × (minutes �
 
 -- only from minute precision on an offset can be known
 abbrev pub HasOffset : Precision → Option ℤ → Type 0
-HasOffset precisions.Year offset = offset ≡ None
-HasOffset precisions.Month offset = offset ≡ None
-HasOffset precisions.Day offset = offset ≡ None
+HasOffset Precision.Year offset = offset ≡ None
+HasOffset Precision.Month offset = offset ≡ None
+HasOffset Precision.Day offset = offset ≡ None
 HasOffset _ None = Unit {0}
 HasOffset _ (Some minutes) = IsOffset minutes
 
@@ -79,12 +78,12 @@ instant t = record { minute = utc_minute t; second = t.local.second; fraction = 
 
 -- the place of a precision: year first, and fewer digits first
 abbrev pub precision_rank : Precision → ℕ
-precision_rank precisions.Year = 0
-precision_rank precisions.Month = 1
-precision_rank precisions.Day = 2
-precision_rank precisions.Minute = 3
-precision_rank precisions.Second = 4
-precision_rank (precisions.Fraction digits) = 5 + digits
+precision_rank Precision.Year = 0
+precision_rank Precision.Month = 1
+precision_rank Precision.Day = 2
+precision_rank Precision.Minute = 3
+precision_rank Precision.Second = 4
+precision_rank (Precision.Fraction digits) = 5 + digits
 
 -- whether all local fields agree
 abbrev pub local_same : Local → Local → Bool

@@ -3,32 +3,13 @@ use Rattle.std.proofs.Common.{◌≡◌, ℕ, List, [], ◌∷◌, ◌++◌, Boo
 use Rattle.std.specs.Prelude.{if◌then◌else◌}
 use Rattle.std.proofs.lemmas.List.{append-nil}
 use Rattle.std.proofs.lemmas.Bool.{false≢true}
-use Rattle.ion_atoms.specs.declared.refusal.Reason.{Reason}
-use Rattle.ion_atoms.specs.declared.refusal.Reason.TheVariants.{Malformed, Version}
-use Rattle.ion_model.specs.declared.value.Value.{Value}
-use Rattle.ion_model.specs.declared.value.Payload.{Payload}
-use Rattle.ion_model.specs.Measures.{bare}
-use Rattle.ion_visiting.specs.declared.bracket.Bracket.{Bracket}
-use Rattle.ion_visiting.specs.Events.{Event, part, name, opens, events_of}
-use Rattle.ion_binary.specs.machine.Frames.{Frame}
-use Rattle.ion_binary.specs.machine.Frames as frames
-use Rattle.ion_symtab.specs.Slots.{Slot, system_slots}
-use Rattle.ion_binary.specs.declared.state.Mark.{Mark}
-use Rattle.ion_binary.specs.declared.state.Mark.TheVariants.{Fourth}
-use Rattle.ion_binary.specs.declared.state.Phase.TheVariants.{Ready}
-use Rattle.ion_binary.specs.declared.state.Effect.{Effect}
-use Rattle.ion_binary.specs.declared.state.Effect.TheVariants.{Goes}
-use Rattle.ion_binary.specs.declared.walking.BinaryWalk.{BinaryWalk}
-use Rattle.ion_binary.specs.declared.walking.Container.TheVariants as containers
-use Rattle.ion_visiting.specs.declared.table_filter.TableFilter.{TableFilter}
-use Rattle.ion_binary.specs.declared.form.Scalar.{Scalar}
-use Rattle.ion_binary.specs.Judge.{judge}
-use Rattle.ion_binary.specs.machine.EachOctet.{Outcome, goes, refuses, at, deliver, proceed, judged, anew, on_marker}
-use Rattle.ion_visiting.specs.Tables.{Hears, WasTold, heard}
-use Rattle.ion_binary.specs.walking.Holds.{AreAround, AreOpen, Does, DoesAlone, HoldsNoWrapper, Holds, IsBehind, IsInside, IsNamedBy, IsPart, IsTop, Name, container_of, is_named, machine_of, name_of, open_containers, setting_of, spot_of, told, told_in}
+use Rattle.ion_binary.specs.Names.{AreAround, AreOpen, BinaryWalk, Bracket, Container, Does, DoesAlone, Effect, Event, Fourth, Frame, Goes, Hears, Holds, HoldsNoWrapper, IsBehind, IsInside, IsNamedBy, IsPart, IsTop, Malformed, Mark, Outcome, Payload, Ready, Reason, Scalar, Slot, TableFilter, Value, Version, WasTold, anew, at, bare, container_of, deliver, events_of, goes, heard, is_named, judge, judged, machine_of, name, name_of, on_marker, open_containers, part, proceed, refuses, setting_of, spot_of, system_slots, told}
+use Rattle.ion_visiting.specs.Events.{opens}
 use Rattle.ion_visiting.specs.laws.Filters.{hears_both}
-use Rattle.ion_binary.proofs.Tellings.{name_told, part_told, does_more}
-use Rattle.ion_binary.proofs.Ending.{does_same, bare_in, is_at}
+use Rattle.ion_binary.specs.machine.Frames as frames
+use Rattle.ion_binary.specs.walking.Holds.{Name, told_in}
+use Rattle.ion_binary.proofs.Ending.{bare_in, does_same, is_at}
+use Rattle.ion_binary.proofs.Tellings.{does_more, name_told, part_told}
 
 -- 1. Readers that only move on.
 
@@ -117,7 +98,7 @@ module _ {V : Type 0} (takes : V → Event → V → Type 0) (r : BinaryWalk) (g
 
   -- a wrapper
   pub wrapper_does : (new : BinaryWalk) (end : ℕ) (o : Outcome) → HoldsNoWrapper fs → new.filter ≡ g
-      → open_containers new ≡ containers.Annotated end ∷ open_containers r → IsInside new.phase (frames.Annotated end [] ∷ fs)
+      → open_containers new ≡ Container.Annotated end ∷ open_containers r → IsInside new.phase (frames.Annotated end [] ∷ fs)
       → o ≡ goes (machine_of new (frames.Annotated end [] ∷ fs)) → Does takes (told fs) o (Ok Goes) new a m
   wrapper_does new end o bare_there kept pushed inside is =
       let e : told_in fs ++ [] ≡ told_in fs = append-nil (told_in fs) in (
@@ -125,7 +106,7 @@ module _ {V : Type 0} (takes : V → Event → V → Type 0) (r : BinaryWalk) (g
         is,
         record {
           holds = record {
-            containers = pushed ∙ ap (λ cs. containers.Annotated end ∷ cs) h.containers;
+            containers = pushed ∙ ap (λ cs. Container.Annotated end ∷ cs) h.containers;
             named = tt;
             open_there = (bare_there, around);
             inside = inside;

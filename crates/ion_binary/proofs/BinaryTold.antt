@@ -4,30 +4,17 @@ use Rattle.std.specs.Prelude.{⊤}
 use Rattle.std.specs.List.{flat_map}
 use Rattle.std.proofs.lemmas.List.{take_at, drop_at}
 use Rattle.std.proofs.lemmas.List.Sums.{fold-append}
-use Rattle.ion_model.specs.declared.value.Value.{Value}
-use Rattle.ion_model.specs.declared.value.Field.{Field}
-use Rattle.ion_model.specs.declared.value.Payload.{Payload}
-use Rattle.ion_model.specs.declared.value.Payload.TheOpen.{Payload-F}
+use Rattle.ion_binary.specs.Names.{AreKept, AreKeptEvents, Bracket, Event, Field, IsKept, IsLater, Layer, Led, Names, Payload, Payload-F, Progress, Value, adds, after, annotation, behind, closes, code_in, depth, ended, events_of, field_events, field_octets, field_symbols, framed, greatest, id_of, ids_octets, layer_depth, layer_events, layer_octets, layer_symbols, names_after, nothing_yet, opening, part, puts, stream_events, symbols_of, table_from, table_octets, uint_octets, value_octets, var_uint_octets, with_count, with_name, with_names, within}
 use Rattle.ion_model.specs.declared.value.Payload.TheVariants as payloads
 use Rattle.ion_model.specs.declared.value.Payload.TheViews as views
-use Rattle.ion_model.specs.Kept.{AreKept, IsKept}
-use Rattle.ion_model.specs.Measures.{Layer, depth, layer_depth, greatest}
 use Rattle.ion_model.specs.laws.Measures.{depth-out}
-use Rattle.ion_scalar.specs.binary.Spellings.{var_uint_octets, uint_octets}
-use Rattle.ion_visiting.specs.declared.bracket.Bracket.{Bracket}
-use Rattle.ion_visiting.specs.declared.bracket.Bracket.TheVariants as brackets
-use Rattle.ion_visiting.specs.Events.{Event, part, annotation, closes, ended, within, events_of, field_events, layer_events, stream_events, Led}
-use Rattle.ion_visiting.specs.KeptEvents.{AreKeptEvents}
 use Rattle.ion_visiting.specs.laws.KeptEvents as kept_events
 use Rattle.ion_visiting.specs.laws.Led.{events_out, led_both}
-use Rattle.ion_binary.specs.Output.{Names, Progress, id_of, with_name, with_names, framed, with_count, ids_octets, wrapped, symbols_of, field_symbols, layer_symbols, value_octets, field_octets, layer_octets, opening, table_from, table_octets, names_after, nothing_yet, adds, after}
+use Rattle.ion_binary.specs.Output.{wrapped}
+use Rattle.ion_binary.specs.visiting.BinaryOut.{Encoded, Encodes, counted_behind, encoded, framed_behind, no_octets, of_values, with_begun, with_body, with_ended, with_frame, with_id, with_noted, with_part, with_value, wraps_next}
 use Rattle.ion_binary.specs.laws.writing.Output.{octets-out, symbols-out}
-use Rattle.ion_binary.specs.visiting.Brackets.{code_in}
-use Rattle.ion_binary.specs.visiting.BinaryOut.{Encoded, with_frame, framed_behind, with_body, counted_behind, wraps_next, with_begun, with_ended, with_id, with_part, with_noted, with_value, encoded, Encodes, no_octets, of_values}
-use Rattle.ion_binary.specs.writer.Later.{IsLater}
 use Rattle.ion_binary.proofs.Encoded.{framed_at}
-use Rattle.ion_binary.specs.writer.Puts.{puts, behind}
-use Rattle.ion_binary.proofs.Later.{later_self, later_by, id_later}
+use Rattle.ion_binary.proofs.Later.{id_later, later_by, later_self}
 
 -- 1. Events one behind the other.
 
@@ -203,11 +190,11 @@ layer_put n h (Payload-F.Symbol s) small a = part_put _ _ a (views.outs-Symbol s
 layer_put n h (Payload-F.Str w) small a = part_put _ _ a (views.outs-Str w) (λ names later l. refl)
 layer_put n h (Payload-F.Clob w) small a = part_put _ _ a (views.outs-Clob w) (λ names later l. refl)
 layer_put n h (Payload-F.Blob w) small a = part_put _ _ a (views.outs-Blob w) (λ names later l. refl)
-layer_put n h (Payload-F.List vs) small a = within_put brackets.List (flat_map symbols_of vs) (λ l. flat_map (value_octets l) vs) (flat_map events_of vs) a
+layer_put n h (Payload-F.List vs) small a = within_put Bracket.List (flat_map symbols_of vs) (λ l. flat_map (value_octets l) vs) (flat_map events_of vs) a
     (items_put events_of symbols_of value_octets vs (values_put n h vs (omega (arith, small))))
-layer_put n h (Payload-F.Sexp vs) small a = within_put brackets.Sexp (flat_map symbols_of vs) (λ l. flat_map (value_octets l) vs) (flat_map events_of vs) a
+layer_put n h (Payload-F.Sexp vs) small a = within_put Bracket.Sexp (flat_map symbols_of vs) (λ l. flat_map (value_octets l) vs) (flat_map events_of vs) a
     (items_put events_of symbols_of value_octets vs (values_put n h vs (omega (arith, small))))
-layer_put n h (Payload-F.Fields ms) small a = within_put brackets.Fields (flat_map field_symbols ms) (λ l. flat_map (field_octets l) ms) (flat_map field_events ms) a
+layer_put n h (Payload-F.Fields ms) small a = within_put Bracket.Fields (flat_map field_symbols ms) (λ l. flat_map (field_octets l) ms) (flat_map field_events ms) a
     (items_put field_events field_symbols field_octets ms (fields_put n h ms (omega (arith, small))))
 
 -- 4. Values.

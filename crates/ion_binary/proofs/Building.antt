@@ -1,17 +1,7 @@
 -- What a reader gives that builds what its walk tells.
 use Rattle.std.proofs.Common.{◌≡◌, ℕ, ◌+◌, Bool, true, false, List, [], ◌∷◌, ◌++◌, length, take, refl, ap, subst, Ok, Option, Some, None}
-use Rattle.ion_model.specs.declared.value.Value.{Value}
-use Rattle.ion_symtab.specs.declared.items.Walked.{Walked}
-use Rattle.ion_symtab.specs.Steps.{StepsOver}
-use Rattle.ion_symtab.specs.Trace.{Answers, Trace, given_at}
-use Rattle.ion_symtab.specs.Walks.{WalksOn, if_ended}
+use Rattle.ion_binary.specs.Names.{Answers, BinaryReader, Built, Event, Stands, StepsOver, Told, Trace, Value, Walked, WalksOn, awaits, builds, failed, given_at, if_ended, pending, taken, trace, value_in, without_value}
 use Rattle.ion_symtab.specs.laws.Builds.{built_on, built_taken, step_said}
-use Rattle.ion_visiting.specs.Building.{Built, builds, value_in, without_value}
-use Rattle.ion_visiting.specs.Events.{Event}
-use Rattle.ion_binary.specs.declared.reader.BinaryReader.{BinaryReader}
-use Rattle.ion_binary.specs.machine.Run.{trace}
-use Rattle.ion_binary.specs.Reading.{Stands}
-use Rattle.ion_binary.specs.walking.Runs.{Told, awaits, failed, pending, taken}
 use Rattle.ion_binary.specs.laws.reading.Promises.{grows}
 use Rattle.ion_binary.specs.laws.reading.Standing.{stood}
 

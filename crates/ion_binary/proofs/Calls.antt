@@ -1,11 +1,7 @@
 -- The calls of a writer over a whole stream write its document.
 use Rattle.std.proofs.Common.{List, [], ◌∷◌, sym, subst}
-use Rattle.ion_model.specs.declared.value.Value.{Value}
-use Rattle.ion_symtab.specs.Took.{Took}
+use Rattle.ion_binary.specs.Names.{Outlet, Progress, Took, Value, adds, after, behind, bin_of, bin_puts, nothing_yet, opening, puts}
 use Rattle.ion_symtab.specs.laws.Took.{Took-nil, Took-trans}
-use Rattle.ion_symtab.specs.declared.outlet.Outlet.{Ghosts as Outlet}
-use Rattle.ion_binary.specs.Output.{Progress, adds, after, opening, nothing_yet, bin_of}
-use Rattle.ion_binary.specs.writer.Puts.{puts, behind, bin_puts}
 use Rattle.ion_binary.specs.writer.Calls.{PutsEach, WritesEach}
 
 module _ {T : Type 0} (W : Outlet T) where

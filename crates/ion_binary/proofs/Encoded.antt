@@ -1,7 +1,7 @@
 -- A body behind its place.
 use Rattle.std.proofs.Common.{◌≡◌, ℕ, ◌+◌, List, [], ◌∷◌, ◌++◌, length, take, drop, refl, ◌∙◌, append_assoc}
 use Rattle.std.proofs.Math.Seq.{take-append_seam, drop-append-add}
-use Rattle.ion_binary.specs.Output.{framed}
+use Rattle.ion_binary.specs.Names.{framed}
 
 -- a body behind its place
 pub framed_at : (code place : ℕ) (old body mid new : List ℕ) → place ≡ length old → mid ≡ (old ++ 0 ∷ []) ++ body

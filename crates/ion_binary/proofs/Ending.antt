@@ -3,32 +3,12 @@ use Rattle.std.proofs.Common.{◌≡◌, ◌≢◌, ℕ, List, [], ◌∷◌, �
 use Rattle.std.specs.Prelude.{◌==◌, if◌then◌else◌}
 use Rattle.std.proofs.lemmas.List.{reverse-append}
 use Rattle.std.proofs.lemmas.Bool.Decides.{nat_tests}
-use Rattle.ion_atoms.specs.declared.refusal.Reason.{Reason}
-use Rattle.ion_model.specs.declared.value.Value.{Value}
-use Rattle.ion_model.specs.declared.value.Field.{Field}
-use Rattle.ion_model.specs.declared.value.Payload.{Payload}
+use Rattle.ion_binary.specs.Names.{AreAround, AreOpen, BinaryWalk, Bracket, Closes, Container, Does, DoesAlone, Effect, EndedIn, Event, Field, Frame, Goes, Hears, HoldsNoWrapper, InNumber, IsBareIn, IsBehind, IsInside, IsNamedBy, Listing, Outcome, Payload, Phase, Purpose, Ready, Reason, Setting, Spot, Value, WasTold, annotated, at, bare, bracket_of, closes, container_of, containers_of, deliver, events_of, field_of, goes, heard, listed, machine_of, name_of, open_containers, proceed, setting_of, spot_of, told}
 use Rattle.ion_model.specs.declared.value.Payload.TheVariants as payloads
-use Rattle.ion_model.specs.Measures.{bare, annotated, field_of}
-use Rattle.ion_visiting.specs.declared.bracket.Bracket.TheVariants as brackets
-use Rattle.ion_visiting.specs.Events.{Event, closes, events_of}
-use Rattle.ion_binary.specs.declared.form.Listing.{Listing}
-use Rattle.ion_binary.specs.machine.Frames.{Frame}
-use Rattle.ion_binary.specs.machine.Frames as frames
-use Rattle.ion_binary.specs.declared.state.Phase.{Phase}
-use Rattle.ion_binary.specs.declared.state.Phase.TheVariants.{Ready, InNumber}
-use Rattle.ion_binary.specs.declared.state.Purpose.TheVariants as purposes
-use Rattle.ion_binary.specs.declared.state.Effect.{Effect}
-use Rattle.ion_binary.specs.declared.state.Effect.TheVariants.{Goes}
-use Rattle.ion_binary.specs.declared.walking.BinaryWalk.{BinaryWalk}
-use Rattle.ion_binary.specs.declared.walking.Container.{Container}
-use Rattle.ion_binary.specs.declared.walking.Container.TheVariants as containers
-use Rattle.ion_binary.specs.Grammar.{listed}
-use Rattle.ion_binary.specs.visiting.Brackets.{bracket_of}
-use Rattle.ion_binary.specs.machine.EachOctet.{Setting, Spot, Outcome, goes, at, deliver, proceed}
-use Rattle.ion_visiting.specs.Tables.{Hears, WasTold, heard}
-use Rattle.ion_binary.specs.walking.Holds.{AreAround, AreOpen, Closes, Does, DoesAlone, EndedIn, HoldsNoWrapper, IsBareIn, IsBehind, IsInside, IsNamedBy, container_of, containers_of, machine_of, name_of, open_containers, setting_of, spot_of, told, told_in}
 use Rattle.ion_visiting.specs.laws.Filters.{hears_none}
-use Rattle.ion_binary.proofs.Tellings.{item_told, field_told, wrapped_told, items_told, fields_told, does_more, does_behind, closes_more}
+use Rattle.ion_binary.specs.machine.Frames as frames
+use Rattle.ion_binary.specs.walking.Holds.{told_in}
+use Rattle.ion_binary.proofs.Tellings.{closes_more, does_behind, does_more, field_told, fields_told, item_told, items_told, wrapped_told}
 
 -- 1. The same with other words for what comes.
 
@@ -67,34 +47,34 @@ isnt_at m n h = grind (arith, nat_tests)
 -- 2. Which container it is.
 
 abbrev pub IsItems : Container → Type 0
-IsItems (containers.Items end x) = Unit {0}
-IsItems (containers.Fields end) = ⊥
-IsItems (containers.Named end) = ⊥
-IsItems (containers.Annotated end) = ⊥
+IsItems (Container.Items end x) = Unit {0}
+IsItems (Container.Fields end) = ⊥
+IsItems (Container.Named end) = ⊥
+IsItems (Container.Annotated end) = ⊥
 
 abbrev pub IsNamed : Container → Type 0
-IsNamed (containers.Items end x) = ⊥
-IsNamed (containers.Fields end) = ⊥
-IsNamed (containers.Named end) = Unit {0}
-IsNamed (containers.Annotated end) = ⊥
+IsNamed (Container.Items end x) = ⊥
+IsNamed (Container.Fields end) = ⊥
+IsNamed (Container.Named end) = Unit {0}
+IsNamed (Container.Annotated end) = ⊥
 
 abbrev pub IsWrapper : Container → Type 0
-IsWrapper (containers.Items end x) = ⊥
-IsWrapper (containers.Fields end) = ⊥
-IsWrapper (containers.Named end) = ⊥
-IsWrapper (containers.Annotated end) = Unit {0}
+IsWrapper (Container.Items end x) = ⊥
+IsWrapper (Container.Fields end) = ⊥
+IsWrapper (Container.Named end) = ⊥
+IsWrapper (Container.Annotated end) = Unit {0}
 
 abbrev pub its_end : Container → ℕ
-its_end (containers.Items end x) = end
-its_end (containers.Fields end) = end
-its_end (containers.Named end) = end
-its_end (containers.Annotated end) = end
+its_end (Container.Items end x) = end
+its_end (Container.Fields end) = end
+its_end (Container.Named end) = end
+its_end (Container.Annotated end) = end
 
 abbrev pub its_listing : Listing → Container → Listing
-its_listing y (containers.Items end x) = x
-its_listing y (containers.Fields end) = y
-its_listing y (containers.Named end) = y
-its_listing y (containers.Annotated end) = y
+its_listing y (Container.Items end x) = x
+its_listing y (Container.Fields end) = y
+its_listing y (Container.Named end) = y
+its_listing y (Container.Annotated end) = y
 
 abbrev pub AreSome : List Container → Type 0
 AreSome [] = ⊥
@@ -145,12 +125,12 @@ module _ {V : Type 0} (takes : V → Event → V → Type 0) where
           (proceed (setting_of r) (spot_of r) (frames.Items end x vs ∷ fs)) result new a b
 
       pub items_go : (new : BinaryWalk) (a : V) → (r.used == end) ≡ false → machine_of new (frames.Items end x vs ∷ fs) ≡ at (spot_of r) (frames.Items end x vs ∷ fs) Ready
-          → open_containers new ≡ containers.Items end x ∷ open_containers r → new.phase ≡ Ready → new.filter ≡ r.filter → Items_close (Ok false) new a a
+          → open_containers new ≡ Container.Items end x ∷ open_containers r → new.phase ≡ Ready → new.filter ≡ r.filter → Items_close (Ok false) new a a
       items_go new a test is pushed phase kept =
           goes_in r new (frames.Items end x vs) fs _ Ready _ a
           (ap (λ t. if t then deliver (setting_of r) (spot_of r) fs (bare (listed x vs)) else goes (at (spot_of r) (frames.Items end x vs ∷ fs) Ready)) test
           ∙ ap goes (sym is))
-          (pushed ∙ ap (λ cs. containers.Items end x ∷ cs) same) around tt (subst (λ p. IsInside p (frames.Items end x vs ∷ fs)) (sym phase) tt)
+          (pushed ∙ ap (λ cs. Container.Items end x ∷ cs) same) around tt (subst (λ p. IsInside p (frames.Items end x vs ∷ fs)) (sym phase) tt)
           (subst (λ f. WasTold f (told_in (frames.Items end x vs ∷ fs))) (sym kept) was) refl
 
       pub items_end : (new : BinaryWalk) (a b : V) → (r.used == end) ≡ true → setting_of new ≡ setting_of r → spot_of new ≡ spot_of r
@@ -170,26 +150,26 @@ module _ {V : Type 0} (takes : V → Event → V → Type 0) where
           (proceed (setting_of r) (spot_of r) (frames.Fields end ms ∷ fs)) result new a b
 
       pub fields_go : (new : BinaryWalk) (a : V) → (r.used == end) ≡ false
-          → machine_of new (frames.Fields end ms ∷ fs) ≡ at (spot_of r) (frames.Fields end ms ∷ fs) (InNumber purposes.FieldName 0)
-          → open_containers new ≡ containers.Fields end ∷ open_containers r → new.phase ≡ InNumber purposes.FieldName 0 → new.filter ≡ r.filter
+          → machine_of new (frames.Fields end ms ∷ fs) ≡ at (spot_of r) (frames.Fields end ms ∷ fs) (InNumber Purpose.FieldName 0)
+          → open_containers new ≡ Container.Fields end ∷ open_containers r → new.phase ≡ InNumber Purpose.FieldName 0 → new.filter ≡ r.filter
           → Fields_close (Ok false) new a a
       fields_go new a test is pushed phase kept =
-          goes_in r new (frames.Fields end ms) fs _ (InNumber purposes.FieldName 0) _ a
+          goes_in r new (frames.Fields end ms) fs _ (InNumber Purpose.FieldName 0) _ a
           (ap (λ t. if t then deliver (setting_of r) (spot_of r) fs (bare (payloads.Fields ms))
-          else goes (at (spot_of r) (frames.Fields end ms ∷ fs) (InNumber purposes.FieldName 0))) test
+          else goes (at (spot_of r) (frames.Fields end ms ∷ fs) (InNumber Purpose.FieldName 0))) test
           ∙ ap goes (sym is))
-          (pushed ∙ ap (λ cs. containers.Fields end ∷ cs) same) around tt (subst (λ p. IsInside p (frames.Fields end ms ∷ fs)) (sym phase) tt)
+          (pushed ∙ ap (λ cs. Container.Fields end ∷ cs) same) around tt (subst (λ p. IsInside p (frames.Fields end ms ∷ fs)) (sym phase) tt)
           (subst (λ f. WasTold f (told_in (frames.Fields end ms ∷ fs))) (sym kept) was) refl
 
       pub fields_close : (new : BinaryWalk) (a b : V) → (r.used == end) ≡ true → setting_of new ≡ setting_of r → spot_of new ≡ spot_of r
           → open_containers new ≡ open_containers r
-          → ((es : List Event) → WasTold r.filter es → WasTold new.filter (es ++ closes brackets.Fields ∷ [])
-          × Hears takes (heard es) (heard (es ++ closes brackets.Fields ∷ [])) a b)
+          → ((es : List Event) → WasTold r.filter es → WasTold new.filter (es ++ closes Bracket.Fields ∷ [])
+          × Hears takes (heard es) (heard (es ++ closes Bracket.Fields ∷ [])) a b)
           → Fields_close (Ok true) new a b
       fields_close new a b test setting spot left tells =
           ends_in r new fs (bare (payloads.Fields ms)) _ _ _ a b
           (ap (λ t. if t then deliver (setting_of r) (spot_of r) fs (bare (payloads.Fields ms))
-          else goes (at (spot_of r) (frames.Fields end ms ∷ fs) (InNumber purposes.FieldName 0))) test
+          else goes (at (spot_of r) (frames.Fields end ms ∷ fs) (InNumber Purpose.FieldName 0))) test
           ∙ (ap (λ s. deliver s (spot_of r) fs (bare (payloads.Fields ms))) (sym setting)
           ∙ ap (λ s. deliver (setting_of new) s fs (bare (payloads.Fields ms))) (sym spot)))
           (left ∙ same) around (bare_in fs (payloads.Fields ms)) (fields_told end fs ms) (tells _ was)
@@ -202,13 +182,13 @@ module _ {V : Type 0} (takes : V → Event → V → Type 0) where
         → IsBareIn (f ∷ fs) v → WasTold r.filter (told_in (f ∷ fs) ++ events_of v)
         → Closes takes (told_in (f ∷ fs) ++ events_of v) (deliver s t (f ∷ fs) v) result new a b
 
-    pub items_behind : (end : ℕ) (x : Listing) → k ≡ containers.Items end x
+    pub items_behind : (end : ℕ) (x : Listing) → k ≡ Container.Items end x
         → ((fs : List Frame) (vs : List Value) → open_containers r ≡ containers_of fs → AreAround fs
         → WasTold r.filter (told_in (frames.Items end x vs ∷ fs))
         → Closes takes (told_in (frames.Items end x vs ∷ fs)) (proceed s t (frames.Items end x vs ∷ fs)) result new a b)
         → BehindValue
     items_behind end x is close (frames.Items to y vs) fs v e same around bare_there was =
-        let one : containers.Items end x ≡ containers.Items to y = sym is ∙ e in
+        let one : Container.Items end x ≡ Container.Items to y = sym is ∙ e in
         let told_more = item_told to y fs vs v in
         let close_to = subst (λ (n : ℕ). (fs : List Frame) (vs : List Value) → open_containers r ≡ containers_of fs → AreAround fs
         → WasTold r.filter (told_in (frames.Items n y vs ∷ fs))
@@ -222,7 +202,7 @@ module _ {V : Type 0} (takes : V → Event → V → Type 0) where
     items_behind end x is close (frames.Named to ms n) fs v e same around bare_there was = absurd (subst IsItems (sym is ∙ e) tt)
     items_behind end x is close (frames.Annotated to ss) fs v e same around bare_there was = absurd (subst IsItems (sym is ∙ e) tt)
 
-    pub named_behind : (end : ℕ) → k ≡ containers.Named end
+    pub named_behind : (end : ℕ) → k ≡ Container.Named end
         → ((fs : List Frame) (ms : List Field) → open_containers r ≡ containers_of fs → AreAround fs
         → WasTold r.filter (told_in (frames.Fields end ms ∷ fs))
         → Closes takes (told_in (frames.Fields end ms ∷ fs)) (proceed s t (frames.Fields end ms ∷ fs)) result new a b)
@@ -240,7 +220,7 @@ module _ {V : Type 0} (takes : V → Event → V → Type 0) where
     named_behind end is close (frames.Annotated to ss) fs v e same around bare_there was = absurd (subst IsNamed (sym is ∙ e) tt)
 
   -- a wrapper is a value
-  pub wrapper_behind : (r new : BinaryWalk) (k : Container) (end : ℕ) (a : V) → k ≡ containers.Annotated end → new ≡ r
+  pub wrapper_behind : (r new : BinaryWalk) (k : Container) (end : ℕ) (a : V) → k ≡ Container.Annotated end → new ≡ r
       → BehindValue (setting_of r) (spot_of r) r k (Ok true) new a a
   wrapper_behind r new k end a is kept (frames.Annotated to ss) fs v e same around bare_there was =
       let more = wrapped_told to ss fs v bare_there in

@@ -1,18 +1,8 @@
 -- Values of the top level that were told and ended: given, or local symbol tables.
 use Rattle.std.proofs.Common.{◌≡◌, List, [], Bool, true, false, Option, Some, None, Ok, refl, ap, sym, subst, ◌∙◌}
 use Rattle.std.specs.Prelude.{if◌then◌else◌}
-use Rattle.ion_model.specs.declared.value.Value.{Value}
-use Rattle.ion_model.specs.Kinds.{is_table}
-use Rattle.ion_symtab.specs.Slots.{Slot}
-use Rattle.ion_symtab.specs.Next.{next}
-use Rattle.ion_visiting.specs.Events.{events_of}
-use Rattle.ion_binary.specs.declared.state.Phase.TheVariants.{Ready}
-use Rattle.ion_binary.specs.declared.state.Effect.TheVariants.{Goes, Gives}
-use Rattle.ion_binary.specs.declared.walking.BinaryWalk.{BinaryWalk}
-use Rattle.ion_visiting.specs.declared.table_filter.Table.TheVariants as tables
-use Rattle.ion_binary.specs.machine.EachOctet.{goes, gives, anew, at, deliver, turned}
-use Rattle.ion_visiting.specs.Tables.{WasTold, heard, heard_by, table_of}
-use Rattle.ion_binary.specs.walking.Holds.{DoesAlone, Holds, IsInside, machine_of, open_containers, setting_of, spot_of}
+use Rattle.ion_binary.specs.Names.{BinaryWalk, DoesAlone, Gives, Goes, Holds, IsInside, Ready, Slot, Value, WasTold, anew, at, deliver, events_of, gives, goes, heard, heard_by, is_table, machine_of, next, open_containers, setting_of, spot_of, table_of, turned}
+use Rattle.ion_visiting.specs.declared.table_filter.Table.{Table}
 use Rattle.ion_visiting.specs.laws.Filters.{table_told}
 
 none_of : (b : Bool) (v : Value) → None ≡ (if b then Some v else None) → b ≡ false
@@ -33,11 +23,11 @@ same_of false v t h = absurd cc
 
 -- what is no table is heard
 heard_value : (v : Value) → is_table v ≡ false → heard (events_of v) ≡ events_of v
-heard_value v plain = ap (λ t. heard_by t (events_of v)) (table_told v ∙ ap (λ b. if b then tables.Yes else tables.No) plain)
+heard_value v plain = ap (λ t. heard_by t (events_of v)) (table_told v ∙ ap (λ b. if b then Table.Yes else Table.No) plain)
 
 -- a table isn't
 heard_table : (v : Value) → is_table v ≡ true → heard (events_of v) ≡ []
-heard_table v named = ap (λ t. heard_by t (events_of v)) (table_told v ∙ ap (λ b. if b then tables.Yes else tables.No) named)
+heard_table v named = ap (λ t. heard_by t (events_of v)) (table_told v ∙ ap (λ b. if b then Table.Yes else Table.No) named)
 
 -- the table that was taken is one
 pub table_is : (v : Value) (taken : Option Value) (t : Value) → taken ≡ Some t → taken ≡ table_of v → is_table t ≡ true

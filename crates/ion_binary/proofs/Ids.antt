@@ -7,9 +7,8 @@ use Rattle.std.specs.Option.{unwrap_or}
 use Rattle.std.proofs.lemmas.Bool.{ltb-false}
 use Rattle.std.proofs.lemmas.List.Sums.{prefix_len-le-length}
 use Rattle.std.proofs.lemmas.Map.Keys.{IsDistinct-head, IsDistinct-tail}
-use Rattle.ion_model.specs.Symbols.{symbol_same}
+use Rattle.ion_binary.specs.Names.{Names, id_of, symbol_same}
 use Rattle.ion_model.specs.laws.Equivalence.{symbol_same-equiv}
-use Rattle.ion_binary.specs.Output.{Names, id_of}
 
 -- 1. Places.
 

@@ -1,20 +1,10 @@
 -- Octets of a piece that a body or a pad goes on behind.
 use Rattle.std.proofs.Common.{◌≡◌, ℕ, ◌+◌, ◌-◌, ◌<◌, ◌≤◌, List, ◌++◌, length, take, drop, ap, sym, ◌∙◌, arith}
 use Rattle.std.proofs.lemmas.List.{length-take-le, take-append-drop}
-use Rattle.ion_atoms.specs.declared.refusal.Reason.{Reason}
-use Rattle.ion_symtab.specs.declared.limits.Limits.{Limits}
-use Rattle.ion_symtab.specs.declared.catalog.Catalog.{Catalog}
-use Rattle.ion_binary.specs.declared.form.Scalar.{Scalar}
-use Rattle.ion_binary.specs.machine.Frames.{Frame}
-use Rattle.ion_binary.specs.declared.state.Phase.{Phase}
-use Rattle.ion_binary.specs.declared.state.Phase.TheVariants.{InBody, InPad}
-use Rattle.ion_binary.specs.Judge.{judge}
-use Rattle.ion_binary.specs.machine.EachOctet.{Spot, under, moved, Machine, Outcome, at, in_body, judged}
-use Rattle.ion_binary.specs.laws.reading.Complete.{body_run}
-use Rattle.ion_binary.specs.machine.Run.{run}
-use Rattle.ion_binary.specs.machine.Pieces.{led, run_after, then_run, run-append}
-use Rattle.ion_binary.specs.machine.Views.{body_so_far}
+use Rattle.ion_binary.specs.Names.{Catalog, Frame, InBody, InPad, Limits, Machine, Outcome, Phase, Reason, Scalar, Spot, at, body_so_far, in_body, judge, judged, led, run, run-append, run_after, then_run, under}
 use Rattle.ion_binary.specs.machine.AtOnce.{body_goes, pad_goes}
+use Rattle.ion_binary.specs.machine.EachOctet.{moved}
+use Rattle.ion_binary.specs.laws.reading.Complete.{body_run}
 
 -- the machine of a reader with this phase and these octets in its memory
 abbrev pub with_phase : Spot → List Frame → List ℕ → Phase → Machine

@@ -1,10 +1,7 @@
 -- Names that have others behind them, and ids that stay.
 use Rattle.std.proofs.Common.{if◌then◌else◌, ◌≡◌, ℕ, Bool, true, false, List, [], ◌∷◌, ◌++◌, Option, refl, sym, ap, ◌∙◌, append_assoc, append-nil}
 use Rattle.std.specs.List.{list_any}
-use Rattle.ion_model.specs.Symbols.{symbol_same}
-use Rattle.ion_binary.specs.Output.{Names, id_of, with_name, with_names}
-use Rattle.ion_binary.specs.writer.Later.{IsLater}
-use Rattle.ion_binary.specs.writer.Names.{IsAmong, among_last, id_stays}
+use Rattle.ion_binary.specs.Names.{IsAmong, IsLater, Names, among_last, id_of, id_stays, symbol_same, with_name, with_names}
 
 -- names are themselves with nothing behind them
 pub later_self : (names : Names) → IsLater names names

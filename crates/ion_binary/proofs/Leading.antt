@@ -3,12 +3,7 @@ use Rattle.std.proofs.Common.{◌≡◌, ℕ, ◌+◌, ◌<◌, ◌≤◌, List,
 use Rattle.std.proofs.lemmas.Grind.{common_steps}
 use Rattle.std.proofs.lemmas.List.{length-take-le}
 use Rattle.std.proofs.Math.Seq.{take-add}
-use Rattle.ion_model.specs.declared.value.Value.{Value}
-use Rattle.ion_symtab.specs.declared.limits.Limits.{Limits}
-use Rattle.ion_symtab.specs.declared.catalog.Catalog.{Catalog}
-use Rattle.ion_binary.specs.machine.EachOctet.{Machine}
-use Rattle.ion_binary.specs.machine.Run.{run}
-use Rattle.ion_binary.specs.machine.Pieces.{led, then_run, run-append}
+use Rattle.ion_binary.specs.Names.{Catalog, Limits, Machine, Value, led, run, run-append, then_run}
 
 -- from `start`, the octets of the piece before i lead to m, whatever follows
 pub record LeadsFromStart (g : Catalog) (l : Limits) (to : ℕ) (start : Machine) (piece : List ℕ) (i : ℕ) (m : Machine) : Type 0 where

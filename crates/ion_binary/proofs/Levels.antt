@@ -1,8 +1,7 @@
 -- How many containers are open.
 use Rattle.std.proofs.Common.{◌≤◌, List, [], ◌∷◌, length, arith}
-use Rattle.ion_binary.specs.machine.Frames.{Frame}
+use Rattle.ion_binary.specs.Names.{Frame, levels}
 use Rattle.ion_binary.specs.machine.Frames as frames
-use Rattle.ion_binary.specs.machine.EachOctet.{levels}
 
 -- there are at most as many as frames
 pub levels_few : (fs : List Frame) → levels fs ≤ length fs

@@ -2,10 +2,7 @@
 use Rattle.std.proofs.Common.{◌≡◌, ℕ, ◌+◌, ◌-◌, ◌*◌, ◌/◌, ◌%◌, ◌<◌, ◌≤◌, List, [], ◌∷◌, ◌++◌, length, take, get_or, append_assoc, ap, ap₂, sym, ◌∙◌, arith}
 use Rattle.std.proofs.lemmas.Int.Digits.{digits_of_step}
 use Rattle.std.specs.Int.Digits.{digits_of}
-use Rattle.ion_scalar.specs.binary.Fields.{VarUInt, none}
-use Rattle.ion_scalar.specs.binary.Spellings.{uint_octets}
-use Rattle.ion_scalar.specs.Positional.{positional_one}
-use Rattle.ion_binary.specs.Output.{framed}
+use Rattle.ion_binary.specs.Names.{VarUInt, framed, none, positional_one, uint_octets}
 
 -- a VarUInt of one octet
 pub one_digit : (octets : List ℕ) → 0 < length octets → 128 ≤ get_or octets 0 0 → get_or octets 0 0 < 256 → VarUInt (take 1 octets) (get_or octets 0 0 - 128)

@@ -4,11 +4,8 @@ use Rattle.std.proofs.lemmas.Bool.{cond-true, cond-false}
 use Rattle.std.proofs.lemmas.Option.{slice_get_past}
 use Rattle.std.proofs.lemmas.Str.{IsUtf8-from_is_utf8, is_utf8-from_IsUtf8}
 use Rattle.std.specs.Str.{is_utf8, IsUtf8}
-use Rattle.ion_atoms.specs.declared.refusal.Reason.{Reason}
-use Rattle.ion_atoms.specs.declared.refusal.Reason.TheVariants.{SymbolRange, BadUtf8}
+use Rattle.ion_binary.specs.Names.{BadUtf8, Reason, Slot, SymbolRange, as_symbol, resolve, symbol_at, symbol_of, text_of}
 use Rattle.ion_model.specs.declared.value.Payload.TheVariants as payloads
-use Rattle.ion_symtab.specs.Slots.{Slot, symbol_at, resolve}
-use Rattle.ion_binary.specs.Judge.{as_symbol, symbol_of, text_of}
 
 -- an id above the greatest has no symbol
 pub resolve_past : (c : List Slot) (id : ℕ) → length c < id → resolve c id ≡ Err SymbolRange

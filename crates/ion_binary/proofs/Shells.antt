@@ -1,19 +1,12 @@
 -- What may stand in open containers is told by their shells, in which nothing is.
 use Rattle.std.proofs.Common.{◌≡◌, ℕ, suc, List, [], ◌∷◌, map, Bool, false, Option, Some, None, Ok, Err, refl, ap, sym, ◌∙◌}
 use Rattle.std.specs.Prelude.{nat_lt, if◌then◌else◌}
-use Rattle.ion_atoms.specs.declared.refusal.Reason.{Reason}
-use Rattle.ion_model.specs.declared.value.Field.{Field}
-use Rattle.ion_binary.specs.declared.form.Form.{Form}
-use Rattle.ion_binary.specs.declared.form.Form.TheVariants as forms
-use Rattle.ion_binary.specs.machine.Frames.{Frame}
+use Rattle.ion_binary.specs.Names.{AreAround, AreOpen, BinaryWalk, Field, Form, Frame, Holds, HoldsNoWrapper, IsNamedBy, MayBegin, Outcome, Reason, containers_of, is_pad, levels, misfits, name_of, nameless, or_else, refuses, shell, shells, stray, unfit, unless}
 use Rattle.ion_binary.specs.machine.Frames as frames
-use Rattle.ion_binary.specs.declared.walking.BinaryWalk.{BinaryWalk}
-use Rattle.ion_binary.specs.Opening.{is_pad}
-use Rattle.ion_binary.specs.machine.EachOctet.{Outcome, refuses, levels, misfits, stray, nameless, unfit, or_else, unless}
-use Rattle.ion_binary.specs.laws.reading.Stands.{BodyMayEnd}
+use Rattle.ion_binary.specs.walking.Holds.{Name}
 use Rattle.ion_binary.specs.laws.reading.Complete.{Admits}
+use Rattle.ion_binary.specs.laws.reading.Stands.{BodyMayEnd}
 use Rattle.ion_binary.specs.laws.reading.sound.Bounds.{misfits_ends}
-use Rattle.ion_binary.specs.walking.Holds.{Name, shell, shells, containers_of, name_of, IsNamedBy, Holds, AreOpen, AreAround, HoldsNoWrapper, MayBegin}
 
 -- containers with nothing in them
 abbrev pub emptied : Name → List Frame → List Frame
@@ -93,7 +86,7 @@ around_open (frames.Named end ms (Err e) ∷ fs) form h plain named =
     let refused : Some e ≡ None = ap (λ b. if b then None else Some e) (sym plain) ∙ named in absurd cc
 around_open (frames.Annotated end ss ∷ fs) form h plain named = h
 
-unwrapped_open : (fs : List Frame) → stray fs forms.Wrapper ≡ None → HoldsNoWrapper fs
+unwrapped_open : (fs : List Frame) → stray fs Form.Wrapper ≡ None → HoldsNoWrapper fs
 unwrapped_open [] h = tt
 unwrapped_open (frames.Items end x vs ∷ fs) h = tt
 unwrapped_open (frames.Fields end ms ∷ fs) h = tt
@@ -101,12 +94,12 @@ unwrapped_open (frames.Named end ms n ∷ fs) h = tt
 unwrapped_open (frames.Annotated end ss ∷ fs) h = absurd cc
 
 begins_open : (fs : List Frame) (form : Form) → AreOpen fs → stray fs form ≡ None → nameless fs form ≡ None → MayBegin form fs
-begins_open fs forms.Pad h fits named = tt
-begins_open fs (forms.Scalar t) h fits named = around_open fs (forms.Scalar t) h refl named
-begins_open fs (forms.Listing x) h fits named = around_open fs (forms.Listing x) h refl named
-begins_open fs forms.Struct h fits named = around_open fs forms.Struct h refl named
-begins_open fs forms.OrderedStruct h fits named = around_open fs forms.OrderedStruct h refl named
-begins_open fs forms.Wrapper h fits named = (unwrapped_open fs fits, around_open fs forms.Wrapper h refl named)
+begins_open fs Form.Pad h fits named = tt
+begins_open fs (Form.Scalar t) h fits named = around_open fs (Form.Scalar t) h refl named
+begins_open fs (Form.Listing x) h fits named = around_open fs (Form.Listing x) h refl named
+begins_open fs Form.Struct h fits named = around_open fs Form.Struct h refl named
+begins_open fs Form.OrderedStruct h fits named = around_open fs Form.OrderedStruct h refl named
+begins_open fs Form.Wrapper h fits named = (unwrapped_open fs fits, around_open fs Form.Wrapper h refl named)
 
 module _ (r : BinaryWalk) (fs : List Frame) (h : Holds r fs) (form : Form) (to : ℕ) where
   unfit_of : unfit r.limits.item r.start (shells r) form to ≡ unfit r.limits.item r.start fs form to

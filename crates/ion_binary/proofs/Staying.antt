@@ -3,23 +3,11 @@ use Rattle.std.proofs.Common.{◌≡◌, ℕ, ◌-◌, List, [], ◌∷◌, ◌+
 use Rattle.std.specs.Prelude.{◌==◌, if◌then◌else◌, slice_set}
 use Rattle.std.proofs.lemmas.List.{reverse-append, reverse-reverse}
 use Rattle.std.proofs.Math.Seq.{set-append_seam}
-use Rattle.ion_model.specs.declared.value.Value.{Value}
+use Rattle.ion_binary.specs.Names.{BinaryWalk, Container, DoesAlone, Frame, Goes, Holds, InNumber, IsBehind, Purpose, Ready, Value, WasTold, at, bare, containers_of, deliver, events_of, field_of, fields_end, goes, heard, items_end, listed, named_end, open_containers, proceed, setting_of, spot_of, told}
 use Rattle.ion_model.specs.declared.value.Payload.TheVariants as payloads
-use Rattle.ion_model.specs.Measures.{bare, field_of}
-use Rattle.ion_visiting.specs.Events.{events_of}
-use Rattle.ion_visiting.specs.Tables.{WasTold, heard}
-use Rattle.ion_binary.specs.declared.state.Effect.TheVariants.{Goes}
-use Rattle.ion_binary.specs.machine.Frames.{Frame}
 use Rattle.ion_binary.specs.machine.Frames as frames
-use Rattle.ion_binary.specs.declared.state.Phase.TheVariants.{Ready, InNumber}
-use Rattle.ion_binary.specs.declared.state.Purpose.TheVariants as purposes
-use Rattle.ion_binary.specs.declared.walking.BinaryWalk.{BinaryWalk}
-use Rattle.ion_binary.specs.declared.walking.Container.{Container}
-use Rattle.ion_binary.specs.declared.walking.Container.TheVariants as containers
-use Rattle.ion_binary.specs.Grammar.{listed}
-use Rattle.ion_binary.specs.machine.EachOctet.{at, deliver, goes, proceed}
-use Rattle.ion_binary.specs.walking.Holds.{DoesAlone, Holds, IsBehind, containers_of, fields_end, items_end, named_end, open_containers, setting_of, spot_of, told, told_in}
-use Rattle.ion_binary.proofs.Tellings.{item_told, field_told}
+use Rattle.ion_binary.specs.walking.Holds.{told_in}
+use Rattle.ion_binary.proofs.Tellings.{field_told, item_told}
 
 -- another one is put in the place of the last of a list
 pub last_set : {A : Type 0} (xs ks : List A) (n : ℕ) (x y : A) → length xs ≡ n → reverse xs ≡ x ∷ ks → reverse (slice_set xs (n - 1) y) ≡ y ∷ ks
@@ -59,10 +47,10 @@ module _ (r : BinaryWalk) (end : ℕ) (test : (r.used == end) ≡ false) where
 
   -- a struct goes on with the name of the next field
   module _ (mid : BinaryWalk) (kept : mid ≡ record r { frames = mid.frames })
-      (there : (k : Container) (ks : List Container) → open_containers r ≡ k ∷ ks → open_containers mid ≡ containers.Fields end ∷ ks) where
+      (there : (k : Container) (ks : List Container) → open_containers r ≡ k ∷ ks → open_containers mid ≡ Container.Fields end ∷ ks) where
     pub named_stay : Some end ≡ named_end (open_containers r) → (fs : List Frame) (v : Value) → IsBehind r fs v
         → DoesAlone (told_in fs ++ events_of v) (deliver (setting_of r) (spot_of r) fs v) (Ok Goes)
-        (record mid { phase = InNumber purposes.FieldName 0 })
+        (record mid { phase = InNumber Purpose.FieldName 0 })
     named_stay is [] v h = let e : Some end ≡ None = is ∙ ap named_end h.containers in absurd cc
     named_stay is (frames.Items to x vs ∷ fs) v h = let e : Some end ≡ None = is ∙ ap named_end h.containers in absurd cc
     named_stay is (frames.Fields to ms ∷ fs) v h = let e : Some end ≡ None = is ∙ ap named_end h.containers in absurd cc
@@ -75,10 +63,10 @@ module _ (r : BinaryWalk) (end : ℕ) (test : (r.used == end) ≡ false) where
         let all = ms ++ field_of n v ∷ [] in (
           frames.Fields to all ∷ fs,
           ap (λ b. if b then deliver (setting_of r) (spot_of r) fs (bare (payloads.Fields all))
-              else goes (at (spot_of r) (frames.Fields to all ∷ fs) (InNumber purposes.FieldName 0))) (ap (λ k. r.used == k) (sym same) ∙ test)
-              ∙ ap (λ (w : BinaryWalk). goes (at (spot_of w) (frames.Fields to all ∷ fs) (InNumber purposes.FieldName 0))) (sym kept),
+              else goes (at (spot_of r) (frames.Fields to all ∷ fs) (InNumber Purpose.FieldName 0))) (ap (λ k. r.used == k) (sym same) ∙ test)
+              ∙ ap (λ (w : BinaryWalk). goes (at (spot_of w) (frames.Fields to all ∷ fs) (InNumber Purpose.FieldName 0))) (sym kept),
           record {
-            containers = there (containers.Named to) (containers_of fs) h.containers ∙ ap (λ k. containers.Fields k ∷ containers_of fs) same;
+            containers = there (Container.Named to) (containers_of fs) h.containers ∙ ap (λ k. Container.Fields k ∷ containers_of fs) same;
             named = tt;
             open_there = h.around;
             inside = tt;
@@ -107,7 +95,7 @@ module _ (r : BinaryWalk) (end : ℕ) (test : (r.used == end) ≡ false) where
 
   -- a struct does
   pub fields_proceed : Some end ≡ fields_end (open_containers r) → (fs : List Frame) → Holds r fs
-      → DoesAlone (told fs) (proceed (setting_of r) (spot_of r) fs) (Ok Goes) (record r { phase = InNumber purposes.FieldName 0 })
+      → DoesAlone (told fs) (proceed (setting_of r) (spot_of r) fs) (Ok Goes) (record r { phase = InNumber Purpose.FieldName 0 })
   fields_proceed is [] h = let e : Some end ≡ None = is ∙ ap fields_end h.containers in absurd cc
   fields_proceed is (frames.Items to x vs ∷ fs) h = let e : Some end ≡ None = is ∙ ap fields_end h.containers in absurd cc
   fields_proceed is (frames.Named to ms n ∷ fs) h = let e : Some end ≡ None = is ∙ ap fields_end h.containers in absurd cc
@@ -117,7 +105,7 @@ module _ (r : BinaryWalk) (end : ℕ) (test : (r.used == end) ≡ false) where
       let same : end ≡ to = cc in (
         frames.Fields to ms ∷ fs,
         ap (λ b. if b then deliver (setting_of r) (spot_of r) fs (bare (payloads.Fields ms))
-            else goes (at (spot_of r) (frames.Fields to ms ∷ fs) (InNumber purposes.FieldName 0))) (ap (λ n. r.used == n) (sym same) ∙ test),
+            else goes (at (spot_of r) (frames.Fields to ms ∷ fs) (InNumber Purpose.FieldName 0))) (ap (λ n. r.used == n) (sym same) ∙ test),
         record { containers = h.containers; named = tt; open_there = h.open_there; inside = tt; was_told = h.was_told },
         refl,
       )

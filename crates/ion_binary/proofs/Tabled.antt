@@ -1,13 +1,12 @@
 -- The octets of a local symbol table, part by part.
 use Rattle.std.proofs.Common.{◌≡◌, ℕ, List, ◌∷◌, [], ◌++◌, map, Option, refl, ap, ◌∙◌, append-nil}
 use Rattle.std.specs.List.{flat_map}
+use Rattle.ion_binary.specs.Names.{Layer, Names, bare, framed, id_of, layer_octets, name_text, named_octets, string_value, table_value, uint_octets, value_octets, var_uint_octets, with_count}
 use Rattle.ion_model.specs.declared.value.Payload.TheVariants as payloads
 use Rattle.ion_model.specs.declared.value.Payload.TheViews as views
-use Rattle.ion_model.specs.Measures.{Layer, bare}
-use Rattle.ion_scalar.specs.binary.Spellings.{uint_octets, var_uint_octets}
-use Rattle.ion_binary.specs.Output.{Names, id_of, framed, with_count, wrapped, named_octets, value_octets, name_text, string_value, table_value, layer_octets}
+use Rattle.ion_binary.specs.Output.{wrapped}
 use Rattle.ion_binary.specs.laws.writing.Output.{octets-out}
-use Rattle.ion_binary.specs.laws.writing.TableWritten.{table_word, imports_word, symbols_word, table_fields}
+use Rattle.ion_binary.specs.laws.writing.TableWritten.{imports_word, symbols_word, table_fields, table_word}
 
 string_octets : (names : Names) (s : Option (List ℕ)) → value_octets names (string_value s) ≡ framed 8 (name_text s)
 string_octets names s = octets-out names (string_value s) ∙ ap (layer_octets names) (views.outs-Str (name_text s))

@@ -3,29 +3,13 @@ use Rattle.std.proofs.Common.{◌≡◌, ℕ, List, [], ◌∷◌, ◌++◌, map
 use Rattle.std.specs.List.{flat_map}
 use Rattle.std.proofs.lemmas.List.{append-nil, append_assoc, map-append}
 use Rattle.std.proofs.lemmas.Grind.{flat_map-append}
-use Rattle.ion_atoms.specs.declared.refusal.Reason.{Reason}
-use Rattle.ion_model.specs.declared.value.Value.{Value}
-use Rattle.ion_model.specs.declared.value.Field.{Field}
-use Rattle.ion_model.specs.declared.value.Payload.{Payload}
+use Rattle.ion_binary.specs.Names.{BinaryWalk, Bracket, Closes, Does, DoesAlone, Effect, Event, Field, Frame, GaveOut, Gives, Goes, Hears, Listing, Outcome, Payload, Reason, Value, WentOn, annotated, annotation, bare, bracket_of, closes, events_of, field_events, field_of, heard, layer_events, listed, name, out-Payload, outs-Fields, outs-List, outs-Sexp, part, told, within}
 use Rattle.ion_model.specs.declared.value.Payload.TheVariants as payloads
-use Rattle.ion_model.specs.declared.value.Payload.TheViews.{out-Payload, outs-List, outs-Sexp, outs-Fields}
-use Rattle.ion_model.specs.Measures.{bare, annotated, field_of}
-use Rattle.ion_visiting.specs.declared.bracket.Bracket.TheVariants as brackets
-use Rattle.ion_visiting.specs.Events.{Event, part, annotation, name, opens, closes, within, events_of, field_events, layer_events}
+use Rattle.ion_visiting.specs.Events.{opens}
+use Rattle.ion_visiting.specs.laws.Filters.{hears_both, hears_none}
 use Rattle.ion_visiting.specs.laws.Led.{events_out}
-use Rattle.ion_binary.specs.declared.form.Listing.{Listing}
-use Rattle.ion_binary.specs.declared.form.Listing.TheVariants as listings
-use Rattle.ion_binary.specs.machine.Frames.{Frame}
 use Rattle.ion_binary.specs.machine.Frames as frames
-use Rattle.ion_binary.specs.declared.state.Effect.{Effect}
-use Rattle.ion_binary.specs.declared.state.Effect.TheVariants.{Goes, Gives}
-use Rattle.ion_binary.specs.declared.walking.BinaryWalk.{BinaryWalk}
-use Rattle.ion_binary.specs.Grammar.{listed}
-use Rattle.ion_binary.specs.visiting.Brackets.{bracket_of}
-use Rattle.ion_binary.specs.machine.EachOctet.{Outcome}
-use Rattle.ion_visiting.specs.Tables.{Hears, heard}
-use Rattle.ion_binary.specs.walking.Holds.{told, told_in, Does, DoesAlone, Closes, WentOn, GaveOut}
-use Rattle.ion_visiting.specs.laws.Filters.{hears_none, hears_both}
+use Rattle.ion_binary.specs.walking.Holds.{told_in}
 
 -- 1. Events.
 
@@ -43,8 +27,8 @@ item_told end x fs vs v =
 pub field_told : (end : ℕ) (fs : List Frame) (ms : List Field) (s : _) (v : Value)
     → told_in (frames.Named end ms (Ok s) ∷ fs) ++ events_of v ≡ told_in (frames.Fields end (ms ++ field_of s v ∷ []) ∷ fs)
 field_told end fs ms s v =
-    append_assoc (told_in fs) (opens brackets.Fields ∷ (flat_map field_events ms ++ name s ∷ [])) (events_of v)
-    ∙ ap (λ es. told_in fs ++ opens brackets.Fields ∷ es)
+    append_assoc (told_in fs) (opens Bracket.Fields ∷ (flat_map field_events ms ++ name s ∷ [])) (events_of v)
+    ∙ ap (λ es. told_in fs ++ opens Bracket.Fields ∷ es)
     (append_assoc (flat_map field_events ms) (name s ∷ []) (events_of v) ∙ sym (flat_one field_events ms (field_of s v)))
 
 bare_events : (p : Payload) → events_of (bare p) ≡ layer_events (out-Payload p)
@@ -69,19 +53,19 @@ items_told end x fs vs =
     ∙ ap (λ es. told_in fs ++ es) (sym (inside x))
   where
     inside : (x : Listing) → events_of (bare (listed x vs)) ≡ within (bracket_of x) (flat_map events_of vs)
-    inside listings.List = bare_events (payloads.List vs) ∙ ap layer_events (outs-List vs)
-    inside listings.Sexp = bare_events (payloads.Sexp vs) ∙ ap layer_events (outs-Sexp vs)
+    inside Listing.List = bare_events (payloads.List vs) ∙ ap layer_events (outs-List vs)
+    inside Listing.Sexp = bare_events (payloads.Sexp vs) ∙ ap layer_events (outs-Sexp vs)
 
 pub fields_told : (end : ℕ) (fs : List Frame) (ms : List Field)
-    → told_in (frames.Fields end ms ∷ fs) ++ closes brackets.Fields ∷ [] ≡ told_in fs ++ events_of (bare (payloads.Fields ms))
+    → told_in (frames.Fields end ms ∷ fs) ++ closes Bracket.Fields ∷ [] ≡ told_in fs ++ events_of (bare (payloads.Fields ms))
 fields_told end fs ms =
-    append_assoc (told_in fs) (opens brackets.Fields ∷ flat_map field_events ms) (closes brackets.Fields ∷ [])
+    append_assoc (told_in fs) (opens Bracket.Fields ∷ flat_map field_events ms) (closes Bracket.Fields ∷ [])
     ∙ ap (λ es. told_in fs ++ es) (sym (bare_events (payloads.Fields ms) ∙ ap layer_events (outs-Fields ms)))
 
 -- the name of a field whose value begins
 pub name_told : (end : ℕ) (fs : List Frame) (ms : List Field) (s : _)
     → told (frames.Named end ms (Ok s) ∷ fs) ++ name s ∷ [] ≡ told_in (frames.Named end ms (Ok s) ∷ fs)
-name_told end fs ms s = append_assoc (told_in fs) (opens brackets.Fields ∷ flat_map field_events ms) (name s ∷ [])
+name_told end fs ms s = append_assoc (told_in fs) (opens Bracket.Fields ∷ flat_map field_events ms) (name s ∷ [])
 
 -- one annotation more
 pub note_told : (end : ℕ) (fs : List Frame) (ss : List _) (s : _)

@@ -4,28 +4,11 @@ use Rattle.std.specs.Prelude.{is_ok, MatchResult, ℤ}
 use Rattle.std.specs.Str.{IsUtf8}
 use Rattle.std.proofs.Math.Nat.{one-le-pow, mul-le-mul_right}
 use Rattle.std.proofs.lemmas.Bool.{cases_lt, false≢true, le-ltb}
-use Rattle.ion_atoms.specs.Decimals.{DecimalParts}
-use Rattle.ion_atoms.specs.Timestamps.{TimestampParts}
-use Rattle.ion_atoms.specs.declared.refusal.Reason.{Reason}
-use Rattle.ion_model.specs.declared.value.Payload.{Payload}
+use Rattle.ion_binary.specs.Names.{DecimalParts, Event, IsPart, IsScalar, LetsPass, Payload, Reason, Scalar, Slot, TableFilter, TellsAs, TimestampParts, WasTold, as_decimal, as_timestamp, begins_struct, decimal_of_body, heard, int_of, is_blob, is_clob, is_decimal, is_int, is_negative, is_of_table, is_string, is_symbol, is_timestamp, judge, layer_events, outs-Blob, outs-Clob, outs-Decimal, outs-Int, outs-Str, outs-Symbol, outs-Timestamp, part, positional, resolve, timestamp_of_body, uint_field}
 use Rattle.ion_model.specs.declared.value.Payload.TheVariants as payloads
-use Rattle.ion_model.specs.declared.value.Payload.TheViews.{outs-Int, outs-Decimal, outs-Timestamp, outs-Symbol, outs-Str, outs-Clob, outs-Blob}
-use Rattle.ion_scalar.specs.binary.Decimal.{decimal_of_body}
-use Rattle.ion_scalar.specs.binary.Fields.{positional, uint_field}
-use Rattle.ion_scalar.specs.binary.Timestamp.{timestamp_of_body}
-use Rattle.ion_symtab.specs.Slots.{Slot, resolve}
 use Rattle.ion_visiting.specs.declared.table_filter.Table.{Table}
-use Rattle.ion_visiting.specs.declared.table_filter.Table.TheVariants as tables
-use Rattle.ion_visiting.specs.declared.table_filter.TableFilter.{TableFilter}
-use Rattle.ion_visiting.specs.Events.{Event, part, layer_events}
-use Rattle.ion_visiting.specs.Tables.{LetsPass, WasTold, begins_struct, heard, is_of_table}
 use Rattle.ion_visiting.specs.laws.Filters.{hears_none, visitor_tells}
-use Rattle.ion_binary.specs.declared.form.Scalar.{Scalar}
-use Rattle.ion_binary.specs.declared.form.Scalar.TheVariants as scalars
-use Rattle.ion_binary.specs.Grammar.{IsScalar, is_int, is_negative, is_decimal, is_timestamp, is_symbol, is_string, is_clob, is_blob}
-use Rattle.ion_binary.specs.Judge.{as_decimal, as_timestamp, int_of, judge}
 use Rattle.ion_binary.specs.laws.reading.Judged.{judge_scalar, judge_sound}
-use Rattle.ion_binary.specs.walking.Holds.{IsPart, TellsAs}
 
 -- 1. Bodies that aren't refused, form by form.
 
@@ -34,7 +17,7 @@ int_judged (Ok n) = refl
 int_judged (Err e) = refl
 
 -- a body whose number isn't refused is an int
-pub int_unread : (c : List Slot) (body : List ℕ) → is_ok (uint_field body) ≡ true → is_ok (judge c scalars.Int body) ≡ true
+pub int_unread : (c : List Slot) (body : List ℕ) → is_ok (uint_field body) ≡ true → is_ok (judge c Scalar.Int body) ≡ true
 unfolding judge
 int_unread c body h = int_judged (uint_field body) ∙ h
 
@@ -55,13 +38,13 @@ uint_some (octet ∷ rest) first =
     omega (arith, one, more)
 
 -- without leading zeros it is the magnitude of a negative int
-pub negative_unread : (c : List Slot) (body : List ℕ) → 0 < get_or body 0 0 → is_ok (uint_field body) ≡ true → is_ok (judge c scalars.NegativeInt body) ≡ true
-negative_unread c body first h = ap is_ok (judge_scalar c body scalars.NegativeInt _ (is_negative (uint_kept body h) (uint_some body first)))
+pub negative_unread : (c : List Slot) (body : List ℕ) → 0 < get_or body 0 0 → is_ok (uint_field body) ≡ true → is_ok (judge c Scalar.NegativeInt body) ≡ true
+negative_unread c body first h = ap is_ok (judge_scalar c body Scalar.NegativeInt _ (is_negative (uint_kept body h) (uint_some body first)))
 
 -- with them, where a negative int is read of it
 pub negative_read : (c : List Slot) (body : List ℕ) (r : Result ℤ Reason)
     → MatchResult r (λ z. int_of true (uint_field body) ≡ Ok (payloads.Int z)) (λ reason. int_of true (uint_field body) ≡ Err reason)
-    → is_ok r ≡ true → is_ok (judge c scalars.NegativeInt body) ≡ true
+    → is_ok r ≡ true → is_ok (judge c Scalar.NegativeInt body) ≡ true
 unfolding judge
 negative_read c body (Ok z) e h = ap is_ok e
 negative_read c body (Err reason) e h = absurd (false≢true h)
@@ -71,7 +54,7 @@ decimal_judged (Ok d) = refl
 decimal_judged (Err e) = refl
 
 -- a body that is read as a decimal is one
-pub decimal_unread : (c : List Slot) (body : List ℕ) → is_ok (decimal_of_body body) ≡ true → is_ok (judge c scalars.Decimal body) ≡ true
+pub decimal_unread : (c : List Slot) (body : List ℕ) → is_ok (decimal_of_body body) ≡ true → is_ok (judge c Scalar.Decimal body) ≡ true
 unfolding judge
 decimal_unread c body h = decimal_judged (decimal_of_body body) ∙ h
 
@@ -80,28 +63,28 @@ timestamp_judged (Ok t) = refl
 timestamp_judged (Err e) = refl
 
 -- a body that is read as a timestamp is one
-pub timestamp_unread : (c : List Slot) (body : List ℕ) → is_ok (timestamp_of_body body) ≡ true → is_ok (judge c scalars.Timestamp body) ≡ true
+pub timestamp_unread : (c : List Slot) (body : List ℕ) → is_ok (timestamp_of_body body) ≡ true → is_ok (judge c Scalar.Timestamp body) ≡ true
 unfolding judge
 timestamp_unread c body h = timestamp_judged (timestamp_of_body body) ∙ h
 
 -- a body whose number is the id of a symbol is that symbol
 pub symbol_unread : (c : List Slot) (body : List ℕ) (id : ℕ) (s : Option (List ℕ)) → id ≡ positional 256 body → id < 2 ^ 64 → resolve c id ≡ Ok s
-    → is_ok (judge c scalars.Symbol body) ≡ true
+    → is_ok (judge c Scalar.Symbol body) ≡ true
 symbol_unread c body id s e small found =
     let below : id < 2 ^ 127 = omega arith in
-    ap is_ok (judge_scalar c body scalars.Symbol _ (is_symbol s (subst (λ k. k < 2 ^ 127) e below) (subst (λ k. resolve c k ≡ Ok s) e found)))
+    ap is_ok (judge_scalar c body Scalar.Symbol _ (is_symbol s (subst (λ k. k < 2 ^ 127) e below) (subst (λ k. resolve c k ≡ Ok s) e found)))
 
 -- a body in UTF-8 is a string
-pub text_unread : (c : List Slot) (body : List ℕ) → IsUtf8 body → is_ok (judge c scalars.Str body) ≡ true
-text_unread c body h = ap is_ok (judge_scalar c body scalars.Str _ (is_string h))
+pub text_unread : (c : List Slot) (body : List ℕ) → IsUtf8 body → is_ok (judge c Scalar.Str body) ≡ true
+text_unread c body h = ap is_ok (judge_scalar c body Scalar.Str _ (is_string h))
 
 -- whatever its octets, a body is a clob
-pub clob_unread : (c : List Slot) (body : List ℕ) → is_ok (judge c scalars.Clob body) ≡ true
-clob_unread c body = ap is_ok (judge_scalar c body scalars.Clob _ is_clob)
+pub clob_unread : (c : List Slot) (body : List ℕ) → is_ok (judge c Scalar.Clob body) ≡ true
+clob_unread c body = ap is_ok (judge_scalar c body Scalar.Clob _ is_clob)
 
 -- and a blob
-pub blob_unread : (c : List Slot) (body : List ℕ) → is_ok (judge c scalars.Blob body) ≡ true
-blob_unread c body = ap is_ok (judge_scalar c body scalars.Blob _ is_blob)
+pub blob_unread : (c : List Slot) (body : List ℕ) → is_ok (judge c Scalar.Blob body) ≡ true
+blob_unread c body = ap is_ok (judge_scalar c body Scalar.Blob _ is_blob)
 
 -- of a form by another name
 pub as_form : (c : List Slot) (t x : Scalar) (body : List ℕ) → t ≡ x → is_ok (judge c x body) ≡ true → is_ok (judge c t body) ≡ true
@@ -121,10 +104,10 @@ scalar_leaf c body _ _ is_clob = ap layer_events (outs-Clob body)
 scalar_leaf c body _ _ is_blob = ap layer_events (outs-Blob body)
 
 plain_of : (t : Table) (b : Bool) → is_of_table t true ≡ false → is_of_table t b ≡ false
-plain_of tables.Unknown b h = refl
-plain_of tables.No b h = refl
-plain_of tables.Noted b h = absurd (false≢true (sym h))
-plain_of tables.Yes b h = absurd (false≢true (sym h))
+plain_of Table.Unknown b h = refl
+plain_of Table.No b h = refl
+plain_of Table.Noted b h = absurd (false≢true (sym h))
+plain_of Table.Yes b h = absurd (false≢true (sym h))
 
 module _ {V : Type 0} (takes : V → Event → V → Type 0) (c : List Slot) (t : Scalar) (body : List ℕ) (f g : TableFilter) (a : V)
     (plain : is_of_table f.table true ≡ false) (passes : (es : List Event) → WasTold f es → LetsPass g × (heard es ≡ es))

@@ -2,28 +2,15 @@
 use Rattle.std.proofs.Common.{◌≡◌, ℕ, ◌+◌, ◌-◌, ◌*◌, ◌^◌, ◌≤◌, ◌<◌, List, [], ◌∷◌, ◌++◌, Bool, true, false, Option, Some, None, Ok, refl, ap, sym, subst, ◌∙◌, arith}
 use Rattle.std.specs.Prelude.{◌==◌, nat_lt, if◌then◌else◌}
 use Rattle.std.proofs.lemmas.Bool.Decides.{nat_tests}
-use Rattle.ion_atoms.specs.declared.refusal.Reason.TheVariants.{Malformed, TooLarge}
-use Rattle.ion_symtab.specs.Slots.{resolve}
-use Rattle.ion_visiting.specs.Events.{Event, annotation}
-use Rattle.ion_visiting.specs.Tables.{Hears, Tells, WasTold, heard}
-use Rattle.ion_binary.specs.machine.Frames.{Frame}
+use Rattle.ion_binary.specs.Names.{BinaryWalk, Container, Does, DoesAlone, Event, Frame, Goes, Hears, Holds, InNumber, IsInside, Malformed, Purpose, Ready, Setting, Spot, Tells, TooLarge, WasTold, annotation, annotation_came, at, behind_annotation, body_so_far, containers_of, fields_end, goes, heard, longer, name_came, name_of, number_came, on_number, open_containers, refuses, resolve, spot_of, told, wrapper_end}
 use Rattle.ion_binary.specs.machine.Frames as frames
-use Rattle.ion_binary.specs.declared.state.Purpose.{Purpose}
-use Rattle.ion_binary.specs.declared.state.Purpose.TheVariants as purposes
-use Rattle.ion_binary.specs.declared.state.Phase.TheVariants.{Ready, InNumber}
-use Rattle.ion_binary.specs.declared.state.Effect.TheVariants.{Goes}
-use Rattle.ion_binary.specs.declared.walking.BinaryWalk.{BinaryWalk}
-use Rattle.ion_binary.specs.declared.walking.Container.{Container}
-use Rattle.ion_binary.specs.declared.walking.Container.TheVariants as containers
-use Rattle.ion_binary.specs.machine.EachOctet.{Setting, Spot, goes, refuses, at, longer, name_came, annotation_came, number_came, on_number}
-use Rattle.ion_binary.specs.machine.Views.{body_so_far}
-use Rattle.ion_binary.specs.walking.Holds.{Does, DoesAlone, Holds, IsInside, Name, behind_annotation, containers_of, fields_end, name_of, open_containers, spot_of, told, wrapper_end}
+use Rattle.ion_binary.specs.walking.Holds.{Name}
 use Rattle.ion_binary.proofs.Tellings.{note_told}
 
 -- 1. The id of a field's name.
 
 pub name_does : (r new : BinaryWalk) (id end : ℕ) → Some end ≡ fields_end (open_containers r) → r.used < end
-    → ((k : Container) (ks : List Container) → open_containers r ≡ k ∷ ks → open_containers new ≡ containers.Named end ∷ ks)
+    → ((k : Container) (ks : List Container) → open_containers r ≡ k ∷ ks → open_containers new ≡ Container.Named end ∷ ks)
     → name_of new ≡ resolve r.context id → spot_of new ≡ spot_of r
     → new.filter ≡ r.filter → new.phase ≡ Ready → (fs : List Frame) → Holds r fs → DoesAlone (told fs) (name_came (spot_of r) fs id) (Ok Goes) new
 name_does r new id end some left there named spot kept phase [] h = let e : Some end ≡ None = some ∙ ap fields_end h.containers in absurd cc
@@ -43,7 +30,7 @@ name_does r new id end some left there named spot kept phase (frames.Fields to m
           ∙ (ap (λ t. goes (at t (frames.Named to ms s ∷ fs) Ready)) (sym spot)
           ∙ ap (λ p. goes (record { spot = spot_of new; frames = frames.Named to ms s ∷ fs; phase = p; body = body_so_far p new.body.items })) (sym phase)),
       record {
-        containers = there (containers.Fields to) (containers_of fs) h.containers ∙ ap (λ k. containers.Named k ∷ containers_of fs) is;
+        containers = there (Container.Fields to) (containers_of fs) h.containers ∙ ap (λ k. Container.Named k ∷ containers_of fs) is;
         named = sym named;
         open_there = h.open_there;
         inside = subst (λ p. IsInside p (frames.Named to ms s ∷ fs)) (sym phase) tt;
@@ -54,11 +41,11 @@ name_does r new id end some left there named spot kept phase (frames.Fields to m
 
 -- 2. The id of an annotation.
 
-keeps_none : (b : Bool) (stop : ℕ) (w : List ℕ) → body_so_far (if b then Ready else InNumber (purposes.Annotation stop) 0) w ≡ []
+keeps_none : (b : Bool) (stop : ℕ) (w : List ℕ) → body_so_far (if b then Ready else InNumber (Purpose.Annotation stop) 0) w ≡ []
 keeps_none true stop w = refl
 keeps_none false stop w = refl
 
-is_inside : (b : Bool) (stop : ℕ) (fs : List Frame) → IsInside (if b then Ready else InNumber (purposes.Annotation stop) 0) fs
+is_inside : (b : Bool) (stop : ℕ) (fs : List Frame) → IsInside (if b then Ready else InNumber (Purpose.Annotation stop) 0) fs
 is_inside true stop fs = tt
 is_inside false stop fs = tt
 

@@ -3,35 +3,16 @@ use Rattle.std.proofs.Common.{◌≡◌, ℕ, ◌+◌, ◌-◌, ◌≤◌, ◌<�
 use Rattle.std.specs.Prelude.{◌==◌, if◌then◌else◌}
 use Rattle.std.proofs.lemmas.Bool.{false≢true}
 use Rattle.std.proofs.lemmas.List.{length-take-le, take-append-drop, take_all}
-use Rattle.ion_atoms.specs.declared.refusal.Refusal.{Refusal}
-use Rattle.ion_atoms.specs.declared.refusal.Reason.{Reason}
-use Rattle.ion_atoms.specs.declared.refusal.Reason.TheVariants.{Incomplete}
-use Rattle.ion_model.specs.declared.value.Value.{Value}
-use Rattle.ion_symtab.specs.Trace.{Answers}
-use Rattle.ion_symtab.specs.Walks.{EndsOn, WalksOn}
-use Rattle.ion_symtab.specs.declared.limits.Limits.{Limits}
-use Rattle.ion_symtab.specs.declared.catalog.Catalog.{Catalog}
-use Rattle.ion_visiting.specs.Events.{Event}
-use Rattle.ion_visiting.specs.Tables.{heard}
+use Rattle.ion_binary.specs.Names.{Answers, AreAround, BinaryWalk, Catalog, Does, Effect, EndsOn, Event, Frame, Gives, Goes, Holds, InBody, InMarker, InNumber, InPad, Incomplete, IsInside, Limits, Machine, Outcome, Phase, Reached, Ready, Reason, Refusal, Run, Scalar, StandsFor, Told, Value, Walks, WalksOn, WentOn, ends_of, feed, heard, initial, judge, judged, machine_of, name_of, refused_at, run, run-append, run_after, run_of, setting_of, shells, spot_of, then_run, told, trace, trace_of, under, whole}
 use Rattle.ion_visiting.specs.laws.Filters.{hears_none}
-use Rattle.ion_binary.specs.declared.form.Scalar.{Scalar}
-use Rattle.ion_binary.specs.machine.Frames.{Frame}
+use Rattle.ion_binary.specs.machine.EachOctet.{moved}
 use Rattle.ion_binary.specs.machine.Frames as frames
-use Rattle.ion_binary.specs.declared.state.Phase.{Phase}
-use Rattle.ion_binary.specs.declared.state.Phase.TheVariants.{InMarker, Ready, InNumber, InBody, InPad}
-use Rattle.ion_binary.specs.declared.state.Effect.{Effect}
-use Rattle.ion_binary.specs.declared.state.Effect.TheVariants.{Goes, Gives}
-use Rattle.ion_binary.specs.declared.walking.BinaryWalk.{BinaryWalk}
-use Rattle.ion_binary.specs.Judge.{judge}
-use Rattle.ion_binary.specs.machine.EachOctet.{Machine, Outcome, under, feed, initial, judged, moved}
-use Rattle.ion_binary.specs.machine.Pieces.{run_after, run-append, then_run}
-use Rattle.ion_binary.specs.machine.Run.{Run, ends_of, run, trace, trace_of, whole}
-use Rattle.ion_binary.specs.walking.Holds.{AreAround, Does, Holds, IsInside, Name, WentOn, machine_of, name_of, setting_of, shells, spot_of, told}
-use Rattle.ion_binary.specs.walking.Runs.{Led, Reached, StandsFor, Told, Took, Walks, refused_at, run_of}
+use Rattle.ion_binary.specs.walking.Holds.{Name}
+use Rattle.ion_binary.specs.walking.Runs.{Led, Took}
 use Rattle.ion_binary.proofs.Insides.{body_ends, refused_whole}
 use Rattle.ion_binary.proofs.Leading.{LeadsFromStart, leads_by, leads_to_end, leads_to_value, whole_rest, within_rest}
 use Rattle.ion_binary.proofs.Shells.{emptied, shells_of}
-use Rattle.ion_binary.proofs.Tellings.{went_behind, gave_behind}
+use Rattle.ion_binary.proofs.Tellings.{gave_behind, went_behind}
 
 -- 1. Octets at the front of a piece.
 

@@ -3,31 +3,12 @@ use Rattle.std.proofs.Common.{◌≡◌, ℕ, ◌+◌, ◌-◌, ◌≤◌, Optio
 use Rattle.std.proofs.lemmas.Grind.{common_steps}
 use Rattle.std.proofs.lemmas.List.{drop-drop, length-take-le}
 use Rattle.std.proofs.Math.Seq.{take-add}
-use Rattle.ion_atoms.specs.declared.refusal.Reason.{Reason}
-use Rattle.ion_model.specs.declared.value.Field.{Field}
-use Rattle.ion_model.specs.Measures.{bare, field_of}
-use Rattle.ion_symtab.specs.Slots.{resolve}
-use Rattle.ion_visiting.specs.Events.{Event, name, part}
-use Rattle.ion_visiting.specs.Tables.{Hears, Tells, WasTold, heard}
-use Rattle.ion_visiting.specs.declared.table_filter.TableFilter.{TableFilter}
-use Rattle.ion_binary.specs.Grammar.{Header}
-use Rattle.ion_binary.specs.Judge.{judge}
-use Rattle.ion_binary.specs.declared.form.Form.TheVariants as forms
-use Rattle.ion_binary.specs.declared.form.Scalar.{Scalar}
-use Rattle.ion_binary.specs.machine.Frames.{Frame}
+use Rattle.ion_binary.specs.Names.{BinaryWalk, Does, Effect, Event, Field, Form, Frame, HasName, HasScalar, Header, Hears, Holds, InNumber, IsInside, IsTelling, IsWithin, Outcome, Phase, Purpose, Reason, Scalar, TableFilter, Tells, TellsAs, WasTold, bare, containers_of, field_of, heard, hollow, judge, judged, name, name_came, part, proceed, resolve, run, run_after, run_of, run_via, setting_of, spot_of, told}
+use Rattle.ion_binary.specs.machine.EachOctet.{moved}
 use Rattle.ion_binary.specs.machine.Frames as frames
-use Rattle.ion_binary.specs.declared.state.Phase.{Phase}
-use Rattle.ion_binary.specs.declared.state.Phase.TheVariants.{InNumber}
-use Rattle.ion_binary.specs.declared.state.Purpose.TheVariants as purposes
-use Rattle.ion_binary.specs.declared.state.Effect.{Effect}
-use Rattle.ion_binary.specs.declared.walking.BinaryWalk.{BinaryWalk}
+use Rattle.ion_binary.specs.walking.Holds.{told_in}
 use Rattle.ion_binary.specs.laws.reading.Complete.{name_run, number_run, scalar_run}
 use Rattle.ion_binary.specs.laws.reading.Stands.{InRoom}
-use Rattle.ion_binary.specs.machine.EachOctet.{Outcome, hollow, judged, moved, name_came, proceed}
-use Rattle.ion_binary.specs.machine.Pieces.{run_after, run_via}
-use Rattle.ion_binary.specs.machine.Run.{run}
-use Rattle.ion_binary.specs.walking.Holds.{Does, Holds, IsInside, IsTelling, IsWithin, TellsAs, containers_of, setting_of, spot_of, told, told_in}
-use Rattle.ion_binary.specs.walking.Runs.{HasName, HasScalar, run_of}
 use Rattle.ion_binary.proofs.Ending.{does_same}
 use Rattle.ion_binary.proofs.Insides.{with_phase}
 use Rattle.ion_binary.proofs.Tellings.{does_more, field_told, name_told, part_told}
@@ -45,7 +26,7 @@ pub came_run : (r : BinaryWalk) (fs : List Frame) → Holds r fs → (piece : Li
 came_run r fs h piece id size n =
     let count : length (take size piece) ≡ size = length-take-le size piece n.within in
     ap (λ (p : Phase). run r.catalog.now r.limits r.used (with_phase (spot_of r) fs r.body.items p) (take size piece)) n.phase
-    ∙ number_run r.catalog.now r.limits (spot_of r) fs purposes.FieldName (take size piece) id (r.used + size) n.is (omega (arith, count))
+    ∙ number_run r.catalog.now r.limits (spot_of r) fs Purpose.FieldName (take size piece) id (r.used + size) n.is (omega (arith, count))
     (in_room fs (r.used + size) (subst (λ cs. IsWithin cs (r.used + size)) h.containers n.inside))
 
 -- the value of a field is judged
@@ -106,11 +87,11 @@ module _ {V : Type 0} (takes : V → Event → V → Type 0) (r : BinaryWalk) (p
       let all : length (header ++ body) ≡ to - named = grind (arith, common_steps) in
       let mid = r.used + named in
       ap (λ (p : Phase). run r.catalog.now r.limits r.used (with_phase (spot_of r) (frames.Fields end ms ∷ fs) r.body.items p) (take to piece)) n.phase
-      ∙ (ap (run r.catalog.now r.limits r.used (with_phase (spot_of r) (frames.Fields end ms ∷ fs) r.body.items (InNumber purposes.FieldName 0))) octets
+      ∙ (ap (run r.catalog.now r.limits r.used (with_phase (spot_of r) (frames.Fields end ms ∷ fs) r.body.items (InNumber Purpose.FieldName 0))) octets
       ∙ run_via r.catalog.now r.limits r.used mid _ _ _ (take named piece) (header ++ body) (omega (arith, count))
       (name_run r.catalog.now r.limits (spot_of r) fs end ms (take named piece) id mid (Ok s) n.is is (omega (arith, count)) (omega arith))
       (scalar_run r.catalog.now r.limits (moved (spot_of r) mid) (frames.Named end ms (Ok s) ∷ fs) t header body (r.used + to)
-      (subst (λ k. Header (forms.Scalar t) k header) (sym size) v.header) (ap (hollow (forms.Scalar t)) size ∙ v.full)
+      (subst (λ k. Header (Form.Scalar t) k header) (sym size) v.header) (ap (hollow (Form.Scalar t)) size ∙ v.full)
       (record { fitting = refl; named = refl }) (omega (arith, all)) inside))
 
   -- a field with a scalar

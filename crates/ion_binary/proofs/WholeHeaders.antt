@@ -3,22 +3,10 @@ use Rattle.std.proofs.Common.{◌≡◌, ℕ, ◌+◌, ◌-◌, ◌≤◌, List,
 use Rattle.std.proofs.lemmas.Grind.{common_steps}
 use Rattle.std.proofs.lemmas.List.{length-take-le}
 use Rattle.std.proofs.Math.Seq.{take-add}
-use Rattle.ion_binary.specs.declared.form.Form.{Form}
-use Rattle.ion_binary.specs.declared.form.Form.TheVariants as forms
-use Rattle.ion_binary.specs.declared.form.Scalar.{Scalar}
-use Rattle.ion_binary.specs.machine.Frames.{Frame}
-use Rattle.ion_binary.specs.declared.state.Phase.{Phase}
-use Rattle.ion_binary.specs.declared.state.Phase.TheVariants.{Ready}
-use Rattle.ion_binary.specs.declared.walking.BinaryWalk.{BinaryWalk}
-use Rattle.ion_binary.specs.Grammar.{Header}
-use Rattle.ion_binary.specs.Judge.{judge}
+use Rattle.ion_binary.specs.Names.{AreAround, BinaryWalk, Form, Frame, Header, Holds, Opens, Phase, Ready, Scalar, at, begin, hollow, judge, judged, run, run_after, run_of, setting_of, spot_of}
+use Rattle.ion_binary.specs.machine.EachOctet.{moved}
 use Rattle.ion_binary.specs.laws.reading.Complete.{Admits, header_run, scalar_run}
 use Rattle.ion_binary.specs.laws.reading.Stands.{BodyMayEnd}
-use Rattle.ion_binary.specs.machine.EachOctet.{at, begin, hollow, judged, moved}
-use Rattle.ion_binary.specs.machine.Pieces.{run_after}
-use Rattle.ion_binary.specs.machine.Run.{run}
-use Rattle.ion_binary.specs.walking.Holds.{AreAround, Holds, setting_of, spot_of}
-use Rattle.ion_binary.specs.walking.Runs.{Opens, run_of}
 use Rattle.ion_binary.proofs.Insides.{with_phase}
 use Rattle.ion_binary.proofs.Shells.{has_room, may_begin}
 
@@ -39,7 +27,7 @@ module _ (r : BinaryWalk) (fs : List Frame) (h : Holds r fs) (piece : List ℕ) 
       (room form o).1
 
   -- and over a scalar, to its judgement
-  module _ (t : Scalar) (within : front + size ≤ length piece) (o : Opens r piece (forms.Scalar t) front size) where
+  module _ (t : Scalar) (within : front + size ≤ length piece) (o : Opens r piece (Form.Scalar t) front size) where
     pub scalar_whole : run_of r fs (take (front + size) piece) ≡ run_after (r.used + (front + size))
         (judged (setting_of r) (moved (spot_of r) (r.used + (front + size))) fs (judge r.context t (take (front + size - front) (drop front piece))))
     scalar_whole =
@@ -49,12 +37,12 @@ module _ (r : BinaryWalk) (fs : List Frame) (h : Holds r fs) (piece : List ℕ) 
         let octets : take (front + size) piece ≡ take front piece ++ body = ap (λ k. take k piece) (sym behind) ∙ take-add front (front + size - front) piece in
         let all : length (take front piece ++ body) ≡ front + size = ap length (sym octets) ∙ length-take-le (front + size) piece within in
         let ends : r.used + front + size ≡ r.used + (front + size) = omega arith in
-        let fits = room (forms.Scalar t) o in
+        let fits = room (Form.Scalar t) o in
         from_ready (take (front + size) piece) o.ready
         ∙ (ap (run r.catalog.now r.limits r.used (at (spot_of r) fs Ready)) octets
         ∙ scalar_run r.catalog.now r.limits (spot_of r) fs t (take front piece) body (r.used + (front + size))
-        (subst (λ k. Header (forms.Scalar t) k (take front piece)) (sym count) o.header) (ap (hollow (forms.Scalar t)) count ∙ o.full) fits.0
-        (omega (arith, all)) (subst (BodyMayEnd r.limits r.start fs (forms.Scalar t)) ends fits.1))
+        (subst (λ k. Header (Form.Scalar t) k (take front piece)) (sym count) o.header) (ap (hollow (Form.Scalar t)) count ∙ o.full) fits.0
+        (omega (arith, all)) (subst (BodyMayEnd r.limits r.start fs (Form.Scalar t)) ends fits.1))
 
     pub scalar_around : AreAround fs
-    scalar_around = may_begin r fs h (forms.Scalar t) (r.used + front + size) o.fits
+    scalar_around = may_begin r fs h (Form.Scalar t) (r.used + front + size) o.fits

@@ -2,30 +2,11 @@
 -- stand under it. A row says what stands open behind some octets (`Open`: whole pieces of the grammar, then containers that have begun),
 -- and which octets come next. Nothing here speaks of reading.
 use Rattle.std.specs.Prelude.{◌≡◌, ◌≢◌, ◌⊎◌, ℕ, suc, ◌+◌, ◌*◌, ◌^◌, ◌<◌, ◌≤◌, ◌||◌, Bool, true, false, List, [], ◌∷◌, ◌++◌, length, Option, Ok, Err}
-use Rattle.ion_model.specs.declared.value.Value.{Value}
-use Rattle.ion_model.specs.declared.value.Field.{Field}
-use Rattle.ion_model.specs.Measures.{depth}
-use Rattle.ion_model.specs.Kinds.{is_table}
-use Rattle.ion_atoms.specs.declared.kind.Kind.{Kind}
-use Rattle.ion_atoms.specs.declared.refusal.Reason.{Reason}
-use Rattle.ion_atoms.specs.declared.refusal.Reason.TheVariants.{TooLarge, Malformed, Depth, ItemTooLong, Version}
-use Rattle.ion_atoms.specs.Reasons.{reason_number}
-use Rattle.ion_scalar.specs.declared.descriptor.Size.{Size}
-use Rattle.ion_scalar.specs.declared.descriptor.Size.TheVariants.{Known, Follows}
-use Rattle.ion_scalar.specs.binary.Fields.{positional, Digits128, VarUInt, seven_bits}
-use Rattle.ion_symtab.specs.declared.limits.Limits.{Limits}
-use Rattle.ion_symtab.specs.declared.catalog.Catalog.{Catalog}
-use Rattle.ion_symtab.specs.Slots.{Slot, resolve}
-use Rattle.ion_symtab.specs.Next.{next}
-use Rattle.ion_binary.specs.declared.form.Scalar.{Scalar}
-use Rattle.ion_binary.specs.declared.form.Listing.{Listing}
-use Rattle.ion_binary.specs.declared.form.Form.{Form}
-use Rattle.ion_binary.specs.declared.form.Form.TheVariants as forms
-use Rattle.ion_binary.specs.declared.form.Opening.TheVariants.{Refused, Marker, Null, Truth, Sized}
-use Rattle.ion_binary.specs.Opening.{opening_of, is_pad, is_wrapper}
+use Rattle.ion_binary.specs.Names.Below.{Catalog, Depth, Digits128, Field, Follows, Form, ItemTooLong, Kind, Known, Limits, Listing, Malformed, Marker, Null, Reason, Refused, Scalar, Size, Sized, Slot, TooLarge, Truth, Value, VarUInt, Version, depth, is_table, next, positional, reason_number, resolve, seven_bits}
 use Rattle.ion_binary.specs.Depths.{depths, field_depths}
-use Rattle.ion_binary.specs.Grammar.{Header, Ids, Sequence, Fields, Binary, Pieces}
+use Rattle.ion_binary.specs.Grammar.{Binary, Fields, Header, Ids, Pieces, Sequence}
 use Rattle.ion_binary.specs.Judge.{judge}
+use Rattle.ion_binary.specs.Opening.{is_pad, is_wrapper, opening_of}
 
 -- 1. What stands open.
 
@@ -88,8 +69,8 @@ pub record Headed (l : Limits) (c : List Slot) (start : ℕ) (Outer : List ℕ �
 
 -- a struct, whether its header announces the order of its fields or not
 abbrev pub IsStruct : Form → Type 0
-IsStruct forms.Struct = Unit {0}
-IsStruct forms.OrderedStruct = Unit {0}
+IsStruct Form.Struct = Unit {0}
+IsStruct Form.OrderedStruct = Unit {0}
 IsStruct _ = ⊥
 
 -- the header of a struct, and whole fields
@@ -116,7 +97,7 @@ Open g l c start (Items end ∷ ks) u =
       listing : Listing;
       items : List Value;
       parts : u ≡ front ++ body;
-      headed : Headed l c start (Open g l c start ks) ks (forms.Listing listing) end front;
+      headed : Headed l c start (Open g l c start ks) ks (Form.Listing listing) end front;
       come : Sequence c body items;
       deep : depths items + suc (container_levels ks) ≤ l.depth;
       more : length u < end;
@@ -138,7 +119,7 @@ Open g l c start (Noted end ∷ ks) u =
       ids : List ℕ;
       symbols : List (Option (List ℕ));
       parts : u ≡ front ++ (count ++ ids);
-      headed : Headed l c start (Open g l c start ks) ks forms.Wrapper end front;
+      headed : Headed l c start (Open g l c start ks) ks Form.Wrapper end front;
       number : VarUInt count (length ids);
       some : 0 < length ids;
       come : Ids c ids symbols;
@@ -165,10 +146,10 @@ module _ (g : Catalog) (l : Limits) (c : List Slot) (start : ℕ) where
         → opening_of b ≡ Sized form Follows → MayBegin c ks (is_pad form) (is_wrapper form)
         → Before ks (Length form) (u ++ b ∷ [])
     a_name : (end : ℕ) (ks : List Container) (u : List ℕ) → Open g l c start (Names end ∷ ks) u → Before (Names end ∷ ks) Name u
-    a_count : (ks : List Container) (end : ℕ) (u : List ℕ) → Headed l c start (Open g l c start ks) ks forms.Wrapper end u
+    a_count : (ks : List Container) (end : ℕ) (u : List ℕ) → Headed l c start (Open g l c start ks) ks Form.Wrapper end u
         → Before ks (Count end) u
     an_id : (ks : List Container) (end n : ℕ) (front count ids : List ℕ) (ss : List (Option (List ℕ)))
-        → Headed l c start (Open g l c start ks) ks forms.Wrapper end front → VarUInt count n → 0 < n → Ids c ids ss
+        → Headed l c start (Open g l c start ks) ks Form.Wrapper end front → VarUInt count n → 0 < n → Ids c ids ss
         → length front + length count + n < end
         → Before ks (Id (length front + length count + n)) (front ++ (count ++ ids))
 
@@ -221,7 +202,7 @@ module _ (g : Catalog) (l : Limits) (c : List Slot) (start : ℕ) where
 
 -- a list, an s-expression or a struct
 abbrev pub IsContainer : Form → Type 0
-IsContainer (forms.Listing x) = Unit {0}
+IsContainer (Form.Listing x) = Unit {0}
 IsContainer form = IsStruct form
 
 -- 3. The rows.
@@ -259,7 +240,7 @@ pub data Decides (g : Catalog) (l : Limits) : List ℕ → Reason → Type 0 whe
   wrapper_unfilled : (c : List Slot) (start end : ℕ) (ks : List Container) (pad : Bool) (to : ℕ) (u : List ℕ)
       → Reaches g l c start (Noted end ∷ ks) pad to u → to < end
       → Decides g l u Malformed
-  no_fields : (c : List Slot) (start : ℕ) (ks : List Container) (u : List ℕ) → EndsHeader g l c start ks forms.OrderedStruct 0 u
+  no_fields : (c : List Slot) (start : ℕ) (ks : List Container) (u : List ℕ) → EndsHeader g l c start ks Form.OrderedStruct 0 u
       → Decides g l u Malformed
   too_deep : (c : List Slot) (start : ℕ) (ks : List Container) (form : Form) (n : ℕ) (u : List ℕ)
       → EndsHeader g l c start ks form n u → IsContainer form → l.depth ≤ container_levels ks
@@ -283,14 +264,14 @@ pub data Decides (g : Catalog) (l : Limits) : List ℕ → Reason → Type 0 whe
   no_length : (c : List Slot) (start : ℕ) (k : Container) (ks : List Container) (u : List ℕ) (b : ℕ) (form : Form)
       → Open g l c start (k ∷ ks) u → TakesValue (k ∷ ks) → opening_of b ≡ Sized form Follows → container_end k ≤ length u + 1
       → Decides g l (u ++ b ∷ []) Malformed
-  no_count : (c : List Slot) (start : ℕ) (ks : List Container) (u : List ℕ) → EndsHeader g l c start ks forms.Wrapper 0 u
+  no_count : (c : List Slot) (start : ℕ) (ks : List Container) (u : List ℕ) → EndsHeader g l c start ks Form.Wrapper 0 u
       → Decides g l u Malformed
   no_value : (c : List Slot) (start end id : ℕ) (ks : List Container) (u : List ℕ)
       → EndsNumber g l c start (Names end ∷ ks) Name id u → end ≤ length u
       → Decides g l u Malformed
   -- | the id of a field name (`SymbolRange`, `ImportGap`) | the descriptor behind it |
   no_name : (c : List Slot) (start end id : ℕ) (ks : List Container) (u : List ℕ) (b : ℕ) (e : Reason)
-      → Open g l c start (Named end id ∷ ks) u → resolve c id ≡ Err e → ((size : Size) → opening_of b ≢ Sized forms.Pad size)
+      → Open g l c start (Named end id ∷ ks) u → resolve c id ≡ Err e → ((size : Size) → opening_of b ≢ Sized Form.Pad size)
       → Decides g l (u ++ b ∷ []) e
   -- | the id of an annotation | its last octet |
   no_annotation : (c : List Slot) (start stop id : ℕ) (ks : List Container) (u : List ℕ) (e : Reason)
@@ -298,11 +279,11 @@ pub data Decides (g : Catalog) (l : Limits) : List ℕ → Reason → Type 0 whe
       → Decides g l u e
   -- | a body, with the id of a symbol | its last octet, or that of its length if it is empty |
   bad_body : (c : List Slot) (start end : ℕ) (ks : List Container) (t : Scalar) (front body : List ℕ) (e : Reason)
-      → Headed l c start (Open g l c start ks) ks (forms.Scalar t) end front → end ≡ length front + length body → 0 < length body
+      → Headed l c start (Open g l c start ks) ks (Form.Scalar t) end front → end ≡ length front + length body → 0 < length body
       → judge c t body ≡ Err e
       → Decides g l (front ++ body) e
   bad_empty_body : (c : List Slot) (start : ℕ) (ks : List Container) (t : Scalar) (u : List ℕ) (e : Reason)
-      → EndsHeader g l c start ks (forms.Scalar t) 0 u → judge c t [] ≡ Err e
+      → EndsHeader g l c start ks (Form.Scalar t) 0 u → judge c t [] ≡ Err e
       → Decides g l u e
   -- | a local symbol table | its last octet |
   bad_table : (u w : List ℕ) (s : List Value) (c : List Slot) (v : Value) (e : Reason) → Pieces g l u s c → Binary c w v

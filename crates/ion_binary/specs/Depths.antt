@@ -1,8 +1,6 @@
 -- How deep several values go.
 use Rattle.std.specs.Prelude.{ℕ, List, map}
-use Rattle.ion_model.specs.declared.value.Value.{Value}
-use Rattle.ion_model.specs.declared.value.Field.{Field}
-use Rattle.ion_model.specs.Measures.{depth, greatest}
+use Rattle.ion_binary.specs.Names.Below.{Field, Value, depth, greatest}
 
 -- how deep the deepest goes
 abbrev pub depths : List Value → ℕ

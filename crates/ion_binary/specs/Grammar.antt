@@ -1,30 +1,8 @@
 -- What binary documents are (Ion 1.0, "Ion Binary Encoding"). Nothing here speaks of reading.
 use Rattle.std.specs.Prelude.{◌≡◌, ℕ, Bool, true, false, pos, neg_ℤ, ◌^◌, ◌<◌, ◌≤◌, List, [], ◌∷◌, ◌++◌, length, Option, Ok}
 use Rattle.std.specs.Str.{IsUtf8}
-use Rattle.ion_model.specs.declared.value.Value.{Value}
-use Rattle.ion_model.specs.declared.value.Field.{Field}
-use Rattle.ion_model.specs.declared.value.Payload.{Payload}
+use Rattle.ion_binary.specs.Names.Below.{Catalog, DecimalParts, Digits128, Field, Follows, Form, IsDecimal, IsDecimalField, IsTimestampBody, Kind, Known, Limits, Listing, Null, Payload, Scalar, Sized, Slot, TimestampParts, Truth, Value, VarUInt, annotated, bare, depth, field_of, is_table, next, positional, resolve, system_slots}
 use Rattle.ion_model.specs.declared.value.Payload.TheVariants as payloads
-use Rattle.ion_atoms.specs.declared.kind.Kind.{Kind}
-use Rattle.ion_atoms.specs.Decimals.{DecimalParts, IsDecimal}
-use Rattle.ion_atoms.specs.Timestamps.{TimestampParts}
-use Rattle.ion_model.specs.Measures.{depth, bare, annotated, field_of}
-use Rattle.ion_model.specs.Kinds.{is_table}
-use Rattle.ion_scalar.specs.binary.Fields.{positional, Digits128, VarUInt}
-use Rattle.ion_scalar.specs.binary.Decimal.{IsDecimalField}
-use Rattle.ion_scalar.specs.binary.Timestamp.{IsTimestampBody}
-use Rattle.ion_scalar.specs.declared.descriptor.Size.TheVariants.{Known, Follows}
-use Rattle.ion_symtab.specs.declared.limits.Limits.{Limits}
-use Rattle.ion_symtab.specs.declared.catalog.Catalog.{Catalog}
-use Rattle.ion_symtab.specs.Slots.{Slot, system_slots, resolve}
-use Rattle.ion_symtab.specs.Next.{next}
-use Rattle.ion_binary.specs.declared.form.Scalar.{Scalar}
-use Rattle.ion_binary.specs.declared.form.Scalar.TheVariants as scalars
-use Rattle.ion_binary.specs.declared.form.Listing.{Listing}
-use Rattle.ion_binary.specs.declared.form.Listing.TheVariants as listings
-use Rattle.ion_binary.specs.declared.form.Form.{Form}
-use Rattle.ion_binary.specs.declared.form.Form.TheVariants as forms
-use Rattle.ion_binary.specs.declared.form.Opening.TheVariants.{Null, Truth, Sized}
 use Rattle.ion_binary.specs.Opening.{opening_of}
 
 -- these octets are the descriptor and the length of a body of n octets: by type codes and length codes, those of specs/HeaderRows.antt (laws::headers)
@@ -34,19 +12,19 @@ pub data Header (form : Form) (n : ℕ) : List ℕ → Type 0 where
 
 -- this body is this scalar; an int's is its magnitude, and there is no negative zero; a symbol's is its id
 pub data IsScalar (c : List Slot) (body : List ℕ) : Scalar → Payload → Type 0 where
-  is_int : positional 256 body < 2 ^ 127 → IsScalar c body scalars.Int (payloads.Int (pos (positional 256 body)))
-  is_negative : positional 256 body < 2 ^ 127 → 0 < positional 256 body → IsScalar c body scalars.NegativeInt (payloads.Int (neg_ℤ (pos (positional 256 body))))
-  is_decimal : (d : DecimalParts) → IsDecimalField body d → IsDecimal d → IsScalar c body scalars.Decimal (payloads.Decimal d)
-  is_timestamp : (t : TimestampParts) → IsTimestampBody body t → IsScalar c body scalars.Timestamp (payloads.Timestamp t)
+  is_int : positional 256 body < 2 ^ 127 → IsScalar c body Scalar.Int (payloads.Int (pos (positional 256 body)))
+  is_negative : positional 256 body < 2 ^ 127 → 0 < positional 256 body → IsScalar c body Scalar.NegativeInt (payloads.Int (neg_ℤ (pos (positional 256 body))))
+  is_decimal : (d : DecimalParts) → IsDecimalField body d → IsDecimal d → IsScalar c body Scalar.Decimal (payloads.Decimal d)
+  is_timestamp : (t : TimestampParts) → IsTimestampBody body t → IsScalar c body Scalar.Timestamp (payloads.Timestamp t)
   is_symbol : (s : Option (List ℕ)) → positional 256 body < 2 ^ 127 → resolve c (positional 256 body) ≡ Ok s
-      → IsScalar c body scalars.Symbol (payloads.Symbol s)
-  is_string : IsUtf8 body → IsScalar c body scalars.Str (payloads.Str body)
-  is_clob : IsScalar c body scalars.Clob (payloads.Clob body)
-  is_blob : IsScalar c body scalars.Blob (payloads.Blob body)
+      → IsScalar c body Scalar.Symbol (payloads.Symbol s)
+  is_string : IsUtf8 body → IsScalar c body Scalar.Str (payloads.Str body)
+  is_clob : IsScalar c body Scalar.Clob (payloads.Clob body)
+  is_blob : IsScalar c body Scalar.Blob (payloads.Blob body)
 
 -- a header and as many octets as it says, whichever they are
 pub data IsPad : List ℕ → Type 0 where
-  skipped : (h body : List ℕ) → Header forms.Pad (length body) h → IsPad (h ++ body)
+  skipped : (h body : List ℕ) → Header Form.Pad (length body) h → IsPad (h ++ body)
 
 -- ids one behind the other, and their symbols
 pub data Ids (c : List Slot) : List ℕ → List (Option (List ℕ)) → Type 0 where
@@ -56,25 +34,25 @@ pub data Ids (c : List Slot) : List ℕ → List (Option (List ℕ)) → Type 0 
 
 -- a list or an s-expression of these items
 abbrev pub listed : Listing → List Value → Payload
-listed listings.List vs = payloads.List vs
-listed listings.Sexp vs = payloads.Sexp vs
+listed Listing.List vs = payloads.List vs
+listed Listing.Sexp vs = payloads.Sexp vs
 
 mutual
   -- these octets are a value of this payload without annotations
   pub data Plain (c : List Slot) : List ℕ → Payload → Type 0 where
     is_null : (b : ℕ) (k : Kind) → opening_of b ≡ Null k → Plain c (b ∷ []) (payloads.Null k)
     is_truth : (b : ℕ) (t : Bool) → opening_of b ≡ Truth t → Plain c (b ∷ []) (payloads.Truth t)
-    is_scalar : (h body : List ℕ) (t : Scalar) (p : Payload) → Header (forms.Scalar t) (length body) h → IsScalar c body t p → Plain c (h ++ body) p
-    is_listing : (h body : List ℕ) (x : Listing) (vs : List Value) → Header (forms.Listing x) (length body) h → Sequence c body vs
+    is_scalar : (h body : List ℕ) (t : Scalar) (p : Payload) → Header (Form.Scalar t) (length body) h → IsScalar c body t p → Plain c (h ++ body) p
+    is_listing : (h body : List ℕ) (x : Listing) (vs : List Value) → Header (Form.Listing x) (length body) h → Sequence c body vs
         → Plain c (h ++ body) (listed x vs)
-    is_struct : (h body : List ℕ) (ms : List Field) → Header forms.Struct (length body) h → Fields c body ms → Plain c (h ++ body) (payloads.Fields ms)
-    is_ordered : (h body : List ℕ) (ms : List Field) → Header forms.OrderedStruct (length body) h → 0 < length body → Fields c body ms
+    is_struct : (h body : List ℕ) (ms : List Field) → Header Form.Struct (length body) h → Fields c body ms → Plain c (h ++ body) (payloads.Fields ms)
+    is_ordered : (h body : List ℕ) (ms : List Field) → Header Form.OrderedStruct (length body) h → 0 < length body → Fields c body ms
         → Plain c (h ++ body) (payloads.Fields ms)
 
   -- these octets are this value; in a wrapper the number of the octets of its annotations comes first
   pub data Binary (c : List Slot) : List ℕ → Value → Type 0 where
     unannotated : (w : List ℕ) (p : Payload) → Plain c w p → Binary c w (bare p)
-    wrapped : (h count ids w : List ℕ) (ss : List (Option (List ℕ))) (p : Payload) → Header forms.Wrapper (length (count ++ (ids ++ w))) h
+    wrapped : (h count ids w : List ℕ) (ss : List (Option (List ℕ))) (p : Payload) → Header Form.Wrapper (length (count ++ (ids ++ w))) h
         → VarUInt count (length ids) → 0 < length ids → Ids c ids ss → Plain c w p
         → Binary c (h ++ (count ++ (ids ++ w))) (annotated ss p)
 
@@ -120,5 +98,5 @@ pub data Whole (g : Catalog) (l : Limits) : List ℕ → List Value → Type 0 w
 pub data OpenRest (l : Limits) : List ℕ → Type 0 where
   of_marker : (w : List ℕ) → length w ≤ 3 → OpenRest l w
   of_item : (w : List ℕ) → length w ≤ l.item → OpenRest l w
-  of_pad_length : (b : ℕ) (w : List ℕ) → opening_of b ≡ Sized forms.Pad Follows → Digits128 w → positional 128 w < 2 ^ 63 → OpenRest l (b ∷ w)
-  of_pad : (h body : List ℕ) (n : ℕ) → Header forms.Pad n h → length body < n → OpenRest l (h ++ body)
+  of_pad_length : (b : ℕ) (w : List ℕ) → opening_of b ≡ Sized Form.Pad Follows → Digits128 w → positional 128 w < 2 ^ 63 → OpenRest l (b ∷ w)
+  of_pad : (h body : List ℕ) (n : ℕ) → Header Form.Pad n h → length body < n → OpenRest l (h ++ body)

@@ -1,18 +1,8 @@
 -- What a scalar's body is, as a function of its octets.
 use Rattle.std.specs.Prelude.{ℕ, pos, neg_ℤ, Bool, true, false, List, ◌==◌, if◌then◌else◌, Option, Result, Ok, Err}
 use Rattle.std.specs.Str.{is_utf8}
-use Rattle.ion_model.specs.declared.value.Payload.{Payload}
+use Rattle.ion_binary.specs.Names.Below.{BadUtf8, DecimalParts, Malformed, Payload, Reason, Scalar, Slot, TimestampParts, decimal_of_body, resolve, timestamp_of_body, uint_field}
 use Rattle.ion_model.specs.declared.value.Payload.TheVariants as payloads
-use Rattle.ion_atoms.specs.Decimals.{DecimalParts}
-use Rattle.ion_atoms.specs.Timestamps.{TimestampParts}
-use Rattle.ion_atoms.specs.declared.refusal.Reason.{Reason}
-use Rattle.ion_atoms.specs.declared.refusal.Reason.TheVariants.{Malformed, BadUtf8}
-use Rattle.ion_scalar.specs.binary.Fields.{uint_field}
-use Rattle.ion_symtab.specs.Slots.{Slot, resolve}
-use Rattle.ion_scalar.specs.binary.Decimal.{decimal_of_body}
-use Rattle.ion_scalar.specs.binary.Timestamp.{timestamp_of_body}
-use Rattle.ion_binary.specs.declared.form.Scalar.{Scalar}
-use Rattle.ion_binary.specs.declared.form.Scalar.TheVariants as scalars
 
 -- an int of this magnitude; 0 has no sign
 abbrev pub int_of : Bool → Result ℕ Reason → Result Payload Reason
@@ -46,11 +36,11 @@ text_of body = if is_utf8 body then Ok (payloads.Str body) else Err BadUtf8
 
 -- the scalar that a body is, or why it is none
 unfoldable pub judge : List Slot → Scalar → List ℕ → Result Payload Reason
-judge c scalars.Int body = int_of false (uint_field body)
-judge c scalars.NegativeInt body = int_of true (uint_field body)
-judge c scalars.Decimal body = as_decimal (decimal_of_body body)
-judge c scalars.Timestamp body = as_timestamp (timestamp_of_body body)
-judge c scalars.Symbol body = symbol_of c (uint_field body)
-judge c scalars.Str body = text_of body
-judge c scalars.Clob body = Ok (payloads.Clob body)
-judge c scalars.Blob body = Ok (payloads.Blob body)
+judge c Scalar.Int body = int_of false (uint_field body)
+judge c Scalar.NegativeInt body = int_of true (uint_field body)
+judge c Scalar.Decimal body = as_decimal (decimal_of_body body)
+judge c Scalar.Timestamp body = as_timestamp (timestamp_of_body body)
+judge c Scalar.Symbol body = symbol_of c (uint_field body)
+judge c Scalar.Str body = text_of body
+judge c Scalar.Clob body = Ok (payloads.Clob body)
+judge c Scalar.Blob body = Ok (payloads.Blob body)

@@ -12,3 +12,4 @@ pub mod walking
 pub mod visiting
 pub mod writer
 pub mod laws
+pub mod Names

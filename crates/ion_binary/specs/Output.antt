@@ -1,20 +1,9 @@
 -- The one binary document that is written for a stream of values (Ion 1.0, "Ion Binary Encoding" and "Symbols").
 use Rattle.std.specs.Prelude.{if◌then◌else◌, ◌<◌, ◌≤◌, ℕ, suc, ℤ, pos, int_lt, unsigned_abs, ◌+◌, ◌*◌, Bool, true, false, nat_lt, List, [], ◌∷◌, ◌++◌, length, drop, map, Option, None, Some, codes}
 use Rattle.std.specs.List.{list_any, position_or_len, flat_map, fold}
-use Rattle.ion_atoms.specs.declared.kind.Kind.{Kind}
-use Rattle.ion_atoms.specs.declared.kind.Kind.TheVariants as kinds
-use Rattle.ion_model.specs.declared.value.Value.{Value}
-use Rattle.ion_model.specs.declared.value.Field.{Field}
+use Rattle.ion_binary.specs.Names.Below.{Field, Kind, Layer, Limits, Payload-F, Value, annotated, bare, decimal_octets, depth, field_of, fold-Value, greatest_id, symbol_same, system_texts, timestamp_octets, uint_octets, var_uint_octets}
 use Rattle.ion_model.specs.declared.value.Payload.TheVariants as payloads
-use Rattle.ion_model.specs.declared.value.Payload.TheOpen.{Payload-F}
-use Rattle.ion_model.specs.declared.value.Payload.TheFolds.{fold-Value}
-use Rattle.ion_model.specs.Measures.{Layer, depth, bare, annotated, field_of}
-use Rattle.ion_model.specs.Symbols.{symbol_same}
-use Rattle.ion_scalar.specs.binary.Spellings.{var_uint_octets, uint_octets, decimal_octets}
-use Rattle.ion_symtab.specs.declared.limits.Limits.{Limits}
-use Rattle.ion_symtab.specs.Slots.{system_texts, greatest_id}
 use Rattle.ion_binary.specs.Grammar.{the_marker}
-use Rattle.ion_scalar.specs.binary.TimestampSpellings.{timestamp_octets}
 
 -- 1. Ids. A list of names has the symbol of each id at its place: first, of the id 0, the one of unknown text.
 
@@ -78,19 +67,19 @@ with_count w = var_uint_octets (length w) ++ w
 
 -- the octet of a null of this kind
 abbrev pub null_octet : Kind → ℕ
-null_octet kinds.Null = 0x0F
-null_octet kinds.Bool = 0x1F
-null_octet kinds.Int = 0x2F
-null_octet kinds.Float = 0x4F
-null_octet kinds.Decimal = 0x5F
-null_octet kinds.Timestamp = 0x6F
-null_octet kinds.Symbol = 0x7F
-null_octet kinds.Str = 0x8F
-null_octet kinds.Clob = 0x9F
-null_octet kinds.Blob = 0xAF
-null_octet kinds.List = 0xBF
-null_octet kinds.Sexp = 0xCF
-null_octet kinds.Fields = 0xDF
+null_octet Kind.Null = 0x0F
+null_octet Kind.Bool = 0x1F
+null_octet Kind.Int = 0x2F
+null_octet Kind.Float = 0x4F
+null_octet Kind.Decimal = 0x5F
+null_octet Kind.Timestamp = 0x6F
+null_octet Kind.Symbol = 0x7F
+null_octet Kind.Str = 0x8F
+null_octet Kind.Clob = 0x9F
+null_octet Kind.Blob = 0xAF
+null_octet Kind.List = 0xBF
+null_octet Kind.Sexp = 0xCF
+null_octet Kind.Fields = 0xDF
 
 -- the octet of a bool
 abbrev pub truth_octet : Bool → ℕ

@@ -1,9 +1,6 @@
 -- What a reader that builds values stands for.
 use Rattle.std.specs.Prelude.{ℕ, List}
-use Rattle.ion_model.specs.declared.value.Value.{Value}
-use Rattle.ion_visiting.specs.Building.{builds, fresh}
-use Rattle.ion_visiting.specs.Events.{Event, Led}
-use Rattle.ion_binary.specs.declared.reader.BinaryReader.{BinaryReader}
+use Rattle.ion_binary.specs.Names.Below.{BinaryReader, Event, Led, Value, builds, fresh}
 use Rattle.ion_binary.specs.walking.Runs.{Told}
 
 -- its walk told these octets, and what builds its values heard all that was told of what is open

@@ -1,8 +1,7 @@
 -- What a writer stands for, and why one of its calls ends with a fault.
 use Rattle.std.specs.Prelude.{◌≡◌, ◌<◌, suc, length, Bool, true, Option, ⊤}
-use Rattle.ion_symtab.specs.declared.fault.Fault.{Fault}
-use Rattle.ion_symtab.specs.declared.fault.Fault.TheVariants.{Memory, Read, Write, TooManyReads, TooLarge, Open}
-use Rattle.ion_symtab.specs.Slots.{greatest_id}
+use Rattle.ion_binary.specs.Names.Below.{Fault, greatest_id}
+use Rattle.ion_symtab.specs.declared.fault.Fault.TheVariants.{Memory, Open, Read, TooLarge, TooManyReads, Write}
 use Rattle.ion_binary.specs.Output.{Names, Progress}
 
 -- a writer: what the rest of its document depends on, and the fault that each call answers

@@ -1,14 +1,9 @@
 //! The visitor that writes values as binary values.
 ghost use Rattle.std.specs.Prelude.{[], ◌≡◌, ◌<◌, ◌≤◌, ◌^◌, IfOk, IfSome, MatchBool, MatchResult, Some, length, option_map, suc, true};
-ghost use Rattle.ion_model.specs.Kept.{IsText};
+ghost use Rattle.ion_binary.specs.Names.{IsLater, IsText, Names as SymbolsById, NeedsLargeId, greatest_id, id_of, number_payload, payload_of, with_name};
 ghost use Rattle.ion_model.specs.declared.value.Payload.TheVariants as payloads;
 ghost use Rattle.ion_symtab.specs.declared.fault.Fault.TheVariants as faults;
-ghost use Rattle.ion_symtab.specs.Slots.{greatest_id};
-ghost use Rattle.ion_binary.specs.Output.{Names as SymbolsById, id_of, with_name};
-ghost use Rattle.ion_binary.specs.visiting.BinaryOut.{counted_behind, of_values, no_octets, with_begun, with_body, with_end, with_ended, with_frame, with_id, with_part, without_begun, without_whole};
-ghost use Rattle.ion_binary.specs.writer.Later.{IsLater};
-ghost use Rattle.ion_binary.specs.Writing.{NeedsLargeId};
-ghost use Rattle.ion_visiting.specs.Parts.{number_payload, payload_of};
+ghost use Rattle.ion_binary.specs.visiting.BinaryOut.{counted_behind, no_octets, of_values, with_begun, with_body, with_end, with_ended, with_frame, with_id, with_part, without_begun, without_whole};
 
 use crate::writer::framing::{
     code_of, frame, insert_length, put_decimal_value, put_framed, put_id, put_null, put_symbol,

@@ -1,8 +1,6 @@
 //! What a descriptor octet opens.
 ghost use Rattle.std.specs.Prelude.{◌≡◌};
-ghost use Rattle.ion_binary.specs.Opening.{opening_of, body_of, with_octets};
-ghost use Rattle.ion_binary.specs.visiting.Brackets.{bracket_of};
-ghost use Rattle.ion_binary.specs.machine.EachOctet.{hollow};
+ghost use Rattle.ion_binary.specs.Names.{body_of, bracket_of, hollow, opening_of, with_octets};
 
 use ion_model::{Kind, Reason};
 use ion_scalar::{Descriptor, Size};

@@ -1,35 +1,13 @@
 //! Laws of binary documents. Each stands on an empty function: its contract is the law.
-ghost use Rattle.std.specs.Prelude.{◌↔◌, ℕ, List};
-ghost use Rattle.ion_model.specs.declared.value.Value.{Value};
-ghost use Rattle.ion_atoms.specs.Octets.{AreOctets};
-ghost use Rattle.ion_model.specs.Kept.{AreKept, IsKept};
-ghost use Rattle.ion_model.specs.Measures.{nodes};
-ghost use Rattle.ion_symtab.specs.declared.limits.Limits.{Limits};
-ghost use Rattle.ion_symtab.specs.Slots.{Slot};
-ghost use Rattle.ion_symtab.specs.Tables.{Table};
-ghost use Rattle.ion_symtab.specs.Promises.{NoTables};
-ghost use Rattle.ion_symtab.specs.laws.ContextTexts.{AreTextTables};
-ghost use Rattle.ion_binary.specs.declared.form.Form.{Form};
-ghost use Rattle.ion_binary.specs.Grammar.{Binary, Document, Header};
-ghost use Rattle.ion_binary.specs.HeaderRows.{IsHeader};
-ghost use Rattle.ion_atoms.specs.declared.kind.Kind.{Kind};
+ghost use Rattle.std.specs.Prelude.{◌↔◌, ℕ, List, ◌≡◌, false, ◌⊎◌, ◌<◌, ◌≤◌, ◌++◌, Bool, length, map, take, Some, None, Err};
+ghost use Rattle.ion_binary.specs.Names.{AreKept, AreOctets, Binary, Decides, Document, FitsIn, Form, Header, Incomplete, IsHeader, IsKept, Kind, Led, Limits, NoTables, Null, Reason, Refusal, Slot, Table, Took, Truth, Value, behind, bin_of, events_of, nodes, nothing_yet, null_octet, opening_of, puts, stream_events, trace, truth_octet};
 ghost use Rattle.ion_atoms.specs.declared.kind.Kind.TheVariants as kinds;
-ghost use Rattle.ion_symtab.specs.Took.{Took};
-ghost use Rattle.ion_binary.specs.declared.form.Opening.TheVariants.{Null, Truth};
-ghost use Rattle.ion_binary.specs.Opening.{opening_of};
-ghost use Rattle.ion_binary.specs.Output.{bin_of, nothing_yet, null_octet, truth_octet, FitsIn};
+ghost use Rattle.ion_symtab.specs.laws.ContextTexts.{AreTextTables};
+ghost use Rattle.ion_binary.specs.Deciding.{Answers};
 ghost use Rattle.ion_binary.specs.visiting.BinaryOut.{Encoded, Encodes, no_octets, with_value, wraps_next};
 ghost use Rattle.ion_binary.specs.writer.Calls.{WritesEach};
-ghost use Rattle.ion_binary.specs.writer.Puts.{puts, behind};
-ghost use Rattle.ion_visiting.specs.Events.{Led, events_of, stream_events};
 ghost use Rattle.ion_binary.specs.laws.reading.Rows.{AreDocuments, worked_documents};
 ghost use Rattle.ion_binary.specs.laws.writing.Rows.{worked};
-ghost use Rattle.std.specs.Prelude.{◌≡◌, false, ◌⊎◌, ◌<◌, ◌≤◌, ◌++◌, Bool, length, map, take, Some, None, Err};
-ghost use Rattle.ion_atoms.specs.declared.refusal.Refusal.{Refusal};
-ghost use Rattle.ion_atoms.specs.declared.refusal.Reason.{Reason};
-ghost use Rattle.ion_atoms.specs.declared.refusal.Reason.TheVariants.{Incomplete};
-ghost use Rattle.ion_binary.specs.machine.Run.{trace};
-ghost use Rattle.ion_binary.specs.Deciding.{Decides, Answers};
 
 use ion_symtab::Outlet;
 

@@ -1,6 +1,6 @@
 //! Numbers and lengths at the front of octets that are all here.
 ghost use Rattle.std.specs.Prelude.{◌≡◌, ◌≤◌, ◌<◌, ◌^◌, length, take, IfSome};
-ghost use Rattle.ion_scalar.specs.binary.Fields.{VarUInt};
+ghost use Rattle.ion_binary.specs.Names.{VarUInt};
 ghost use Rattle.ion_binary.specs.machine.Framed.{Heads};
 
 use ion_scalar::{Size, read_var_uint};

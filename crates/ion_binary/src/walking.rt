@@ -1,13 +1,7 @@
 //! The reader of binary documents that holds no values: what it holds, and what each octet does.
 ghost use Rattle.std.specs.Prelude.{◌≡◌, ◌+◌, ◌-◌, ◌<◌, ◌^◌, true, false, List, OnOk, IfErr};
-ghost use Rattle.ion_atoms.specs.declared.refusal.Reason.TheVariants.{Memory};
-ghost use Rattle.ion_visiting.specs.Parts.{payload_of};
-ghost use Rattle.ion_model.specs.Measures.{bare};
-ghost use Rattle.ion_binary.specs.machine.Frames.{Frame as AnyFrame};
-ghost use Rattle.ion_binary.specs.machine.EachOctet.{deliver, feed, marks, on_descriptor, on_marker, one_octet};
-ghost use Rattle.ion_binary.specs.machine.Views.{is_in_body};
-ghost use Rattle.ion_visiting.specs.Tables.{Hears, WasTold, heard};
-ghost use Rattle.ion_binary.specs.walking.Holds.{AreAround, Does, DoesAlone, Holds, IsTop, SameSetting, machine_of, setting_of, spot_of, told, told_in};
+ghost use Rattle.ion_binary.specs.Names.{AreAround, Does, DoesAlone, Frame as AnyFrame, Hears, Holds, IsTop, Memory, SameSetting, WasTold, bare, deliver, feed, heard, is_in_body, machine_of, marks, on_descriptor, on_marker, one_octet, payload_of, setting_of, spot_of, told};
+ghost use Rattle.ion_binary.specs.walking.Holds.{told_in};
 
 use crate::form::{Form, Listing, Opening, opening_of};
 use crate::state::{Effect, Mark, Phase};

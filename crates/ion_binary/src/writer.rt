@@ -1,12 +1,7 @@
 //! The writer of binary documents.
 ghost use Rattle.std.specs.Prelude.{◌≡◌, ◌≢◌, ◌+◌, ◌≤◌, ◌<◌, ◌^◌, ◌++◌, suc, length, Some, None, Ok, Err, false, true, MatchResult, OnOk, OnErr, IfErr, IsOkUnless};
-ghost use Rattle.ion_model.specs.Kept.{IsKept};
-ghost use Rattle.ion_symtab.specs.declared.fault.Fault.{Fault as AnyFault};
+ghost use Rattle.ion_binary.specs.Names.{Fault as AnyFault, IsKept, IsWritingFault, Took, TookFront, adds, after, greatest_id, names_after, nothing_yet, opening, table_from};
 ghost use Rattle.ion_symtab.specs.declared.fault.Fault.TheVariants as faults;
-ghost use Rattle.ion_symtab.specs.Slots.{greatest_id};
-ghost use Rattle.ion_symtab.specs.Took.{Took, TookFront};
-ghost use Rattle.ion_binary.specs.Output.{nothing_yet, adds, after, opening, names_after, table_from};
-ghost use Rattle.ion_binary.specs.Writing.{IsWritingFault};
 
 use crate::binary_out::BinaryOut;
 use ion_model::Value;

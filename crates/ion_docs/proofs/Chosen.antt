@@ -1,6 +1,6 @@
 -- What the first octet of a piece chooses.
 use Rattle.std.proofs.Common.{◌≡◌, ℕ, ◌+◌, ◌*◌, ◌<◌, zero, suc, Bool, true, false, List, [], ◌∷◌, length, take, ◌∙◌, sym, refl, arith, eq-eqb, ne_eqb, Option, Some, None, IsSome, slice_get}
-use Rattle.ion_docs.specs.reading.DocTold.{Begins}
+use Rattle.ion_docs.specs.Names.{Begins}
 
 -- those at the front of what has begun have begun so
 pub begins_front : (b : Bool) (piece : List ℕ) (used : ℕ) → Begins b piece → 0 < used → Begins b (take used piece)

@@ -2,16 +2,7 @@
 use Rattle.std.proofs.Common.{◌≡◌, ◌↔◌, ℕ, List, [], ◌∷◌, length, take, refl, ap, sym, subst, ◌∙◌, true, Result, Ok, Err}
 use lib.Pointwise.{pointwise}
 use Rattle.std.proofs.lemmas.Bool.{and_from}
-use Rattle.ion_model.specs.declared.value.Value.{Value}
-use Rattle.ion_model.specs.Same.{same}
-use Rattle.ion_atoms.specs.declared.refusal.Refusal.{Refusal}
-use Rattle.ion_symtab.specs.declared.catalog.Catalog.{Catalog}
-use Rattle.ion_symtab.specs.declared.limits.Limits.{Limits}
-use Rattle.ion_streams.specs.Outcomes.{IsRefused}
-use Rattle.ion_docs.specs.Conversion.{DenotesAnywhere}
-use Rattle.ion_docs.specs.Documents.{Denotes}
-use Rattle.ion_docs.specs.Encodings.{Encoding}
-use Rattle.ion_docs.specs.Formats.{documents}
+use Rattle.ion_docs.specs.Names.{Catalog, Denotes, DenotesAnywhere, Encoding, IsRefused, Limits, Refusal, Value, documents, same}
 use Rattle.ion_docs.specs.Headline.{IsConversionOf, SaysEquivalent}
 use Rattle.ion_docs.specs.laws.Documents.{one_document, one_shown}
 use Rattle.ion_docs.proofs.Verdicts.{one_refusal}

@@ -1,31 +1,12 @@
 -- What a device took of a document, one value after another, and where a conversion stands.
 use Rattle.std.proofs.Common.{◌≡◌, ℕ, ◌+◌, List, [], ◌∷◌, ◌++◌, length, Option, None, Some, Bool, refl, ap, sym, subst, ◌∙◌, length-append}
-use Rattle.ion_model.specs.declared.value.Value.{Value}
-use Rattle.ion_model.specs.Kept.{AreKept, IsKept}
+use Rattle.ion_docs.specs.Names.{AreKept, Catalog, Encoding, Event, Fault, IfOpen, Inlet, IsConvertCause, IsConverted, IsFrontOf, IsKept, IsPuttingFault, Items, Led, Limits, Memory, Open, Outlet, Read, ReadSoFar, Stood, StoodEach, ToldNext, TooLarge, TooManyReads, Took, TookBehind, TookFront, TookSomeBehind, Value, Write, WritesKept, answered, at_end, at_refusal, events_of, format_of, in_reading, left_of, plain, telling}
 use Rattle.ion_model.specs.laws.Kept.{kept_last}
-use Rattle.ion_visiting.specs.Events.{Event, Led, events_of}
-use Rattle.ion_symtab.specs.Trace.{plain}
-use Rattle.ion_symtab.specs.Took.{Took, TookFront}
-use Rattle.ion_symtab.specs.laws.Took.{Took-nil, Took-trans, Front-all, Front-more, Front-behind}
-use Rattle.ion_symtab.specs.declared.fault.Fault.{Fault}
-use Rattle.ion_symtab.specs.declared.fault.Fault.TheVariants.{Memory, Read, Write, TooManyReads, TooLarge, Open}
-use Rattle.ion_symtab.specs.declared.catalog.Catalog.{Catalog}
-use Rattle.ion_symtab.specs.declared.limits.Limits.{Limits}
-use Rattle.ion_symtab.specs.declared.inlet.Inlet.{Ghosts as Inlet}
-use Rattle.ion_symtab.specs.declared.items.Items.{Ghosts as Items}
-use Rattle.ion_symtab.specs.declared.outlet.Outlet.{Ghosts as Outlet}
-use Rattle.ion_streams.specs.reading.Read.{left_of}
-use Rattle.ion_docs.specs.Conversion.{WritesKept}
-use Rattle.ion_streams.specs.Formats.{format_of}
-use Rattle.ion_streams.specs.reading.Standing.{IfOpen, Stood, StoodEach, answered}
-use Rattle.ion_streams.specs.reading.Telling.{telling, ToldNext}
+use Rattle.ion_symtab.specs.laws.Took.{Front-all, Front-behind, Front-more, Took-nil, Took-trans}
+use Rattle.ion_streams.specs.declared.source.Standing.{Standing}
 use Rattle.ion_streams.proofs.Fronts.{OneStands, gave_told}
 use Rattle.ion_streams.proofs.Steps.{plain_next, stood_plain}
-use Rattle.ion_streams.specs.declared.source.Standing.{Standing}
-use Rattle.ion_streams.specs.declared.source.Standing.TheVariants as TheStanding
-use Rattle.ion_docs.specs.Converted.{ReadSoFar, in_reading, at_refusal, at_end, IsConverted, IsConvertCause}
 use Rattle.ion_docs.specs.declared.writers.Encoder.{Ghosts as Encoder}
-use Rattle.ion_docs.specs.Encodings.{Encoding, IsFrontOf, TookBehind, TookSomeBehind, IsPuttingFault}
 
 module _ {T : Type 0} (W : Outlet T) where
   -- all of the octets were taken: a front of them before, and then what stands behind it
@@ -72,10 +53,10 @@ module _ {S X Y : Type 0} (takes : Y → Event → Y → Type 0) (R : Inlet S) (
 
   -- wherever the document stands, its values were read
   pub was_read : OneStands I → (place : Standing X) (s : List Value) → Stood R (telling I []) g l first now place s → ReadSoFar R I g l first now s
-  was_read one (TheStanding.Open source) s h =
+  was_read one (Standing.Open source) s h =
       in_reading (gave_told R I g l first now s [] one (record { items = source.items; left = left_of source; ended = source.ended; gave = h }))
-  was_read one (TheStanding.Refused refusal) s h = at_refusal refusal h
-  was_read one TheStanding.Ended s h = at_end h
+  was_read one (Standing.Refused refusal) s h = at_refusal refusal h
+  was_read one Standing.Ended s h = at_end h
 
 -- where a conversion stands
 module _ {S X Y T : Type 0} (R : Inlet S) (I : Items X) (E : Encoder Y) (W : Outlet T) (g : Catalog) (l : Limits) (first : S) (device : T) where
@@ -108,14 +89,14 @@ module _ {S X T : Type 0} (R : Inlet S) (I : Items X) (W : Outlet T) (E : Encodi
   pub converted_at : (first now : S) (old new : T) (place : Standing X) (s : List Value) (values : ℕ) → IfOpen place (λ source. ⊥) → length s ≡ values
       → Stood R (telling I []) g l first now place s → Took W.took W.written old new (E.document s) →
       IsConverted R W E (format_of I g l) first now old new (answered place values)
-  converted_at first now old new (TheStanding.Open source) s values closed count h took = absurd closed
-  converted_at first now old new TheStanding.Ended s values closed count h took = (s, h, count, took)
-  converted_at first now old new (TheStanding.Refused refusal) s values closed count h took = (s, h, took)
+  converted_at first now old new (Standing.Open source) s values closed count h took = absurd closed
+  converted_at first now old new Standing.Ended s values closed count h took = (s, h, count, took)
+  converted_at first now old new (Standing.Refused refusal) s values closed count h took = (s, h, took)
 
   -- where a document is read to its end or refused, its values are kept, and their document was written
   pub kept_at : (first now : S) (old new : T) (place : Standing X) (s : List Value) (values : ℕ) → IfOpen place (λ source. ⊥) → AreKept s
       → Stood R (telling I []) g l first now place s → Took W.took W.written old new (E.document s) →
       WritesKept R W E (format_of I g l) first now old new (answered place values)
-  kept_at first now old new (TheStanding.Open source) s values closed kept h took = absurd closed
-  kept_at first now old new TheStanding.Ended s values closed kept h took = (s, h, kept, took)
-  kept_at first now old new (TheStanding.Refused refusal) s values closed kept h took = (s, h, kept, took)
+  kept_at first now old new (Standing.Open source) s values closed kept h took = absurd closed
+  kept_at first now old new Standing.Ended s values closed kept h took = (s, h, kept, took)
+  kept_at first now old new (Standing.Refused refusal) s values closed kept h took = (s, h, kept, took)

@@ -1,13 +1,8 @@
 -- The tables that values describe.
 use Rattle.std.proofs.Common.{◌≡◌, ℕ, List, [], ◌∷◌, ◌++◌, map, refl, ap, sym, subst, ◌∙◌, Option, Some, None, is_some, Result, Ok, Err, if◌then◌else◌, append_assoc, append-nil}
-use Rattle.ion_model.specs.declared.value.Value.{Value}
+use Rattle.ion_docs.specs.Names.{AreApart, DuplicateTable, Table, Value, added, catalog_of, find, plain, shared_table, then_at, with_table}
 use Rattle.ion_atoms.specs.declared.refusal.Reason.{Reason}
-use Rattle.ion_atoms.specs.declared.refusal.Reason.TheVariants.{DuplicateTable}
 use Rattle.ion_symtab.specs.Next.{and_then}
-use Rattle.ion_symtab.specs.Shared.{shared_table}
-use Rattle.ion_symtab.specs.Tables.{Table, find}
-use Rattle.ion_symtab.specs.Trace.{plain}
-use Rattle.ion_streams.specs.Loaded.{with_table, added, then_at, catalog_of, AreApart}
 
 -- a table that was added, and what it was added to
 record Added (before : List Table) (v : Value) (more : List Table) : Type 0 where

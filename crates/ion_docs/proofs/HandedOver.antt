@@ -2,24 +2,14 @@
 use Rattle.std.proofs.Common.{◌≡◌, ℕ, nat_lt, List, [], ◌∷◌, ◌++◌, length, ap, sym, subst, ◌∙◌, refl, arith, append_assoc, Bool, true}
 use Rattle.std.proofs.lemmas.Bool.Decides.{nat_tests}
 use Rattle.std.proofs.lemmas.List.{take_all, drop_all}
-use Rattle.ion_model.specs.declared.value.Value.{Value}
-use Rattle.ion_model.specs.Kept.{IsKept}
-use Rattle.ion_visiting.specs.Events.{ended}
-use Rattle.ion_symtab.specs.declared.outlet.Outlet.{Ghosts as Outlet}
-use Rattle.ion_symtab.specs.declared.fault.Fault.{Fault}
-use Rattle.ion_symtab.specs.declared.fault.Fault.TheVariants.{Write}
+use Rattle.ion_docs.specs.Names.{Encoding, Fault, IsKept, IsPuttingFault, NeedsLargeId, Outlet, Progress, TookSomeBehind, Value, WasTold, Write, behind, ended, names_after, nothing_yet, opening, table_octets, value_octets, value_text}
 use Rattle.ion_symtab.specs.laws.Took.{Front-none}
 use Rattle.ion_binary.specs.Output as binary
-use Rattle.ion_binary.specs.Output.{Progress, opening, nothing_yet, names_after, table_octets, value_octets}
-use Rattle.ion_binary.specs.Writing.{NeedsLargeId}
-use Rattle.ion_binary.specs.writer.Puts.{behind}
-use Rattle.ion_binary.specs.visiting.BinaryOut.{Encoded, Encodes, of_values, with_value, with_end, without_whole, wraps_next}
+use Rattle.ion_binary.specs.visiting.BinaryOut.{Encoded, Encodes, of_values, with_end, with_value, without_whole, wraps_next}
 use Rattle.ion_binary.proofs.BinaryTold as binary_told
 use Rattle.ion_text.specs.Output as text
-use Rattle.ion_text.specs.Output.{value_text}
-use Rattle.ion_text.specs.visiting.TextOut.{Written, Writes, no_text, lines, with_item, with_end as with_line, without_lines}
+use Rattle.ion_text.specs.visiting.TextOut.{Writes, Written, lines, no_text, with_end as with_line, with_item, without_lines}
 use Rattle.ion_text.proofs.TextTold as text_told
-use Rattle.ion_docs.specs.Encodings.{Encoding, IsPuttingFault, TookSomeBehind, WasTold}
 use Rattle.ion_docs.specs.laws.Encodings.{behind_one}
 
 -- of what a value adds, a device that wasn't written to took nothing

@@ -2,25 +2,10 @@
 use Rattle.std.proofs.Common.{◌≡◌, ◌↔◌, ℕ, zero, suc, ◌+◌, ◌-◌, List, [], ◌∷◌, ◌++◌, take, slice_get, length, refl, ap, sym, subst, ◌∙◌, arith, Bool, true, false, ◌&&◌, cond, ◌⊎◌, inl, inr, Option, Some, None, option_map, option_to_list, Result, Ok, Err}
 use lib.Pointwise.{pointwise}
 use Rattle.std.proofs.lemmas.Bool.{and_from}
-use Rattle.ion_model.specs.declared.value.Value.{Value}
-use Rattle.ion_model.specs.declared.path.Part.{Part}
-use Rattle.ion_model.specs.Parting.{IsPath}
-use Rattle.ion_model.specs.Same.{same}
-use Rattle.ion_atoms.specs.declared.refusal.Refusal.{Refusal}
-use Rattle.ion_symtab.specs.Trace.{plain}
-use Rattle.ion_symtab.specs.declared.catalog.Catalog.{Catalog}
-use Rattle.ion_symtab.specs.declared.limits.Limits.{Limits}
-use Rattle.ion_streams.specs.Compared.{parts, IsPathOf, PartAt}
-use Rattle.ion_streams.specs.Outcomes.{IsRefused}
-use Rattle.ion_streams.specs.declared.comparison.Verdict.{Verdict}
-use Rattle.ion_streams.specs.declared.comparison.Verdict.TheVariants.{Equivalent, Different, Refused}
-use Rattle.ion_streams.specs.declared.comparison.Side.TheVariants.{Left, Right}
+use Rattle.ion_docs.specs.Names.{Catalog, Denotes, Different, Equivalent, IsPath, IsPathOf, IsRefused, Left, Limits, OpenAfter, Part, PartAt, Refusal, Refused, Right, Value, Verdict, chosen, documents, parts, plain, same}
 use Rattle.ion_streams.proofs.Endings.{refused_late}
-use Rattle.ion_docs.specs.Documents.{Denotes, OpenAfter}
-use Rattle.ion_docs.specs.Formats.{documents}
-use Rattle.ion_docs.specs.Headline.{AreEquivalent, PartThere, PartFirst, AreDocuments, IsDocument, IsNoDocument, IsVerdictOn, SaysEquivalent, SaysDifferent, RefusesLeft, RefusesRight}
+use Rattle.ion_docs.specs.Headline.{AreDocuments, AreEquivalent, IsDocument, IsNoDocument, IsVerdictOn, PartFirst, PartThere, RefusesLeft, RefusesRight, SaysDifferent, SaysEquivalent}
 use Rattle.ion_docs.specs.laws.Documents.{promised}
-use Rattle.ion_docs.specs.reading.Chosen.{chosen}
 
 -- 1. Where two streams part.
 

@@ -5,22 +5,11 @@ use Rattle.std.proofs.lemmas.Bool.{and_from, eq-eqb}
 use Rattle.std.proofs.lemmas.Slice.Eq.{bytes_eq-Decides}
 use Rattle.std.proofs.lemmas.List.{map-append}
 use Rattle.std.proofs.lemmas.List.Elements.{Contains-append_right}
-use Rattle.ion_model.specs.declared.value.Value.{Value}
-use Rattle.ion_atoms.specs.declared.refusal.Refusal.{Refusal}
-use Rattle.ion_symtab.specs.Shared.{shared_table}
-use Rattle.ion_symtab.specs.Tables.{Table, is_named, find}
+use Rattle.ion_docs.specs.Names.{AreApart, Denotes, DescribesUnder, Format, IsCatalog, IsDocumentOf, Limits, OpenAfter, Refusal, Streams, Table, Trace, Value, catalog_of, chosen, documents, find, given_all, given_at, given_last, is_named, plain, shared_table}
 use Rattle.ion_symtab.specs.laws.Tables.{find_is}
-use Rattle.ion_symtab.specs.Trace.{Trace, plain, given_at, Streams}
-use Rattle.ion_symtab.specs.declared.limits.Limits.{Limits}
-use Rattle.ion_docs.specs.reading.Chosen.{chosen}
-use Rattle.ion_docs.specs.laws.Documents.{promised}
-use Rattle.ion_docs.specs.Documents.{Denotes, OpenAfter}
-use Rattle.ion_docs.specs.Formats.{documents}
-use Rattle.ion_streams.specs.Formats.{Format}
-use Rattle.ion_streams.specs.Outcomes.{given_last, given_all}
-use Rattle.ion_streams.specs.Loaded.{catalog_of, AreApart, DescribesUnder, IsDocumentOf, IsCatalog}
-use Rattle.ion_docs.proofs.Described.{describes_each, described_each}
 use Rattle.ion_streams.proofs.Endings.{refused_late}
+use Rattle.ion_docs.specs.laws.Documents.{promised}
+use Rattle.ion_docs.proofs.Described.{described_each, describes_each}
 use Rattle.ion_docs.proofs.Verdicts.{one_refusal}
 
 -- 1. Octets are loaded as one thing.

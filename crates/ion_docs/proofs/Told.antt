@@ -1,27 +1,10 @@
 -- What whole calls say of devices that tell only certain octets.
 use Rattle.std.proofs.Common.{◌≡◌, ℕ, ◌+◌, ◌≤◌, List, [], ◌++◌, length, refl, sym, ap, subst, ◌∙◌, Bool, true, false, Result, Ok, Err, append-nil, length-append, arith}
 use Rattle.std.proofs.lemmas.List.{append_cancel_left}
-use Rattle.ion_model.specs.declared.value.Value.{Value}
-use Rattle.ion_atoms.specs.declared.refusal.Refusal.{Refusal}
-use Rattle.ion_symtab.specs.Cause.{WereMade}
+use Rattle.ion_docs.specs.Names.{Catalog, DenotesAnywhere, Encoding, Format, Inlet, IsChecked, IsCompared, IsConverted, IsRefused, IsShown, IsVerdict, KeepsStream, Limits, Outlet, Refusal, ToldDocument, ToldRefused, Took, Value, Verdict, WereMade, accepted_line, documents, lines_of}
 use Rattle.ion_symtab.specs.Heard.{Heard, MayFollow}
 use Rattle.ion_symtab.specs.laws.Heard.{Heard-end}
-use Rattle.ion_symtab.specs.Took.{Took}
-use Rattle.ion_symtab.specs.declared.catalog.Catalog.{Catalog}
-use Rattle.ion_symtab.specs.declared.limits.Limits.{Limits}
-use Rattle.ion_symtab.specs.declared.inlet.Inlet.{Ghosts as Inlet}
-use Rattle.ion_symtab.specs.declared.outlet.Outlet.{Ghosts as Outlet}
-use Rattle.ion_streams.specs.Formats.{Format}
-use Rattle.ion_streams.specs.Checked.{IsChecked}
-use Rattle.ion_streams.specs.Compared.{IsCompared, IsVerdict}
-use Rattle.ion_streams.specs.Listing.{lines_of, accepted_line, IsShown}
-use Rattle.ion_streams.specs.Outcomes.{IsRefused, ToldDocument, ToldRefused}
-use Rattle.ion_streams.specs.declared.comparison.Verdict.{Verdict}
-use Rattle.ion_docs.specs.Conversion.{DenotesAnywhere, KeepsStream}
-use Rattle.ion_docs.specs.Converted.{IsConverted}
-use Rattle.ion_docs.specs.Encodings.{Encoding}
-use Rattle.ion_docs.specs.Formats.{documents}
-use Rattle.ion_docs.specs.Headline.{IsCheckOf, IsListingOf, IsConversionOf, TellsOnly}
+use Rattle.ion_docs.specs.Headline.{IsCheckOf, IsConversionOf, IsListingOf, TellsOnly}
 use Rattle.ion_docs.specs.laws.Documents.{one_document, one_shown}
 
 -- 1. What was heard of such a device are the first of its octets, and all of them where it answered its end.

@@ -1,18 +1,7 @@
 -- Two octet strings have one verdict.
 use Rattle.std.proofs.Common.{◌≡◌, ◌+◌, ◌-◌, ℕ, List, [], ◌∷◌, length, slice_get, refl, ap, sym, ◌∙◌, Bool, true, false, ◌&&◌, cond, Option, Some, None, option_map, inl, inr}
 use lib.Pointwise.{pointwise}
-use Rattle.ion_model.specs.declared.value.Value.{Value}
-use Rattle.ion_model.specs.Same.{same}
-use Rattle.ion_model.specs.Parting.{IsPath}
-use Rattle.ion_model.specs.declared.path.Part.{Part}
-use Rattle.ion_atoms.specs.declared.refusal.Refusal.{Refusal}
-use Rattle.ion_symtab.specs.Trace.{Trace}
-use Rattle.ion_streams.specs.Formats.{Format}
-use Rattle.ion_streams.specs.Outcomes.{SaysRefusal}
-use Rattle.ion_streams.specs.Compared.{parts, IsPathOf, IsVerdict}
-use Rattle.ion_streams.specs.declared.comparison.Verdict.{Verdict}
-use Rattle.ion_streams.specs.declared.comparison.Verdict.TheVariants.{Equivalent, Different, Refused}
-use Rattle.ion_streams.specs.declared.comparison.Side.TheVariants.{Left, Right}
+use Rattle.ion_docs.specs.Names.{Different, Equivalent, Format, IsPath, IsPathOf, IsVerdict, Left, Part, Refusal, Refused, Right, SaysRefusal, Trace, Value, Verdict, parts, same}
 
 same_none : (b r : Bool) (p : Option ℕ) → b && r ≡ true → (r ≡ true → p ≡ None) → cond b (option_map (λ n. n + 1) p) (Some 1) ≡ None
 same_none true r p h k = ap (λ x. option_map (λ n. n + 1) x) (k h)

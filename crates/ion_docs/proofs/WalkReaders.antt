@@ -1,17 +1,10 @@
 -- What a step answers that builds what a walk tells.
 use Rattle.std.proofs.Common.{◌≡◌, ℕ, ◌+◌, List, ◌++◌, length, take, subst, Result, Ok, Err, Option, IfOk, IfErr}
-use Rattle.ion_model.specs.declared.value.Value.{Value}
-use Rattle.ion_atoms.specs.declared.refusal.Refusal.{Refusal}
-use Rattle.ion_symtab.specs.Steps.{StepsOver}
-use Rattle.ion_symtab.specs.Trace.{Trace, Answers, given_at}
+use Rattle.ion_docs.specs.Names.{Answers, Built, DocWalk, HasBuilt, Refusal, StepsOver, Trace, Value, awaits_of, chosen, failed_of, given_at, pending_of, taken_of}
 use Rattle.ion_symtab.specs.declared.items.Step.{Step}
-use Rattle.ion_visiting.specs.Building.{Built}
-use Rattle.ion_docs.specs.declared.doc_walk.DocWalk.{DocWalk}
+use Rattle.ion_symtab.specs.laws.Builds.{step_said}
 use Rattle.ion_docs.specs.laws.Documents.{promised}
 use Rattle.ion_docs.specs.laws.Walks.{has_told}
-use Rattle.ion_docs.specs.reading.Chosen.{chosen}
-use Rattle.ion_docs.specs.reading.DocTold.{HasBuilt, awaits_of, failed_of, pending_of, taken_of}
-use Rattle.ion_symtab.specs.laws.Builds.{step_said}
 
 same_trace : (new old : DocWalk) → new.catalog.now ≡ old.catalog.now → new.limits ≡ old.limits
     → chosen new.catalog.now new.limits ≡ chosen old.catalog.now old.limits

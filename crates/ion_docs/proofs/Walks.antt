@@ -3,27 +3,15 @@ use Rattle.std.proofs.Common.{◌≡◌, ℕ, ◌+◌, ◌-◌, ◌*◌, ◌<◌
 use Rattle.std.proofs.lemmas.Grind.{common_steps}
 use Rattle.std.proofs.lemmas.Option.{same_Some}
 use Rattle.std.proofs.lemmas.List.{length-drop, take-append-drop}
-use Rattle.ion_model.specs.declared.value.Value.{Value}
-use Rattle.ion_atoms.specs.declared.refusal.Refusal.{Refusal}
-use Rattle.ion_symtab.specs.Trace.{Trace, Answers, Grows, IsFront, given_at}
-use Rattle.ion_symtab.specs.Steps.{StepsOver}
-use Rattle.ion_symtab.specs.Walks.{EndsOn, Telling, WalksOn, if_ended}
-use Rattle.ion_symtab.specs.laws.Builds.{walks_lifted}
-use Rattle.ion_symtab.specs.declared.items.Walked.{Walked}
-use Rattle.ion_symtab.specs.declared.catalog.Catalog.{Catalog}
-use Rattle.ion_symtab.specs.declared.limits.Limits.{Limits}
-use Rattle.ion_visiting.specs.Building.{Built, builds, fresh, value_in, without_value}
-use Rattle.ion_visiting.specs.declared.building.Open.TheVariants.{Top}
-use Rattle.ion_visiting.specs.Events.{Event, Led, events_of}
+use Rattle.ion_docs.specs.Names.{Answers, Begins, Built, Catalog, DocTold, DocWalk, EncodingTold, EndsOn, Event, Grows, Handed, HasBuilt, IsFront, Led, Limits, Refusal, StepsOver, Telling, Trace, Unbegun, Value, WalksOn, builds, chosen, events_of, fresh, given_at, if_ended, value_in, without_value}
 use Rattle.ion_visiting.specs.Tables.{Hears}
+use Rattle.ion_visiting.specs.declared.building.Open.TheVariants.{Top}
 use Rattle.ion_visiting.specs.laws.Built.{value_built}
 use Rattle.ion_visiting.specs.laws.Led.{led_both}
-use Rattle.ion_docs.specs.declared.doc_walk.DocWalk.{DocWalk}
+use Rattle.ion_symtab.specs.declared.items.Walked.{Walked}
+use Rattle.ion_symtab.specs.laws.Builds.{walks_lifted}
 use Rattle.ion_docs.specs.declared.doc_walk.Encoding.{Encoding}
-use Rattle.ion_docs.specs.declared.doc_walk.Encoding.TheVariants.{Unbegun}
-use Rattle.ion_docs.specs.laws.Begun.{begins_on, trace_in, chosen_in, same_trace}
-use Rattle.ion_docs.specs.reading.Chosen.{chosen}
-use Rattle.ion_docs.specs.reading.DocTold.{Begins, DocTold, EncodingTold, Handed, HasBuilt}
+use Rattle.ion_docs.specs.laws.Begun.{begins_on, chosen_in, same_trace, trace_in}
 use Rattle.ion_docs.proofs.Chosen.{begins_front, some_used}
 
 -- a reader told of octets as the reader of the encoding that it holds did

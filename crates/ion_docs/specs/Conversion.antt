@@ -1,18 +1,9 @@
 -- That a conversion writes a document of the same stream.
 use Rattle.std.specs.Prelude.{ℕ, List, Result, Ok, Err}
-use Rattle.ion_model.specs.declared.value.Value.{Value}
-use Rattle.ion_atoms.specs.declared.refusal.Refusal.{Refusal}
-use Rattle.ion_model.specs.Kept.{AreKept}
-use Rattle.ion_symtab.specs.declared.catalog.Catalog.{Catalog}
-use Rattle.ion_symtab.specs.declared.limits.Limits.{Limits}
-use Rattle.ion_symtab.specs.declared.inlet.Inlet.{Ghosts as Inlet}
-use Rattle.ion_symtab.specs.declared.outlet.Outlet.{Ghosts as Outlet}
-use Rattle.ion_symtab.specs.Took.{Took}
+use Rattle.ion_docs.specs.Names.Below.{AreKept, Catalog, Format, Inlet, Limits, Outlet, Refusal, ToldDocument, ToldRefused, Took, Value}
 use Rattle.ion_docs.specs.Documents.{Denotes}
 use Rattle.ion_docs.specs.Encodings.{Encoding}
 use Rattle.ion_docs.specs.Formats.{documents}
-use Rattle.ion_streams.specs.Formats.{Format}
-use Rattle.ion_streams.specs.Outcomes.{ToldDocument, ToldRefused}
 
 -- The octets are a document that denotes s, under every catalog and all limits that admit the document of s in this encoding.
 abbrev pub DenotesAnywhere : Encoding → List ℕ → List Value → Type 0

@@ -1,19 +1,7 @@
 -- What the conversion of a document writes.
 use Rattle.std.specs.Prelude.{◌≡◌, ℕ, List, [], length, Result, Ok, Err, Bool, true, ⊤}
-use Rattle.ion_model.specs.declared.value.Value.{Value}
-use Rattle.ion_atoms.specs.declared.refusal.Refusal.{Refusal}
-use Rattle.ion_symtab.specs.declared.fault.Fault.{Fault}
-use Rattle.ion_symtab.specs.declared.fault.Fault.TheVariants.{Memory, Read, Write, TooManyReads, TooLarge, Open}
-use Rattle.ion_symtab.specs.declared.catalog.Catalog.{Catalog}
-use Rattle.ion_symtab.specs.declared.limits.Limits.{Limits}
-use Rattle.ion_symtab.specs.declared.inlet.Inlet.{Ghosts as Inlet}
-use Rattle.ion_symtab.specs.declared.items.Items.{Ghosts as Items}
-use Rattle.ion_symtab.specs.declared.outlet.Outlet.{Ghosts as Outlet}
-use Rattle.ion_symtab.specs.Took.{Took, TookFront}
+use Rattle.ion_docs.specs.Names.Below.{Catalog, Fault, Format, GaveSoFar, Inlet, Items, Limits, Memory, Open, Outlet, Read, Refusal, ToldDocument, ToldRefused, TooLarge, TooManyReads, Took, TookFront, Value, Write, format_of}
 use Rattle.ion_docs.specs.Encodings.{Encoding}
-use Rattle.ion_streams.specs.Formats.{Format, format_of}
-use Rattle.ion_streams.specs.reading.Read.{GaveSoFar}
-use Rattle.ion_streams.specs.Outcomes.{ToldDocument, ToldRefused}
 
 -- The octets that the device handed over denote a stream, and its document in this encoding was written; or they are no document, and that of the values before
 -- the refusal was written.

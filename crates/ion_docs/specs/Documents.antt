@@ -1,8 +1,6 @@
 -- What documents denote, by their first octet: E0 begins those in binary, and the others are text.
 use Rattle.std.specs.Prelude.{◌≡◌, ℕ, Bool, true, false, ◌==◌, List, [], ◌∷◌, ◌++◌}
-use Rattle.ion_model.specs.declared.value.Value.{Value}
-use Rattle.ion_symtab.specs.declared.limits.Limits.{Limits}
-use Rattle.ion_symtab.specs.declared.catalog.Catalog.{Catalog}
+use Rattle.ion_docs.specs.Names.Below.{Catalog, Limits, Value}
 use Rattle.ion_binary.specs.Grammar as binary
 use Rattle.ion_text.specs.Grammar as text
 

@@ -1,17 +1,6 @@
 -- The encodings that streams are written in, and how a document is written one value after another.
 use Rattle.std.specs.Prelude.{◌≡◌, ℕ, List, ◌++◌, Bool, true, ⊤}
-use Rattle.ion_model.specs.declared.value.Value.{Value}
-use Rattle.ion_symtab.specs.declared.fault.Fault.{Fault}
-use Rattle.ion_symtab.specs.declared.fault.Fault.TheVariants.{Memory, Read, Write, TooManyReads, TooLarge, Open}
-use Rattle.ion_symtab.specs.declared.limits.Limits.{Limits}
-use Rattle.ion_symtab.specs.declared.outlet.Outlet.{Ghosts as Outlet}
-use Rattle.ion_symtab.specs.Took.{Took, TookFront}
-use Rattle.ion_visiting.specs.Events.{Event, Led, events_of}
-use Rattle.ion_binary.specs.Output.{bin_of, nothing_yet, FitsIn as FitsInBinary}
-use Rattle.ion_binary.specs.writer.Puts.{behind}
-use Rattle.ion_binary.specs.Writing.{NeedsLargeId}
-use Rattle.ion_text.specs.Output.{text_of, FitsIn as FitsInText}
-use Rattle.ion_symtab.specs.declared.target.Target.{Target}
+use Rattle.ion_docs.specs.Names.Below.{Event, Fault, FitsInBinary, FitsInText, Led, Limits, Memory, NeedsLargeId, Open, Outlet, Read, Target, TooLarge, TooManyReads, Took, TookFront, Value, Write, behind, bin_of, events_of, nothing_yet, text_of}
 use Rattle.ion_symtab.specs.declared.target.Target.TheVariants.{Binary, Text}
 
 -- an encoding

@@ -1,24 +1,7 @@
 -- The promise over octets in memory, under one catalog and within limits: what the answers of the whole calls say of them.
 use Rattle.std.specs.Prelude.{◌≡◌, ℕ, ◌+◌, List, [], ◌++◌, take, length, slice_get, true, false, Option, Some, None, Result, Ok, Err}
 use lib.Pointwise.{pointwise}
-use Rattle.ion_model.specs.declared.value.Value.{Value}
-use Rattle.ion_model.specs.declared.path.Part.{Part}
-use Rattle.ion_model.specs.Parting.{IsPath}
-use Rattle.ion_model.specs.Same.{same}
-use Rattle.ion_atoms.specs.declared.refusal.Refusal.{Refusal}
-use Rattle.ion_symtab.specs.declared.catalog.Catalog.{Catalog}
-use Rattle.ion_symtab.specs.declared.limits.Limits.{Limits}
-use Rattle.ion_symtab.specs.declared.inlet.Inlet.{Ghosts as Inlet}
-use Rattle.ion_streams.specs.Compared.{IsVerdict}
-use Rattle.ion_streams.specs.Listing.{lines_of, accepted_line}
-use Rattle.ion_streams.specs.Outcomes.{IsRefused}
-use Rattle.ion_streams.specs.declared.comparison.Side.TheVariants.{Left, Right}
-use Rattle.ion_streams.specs.declared.comparison.Verdict.{Verdict}
-use Rattle.ion_streams.specs.declared.comparison.Verdict.TheVariants.{Equivalent, Different, Refused}
-use Rattle.ion_docs.specs.Conversion.{DenotesAnywhere}
-use Rattle.ion_docs.specs.Documents.{Denotes}
-use Rattle.ion_docs.specs.Encodings.{Encoding}
-use Rattle.ion_docs.specs.Formats.{documents}
+use Rattle.ion_docs.specs.Names.{Catalog, Denotes, DenotesAnywhere, Different, Encoding, Equivalent, Inlet, IsPath, IsRefused, IsVerdict, Left, Limits, Part, Refusal, Refused, Right, Value, Verdict, accepted_line, documents, lines_of, same}
 
 -- 1. Two streams.
 

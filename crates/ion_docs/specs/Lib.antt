@@ -7,3 +7,4 @@ pub mod Converted
 pub mod Conversion
 pub mod reading
 pub mod laws
+pub mod Names

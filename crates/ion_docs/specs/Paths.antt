@@ -1,9 +1,8 @@
 -- The spelling of a path.
 use Rattle.std.specs.Prelude.{ℕ, List, [], ◌∷◌, ◌++◌, codes, decimal}
 use Rattle.std.specs.List.{flat_map}
-use Rattle.ion_model.specs.declared.path.Part.{Part}
+use Rattle.ion_docs.specs.Names.{Part, symbol_text}
 use Rattle.ion_model.specs.declared.path.Part.TheVariants.{Item, Name}
-use Rattle.ion_text.specs.Output.{symbol_text}
 
 -- an item is its number in brackets, a name its symbol as text documents spell it
 abbrev pub part_text : Part → List ℕ

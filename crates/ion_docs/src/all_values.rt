@@ -1,11 +1,7 @@
 //! All values of a document.
 ghost use Rattle.std.specs.Prelude.{◌≡◌, ◌≢◌, ◌+◌, ◌^◌, ◌<◌, ◌≤◌, false, List, length, IfOk, IfErr, OnOk, MatchResult, ◌*◌};
-ghost use Rattle.ion_model.specs.declared.value.Value.{Value};
+ghost use Rattle.ion_docs.specs.Names.{AtOneEnd, Denotes, IsReadCause, IsRefused, ToldDocument, ToldRefused, Value, documents};
 ghost use Rattle.ion_atoms.specs.declared.refusal.Reason.TheVariants as reasons;
-ghost use Rattle.ion_symtab.specs.Cause.{IsReadCause};
-ghost use Rattle.ion_docs.specs.Documents.{Denotes};
-ghost use Rattle.ion_docs.specs.Formats.{documents};
-ghost use Rattle.ion_streams.specs.Outcomes.{AtOneEnd, IsRefused, ToldDocument, ToldRefused};
 
 use crate::doc_reader::DocReader;
 use ion_model::{Refusal, Value};

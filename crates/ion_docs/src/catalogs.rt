@@ -1,9 +1,6 @@
 //! Catalogs from documents.
 ghost use Rattle.std.specs.Prelude.{◌≡◌, ◌+◌, ◌≤◌, false, [], IfOk, IfErr, OnOk, length, ◌*◌};
-ghost use Rattle.ion_symtab.specs.Cause.{IsReadCause};
-ghost use Rattle.ion_docs.specs.Formats.{documents};
-ghost use Rattle.ion_streams.specs.Loaded.{IsLoaded};
-ghost use Rattle.ion_streams.specs.Outcomes.{AtOneEnd};
+ghost use Rattle.ion_docs.specs.Names.{AtOneEnd, IsLoaded, IsReadCause, documents};
 
 use crate::doc_reader::DocReader;
 use ion_model::Refusal;

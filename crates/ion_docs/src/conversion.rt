@@ -1,11 +1,6 @@
 //! The conversion of documents.
 ghost use Rattle.std.specs.Prelude.{◌≡◌, ℕ, ◌+◌, ◌*◌, ◌++◌, ◌^◌, ◌<◌, ◌≤◌, ◌⊎◌, List, [], length, false, IfOk, IfErr, OnOk, OnErr, option_to_list};
-ghost use Rattle.ion_symtab.specs.Cause.{IsReadCause};
-ghost use Rattle.ion_streams.specs.Formats.{format_of};
-ghost use Rattle.ion_streams.specs.Outcomes.{AtOneEnd};
-ghost use Rattle.ion_streams.specs.reading.Read.{IsFresh};
-ghost use Rattle.ion_docs.specs.Conversion.{WritesKept};
-ghost use Rattle.ion_docs.specs.Converted.{IsConverted, ReadSoFar, ConvertsSoFar, IsConvertCause};
+ghost use Rattle.ion_docs.specs.Names.{AtOneEnd, ConvertsSoFar, IsConvertCause, IsConverted, IsFresh, IsReadCause, ReadSoFar, WritesKept, format_of};
 
 use crate::writers::Encoder;
 use ion_model::Refusal;

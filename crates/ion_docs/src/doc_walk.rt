@@ -1,13 +1,7 @@
 //! The reader that the first octet chooses, without values.
 ghost use Rattle.std.specs.Prelude.{◌≡◌, ℕ, ◌+◌, ◌^◌, ◌<◌, List, [], ◌∷◌, ◌++◌, length, take, Option, Result, IfOk, IfErr, IfSome, IsNone};
+ghost use Rattle.ion_docs.specs.Names.{Answers, DocTold, EndsOn, Event, Finishes, HasBuilt, RefusesBy, StepsOver, Value as AnyValue, WalksOn, awaits_of, chosen, failed_of, given_at, if_ended, kept_of, pending_of, taken_of};
 ghost use Rattle.ion_atoms.specs.declared.refusal.Reason.TheVariants.{Memory};
-ghost use Rattle.ion_model.specs.declared.value.Value.{Value as AnyValue};
-ghost use Rattle.ion_visiting.specs.Events.{Event};
-ghost use Rattle.ion_symtab.specs.Trace.{Answers, Finishes, given_at};
-ghost use Rattle.ion_symtab.specs.Steps.{StepsOver, RefusesBy};
-ghost use Rattle.ion_symtab.specs.Walks.{EndsOn, WalksOn, if_ended};
-ghost use Rattle.ion_docs.specs.reading.Chosen.{chosen};
-ghost use Rattle.ion_docs.specs.reading.DocTold.{DocTold, HasBuilt, awaits_of, failed_of, kept_of, pending_of, taken_of};
 
 use ion_binary::BinaryWalk;
 use ion_model::{Reason, Refusal, Value};

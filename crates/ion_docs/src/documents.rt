@@ -1,15 +1,7 @@
 //! Whole documents of either encoding, under one catalog and limits.
 ghost use Rattle.std.specs.Prelude.{◌≡◌, ◌+◌, ◌*◌, ◌≤◌, ◌⊎◌, false, IfOk, IfErr, OnOk, OnErr, length};
-ghost use Rattle.ion_symtab.specs.Cause.{IsReadCause};
-ghost use Rattle.ion_docs.specs.Encodings.{encoding_of};
-ghost use Rattle.ion_docs.specs.Formats.{documents};
-ghost use Rattle.ion_streams.specs.Checked.{IsChecked, IsVisited};
-ghost use Rattle.ion_streams.specs.Compared.{IsCompared};
+ghost use Rattle.ion_docs.specs.Names.{AtOneEnd, ConvertsSoFar, IsChecked, IsCompared, IsConvertCause, IsConverted, IsReadCause, IsShown, IsVisited, IsWriteCause, KeepsStream, ReadSoFar, ShowsSoFar, documents, encoding_of};
 ghost use Rattle.ion_streams.specs.InTurn.{IsInTurn};
-ghost use Rattle.ion_streams.specs.Outcomes.{AtOneEnd};
-ghost use Rattle.ion_docs.specs.Conversion.{KeepsStream};
-ghost use Rattle.ion_docs.specs.Converted.{IsConverted, ReadSoFar, ConvertsSoFar, IsConvertCause};
-ghost use Rattle.ion_streams.specs.Listing.{IsShown, IsWriteCause, ShowsSoFar};
 
 use crate::conversion::convert_items;
 use crate::doc_reader::DocReader;

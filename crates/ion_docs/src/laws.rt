@@ -1,33 +1,9 @@
 //! Laws of documents and verdicts. Each stands on a function that does nothing: its contract is the
 //! law.
 ghost use Rattle.std.specs.Prelude.{◌≡◌, ◌≤◌, ◌↔◌, ℕ, List, [], length, map, Option, Result, Ok};
-ghost use Rattle.ion_atoms.specs.declared.refusal.Refusal.{Refusal};
-ghost use Rattle.ion_model.specs.declared.value.Value.{Value};
-ghost use Rattle.ion_atoms.specs.Octets.{AreOctets};
-ghost use Rattle.ion_model.specs.Kept.{AreKept};
-ghost use Rattle.ion_symtab.specs.Cause.{WereMade};
-ghost use Rattle.ion_symtab.specs.declared.catalog.Catalog.{Catalog};
-ghost use Rattle.ion_symtab.specs.declared.limits.Limits.{Limits};
-ghost use Rattle.ion_symtab.specs.Shared.{shared_table};
-ghost use Rattle.ion_symtab.specs.Tables.{Table, find};
-ghost use Rattle.ion_symtab.specs.Trace.{plain};
-ghost use Rattle.ion_symtab.specs.Promises.{NoTables};
+ghost use Rattle.ion_docs.specs.Names.{AreApart, AreKept, AreOctets, Catalog, Denotes, DenotesAnywhere, DescribesUnder, IsCatalog, IsChecked, IsCompared, IsConverted, IsDocumentOf, IsShown, IsVerdict, KeepsStream, Limits, NoTables, Part, Refusal, Table, Target, Took, Value, Verdict, WereMade, catalog_of, documents, encoding_of, find, plain, shared_table};
 ghost use Rattle.ion_symtab.specs.laws.ContextTexts.{AreTextTables};
-ghost use Rattle.ion_docs.specs.Conversion.{DenotesAnywhere};
-ghost use Rattle.ion_docs.specs.Documents.{Denotes};
-ghost use Rattle.ion_docs.specs.Encodings.{encoding_of};
-ghost use Rattle.ion_docs.specs.Formats.{documents};
-ghost use Rattle.ion_docs.specs.Headline.{AreEquivalent, PartFirst, AreDocuments, IsDocument, IsNoDocument, IsVerdictOn, SaysEquivalent, SaysDifferent, RefusesLeft, RefusesRight, IsCheckOf, IsListingOf, IsConversionOf, TellsOnly};
-ghost use Rattle.ion_model.specs.declared.path.Part.{Part};
-ghost use Rattle.ion_symtab.specs.Took.{Took};
-ghost use Rattle.ion_docs.specs.Conversion.{KeepsStream};
-ghost use Rattle.ion_docs.specs.Converted.{IsConverted};
-ghost use Rattle.ion_streams.specs.Checked.{IsChecked};
-ghost use Rattle.ion_streams.specs.Compared.{IsCompared, IsVerdict};
-ghost use Rattle.ion_streams.specs.Listing.{IsShown};
-ghost use Rattle.ion_symtab.specs.declared.target.Target.{Target};
-ghost use Rattle.ion_streams.specs.Loaded.{catalog_of, AreApart, DescribesUnder, IsDocumentOf, IsCatalog};
-ghost use Rattle.ion_streams.specs.declared.comparison.Verdict.{Verdict};
+ghost use Rattle.ion_docs.specs.Headline.{AreDocuments, AreEquivalent, IsCheckOf, IsConversionOf, IsDocument, IsListingOf, IsNoDocument, IsVerdictOn, PartFirst, RefusesLeft, RefusesRight, SaysDifferent, SaysEquivalent, TellsOnly};
 
 use ion_model::laws::{equivalence, paths};
 use ion_symtab::{Inlet, Outlet};

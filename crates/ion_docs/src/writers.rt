@@ -1,9 +1,7 @@
 //! The writers of both encodings, as conversions see them.
 ghost use Rattle.std.specs.Prelude.{◌≡◌, ◌++◌, ◌∷◌, [], List, ℕ, length, refl, true, false, OnOk, OnErr, IfErr};
-ghost use Rattle.ion_model.specs.declared.value.Value.{Value};
-ghost use Rattle.ion_model.specs.Kept.{IsKept};
+ghost use Rattle.ion_docs.specs.Names.{Encoding, IsFrontOf, IsKept, IsPuttingFault, TookBehind, TookSomeBehind, Value, WasTold};
 ghost use Rattle.ion_symtab.specs.declared.fault.Fault.TheVariants as faults;
-ghost use Rattle.ion_docs.specs.Encodings.{Encoding, IsFrontOf, TookBehind, TookSomeBehind, IsPuttingFault, WasTold};
 
 use ion_binary::{BinaryOut, finish_document};
 use ion_symtab::{Fault, Outlet, flushed, write_whole};

@@ -1,7 +1,7 @@
 -- How a call ends that had no catalog or limits.
 use Rattle.std.proofs.Common.{◌≡◌, ℕ, List, [], sym, subst}
-use Rattle.ion_memory.specs.Outcomes.{IsRight, IsNoSetting, IsOutcome, not_begun}
-use Rattle.ion_memory.specs.declared.ending.Ending.{Ending}
+use Rattle.ion_memory.specs.Names.{Ending}
+use Rattle.ion_memory.specs.Outcomes.{IsNoSetting, IsOutcome, IsRight, not_begun}
 
 pub none : (catalog : List ℕ) (depth item : ℕ) (Right : IsRight) (e : Ending) (text : List ℕ) (f : Ending) → IsNoSetting catalog depth item f
     → (e ≡ f) × (text ≡ []) → IsOutcome catalog depth item Right e text

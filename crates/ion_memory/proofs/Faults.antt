@@ -1,25 +1,13 @@
 -- Why there is no answer over a device of whose octets all are known, and no read of which fails.
-use Rattle.std.proofs.Common.{◌≡◌, ◌⊎◌, ◌∙◌, ℕ, ◌≤◌, List, [], ◌∷◌, ◌++◌, length, Bool, true, false, Option, None, Some, Ok, Err}
-use Rattle.std.proofs.Common.{refl, inl, inr, sym, ap, subst, append-nil, append_assoc, arith}
+use Rattle.std.proofs.Common.{◌≡◌, ◌⊎◌, ◌∙◌, ℕ, ◌≤◌, List, [], ◌∷◌, ◌++◌, length, Bool, true, false, Option, None, Some, Ok, Err, refl, inl, inr, sym, ap, subst, append-nil, append_assoc, arith}
 use Rattle.std.specs.Prelude.{IsNone, IfSome}
-use Rattle.ion_model.specs.declared.value.Value.{Value}
+use Rattle.ion_memory.specs.Names.{Encoding, Fault, Inlet, IsFront, IsWriteCause, Limits, Memory, Open, Outlet, Read, Tables as Catalog, TellsOnly, TooLarge, TooManyReads, Value, Write, format_of}
 use Rattle.ion_symtab.specs.Cause.{IsReadCause}
-use Rattle.ion_symtab.specs.Trace.{IsFront}
-use Rattle.ion_symtab.specs.declared.catalog.Catalog.{Catalog}
-use Rattle.ion_symtab.specs.declared.fault.Fault.{Fault}
-use Rattle.ion_symtab.specs.declared.fault.Fault.TheVariants.{Memory, Read, Write, TooManyReads, TooLarge, Open}
-use Rattle.ion_symtab.specs.declared.inlet.Inlet.{Ghosts as Inlet}
 use Rattle.ion_symtab.specs.declared.items.Items.{Ghosts as Items}
-use Rattle.ion_symtab.specs.declared.limits.Limits.{Limits}
-use Rattle.ion_symtab.specs.declared.outlet.Outlet.{Ghosts as Outlet}
-use Rattle.ion_streams.specs.Formats.{format_of}
-use Rattle.ion_streams.specs.Listing.{IsWriteCause}
 use Rattle.ion_streams.specs.reading.Read.{GaveSoFar}
-use Rattle.ion_docs.specs.Converted.{ReadSoFar, in_reading, at_refusal, at_end, IsConvertCause}
-use Rattle.ion_docs.specs.Encodings.{Encoding}
-use Rattle.ion_docs.specs.Headline.{TellsOnly}
-use Rattle.ion_docs.proofs.Told.{whole, document_whole, refused_whole, reads_whole}
-use Rattle.ion_memory.specs.Octets.{WereRead, so_far, in_all, NeedsTooLargeId, IsFaultInMemory, fault_in_memory}
+use Rattle.ion_docs.specs.Converted.{IsConvertCause, ReadSoFar, at_end, at_refusal, in_reading}
+use Rattle.ion_docs.proofs.Told.{document_whole, reads_whole, refused_whole, whole}
+use Rattle.ion_memory.specs.Octets.{IsFaultInMemory, NeedsTooLargeId, WereRead, fault_in_memory, in_all, so_far}
 
 -- what a reader gave of octets stands in front of what these give, with the octet that it awaits where it awaits one
 with_awaited : (given_of : List ℕ → List (Value × ℕ)) (u : List ℕ) (given : List (Value × ℕ)) (awaited : Option ℕ)

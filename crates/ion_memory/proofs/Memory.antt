@@ -1,22 +1,12 @@
 -- What a device told of whose octets all are known.
 use Rattle.std.proofs.Common.{◌≡◌, ℕ, List, [], Some, Result, Ok, Err, sym, subst}
-use Rattle.ion_atoms.specs.declared.refusal.Refusal.{Refusal}
+use Rattle.ion_memory.specs.Names.{Encoding, Format, Inlet, IsCatalog, IsConversionOf, IsListingOf, IsLoaded, KeepsStream, Limits, Outlet, Refusal, Tables as Catalog, TellsOnly, documents}
 use Rattle.ion_symtab.specs.Tables.{Table}
 use Rattle.ion_symtab.specs.Took.{Took}
-use Rattle.ion_symtab.specs.declared.catalog.Catalog.{Catalog}
-use Rattle.ion_symtab.specs.declared.limits.Limits.{Limits}
-use Rattle.ion_symtab.specs.declared.inlet.Inlet.{Ghosts as Inlet}
-use Rattle.ion_symtab.specs.declared.outlet.Outlet.{Ghosts as Outlet}
-use Rattle.ion_streams.specs.Formats.{Format}
 use Rattle.ion_streams.specs.Listing.{IsShown}
-use Rattle.ion_streams.specs.Loaded.{IsLoaded, IsCatalog}
-use Rattle.ion_docs.specs.Conversion.{KeepsStream}
 use Rattle.ion_docs.specs.Converted.{IsConverted}
-use Rattle.ion_docs.specs.Encodings.{Encoding}
-use Rattle.ion_docs.specs.Formats.{documents}
-use Rattle.ion_docs.specs.Headline.{TellsOnly, IsListingOf, IsConversionOf}
-use Rattle.ion_docs.proofs.Told.{whole, listing_told, conversion_told}
-use Rattle.ion_memory.specs.Octets.{IsListing, IsConversion}
+use Rattle.ion_docs.proofs.Told.{conversion_told, listing_told, whole}
+use Rattle.ion_memory.specs.Octets.{IsConversion, IsListing}
 
 module _ {S : Type 0} (R : Inlet S) (some : (device : S) → (rest : List ℕ) × R.tells device rest) (w : List ℕ) (first now : S)
     (only : TellsOnly R first w) where

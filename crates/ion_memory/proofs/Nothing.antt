@@ -1,11 +1,9 @@
 -- That no octets are a document of no values.
 use Rattle.std.proofs.Common.{[], inl, refl}
-use Rattle.ion_symtab.specs.declared.limits.Limits.{Limits}
+use Rattle.ion_memory.specs.Names.{IsDocumentOf, Limits, documents}
 use Rattle.ion_symtab.specs.Slots.{system_slots}
-use Rattle.ion_streams.specs.Loaded.{IsDocumentOf}
 use Rattle.ion_text.specs.Grammar as text
 use Rattle.ion_docs.specs.Documents.{in_text}
-use Rattle.ion_docs.specs.Formats.{documents}
 
 -- no octets are a document that describes no tables
 pub nothing : (l : Limits) → IsDocumentOf (documents [] l) [] []

@@ -1,15 +1,8 @@
 -- The numbers that endings are told by.
 use Rattle.std.specs.Prelude.{ℕ, Result, Ok, Err}
-use Rattle.ion_atoms.specs.Reasons.{reason_number}
-use Rattle.ion_atoms.specs.declared.refusal.Refusal.{Refusal}
-use Rattle.ion_symtab.specs.declared.fault.Fault.{Fault}
-use Rattle.ion_symtab.specs.declared.fault.Fault.TheVariants.{Memory, Read, Write, TooManyReads, TooLarge, Open}
+use Rattle.ion_memory.specs.Names.{Accepted, Catalog, Different, Ending, Fault, Faulted, Left, Memory, Only, Open, Read, Refusal, Refused, Right, TooLarge, TooManyReads, Write, WrongLimits, reason_number}
 use Rattle.ion_streams.specs.declared.comparison.Side.{Side}
-use Rattle.ion_streams.specs.declared.comparison.Side.TheVariants as sides
 use Rattle.ion_memory.specs.declared.ending.Whose.{Whose}
-use Rattle.ion_memory.specs.declared.ending.Whose.TheVariants.{Only, Left, Right, Catalog}
-use Rattle.ion_memory.specs.declared.ending.Ending.{Ending}
-use Rattle.ion_memory.specs.declared.ending.Ending.TheVariants.{Accepted, Different, Refused, WrongLimits, Faulted}
 
 -- the ending of a call on one document
 abbrev pub ending_of : Result ℕ Refusal → Ending
@@ -18,8 +11,8 @@ ending_of (Err refusal) = Refused Only refusal
 
 -- the document of a side: the left one or the right one
 abbrev pub whose_side : Side → Whose
-whose_side sides.Left = Left
-whose_side sides.Right = Right
+whose_side Side.Left = Left
+whose_side Side.Right = Right
 
 -- the status of an ending: 0 accepted, 1 different, 2 refused, 3 wrong limits, 4 a fault
 abbrev pub status_of : Ending → ℕ

@@ -1,3 +1,4 @@
 pub mod Octets
 pub mod Endings
 pub mod Outcomes
+pub mod Names

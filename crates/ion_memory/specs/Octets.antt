@@ -1,16 +1,7 @@
 -- What octets in memory are as documents, and what is written of them.
 use Rattle.std.specs.Prelude.{◌≡◌, ◌≤◌, ℕ, List, ◌++◌, length, Result, Ok, Err, ⊤}
-use Rattle.ion_model.specs.declared.value.Value.{Value}
-use Rattle.ion_atoms.specs.declared.refusal.Refusal.{Refusal}
-use Rattle.ion_symtab.specs.declared.fault.Fault.{Fault}
-use Rattle.ion_symtab.specs.declared.fault.Fault.TheVariants.{Memory, Read, Write, TooManyReads, TooLarge, Open}
-use Rattle.ion_symtab.specs.declared.limits.Limits.{Limits}
-use Rattle.ion_symtab.specs.Trace.{IsFront, plain}
-use Rattle.ion_streams.specs.Formats.{Format}
-use Rattle.ion_streams.specs.Listing.{lines_of, accepted_line}
+use Rattle.ion_memory.specs.Names.{DenotesAnywhere, Encoding, Fault, Format, IsFront, Limits, Memory, Open, Read, Refusal, TooLarge, TooManyReads, Value, Write, accepted_line, lines_of, plain}
 use Rattle.ion_streams.specs.Outcomes.{IsRefused}
-use Rattle.ion_docs.specs.Conversion.{DenotesAnywhere}
-use Rattle.ion_docs.specs.Encodings.{Encoding}
 
 -- These octets denote s; or they are no document, and s are the values before the refusal.
 abbrev pub IsRead : Format → List ℕ → Result ℕ Refusal → List Value → Type 0

@@ -1,23 +1,12 @@
 -- How a call ends, and with which text, where the catalog is octets and the limits are numbers.
 use Rattle.std.specs.Prelude.{◌≡◌, ◌⊎◌, ◌^◌, ℕ, List, [], Result, Ok, Err}
-use Rattle.ion_atoms.specs.declared.refusal.Refusal.{Refusal}
+use Rattle.ion_memory.specs.Names.{Accepted, Catalog, Different, Ending, Fault, Faulted, IsCatalog, IsVerdict, Limits, Refusal, Refused, Tables, WrongLimits, documents, encoding_of}
 use Rattle.ion_symtab.specs.Limits.{AreLimits}
-use Rattle.ion_symtab.specs.declared.catalog.Catalog.{Catalog as Tables}
-use Rattle.ion_symtab.specs.declared.fault.Fault.{Fault}
-use Rattle.ion_symtab.specs.declared.limits.Limits.{Limits}
-use Rattle.ion_streams.specs.Compared.{IsVerdict}
-use Rattle.ion_streams.specs.Loaded.{IsCatalog}
-use Rattle.ion_streams.specs.declared.comparison.Verdict.{Verdict}
-use Rattle.ion_streams.specs.declared.comparison.Verdict.TheVariants as verdicts
-use Rattle.ion_docs.specs.Encodings.{encoding_of}
-use Rattle.ion_docs.specs.Formats.{documents}
-use Rattle.ion_docs.specs.Paths.{path_text}
 use Rattle.ion_symtab.specs.declared.target.Target.{Target}
+use Rattle.ion_streams.specs.declared.comparison.Verdict.{Verdict}
+use Rattle.ion_docs.specs.Paths.{path_text}
 use Rattle.ion_memory.specs.Endings.{ending_of, whose_side}
-use Rattle.ion_memory.specs.Octets.{IsCount, IsListing, IsConversion, IsFaultInMemory, NeedsTooLargeId}
-use Rattle.ion_memory.specs.declared.ending.Ending.{Ending}
-use Rattle.ion_memory.specs.declared.ending.Ending.TheVariants.{Accepted, Different, Refused, WrongLimits, Faulted}
-use Rattle.ion_memory.specs.declared.ending.Whose.TheVariants.{Catalog}
+use Rattle.ion_memory.specs.Octets.{IsConversion, IsCount, IsFaultInMemory, IsListing, NeedsTooLargeId}
 
 -- a fault for which there is a cause, and no text
 abbrev pub IsFault : (Fault → Type 0) → Ending → List ℕ → Type 0
@@ -45,9 +34,9 @@ IsConverted target input g l e text =
 
 -- a verdict is told by this ending and text
 abbrev pub EndsVerdict : Verdict → Ending → List ℕ → Type 0
-EndsVerdict (verdicts.Equivalent values) e text = (e ≡ Accepted values) × (text ≡ [])
-EndsVerdict (verdicts.Different index path) e text = (e ≡ Different index) × (text ≡ path_text path)
-EndsVerdict (verdicts.Refused side refusal) e text = (e ≡ Refused (whose_side side) refusal) × (text ≡ [])
+EndsVerdict (Verdict.Equivalent values) e text = (e ≡ Accepted values) × (text ≡ [])
+EndsVerdict (Verdict.Different index path) e text = (e ≡ Different index) × (text ≡ path_text path)
+EndsVerdict (Verdict.Refused side refusal) e text = (e ≡ Refused (whose_side side) refusal) × (text ≡ [])
 
 -- of a comparison
 abbrev pub IsCompared : List ℕ → List ℕ → IsRight

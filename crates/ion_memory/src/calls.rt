@@ -1,10 +1,9 @@
 //! Calls for other languages: the catalog is octets, the limits are numbers, and all that is told
 //! is one `Outcome`.
 ghost use Rattle.std.specs.Prelude.{◌≡◌, ◌⊎◌, ℕ, List, [], IfOk, IfErr};
-ghost use Rattle.ion_memory.specs.Outcomes.{IsOutcome, IsSetting, IsNoSetting, IsChecked, IsShown, IsCompared, IsConverted, EndsVerdict};
+ghost use Rattle.ion_memory.specs.Names.{Faulted, Memory};
 ghost use Rattle.ion_memory.specs.Endings.{ending_of, whose_side};
-ghost use Rattle.ion_memory.specs.declared.ending.Ending.TheVariants.{Faulted};
-ghost use Rattle.ion_symtab.specs.declared.fault.Fault.TheVariants.{Memory};
+ghost use Rattle.ion_memory.specs.Outcomes.{EndsVerdict, IsChecked, IsCompared, IsConverted, IsNoSetting, IsOutcome, IsSetting, IsShown};
 
 use crate::documents::{Written, check, compare, convert_with_hasher, show};
 use crate::ending::{Ending, Whose};

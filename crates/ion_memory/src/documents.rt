@@ -1,11 +1,8 @@
 //! What octets in memory are as documents: the calls of `ion_docs` on devices that tell just these
 //! octets.
 ghost use Rattle.std.specs.Prelude.{◌≡◌, ◌⊎◌, [], IfOk, IfErr, Result};
-ghost use Rattle.ion_docs.specs.Encodings.{encoding_of};
-ghost use Rattle.ion_docs.specs.Formats.{documents};
-ghost use Rattle.ion_streams.specs.Compared.{IsVerdict};
-ghost use Rattle.ion_streams.specs.Loaded.{IsCatalog};
-ghost use Rattle.ion_memory.specs.Octets.{IsCount, IsListing, IsConversion, IsFaultInMemory, NeedsTooLargeId, fault_in_memory};
+ghost use Rattle.ion_memory.specs.Names.{IsCatalog, IsVerdict, documents, encoding_of};
+ghost use Rattle.ion_memory.specs.Octets.{IsConversion, IsCount, IsFaultInMemory, IsListing, NeedsTooLargeId, fault_in_memory};
 
 use ion_docs::laws::catalog_documents;
 use ion_docs::{Target, Verdict, in_memory};

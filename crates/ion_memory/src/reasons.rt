@@ -1,6 +1,6 @@
 //! Reasons by their numbers.
 ghost use Rattle.std.specs.Prelude.{◌≡◌, ◌↔◌, ◌≤◌, IfSome, IsSome};
-ghost use Rattle.ion_atoms.specs.Reasons.{reason_number};
+ghost use Rattle.ion_memory.specs.Names.{reason_number};
 
 use ion_model::Reason;
 

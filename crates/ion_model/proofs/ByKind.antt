@@ -2,14 +2,9 @@
 use Rattle.std.proofs.Common.{◌≡◌, Bool, true, false, ◌&&◌, refl, ap, ◌∙◌}
 use Rattle.std.proofs.Math.Bool.{and-true}
 use lib.Pointwise.{pointwise}
+use Rattle.ion_model.specs.Names.{Layer, Payload-F, Value, layer_same, out-Payload, same, symbol_same}
 use Rattle.ion_model.specs.ByKind.{payload_same}
-use Rattle.ion_model.specs.Measures.{Layer}
-use Rattle.ion_model.specs.Same.{same, layer_same}
-use Rattle.ion_model.specs.Symbols.{symbol_same}
 use Rattle.ion_model.specs.laws.Same.{same-is}
-use Rattle.ion_model.specs.declared.value.Value.{Value}
-use Rattle.ion_model.specs.declared.value.Payload.TheOpen.{Payload-F}
-use Rattle.ion_model.specs.declared.value.Payload.TheViews.{out-Payload}
 
 -- one part alone can differ
 one_part : (b : Bool) → ((b && true) && true) ≡ b

@@ -2,10 +2,9 @@
 use Rattle.std.proofs.Common.{◌≡◌, ℕ, ◌<◌, ◌+◌, zero, suc, List, [], ◌∷◌, length, get_or, Bool, true, false, cond, refl, arith, ap, ◌∙◌, subst}
 use Rattle.std.specs.Cmp.{IsEquivalence}
 use Rattle.std.specs.List.{count_by}
-use Rattle.ion_model.specs.declared.value.Field.{Field}
-use Rattle.ion_model.specs.laws.Counts.{bit, Counts, Found, find, counted, counts_from, count_by-cons}
-use Rattle.ion_model.specs.laws.Equivalence.{same-equiv, field_same-equiv}
-use Rattle.ion_model.specs.Same.{same, field_same, fields_same}
+use Rattle.ion_model.specs.Names.{Field, field_same, fields_same, same}
+use Rattle.ion_model.specs.laws.Counts.{Counts, Found, bit, count_by-cons, counted, counts_from, find}
+use Rattle.ion_model.specs.laws.Equivalence.{field_same-equiv, same-equiv}
 
 -- a list without the item at k
 without : {X : Type 0} → List X → ℕ → List X

@@ -2,16 +2,8 @@
 use Rattle.std.proofs.Common.{◌≡◌, Bool, true, false, ◌&&◌, Ordering, Less, Equal, Greater, nat_eq, refl, sym, ◌∙◌, true≢false}
 use Rattle.std.specs.Cmp.Lexicographic.{slice_cmp}
 use Rattle.std.specs.Ordering.{ordering_then, on, then_cmp, nat_cmp, int_cmp, bool_cmp}
-use Rattle.ion_atoms.specs.declared.kind.Kind.{Kind}
-use Rattle.ion_model.specs.declared.value.Value.{Value}
-use Rattle.ion_model.specs.declared.value.Payload.TheOpen.{Payload-F}
-use Rattle.ion_atoms.specs.Decimals.{decimal_cmp}
-use Rattle.ion_model.specs.Measures.{Layer}
-use Rattle.ion_model.specs.Order.{heads_cmp, layer_cmp, field_cmp}
-use Rattle.ion_model.specs.Same.{Scalar, items, fields, scalar}
-use Rattle.ion_model.specs.Symbols.{symbol_cmp, text_cmp}
-use Rattle.ion_atoms.specs.Timestamps.{timestamp_cmp}
-use Rattle.ion_atoms.specs.laws.Ties.{then_first, then_second, nat_back, bool_is}
+use Rattle.ion_model.specs.Names.{Kind, Layer, Payload-F, Scalar, Value, decimal_cmp, field_cmp, fields, heads_cmp, items, layer_cmp, scalar, symbol_cmp, text_cmp, timestamp_cmp}
+use Rattle.ion_atoms.specs.laws.Ties.{bool_is, nat_back, then_first, then_second}
 
 -- whether two payloads are of one kind, and neither is null
 abbrev pub alike : Layer → Layer → Bool

@@ -1,29 +1,21 @@
 -- Steps of `tidy`.
-use Rattle.std.proofs.Common.{◌≡◌, ℕ, ◌≤◌, ◌<◌, ◌+◌, ◌≢◌, zero, suc, List, [], ◌∷◌, length, get_or, Bool, true, refl, arith, ap, ◌∙◌, sym, subst, ◌⊎◌, Result, Ok, Err, Ordering, OnOk, ⊎_elim, inl, inr, get_or-set_same, get_or-set_other}
+use Rattle.std.proofs.Common.{◌≡◌, ℕ, ◌≤◌, ◌<◌, ◌+◌, ◌≢◌, zero, suc, List, [], ◌∷◌, length, get_or, Bool, true, refl, arith, ap, ◌∙◌, sym, subst, ◌⊎◌, Result, Ok, Err, Ordering, OnOk, ⊎_elim, inl, inr, get_or-set_same, get_or-set_other, cond}
 use Rattle.std.proofs.Math.ListN.{set}
 use Rattle.std.specs.Cmp.{IsEquivalence}
-use Rattle.std.specs.List.Sorted.{IsPermutation}
+use Rattle.std.specs.List.Sorted.{IsPermutation, IsSortedByClosure}
 use Rattle.std.proofs.lemmas.List.Sorted.{sum_by-IsPermutation, ranks_by, answers_always}
-use Rattle.std.specs.List.Sorted.{IsSortedByClosure}
 use Rattle.std.specs.Fn.{Called}
 use denote.Param.Members.{Mut}
 use denote.Ref.{Bor}
 use Rattle.std.specs.Ordering.{is_lt}
-use Rattle.ion_model.specs.Order.{order, field_cmp}
-use Rattle.ion_model.specs.laws.OrderTotal.{order-total, field_cmp-total}
-use Rattle.std.proofs.Common.{cond}
 use Rattle.std.proofs.lemmas.Bool.{cases_eq}
 use lib.Pointwise.{pointwise}
-use Rattle.ion_model.specs.Same.{same, layer_same, field_same, fields_same}
-use Rattle.ion_model.specs.Normal.{IsNormal, IsNormalTo, FieldsInOrder, LayerNormal}
-use Rattle.ion_model.specs.declared.value.Value.{Value}
-use Rattle.ion_model.specs.declared.value.Field.{Field}
-use Rattle.ion_model.specs.declared.value.Payload.{Payload}
-use Rattle.ion_model.specs.declared.value.Payload.TheViews.{out-Payload, roll-Value}
-use Rattle.ion_model.specs.laws.Counts.{count_by-cons, alike_from, Counts, count}
-use Rattle.ion_atoms.specs.laws.Tests.{both, first, second}
-use Rattle.ion_model.specs.laws.Equivalence.{same-equiv, field_same-equiv, symbol_same-equiv}
 use Rattle.std.proofs.lemmas.Cmp.{lists_equiv}
+use Rattle.ion_model.specs.Names.{Field, FieldsInOrder, IsNormal, IsNormalTo, LayerNormal, Payload, Value, field_cmp, field_same, fields_same, layer_same, order, out-Payload, roll-Value, same}
+use Rattle.ion_atoms.specs.laws.Tests.{both, first, second}
+use Rattle.ion_model.specs.laws.Counts.{Counts, alike_from, count, count_by-cons}
+use Rattle.ion_model.specs.laws.Equivalence.{field_same-equiv, same-equiv, symbol_same-equiv}
+use Rattle.ion_model.specs.laws.OrderTotal.{field_cmp-total, order-total}
 use Rattle.ion_model.specs.laws.Same.{same-is}
 
 -- a value by one level

@@ -2,23 +2,15 @@
 use Rattle.std.proofs.Common.{◌≡◌, ℕ, ◌≤◌, ◌<◌, ◌+◌, zero, suc, List, [], ◌∷◌, length, get_or, Bool, true, false, cond, Ordering, Less, Equal, Greater, refl, arith, add-one, ap, ◌∙◌, sym, subst, true≢false}
 use Rattle.std.specs.Ordering.{is_lt, ordering_reverse}
 use lib.Pointwise.{pointwise}
-use Rattle.ion_model.specs.declared.value.Value.{Value}
-use Rattle.ion_model.specs.declared.value.Field.{Field}
-use Rattle.ion_model.specs.declared.value.Payload.{Payload}
-use Rattle.ion_model.specs.declared.value.Payload.TheVariants as payloads
-use Rattle.ion_model.specs.declared.value.Payload.TheOpen.{Payload-F}
-use Rattle.ion_model.specs.declared.value.Payload.TheViews.{out-Payload, outs-List, outs-Sexp, outs-Fields}
-use Rattle.ion_model.specs.Measures.{Layer, annotated, depth, layer_depth}
-use Rattle.ion_model.specs.Same.{same, layer_same, field_same, items, fields}
-use Rattle.ion_model.specs.Normal.{IsNormal, LayerNormal, AllNormal, AllFieldsNormal, FieldsInOrder, AreNormalOf}
-use Rattle.ion_model.specs.Order.{order, field_cmp}
-use Rattle.ion_model.specs.laws.Counts.{bit, count, count_by-cons, alike_from}
-use Rattle.ion_model.specs.laws.Equivalence.{same-equiv, field_same-equiv, symbol_same-equiv}
-use Rattle.ion_model.specs.laws.Measures.{depth-out}
-use Rattle.ion_model.specs.laws.OrderTotal.{order-total, field_cmp-total}
-use Rattle.ion_model.specs.laws.Same.{items_deep, fields_deep, items-deep, fields-deep}
+use Rattle.ion_model.specs.Names.{AllFieldsNormal, AllNormal, AreNormalOf, Field, FieldsInOrder, IsNormal, Layer, LayerNormal, Payload, Payload-F, Value, annotated, depth, field_cmp, field_same, fields, items, layer_depth, layer_same, order, out-Payload, outs-Fields, outs-List, outs-Sexp, same}
 use Rattle.ion_atoms.specs.laws.Tests.{both}
-use Rattle.ion_model.proofs.NormalLaws.{normal_from, same_payload, pointwise_counts}
+use Rattle.ion_model.specs.declared.value.Payload.TheVariants as payloads
+use Rattle.ion_model.specs.laws.Counts.{alike_from, bit, count, count_by-cons}
+use Rattle.ion_model.specs.laws.Equivalence.{field_same-equiv, same-equiv, symbol_same-equiv}
+use Rattle.ion_model.specs.laws.Measures.{depth-out}
+use Rattle.ion_model.specs.laws.OrderTotal.{field_cmp-total, order-total}
+use Rattle.ion_model.specs.laws.Same.{fields-deep, fields_deep, items-deep, items_deep}
+use Rattle.ion_model.proofs.NormalLaws.{normal_from, pointwise_counts, same_payload}
 
 abbrev below : Field → Field → Bool
 below f g = is_lt (field_cmp order f g)

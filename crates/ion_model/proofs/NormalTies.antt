@@ -3,26 +3,18 @@ use Rattle.std.proofs.Common.{◌≡◌, ℕ, ◌≤◌, ◌<◌, zero, suc, max
 use Rattle.std.specs.Cmp.Lexicographic.{slice_cmp}
 use Rattle.std.specs.Ordering.{is_eq}
 use lib.Pointwise.{pointwise}
-use Rattle.ion_model.specs.Measures.{depth, greatest, Layer}
-use Rattle.ion_model.specs.Same.{same, same_to, value_same, layer_same, field_same, fields_same, scalar_same, scalar, items, fields}
-use Rattle.ion_model.specs.Symbols.{symbol_same}
-use Rattle.ion_model.specs.Order.{order, order_to, layer_cmp, field_cmp, scalar_cmp}
-use Rattle.ion_model.specs.Symbols.{symbol_cmp}
-use Rattle.ion_model.specs.Normal.{IsNormal, AllFieldsNormal, FieldsInOrder, AreNormalOf}
-use Rattle.ion_model.specs.declared.value.Value.{Value}
-use Rattle.ion_model.specs.declared.value.Field.{Field}
-use Rattle.ion_model.specs.declared.value.Payload.TheViews.{out-Payload}
-use Rattle.ion_model.specs.laws.Counts.{counts_from, alike_from}
-use Rattle.ion_atoms.specs.laws.Tests.{same_bool, both, first, second}
+use Rattle.ion_model.specs.Names.{AllFieldsNormal, AreNormalOf, Field, FieldsInOrder, IsNormal, Layer, Value, depth, field_cmp, field_same, fields, fields_same, greatest, items, layer_cmp, layer_same, order, order_to, out-Payload, same, same_to, scalar, scalar_cmp, scalar_same, symbol_cmp, symbol_same, value_same}
+use Rattle.ion_atoms.specs.laws.Tests.{both, first, same_bool, second}
+use Rattle.ion_atoms.specs.laws.Ties.{then_first, then_second, then_tie, tie_from_is_eq}
+use Rattle.ion_model.specs.laws.Counts.{alike_from, counts_from}
+use Rattle.ion_model.specs.laws.Equivalence.{field_same-equiv, fields_same-equiv, same-equiv, same_to-equiv}
 use Rattle.ion_model.specs.laws.Measures.{depth-out}
-use Rattle.ion_model.specs.laws.Same.{same-is, same-agrees, items_deep, fields_deep, items-deep, fields-deep}
-use Rattle.ion_model.specs.laws.Order.{order-is, order-agrees}
-use Rattle.ion_model.specs.laws.Equivalence.{same-equiv, same_to-equiv, field_same-equiv, fields_same-equiv}
-use Rattle.ion_model.specs.laws.OrderTotal.{order-total, field_cmp-total}
+use Rattle.ion_model.specs.laws.Order.{order-agrees, order-is}
+use Rattle.ion_model.specs.laws.OrderTotal.{field_cmp-total, order-total}
+use Rattle.ion_model.specs.laws.Parts.{pointwise_back, pointwise_tie, scalar_back, scalar_tie, symbol_back, symbol_tie}
+use Rattle.ion_model.specs.laws.Same.{fields-deep, fields_deep, items-deep, items_deep, same-agrees, same-is}
 use Rattle.ion_model.proofs.NormalLaws.{layer_from, pointwise_counts}
 use Rattle.ion_model.proofs.NormalUnique.{tie}
-use Rattle.ion_model.specs.laws.Parts.{symbol_tie, symbol_back, scalar_tie, scalar_back, pointwise_tie, pointwise_back}
-use Rattle.ion_atoms.specs.laws.Ties.{tie_from_is_eq, then_tie, then_first, then_second}
 
 -- what ties as far as n levels show is the same so far
 same_to-from : (n : ℕ) (v w : Value) → order_to n v w ≡ Equal → same_to n v w ≡ true

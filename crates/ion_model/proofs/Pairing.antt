@@ -2,12 +2,8 @@
 use Rattle.std.proofs.Common.{◌≡◌, ℕ, ◌≤◌, ◌+◌, zero, suc, List, [], ◌∷◌, length, drop, slice_get, set, replicate, Bool, true, false, cond, Option, Some, Equal, refl, arith, add-one, ap, ◌∙◌}
 use Rattle.std.specs.List.{count_by}
 use Rattle.std.proofs.lemmas.List.{drop_all}
-use Rattle.ion_model.specs.declared.value.Value.{Value}
-use Rattle.ion_model.specs.declared.value.Field.{Field}
-use Rattle.ion_model.specs.Order.{order}
-use Rattle.ion_model.specs.Symbols.{symbol_same}
-use Rattle.ion_model.specs.Same.{same, field_same, fields_same}
-use Rattle.ion_model.specs.laws.Counts.{count_by-cons, alike_from}
+use Rattle.ion_model.specs.Names.{Field, Value, field_same, fields_same, order, same, symbol_same}
+use Rattle.ion_model.specs.laws.Counts.{alike_from, count_by-cons}
 use Rattle.ion_model.specs.laws.OrderEqual.{equal_from_order}
 use Rattle.ion_model.specs.laws.Parts.{symbol_from}
 

@@ -2,23 +2,14 @@
 use Rattle.std.proofs.Common.{◌≡◌, ℕ, ◌≤◌, ◌<◌, ◌+◌, zero, suc, max, map, List, [], ◌∷◌, length, get_or, take, drop, Bool, true, false, ◌&&◌, cond, Option, Some, refl, arith, add-one, ap, ◌∙◌, sym, subst, true≢false}
 use Rattle.std.specs.List.{count_by, filter}
 use lib.Pointwise.{pointwise}
-use Rattle.ion_model.specs.declared.path.Part.{Part}
-use Rattle.ion_model.specs.declared.path.Part.TheVariants as parts
-use Rattle.ion_model.specs.declared.value.Value.{Value}
-use Rattle.ion_model.specs.declared.value.Field.{Field}
-use Rattle.ion_model.specs.declared.value.Payload.TheViews.{out-Payload, outs-List, outs-Sexp, outs-Fields}
-use Rattle.ion_model.specs.declared.value.Payload.TheVariants as payloads
-use Rattle.ion_model.specs.declared.value.Payload.TheOpen.{Payload-F}
-use Rattle.ion_model.specs.laws.Counts.{bit, count_by-cons, counts_from}
+use Rattle.ion_model.specs.Names.{AtItems, Field, IsPath, Layer, LeastParting, Part, Payload-F, Scalar, Value, depth, field_count, field_same, fields, fields_same, greatest, heads_same, items, layer_same, once_named, only, out-Payload, outs-Fields, outs-List, outs-Sexp, same, scalar, scalar_same, symbol_same}
 use Rattle.ion_atoms.specs.laws.Tests.{both, first, second}
-use Rattle.ion_model.specs.laws.Equivalence.{same-equiv, field_same-equiv, symbol_same-equiv}
-use Rattle.ion_model.specs.Measures.{Layer, depth, greatest}
-use Rattle.ion_model.specs.Same.{Scalar, same, layer_same, scalar_same, scalar, items, fields, field_same, field_count, fields_same}
-use Rattle.ion_model.specs.laws.Same.{same-is}
-use Rattle.ion_model.specs.Symbols.{symbol_same}
-use Rattle.ion_model.specs.Parting.{heads_same, AtItems, IsPath, LeastParting, only, once_named}
+use Rattle.ion_model.specs.declared.value.Payload.TheVariants as payloads
+use Rattle.ion_model.specs.laws.Counts.{bit, count_by-cons, counts_from}
+use Rattle.ion_model.specs.laws.Equivalence.{field_same-equiv, same-equiv, symbol_same-equiv}
 use Rattle.ion_model.specs.laws.PartingSteps.{EndOrDiffer}
 use Rattle.ion_model.specs.laws.Parts.{scalar_from}
+use Rattle.ion_model.specs.laws.Same.{same-is}
 
 -- payloads with values inside, both of one kind
 abbrev pub both_hold : Layer → Layer → Bool
@@ -228,12 +219,12 @@ fields_differ fs gs s l h = l.parted ((counts_from (field_same same) (field_same
 -- values with a path to where they part aren't equivalent
 pub path_differs : (path : List Part) (v w : Value) → IsPath path v w → same v w ≡ false
 path_differs [] v w h = not_true _ (λ s. contra _ (heads_from v w s) h)
-path_differs (parts.Item n ∷ rest) v w h = not_true _ (λ s.
+path_differs (Part.Item n ∷ rest) v w h = not_true _ (λ s.
     let l = second (pointwise symbol_same v.annotations w.annotations) _ (sym (same-is v w) ∙ s) in
     let i = second (scalar_same (scalar (out-Payload v.payload)) (scalar (out-Payload w.payload))) _ l in
     items_differ rest (path_differs rest) (items (out-Payload v.payload)) (items (out-Payload w.payload)) h.1.before h.1.there
     (first (pointwise same (items (out-Payload v.payload)) (items (out-Payload w.payload))) _ i))
-path_differs (parts.Name s ∷ rest) v w h = not_true _ (λ e.
+path_differs (Part.Name s ∷ rest) v w h = not_true _ (λ e.
     let l = second (pointwise symbol_same v.annotations w.annotations) _ (sym (same-is v w) ∙ e) in
     let i = second (scalar_same (scalar (out-Payload v.payload)) (scalar (out-Payload w.payload))) _ l in
     fields_differ (fields (out-Payload v.payload)) (fields (out-Payload w.payload)) s h.1.name

@@ -3,20 +3,15 @@ use Rattle.std.proofs.Common.{◌≡◌, ℕ, ◌<◌, zero, suc, List, [], ◌�
 use Rattle.std.specs.Cmp.Lexicographic.{slice_cmp}
 use Rattle.std.specs.Ordering.{is_lt, is_eq, ordering_reverse, ordering_then}
 use Rattle.std.proofs.lemmas.List.Sorted.{sorted_far, ranks_by}
-use Rattle.ion_model.specs.declared.value.Field.{Field}
-use Rattle.ion_model.specs.laws.Counts.{bit, count_by-cons, counts_from, Counts, Found, find, counted}
+use Rattle.ion_model.specs.Names.{AllFieldsNormal, AreNormalOf, Field, FieldsInOrder, LeastParting, field_cmp, field_count, field_same, fields_same, order, same, symbol_cmp, symbol_same}
 use Rattle.ion_atoms.specs.laws.Tests.{first, second}
-use Rattle.ion_model.specs.laws.Equivalence.{same-equiv, field_same-equiv}
-use Rattle.ion_model.specs.Normal.{AllFieldsNormal, FieldsInOrder, AreNormalOf}
-use Rattle.ion_model.specs.Order.{order, field_cmp}
-use Rattle.ion_model.specs.Parting.{LeastParting}
-use Rattle.ion_model.specs.laws.PartingSteps.{first_untied, lesser}
-use Rattle.ion_model.specs.Same.{same, field_same, field_count, fields_same}
-use Rattle.ion_model.specs.Symbols.{symbol_same, symbol_cmp}
-use Rattle.ion_model.proofs.NormalTies.{order-from_same, tied-fields, field_back}
-use Rattle.ion_model.specs.laws.OrderTotal.{order-total, field_cmp-total, symbol_cmp-total}
-use Rattle.ion_model.specs.laws.Parts.{symbol_tie, symbol_from}
 use Rattle.ion_atoms.specs.laws.Ties.{then_tie}
+use Rattle.ion_model.specs.laws.Counts.{Counts, Found, bit, count_by-cons, counted, counts_from, find}
+use Rattle.ion_model.specs.laws.Equivalence.{field_same-equiv, same-equiv}
+use Rattle.ion_model.specs.laws.OrderTotal.{field_cmp-total, order-total, symbol_cmp-total}
+use Rattle.ion_model.specs.laws.PartingSteps.{first_untied, lesser}
+use Rattle.ion_model.specs.laws.Parts.{symbol_from, symbol_tie}
+use Rattle.ion_model.proofs.NormalTies.{field_back, order-from_same, tied-fields}
 
 abbrev E : Field → Field → Bool
 E = field_same same

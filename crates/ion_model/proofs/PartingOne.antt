@@ -2,20 +2,11 @@
 use Rattle.std.proofs.Common.{◌≡◌, ℕ, ◌+◌, ◌<◌, zero, suc, List, [], ◌∷◌, take, drop, true, false, Ordering, Less, Equal, Greater, Option, Some, None, refl, arith, ap, ◌∙◌, sym, subst, true≢false, ◌⊎◌, ⊎_elim, inl, inr}
 use Rattle.std.specs.Ordering.{is_lt, ordering_reverse}
 use lib.Pointwise.{pointwise}
-use Rattle.ion_model.specs.declared.path.Part.{Part}
-use Rattle.ion_model.specs.declared.path.Part.TheVariants as parts
-use Rattle.ion_model.specs.declared.value.Value.{Value}
-use Rattle.ion_model.specs.declared.value.Field.{Field}
-use Rattle.ion_model.specs.declared.value.Payload.TheViews.{out-Payload}
-use Rattle.ion_model.specs.declared.value.Payload.TheOpen.{Payload-F}
+use Rattle.ion_model.specs.Names.{AtFields, AtItems, Field, FieldsPart, IsPath, ItemsPart, Layer, LeastParting, Part, Payload-F, Value, field_count, fields, heads_same, items, once_named, out-Payload, same, scalar, symbol_cmp, symbol_same}
 use Rattle.ion_atoms.specs.laws.Tests.{first, second}
-use Rattle.ion_model.specs.Measures.{Layer}
-use Rattle.ion_model.specs.Parting.{AtItems, AtFields, ItemsPart, FieldsPart, IsPath, LeastParting, heads_same, once_named}
-use Rattle.ion_model.specs.Same.{same, scalar, items, fields, field_count}
-use Rattle.ion_model.specs.Symbols.{symbol_same, symbol_cmp}
 use Rattle.ion_model.specs.laws.OrderTotal.{symbol_cmp-total}
 use Rattle.ion_model.specs.laws.Parts.{scalar_from, symbol_is}
-use Rattle.ion_model.proofs.PartingLaws.{tag, contra, path_differs}
+use Rattle.ion_model.proofs.PartingLaws.{contra, path_differs, tag}
 
 -- the items of two lists part at one place alone
 module _ (p q : List Part) (one : (v w : Value) → IsPath p v w → IsPath q v w → p ≡ q) where
@@ -95,18 +86,18 @@ pub path_one : (p q : List Part) (v w : Value) → IsPath p v w → IsPath q v w
 path_one [] [] v w h k = refl
 path_one [] (y ∷ q) v w h k = absurd (contra _ k.0 h)
 path_one (x ∷ p) [] v w h k = absurd (contra _ h.0 k)
-path_one (parts.Item n ∷ p) (parts.Item m ∷ q) v w h k =
+path_one (Part.Item n ∷ p) (Part.Item m ∷ q) v w h k =
     let i = h.1 in
     let j = k.1 in
     let r = items_one p q (path_one p q) (items (out-Payload v.payload)) (items (out-Payload w.payload)) i.before j.before i.agree j.agree i.there j.there in
-    ap (λ x. parts.Item x ∷ p) (i.number ∙ ap (λ x. x + 1) r.0 ∙ sym j.number) ∙ ap (λ x. parts.Item m ∷ x) r.1
-path_one (parts.Item n ∷ p) (parts.Name t ∷ q) v w h k =
+    ap (λ x. Part.Item x ∷ p) (i.number ∙ ap (λ x. x + 1) r.0 ∙ sym j.number) ∙ ap (λ x. Part.Item m ∷ x) r.1
+path_one (Part.Item n ∷ p) (Part.Name t ∷ q) v w h k =
     absurd (item_or_name (out-Payload v.payload) (out-Payload w.payload) (kinds_agree v w h.0) p q n t h.1 k.1)
-path_one (parts.Name s ∷ p) (parts.Item m ∷ q) v w h k =
+path_one (Part.Name s ∷ p) (Part.Item m ∷ q) v w h k =
     absurd (item_or_name (out-Payload v.payload) (out-Payload w.payload) (kinds_agree v w h.0) q p m s k.1 h.1)
-path_one (parts.Name s ∷ p) (parts.Name t ∷ q) v w h k =
+path_one (Part.Name s ∷ p) (Part.Name t ∷ q) v w h k =
     let fs = fields (out-Payload v.payload) in
     let gs = fields (out-Payload w.payload) in
     let e : s ≡ t = least_one fs gs s t h.1.name k.1.name in
     let there = subst (λ n. AtFields q (IsPath q) (once_named n fs) (once_named n gs)) (sym e) k.1.there in
-    ap (λ x. parts.Name x ∷ p) e ∙ ap (λ x. parts.Name t ∷ x) (fields_one p q (path_one p q) (once_named s fs) (once_named s gs) h.1.there there)
+    ap (λ x. Part.Name x ∷ p) e ∙ ap (λ x. Part.Name t ∷ x) (fields_one p q (path_one p q) (once_named s fs) (once_named s gs) h.1.there there)

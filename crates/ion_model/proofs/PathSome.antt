@@ -1,22 +1,13 @@
 -- Values that aren't equivalent have a path.
 use Rattle.std.proofs.Common.{◌≡◌, ℕ, ◌≤◌, ◌<◌, ◌+◌, zero, suc, List, [], ◌∷◌, take, drop, Bool, true, false, ◌&&◌, Option, Some, None, MatchOption, refl, arith, ap, ◌∙◌, sym, true≢false}
 use lib.Pointwise.{pointwise}
-use Rattle.ion_model.specs.declared.path.Part.{Part}
-use Rattle.ion_model.specs.declared.path.Part.TheVariants as parts
-use Rattle.ion_model.specs.declared.value.Value.{Value}
-use Rattle.ion_model.specs.declared.value.Field.{Field}
-use Rattle.ion_model.specs.declared.value.Payload.TheViews.{out-Payload}
-use Rattle.ion_model.specs.declared.value.Payload.TheOpen.{Payload-F}
+use Rattle.ion_model.specs.Names.{AtFields, AtItems, Field, IsPath, Layer, LeastParting, Part, Payload-F, Value, depth, fields, fields_same, heads_same, items, layer_depth, once_named, out-Payload, same, scalar, scalar_same, symbol_same}
 use Rattle.ion_atoms.specs.laws.Tests.{both, first, second}
-use Rattle.ion_model.specs.Measures.{Layer, depth, layer_depth}
-use Rattle.ion_model.specs.Parting.{AtItems, AtFields, IsPath, LeastParting, heads_same, once_named}
-use Rattle.ion_model.specs.Same.{same, scalar_same, scalar, items, fields, fields_same}
-use Rattle.ion_model.specs.Symbols.{symbol_same}
 use Rattle.ion_model.specs.laws.Measures.{depth-out}
 use Rattle.ion_model.specs.laws.PartingSteps.{first_untied}
-use Rattle.ion_model.specs.laws.Same.{same-is, items_deep, items-deep}
+use Rattle.ion_model.specs.laws.Same.{items-deep, items_deep, same-is}
 use Rattle.ion_model.proofs.NormalSome.{rows_some}
-use Rattle.ion_model.proofs.PartingLaws.{contra, once_parts, once_deep}
+use Rattle.ion_model.proofs.PartingLaws.{contra, once_deep, once_parts}
 use Rattle.ion_model.proofs.PartingLeast.{least-name}
 
 pub record PathOf (v w : Value) : Type 0 where
@@ -89,11 +80,11 @@ module _ (n : ℕ) (each : (v w : Value) → depth v < n → same v w ≡ false 
   inside_some v w false f heads h p q differ =
       let a : Layer = out-Payload v.payload in
       let r = items_some (items a) (items (out-Payload w.payload)) (omega (arith, h, items-deep a, depth-out v)) p in
-      record { path = parts.Item (r.before + 1) ∷ r.rest; is = (heads, record { before = r.before; number = refl; agree = r.agree; there = r.there }) }
+      record { path = Part.Item (r.before + 1) ∷ r.rest; is = (heads, record { before = r.before; number = refl; agree = r.agree; there = r.there }) }
   inside_some v w true false heads h p q differ =
       let a : Layer = out-Payload v.payload in
       let r = fields_some a (fields (out-Payload w.payload)) (omega (arith, h, depth-out v)) q in
-      record { path = parts.Name r.name ∷ r.rest; is = (heads, record { name = r.least; there = r.there }) }
+      record { path = Part.Name r.name ∷ r.rest; is = (heads, record { name = r.least; there = r.there }) }
   inside_some v w true true heads h p q differ = absurd (true≢false differ)
 
   at_heads : (v w : Value) (b : Bool) → heads_same v w ≡ b → depth v ≤ n → same v w ≡ false → PathOf v w

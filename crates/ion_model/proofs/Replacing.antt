@@ -2,18 +2,14 @@
 use Rattle.std.proofs.Common.{◌≡◌, ℕ, List, Option, true, refl, sym, ap, ◌∙◌, IsPermutation}
 use Rattle.std.proofs.lemmas.Cmp.{lists_equiv}
 use lib.Pointwise.{pointwise}
-use Rattle.ion_model.specs.declared.value.Value.{Value}
-use Rattle.ion_model.specs.declared.value.Field.{Field}
-use Rattle.ion_model.specs.declared.value.Payload.{Payload}
+use Rattle.ion_model.specs.Names.{Field, Layer, Payload, Value, annotated, field_same, fields_same, layer_same, same}
+use Rattle.ion_atoms.specs.laws.Tests.{both}
 use Rattle.ion_model.specs.declared.value.Payload.TheVariants as payloads
 use Rattle.ion_model.specs.declared.value.Payload.TheViews as views
 use Rattle.ion_model.specs.laws.Counts.{alike_from}
-use Rattle.ion_atoms.specs.laws.Tests.{both}
-use Rattle.ion_model.specs.laws.Equivalence.{same-equiv, field_same-equiv, symbol_same-equiv}
-use Rattle.ion_model.specs.Measures.{Layer, annotated}
-use Rattle.ion_model.specs.Same.{same, field_same, fields_same, layer_same}
+use Rattle.ion_model.specs.laws.Equivalence.{field_same-equiv, same-equiv, symbol_same-equiv}
 use Rattle.ion_model.specs.laws.Same.{same-payload}
-use Rattle.ion_model.proofs.NormalLaws.{pointwise_counts, fields_moved}
+use Rattle.ion_model.proofs.NormalLaws.{fields_moved, pointwise_counts}
 
 abbrev Symbols : Type 0
 Symbols = List (Option (List ℕ))

@@ -3,14 +3,7 @@ use Rattle.std.specs.Prelude.{Bool, false, nat_eq}
 use Rattle.std.specs.Bool.{beq}
 use Rattle.std.specs.Ordering.{int_eq}
 use lib.Pointwise.{pointwise}
-use Rattle.ion_atoms.specs.Decimals.{decimal_same}
-use Rattle.ion_atoms.specs.Kinds.{kind_rank}
-use Rattle.ion_atoms.specs.Timestamps.{timestamp_same}
-use Rattle.ion_model.specs.Measures.{Layer}
-use Rattle.ion_model.specs.Same.{fields_same}
-use Rattle.ion_model.specs.Symbols.{text_same, symbol_same}
-use Rattle.ion_model.specs.declared.value.Value.{Value}
-use Rattle.ion_model.specs.declared.value.Payload.TheOpen.{Payload-F}
+use Rattle.ion_model.specs.Names.{Layer, Payload-F, Value, decimal_same, fields_same, kind_rank, symbol_same, text_same, timestamp_same}
 
 -- Nulls of one kind, scalars of one kind that agree in every part, lists and s-expressions of which E tells place by place, structs of
 -- whose fields each stands as often in the one as in the other. No others are.

@@ -2,13 +2,7 @@
 use Rattle.std.specs.Prelude.{ℕ, List, [], ◌∷◌, ◌++◌, length, Bool, true, false, Option}
 use Rattle.std.specs.Hash as fed
 use Rattle.std.specs.Hash.{HashWrites}
-use Rattle.ion_atoms.specs.declared.kind.Kind.{Kind}
-use Rattle.ion_atoms.specs.declared.kind.Kind.TheVariants as kinds
-use Rattle.ion_model.specs.declared.value.Value.{Value}
-use Rattle.ion_model.specs.declared.value.Field.{Field}
-use Rattle.ion_model.specs.declared.value.Payload.TheOpen.{Payload-F}
-use Rattle.ion_model.specs.declared.value.Payload.TheFolds.{fold-Value}
-use Rattle.ion_atoms.specs.Kinds.{kind_rank}
+use Rattle.ion_model.specs.Names.{Field, Kind, Payload-F, Value, fold-Value, kind_rank}
 use Rattle.ion_atoms.specs.Hashed.{decimal_fed, timestamp_fed}
 
 -- whether the text is known, and then the text
@@ -28,17 +22,17 @@ module _ {P F V : Type 0} (field : F → HashWrites) (value : V → HashWrites) 
   -- them, where `field` and `value` say what each feeds
   abbrev pub layer_fed : Payload-F P F V → HashWrites
   layer_fed (Payload-F.Null k) = head_fed k false
-  layer_fed (Payload-F.Truth b) = head_fed kinds.Bool true ++ fed.bool b
-  layer_fed (Payload-F.Int z) = head_fed kinds.Int true ++ fed.i128 z
-  layer_fed (Payload-F.Decimal d) = head_fed kinds.Decimal true ++ decimal_fed d
-  layer_fed (Payload-F.Timestamp t) = head_fed kinds.Timestamp true ++ timestamp_fed t
-  layer_fed (Payload-F.Symbol s) = head_fed kinds.Symbol true ++ symbol_fed s
-  layer_fed (Payload-F.Str s) = head_fed kinds.Str true ++ fed.str s
-  layer_fed (Payload-F.Clob s) = head_fed kinds.Clob true ++ octets_fed s
-  layer_fed (Payload-F.Blob s) = head_fed kinds.Blob true ++ octets_fed s
-  layer_fed (Payload-F.List vs) = head_fed kinds.List true ++ fed.slice value vs
-  layer_fed (Payload-F.Sexp vs) = head_fed kinds.Sexp true ++ fed.slice value vs
-  layer_fed (Payload-F.Fields fs) = head_fed kinds.Fields true ++ fed.slice field fs
+  layer_fed (Payload-F.Truth b) = head_fed Kind.Bool true ++ fed.bool b
+  layer_fed (Payload-F.Int z) = head_fed Kind.Int true ++ fed.i128 z
+  layer_fed (Payload-F.Decimal d) = head_fed Kind.Decimal true ++ decimal_fed d
+  layer_fed (Payload-F.Timestamp t) = head_fed Kind.Timestamp true ++ timestamp_fed t
+  layer_fed (Payload-F.Symbol s) = head_fed Kind.Symbol true ++ symbol_fed s
+  layer_fed (Payload-F.Str s) = head_fed Kind.Str true ++ fed.str s
+  layer_fed (Payload-F.Clob s) = head_fed Kind.Clob true ++ octets_fed s
+  layer_fed (Payload-F.Blob s) = head_fed Kind.Blob true ++ octets_fed s
+  layer_fed (Payload-F.List vs) = head_fed Kind.List true ++ fed.slice value vs
+  layer_fed (Payload-F.Sexp vs) = head_fed Kind.Sexp true ++ fed.slice value vs
+  layer_fed (Payload-F.Fields fs) = head_fed Kind.Fields true ++ fed.slice field fs
 
 -- of one level, in which each field and each value inside is what it feeds already
 abbrev pub hashed_step : Payload-F HashWrites HashWrites HashWrites → HashWrites

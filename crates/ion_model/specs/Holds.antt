@@ -1,12 +1,6 @@
 -- What a value holds of some sort: nothing where it is of another kind, or a null.
 use Rattle.std.specs.Prelude.{ℕ, ℤ, List, [], ◌∷◌, Option, Some, None, Bool, if◌then◌else◌}
-use Rattle.ion_atoms.specs.Decimals.{DecimalParts}
-use Rattle.ion_atoms.specs.Timestamps.{TimestampParts}
-use Rattle.ion_model.specs.declared.value.Value.{Value}
-use Rattle.ion_model.specs.declared.value.Field.{Field}
-use Rattle.ion_model.specs.declared.value.Payload.TheOpen.{Payload-F}
-use Rattle.ion_model.specs.Measures.{Layer}
-use Rattle.ion_model.specs.Symbols.{has_text}
+use Rattle.ion_model.specs.Names.{DecimalParts, Field, Layer, Payload-F, TimestampParts, Value, has_text}
 
 -- of one level of a payload
 

@@ -1,18 +1,11 @@
 -- Which values the types keep: texts are UTF-8, numbers are in range, and what lobs hold are octets.
 use Rattle.std.specs.Prelude.{ℕ, ℤ, Bool, List, [], ◌∷◌, Option}
 use Rattle.std.specs.Str.{IsUtf8}
-use Rattle.ion_model.specs.declared.value.Value.{Value}
-use Rattle.ion_model.specs.declared.value.Field.{Field}
-use Rattle.ion_model.specs.declared.value.Payload.{Payload}
-use Rattle.ion_model.specs.declared.value.Payload.TheVariants as payloads
-use Rattle.ion_model.specs.declared.value.Payload.TheOpen.{Payload-F}
-use Rattle.ion_atoms.specs.declared.kind.Kind.{Kind}
-use Rattle.ion_atoms.specs.Decimals.{DecimalParts, IsDecimal}
-use Rattle.ion_atoms.specs.Timestamps.{TimestampParts, IsTimestamp}
-use Rattle.ion_atoms.specs.Ranges.{IsWhole}
+use Rattle.ion_model.specs.Names.{DecimalParts, Field, IsDecimal, IsTimestamp, Kind, Layer, Payload, Payload-F, TimestampParts, Value, annotated, field_of}
 use Rattle.ion_atoms.specs.Octets.{AreOctets}
+use Rattle.ion_atoms.specs.Ranges.{IsWhole}
 pub use Rattle.ion_model.specs.Symbols.{IsText, AreTexts}
-use Rattle.ion_model.specs.Measures.{Layer, annotated, field_of}
+use Rattle.ion_model.specs.declared.value.Payload.TheVariants as payloads
 
 mutual
   -- a value that is kept

@@ -13,3 +13,4 @@ pub mod Normal
 pub mod Parting
 pub mod Paths
 pub mod laws
+pub mod Names

@@ -4,14 +4,13 @@ use Rattle.std.specs.Prelude.{ℕ, List, [], ◌∷◌, ◌+◌, ◌-◌, ◌≡
 use Rattle.std.specs.List.{filter}
 use Rattle.std.specs.Ordering.{is_lt}
 use lib.Pointwise.{pointwise}
+use Rattle.ion_model.specs.Measures.{Layer}
+use Rattle.ion_model.specs.Same.{field_count, fields, items, same, scalar, scalar_same}
+use Rattle.ion_model.specs.Symbols.{symbol_cmp, symbol_same}
 use Rattle.ion_model.specs.declared.path.Part.{Part}
-use Rattle.ion_model.specs.declared.path.Part.TheVariants as parts
-use Rattle.ion_model.specs.declared.value.Value.{Value}
 use Rattle.ion_model.specs.declared.value.Field.{Field}
 use Rattle.ion_model.specs.declared.value.Payload.TheViews.{out-Payload}
-use Rattle.ion_model.specs.Measures.{Layer}
-use Rattle.ion_model.specs.Same.{same, scalar_same, scalar, items, fields, field_count}
-use Rattle.ion_model.specs.Symbols.{symbol_same, symbol_cmp}
+use Rattle.ion_model.specs.declared.value.Value.{Value}
 
 -- annotations, kinds, nullness and scalars agree
 abbrev pub heads_same : Value → Value → Bool
@@ -78,8 +77,8 @@ module _ (rest : List Part) (Leads : Value → Value → Type 0) where
     pub there : AtFields (once_named s fs) (once_named s gs)
 
   abbrev pub PartAt : Part → Layer → Layer → Type 0
-  PartAt (parts.Item n) a b = ItemsPart n (items a) (items b)
-  PartAt (parts.Name s) a b = FieldsPart s (fields a) (fields b)
+  PartAt (Part.Item n) a b = ItemsPart n (items a) (items b)
+  PartAt (Part.Name s) a b = FieldsPart s (fields a) (fields b)
 
 -- the path to where two values part
 abbrev pub IsPath : List Part → Value → Value → Type 0
@@ -90,9 +89,9 @@ IsPath (part ∷ rest) v w = (heads_same v w ≡ true) × PartAt rest (IsPath re
 -- values of one name, of which one stands in different numbers
 abbrev pub EndsApart : List Part → Value → Value → Type 0
 EndsApart [] v w = same v w ≡ false
-EndsApart (parts.Item n ∷ rest) v w =
+EndsApart (Part.Item n ∷ rest) v w =
     AtItems rest (EndsApart rest) (drop (n - 1) (items (out-Payload v.payload))) (drop (n - 1) (items (out-Payload w.payload)))
-EndsApart (parts.Name s ∷ rest) v w =
+EndsApart (Part.Name s ∷ rest) v w =
     let fs = fields (out-Payload v.payload) in
     let gs = fields (out-Payload w.payload) in
     AtNamed rest (EndsApart rest) (IsPartedName fs gs s) (once_named s fs) (once_named s gs)

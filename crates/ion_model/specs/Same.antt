@@ -9,18 +9,17 @@ use Rattle.std.specs.Bool.{beq}
 use Rattle.std.specs.List.{list_all}
 use Rattle.std.specs.Ordering.{int_eq}
 use lib.Pointwise.{pointwise}
+use Rattle.ion_atoms.specs.Decimals.{DecimalParts, decimal_same}
+use Rattle.ion_atoms.specs.Kinds.{kind_rank}
+use Rattle.ion_atoms.specs.Timestamps.{TimestampParts, timestamp_same}
 use Rattle.ion_atoms.specs.declared.kind.Kind.{Kind}
-use Rattle.ion_atoms.specs.declared.kind.Kind.TheVariants as kinds
-use Rattle.ion_atoms.specs.declared.timestamp.Precision.TheVariants as precisions
-use Rattle.ion_model.specs.declared.value.Value.{Value}
+use Rattle.ion_atoms.specs.declared.timestamp.Precision.{Precision}
+use Rattle.ion_model.specs.Measures.{Layer, depth}
+use Rattle.ion_model.specs.Symbols.{symbol_same, text_same}
 use Rattle.ion_model.specs.declared.value.Field.{Field}
 use Rattle.ion_model.specs.declared.value.Payload.TheOpen.{Payload-F}
 use Rattle.ion_model.specs.declared.value.Payload.TheViews.{out-Payload}
-use Rattle.ion_atoms.specs.Decimals.{DecimalParts, decimal_same}
-use Rattle.ion_atoms.specs.Kinds.{kind_rank}
-use Rattle.ion_model.specs.Measures.{Layer, depth}
-use Rattle.ion_model.specs.Symbols.{text_same, symbol_same}
-use Rattle.ion_atoms.specs.Timestamps.{TimestampParts, timestamp_same}
+use Rattle.ion_model.specs.declared.value.Value.{Value}
 
 abbrev pub no_decimal : DecimalParts
 no_decimal = record { negative = false; magnitude = 0; exponent = pos 0 }
@@ -28,7 +27,7 @@ no_decimal = record { negative = false; magnitude = 0; exponent = pos 0 }
 abbrev pub no_timestamp : TimestampParts
 no_timestamp = record {
   local = record { year = 1; month = 1; day = 1; hour = 0; minute = 0; second = 0; fraction = 0 };
-  precision = precisions.Year;
+  precision = Precision.Year;
   offset = None;
 }
 
@@ -60,17 +59,17 @@ no_scalar k = record {
 -- what one level of a payload is beside the values in it
 abbrev pub scalar : Layer → Scalar
 scalar (Payload-F.Null k) = record (no_scalar k) { full = false }
-scalar (Payload-F.Truth b) = record (no_scalar kinds.Bool) { truth = b }
-scalar (Payload-F.Int z) = record (no_scalar kinds.Int) { int = z }
-scalar (Payload-F.Decimal d) = record (no_scalar kinds.Decimal) { decimal = d }
-scalar (Payload-F.Timestamp t) = record (no_scalar kinds.Timestamp) { timestamp = t }
-scalar (Payload-F.Symbol s) = record (no_scalar kinds.Symbol) { symbol = s }
-scalar (Payload-F.Str s) = record (no_scalar kinds.Str) { text = s }
-scalar (Payload-F.Clob s) = record (no_scalar kinds.Clob) { text = s }
-scalar (Payload-F.Blob s) = record (no_scalar kinds.Blob) { text = s }
-scalar (Payload-F.List vs) = no_scalar kinds.List
-scalar (Payload-F.Sexp vs) = no_scalar kinds.Sexp
-scalar (Payload-F.Fields fs) = no_scalar kinds.Fields
+scalar (Payload-F.Truth b) = record (no_scalar Kind.Bool) { truth = b }
+scalar (Payload-F.Int z) = record (no_scalar Kind.Int) { int = z }
+scalar (Payload-F.Decimal d) = record (no_scalar Kind.Decimal) { decimal = d }
+scalar (Payload-F.Timestamp t) = record (no_scalar Kind.Timestamp) { timestamp = t }
+scalar (Payload-F.Symbol s) = record (no_scalar Kind.Symbol) { symbol = s }
+scalar (Payload-F.Str s) = record (no_scalar Kind.Str) { text = s }
+scalar (Payload-F.Clob s) = record (no_scalar Kind.Clob) { text = s }
+scalar (Payload-F.Blob s) = record (no_scalar Kind.Blob) { text = s }
+scalar (Payload-F.List vs) = no_scalar Kind.List
+scalar (Payload-F.Sexp vs) = no_scalar Kind.Sexp
+scalar (Payload-F.Fields fs) = no_scalar Kind.Fields
 
 -- the kinds agree, both are null or neither is, and so does each part
 abbrev pub scalar_same : Scalar → Scalar → Bool

@@ -1,9 +1,7 @@
 //! The order of values.
 ghost use Rattle.std.specs.Prelude.{◌≡◌};
 ghost use Rattle.std.specs.Cmp.Lexicographic.{slice_cmp};
-ghost use Rattle.ion_model.specs.Order.{order, field_cmp, layer_cmp, heads_cmp};
-ghost use Rattle.ion_model.specs.Same.{scalar};
-ghost use Rattle.ion_model.specs.declared.value.Payload.TheViews.{out-Payload};
+ghost use Rattle.ion_model.specs.Names.{field_cmp, heads_cmp, layer_cmp, order, out-Payload, scalar};
 
 use crate::value::{Field, Payload, Value};
 use std::cmp::Ordering;

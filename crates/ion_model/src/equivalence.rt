@@ -4,11 +4,8 @@ ghost use Rattle.std.specs.declared.cmp.Ordering.TheVariants.{Equal};
 ghost use Rattle.std.specs.Ordering.{is_eq};
 ghost use Rattle.std.specs.Cmp.Lexicographic.{slice_cmp};
 ghost use lib.Pointwise.{pointwise};
+ghost use Rattle.ion_model.specs.Names.{AreNormalOf, field_cmp, fields_same, layer_same, order, out-Payload, same};
 ghost use Rattle.ion_atoms.specs.declared.refusal.Reason.TheVariants as reasons;
-ghost use Rattle.ion_model.specs.declared.value.Payload.TheViews.{out-Payload};
-ghost use Rattle.ion_model.specs.Same.{same, fields_same, layer_same};
-ghost use Rattle.ion_model.specs.Order.{order, field_cmp};
-ghost use Rattle.ion_model.specs.Normal.{AreNormalOf};
 
 use crate::compare::{order, order_fields};
 use crate::copy::copy_fields;

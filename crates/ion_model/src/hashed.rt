@@ -1,11 +1,9 @@
 //! What values feed a hasher: every part of them, at every depth.
 ghost use Rattle.std.specs.Prelude.{◌≡◌, fold};
 ghost use Rattle.std.specs.Hash as fed;
-ghost use Rattle.ion_model.specs.Hashed.{head_fed, octets_fed, layer_fed, hashed, field_hashed};
-ghost use Rattle.ion_model.specs.Kinds.{layer_kind};
-ghost use Rattle.ion_model.specs.Same.{scalar};
+ghost use Rattle.ion_model.specs.Names.{layer_kind, out-Payload, scalar};
+ghost use Rattle.ion_model.specs.Hashed.{field_hashed, hashed, head_fed, layer_fed, octets_fed};
 ghost use Rattle.ion_model.specs.laws.Hashed.{values_alike};
-ghost use Rattle.ion_model.specs.declared.value.Payload.TheViews.{out-Payload};
 
 use crate::compare::is_full;
 use crate::value::{Field, Payload, Value};

@@ -1,8 +1,8 @@
 //! What a value holds, asked by its kind.
 ghost use Rattle.std.specs.Prelude.{◌≡◌, option_map, MatchResult, slice_get, map};
+ghost use Rattle.ion_model.specs.Names.{out-Payload};
 ghost use Rattle.ion_atoms.specs.declared.refusal.Reason.TheVariants as reasons;
-ghost use Rattle.ion_model.specs.declared.value.Payload.TheViews.{out-Payload};
-ghost use Rattle.ion_model.specs.Holds.{truth_in, int_in, decimal_in, timestamp_in, symbol_in, text_in, clob_in, blob_in, items_in, fields_in, named_in, values_of};
+ghost use Rattle.ion_model.specs.Holds.{blob_in, clob_in, decimal_in, fields_in, int_in, items_in, named_in, symbol_in, text_in, timestamp_in, truth_in, values_of};
 
 use crate::symbol::Symbol;
 use crate::value::{Field, Payload, Value};

@@ -1,6 +1,6 @@
 //! What the types keep about themselves, by levels.
+ghost use Rattle.ion_model.specs.Names.{out-Payload};
 ghost use Rattle.ion_model.specs.Kept.{KeptScalar};
-ghost use Rattle.ion_model.specs.declared.value.Payload.TheViews.{out-Payload};
 
 use crate::value::{Payload, Value};
 

@@ -4,19 +4,9 @@ ghost use Rattle.std.specs.Prelude.{◌≡◌, ◌+◌, ◌↔◌, ◌&&◌, ℕ
 ghost use Rattle.std.specs.Cmp.{IsTotalOrder};
 ghost use Rattle.std.specs.declared.cmp.Ordering.TheVariants.{Equal};
 ghost use lib.Pointwise.{pointwise};
-ghost use Rattle.ion_atoms.specs.Timestamps.{TimestampParts, IsTimestamp, instant, timestamp_same};
-ghost use Rattle.ion_model.specs.Measures.{annotated, depth, nodes, layer_depth, layer_nodes};
+ghost use Rattle.ion_model.specs.Names.{EndsApart, Field, IsNormal, IsPath, IsTimestamp, LayerNormal, Part, TimestampParts, Value, annotated, depth, field_same, instant, layer_depth, layer_nodes, nodes, order, out-Payload, same, symbol_same, timestamp_same, value_cmp, value_same};
 ghost use Rattle.ion_model.specs.ByKind.{payload_same};
-ghost use Rattle.ion_model.specs.Same.{same, value_same, field_same};
-ghost use Rattle.ion_model.specs.Symbols.{symbol_same};
-ghost use Rattle.ion_model.specs.Order.{order, value_cmp};
-ghost use Rattle.ion_model.specs.Normal.{IsNormal, LayerNormal};
-ghost use Rattle.ion_model.specs.Parting.{IsPath, EndsApart};
-ghost use Rattle.ion_model.specs.declared.path.Part.{Part};
-ghost use Rattle.ion_model.specs.declared.value.Value.{Value};
-ghost use Rattle.ion_model.specs.declared.value.Field.{Field};
 ghost use Rattle.ion_model.specs.declared.value.Payload.TheVariants as payloads;
-ghost use Rattle.ion_model.specs.declared.value.Payload.TheViews.{out-Payload};
 
 /// Two values are equivalent where one level of them says so, with equivalence itself as the test
 /// of the values inside.

@@ -1,8 +1,8 @@
 //! Values made in one expression.
 ghost use Rattle.std.specs.Prelude.{◌≡◌, ◌++◌, Some, MatchResult, map};
+ghost use Rattle.ion_model.specs.Names.{annotated, bare, field_of};
 ghost use Rattle.ion_atoms.specs.declared.refusal.Reason.TheVariants as reasons;
 ghost use Rattle.ion_model.specs.declared.value.Payload.TheVariants as payloads;
-ghost use Rattle.ion_model.specs.Measures.{bare, annotated, field_of};
 
 use crate::sequence::Sequence;
 use crate::symbol::Symbol;

@@ -1,6 +1,6 @@
 //! How deep a value goes, and of how many nodes it is made.
 ghost use Rattle.std.specs.Prelude.{◌≡◌, ◌-◌, ◌^◌, suc, min, map, sum};
-ghost use Rattle.ion_model.specs.Measures.{depth, nodes, greatest};
+ghost use Rattle.ion_model.specs.Names.{depth, greatest, nodes};
 
 use crate::value::{Field, Payload, Value};
 

@@ -1,10 +1,8 @@
 //! Normal forms: the fields of each struct in order, inner levels first.
 ghost use Rattle.std.specs.Prelude.{◌≡◌, true, IsTrue, OnOk, IfOk, IfErr, MatchResult, IsPermutation};
-ghost use Rattle.ion_atoms.specs.declared.refusal.Reason.TheVariants as reasons;
 ghost use lib.Pointwise.{pointwise};
-ghost use Rattle.ion_model.specs.Same.{same, field_same, fields_same, layer_same};
-ghost use Rattle.ion_model.specs.declared.value.Payload.TheViews.{out-Payload};
-ghost use Rattle.ion_model.specs.Normal.{IsNormal, LayerNormal, AllNormal, AllFieldsNormal, FieldsInOrder};
+ghost use Rattle.ion_model.specs.Names.{AllFieldsNormal, AllNormal, FieldsInOrder, IsNormal, LayerNormal, field_same, fields_same, layer_same, out-Payload, same};
+ghost use Rattle.ion_atoms.specs.declared.refusal.Reason.TheVariants as reasons;
 
 use crate::compare::order_field;
 use crate::value::{Field, Payload, Value};

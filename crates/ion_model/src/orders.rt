@@ -6,12 +6,10 @@ ghost use Rattle.std.specs.Cmp.{eq_by_cmp_equiv, on_equiv, partial_equiv_from_eq
 ghost use Rattle.std.specs.Cmp.Rules.{comparing, hashing};
 ghost use Rattle.std.specs.Ordering.{as_partial_cmp, eq_by_cmp, on};
 ghost use Rattle.std.proofs.Common.{rules};
-ghost use Rattle.ion_model.specs.Symbols.{symbol_same, symbol_cmp};
-ghost use Rattle.ion_model.specs.Order.{order, field_cmp, layer_cmp};
-ghost use Rattle.ion_model.specs.declared.value.Payload.TheViews.{out-Payload};
+ghost use Rattle.ion_model.specs.Names.{field_cmp, layer_cmp, order, out-Payload, symbol_cmp, symbol_same};
 ghost use Rattle.ion_model.specs.Hashed.{symbol_fed};
 ghost use Rattle.ion_model.specs.laws.Equivalence.{symbol_same-equiv};
-ghost use Rattle.ion_model.specs.laws.OrderTotal.{symbol_ties, symbol_cmp-total, field_cmp-total, layer_cmp-total, order-total};
+ghost use Rattle.ion_model.specs.laws.OrderTotal.{field_cmp-total, layer_cmp-total, order-total, symbol_cmp-total, symbol_ties};
 
 use crate::compare::{order, order_field, order_payload};
 use crate::symbol::Symbol;

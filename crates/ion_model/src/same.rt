@@ -1,9 +1,7 @@
 //! Whether two values are equivalent, by the definition.
 ghost use Rattle.std.specs.Prelude.{◌≡◌};
 ghost use lib.Pointwise.{pointwise};
-ghost use Rattle.ion_model.specs.Symbols.{symbol_same};
-ghost use Rattle.ion_model.specs.Same.{same, field_count, counts_agree, fields_same, layer_same};
-ghost use Rattle.ion_model.specs.declared.value.Payload.TheViews.{out-Payload};
+ghost use Rattle.ion_model.specs.Names.{counts_agree, field_count, fields_same, layer_same, out-Payload, same, symbol_same};
 
 use crate::symbol::Symbol;
 use crate::value::{Field, Payload, Value};

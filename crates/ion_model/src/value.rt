@@ -1,8 +1,6 @@
 //! Values, as the Ion data model has them.
 ghost use Rattle.std.specs.Prelude.{◌≡◌};
-ghost use Rattle.ion_model.specs.Kinds.{kind_of, layer_kind, is_table};
-ghost use Rattle.ion_model.specs.Measures.{bare};
-ghost use Rattle.ion_model.specs.declared.value.Payload.TheViews.{out-Payload};
+ghost use Rattle.ion_model.specs.Names.{bare, is_table, kind_of, layer_kind, out-Payload};
 
 use crate::sequence::Sequence;
 use crate::symbol::Symbol;

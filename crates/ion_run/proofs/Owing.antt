@@ -4,39 +4,37 @@ use Rattle.std.specs.List.{Contains}
 use Rattle.std.proofs.lemmas.List.{append_assoc, append-nil}
 use Rattle.std.proofs.lemmas.List.Elements.{Contains-append_right, Contains-append_cases, Contains-push_cases}
 use Rattle.std.proofs.lemmas.Option.{same_Some, none-some}
-use Rattle.ion_model.specs.declared.value.Value.{Value}
+use Rattle.std.specs.declared.io.Error.{Error}
 use Rattle.ion_atoms.specs.declared.refusal.Refusal.{Refusal as the_refusal}
+use Rattle.ion_model.specs.declared.value.Value.{Value}
 use Rattle.ion_symtab.specs.Cause.{IsReadCause}
 use Rattle.ion_symtab.specs.Took.{TookFront}
-use Rattle.ion_symtab.specs.laws.Took.{Took-nil}
 use Rattle.ion_symtab.specs.declared.catalog.Catalog.{Catalog as the_catalog}
 use Rattle.ion_symtab.specs.declared.fault.Fault.{Fault}
-use Rattle.ion_symtab.specs.declared.fault.Fault.TheVariants.{Memory, Read, Write, TooManyReads, TooLarge, Open}
+use Rattle.ion_symtab.specs.declared.fault.Fault.TheVariants.{Memory, Open, Read, TooLarge, TooManyReads, Write}
 use Rattle.ion_symtab.specs.declared.inlet.Inlet.{Ghosts as Inlet}
 use Rattle.ion_symtab.specs.declared.items.Items.{Ghosts as Items}
 use Rattle.ion_symtab.specs.declared.limits.Limits.{Limits}
 use Rattle.ion_symtab.specs.declared.outlet.Outlet.{Ghosts as Outlet}
+use Rattle.ion_symtab.specs.laws.Took.{Took-nil}
 use Rattle.ion_streams.specs.Checked.{IsChecked}
 use Rattle.ion_streams.specs.Compared.{IsCompared}
+use Rattle.ion_streams.specs.Listing.{IsWriteCause}
 use Rattle.ion_streams.specs.declared.comparison.Verdict.{Verdict}
+use Rattle.ion_words.specs.Asked.{Asked, Job, NamesInputOnce, NamesNoInput, asked, check, compare, convert, names_of, names_of_job, names_with, show}
+use Rattle.ion_words.specs.declared.request.WordsError.{WordsError}
 use Rattle.ion_docs.specs.Converted.{IsConvertCause}
 use Rattle.ion_docs.specs.Encodings.{Encoding}
 use Rattle.ion_docs.specs.Formats.{documents}
-use Rattle.ion_streams.specs.Listing.{IsWriteCause}
-use Rattle.ion_words.specs.declared.request.WordsError.{WordsError}
-use Rattle.ion_words.specs.declared.request.WordsError.TheVariants as words_errors
-use Rattle.std.specs.declared.io.Error.{Error}
-use Rattle.ion_run.specs.Arguments.{Arguments, words_of, no_words}
-use Rattle.ion_words.specs.Asked.{asked, Asked, Job, check, show, convert, compare, names_of, names_of_job, names_with, NamesInputOnce, NamesNoInput}
+use Rattle.ion_run.specs.Arguments.{Arguments, no_words, words_of}
+use Rattle.ion_run.specs.Endings.{PassesOn, answer_line, verdict_line}
+use Rattle.ion_run.specs.Lines.{Reports, fault_line, refusal_line, usage_line}
+use Rattle.ion_run.specs.Names.{Keeps, Name, Opens, OpensUpTo}
+use Rattle.ion_run.specs.Owed.{AreLimitsOf, IsAnswered, IsCatalog, IsDone, IsStopped, IsStoppedAt, JobLacksHasher, NeedsLarge, OwesFor, OwesWithHasher, OwesWithout, WroteFront, WroteSoFar, answered, code_of, is_done, no_memory, untold, usage}
 use Rattle.ion_run.specs.declared.command.Ending.{Ending}
-use Rattle.ion_run.specs.Names.{Name, Keeps, Opens, OpensUpTo}
-use Rattle.ion_run.specs.Endings.{answer_line, verdict_line, PassesOn}
-use Rattle.ion_run.specs.Lines.{fault_line, refusal_line, usage_line, Reports}
 use Rattle.ion_run.specs.declared.command.Ending.TheVariants.{Refused}
 use Rattle.ion_run.specs.declared.command.Status.{Status}
-use Rattle.ion_run.specs.declared.command.Status.TheVariants as the_status
 use Rattle.ion_run.specs.declared.lines.Whose.{Whose}
-use Rattle.ion_run.specs.Owed.{code_of, AreLimitsOf, IsCatalog, IsStopped, IsStoppedAt, NeedsLarge, IsDone, IsAnswered, WroteFront, WroteSoFar, is_done, JobLacksHasher, OwesWithHasher, usage, answered, untold, no_memory, OwesWithout, OwesFor}
 
 -- what is so in one of two ways is so in one of three
 pub or_more : {A B C : Type 0} → A ⊎ B → A ⊎ B ⊎ C
@@ -301,8 +299,8 @@ module _ {X Y T D : Type 0} (R : Inlet X) (gives : Name → X → Type 0) (refus
   -- a refusal is owed as its line and status, or where no memory is left to tell it as a fault
   pub owes_refused : (request : Asked) (l : Limits) (whose : Whose) (refusal : the_refusal) (out out_now : T) (err err_now : D) (status : Status)
       → AreLimitsOf request l → IsAnswered R gives W out out_now opens request l (Refused whose refusal) → PassesOn W out out_now →
-      (status ≡ the_status.Refused) ⊎ (status ≡ the_status.Fault) → (status ≡ the_status.Refused → Reports V err err_now (refusal_line whose refusal))
-      → (status ≡ the_status.Fault → Reports V err err_now (fault_line Memory)) →
+      (status ≡ Status.Refused) ⊎ (status ≡ Status.Fault) → (status ≡ Status.Refused → Reports V err err_now (refusal_line whose refusal))
+      → (status ≡ Status.Fault → Reports V err err_now (fault_line Memory)) →
       OwesWithHasher R gives refuses opens none I W V (Some request) out out_now err err_now (code_of status)
   owes_refused request l whose refusal out out_now err err_now status limits h passes (inl is) told failed =
       answered request l (Refused whose refusal) refl limits (ap code_of is) h passes (told is)
@@ -311,12 +309,12 @@ module _ {X Y T D : Type 0} (R : Inlet X) (gives : Name → X → Type 0) (refus
 
   -- for words that ask for nothing the usage line is owed, and for want of memory a fault
   pub owes_usage : opens [] → (asked : Option Asked) (error : WordsError) (out : T) (err err_now : D) (status : Status)
-      → (error ≡ words_errors.Usage → asked ≡ None) → (error ≡ words_errors.Usage → (status ≡ the_status.WrongWords) × Reports V err err_now usage_line)
-      → (error ≡ words_errors.Memory → (status ≡ the_status.Fault) × Reports V err err_now (fault_line Memory)) →
+      → (error ≡ WordsError.Usage → asked ≡ None) → (error ≡ WordsError.Usage → (status ≡ Status.WrongWords) × Reports V err err_now usage_line)
+      → (error ≡ WordsError.Memory → (status ≡ Status.Fault) × Reports V err err_now (fault_line Memory)) →
       OwesWithHasher R gives refuses opens none I W V asked out out err err_now (code_of status)
-  owes_usage unopened asked words_errors.Usage out err err_now status none told failed =
+  owes_usage unopened asked WordsError.Usage out err err_now status none told failed =
       usage (none refl) (ap code_of (told refl).0) unopened (Took-nil W.took W.written out) (λ same. same) (told refl).1
-  owes_usage unopened asked words_errors.Memory out err err_now status none told failed =
+  owes_usage unopened asked WordsError.Memory out err err_now status none told failed =
       no_memory (ap code_of (failed refl).0) unopened (Took-nil W.took W.written out) (λ same. same) (failed refl).1
 
   -- the arguments are words
@@ -329,19 +327,19 @@ module _ {X Y T D : Type 0} (R : Inlet X) (gives : Name → X → Type 0) (refus
   owes_words (Err why) words out out_now err err_now status are h = absurd are
 
   owes_without : opens [] → (error : WordsError) (out : T) (err err_now : D) (status : Status)
-      → (error ≡ words_errors.Usage → (status ≡ the_status.WrongWords) × Reports V err err_now usage_line)
-      → (error ≡ words_errors.Memory → (status ≡ the_status.Fault) × Reports V err err_now (fault_line Memory)) →
+      → (error ≡ WordsError.Usage → (status ≡ Status.WrongWords) × Reports V err err_now usage_line)
+      → (error ≡ WordsError.Memory → (status ≡ Status.Fault) × Reports V err err_now (fault_line Memory)) →
       OwesWithout R gives refuses opens none I W V error out out err err_now (code_of status)
-  owes_without unopened words_errors.Usage out err err_now status told failed =
+  owes_without unopened WordsError.Usage out err err_now status told failed =
       (ap code_of (told refl).0, unopened, Took-nil W.took W.written out, (λ same. same), (told refl).1)
-  owes_without unopened words_errors.Memory out err err_now status told failed =
+  owes_without unopened WordsError.Memory out err err_now status told failed =
       (ap code_of (failed refl).0, unopened, Took-nil W.took W.written out, (λ same. same), (failed refl).1)
 
   -- there are no words
   pub owes_no_words : opens [] → (arguments : Result Arguments Error) (error : WordsError) (out : T) (err err_now : D) (status : Status)
-      → MatchResult arguments (λ all. error ≡ words_errors.Memory) (λ why. error ≡ no_words why) →
-      (error ≡ words_errors.Usage → (status ≡ the_status.WrongWords) × Reports V err err_now usage_line)
-      → (error ≡ words_errors.Memory → (status ≡ the_status.Fault) × Reports V err err_now (fault_line Memory)) →
+      → MatchResult arguments (λ all. error ≡ WordsError.Memory) (λ why. error ≡ no_words why) →
+      (error ≡ WordsError.Usage → (status ≡ Status.WrongWords) × Reports V err err_now usage_line)
+      → (error ≡ WordsError.Memory → (status ≡ Status.Fault) × Reports V err err_now (fault_line Memory)) →
       OwesFor R gives refuses opens none I W V arguments out out err err_now (code_of status)
   owes_no_words unopened (Ok all) error out err err_now status is told failed =
       no_memory (ap code_of (failed is).0) unopened (Took-nil W.took W.written out) (λ same. same) (failed is).1

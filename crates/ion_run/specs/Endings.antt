@@ -1,15 +1,14 @@
 -- How a command ends, and what went to the output by then.
 use Rattle.std.specs.Prelude.{◌≡◌, ℕ, List, [], Result, Ok, Err}
+use Rattle.ion_atoms.specs.declared.refusal.Refusal.{Refusal as the_refusal}
 use Rattle.ion_symtab.specs.Took.{Took}
 use Rattle.ion_symtab.specs.declared.outlet.Outlet.{Ghosts as Outlet}
-use Rattle.ion_atoms.specs.declared.refusal.Refusal.{Refusal as the_refusal}
-use Rattle.ion_streams.specs.declared.comparison.Verdict.{Verdict}
-use Rattle.ion_streams.specs.declared.comparison.Verdict.TheVariants as verdicts
 use Rattle.ion_streams.specs.Listing.{accepted_line}
-use Rattle.ion_run.specs.declared.lines.Whose.TheVariants.{Only, One}
+use Rattle.ion_streams.specs.declared.comparison.Verdict.{Verdict}
+use Rattle.ion_run.specs.Lines.{different_line, equivalent_line}
 use Rattle.ion_run.specs.declared.command.Ending.{Ending}
 use Rattle.ion_run.specs.declared.command.Ending.TheVariants.{Accepted, Different, Refused}
-use Rattle.ion_run.specs.Lines.{equivalent_line, different_line}
+use Rattle.ion_run.specs.declared.lines.Whose.TheVariants.{One, Only}
 
 -- the line of an answer of `check`; a refused document has none on the output
 abbrev pub answer_line : Result ℕ the_refusal → List ℕ
@@ -18,9 +17,9 @@ answer_line (Err refusal) = []
 
 -- the line of a verdict; nor has a refused side
 abbrev pub verdict_line : Verdict → List ℕ
-verdict_line (verdicts.Equivalent values) = equivalent_line values
-verdict_line (verdicts.Different index path) = different_line index path
-verdict_line (verdicts.Refused side refusal) = []
+verdict_line (Verdict.Equivalent values) = equivalent_line values
+verdict_line (Verdict.Different index path) = different_line index path
+verdict_line (Verdict.Refused side refusal) = []
 
 module _ {T : Type 0} (W : Outlet T) where
   -- all that a device took was passed on
@@ -39,10 +38,10 @@ module _ {T : Type 0} (W : Outlet T) where
 
   -- `compare` ends so with this verdict: with the line of two documents, passed on, and with nothing where one is refused
   abbrev pub EndsCompared : T → T → Verdict → Ending → Type 0
-  EndsCompared old new (verdicts.Equivalent values) ending = (ending ≡ Accepted) × Took W.took W.written old new (equivalent_line values) × IsPassedOn new
-  EndsCompared old new (verdicts.Different index path) ending = (ending ≡ Different) × Took W.took W.written old new (different_line index path)
+  EndsCompared old new (Verdict.Equivalent values) ending = (ending ≡ Accepted) × Took W.took W.written old new (equivalent_line values) × IsPassedOn new
+  EndsCompared old new (Verdict.Different index path) ending = (ending ≡ Different) × Took W.took W.written old new (different_line index path)
       × IsPassedOn new
-  EndsCompared old new (verdicts.Refused side refusal) ending = (ending ≡ Refused (One side) refusal) × Took W.took W.written old new []
+  EndsCompared old new (Verdict.Refused side refusal) ending = (ending ≡ Refused (One side) refusal) × Took W.took W.written old new []
 
   -- Between old and new a device that had passed on all that it took has passed on all again: where nothing was written, what was kept back before may
   -- still be. Where something was, the endings above say so without this condition.

@@ -1,43 +1,40 @@
 -- What the program owes for its words.
 use Rattle.std.specs.Prelude.{⊤, ◌≡◌, ◌⊎◌, ℕ, ◌^◌, List, [], Bool, true, false, Option, Some, None, Result, Ok, Err}
 use Rattle.std.specs.List.{Contains}
-use Rattle.ion_model.specs.declared.value.Value.{Value}
+use Rattle.std.specs.declared.io.Error.{Error}
 use Rattle.ion_atoms.specs.declared.refusal.Refusal.{Refusal as the_refusal}
+use Rattle.ion_model.specs.declared.value.Value.{Value}
 use Rattle.ion_symtab.specs.Cause.{IsReadCause}
 use Rattle.ion_symtab.specs.Tables.{Table}
 use Rattle.ion_symtab.specs.Took.{Took, TookFront}
 use Rattle.ion_symtab.specs.declared.catalog.Catalog.{Catalog as the_catalog}
 use Rattle.ion_symtab.specs.declared.fault.Fault.{Fault}
-use Rattle.ion_symtab.specs.declared.fault.Fault.TheVariants.{Memory, Read, Write, TooManyReads, TooLarge, Open}
+use Rattle.ion_symtab.specs.declared.fault.Fault.TheVariants.{Memory, Open, Read, TooLarge, TooManyReads, Write}
 use Rattle.ion_symtab.specs.declared.inlet.Inlet.{Ghosts as Inlet}
 use Rattle.ion_symtab.specs.declared.items.Items.{Ghosts as Items}
 use Rattle.ion_symtab.specs.declared.limits.Limits.{Limits}
 use Rattle.ion_symtab.specs.declared.outlet.Outlet.{Ghosts as Outlet}
+use Rattle.ion_symtab.specs.declared.target.Target.{Target}
 use Rattle.ion_streams.specs.Checked.{IsChecked}
 use Rattle.ion_streams.specs.Compared.{IsCompared}
-use Rattle.ion_docs.specs.Conversion.{KeepsStream}
-use Rattle.ion_docs.specs.Converted.{IsConverted, ReadSoFar, ConvertsSoFar}
-use Rattle.ion_docs.specs.Encodings.{encoding_of}
-use Rattle.ion_docs.specs.Formats.{documents}
 use Rattle.ion_streams.specs.Listing.{IsShown, ShowsSoFar}
 use Rattle.ion_streams.specs.Loaded.{IsLoaded}
 use Rattle.ion_streams.specs.declared.comparison.Verdict.{Verdict}
-use Rattle.ion_symtab.specs.declared.target.Target.{Target}
-use Rattle.ion_symtab.specs.declared.target.Target.TheVariants as target
-use Rattle.std.specs.declared.io.Error.{Error}
-use Rattle.ion_words.specs.Asked.{Asked, Job, check, show, convert, compare, names_of, names_of_job, names_with, asked}
+use Rattle.ion_words.specs.Asked.{Asked, Job, asked, check, compare, convert, names_of, names_of_job, names_with, show}
 use Rattle.ion_words.specs.declared.request.WordsError.{WordsError}
-use Rattle.ion_words.specs.declared.request.WordsError.TheVariants as words_errors
-use Rattle.ion_run.specs.Arguments.{Arguments, words_of, no_words}
-use Rattle.ion_run.specs.Endings.{answer_line, verdict_line, EndsChecked, EndsShown, EndsCompared, PassesOn}
-use Rattle.ion_run.specs.Lines.{fault_line, refusal_line, usage_line, Reports}
+use Rattle.ion_docs.specs.Conversion.{KeepsStream}
+use Rattle.ion_docs.specs.Converted.{ConvertsSoFar, IsConverted, ReadSoFar}
+use Rattle.ion_docs.specs.Encodings.{encoding_of}
+use Rattle.ion_docs.specs.Formats.{documents}
+use Rattle.ion_run.specs.Arguments.{Arguments, no_words, words_of}
+use Rattle.ion_run.specs.Endings.{EndsChecked, EndsCompared, EndsShown, PassesOn, answer_line, verdict_line}
+use Rattle.ion_run.specs.Lines.{Reports, fault_line, refusal_line, usage_line}
 use Rattle.ion_run.specs.Names.{Name, OpensUpTo}
-use Rattle.ion_run.specs.declared.lines.Whose.{Whose}
-use Rattle.ion_run.specs.declared.lines.Whose.TheVariants.{Catalog}
-use Rattle.ion_run.specs.declared.command.Status.{Status}
-use Rattle.ion_run.specs.declared.command.Status.TheVariants as the_status
 use Rattle.ion_run.specs.declared.command.Ending.{Ending}
 use Rattle.ion_run.specs.declared.command.Ending.TheVariants.{Accepted, Different, Refused}
+use Rattle.ion_run.specs.declared.command.Status.{Status}
+use Rattle.ion_run.specs.declared.lines.Whose.{Whose}
+use Rattle.ion_run.specs.declared.lines.Whose.TheVariants.{Catalog}
 
 -- the limits are those that are asked for, and the usual limit of reads
 abbrev pub AreLimitsOf : Asked → Limits → Type 0
@@ -45,11 +42,11 @@ AreLimitsOf asked l = (l.depth ≡ asked.depth) × (l.item ≡ asked.item) × (l
 
 -- the number of a status
 abbrev pub code_of : Status → ℕ
-code_of the_status.Accepted = 0
-code_of the_status.Different = 1
-code_of the_status.Refused = 2
-code_of the_status.WrongWords = 3
-code_of the_status.Fault = 4
+code_of Status.Accepted = 0
+code_of Status.Different = 1
+code_of Status.Refused = 2
+code_of Status.WrongWords = 3
+code_of Status.Fault = 4
 
 -- the status where a command ended so
 abbrev pub status_of : Ending → ℕ
@@ -113,8 +110,8 @@ module _ {X : Type 0} (R : Inlet X) (gives : Name → X → Type 0) where
 
 -- only binary takes a hasher; `none` is that none can be had
 abbrev pub LacksHasher : Type 0 → Target → Type 0
-LacksHasher none target.Text = ⊥
-LacksHasher none target.Binary = none
+LacksHasher none Target.Text = ⊥
+LacksHasher none Target.Binary = none
 
 -- the job is a conversion to binary, and no hasher can be had
 abbrev pub JobLacksHasher : Type 0 → Job → Type 0
@@ -175,9 +172,9 @@ module _ {X Y T D : Type 0} (R : Inlet X) (gives : Name → X → Type 0) (refus
 
   -- where there are no words: the usage line for an argument that is no text, and a fault for want of memory
   abbrev pub OwesWithout : WordsError → T → T → D → D → ℕ → Type 0
-  OwesWithout words_errors.Usage out out_now err err_now status = (status ≡ 3) × opens [] × Took W.took W.written out out_now [] × PassesOn W out out_now
+  OwesWithout WordsError.Usage out out_now err err_now status = (status ≡ 3) × opens [] × Took W.took W.written out out_now [] × PassesOn W out out_now
       × Reports V err err_now usage_line
-  OwesWithout words_errors.Memory out out_now err err_now status = (status ≡ 4) × opens [] × Took W.took W.written out out_now [] × PassesOn W out out_now
+  OwesWithout WordsError.Memory out out_now err err_now status = (status ≡ 4) × opens [] × Took W.took W.written out out_now [] × PassesOn W out out_now
       × Reports V err err_now (fault_line Memory)
 
   -- What the program owes for the arguments of the process: what it owes for the words that they are, or for want of words.

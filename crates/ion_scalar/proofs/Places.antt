@@ -1,6 +1,5 @@
 -- How many places digits take, and digits written from the last to the first.
-use Rattle.std.proofs.Common.{◌≡◌, ℕ, Bool, zero, suc, ◌+◌, ◌-◌, ◌/◌, ◌%◌, ◌^◌, ◌<◌, ◌≤◌, List, [], ◌∷◌, ◌++◌, length, drop, set, nat_lt, if◌then◌else◌}
-use Rattle.std.proofs.Common.{true, false, inl, inr, ap, arith, refl, length-append, append_assoc}
+use Rattle.std.proofs.Common.{◌≡◌, ℕ, Bool, zero, suc, ◌+◌, ◌-◌, ◌/◌, ◌%◌, ◌^◌, ◌<◌, ◌≤◌, List, [], ◌∷◌, ◌++◌, length, drop, set, nat_lt, if◌then◌else◌, true, false, inl, inr, ap, arith, refl, length-append, append_assoc}
 use Rattle.std.proofs.lemmas.Bool.{lt-ltb, le-ltb}
 use Rattle.std.proofs.lemmas.Bool.Decides.{leb_tells}
 use Rattle.std.proofs.lemmas.Int.Digits.{digits_of_step, length-digits_of-le, length-digits_of_step}
@@ -8,7 +7,7 @@ use Rattle.std.proofs.lemmas.List.{drop-set}
 use Rattle.std.proofs.lemmas.Nat.{div_below, le-div}
 use Rattle.std.proofs.Math.Nat.{mod-eq_of_lt, pow-le-pow_right, pow-suc, pow-zero}
 use Rattle.std.specs.Int.Digits.{digits_of}
-use Rattle.ion_scalar.specs.binary.Spellings.{sign_bit, signed_digits}
+use Rattle.ion_scalar.specs.Names.{sign_bit, signed_digits}
 
 -- a number that few digits hold is held by more
 pub room_for : (base value few many : ℕ) → 0 < base → value < base ^ few → few ≤ many → value < base ^ many

@@ -1,3 +1,4 @@
 pub mod Positional
 pub mod binary
 pub mod text
+pub mod Names

@@ -2,8 +2,7 @@
 ghost use Rattle.std.specs.Prelude.{◌≡◌, ℕ, ◌+◌, ◌-◌, ◌/◌, ◌^◌, ◌<◌, ◌≤◌, ◌⊎◌, [], ◌∷◌, ◌++◌, length};
 ghost use Rattle.std.specs.Fmt.{decimal};
 ghost use Rattle.std.specs.Int.Digits.{digits_of};
-ghost use Rattle.ion_scalar.specs.binary.Spellings.{signed_digits};
-ghost use Rattle.ion_scalar.specs.binary.Spellings.{sign_bit as spelled_sign};
+ghost use Rattle.ion_scalar.specs.Names.{sign_bit as spelled_sign, signed_digits};
 
 use std::marker::Model;
 

@@ -1,9 +1,6 @@
 //! The bodies of decimals in binary (Ion 1.0, "Ion Binary Encoding", decimal).
 ghost use Rattle.std.specs.Prelude.{Result, ◌≡◌, ◌<◌, ◌^◌, IsTrue, SomeIff, is_ok};
-ghost use Rattle.ion_atoms.specs.Decimals.{DecimalParts};
-ghost use Rattle.ion_scalar.specs.binary.Reads.{ReadsDecimalBody};
-ghost use Rattle.ion_scalar.specs.text.Decimals.{signed};
-ghost use Rattle.ion_scalar.specs.binary.Decimal.{decimal_of_body, decimal_with, with_coefficient, exponent_fits};
+ghost use Rattle.ion_scalar.specs.Names.{DecimalParts, ReadsDecimalBody, decimal_of_body, decimal_with, exponent_fits, signed, with_coefficient};
 
 use crate::fields::{Signed, int_of, read_var_int};
 use ion_atoms::{Decimal, Reason};

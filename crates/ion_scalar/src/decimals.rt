@@ -1,7 +1,6 @@
 //! The parts of decimal tokens (Ion 1.0, "Ion Text Encoding" and its grammar, decimals).
 ghost use Rattle.std.specs.Prelude.{Bool, ℕ, ℤ, ◌≡◌, ◌<◌, ◌≤◌, ◌^◌, ◌++◌, List, length, take, min, pos, ◌-ℤ◌, IfSome, IfNone};
-ghost use Rattle.ion_scalar.specs.text.Ints.{number, GoesNotOn, IsWholePart};
-ghost use Rattle.ion_scalar.specs.text.Decimals.{signed, IsPlain, IsSigned, IsExponent, IsEnd, IsFraction, IsTail, IsPower, Shows};
+ghost use Rattle.ion_scalar.specs.Names.{GoesNotOn, IsEnd, IsExponent, IsFraction, IsPlain, IsPower, IsSigned, IsTail, IsWholePart, Shows, number, signed};
 
 use crate::digits::{Digits, all_digits, digits_at};
 

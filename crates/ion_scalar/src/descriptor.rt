@@ -1,7 +1,7 @@
 //! The descriptor octet, with which each value in binary begins (Ion 1.0, "Ion Binary Encoding",
 //! typed value formats).
 ghost use Rattle.std.specs.Prelude.{◌≡◌, ◌/◌, ◌%◌, ◌<◌};
-ghost use Rattle.ion_scalar.specs.binary.Descriptor.{descriptor_of, typed, size, kind};
+ghost use Rattle.ion_scalar.specs.Names.{descriptor_of, kind, size, typed};
 
 use ion_atoms::{Kind, Reason};
 

@@ -1,7 +1,7 @@
 //! Runs of digits in a token, with at most one `_` between two of them.
 ghost use Rattle.std.specs.Prelude.{◌≡◌, ◌<◌, ◌≤◌, ◌^◌, ◌*◌, ◌+◌, length, take, drop, min, slice_index, SomeIff, IsSome, IfSome, ◌↔◌};
 ghost use Rattle.std.specs.Char.{digit_value};
-ghost use Rattle.ion_scalar.specs.text.Ints.{IsDigits, GoesNotOn, BeginsWithNone, continued, digits_in};
+ghost use Rattle.ion_scalar.specs.Names.{BeginsWithNone, GoesNotOn, IsDigits, continued, digits_in};
 
 /// Where numbers stop: 2^127 stands for it and all above.
 pub const CAP: u128 = 1 << 127;

@@ -1,7 +1,7 @@
 //! The fields of binary values that are whole numbers (Ion 1.0, "Ion Binary Encoding", basic field
 //! formats).
 ghost use Rattle.std.specs.Prelude.{◌≡◌, ◌<◌, ◌≤◌, ◌+◌, ◌^◌, ◌∷◌, SomeIff, is_ok, length};
-ghost use Rattle.ion_scalar.specs.binary.Fields.{positional, var_uint, var_int, var_rest, uint_field, int_field, signed_of};
+ghost use Rattle.ion_scalar.specs.Names.{int_field, positional, signed_of, uint_field, var_int, var_rest, var_uint};
 
 use ion_atoms::Reason;
 

@@ -1,6 +1,6 @@
 //! The sign of a number token.
 ghost use Rattle.std.specs.Prelude.{◌≡◌, ◌++◌};
-ghost use Rattle.ion_scalar.specs.text.Ints.{BeginsWithMinus, minus};
+ghost use Rattle.ion_scalar.specs.Names.{BeginsWithMinus, minus};
 
 /// Whether a token begins with `-`, and what stands behind it.
 pub fn split_sign(token: &[u8]) -> (bool, &[u8])

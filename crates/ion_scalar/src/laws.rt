@@ -1,27 +1,10 @@
 //! What the definitions that this crate's contracts name have to do with the specification. A law
 //! is called for its clause alone.
 ghost use Rattle.std.specs.Prelude.{◌≡◌, ◌↔◌, ◌≤◌, ◌++◌, ◌+ℤ◌, ℕ, ℤ, pos, Bool, List, Result, Ok, length};
-ghost use Rattle.ion_scalar.specs.binary.Fields.{positional, int_negative, int_magnitude, VarUInt, VarInt, var_uint, var_int, signed_of};
-ghost use Rattle.ion_scalar.specs.binary.Reads.{ReadsVarUInt, ReadsVarInt, ReadsDecimalBody};
-ghost use Rattle.ion_scalar.specs.binary.Spellings.{AreBelow, var_uint_octets, var_int_octets, uint_octets, int_octets, decimal_octets};
-ghost use Rattle.ion_scalar.specs.binary.TimestampSpellings.{timestamp_octets};
-ghost use Rattle.ion_atoms.specs.Ranges.{IsWhole};
-ghost use Rattle.ion_atoms.specs.Decimals.{DecimalParts, IsDecimal};
-ghost use Rattle.ion_atoms.specs.declared.refusal.Reason.{Reason};
-ghost use Rattle.ion_scalar.specs.binary.Decimal.{IsDecimalField, decimal_of_body};
-ghost use Rattle.ion_scalar.specs.declared.number.Number.{Number};
+ghost use Rattle.ion_scalar.specs.Names.{AreBelow, DecimalParts, InYears, IsDecimal, IsDecimalField, IsFloat, IsMinute, IsNumber, IsOffset, IsTimestamp, IsTimestampBody, IsWhole, Minute, Number, ReadsDecimalBody, ReadsNumber, ReadsTimestampBody, ReadsVarInt, ReadsVarUInt, Reason, TimestampParts, VarInt, VarUInt, decimal_octets, decimal_of_body, int_magnitude, int_negative, int_octets, last_year, minute_number, moved, number_text, positional, signed_of, timestamp_octets, timestamp_of_body, uint_octets, var_int, var_int_octets, var_uint, var_uint_octets};
 ghost use Rattle.ion_scalar.specs.declared.number.Number.TheVariants as numbers;
-ghost use Rattle.ion_scalar.specs.text.Numbers.{IsNumber, IsFloat, ReadsNumber};
 ghost use Rattle.ion_scalar.specs.text.Reading.{number_read};
-ghost use Rattle.ion_scalar.specs.text.Texts.{number_text};
 ghost use Rattle.ion_scalar.specs.binary.laws.DescriptorRows.{IsTable};
-ghost use Rattle.ion_scalar.specs.binary.Shifted.{moved};
-ghost use Rattle.ion_atoms.specs.declared.calendar.Minute.{Minute};
-ghost use Rattle.ion_atoms.specs.TimestampBounds.{last_year};
-ghost use Rattle.ion_atoms.specs.Calendar.{IsMinute, InYears, minute_number};
-ghost use Rattle.ion_atoms.specs.Timestamps.{TimestampParts, IsTimestamp, IsOffset};
-ghost use Rattle.ion_scalar.specs.binary.TimestampReasons.{ReadsTimestampBody};
-ghost use Rattle.ion_scalar.specs.binary.Timestamp.{IsTimestampBody, timestamp_of_body};
 
 /// Octets that begin with a VarUInt are read as its number and its length, whatever follows it.
 pub fn var_uint_is_read()

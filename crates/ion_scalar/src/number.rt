@@ -1,12 +1,7 @@
 //! Number tokens (Ion 1.0, "Ion Text Encoding" and its grammar, ints, decimals and timestamps).
 ghost use Rattle.std.specs.Prelude.{ℕ, Result, Ok, ◌≡◌, ◌≤◌, ◌^◌, min, IfOk, IfErr, IfSome, IfNone};
-ghost use Rattle.ion_atoms.specs.declared.refusal.Reason.TheVariants.{TooLarge};
-ghost use Rattle.ion_atoms.specs.declared.refusal.Reason.{Reason};
-ghost use Rattle.ion_scalar.specs.declared.number.Number.{Number};
+ghost use Rattle.ion_scalar.specs.Names.{Fits, HasBase, Number, ReadsBehind, ReadsNumber, ReadsNumeral, ReadsTimestamp, Reason, TooLarge, decimal_read, signed};
 ghost use Rattle.ion_scalar.specs.declared.number.Number.TheVariants as numbers;
-ghost use Rattle.ion_scalar.specs.text.Ints.{HasBase};
-ghost use Rattle.ion_scalar.specs.text.Decimals.{signed};
-ghost use Rattle.ion_scalar.specs.text.Numbers.{ReadsNumber, ReadsNumeral, ReadsTimestamp, ReadsBehind, Fits, decimal_read};
 
 use crate::decimals::{Tail, power, tail_of, whole_of};
 use crate::digits::all_digits;

@@ -1,11 +1,7 @@
 //! Numbers written as octets: always the fewest (Ion 1.0, "Ion Binary Encoding", basic field
 //! formats).
 ghost use Rattle.std.specs.Prelude.{◌≡◌, ℕ, ◌<◌, ◌≤◌, ◌+◌, ◌^◌, ◌++◌, List, OnOk, OnErr, IsOkUnless, Ok, length, vec_len, vec_capacity};
-ghost use Rattle.ion_atoms.specs.declared.refusal.Reason.TheVariants.{Memory};
-ghost use Rattle.ion_scalar.specs.declared.backward.TheConstants.{ROOM};
-ghost use Rattle.ion_scalar.specs.binary.Fields.{var_uint, var_int, uint_field, int_field};
-ghost use Rattle.ion_scalar.specs.binary.Decimal.{decimal_of_body};
-ghost use Rattle.ion_scalar.specs.binary.Spellings.{decimal_octets, var_uint_octets, var_int_octets, uint_octets, int_octets};
+ghost use Rattle.ion_scalar.specs.Names.{Memory, ROOM, decimal_octets, decimal_of_body, int_field, int_octets, uint_field, uint_octets, var_int, var_int_octets, var_uint, var_uint_octets};
 
 use crate::backward::{Backward, sign_bit};
 use crate::fields::Signed;

@@ -2,12 +2,10 @@
 //! are added up in 64 bits. What is longer or has another form isn't told of here.
 ghost use Rattle.std.specs.Prelude.{◌≡◌, ◌<◌, ◌≤◌, ◌+◌, ◌*◌, ◌^◌, ◌-ℤ◌, pos, length, take, false, IfSome, Ok};
 ghost use Rattle.std.specs.Char.{digit_value};
+ghost use Rattle.ion_scalar.specs.Names.{Fits, IsDigits, IsExponent, IsMagnitude, IsPlain, IsSigned, IsWholePart, ReadsBehind, ReadsNumeral, decimal_read, number, signed};
 ghost use Rattle.ion_scalar.specs.declared.number.Number.TheVariants as numbers;
-ghost use Rattle.ion_scalar.specs.text.Ints.{IsDigits, IsWholePart, IsMagnitude, number};
-ghost use Rattle.ion_scalar.specs.text.Decimals.{signed, IsPlain, IsSigned, IsExponent};
-ghost use Rattle.ion_scalar.specs.text.Numbers.{ReadsBehind, ReadsNumeral, Fits, decimal_read};
 ghost use Rattle.ion_scalar.specs.text.laws.DigitRuns.{Place};
-ghost use Rattle.ion_scalar.specs.text.laws.ShortNumbers.{PlainRun, MarkedRun, IsScaled};
+ghost use Rattle.ion_scalar.specs.text.laws.ShortNumbers.{IsScaled, MarkedRun, PlainRun};
 
 use crate::digits::digit_at;
 use crate::ints::split_sign;

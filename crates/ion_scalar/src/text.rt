@@ -1,16 +1,9 @@
 //! Numbers written as text, each in its one spelling (Ion 1.0, "Ion Text Encoding" and its grammar,
 //! ints, decimals and timestamps).
 ghost use Rattle.std.specs.Prelude.{◌≡◌, ◌<◌, ◌≤◌, ◌+◌, ◌^◌, ◌∷◌, ◌++◌, OnOk, OnErr, IsOkUnless, Ok, ◌%◌, ◌/◌, IfSome, Some, length, vec_len, vec_capacity, unsigned_abs};
-ghost use Rattle.ion_atoms.specs.TimestampBounds.{farthest_offset};
-ghost use Rattle.ion_atoms.specs.Timestamps.{IsOffset};
-ghost use Rattle.ion_scalar.specs.text.Timestamps.{IsShort};
 ghost use Rattle.std.specs.Fmt.{decimal, signed_decimal};
-ghost use Rattle.ion_atoms.specs.declared.refusal.Reason.TheVariants.{Memory};
-ghost use Rattle.ion_scalar.specs.declared.backward.TheConstants.{ROOM};
+ghost use Rattle.ion_scalar.specs.Names.{IsOffset, IsShort, Memory, ROOM, ReadsNumber, clock_text, cut_text, day_text, decimal_text, farthest_offset, four_digits, minus, minute_text, month_text, number_text, offset_text, padded, second_text, timestamp_text};
 ghost use Rattle.ion_scalar.specs.declared.number.Number.TheVariants as numbers;
-ghost use Rattle.ion_scalar.specs.text.Numbers.{ReadsNumber};
-ghost use Rattle.ion_scalar.specs.text.Ints.{minus};
-ghost use Rattle.ion_scalar.specs.text.Texts.{number_text, decimal_text, timestamp_text, cut_text, offset_text, clock_text, four_digits, padded, month_text, day_text, minute_text, second_text};
 
 use crate::backward::Backward;
 use crate::number::Number;

@@ -1,12 +1,8 @@
 //! The bodies of timestamps in binary (Ion 1.0, "Ion Binary Encoding", timestamp).
 ghost use Rattle.std.specs.Prelude.{Result, ◌≡◌, ◌<◌, ◌≤◌, ◌^◌, length, IfOk, IfSome};
-ghost use Rattle.ion_atoms.specs.TimestampBounds.{last_year, last_month, farthest_offset};
-ghost use Rattle.ion_atoms.specs.Calendar.{month_length};
-ghost use Rattle.ion_atoms.specs.Timestamps.{TimestampParts, IsOffset, minutes_ahead};
-ghost use Rattle.ion_scalar.specs.binary.Timestamp.{timestamp_of_body, shown_by, shown, kept_offset, offset_from, local_in, day_known, time_known};
-ghost use Rattle.ion_scalar.specs.binary.Timestamp.{read_offset, read_field, read_fields, read_behind_year, read_behind_month, read_behind_day, read_behind_hour, read_behind_minute, read_behind_second, read_fraction};
+ghost use Rattle.ion_scalar.specs.Names.{IsOffset, ReadsTimestampBody, TimestampParts, day_known, farthest_offset, kept_offset, last_month, last_year, local_in, minutes_ahead, month_length, offset_from, read_behind_day, read_behind_hour, read_behind_minute, read_behind_month, read_behind_second, read_behind_year, read_field, read_fields, read_fraction, read_offset, shown, time_known, timestamp_of_body};
+ghost use Rattle.ion_scalar.specs.binary.Timestamp.{shown_by};
 ghost use Rattle.ion_scalar.specs.binary.laws.Timestamp.{IsUtc};
-ghost use Rattle.ion_scalar.specs.binary.TimestampReasons.{ReadsTimestampBody};
 
 use crate::fields::{Signed, int_of, read_var_int, read_var_uint};
 use ion_atoms::bounds::{

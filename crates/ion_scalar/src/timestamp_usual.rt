@@ -2,11 +2,7 @@
 //! nobody asks for its parts. Bodies of the usual form are judged part by part; what is unusual
 //! isn't told of them here.
 ghost use Rattle.std.specs.Prelude.{◌≡◌, ◌<◌, ◌≤◌, ◌^◌, ℕ, true, Ok, is_ok, IsOkAnd, IfSome, length};
-ghost use Rattle.ion_atoms.specs.declared.calendar.Date.{Date};
-ghost use Rattle.ion_atoms.specs.declared.calendar.Minute.{Minute};
-ghost use Rattle.ion_atoms.specs.TimestampBounds.{last_year, last_month};
-ghost use Rattle.ion_atoms.specs.Calendar.{month_length};
-ghost use Rattle.ion_scalar.specs.binary.Timestamp.{timestamp_of_body, read_field, read_fields, read_behind_year, read_behind_month, read_behind_day, read_behind_hour, read_behind_minute, read_behind_second};
+ghost use Rattle.ion_scalar.specs.Names.{Date, Minute, last_month, last_year, month_length, read_behind_day, read_behind_hour, read_behind_minute, read_behind_month, read_behind_second, read_behind_year, read_field, read_fields, timestamp_of_body};
 
 use crate::fields::int_of;
 use crate::timestamp_body::{field, offset_of, timestamp_of};

@@ -1,10 +1,6 @@
 //! Timestamps written as octets: always the fewest (Ion 1.0, "Ion Binary Encoding", timestamp).
 ghost use Rattle.std.specs.Prelude.{◌≡◌, ◌≤◌, ◌<◌, ◌+◌, ◌^◌, ◌++◌, OnOk, OnErr, IsOkUnless, IfSome, Ok, length, vec_len, vec_capacity};
-ghost use Rattle.ion_atoms.specs.declared.refusal.Reason.TheVariants.{Memory};
-ghost use Rattle.ion_atoms.specs.Timestamps.{IsOffset, IsTimestamp};
-ghost use Rattle.ion_scalar.specs.declared.backward.TheConstants.{ROOM};
-ghost use Rattle.ion_scalar.specs.binary.Timestamp.{timestamp_of_body};
-ghost use Rattle.ion_scalar.specs.binary.TimestampSpellings.{timestamp_octets, ahead_octets, utc_of, fields_octets, octets_behind_year, octets_behind_month, octets_behind_day, octets_behind_minute, octets_behind_second};
+ghost use Rattle.ion_scalar.specs.Names.{IsOffset, IsTimestamp, Memory, ROOM, ahead_octets, fields_octets, octets_behind_day, octets_behind_minute, octets_behind_month, octets_behind_second, octets_behind_year, timestamp_octets, timestamp_of_body, utc_of};
 
 use crate::backward::Backward;
 use crate::fields::Signed;

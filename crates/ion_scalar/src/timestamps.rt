@@ -1,11 +1,7 @@
 //! The parts of timestamp tokens (Ion 1.0, "Timestamps").
 ghost use Rattle.std.specs.Prelude.{ℕ, ◌≡◌, ◌<◌, ◌≤◌, ◌+◌, ◌-◌, ◌*◌, ◌^◌, ◌++◌, List, length, drop, min, slice_index, IfSome, IfNone, SomeIff, IsTrue, ◌↔◌, ◌⊎◌, ◌==◌, if◌then◌else◌, pos, neg_ℤ, Some, None};
+ghost use Rattle.ion_scalar.specs.Names.{AreFourAt, AreTwoAt, BeginsWithDay, BeginsWithMinute, BeginsWithMonth, BeginsWithSecond, IsAt, IsDay, IsDigitAt, IsFractionEnd, IsMonth, IsOffsetToken, IsPlain, IsShort, IsTimestampToken, IsYear, TimestampParts, dated, farthest_offset, four, minute_read, most_digits, number, offset_read, stamp, two};
 ghost use Rattle.ion_atoms.specs.declared.timestamp.Precision.TheVariants as precisions;
-ghost use Rattle.ion_atoms.specs.TimestampBounds.{farthest_offset, most_digits};
-ghost use Rattle.ion_atoms.specs.Timestamps.{TimestampParts};
-ghost use Rattle.ion_scalar.specs.text.Ints.{number};
-ghost use Rattle.ion_scalar.specs.text.Decimals.{IsPlain};
-ghost use Rattle.ion_scalar.specs.text.Timestamps.{IsAt, IsDigitAt, AreTwoAt, two, AreFourAt, four, BeginsWithMonth, BeginsWithDay, BeginsWithMinute, BeginsWithSecond, IsOffsetToken, offset_read, minute_read, dated, IsYear, IsMonth, IsDay, IsFractionEnd, IsTimestampToken, IsShort, stamp};
 
 use crate::digits::digits_at;
 use ion_atoms::bounds::{LAST_HOUR, LAST_MINUTE, MOST_DIGITS};

@@ -2,11 +2,7 @@
 //! and `YYYY-MM-DDThh:mm:ssZ`, and those of any form in the years 2 to 9998, where no offset leads out
 //! of the years 1 to 9999. What has another form, or isn't there, isn't told of here.
 ghost use Rattle.std.specs.Prelude.{ℕ, List, ◌≡◌, ◌≤◌, ◌<◌, length, IsTrue, ◌↔◌, IfSome};
-ghost use Rattle.ion_atoms.specs.declared.calendar.Date.{Date};
-ghost use Rattle.ion_atoms.specs.TimestampBounds.{last_year};
-ghost use Rattle.ion_atoms.specs.Calendar.{IsDate};
-ghost use Rattle.ion_atoms.specs.Timestamps.{TimestampParts, IsTimestamp, IsTime, local_date};
-ghost use Rattle.ion_scalar.specs.text.Timestamps.{IsTimestampToken, IsShort, stamp};
+ghost use Rattle.ion_scalar.specs.Names.{Date, IsDate, IsShort, IsTime, IsTimestamp, IsTimestampToken, TimestampParts, last_year, local_date, stamp};
 ghost use Rattle.ion_scalar.specs.text.laws.TimestampForms.{ShownEnd};
 
 use crate::short_number::{MOST_SHORT_OCTETS, plain_digits};

@@ -2,26 +2,8 @@
 use Rattle.std.proofs.Common.{◌≡◌, ℕ, zero, suc, ◌+◌, ◌-◌, ◌<◌, ◌≤◌, ◌⊎◌, inl, inr, MatchBool, List, [], ◌∷◌, ◌++◌, length, slice_get, refl, ap, sym, subst, ◌∙◌, arith, Bool, true, false, ◌&&◌, cond, Option, Some, None, option_map, option_to_list, append_assoc, append-nil, length-append}
 use Rattle.std.proofs.lemmas.Option.{slice_get_past}
 use lib.Pointwise.{pointwise}
-use Rattle.ion_model.specs.declared.value.Value.{Value}
-use Rattle.ion_model.specs.Same.{same}
-use Rattle.ion_symtab.specs.Heard.{Heard, MayFollow}
-use Rattle.ion_symtab.specs.declared.inlet.Inlet.{Ghosts as Inlet}
-use Rattle.ion_symtab.specs.declared.items.Items.{Ghosts as Items}
-use Rattle.ion_streams.specs.Formats.{Format, format_of}
-use Rattle.ion_streams.specs.Outcomes.{ToldRefused}
-use Rattle.ion_streams.specs.reading.Read.{left_of}
-use Rattle.ion_streams.specs.reading.Standing.{IfOpen, IsOpen, IfClosed, work_of, Stood}
-use Rattle.ion_streams.specs.Compared.{parts, PartAt, IsVerdict, IsCompared}
-use Rattle.ion_streams.specs.reading.Courses.{IfAlike, MetBoth, IsMet, verdict_on, verdict_of}
-use Rattle.ion_streams.specs.declared.source.Standing.{Standing}
-use Rattle.ion_streams.specs.declared.source.Standing.TheVariants as TheStanding
-use Rattle.ion_streams.specs.declared.comparison.Course.{Course}
-use Rattle.ion_streams.specs.declared.comparison.Course.TheVariants.{Alike, Parted}
-use Rattle.ion_streams.specs.declared.comparison.Verdict.TheVariants as TheVerdict
-use Rattle.ion_streams.specs.declared.comparison.Side.TheVariants.{Left}
-use Rattle.ion_atoms.specs.declared.refusal.Refusal.{Refusal}
-use Rattle.ion_symtab.specs.declared.catalog.Catalog.{Catalog}
-use Rattle.ion_symtab.specs.declared.limits.Limits.{Limits}
+use Rattle.ion_streams.specs.Names.{Alike, Catalog, Course, Format, Heard, IfAlike, IfClosed, IfOpen, Inlet, IsMet, IsOpen, Items, Left, Limits, MayFollow, MetBoth, Parted, Refusal, Standing, Stood, ToldRefused, Value, Verdict, format_of, left_of, same, verdict_of, verdict_on, work_of}
+use Rattle.ion_streams.specs.Compared.{IsCompared, IsVerdict, PartAt, parts}
 
 -- what a course says of the streams whole, of which the second two are still to come
 abbrev pub Onward : Course → List Value → List Value → List Value → List Value → Type 0
@@ -114,16 +96,16 @@ counted_more (Alike n) after (Some v) None s t h met = rw met tt
 -- nothing followed behind a document that is closed, and without a value it is closed
 closed_before : {X : Type 0} (before after : Standing X) (v : Option Value) (s : List Value) → IfClosed before ((after ≡ before) × (v ≡ None))
     → IfClosed after (s ≡ []) → IfClosed before (option_to_list v ++ s ≡ [])
-closed_before (TheStanding.Open source) after v s h k = tt
-closed_before TheStanding.Ended after v s h k = ap (λ (x : Option Value). option_to_list x ++ s) h.1 ∙ subst (λ (x : Standing _). IfClosed x (s ≡ [])) h.0 k
-closed_before (TheStanding.Refused refusal) after v s h k = ap (λ (x : Option Value). option_to_list x ++ s) h.1
+closed_before (Standing.Open source) after v s h k = tt
+closed_before Standing.Ended after v s h k = ap (λ (x : Option Value). option_to_list x ++ s) h.1 ∙ subst (λ (x : Standing _). IfClosed x (s ≡ [])) h.0 k
+closed_before (Standing.Refused refusal) after v s h k = ap (λ (x : Option Value). option_to_list x ++ s) h.1
     ∙ subst (λ (x : Standing _). IfClosed x (s ≡ [])) h.0 k
 
 closed_after : {X : Type 0} (after : Standing X) (v : Option Value) (s : List Value) → (v ≡ None → IfOpen after (λ source. ⊥)) → IfClosed after (s ≡ [])
     → v ≡ None → s ≡ []
-closed_after (TheStanding.Open source) v s h k none = absurd (h none)
-closed_after TheStanding.Ended v s h k none = k
-closed_after (TheStanding.Refused refusal) v s h k none = k
+closed_after (Standing.Open source) v s h k none = absurd (h none)
+closed_after Standing.Ended v s h k none = k
+closed_after (Standing.Refused refusal) v s h k none = k
 
 -- with the next value of each, or its end, two streams compare as the course behind it says
 pub meets_more : {X Y : Type 0} (course after : Course) (left left' : Standing X) (right right' : Standing Y) (s t : List Value) (v w : Option Value)
@@ -166,15 +148,15 @@ module _ {S X T Y : Type 0} (L : Inlet S) (I : Items X) (R : Inlet T) (J : Items
   -- both are closed and the left is no refused one
   pub closed_verdict : (left left_now : S) (right right_now : T) (left_place : Standing X) (right_place : Standing Y) (course : Course) (s t : List Value) →
       Stood L I g k left left_now left_place s → Stood R J h l right right_now right_place t →
-      Meets course left_place right_place s t → ((refusal : Refusal) → left_place ≡ TheStanding.Refused refusal → ⊥) → IfOpen left_place (λ source. ⊥)
+      Meets course left_place right_place s t → ((refusal : Refusal) → left_place ≡ Standing.Refused refusal → ⊥) → IfOpen left_place (λ source. ⊥)
       → IfOpen right_place (λ source. ⊥) →
       IsCompared L R (format_of I g k) (format_of J h l) left left_now right right_now (verdict_of right_place course)
-  closed_verdict left left_now right right_now (TheStanding.Open source) right_place course s t a b meets kept closed_left closed_right = absurd closed_left
-  closed_verdict left left_now right right_now (TheStanding.Refused refusal) right_place course s t a b meets kept closed_left closed_right =
+  closed_verdict left left_now right right_now (Standing.Open source) right_place course s t a b meets kept closed_left closed_right = absurd closed_left
+  closed_verdict left left_now right right_now (Standing.Refused refusal) right_place course s t a b meets kept closed_left closed_right =
       absurd (kept refusal refl)
-  closed_verdict left left_now right right_now TheStanding.Ended (TheStanding.Open source) course s t a b meets kept closed_left closed_right =
+  closed_verdict left left_now right right_now Standing.Ended (Standing.Open source) course s t a b meets kept closed_left closed_right =
       absurd closed_right
-  closed_verdict left left_now right right_now TheStanding.Ended (TheStanding.Refused refusal) course s t a b meets kept closed_left closed_right =
+  closed_verdict left left_now right right_now Standing.Ended (Standing.Refused refusal) course s t a b meets kept closed_left closed_right =
       record {
         l = a.octets;
         left_ended = true;
@@ -184,7 +166,7 @@ module _ {S X T Y : Type 0} (L : Inlet S) (I : Items X) (R : Inlet T) (J : Items
         heard_right = b.heard;
         decided = λ more_l more_r none_l none_r. ((s, ended_all (λ x. I.denotes g k x s) a.octets more_l none_l a.denoted), (t, b.refused more_r none_r));
       }
-  closed_verdict left left_now right right_now TheStanding.Ended TheStanding.Ended course s t a b meets kept closed_left closed_right =
+  closed_verdict left left_now right right_now Standing.Ended Standing.Ended course s t a b meets kept closed_left closed_right =
       record {
         l = a.octets;
         left_ended = true;
@@ -201,15 +183,15 @@ module _ {S X T Y : Type 0} (L : Inlet S) (I : Items X) (R : Inlet T) (J : Items
   -- what was heard of a device, wherever its document stands
   stood_heard : (right right_now : T) (right_place : Standing Y) (t : List Value) → Stood R J h l right right_now right_place t → (octets : List ℕ)
       × (ended : Bool) × Heard R right right_now octets ended
-  stood_heard right right_now (TheStanding.Open source) t b = (b.each.u ++ left_of source, source.ended, b.each.heard)
-  stood_heard right right_now TheStanding.Ended t b = (b.octets, true, b.heard)
-  stood_heard right right_now (TheStanding.Refused refusal) t b = (b.octets, b.ended, b.heard)
+  stood_heard right right_now (Standing.Open source) t b = (b.each.u ++ left_of source, source.ended, b.each.heard)
+  stood_heard right right_now Standing.Ended t b = (b.octets, true, b.heard)
+  stood_heard right right_now (Standing.Refused refusal) t b = (b.octets, b.ended, b.heard)
 
   -- the left is refused, wherever the right stands
   pub left_refused : (left left_now : S) (right right_now : T) (right_place : Standing Y) (s t : List Value) (refusal : Refusal)
       → ToldRefused L (format_of I g k) left left_now s refusal →
       Stood R J h l right right_now right_place t → IsCompared L R (format_of I g k) (format_of J h l) left left_now right right_now
-      (TheVerdict.Refused Left refusal)
+      (Verdict.Refused Left refusal)
   left_refused left left_now right right_now right_place s t refusal a b =
       let heard = stood_heard right right_now right_place t b in
       record {
@@ -224,15 +206,15 @@ module _ {S X T Y : Type 0} (L : Inlet S) (I : Items X) (R : Inlet T) (J : Items
 
 work_kept : {X : Type 0} (I : Items X) (before after : Standing X) (P : Type 0) → IfOpen before (λ source. work_of I after < work_of I before)
     → IfClosed before ((after ≡ before) × P) → work_of I after ≤ work_of I before
-work_kept I (TheStanding.Open source) after P h k = omega (arith, h)
-work_kept I TheStanding.Ended after P h k = let e = ap (λ (x : Standing _). work_of I x) k.0 in omega (arith, e)
-work_kept I (TheStanding.Refused refusal) after P h k = let e = ap (λ (x : Standing _). work_of I x) k.0 in omega (arith, e)
+work_kept I (Standing.Open source) after P h k = omega (arith, h)
+work_kept I Standing.Ended after P h k = let e = ap (λ (x : Standing _). work_of I x) k.0 in omega (arith, e)
+work_kept I (Standing.Refused refusal) after P h k = let e = ap (λ (x : Standing _). work_of I x) k.0 in omega (arith, e)
 
 work_open : {X : Type 0} (I : Items X) (before after : Standing X) → IsOpen before → IfOpen before (λ source. work_of I after < work_of I before)
     → work_of I after < work_of I before
-work_open I (TheStanding.Open source) after opened h = h
-work_open I TheStanding.Ended after opened h = absurd opened
-work_open I (TheStanding.Refused refusal) after opened h = absurd opened
+work_open I (Standing.Open source) after opened h = h
+work_open I Standing.Ended after opened h = absurd opened
+work_open I (Standing.Refused refusal) after opened h = absurd opened
 
 -- where one document at least is still being read, a step of both leaves less work
 pub works_less : {X Y : Type 0} (I : Items X) (J : Items Y) (left left' : Standing X) (right right' : Standing Y) (P Q : Type 0) → IsOpen left ⊎ IsOpen right →

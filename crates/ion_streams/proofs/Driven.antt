@@ -1,24 +1,10 @@
 -- A document that is read value by value to its end, and what a visitor hears of it.
 use Rattle.std.proofs.Common.{◌≡◌, ℕ, List, [], ◌∷◌, ◌++◌, length, false, Option, Some, None, Result, Ok, Err, inr, append-nil, ap, sym, subst, ◌∙◌}
-use Rattle.ion_model.specs.declared.value.Value.{Value}
-use Rattle.ion_atoms.specs.declared.refusal.Refusal.{Refusal}
-use Rattle.ion_symtab.specs.declared.inlet.Inlet.{Ghosts as Inlet}
-use Rattle.ion_symtab.specs.declared.items.Items.{Ghosts as Items}
-use Rattle.ion_streams.specs.reading.Read.{IsReady, IsWithin, NoneFailed, NoReadFailed}
-use Rattle.ion_streams.specs.reading.Standing.{IfOpen, StoodEach, answered}
-use Rattle.ion_visiting.specs.Events.{Event, Led, ended, events_of, stream_events}
-use Rattle.ion_visiting.specs.laws.Led.{led_both, led_more}
-use Rattle.ion_streams.specs.Checked.{IsChecked, IsVisited}
-use Rattle.ion_streams.specs.Formats.{Format, format_of}
-use Rattle.ion_streams.specs.reading.Telling.{telling, ToldNext}
-use Rattle.ion_symtab.specs.Trace.{plain}
-use Rattle.ion_symtab.specs.declared.catalog.Catalog.{Catalog}
-use Rattle.ion_symtab.specs.declared.limits.Limits.{Limits}
 use Rattle.std.proofs.lemmas.Grind.{flat_map-append}
 use Rattle.std.proofs.lemmas.List.{length-map, map-append}
-use Rattle.ion_streams.specs.declared.source.Source.{Source}
-use Rattle.ion_streams.specs.declared.source.Standing.{Standing}
-use Rattle.ion_streams.specs.declared.source.Standing.TheVariants.{Open, Ended, Refused}
+use Rattle.ion_streams.specs.Names.{Catalog, Ended, Event, Format, IfOpen, Inlet, IsReady, IsWithin, Items, Led, Limits, NoReadFailed, NoneFailed, Open, Refusal, Refused, Source, Standing, StoodEach, ToldNext, Value, answered, ended, events_of, format_of, plain, stream_events, telling}
+use Rattle.ion_visiting.specs.laws.Led.{led_both, led_more}
+use Rattle.ion_streams.specs.Checked.{IsChecked, IsVisited}
 use Rattle.ion_streams.proofs.Steps.{stood_plain}
 use Rattle.ion_streams.proofs.Unfailed.{StandsHeard, stands_heard}
 

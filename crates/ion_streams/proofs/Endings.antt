@@ -2,12 +2,7 @@
 use Rattle.std.proofs.Common.{◌≡◌, ℕ, List, [], ◌++◌, length, take, drop, refl, ap, sym, subst, ◌∙◌, arith, inl, inr, Option, Some, None, Err, append_assoc, append-nil, length-append, IsSome}
 use Rattle.std.proofs.lemmas.List.{take-append-drop, take-append-le}
 use Rattle.std.proofs.Math.Seq.{take-length}
-use Rattle.ion_model.specs.declared.value.Value.{Value}
-use Rattle.ion_atoms.specs.declared.refusal.Refusal.{Refusal}
-use Rattle.ion_symtab.specs.Trace.{Trace, plain, Streams, Grows}
-use Rattle.ion_symtab.specs.Promises.{BeginsNone, Shown, Shows, Refuses, HasReasons}
-use Rattle.ion_streams.specs.Formats.{Format}
-use Rattle.ion_streams.specs.Outcomes.{IsRefused, given_all, given_last, EndsRefused}
+use Rattle.ion_streams.specs.Names.{BeginsNone, EndsRefused, Format, Grows, HasReasons, IsRefused, Refusal, Refuses, Shown, Shows, Streams, Trace, Value, given_all, given_last, plain}
 
 take_front : (w more : List ℕ) (n : ℕ) → take n w ++ (drop n w ++ more) ≡ w ++ more
 take_front w more n = sym (append_assoc (take n w) (drop n w) more) ∙ ap (λ x. x ++ more) (take-append-drop n w)

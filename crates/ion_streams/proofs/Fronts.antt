@@ -1,24 +1,8 @@
 -- What a writer took, one line after another.
 use Rattle.std.proofs.Common.{◌≡◌, ℕ, ◌+◌, List, [], ◌∷◌, ◌++◌, length, ap, sym, ◌∙◌, arith, append-nil, append_assoc}
-use Rattle.ion_model.specs.declared.value.Value.{Value}
-use Rattle.ion_model.specs.Outlines.{outline_of}
-use Rattle.ion_visiting.specs.Events.{Event}
-use Rattle.ion_model.specs.declared.outline.Outline.{Outline}
 use Rattle.std.proofs.lemmas.List.{map-append, length-map}
-use Rattle.ion_symtab.specs.Trace.{plain}
-use Rattle.ion_symtab.specs.Took.{TookFront}
+use Rattle.ion_streams.specs.Names.{Catalog, Event, GaveSoFar, Inlet, Items, Limits, Outlet, Outline, ShowsSoFar, Standing, Stood, TookFront, Value, accepted_line, at_end, at_refusal, in_reading, left_of, line_of, lines_from, lines_of, outline_of, plain, telling}
 use Rattle.ion_symtab.specs.laws.Took.{Front-more}
-use Rattle.ion_symtab.specs.declared.catalog.Catalog.{Catalog}
-use Rattle.ion_symtab.specs.declared.limits.Limits.{Limits}
-use Rattle.ion_symtab.specs.declared.inlet.Inlet.{Ghosts as Inlet}
-use Rattle.ion_symtab.specs.declared.items.Items.{Ghosts as Items}
-use Rattle.ion_symtab.specs.declared.outlet.Outlet.{Ghosts as Outlet}
-use Rattle.ion_streams.specs.Listing.{line_of, lines_from, lines_of, accepted_line, ShowsSoFar, in_reading, at_refusal, at_end}
-use Rattle.ion_streams.specs.reading.Read.{left_of, GaveSoFar}
-use Rattle.ion_streams.specs.reading.Standing.{Stood}
-use Rattle.ion_streams.specs.reading.Telling.{telling}
-use Rattle.ion_streams.specs.declared.source.Standing.{Standing}
-use Rattle.ion_streams.specs.declared.source.Standing.TheVariants as TheStanding
 
 lines_more : (index : ℕ) (s t : List Value) → lines_from index (s ++ t) ≡ lines_from index s ++ lines_from (index + length s) t
 lines_more index [] t = ap (λ n. lines_from n t) (omega arith)
@@ -64,7 +48,7 @@ module _ {S X T : Type 0} (R : Inlet S) (I : Items X) (W : Outlet T) (g : Catalo
   -- a front of the lines so far, wherever the document stands between two values
   pub so_far : (first now : S) (old new : T) (place : Standing X) (s : List Value) → Stood R (telling I []) g l first now place s
       → TookFront W.took W.written old new (lines_of s) → ShowsSoFar R I W g l first now old new
-  so_far first now old new (TheStanding.Open source) s h front =
+  so_far first now old new (Standing.Open source) s h front =
       in_reading s (gave_told R I g l first now s [] stands (record { items = source.items; left = left_of source; ended = source.ended; gave = h })) front
-  so_far first now old new (TheStanding.Refused refusal) s h front = at_refusal s refusal h front
-  so_far first now old new TheStanding.Ended s h front = at_end s h (Front-more W.took W.written old new (lines_of s) (accepted_line (length s)) front)
+  so_far first now old new (Standing.Refused refusal) s h front = at_refusal s refusal h front
+  so_far first now old new Standing.Ended s h front = at_end s h (Front-more W.took W.written old new (lines_of s) (accepted_line (length s)) front)

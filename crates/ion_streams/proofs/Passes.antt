@@ -1,21 +1,9 @@
 -- What a document gave that is read value by value.
 use Rattle.std.proofs.Common.{◌≡◌, ℕ, List, [], ◌∷◌, ◌++◌, Result, Ok, Err, IfOk, IfErr, OnErr, Option, Some, None, option_map, option_to_list, refl, ap, sym, subst, ◌∙◌, append-nil}
 use Rattle.std.proofs.lemmas.Option.{same_Some}
-use Rattle.ion_model.specs.declared.value.Value.{Value}
-use Rattle.ion_symtab.specs.declared.catalog.Catalog.{Catalog}
-use Rattle.ion_symtab.specs.declared.limits.Limits.{Limits}
-use Rattle.ion_symtab.specs.declared.inlet.Inlet.{Ghosts as Inlet}
-use Rattle.ion_symtab.specs.declared.items.Items.{Ghosts as Items}
-use Rattle.ion_symtab.specs.Trace.{given_at}
-use Rattle.ion_streams.specs.reading.Read.{left_of, Went, ReadsEach}
+use Rattle.ion_streams.specs.Names.{AValue, Catalog, Ended, Fault, GaveNext, IfClosed, IfRefused, Inlet, Items, Limits, Open, ReadsEach, Refused, Source, Standing, Stood, StoodEach, Value, Went, given_at, left_of}
 use Rattle.ion_streams.specs.reading.Reached.{Reaches}
-use Rattle.ion_streams.specs.reading.Standing.{IfClosed, IfRefused, Stood, StoodEach, GaveNext}
-use Rattle.ion_streams.specs.declared.source.Reached.TheVariants.{Value as AValue}
-use Rattle.ion_streams.specs.declared.source.Source.{Source}
-use Rattle.ion_streams.specs.declared.source.Standing.{Standing}
-use Rattle.ion_streams.specs.declared.source.Standing.TheVariants.{Open, Ended, Refused}
-use Rattle.ion_symtab.specs.declared.fault.Fault.{Fault}
-use Rattle.ion_streams.proofs.Steps.{reads_by, plain_next, stood_plain}
+use Rattle.ion_streams.proofs.Steps.{plain_next, reads_by, stood_plain}
 
 -- where there was no value
 pub none_went : {X : Type 0} (I : Items X) (source after : Source X) (found : Option Value) → found ≡ None

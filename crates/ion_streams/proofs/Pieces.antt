@@ -1,11 +1,7 @@
 -- Pieces of octets that are used from the front.
 use Rattle.std.proofs.Common.{◌≡◌, ℕ, ◌+◌, ◌-◌, ◌≤◌, List, [], ◌++◌, take, drop, refl, ap, sym, subst, ◌∙◌, arith, Option, Some, None, IsNone, append_assoc}
 use Rattle.std.proofs.lemmas.List.{take-append-drop, drop-take, drop-drop}
-use Rattle.ion_model.specs.declared.value.Value.{Value}
-use Rattle.ion_symtab.specs.Trace.{given_at}
-use Rattle.ion_symtab.specs.declared.items.Items.{Ghosts as Items}
-use Rattle.ion_streams.specs.reading.Read.{between, left_of, Begins, Went}
-use Rattle.ion_streams.specs.declared.source.Source.{Source}
+use Rattle.ion_streams.specs.Names.{Begins, Items, Source, Value, Went, between, given_at, left_of}
 
 pub between_drop : (piece : List ℕ) (at end used : ℕ) → used ≤ end - at → drop used (between piece at end) ≡ between piece (at + used) end
 between_drop piece at end used h =

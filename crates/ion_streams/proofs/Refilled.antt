@@ -3,12 +3,8 @@ use Rattle.std.proofs.Common.{◌≡◌, ℕ, ◌+◌, ◌-◌, ◌≤◌, ◌<�
 use Rattle.std.proofs.lemmas.List.{drop-take, take-take, drop-append-le, take-append-le, length-take-le}
 use Rattle.std.proofs.lemmas.Bool.Decides.{nat_tests}
 use Rattle.std.proofs.Math.Seq.{take-append-add}
-use Rattle.ion_symtab.specs.declared.inlet.Inlet.{Ghosts as Inlet}
-use Rattle.ion_symtab.specs.declared.items.Items.{Ghosts as Items}
+use Rattle.ion_streams.specs.Names.{AnsweredEnd, HasToAsk, Heard, Inlet, IsReady, Items, NoReadFailed, NoneFailed, Source, between, left_of}
 use Rattle.ion_symtab.specs.Told.{Told}
-use Rattle.ion_symtab.specs.Heard.{AnsweredEnd, Heard}
-use Rattle.ion_streams.specs.reading.Read.{between, left_of, IsReady, HasToAsk, NoneFailed, NoReadFailed}
-use Rattle.ion_streams.specs.declared.source.Source.{Source}
 use Rattle.ion_streams.proofs.Pieces.{between_nil}
 
 cut_front : (piece : List ℕ) (at end : ℕ) → at ≤ end → drop at (take end piece) ≡ between piece at end

@@ -2,27 +2,10 @@
 use Rattle.std.proofs.Common.{◌≡◌, ℕ, List, [], ◌∷◌, ◌++◌, length, sym, subst, ◌∙◌, Option, Some, None, Ok, Err}
 use Rattle.std.proofs.lemmas.Option.{same_Some}
 use Rattle.std.proofs.lemmas.List.{length-map}
-use Rattle.ion_model.specs.declared.value.Value.{Value}
-use Rattle.ion_atoms.specs.declared.refusal.Refusal.{Refusal}
-use Rattle.ion_model.specs.Outlines.{outline_of}
-use Rattle.ion_visiting.specs.Events.{Led, events_of}
-use Rattle.ion_visiting.specs.Outlining.{no_outline, outline_in, outlines}
+use Rattle.ion_streams.specs.Names.{Catalog, Ended, IfOpen, Inlet, IsShown, Items, Led, Limits, Open, Outlet, Refusal, Refused, ShowsSoFar, Standing, StoodEach, ToldNext, Took, TookFront, Value, accepted_line, answered, at_end, events_of, format_of, lines_of, no_outline, outline_in, outline_of, outlines, plain, telling}
 use Rattle.ion_visiting.specs.declared.outlining.Outlining.{Outlining}
 use Rattle.ion_visiting.specs.laws.Outlined.{value_outlined}
-use Rattle.ion_symtab.specs.Took.{Took, TookFront}
-use Rattle.ion_symtab.specs.Trace.{plain}
-use Rattle.ion_symtab.specs.laws.Took.{Took-trans, Front-behind}
-use Rattle.ion_symtab.specs.declared.catalog.Catalog.{Catalog}
-use Rattle.ion_symtab.specs.declared.limits.Limits.{Limits}
-use Rattle.ion_symtab.specs.declared.inlet.Inlet.{Ghosts as Inlet}
-use Rattle.ion_symtab.specs.declared.items.Items.{Ghosts as Items}
-use Rattle.ion_symtab.specs.declared.outlet.Outlet.{Ghosts as Outlet}
-use Rattle.ion_streams.specs.Formats.{format_of}
-use Rattle.ion_streams.specs.Listing.{lines_of, accepted_line, IsShown, ShowsSoFar, at_end}
-use Rattle.ion_streams.specs.reading.Standing.{IfOpen, StoodEach, answered}
-use Rattle.ion_streams.specs.reading.Telling.{telling, ToldNext}
-use Rattle.ion_streams.specs.declared.source.Standing.{Standing}
-use Rattle.ion_streams.specs.declared.source.Standing.TheVariants.{Open, Ended, Refused}
+use Rattle.ion_symtab.specs.laws.Took.{Front-behind, Took-trans}
 use Rattle.ion_streams.proofs.Steps.{stood_plain}
 
 -- one more was told to a visitor that outlines

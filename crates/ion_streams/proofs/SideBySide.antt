@@ -1,27 +1,9 @@
 -- Two documents that are read in turn, and the values that are written down of both.
 use Rattle.std.proofs.Common.{◌≡◌, ◌⊎◌, ℕ, ◌+◌, ◌*◌, ◌<◌, ◌≤◌, ◌^◌, List, [], ◌∷◌, ◌++◌, length, refl, sym, subst, ◌∙◌, append-nil, Bool, true, false, Result, Ok, Option, Some, None, IfSome, IsNone, is_some, option_to_list}
-use Rattle.ion_model.specs.declared.value.Value.{Value}
-use Rattle.ion_visiting.specs.Tapes.{Holds}
-use Rattle.ion_visiting.specs.declared.tape.Tape.{Tape}
-use Rattle.ion_symtab.specs.declared.catalog.Catalog.{Catalog}
-use Rattle.ion_symtab.specs.declared.limits.Limits.{Limits}
-use Rattle.ion_symtab.specs.Trace.{IsFront, Grows}
-use Rattle.ion_symtab.specs.Walks.{HasTold}
-use Rattle.ion_symtab.specs.declared.fault.Fault.{Fault}
-use Rattle.ion_symtab.specs.declared.inlet.Inlet.{Ghosts as Inlet}
-use Rattle.ion_symtab.specs.declared.items.Items.{Ghosts as Items}
-use Rattle.ion_streams.specs.Formats.{format_of}
-use Rattle.ion_streams.specs.reading.Read.{IsReady, IsWithin, HandedOn, Sought}
-use Rattle.ion_streams.specs.reading.Standing.{IfOpen, IsOpen, IfClosed, work_of, reads_of, Stood, StoodEach}
-use Rattle.ion_streams.specs.reading.Courses.{AreHeld, IfAlike, IsMet, count_of}
-use Rattle.ion_streams.specs.reading.Telling.{telling, TapedNext}
-use Rattle.ion_streams.specs.declared.comparison.Course.{Course}
-use Rattle.ion_streams.specs.declared.comparison.Course.TheVariants as courses
-use Rattle.ion_streams.specs.declared.source.Standing.{Standing}
-use Rattle.ion_streams.specs.declared.source.Standing.TheVariants.{Open, Ended, Refused}
+use Rattle.ion_streams.specs.Names.{AreHeld, Catalog, Course, Ended, Fault, Grows, HandedOn, HasTold, Holds, IfAlike, IfClosed, IfOpen, Inlet, IsFront, IsMet, IsOpen, IsReady, IsWithin, Items, Limits, Open, Refused, Sought, Standing, Stood, StoodEach, Tape, TapedNext, Value, count_of, format_of, reads_of, telling, work_of}
 use Rattle.ion_streams.proofs.Courses.{Meets, meets_more}
 use Rattle.ion_streams.proofs.Steps.{plain_next, stood_plain}
-use Rattle.ion_streams.proofs.Turns.{WasAsked, Turn, ahead, level_on, left_on, right_on}
+use Rattle.ion_streams.proofs.Turns.{Turn, WasAsked, ahead, left_on, level_on, right_on}
 use Rattle.ion_streams.proofs.Unfailed.{StandsHeard, StandsHeardSince}
 
 -- what is answered of a document that is closed: no more, and all is as it was
@@ -57,15 +39,15 @@ pub are_held : {X Y : Type 0} (course : Course) (left left' : Standing X) (right
     → (compared ≡ false → IfAlike course (λ n. IfOpen left (λ source. IfOpen right (λ source. ⊥)))) → IfClosed left ((left' ≡ left) × (v ≡ None))
     → IfClosed right ((right' ≡ right) × (w ≡ None)) → (compared ≡ true → IfSome v (Holds t)) → (compared ≡ true → IfSome w (Holds u))
     → IfAlike course (λ n. AreHeld t u v w)
-are_held (courses.Parted index path) left left' right right' compared t u v w not a b h k = tt
-are_held (courses.Alike n) left left' right right' compared t u None w not a b h k = tt
-are_held (courses.Alike n) left left' right right' compared t u (Some v) None not a b h k = tt
-are_held (courses.Alike n) left left' right right' true t u (Some v) (Some w) not a b h k = (h refl, k refl)
-are_held (courses.Alike n) (Open source) left' (Open other) right' false t u (Some v) (Some w) not a b h k = absurd (not refl)
-are_held (courses.Alike n) (Open source) left' Ended right' false t u (Some v) (Some w) not a b h k = absurd (let e = b.1 in cc)
-are_held (courses.Alike n) (Open source) left' (Refused r) right' false t u (Some v) (Some w) not a b h k = absurd (let e = b.1 in cc)
-are_held (courses.Alike n) Ended left' right right' false t u (Some v) (Some w) not a b h k = absurd (let e = a.1 in cc)
-are_held (courses.Alike n) (Refused r) left' right right' false t u (Some v) (Some w) not a b h k = absurd (let e = a.1 in cc)
+are_held (Course.Parted index path) left left' right right' compared t u v w not a b h k = tt
+are_held (Course.Alike n) left left' right right' compared t u None w not a b h k = tt
+are_held (Course.Alike n) left left' right right' compared t u (Some v) None not a b h k = tt
+are_held (Course.Alike n) left left' right right' true t u (Some v) (Some w) not a b h k = (h refl, k refl)
+are_held (Course.Alike n) (Open source) left' (Open other) right' false t u (Some v) (Some w) not a b h k = absurd (not refl)
+are_held (Course.Alike n) (Open source) left' Ended right' false t u (Some v) (Some w) not a b h k = absurd (let e = b.1 in cc)
+are_held (Course.Alike n) (Open source) left' (Refused r) right' false t u (Some v) (Some w) not a b h k = absurd (let e = b.1 in cc)
+are_held (Course.Alike n) Ended left' right right' false t u (Some v) (Some w) not a b h k = absurd (let e = a.1 in cc)
+are_held (Course.Alike n) (Refused r) left' right right' false t u (Some v) (Some w) not a b h k = absurd (let e = a.1 in cc)
 
 -- a document that can be read on can be walked on
 pub ready_told : {X : Type 0} (I : Items X) (place : Standing X) → IfOpen place (IsReady I) → IfOpen place (IsReady (telling I []))

@@ -1,24 +1,10 @@
 -- How far a document has been read, step by step.
 use Rattle.std.proofs.Common.{◌≡◌, ◌⊎◌, inl, inr, ℕ, ◌+◌, ◌^◌, ◌≤◌, List, [], ◌∷◌, ◌++◌, length, refl, ap, sym, subst, ◌∙◌, arith, Bool, true, false, Option, Some, None, option_map, option_to_list, append-nil, append_assoc, Result, Ok, Err, OnErr}
 use Rattle.std.proofs.lemmas.List.{map-append}
-use Rattle.ion_model.specs.declared.value.Value.{Value}
-use Rattle.ion_atoms.specs.declared.refusal.Refusal.{Refusal}
-use Rattle.ion_symtab.specs.declared.catalog.Catalog.{Catalog}
-use Rattle.ion_symtab.specs.declared.limits.Limits.{Limits}
-use Rattle.ion_symtab.specs.declared.inlet.Inlet.{Ghosts as Inlet}
-use Rattle.ion_symtab.specs.declared.items.Items.{Ghosts as Items}
-use Rattle.ion_symtab.specs.Trace.{plain, given_at}
-use Rattle.ion_symtab.specs.Heard.{Heard}
-use Rattle.ion_symtab.specs.laws.Heard.{Heard-nil, Heard-trans, Heard-end}
+use Rattle.ion_streams.specs.Names.{Begins, Catalog, EndsRefused, Fills, GaveEach, GaveSoFar, Heard, IfRefused, Inlet, IsReady, IsWithin, Items, Limits, MatchClosed, Reads, ReadsEach, Refills, Refusal, Source, Standing, Stood, StoodEach, ToldEach, ToldRefusedEach, Value, Went, format_of, given_at, left_of, plain}
 use Rattle.ion_symtab.specs.laws.Causes.{WereMade-nil}
-use Rattle.ion_streams.specs.Formats.{format_of}
-use Rattle.ion_streams.specs.reading.Read.{left_of, Begins, IsReady, IsWithin, Went, GaveEach, GaveSoFar, Reads, ReadsEach}
-use Rattle.ion_streams.specs.reading.Refilled.{Fills, Refills}
-use Rattle.ion_streams.specs.Outcomes.{EndsWell, EndsRefused, ToldEach, ToldRefusedEach}
-use Rattle.ion_streams.specs.reading.Standing.{IfRefused, MatchClosed, Stood, StoodEach}
-use Rattle.ion_streams.specs.declared.source.Source.{Source}
-use Rattle.ion_streams.specs.declared.source.Standing.{Standing}
-use Rattle.ion_streams.specs.declared.source.Standing.TheVariants as TheStanding
+use Rattle.ion_symtab.specs.laws.Heard.{Heard-end, Heard-nil, Heard-trans}
+use Rattle.ion_streams.specs.Outcomes.{EndsWell}
 
 -- what is so whatever a call answers is so where it answers a fault or a refusal
 pub on_err : {A E : Type 0} (result : Result A E) (P : Type 0) → P → OnErr result P
@@ -145,10 +131,10 @@ module _ {S X : Type 0} (R : Inlet S) (I : Items X) (g : Catalog) (l : Limits) w
       MatchClosed place (EndsWell (format_of I (I.catalog source.items) (I.limits source.items)) h.u (given ++ option_to_list last))
       (λ r. (last ≡ None) × EndsRefused (format_of I (I.catalog source.items) (I.limits source.items)) h.u given r) →
       StoodEach R I g l first now place (given ++ option_to_list last)
-  last_gives first now source given (TheStanding.Open after) last empty h ends = absurd ends
-  last_gives first now source given TheStanding.Ended last empty h ends =
+  last_gives first now source given (Standing.Open after) last empty h ends = absurd ends
+  last_gives first now source given Standing.Ended last empty h ends =
       reads_ended first now source.items (left_of source) given (given ++ option_to_list last) h empty (rw (h.under, h.within) at ends)
-  last_gives first now source given (TheStanding.Refused r) last empty h ends =
+  last_gives first now source given (Standing.Refused r) last empty h ends =
       let nothing : option_to_list last ≡ [] = ap (λ (x : Option (Value × ℕ)). option_to_list x) ends.0 in
       subst (λ (x : List (Value × ℕ)). ToldRefusedEach R (format_of I g l) first now x r) (sym (ap (λ x. given ++ x) nothing ∙ append-nil given))
       (reads_stopped first now source.items (left_of source) given r h empty (rw (h.under, h.within) at ends.1))
@@ -157,16 +143,16 @@ module _ {S X : Type 0} (R : Inlet S) (I : Items X) (g : Catalog) (l : Limits) w
   pub last_refused : (u : List ℕ) (source : Source X) (given : List (Value × ℕ)) (place : Standing X) (last : Option (Value × ℕ)) →
       MatchClosed place (EndsWell (format_of I (I.catalog source.items) (I.limits source.items)) u (given ++ option_to_list last))
       (λ r. (last ≡ None) × EndsRefused (format_of I (I.catalog source.items) (I.limits source.items)) u given r) → IfRefused place (last ≡ None)
-  last_refused u source given (TheStanding.Open after) last ends = tt
-  last_refused u source given TheStanding.Ended last ends = tt
-  last_refused u source given (TheStanding.Refused r) last ends = ends.0
+  last_refused u source given (Standing.Open after) last ends = tt
+  last_refused u source given Standing.Ended last ends = tt
+  last_refused u source given (Standing.Refused r) last ends = ends.0
 
   -- the values alone, wherever the document stands
   pub stood_plain : (first now : S) (place : Standing X) (given : List (Value × ℕ)) → StoodEach R I g l first now place given
       → Stood R I g l first now place (plain given)
-  stood_plain first now (TheStanding.Open source) given h = record { given = given; each = h; values = refl }
-  stood_plain first now TheStanding.Ended given h = record { octets = h.octets; told = h.told; heard = h.heard; denoted = h.ends.denoted }
-  stood_plain first now (TheStanding.Refused refusal) given h =
+  stood_plain first now (Standing.Open source) given h = record { given = given; each = h; values = refl }
+  stood_plain first now Standing.Ended given h = record { octets = h.octets; told = h.told; heard = h.heard; denoted = h.ends.denoted }
+  stood_plain first now (Standing.Refused refusal) given h =
       record { octets = h.octets; ended = h.ended; heard = h.heard; refused = λ more may. (h.ends more may).refused }
 
 -- nothing was read yet

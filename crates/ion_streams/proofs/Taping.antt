@@ -1,29 +1,13 @@
 -- What is made of values that tapes hold.
 use Rattle.std.proofs.Common.{◌≡◌, ℕ, ◌+◌, ◌++◌, [], List, Bool, true, false, Option, Some, None, is_some, refl, ap, sym, subst, ◌∙◌}
 use Rattle.std.proofs.lemmas.Option.{same_Some}
-use Rattle.ion_model.specs.declared.value.Value.{Value}
-use Rattle.ion_model.specs.Same.{same}
-use Rattle.ion_model.specs.Parting.{IsPath}
+use Rattle.ion_streams.specs.Names.{Alike, AreHeld, Built, Catalog, Course, Event, Holds, Inlet, IsBlank, IsMet, IsPath, Items, Led, Limits, MetBoth, Part, Parted, Standing, Tape, TapedNext, ToldNext, Value, builds, events_in, events_of, fresh, same, tapes, value_in}
 use Rattle.ion_model.specs.laws.Equivalence.{same-equiv}
-use Rattle.ion_model.specs.declared.path.Part.{Part}
-use Rattle.ion_visiting.specs.Building.{Built, builds, fresh, value_in}
-use Rattle.ion_visiting.specs.Events.{Event, Led, events_of}
 use Rattle.ion_visiting.specs.Following.{StartsOn, follows}
-use Rattle.ion_visiting.specs.Tapes.{Holds, IsBlank, events_in, tapes}
 use Rattle.ion_visiting.specs.declared.following.Following.{Following}
-use Rattle.ion_visiting.specs.declared.tape.Tape.{Tape}
 use Rattle.ion_visiting.specs.laws.Built.{events_one, value_built}
 use Rattle.ion_visiting.proofs.Followed.{followed}
 use Rattle.ion_visiting.proofs.Taped.{value_tells, value_wrote}
-use Rattle.ion_symtab.specs.declared.catalog.Catalog.{Catalog}
-use Rattle.ion_symtab.specs.declared.limits.Limits.{Limits}
-use Rattle.ion_symtab.specs.declared.inlet.Inlet.{Ghosts as Inlet}
-use Rattle.ion_symtab.specs.declared.items.Items.{Ghosts as Items}
-use Rattle.ion_streams.specs.reading.Courses.{AreHeld, IsMet, MetBoth}
-use Rattle.ion_streams.specs.reading.Telling.{TapedNext, ToldNext}
-use Rattle.ion_streams.specs.declared.comparison.Course.{Course}
-use Rattle.ion_streams.specs.declared.comparison.Course.TheVariants.{Alike, Parted}
-use Rattle.ion_streams.specs.declared.source.Standing.{Standing}
 
 -- what is built of what a tape tells is the value that it holds
 pub built_on : (t : Tape) (v w : Value) (a b : Built) → a ≡ fresh → Led builds (events_in t) a b → value_in b.place ≡ Some w → Holds t v → w ≡ v

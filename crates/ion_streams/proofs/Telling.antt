@@ -1,29 +1,9 @@
 -- What was told of a document that is read by walks.
 use Rattle.std.proofs.Common.{◌≡◌, ℕ, ◌+◌, ◌-◌, ◌≤◌, List, [], ◌∷◌, ◌++◌, length, take, Bool, true, false, Option, Some, None, Ok, ap, sym, subst, ◌∙◌, append-nil}
 use Rattle.std.proofs.lemmas.Option.{same_Some}
-use Rattle.ion_model.specs.declared.value.Value.{Value}
-use Rattle.ion_visiting.specs.Events.{Event, Led, events_of}
-use Rattle.ion_visiting.specs.Tables.{Hears}
+use Rattle.ion_streams.specs.Names.{AValue, Catalog, End, Ended, EndsBy, EndsOn, EndsRefused, Event, Format, GaveSoFar, Grows, HasTold, Heard, Hears, Inlet, IsReady, Items, LastAskedFor, Led, Limits, Open, ReachesBy, ReadsEach, Refills, Refusal, Refused, Source, Standing, StoodEach, Streams, ToldNext, ToldRefusedEach, Value, WalksOn, WentBy, between, events_of, format_of, given_at, given_last, left_of, plain, telling}
 use Rattle.ion_visiting.specs.laws.Filters.{hears_both}
-use Rattle.ion_atoms.specs.declared.refusal.Refusal.{Refusal}
-use Rattle.ion_symtab.specs.Heard.{Heard}
-use Rattle.ion_symtab.specs.Trace.{plain, given_at, Grows, Streams}
-use Rattle.ion_symtab.specs.Walks.{EndsOn, HasTold, WalksOn}
-use Rattle.ion_symtab.specs.declared.catalog.Catalog.{Catalog}
-use Rattle.ion_symtab.specs.declared.limits.Limits.{Limits}
-use Rattle.ion_symtab.specs.declared.inlet.Inlet.{Ghosts as Inlet}
-use Rattle.ion_symtab.specs.declared.items.Items.{Ghosts as Items}
-use Rattle.ion_streams.specs.Formats.{Format, format_of}
-use Rattle.ion_streams.specs.InTurn.{LastAskedFor}
-use Rattle.ion_streams.specs.Outcomes.{EndsWell, EndsRefused, ToldRefusedEach, given_last}
-use Rattle.ion_streams.specs.reading.Read.{between, left_of, IsReady, GaveSoFar, ReadsEach}
-use Rattle.ion_streams.specs.reading.Refilled.{Refills}
-use Rattle.ion_streams.specs.reading.Standing.{StoodEach}
-use Rattle.ion_streams.specs.reading.Telling.{telling, WentBy, ReachesBy, ToldNext, EndsBy}
-use Rattle.ion_streams.specs.declared.source.Reached.TheVariants.{Value as AValue, End}
-use Rattle.ion_streams.specs.declared.source.Source.{Source}
-use Rattle.ion_streams.specs.declared.source.Standing.{Standing}
-use Rattle.ion_streams.specs.declared.source.Standing.TheVariants.{Open, Ended, Refused}
+use Rattle.ion_streams.specs.Outcomes.{EndsWell}
 use Rattle.ion_streams.proofs.Pieces.{went}
 use Rattle.ion_streams.proofs.Steps.{gave_so_far, kept_so_far, reads_by, reads_ended, reads_failed, reads_refilled, reads_stopped}
 use Rattle.ion_streams.proofs.Turns.{asked_next}

@@ -1,21 +1,7 @@
 -- When devices were asked, and how often they answered an end.
 use Rattle.std.proofs.Common.{◌≡◌, ◌⊎◌, inl, inr, ℕ, ◌+◌, ◌<◌, ◌≤◌, List, [], ◌∷◌, ◌++◌, length, refl, ap, sym, subst, ◌∙◌, arith, Bool, true, false, Option, Some, None, IfSome, IsNone, option_to_list, append-nil, append_assoc, length-append}
 use Rattle.std.proofs.lemmas.List.{length-map}
-use Rattle.ion_model.specs.declared.value.Value.{Value}
-use Rattle.ion_symtab.specs.Heard.{Heard, AnsweredEnd}
-use Rattle.ion_symtab.specs.Trace.{IsFront, Grows, plain}
-use Rattle.ion_symtab.specs.declared.catalog.Catalog.{Catalog}
-use Rattle.ion_symtab.specs.declared.limits.Limits.{Limits}
-use Rattle.ion_symtab.specs.declared.inlet.Inlet.{Ghosts as Inlet}
-use Rattle.ion_symtab.specs.declared.items.Items.{Ghosts as Items}
-use Rattle.ion_streams.specs.Formats.{Format, format_of}
-use Rattle.ion_streams.specs.InTurn.{LastAskedFor, IsInTurn, unasked, behind_end, behind_values}
-use Rattle.ion_streams.specs.Outcomes.{AtOneEnd}
-use Rattle.ion_streams.specs.reading.Read.{left_of, IsReady, GaveSoFar, HandedOn, Sought, Reads}
-use Rattle.ion_streams.specs.reading.Standing.{IfOpen, IfClosed, Stood, StoodEach}
-use Rattle.ion_streams.specs.declared.source.Source.{Source}
-use Rattle.ion_streams.specs.declared.source.Standing.{Standing}
-use Rattle.ion_streams.specs.declared.source.Standing.TheVariants.{Open, Ended, Refused}
+use Rattle.ion_streams.specs.Names.{AnsweredEnd, AtOneEnd, Catalog, Ended, Format, GaveSoFar, Grows, HandedOn, Heard, IfClosed, IfOpen, Inlet, IsFront, IsInTurn, IsReady, Items, LastAskedFor, Limits, Open, Reads, Refused, Sought, Source, Standing, Stood, StoodEach, Value, behind_end, behind_values, format_of, left_of, plain, unasked}
 use Rattle.ion_streams.proofs.Loads.{front_of}
 use Rattle.ion_streams.proofs.Pieces.{between_nil, none_awaited}
 use Rattle.ion_streams.proofs.Steps.{stood_plain}

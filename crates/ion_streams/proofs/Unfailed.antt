@@ -1,13 +1,6 @@
 -- Reads of a device that were all answered.
 use Rattle.std.proofs.Common.{◌≡◌, ◌⊎◌, inl, inr, ap, sym, ◌∙◌, arith, false, Option, Some, None, IsNone, IsSome, refl}
-use Rattle.ion_model.specs.declared.value.Value.{Value}
-use Rattle.ion_symtab.specs.declared.inlet.Inlet.{Ghosts as Inlet}
-use Rattle.ion_symtab.specs.declared.items.Items.{Ghosts as Items}
-use Rattle.ion_streams.specs.reading.Read.{HasToAsk, NoneFailed, NoReadFailed}
-use Rattle.ion_streams.specs.reading.Standing.{IfOpen, StandsUnread}
-use Rattle.ion_streams.specs.declared.source.Source.{Source}
-use Rattle.ion_streams.specs.declared.source.Standing.{Standing}
-use Rattle.ion_streams.specs.declared.source.Standing.TheVariants.{Open, Ended, Refused}
+use Rattle.ion_streams.specs.Names.{Ended, HasToAsk, IfOpen, Inlet, Items, NoReadFailed, NoneFailed, Open, Refused, Source, Standing, StandsUnread, Value}
 
 -- what can't be there is none
 pub none_there : {A : Type 0} (found : Option A) → (IsSome found → ⊥) → found ≡ None

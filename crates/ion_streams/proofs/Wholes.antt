@@ -2,19 +2,9 @@
 use Rattle.std.proofs.Common.{◌≡◌, ◌≢◌, ℕ, ◌+◌, ◌-◌, ◌≤◌, List, [], ◌++◌, length, take, drop, refl, ap, sym, subst, ◌∙◌, arith, Option, Some, None, Err, option_to_list, append-nil, length-take, length-drop}
 use Rattle.std.proofs.lemmas.List.{take-append-drop, drop-drop}
 use Rattle.std.proofs.Math.Seq.{take-length, take-add}
-use Rattle.ion_model.specs.declared.value.Value.{Value}
-use Rattle.ion_atoms.specs.declared.refusal.Refusal.{Refusal}
-use Rattle.ion_atoms.specs.declared.refusal.Reason.TheVariants as reasons
-use Rattle.ion_symtab.specs.declared.catalog.Catalog.{Catalog}
-use Rattle.ion_symtab.specs.declared.limits.Limits.{Limits}
-use Rattle.ion_symtab.specs.declared.items.Items.{Ghosts as Items}
-use Rattle.ion_symtab.specs.Trace.{plain, given_at, Answers, Finishes, Grows, Streams}
-use Rattle.ion_symtab.specs.Promises.{Refuses, Shows, HasReasons}
-use Rattle.ion_streams.specs.Formats.{format_of}
-use Rattle.ion_streams.specs.Outcomes.{IsRefused}
-use Rattle.ion_streams.specs.reading.Read.{Begins}
-use Rattle.ion_streams.proofs.Steps.{plain_next}
+use Rattle.ion_streams.specs.Names.{Answers, Begins, Catalog, Finishes, Grows, HasReasons, IsRefused, Items, Limits, Reason, Refusal, Refuses, Shows, Streams, Value, format_of, given_at, plain}
 use Rattle.ion_streams.proofs.Endings.{refused_early, refused_late}
+use Rattle.ion_streams.proofs.Steps.{plain_next}
 
 -- Under this catalog and these limits so many octets from the front were used, and gave these values.
 pub record IsTaken {X : Type 0} (I : Items X) (g : Catalog) (l : Limits) (octets : List ℕ) (items : X) (used : ℕ) (s : List Value) : Type 0 where
@@ -78,7 +68,7 @@ module _ {X : Type 0} (I : Items X) (counted : (r : X) (u : List ℕ) (s : List 
       subst (λ (x : List ℕ). I.stands items x h.given) (ap (λ (n : ℕ). take n octets) same ∙ take-length octets) h.stood
 
   -- a step refused
-  pub taken_refused : (items : X) (used : ℕ) (s : List Value) (r : Refusal) → IsTaken I g l octets items used s → r.reason ≢ reasons.Memory →
+  pub taken_refused : (items : X) (used : ℕ) (s : List Value) (r : Refusal) → IsTaken I g l octets items used s → r.reason ≢ Reason.Memory →
       ((u : List ℕ) (t : List (Value × ℕ)) → I.stands items u t → Answers (I.trace (I.catalog items) (I.limits items)) u t (drop used octets) (Err r)) →
       ((u : List ℕ) → HasReasons (I.trace g l u)) →
       ((u : List ℕ) (q : Refusal) → (I.trace g l u).refused ≡ Some q → Refuses (I.denotes g l) (I.pieces g l) u (I.trace g l u) q) →
@@ -91,7 +81,7 @@ module _ {X : Type 0} (I : Items X) (counted : (r : X) (u : List ℕ) (s : List 
 
   -- the end was none of a document
   pub taken_stopped : (items : X) (used : ℕ) (s : List Value) (r : Refusal) → IsTaken I g l octets items used s → length octets ≤ used
-      → r.reason ≢ reasons.Memory →
+      → r.reason ≢ Reason.Memory →
       ((u : List ℕ) (t : List (Value × ℕ)) → I.stands items u t → Finishes (I.trace (I.catalog items) (I.limits items)) u (Err r)) →
       ((u : List ℕ) (t : List (Value × ℕ)) → I.stands items u t → (I.trace (I.catalog items) (I.limits items) u).given ≡ t) →
       ((u : List ℕ) → HasReasons (I.trace g l u)) →

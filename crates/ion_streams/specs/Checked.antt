@@ -1,11 +1,6 @@
 -- What a check of a document answers, and what a visitor is told of it.
 use Rattle.std.specs.Prelude.{◌≡◌, ℕ, List, length, Result, Ok, Err}
-use Rattle.ion_model.specs.declared.value.Value.{Value}
-use Rattle.ion_visiting.specs.Events.{Event, Led, stream_events}
-use Rattle.ion_atoms.specs.declared.refusal.Refusal.{Refusal}
-use Rattle.ion_symtab.specs.declared.inlet.Inlet.{Ghosts as Inlet}
-use Rattle.ion_streams.specs.Formats.{Format}
-use Rattle.ion_streams.specs.Outcomes.{ToldDocument, ToldRefused}
+use Rattle.ion_streams.specs.Names.{Event, Format, Inlet, Led, Refusal, ToldDocument, ToldRefused, Value, stream_events}
 
 -- the octets that the device handed over denote so many values, or they are no document
 abbrev pub IsChecked : {S : Type 0} → Inlet S → Format → S → S → Result ℕ Refusal → Type 0

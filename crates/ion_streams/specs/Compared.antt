@@ -1,17 +1,8 @@
 -- What comparing two documents answers.
 use Rattle.std.specs.Prelude.{◌≡◌, ℕ, ◌+◌, ◌-◌, List, [], ◌∷◌, ◌++◌, length, slice_get, Bool, true, if◌then◌else◌, Option, Some, None, option_map}
 use lib.Pointwise.{pointwise}
-use Rattle.ion_model.specs.declared.value.Value.{Value}
-use Rattle.ion_model.specs.Same.{same}
-use Rattle.ion_model.specs.Parting.{IsPath}
-use Rattle.ion_model.specs.declared.path.Part.{Part}
-use Rattle.ion_symtab.specs.Heard.{Heard, MayFollow}
-use Rattle.ion_symtab.specs.declared.inlet.Inlet.{Ghosts as Inlet}
-use Rattle.ion_streams.specs.Formats.{Format}
-use Rattle.ion_streams.specs.Outcomes.{IsRefused}
-use Rattle.ion_streams.specs.declared.comparison.Verdict.{Verdict}
-use Rattle.ion_streams.specs.declared.comparison.Verdict.TheVariants.{Equivalent, Different, Refused}
-use Rattle.ion_streams.specs.declared.comparison.Side.TheVariants.{Left, Right}
+use Rattle.ion_streams.specs.Names.{Format, Heard, Inlet, IsPath, IsRefused, Left, MayFollow, Part, Right, Value, Verdict, same}
+use Rattle.ion_streams.specs.declared.comparison.Verdict.TheVariants.{Different, Equivalent, Refused}
 
 -- the first place, from 1, where the values aren't the same or only one stream has ended
 abbrev pub parts : List Value → List Value → Option ℕ

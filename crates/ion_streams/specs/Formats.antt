@@ -1,10 +1,6 @@
 -- What octets are to a reader of documents.
 use Rattle.std.specs.Prelude.{ℕ, List}
-use Rattle.ion_model.specs.declared.value.Value.{Value}
-use Rattle.ion_symtab.specs.Trace.{Trace}
-use Rattle.ion_symtab.specs.declared.catalog.Catalog.{Catalog}
-use Rattle.ion_symtab.specs.declared.limits.Limits.{Limits}
-use Rattle.ion_symtab.specs.declared.items.Items.{Ghosts as Items}
+use Rattle.ion_streams.specs.Names.Below.{Catalog, Items, Limits, Trace, Value}
 
 -- a format of documents
 pub record Format : Type 1 where

@@ -1,7 +1,6 @@
 -- When the device of a right side may be asked.
 use Rattle.std.specs.Prelude.{◌≡◌, ℕ, ◌+◌, ◌<◌, ◌≤◌, List, ◌++◌, length}
-use Rattle.ion_model.specs.declared.value.Value.{Value}
-use Rattle.ion_symtab.specs.declared.inlet.Inlet.{Ghosts as Inlet}
+use Rattle.ion_streams.specs.Names.Below.{Inlet, Value}
 use Rattle.ion_streams.specs.Formats.{Format}
 use Rattle.ion_streams.specs.Outcomes.{ToldDocument}
 

@@ -6,3 +6,4 @@ pub mod InTurn
 pub mod Loaded
 pub mod Listing
 pub mod reading
+pub mod Names

@@ -1,22 +1,12 @@
 -- What showing a document writes.
 use Rattle.std.specs.Prelude.{◌≡◌, ℕ, ◌+◌, codes, List, [], ◌++◌, ◌∷◌, length, Result, Ok, Err, true, ⊤}
 use Rattle.std.specs.Fmt.{decimal}
-use Rattle.ion_model.specs.declared.value.Value.{Value}
+use Rattle.ion_streams.specs.Names.Below.{Catalog, Fault, Inlet, Items, Limits, Outlet, Outline, Refusal, Took, TookFront, Value, outline_of}
 use Rattle.ion_atoms.specs.Kinds.{kind_name}
-use Rattle.ion_model.specs.Outlines.{outline_of}
-use Rattle.ion_model.specs.declared.outline.Outline.{Outline}
-use Rattle.ion_atoms.specs.declared.refusal.Refusal.{Refusal}
-use Rattle.ion_symtab.specs.declared.fault.Fault.{Fault}
-use Rattle.ion_symtab.specs.declared.fault.Fault.TheVariants.{Memory, Read, Write, TooManyReads, TooLarge, Open}
-use Rattle.ion_symtab.specs.declared.catalog.Catalog.{Catalog}
-use Rattle.ion_symtab.specs.declared.limits.Limits.{Limits}
-use Rattle.ion_symtab.specs.declared.inlet.Inlet.{Ghosts as Inlet}
-use Rattle.ion_symtab.specs.declared.items.Items.{Ghosts as Items}
-use Rattle.ion_symtab.specs.declared.outlet.Outlet.{Ghosts as Outlet}
-use Rattle.ion_symtab.specs.Took.{Took, TookFront}
+use Rattle.ion_symtab.specs.declared.fault.Fault.TheVariants.{Memory, Open, Read, TooLarge, TooManyReads, Write}
 use Rattle.ion_streams.specs.Formats.{Format, format_of}
-use Rattle.ion_streams.specs.reading.Read.{GaveSoFar}
 use Rattle.ion_streams.specs.Outcomes.{ToldDocument, ToldRefused}
+use Rattle.ion_streams.specs.reading.Read.{GaveSoFar}
 
 -- the line of the value with this index and outline
 unfoldable pub line_of : ℕ → Outline → List ℕ

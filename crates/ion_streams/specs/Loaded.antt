@@ -1,17 +1,11 @@
 -- What loading a catalog from a document answers (Ion 1.0, "Symbols", "Shared Symbol Tables").
 use Rattle.std.specs.Prelude.{◌≡◌, ◌⊎◌, ℕ, List, [], ◌∷◌, ◌++◌, map, Bool, if◌then◌else◌, is_some, None, Result, Ok, Err}
 use Rattle.std.specs.List.{Contains}
-use Rattle.ion_model.specs.declared.value.Value.{Value}
-use Rattle.ion_atoms.specs.declared.refusal.Reason.{Reason}
-use Rattle.ion_atoms.specs.declared.refusal.Reason.TheVariants.{DuplicateTable}
-use Rattle.ion_atoms.specs.declared.refusal.Refusal.{Refusal}
-use Rattle.ion_symtab.specs.Heard.{Heard, MayFollow}
+use Rattle.ion_streams.specs.Names.Below.{DuplicateTable, Heard, Inlet, MayFollow, Reason, Refusal, Table, Value, find}
 use Rattle.ion_symtab.specs.Next.{and_then}
 use Rattle.ion_symtab.specs.Shared.{shared_table}
-use Rattle.ion_symtab.specs.Tables.{Table, find}
-use Rattle.ion_symtab.specs.declared.inlet.Inlet.{Ghosts as Inlet}
 use Rattle.ion_streams.specs.Formats.{Format}
-use Rattle.ion_streams.specs.Outcomes.{IsRefused, EndsWell, given_all}
+use Rattle.ion_streams.specs.Outcomes.{EndsWell, IsRefused, given_all}
 
 -- a table behind others, none of which may have its name and version
 abbrev pub with_table : List Table → Table → Result (List Table) Reason

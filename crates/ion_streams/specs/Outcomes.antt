@@ -1,12 +1,6 @@
 -- How a document on a device can turn out.
 use Rattle.std.specs.Prelude.{◌≡◌, ℕ, ◌≤◌, ◌⊎◌, List, [], ◌∷◌, ◌++◌, length, take, Bool, true, Option, Some, None, Result, Ok, Err}
-use Rattle.ion_model.specs.declared.value.Value.{Value}
-use Rattle.ion_atoms.specs.declared.refusal.Refusal.{Refusal}
-use Rattle.ion_atoms.specs.declared.refusal.Reason.TheVariants.{Incomplete}
-use Rattle.ion_symtab.specs.Promises.{BeginsNone, Shown, IsReadersReason}
-use Rattle.ion_symtab.specs.Trace.{Trace, plain, given_at}
-use Rattle.ion_symtab.specs.Heard.{Heard, MayFollow}
-use Rattle.ion_symtab.specs.declared.inlet.Inlet.{Ghosts as Inlet}
+use Rattle.ion_streams.specs.Names.Below.{BeginsNone, Heard, Incomplete, Inlet, IsReadersReason, MayFollow, Refusal, Shown, Trace, Value, given_at, plain}
 use Rattle.ion_streams.specs.Formats.{Format}
 
 -- between old and now the device answered its end at most once, and then behind all octets that it had handed over

@@ -1,11 +1,7 @@
 //! All values of a document.
 ghost use Rattle.std.specs.Prelude.{◌≡◌, ◌≢◌, ◌+◌, ◌^◌, ◌<◌, ◌≤◌, ◌++◌, false, List, length, IfOk, IfErr, MatchResult, OnOk, option_to_list, ◌*◌};
-ghost use Rattle.ion_model.specs.declared.value.Value.{Value};
+ghost use Rattle.ion_streams.specs.Names.{AtOneEnd, IsFresh, IsReadCause, IsRefused, ToldDocument, ToldRefused, Value, format_of};
 ghost use Rattle.ion_atoms.specs.declared.refusal.Reason.TheVariants as reasons;
-ghost use Rattle.ion_symtab.specs.Cause.{IsReadCause};
-ghost use Rattle.ion_streams.specs.Formats.{format_of};
-ghost use Rattle.ion_streams.specs.reading.Read.{IsFresh};
-ghost use Rattle.ion_streams.specs.Outcomes.{AtOneEnd, IsRefused, ToldDocument, ToldRefused};
 
 use crate::source::{Source, Standing};
 use ion_model::{Reason, Refusal, Value};

@@ -1,11 +1,7 @@
 //! Catalogs from documents.
 ghost use Rattle.std.specs.Prelude.{◌≡◌, ◌⊎◌, ◌+◌, ◌^◌, ◌≤◌, false, OnOk, IfOk, IfErr, MatchResult, Ok, Err, [], ◌∷◌, length, ◌*◌};
+ghost use Rattle.ion_streams.specs.Names.{AtOneEnd, IsFresh, IsLoaded, IsReadCause, added, catalog_of, format_of};
 ghost use Rattle.ion_atoms.specs.declared.refusal.Reason.TheVariants as reasons;
-ghost use Rattle.ion_symtab.specs.Cause.{IsReadCause};
-ghost use Rattle.ion_streams.specs.Formats.{format_of};
-ghost use Rattle.ion_streams.specs.reading.Read.{IsFresh};
-ghost use Rattle.ion_streams.specs.Loaded.{added, catalog_of, IsLoaded};
-ghost use Rattle.ion_streams.specs.Outcomes.{AtOneEnd};
 
 use crate::source::{Source, Standing};
 use ion_model::{Reason, Refusal, Value};

@@ -1,10 +1,7 @@
 //! Documents whose values a visitor is told, and how many they have.
 ghost use Rattle.std.specs.Prelude.{◌+◌, ◌^◌, ◌≤◌, false, ◌≡◌, IfOk, IfErr, OnOk, length, ◌*◌};
-ghost use Rattle.ion_symtab.specs.Cause.{IsReadCause};
-ghost use Rattle.ion_streams.specs.Formats.{format_of};
-ghost use Rattle.ion_streams.specs.reading.Read.{IsFresh};
+ghost use Rattle.ion_streams.specs.Names.{AtOneEnd, IsFresh, IsReadCause, format_of};
 ghost use Rattle.ion_streams.specs.Checked.{IsChecked, IsVisited};
-ghost use Rattle.ion_streams.specs.Outcomes.{AtOneEnd};
 
 use crate::source::{Source, Standing};
 use ion_model::Refusal;

@@ -1,22 +1,7 @@
 //! Whether two documents have equivalent streams.
 ghost use Rattle.std.specs.Prelude.{◌≡◌, ℕ, ◌+◌, ◌*◌, ◌^◌, ◌<◌, ◌≤◌, ◌⊎◌, List, [], true, false, IfOk, IfErr, OnOk, OnErr, IsSome, MatchResult, Option, Result, is_some, length};
-ghost use Rattle.ion_model.specs.declared.value.Value.{Value};
-ghost use Rattle.ion_model.specs.Parting.{IsParting};
-ghost use Rattle.ion_model.specs.Same.{same};
-ghost use Rattle.ion_symtab.specs.declared.catalog.Catalog.{Catalog};
-ghost use Rattle.ion_symtab.specs.declared.limits.Limits.{Limits};
-ghost use Rattle.ion_symtab.specs.Cause.{IsReadCause};
-ghost use Rattle.ion_visiting.specs.Building.{fresh};
-ghost use Rattle.ion_visiting.specs.Events.{Event};
-ghost use Rattle.ion_visiting.specs.Tapes.{Holds};
-ghost use Rattle.ion_streams.specs.Formats.{format_of};
-ghost use Rattle.ion_streams.specs.reading.Standing.{IfOpen, IfClosed, IsOpen, StandsUnread, work_of, reads_of, Stood, StoodEach};
-ghost use Rattle.ion_streams.specs.reading.Read.{IsFresh, IsReady, IsWithin, NoneFailed, NoReadFailed, GaveSoFar, HandedOn, Sought};
-ghost use Rattle.ion_streams.specs.reading.Telling.{telling, TapedNext};
+ghost use Rattle.ion_streams.specs.Names.{AreHeld, AtOneEnd, Catalog, Event, GaveSoFar, HandedOn, Holds, IfAlike, IfClosed, IfOpen, IsFresh, IsInTurn, IsMet, IsOpen, IsParting, IsReadCause, IsReady, IsWithin, Limits, NoReadFailed, NoneFailed, Sought, StandsUnread, Stood, StoodEach, TapedNext, Value, count_of, format_of, fresh, reads_of, same, telling, verdict_of, work_of};
 ghost use Rattle.ion_streams.specs.Compared.{IsCompared};
-ghost use Rattle.ion_streams.specs.InTurn.{IsInTurn};
-ghost use Rattle.ion_streams.specs.Outcomes.{AtOneEnd};
-ghost use Rattle.ion_streams.specs.reading.Courses.{AreHeld, IfAlike, IsMet, count_of, verdict_of};
 
 use crate::source::{Source, Standing};
 use ion_model::{Path, Refusal, Value, parting};

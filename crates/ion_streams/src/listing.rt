@@ -1,13 +1,7 @@
 //! A line for each value of a document.
 ghost use Rattle.std.specs.Prelude.{◌≡◌, ℕ, ◌+◌, ◌^◌, ◌<◌, ◌≤◌, ◌⊎◌, ◌++◌, List, length, true, false, IfOk, IfErr, OnOk, OnErr, Option, option_to_list, string_bytes, ◌*◌};
 ghost use Rattle.std.specs.Fmt.{decimal};
-ghost use Rattle.ion_model.specs.declared.value.Value.{Value};
-ghost use Rattle.ion_symtab.specs.Took.{Took, TookFront};
-ghost use Rattle.ion_symtab.specs.Cause.{IsReadCause};
-ghost use Rattle.ion_streams.specs.Formats.{format_of};
-ghost use Rattle.ion_streams.specs.reading.Read.{IsFresh};
-ghost use Rattle.ion_streams.specs.Listing.{line_of, lines_from, accepted_line, IsShown, IsWriteCause, ShowsSoFar};
-ghost use Rattle.ion_streams.specs.Outcomes.{AtOneEnd};
+ghost use Rattle.ion_streams.specs.Names.{AtOneEnd, IsFresh, IsReadCause, IsShown, IsWriteCause, ShowsSoFar, Took, TookFront, Value, accepted_line, format_of, line_of, lines_from};
 
 use crate::source::{Source, Standing};
 use ion_model::{Outline, Refusal};

@@ -1,17 +1,9 @@
 //! A document on a device: its octets are read in pieces, and a reader takes them up.
 ghost use Rattle.std.specs.Prelude.{◌≡◌, ◌≢◌, ℕ, ◌+◌, ◌-◌, ◌*◌, ◌^◌, ◌<◌, ◌≤◌, ◌⊎◌, ◌==◌, true, false, List, [], ◌∷◌, ◌++◌, length, take, drop, IfOk, IfErr, OnOk, OnErr, IfSome, MatchBool, Option, Result, IsSome, IsNone, option_map, option_to_list, is_err};
-ghost use Rattle.ion_model.specs.declared.value.Value.{Value};
+ghost use Rattle.ion_streams.specs.Names.{Catalog, EndsRefused, GaveNext, GaveSoFar, HandedOn, HasToAsk, Heard, IfClosed, IfOpen, IsOpen, IsReadCause, IsReady, IsWithin, Limits, MatchClosed, NoReadFailed, NoneFailed, Reads, ReadsEach, Refills, Stood, StoodEach, Value, Went, WereMade, answered, between, format_of, left_of, reads_of, work, work_of};
 ghost use Rattle.ion_atoms.specs.declared.refusal.Reason.TheVariants as reasons;
-ghost use Rattle.ion_symtab.specs.declared.catalog.Catalog.{Catalog};
-ghost use Rattle.ion_symtab.specs.declared.limits.Limits.{Limits};
-ghost use Rattle.ion_symtab.specs.Heard.{Heard};
-ghost use Rattle.ion_symtab.specs.Cause.{WereMade, IsReadCause};
-ghost use Rattle.ion_streams.specs.Formats.{format_of};
-ghost use Rattle.ion_streams.specs.reading.Read.{between, left_of, IsReady, HasToAsk, NoneFailed, NoReadFailed, IsWithin, work, Went, Reads, ReadsEach, GaveSoFar, HandedOn};
-ghost use Rattle.ion_streams.specs.reading.Refilled.{Refills};
-ghost use Rattle.ion_streams.specs.reading.Reached.{IfValue, IfEnd, IsSpent, Reaches};
-ghost use Rattle.ion_streams.specs.Outcomes.{EndsWell, EndsRefused};
-ghost use Rattle.ion_streams.specs.reading.Standing.{IfOpen, IsOpen, IfClosed, MatchClosed, work_of, reads_of, Stood, StoodEach, GaveNext, answered};
+ghost use Rattle.ion_streams.specs.Outcomes.{EndsWell};
+ghost use Rattle.ion_streams.specs.reading.Reached.{IfEnd, IfValue, IsSpent, Reaches};
 
 use ion_model::{Reason, Refusal, Value};
 use ion_symtab::{Failed, Fault, Inlet, Items};

@@ -7,9 +7,7 @@ use Rattle.std.proofs.Math.Seq.{take-suc, take-length}
 use Rattle.std.proofs.lemmas.List.Concat.{get_or-flat_map}
 use Rattle.std.proofs.lemmas.List.Folds.{length-flat_map-take}
 use Rattle.std.proofs.lemmas.Option.{slice_get-get_or}
-use Rattle.ion_symtab.specs.Slots.{gap}
-use Rattle.ion_symtab.specs.declared.segments.Segment.{Segment}
-use Rattle.ion_symtab.specs.kept.Segments.{Counts, StartsBy, StartsBehind, segment_slots, slots_of}
+use Rattle.ion_symtab.specs.Names.{Counts, Segment, StartsBehind, StartsBy, gap, segment_slots, slots_of}
 
 -- how many slots the segments have
 abbrev count_of : List Segment → ℕ

@@ -5,8 +5,7 @@ use Rattle.std.specs.Cmp.Lexicographic.{bytes_decides}
 use Rattle.std.specs.BTreeMap.{get, get_by_text}
 use Rattle.std.specs.Map.{update}
 use Rattle.std.specs.Ordering.{nat_cmp}
-use Rattle.ion_symtab.specs.kept.Places.{version_kept, newest_among}
-use Rattle.ion_symtab.specs.declared.catalog_index.Versions.{Versions}
+use Rattle.ion_symtab.specs.Names.{Versions, newest_among, version_kept}
 
 -- the versions of a name have one place more
 abbrev HasOneMore : Option Versions → Versions → ℕ → ℕ → Type 0

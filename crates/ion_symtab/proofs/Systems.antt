@@ -5,8 +5,7 @@ use Rattle.std.specs.List.{HoldsAt}
 use Rattle.std.proofs.lemmas.List.{length-map, length-take-le, take-append-drop}
 use Rattle.std.proofs.lemmas.Option.{slice_get-map, slice_get_read}
 use Rattle.std.proofs.lemmas.Bool.{cond-false, ne_eqb}
-use Rattle.ion_symtab.specs.Slots.{Slot, system_slots, nine_system_slots, slot_symbol, symbol_at, resolve}
-use Rattle.ion_symtab.specs.Next.{local_slot}
+use Rattle.ion_symtab.specs.Names.{Slot, local_slot, nine_system_slots, resolve, slot_symbol, symbol_at, system_slots}
 use Rattle.ion_symtab.specs.kept.Segments.{Indexes}
 
 -- a place within the first of two lists has its item

@@ -1,9 +1,8 @@
 -- Why a fault was answered.
 use Rattle.std.specs.Prelude.{◌≡◌, ℕ, ◌+◌, ◌-◌, ◌^◌, ◌≤◌, List, length, true, false, ◌⊎◌, ⊤}
-use Rattle.ion_symtab.specs.Heard.{Heard}
+use Rattle.ion_symtab.specs.Names.{Ghosts, Heard}
 use Rattle.ion_symtab.specs.declared.fault.Fault.{Fault}
-use Rattle.ion_symtab.specs.declared.fault.Fault.TheVariants.{Memory, Read, Write, TooManyReads, TooLarge, Open}
-use Rattle.ion_symtab.specs.declared.inlet.Inlet.{Ghosts}
+use Rattle.ion_symtab.specs.declared.fault.Fault.TheVariants.{Memory, Open, Read, TooLarge, TooManyReads, Write}
 
 module _ {S : Type 0} (R : Ghosts S) where
   -- So many calls of read were made, or their count stands at its end. Each handed over an octet at least, and none answered the end.

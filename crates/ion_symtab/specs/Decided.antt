@@ -1,7 +1,6 @@
 -- Reasons that octets decide: no want of memory or of more octets, and nothing about tables of the catalog.
 use Rattle.std.specs.Prelude.{Result, Ok, Err}
-use Rattle.ion_atoms.specs.declared.refusal.Reason.{Reason}
-use Rattle.ion_atoms.specs.declared.refusal.Reason.TheVariants.{Memory, Incomplete, DuplicateTable, BadTable}
+use Rattle.ion_symtab.specs.Names.Below.{BadTable, DuplicateTable, Incomplete, Memory, Reason}
 
 -- a reason that an octet can decide
 abbrev pub IsDecided : Reason → Type 0

@@ -1,20 +1,13 @@
 -- What the fields of a symbol table say (Ion 1.0, "Symbols").
 use Rattle.std.specs.Prelude.{if◌then◌else◌, ℕ, ℤ, pos, negsuc, max, List, [], ◌∷◌, Option, None, Some, Bool, not, ◌&&◌, ◌==◌, Result, Ok, Err, codes, length}
 use Rattle.std.specs.Str.{bytes_eq}
-use Rattle.ion_atoms.specs.declared.refusal.Reason.{Reason}
-use Rattle.ion_atoms.specs.declared.refusal.Reason.TheVariants as reasons
-use Rattle.ion_model.specs.declared.value.Value.{Value}
-use Rattle.ion_model.specs.declared.value.Field.{Field}
-use Rattle.ion_model.specs.declared.value.Payload.TheOpen.{Payload-F}
-use Rattle.ion_model.specs.declared.value.Payload.TheViews.{out-Payload}
-use Rattle.ion_model.specs.Holds.{values_of}
-use Rattle.ion_model.specs.Measures.{Layer}
+use Rattle.ion_symtab.specs.Names.Below.{Field, Layer, Payload-F, Reason, Value, out-Payload, values_of}
 
 -- at most one value: two are a repeated field
 abbrev pub at_most_one : List Value → Result (Option Value) Reason
 at_most_one [] = Ok None
 at_most_one (v ∷ []) = Ok (Some v)
-at_most_one (v ∷ w ∷ vs) = Err reasons.RepeatedField
+at_most_one (v ∷ w ∷ vs) = Err Reason.RepeatedField
 
 -- the value of the one field of this name
 abbrev pub only : List ℕ → List Field → Result (Option Value) Reason

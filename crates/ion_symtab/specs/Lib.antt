@@ -19,3 +19,4 @@ pub mod Reasons
 pub mod Decided
 pub mod kept
 pub mod laws
+pub mod Names

@@ -2,14 +2,7 @@
 -- 1.0, "Symbols", "Local Symbol Tables" and "Imports"). `Next` is the same as a function, with the reasons for which tables are refused.
 use Rattle.std.specs.Prelude.{◌≡◌, ◌⊎◌, ◌≤◌, ℕ, ◌-◌, List, [], ◌∷◌, ◌++◌, take, length, replicate, Option, None, Some, codes}
 use Rattle.std.specs.List.{flat_map}
-use Rattle.ion_model.specs.declared.value.Value.{Value}
-use Rattle.ion_model.specs.declared.value.Field.{Field}
-use Rattle.ion_model.specs.declared.value.Payload.TheOpen.{Payload-F}
-use Rattle.ion_model.specs.declared.value.Payload.TheViews.{out-Payload}
-use Rattle.ion_model.specs.Holds.{values_of}
-use Rattle.ion_symtab.specs.Slots.{Slot, text, unknown, gap, greatest_id, system_slots}
-use Rattle.ion_symtab.specs.Fields.{table_name, version_of, count_of}
-use Rattle.ion_symtab.specs.Tables.{Table, find, find_best}
+use Rattle.ion_symtab.specs.Names.{Field, Payload-F, Slot, Table, Value, count_of, find, find_best, gap, greatest_id, out-Payload, system_slots, table_name, text, unknown, values_of, version_of}
 
 -- A field of this name stands once, with this value, or not at all.
 abbrev pub StandsOnce : List ℕ → List Field → Option Value → Type 0

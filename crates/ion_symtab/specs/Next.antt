@@ -1,15 +1,8 @@
 -- The context behind a local symbol table (Ion 1.0, "Symbols", "Local Symbol Tables" and "Imports").
 use Rattle.std.specs.Prelude.{if◌then◌else◌, ℕ, ◌+◌, ◌-◌, List, [], ◌∷◌, ◌++◌, map, take, length, replicate, Option, None, Some, Bool, false, nat_le, Result, Ok, Err, codes}
-use Rattle.ion_atoms.specs.declared.refusal.Reason.{Reason}
-use Rattle.ion_atoms.specs.declared.refusal.Reason.TheVariants as reasons
-use Rattle.ion_model.specs.declared.value.Value.{Value}
-use Rattle.ion_model.specs.declared.value.Field.{Field}
-use Rattle.ion_model.specs.declared.value.Payload.TheOpen.{Payload-F}
-use Rattle.ion_model.specs.declared.value.Payload.TheViews.{out-Payload}
-use Rattle.ion_model.specs.Measures.{Layer}
-use Rattle.ion_symtab.specs.Slots.{Slot, text, unknown, gap, greatest_id, system_slots}
-use Rattle.ion_model.specs.Symbols.{has_text}
-use Rattle.ion_symtab.specs.Fields.{only, payload_of, elements, table_name, count_of, version_of, symbol_of}
+use Rattle.ion_symtab.specs.Names.Below.{Field, Layer, Payload-F, Reason, Value, has_text, out-Payload}
+use Rattle.ion_symtab.specs.Fields.{count_of, elements, only, payload_of, symbol_of, table_name, version_of}
+use Rattle.ion_symtab.specs.Slots.{Slot, gap, greatest_id, system_slots, text, unknown}
 use Rattle.ion_symtab.specs.Tables.{Table, find, newest}
 
 -- what follows, unless there is a reason already
@@ -19,7 +12,7 @@ and_then (Err reason) f = Err reason
 
 -- the slots with more behind them, if the number of all, which is the greatest id, is in range
 abbrev pub joined : List Slot → List Slot → Result (List Slot) Reason
-joined slots more = if nat_le (length slots + length more) greatest_id then Ok (slots ++ more) else Err reasons.TableTooLarge
+joined slots more = if nat_le (length slots + length more) greatest_id then Ok (slots ++ more) else Err Reason.TableTooLarge
 
 -- 1. The base: the system slots, or all old slots where `imports` is the symbol `$ion_symbol_table`.
 
@@ -64,7 +57,7 @@ exactly t (Some count) = record { table = t; count = count }
 -- where there is none: the newest table of the name, with as many slots as `max_id` says
 abbrev pub instead : Option Table → Option ℕ → Result (Option Import) Reason
 instead (Some t) (Some count) = Ok (Some (record { table = t; count = count }))
-instead _ _ = Err reasons.MissingImport
+instead _ _ = Err Reason.MissingImport
 
 -- the import of the table found, or of the newest instead where none is
 abbrev pub chosen : Option Table → Option Table → Option ℕ → Result (Option Import) Reason
@@ -131,7 +124,7 @@ next_fields slots fields tables =
 -- the context behind a table that is a struct; any other is refused as a null one
 abbrev pub next_layer : List Slot → Layer → List Table → Result (List Slot) Reason
 next_layer slots (Payload-F.Fields fields) tables = next_fields slots fields tables
-next_layer slots _ tables = Err reasons.NullTable
+next_layer slots _ tables = Err Reason.NullTable
 
 -- the context behind a table, or the first reason for which it is refused
 unfoldable pub next : List Slot → Value → List Table → Result (List Slot) Reason

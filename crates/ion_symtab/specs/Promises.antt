@@ -1,12 +1,7 @@
 -- What a reader's trace promises over the documents of its format.
 use Rattle.std.specs.Prelude.{◌≡◌, ◌≢◌, ◌+◌, ◌<◌, ◌≤◌, ℕ, List, [], ◌∷◌, ◌++◌, length, take, Some, None, Ok, Err, false}
+use Rattle.ion_symtab.specs.Names.Below.{BadTable, DuplicateTable, Incomplete, Memory, Reason, Refusal, Value, is_table, nodes}
 use Rattle.ion_atoms.specs.Octets.{AreOctets}
-use Rattle.ion_model.specs.declared.value.Value.{Value}
-use Rattle.ion_model.specs.Kinds.{is_table}
-use Rattle.ion_model.specs.Measures.{nodes}
-use Rattle.ion_atoms.specs.declared.refusal.Refusal.{Refusal}
-use Rattle.ion_atoms.specs.declared.refusal.Reason.{Reason}
-use Rattle.ion_atoms.specs.declared.refusal.Reason.TheVariants.{Memory, Incomplete, DuplicateTable, BadTable}
 use Rattle.ion_symtab.specs.Trace.{Trace, plain}
 
 -- no document begins with these octets, whichever numbers follow them

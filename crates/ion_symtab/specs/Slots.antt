@@ -1,7 +1,6 @@
 -- Contexts: lists of slots, of which the first has the id 1 (Ion 1.0, "Symbols").
 use Rattle.std.specs.Prelude.{if◌then◌else◌, ℕ, ◌-◌, ◌==◌, List, [], ◌∷◌, map, Option, None, Some, Result, Ok, Err, codes, slice_get, length, ◌≡◌, refl}
-use Rattle.ion_atoms.specs.declared.refusal.Reason.{Reason}
-use Rattle.ion_atoms.specs.declared.refusal.Reason.TheVariants as reasons
+use Rattle.ion_symtab.specs.Names.Below.{Reason}
 
 -- what stands at an id: a text, unknown text, or a gap, whose id may not be used
 pub data Slot : Type 0 where
@@ -40,11 +39,11 @@ nine_system_slots = refl
 abbrev pub slot_symbol : Slot → Result (Option (List ℕ)) Reason
 slot_symbol (text t) = Ok (Some t)
 slot_symbol unknown = Ok None
-slot_symbol gap = Err reasons.ImportGap
+slot_symbol gap = Err Reason.ImportGap
 
 -- the symbol of the slot at a place, if one is there
 abbrev pub symbol_at : Option Slot → Result (Option (List ℕ)) Reason
-symbol_at None = Err reasons.SymbolRange
+symbol_at None = Err Reason.SymbolRange
 symbol_at (Some slot) = slot_symbol slot
 
 -- the symbol of an id; 0 is the symbol of unknown text

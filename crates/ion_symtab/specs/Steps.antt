@@ -1,7 +1,6 @@
 -- What a step of a reader of documents leaves behind it, and what its refusal says.
 use Rattle.std.specs.Prelude.{◌≡◌, ◌≢◌, ℕ, ◌+◌, ◌*◌, ◌<◌, ◌≤◌, List, ◌∷◌, length, drop, Option, Some, None, IfSome, IsSome, IsNone}
-use Rattle.ion_atoms.specs.declared.refusal.Refusal.{Refusal}
-use Rattle.ion_atoms.specs.declared.refusal.Reason.TheVariants.{Memory}
+use Rattle.ion_symtab.specs.Names.Below.{Memory, Refusal}
 
 -- What contracts see of a reader, by the ghost members of `Items`: how many octets were used so far, how many values may still come before
 -- another one is used, the octet that showed a value's end and wasn't used, and the refusal that was answered.

@@ -1,10 +1,9 @@
 -- Shared symbol tables, and the catalog (Ion 1.0, "Symbols", "Shared Symbol Tables").
 use Rattle.std.specs.Prelude.{◌+◌, ◌≡◌, Contains, if◌then◌else◌, ℕ, List, [], ◌∷◌, Option, None, Some, Bool, ◌&&◌, ◌==◌, nat_le, Result, Ok, Err, length}
 use Rattle.std.specs.Str.{bytes_eq}
-use Rattle.ion_atoms.specs.declared.refusal.Reason.{Reason}
-use Rattle.ion_atoms.specs.declared.refusal.Reason.TheVariants as reasons
-use Rattle.ion_symtab.specs.Slots.{greatest_id}
+use Rattle.ion_symtab.specs.Names.Below.{Reason}
 use Rattle.ion_symtab.specs.Fields.{is_table_name}
+use Rattle.ion_symtab.specs.Slots.{greatest_id}
 
 -- a shared table; a slot without a text is `None`
 pub record Table : Type 0 where
@@ -54,4 +53,4 @@ is_usable name version symbols =
 -- the table of a name, a version and symbols, if it is usable
 abbrev pub table_of : List ℕ → ℕ → List (Option (List ℕ)) → Result Table Reason
 table_of name version symbols =
-    if is_usable name version symbols then Ok (record { name = name; version = version; symbols = symbols }) else Err reasons.BadTable
+    if is_usable name version symbols then Ok (record { name = name; version = version; symbols = symbols }) else Err Reason.BadTable

@@ -1,8 +1,6 @@
 -- What a reader says of octets, however they are cut.
 use Rattle.std.specs.Prelude.{◌≡◌, ◌≢◌, ◌+◌, ℕ, List, [], ◌∷◌, ◌++◌, length, map, Option, Some, None, Result, Ok, Err, IsSome, option_to_list}
-use Rattle.ion_model.specs.declared.value.Value.{Value}
-use Rattle.ion_atoms.specs.declared.refusal.Refusal.{Refusal}
-use Rattle.ion_atoms.specs.declared.refusal.Reason.TheVariants.{Memory}
+use Rattle.ion_symtab.specs.Names.Below.{Memory, Refusal, Value}
 use Rattle.ion_symtab.specs.declared.items.Step.{Step}
 
 -- what a reader says of some octets

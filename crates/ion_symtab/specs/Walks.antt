@@ -1,11 +1,7 @@
 -- What a reader tells a visitor of a document that it walks over, and what the end answers then.
 use Rattle.std.specs.Prelude.{◌≡◌, ◌≢◌, ℕ, ◌+◌, ◌≤◌, List, [], ◌∷◌, ◌++◌, length, take, Bool, true, false, Option, Some, None, Result, Ok, Err, IfSome, IsNone}
-use Rattle.ion_atoms.specs.declared.refusal.Refusal.{Refusal}
-use Rattle.ion_atoms.specs.declared.refusal.Reason.TheVariants.{Memory}
-use Rattle.ion_model.specs.declared.value.Value.{Value}
-use Rattle.ion_visiting.specs.Events.{Event, events_of}
-use Rattle.ion_visiting.specs.Tables.{Hears}
-use Rattle.ion_symtab.specs.Trace.{Trace, IsFront}
+use Rattle.ion_symtab.specs.Names.Below.{Event, Hears, Memory, Refusal, Value, events_of}
+use Rattle.ion_symtab.specs.Trace.{IsFront, Trace}
 
 -- Behind these octets, with these values ended, so much was told of what is open: what contracts see of a reader by `Items::told`.
 abbrev pub Telling : Type 0 → Type 1

@@ -1,10 +1,7 @@
 //! Contexts: what the symbol ids of a document stand for (Ion 1.0, "Symbols").
 ghost use Rattle.std.specs.Prelude.{◌≡◌, ◌⊎◌, ◌≤◌, true, length, Ok, Err, IfErr, OnOk, OnErr, MatchResult, option_copied};
+ghost use Rattle.ion_symtab.specs.Names.{Gives, appends, greatest_id, is_table, next, resolve, system_slots};
 ghost use Rattle.ion_atoms.specs.declared.refusal.Reason.TheVariants as reasons;
-ghost use Rattle.ion_model.specs.Kinds.{is_table};
-ghost use Rattle.ion_symtab.specs.Slots.{greatest_id, system_slots, resolve};
-ghost use Rattle.ion_symtab.specs.Next.{next, appends};
-ghost use Rattle.ion_symtab.specs.Outcome.{Gives};
 
 use crate::catalog::Catalog;
 use crate::fields::only;

@@ -1,7 +1,7 @@
 //! The fields of symbol tables.
 ghost use Rattle.std.specs.Prelude.{◌≡◌, Ok, Err, MatchResult, map, option_map, option_copied};
+ghost use Rattle.ion_symtab.specs.Names.{count_of, elements, is_table_name, natural, only, symbol_of, table_name, version_of};
 ghost use Rattle.ion_atoms.specs.declared.refusal.Reason.TheVariants as reasons;
-ghost use Rattle.ion_symtab.specs.Fields.{only, elements, is_table_name, table_name, natural, count_of, version_of, symbol_of};
 
 use ion_model::{Field, Payload, Reason, Symbol, Value};
 use std::alloc::Global;

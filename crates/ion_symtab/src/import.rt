@@ -1,8 +1,7 @@
 //! Imports of shared symbol tables (Ion 1.0, "Symbols", "Imports").
 ghost use Rattle.std.specs.Prelude.{◌≡◌, Ok, Err, Some, MatchResult, MatchOption, option_map, option_copied};
+ghost use Rattle.ion_symtab.specs.Names.{chosen, find, import_of, newest};
 ghost use Rattle.ion_atoms.specs.declared.refusal.Reason.TheVariants as reasons;
-ghost use Rattle.ion_symtab.specs.Tables.{find, newest};
-ghost use Rattle.ion_symtab.specs.Next.{import_of, chosen};
 ghost use Rattle.ion_symtab.specs.kept.Seen.{import_seen};
 
 use crate::catalog::Catalog;

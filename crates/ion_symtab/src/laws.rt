@@ -1,18 +1,11 @@
 //! Laws of catalogs and contexts. Each stands on an empty function: its contract is the law.
 ghost use Rattle.std.specs.Prelude.{◌≡◌, ◌↔◌, ◌≤◌, ◌⊎◌, ◌++◌, ◌∷◌, [], ℕ, List, length, map, Option, Some, IsSome, Ok, IfErr, Contains};
-ghost use Rattle.ion_model.specs.declared.value.Value.{Value};
-ghost use Rattle.ion_model.specs.Kept.{IsText, IsKept};
-ghost use Rattle.ion_symtab.specs.Slots.{Slot, greatest_id, system_slots, resolve};
-ghost use Rattle.ion_symtab.specs.Tables.{Table, find, find_best, newest};
-ghost use Rattle.ion_symtab.specs.laws.Tables.{IsAtLeast};
-ghost use Rattle.ion_symtab.specs.Next.{next};
+ghost use Rattle.ion_symtab.specs.Names.{Decides, IsIdReason, IsKept, IsSharedReason, IsTableReason, IsText, Slot, Table, Value, find, find_best, greatest_id, newest, next, resolve, shared_table, system_slots};
 ghost use Rattle.ion_symtab.specs.LocalTables.{MakesContext};
-ghost use Rattle.ion_symtab.specs.laws.WorkedTables.{worked_tables, worked_context, worked_catalog};
-ghost use Rattle.ion_symtab.specs.Shared.{shared_table};
-ghost use Rattle.ion_symtab.specs.Reasons.{IsIdReason, IsTableReason, IsSharedReason};
-ghost use Rattle.ion_symtab.specs.laws.Contexts.{Begins};
-ghost use Rattle.ion_symtab.specs.Decided.{Decides};
 ghost use Rattle.ion_symtab.specs.laws.ContextTexts.{AreTextSlots, AreTextTables};
+ghost use Rattle.ion_symtab.specs.laws.Contexts.{Begins};
+ghost use Rattle.ion_symtab.specs.laws.Tables.{IsAtLeast};
+ghost use Rattle.ion_symtab.specs.laws.WorkedTables.{worked_catalog, worked_context, worked_tables};
 
 /// A table that is found by name and version is one of the catalog, under both; and where there is
 /// one, one is found.

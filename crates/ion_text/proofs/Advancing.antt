@@ -3,32 +3,11 @@ use Rattle.std.proofs.Common.{◌≡◌, ◌≢◌, ℕ, zero, suc, ◌+◌, ◌
 use Rattle.std.proofs.lemmas.Grind.{common_steps}
 use Rattle.std.proofs.lemmas.List.{get_or-drop}
 use Rattle.std.specs.Option.{is_some}
-use Rattle.ion_model.specs.declared.value.Value.{Value}
-use Rattle.ion_atoms.specs.declared.refusal.Reason.{Reason}
-use Rattle.ion_atoms.specs.declared.refusal.Reason.TheVariants as reasons
-use Rattle.ion_atoms.specs.declared.refusal.Reason.TheVariants.{Memory}
-use Rattle.ion_atoms.specs.declared.refusal.Refusal.{Refusal}
-use Rattle.ion_symtab.specs.declared.limits.Limits.{Limits}
-use Rattle.ion_symtab.specs.declared.catalog.Catalog.{Catalog}
+use Rattle.ion_text.specs.Names.{Advances, Catalog, DidTake, Event, Frame, Holds, LeavesBehind, LedLeaving, Limits, Memory, Reached, Reason, Refusal, Run, State, Strides, Symbols, Taken, TextWalk, TookFront, TookSo, Value, WentOn, eats, heard, leaves, led, place, reading_of, resumed, run, run_on, scanned, state_of, told}
 use Rattle.ion_tokens.specs.laws.Again.{blank_uses}
-use Rattle.ion_tokens.specs.machine.Views.{scanned}
-use Rattle.ion_visiting.specs.Events.{Event}
-use Rattle.ion_visiting.specs.Tables.{heard}
 use Rattle.ion_visiting.specs.laws.Filters.{hears_none}
-use Rattle.ion_text.specs.declared.state.Frame.{Frame}
-use Rattle.ion_text.specs.declared.state.Taken.{Taken}
-use Rattle.ion_text.specs.declared.state.Taken.TheVariants as taken
-use Rattle.ion_text.specs.declared.walk.TextWalk.{TextWalk}
-use Rattle.ion_text.specs.laws.reading.complete.Fuel.{NotLeaves, eats_stays}
-use Rattle.ion_text.specs.machine.EachToken.{Symbols, place}
-use Rattle.ion_text.specs.machine.Pieces.{led}
-use Rattle.ion_text.specs.machine.Progress.{Advances, LedLeaving, resumed}
-use Rattle.ion_text.specs.machine.Run.{State, Run, eats, leaves, run, run_on}
 use Rattle.ion_text.specs.walk.Advances.{AdvancesBy}
-use Rattle.ion_text.specs.walk.Fronts.{LeavesBehind, Reached, TookFront}
-use Rattle.ion_text.specs.walk.Holds.{Holds, WentOn, reading_of, state_of, told}
-use Rattle.ion_text.specs.walk.Strides.{Strides, TookSo}
-use Rattle.ion_text.specs.walk.Takes.{DidTake}
+use Rattle.ion_text.specs.laws.reading.complete.Fuel.{NotLeaves, eats_stays}
 use Rattle.ion_text.proofs.Leading.{LeadsFromStart, leads_by, leads_to_end, leads_to_given, leads_to_left, leads_to_refused, leads_to_second}
 use Rattle.ion_text.proofs.Prefixes.{front_of, octet_of, refused_of, size}
 use Rattle.ion_text.proofs.Striding.{still_settles}
@@ -40,20 +19,20 @@ module _ {V : Type 0} (takes : V → Event → V → Type 0) (es : List Event) (
   -- what was taken up of the front of a piece was taken up of the piece
   module _ (n : ℕ) (within : n ≤ length piece) where
     prefix_reached : (k : ℕ) (t : Taken) (r : TextWalk) (a b : V) → Reached takes es g l to m (take n piece) k t r a b → Reached takes es g l to m piece k t r a b
-    prefix_reached k taken.Uses r a b h =
+    prefix_reached k Taken.Uses r a b h =
         let i = size g l to m piece n within in (
           h.0,
           h.1,
           (h.2.0, omega (arith, h.2.1), ap (run g l to m) (sym (front_of g l to m piece n within k (omega (arith, h.2.1)))) ∙ h.2.2),
           h.3,
         )
-    prefix_reached k taken.Tells r a b h =
+    prefix_reached k Taken.Tells r a b h =
         let i = size g l to m piece n within in (
           h.0,
           (h.1.0, omega (arith, h.1.1), ap (run g l to m) (sym (front_of g l to m piece n within k (omega (arith, h.1.1)))) ∙ h.1.2),
           h.2,
         )
-    prefix_reached k taken.Leaves r a b h =
+    prefix_reached k Taken.Leaves r a b h =
         let i = size g l to m piece n within in
         let j = h.1.within in (
           h.0,
@@ -73,7 +52,7 @@ module _ {V : Type 0} (takes : V → Event → V → Type 0) (es : List Event) (
 
   -- octets over which what waits goes on to wait
   pub lull_reached : (count : ℕ) (fs : List Frame) (ss : Symbols) (r : TextWalk) (a : V) → 0 < count → count ≤ length piece → Holds r fs ss → told fs ss ≡ es
-      → run g l to m (take count piece) ≡ led (state_of r fs ss) → Reached takes es g l to m piece count taken.Uses r a a
+      → run g l to m (take count piece) ≡ led (state_of r fs ss) → Reached takes es g l to m piece count Taken.Uses r a a
   lull_reached count fs ss r a some within h same ran =
       (fs, ss, (some, within, ran), record { holds = h; hears = hears_none takes (heard es) (heard (told fs ss)) a (ap heard same) })
 
@@ -87,8 +66,8 @@ module _ {V : Type 0} (takes : V → Event → V → Type 0) (es : List Event) (
     all [] h = absurd (omega arith)
     all (o ∷ os) h = refl
 
-    pub octet_uses : (r : TextWalk) (a b : V) → DidTake takes es (eats g l m (get_or piece 0 0)) (Ok taken.Uses) r a b
-        → Reached takes es g l to m piece 1 taken.Uses r a b
+    pub octet_uses : (r : TextWalk) (a b : V) → DidTake takes es (eats g l m (get_or piece 0 0)) (Ok Taken.Uses) r a b
+        → Reached takes es g l to m piece 1 Taken.Uses r a b
     octet_uses r a b d = (
       d.0,
       d.1,
@@ -96,16 +75,16 @@ module _ {V : Type 0} (takes : V → Event → V → Type 0) (es : List Event) (
       d.3,
     )
 
-    pub octet_tells : (r : TextWalk) (a b : V) → DidTake takes es (eats g l m (get_or piece 0 0)) (Ok taken.Tells) r a b
-        → Reached takes es g l to m piece 1 taken.Tells r a b
+    pub octet_tells : (r : TextWalk) (a b : V) → DidTake takes es (eats g l m (get_or piece 0 0)) (Ok Taken.Tells) r a b
+        → Reached takes es g l to m piece 1 Taken.Tells r a b
     octet_tells r a b d = (
       d.0,
       (omega arith, omega arith, ap (run g l to m) (one piece some) ∙ ap (run_on to (λ n. eats g l n (get_or piece 0 0)) led) d.1),
       d.2,
     )
 
-    pub octet_leaves : (r : TextWalk) (a b : V) → DidTake takes es (eats g l m (get_or piece 0 0)) (Ok taken.Leaves) r a b
-        → Reached takes es g l to m piece 0 taken.Leaves r a b
+    pub octet_leaves : (r : TextWalk) (a b : V) → DidTake takes es (eats g l m (get_or piece 0 0)) (Ok Taken.Leaves) r a b
+        → Reached takes es g l to m piece 0 Taken.Leaves r a b
     octet_leaves r a b d = (d.0, record { within = some; before = m; ran = refl; left = d.1 }, d.2)
 
     pub octet_refused : (reason : Reason) (offset : ℕ) (r : TextWalk) (a b : V) → offset ≡ to + 1
@@ -212,13 +191,13 @@ module _ {V : Type 0} (takes : V → Event → V → Type 0) (old mid : TextWalk
     pub both_reached : (j : ℕ) (t : Taken)
         → Reached takes (told h.frames h.notes) mid.catalog.now mid.limits (scanned mid.scanner).used middle rest j t new m b
         → Reached takes (told fs ss) g l to first piece (k + j) t new a b
-    both_reached j taken.Uses y = (
+    both_reached j Taken.Uses y = (
       y.0,
       y.1,
       (omega (arith, y.2.0), few j y.2.1, along j (led (state_of new y.0 y.1)) y.2.0 y.2.2),
       went_behind takes (told fs ss) (told h.frames h.notes) new y.0 y.1 a m b h.hears y.3,
     )
-    both_reached j taken.Tells y =
+    both_reached j Taken.Tells y =
         let total : (scanned mid.scanner).used + j ≡ to + (k + j) = omega arith in (
           y.0,
           (
@@ -229,7 +208,7 @@ module _ {V : Type 0} (takes : V → Event → V → Type 0) (old mid : TextWalk
           ),
           gave_behind takes (told fs ss) (told h.frames h.notes) new y.0 a m b h.hears y.2,
         )
-    both_reached j taken.Leaves y = (
+    both_reached j Taken.Leaves y = (
       y.0,
       leaving j y.0 (state_of new [] []) y.1,
       gave_behind takes (told fs ss) (told h.frames h.notes) new y.0 a m b h.hears y.2,
@@ -244,12 +223,12 @@ module _ {V : Type 0} (takes : V → Event → V → Type 0) (old mid : TextWalk
 -- tokens that ended a value
 module _ {V : Type 0} (takes : V → Event → V → Type 0) (old new : TextWalk) (fs : List Frame) (ss : Symbols) (piece : List ℕ) (k : ℕ) (a b : V)
     (inside : k < length piece) where
-  pub told_reached : TookSo takes fs ss old new piece k a b taken.Tells
-      → Reached takes (told fs ss) old.catalog.now old.limits (scanned old.scanner).used (state_of old fs ss) piece k taken.Tells new a b
+  pub told_reached : TookSo takes fs ss old new piece k a b Taken.Tells
+      → Reached takes (told fs ss) old.catalog.now old.limits (scanned old.scanner).used (state_of old fs ss) piece k Taken.Tells new a b
   told_reached h = (h.1, (h.0, omega arith, h.2), h.3)
 
-  pub left_reached : TookSo takes fs ss old new piece k a b taken.Leaves
-      → Reached takes (told fs ss) old.catalog.now old.limits (scanned old.scanner).used (state_of old fs ss) piece k taken.Leaves new a b
+  pub left_reached : TookSo takes fs ss old new piece k a b Taken.Leaves
+      → Reached takes (told fs ss) old.catalog.now old.limits (scanned old.scanner).used (state_of old fs ss) piece k Taken.Leaves new a b
   left_reached h = (h.1, record { within = inside; before = h.2; ran = h.3; left = h.4 }, h.5)
 
 -- 3. From where a walk over a piece began.
@@ -289,7 +268,7 @@ module _ {V : Type 0} (takes : V → Event → V → Type 0) (first m : TextWalk
         (take (length piece - i) (drop i piece)) k t n b c
 
     -- further octets are used
-    pub led_on : Reaches taken.Uses → LedSo takes fs ss first n piece (i + k) a c
+    pub led_on : Reaches Taken.Uses → LedSo takes fs ss first n piece (i + k) a c
     led_on y = record {
       frames = y.0;
       notes = y.1;
@@ -300,7 +279,7 @@ module _ {V : Type 0} (takes : V → Event → V → Type 0) (first m : TextWalk
     }
 
     -- the last of them ends a value
-    pub led_tells : i ≤ length piece → n.awaited ≡ None → Reaches taken.Tells
+    pub led_tells : i ≤ length piece → n.awaited ≡ None → Reaches Taken.Tells
         → AdvancesBy takes (told fs ss) first.catalog.now first.limits (is_some first.awaited) (scanned first.scanner).used (state_of first fs ss) piece
         (i + k) true n a c
     led_tells inside none y = (
@@ -318,7 +297,7 @@ module _ {V : Type 0} (takes : V → Event → V → Type 0) (first m : TextWalk
 
     -- the one behind them shows the end of one, and is awaited
     pub led_leaves : (last : TextWalk) → i ≤ length piece → (is_some first.awaited ≡ true → 0 < i + k) → state_of last [] [] ≡ state_of n [] []
-        → Holds last [] [] → last.awaited ≡ Some (get_or piece (i + k) 0) → Reaches taken.Leaves
+        → Holds last [] [] → last.awaited ≡ Some (get_or piece (i + k) 0) → Reaches Taken.Leaves
         → AdvancesBy takes (told fs ss) first.catalog.now first.limits (is_some first.awaited) (scanned first.scanner).used (state_of first fs ss) piece
         (i + k) true last a c
     led_leaves last inside onward same holds awaits y = (
@@ -333,9 +312,9 @@ module _ {V : Type 0} (takes : V → Event → V → Type 0) (first m : TextWalk
     )
 
     -- so does the first octet of the piece, which showed the end of one before
-    pub led_second : is_some first.awaited ≡ true → i + k ≡ 0 → Reaches taken.Leaves
+    pub led_second : is_some first.awaited ≡ true → i + k ≡ 0 → Reaches Taken.Leaves
         → resumed first.catalog.now first.limits (is_some first.awaited) (scanned first.scanner).used (state_of first fs ss) piece
-        ≡ record { given = []; now = Err (record { offset = (scanned first.scanner).used + 1; reason = reasons.Unexpected }) }
+        ≡ record { given = []; now = Err (record { offset = (scanned first.scanner).used + 1; reason = Reason.Unexpected }) }
     led_second twice none y =
         leads_to_second first.catalog.now first.limits again (scanned first.scanner).used (state_of first fs ss) here piece i (scanned m.scanner).used
         m.catalog.now m.limits same_catalog same_limits counted x.leads k (Some y.0) (state_of n [] []) twice none (leaving_so y.0 (state_of n [] []) y.1)

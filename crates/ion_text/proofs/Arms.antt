@@ -1,38 +1,12 @@
 -- What a token does that is taken up where the scanner rests and a container is open.
 use Rattle.std.proofs.Common.{◌≡◌, ◌≢◌, ℕ, zero, suc, ◌+◌, ◌-◌, ◌<◌, ◌≤◌, Bool, true, false, List, [], ◌∷◌, length, take, drop, get_or, Option, Some, None, Ok, Err, refl, ap, sym, ◌∙◌, subst, arith}
-use Rattle.ion_model.specs.declared.value.Value.{Value}
-use Rattle.ion_atoms.specs.declared.refusal.Reason.TheVariants as reasons
-use Rattle.ion_symtab.specs.declared.limits.Limits.{Limits}
-use Rattle.ion_symtab.specs.declared.catalog.Catalog.{Catalog}
-use Rattle.ion_tokens.specs.declared.mode.TokenKind.{TokenKind}
-use Rattle.ion_tokens.specs.declared.plain_tokens.Rest.{Rest}
 use Rattle.std.specs.Prelude.{if◌then◌else◌, ◌==◌, ◌&&◌, ◌^◌, nat_lt, min, IsUtf8}
 use Rattle.std.specs.List.{list_all}
 use Rattle.std.proofs.lemmas.Bool.Decides.{nat_tests}
 use Rattle.std.proofs.lemmas.Str.{is_utf8-from_IsUtf8}
-use Rattle.ion_scalar.specs.declared.number.Number.{Number}
-use Rattle.ion_scalar.specs.text.Reading.{number_read}
-use Rattle.ion_tokens.specs.declared.mode.Mark.{Mark}
-use Rattle.ion_tokens.specs.declared.mode.TokenKind.TheVariants as kinds
-use Rattle.ion_tokens.specs.Octets.{is_digit}
-use Rattle.ion_tokens.specs.Bodies.{Content, Word, Short, Long, Operator, Number', Mark', id_of, number_in}
-use Rattle.ion_tokens.specs.machine.Said.{said, spelled, word_said, number_said}
-use Rattle.ion_tokens.specs.machine.Rests.{resting, past_blank, past_token, lexeme_at, IsFound}
-use Rattle.ion_tokens.specs.declared.mode.Place.TheVariants as places
-use Rattle.ion_tokens.specs.Lexemes.{Lexeme}
 use Rattle.std.proofs.lemmas.Grind.{common_steps}
-use Rattle.ion_text.specs.declared.state.Held.{Held}
-use Rattle.ion_text.specs.declared.state.Frame.{Frame}
-use Rattle.ion_text.specs.declared.state.Frame.TheVariants as frames
-use Rattle.ion_text.specs.declared.state.Listing.TheVariants as listings
-use Rattle.ion_text.specs.declared.state.Now.{Now}
-use Rattle.ion_text.specs.declared.state.Now.TheVariants as nows
-use Rattle.ion_text.specs.machine.EachToken.{Setting, Spot, under, spot_at, spot_in, Reading, Turn, Symbols, goes, place, place_in, item_place, settle, turn, turn_now, begun_at, on_ready, on_after, on_comma, ended, released, paid, held_payload, named}
-use Rattle.ion_text.specs.machine.Run.{is_top, with_scan, token_of}
-use Rattle.ion_text.specs.machine.Pieces.{Quiet}
-use Rattle.ion_text.specs.machine.Places.{pending_at}
-use Rattle.ion_text.specs.machine.AtOnce.{Passes, IsStill}
-use Rattle.ion_text.proofs.Passing.{NoticesNothing, inner_notices, passes_left, passes_given}
+use Rattle.ion_text.specs.Names.{Catalog, Content, Frame, Held, IsFound, IsStill, Lexeme, Limits, Listing, Long, Mark, Mark', Now, Number, Number', Operator, Passes, Place, Quiet, Reading, Reason, Rest, Setting, Short, Spot, Symbols, TokenKind, Turn, Value, Word, begun_at, ended, goes, held_payload, id_of, is_digit, is_top, item_place, lexeme_at, named, number_in, number_read, number_said, on_after, on_comma, on_ready, paid, past_blank, past_token, pending_at, place, place_in, released, resting, said, settle, spelled, spot_at, spot_in, token_of, turn, turn_now, under, with_scan, word_said}
+use Rattle.ion_text.proofs.Passing.{NoticesNothing, inner_notices, passes_given, passes_left}
 
 begun_inner : (start begin : ℕ) (fs : List Frame) (ss : Symbols) → is_top fs ≡ false → begun_at start begin fs ss ≡ start
 begun_inner start begin [] ss h = absurd cc
@@ -40,13 +14,13 @@ begun_inner start begin (f ∷ fs) ss h = refl
 
 module _ (g : Catalog) (l : Limits) where
   -- where a value may come in an open container, a token does what it does within the open item
-  pub ready_turns : (r : Reading) (x : Lexeme) (c : Content) → r.now ≡ nows.Ready → is_top r.frames ≡ false → turn g l r (token_of x c)
+  pub ready_turns : (r : Reading) (x : Lexeme) (c : Content) → r.now ≡ Now.Ready → is_top r.frames ≡ false → turn g l r (token_of x c)
       ≡ on_ready (under g l) (spot_in r x.end) r.frames r.notes c
   ready_turns r x c now inner =
       ap (turn_now (under g l) r (token_of x c)) now
       ∙ ap (λ s. on_ready (under g l) (spot_at x.end s r.context) r.frames r.notes c) (begun_inner r.start x.start r.frames r.notes inner)
 
-  pub after_turns : (r : Reading) (x : Lexeme) (c : Content) → r.now ≡ nows.After → turn g l r (token_of x c)
+  pub after_turns : (r : Reading) (x : Lexeme) (c : Content) → r.now ≡ Now.After → turn g l r (token_of x c)
       ≡ on_after (under g l) (spot_in r x.end) r.frames c
   after_turns r x c now = ap (turn_now (under g l) r (token_of x c)) now
 
@@ -67,17 +41,17 @@ module _ (setting : Setting) (spot : Spot) (q : Reading) where
   -- a value that ends in an open container leaves it open, in the same item, with nothing waiting
   pub ended_stays : (fs : List Frame) (v : Value) → is_top fs ≡ false → ended setting spot fs v ≡ goes q → StaysIn spot.start q
   ended_stays [] v h e = absurd cc
-  ended_stays (frames.Items listings.List ss vs ∷ fs) v h e = went (StaysIn spot.start) _ q e (refl, refl, tt)
-  ended_stays (frames.Items listings.Sexp ss vs ∷ fs) v h e = went (StaysIn spot.start) _ q e (refl, refl, tt)
-  ended_stays (frames.Named ss ms name ∷ fs) v h e = went (StaysIn spot.start) _ q e (refl, refl, tt)
-  ended_stays (frames.Fields ss ms ∷ fs) v h e = absurd cc
+  ended_stays (Frame.Items Listing.List ss vs ∷ fs) v h e = went (StaysIn spot.start) _ q e (refl, refl, tt)
+  ended_stays (Frame.Items Listing.Sexp ss vs ∷ fs) v h e = went (StaysIn spot.start) _ q e (refl, refl, tt)
+  ended_stays (Frame.Named ss ms name ∷ fs) v h e = went (StaysIn spot.start) _ q e (refl, refl, tt)
+  ended_stays (Frame.Fields ss ms ∷ fs) v h e = absurd cc
 
   pub comma_stays : (fs : List Frame) → on_comma spot.start spot.context fs ≡ goes q → StaysIn spot.start q
   comma_stays [] e = absurd cc
-  comma_stays (frames.Items listings.List ss vs ∷ fs) e = went (StaysIn spot.start) _ q e (refl, refl, tt)
-  comma_stays (frames.Items listings.Sexp ss vs ∷ fs) e = absurd cc
-  comma_stays (frames.Named ss ms name ∷ fs) e = absurd cc
-  comma_stays (frames.Fields ss ms ∷ fs) e = went (StaysIn spot.start) _ q e (refl, refl, tt)
+  comma_stays (Frame.Items Listing.List ss vs ∷ fs) e = went (StaysIn spot.start) _ q e (refl, refl, tt)
+  comma_stays (Frame.Items Listing.Sexp ss vs ∷ fs) e = absurd cc
+  comma_stays (Frame.Named ss ms name ∷ fs) e = absurd cc
+  comma_stays (Frame.Fields ss ms ∷ fs) e = went (StaysIn spot.start) _ q e (refl, refl, tt)
 
 -- a token of the machine, where it is found
 module _ (g : Catalog) (l : Limits) (r : Reading) (still : settle g l r ≡ goes r) (rest : Rest) (octets : List ℕ) (kind : TokenKind) (kept : List ℕ) (n : ℕ)
@@ -126,31 +100,31 @@ module _ (g : Catalog) (l : Limits) (r : Reading) (inner : is_top r.frames ≡ f
   given_passes f quiet stays = given_leads f quiet stays.0 stays.1
 
 -- a token of a mark says this mark
-pub mark_says : (m : Mark) → said (kinds.Mark m) [] ≡ Ok (Mark' m)
+pub mark_says : (m : Mark) → said (TokenKind.Mark m) [] ≡ Ok (Mark' m)
 unfolding said
 mark_says m = refl
 
 -- a token of a number says the number that its octets are read as
-pub number_says : (octets : List ℕ) (n : Number) → Ok n ≡ number_read octets → said kinds.Number octets ≡ Ok (Number' n)
+pub number_says : (octets : List ℕ) (n : Number) → Ok n ≡ number_read octets → said TokenKind.Number octets ≡ Ok (Number' n)
 unfolding said
 number_says octets n e = ap number_said (sym e)
 
 -- what octets spell is said where they are UTF-8
 pub spelled_utf8 : (c : Content) (octets : List ℕ) → IsUtf8 octets → spelled c octets ≡ Ok c
-spelled_utf8 c octets h = ap (λ b. if b then Ok c else Err reasons.BadUtf8) (is_utf8-from_IsUtf8 octets h)
+spelled_utf8 c octets h = ap (λ b. if b then Ok c else Err Reason.BadUtf8) (is_utf8-from_IsUtf8 octets h)
 
 -- the token of a short string in UTF-8 says its octets
-pub short_says : (octets : List ℕ) → IsUtf8 octets → said kinds.ShortString octets ≡ Ok (Short octets)
+pub short_says : (octets : List ℕ) → IsUtf8 octets → said TokenKind.ShortString octets ≡ Ok (Short octets)
 unfolding said
 short_says octets h = spelled_utf8 (Short octets) octets h
 
 -- the token of an operator in UTF-8 says its octets
-pub operator_says : (octets : List ℕ) → IsUtf8 octets → said kinds.Operator octets ≡ Ok (Operator octets)
+pub operator_says : (octets : List ℕ) → IsUtf8 octets → said TokenKind.Operator octets ≡ Ok (Operator octets)
 unfolding said
 operator_says octets h = spelled_utf8 (Operator octets) octets h
 
 -- the token of a segment of a long string in UTF-8 says its octets
-pub long_says : (octets : List ℕ) → IsUtf8 octets → said kinds.LongString octets ≡ Ok (Long octets)
+pub long_says : (octets : List ℕ) → IsUtf8 octets → said TokenKind.LongString octets ≡ Ok (Long octets)
 unfolding said
 long_says octets h = spelled_utf8 (Long octets) octets h
 
@@ -162,7 +136,7 @@ no_id (o ∷ os) h = ap (λ b. if b && nat_lt 0 (length os) && list_all is_digit
     differs o h = grind (arith, nat_tests)
 
 -- the token of a word that doesn't begin with `$` says its octets
-pub word_says : (octets : List ℕ) → IsUtf8 octets → get_or octets 0 0 ≢ 36 → said kinds.Word octets ≡ Ok (Word octets)
+pub word_says : (octets : List ℕ) → IsUtf8 octets → get_or octets 0 0 ≢ 36 → said TokenKind.Word octets ≡ Ok (Word octets)
 unfolding said
 word_says octets h first = ap (word_said octets) (no_id octets first) ∙ spelled_utf8 (Word octets) octets h
 
@@ -193,18 +167,18 @@ blank_colon r n = by (n == 0)
 
 module _ (setting : Setting) (spot : Spot) (q : Reading) where
   -- behind a value of an open container the place is the one where the value stood
-  pub ended_place : (fs : List Frame) (v : Value) → is_top fs ≡ false → ended setting spot fs v ≡ goes q → place q ≡ place_in fs nows.Ready
+  pub ended_place : (fs : List Frame) (v : Value) → is_top fs ≡ false → ended setting spot fs v ≡ goes q → place q ≡ place_in fs Now.Ready
   ended_place [] v h e = absurd cc
-  ended_place (frames.Items listing ss vs ∷ fs) v h e = went (λ x. place x ≡ item_place listing) _ q e refl
-  ended_place (frames.Named ss ms name ∷ fs) v h e = went (λ x. place x ≡ places.FieldValue) _ q e refl
-  ended_place (frames.Fields ss ms ∷ fs) v h e = absurd cc
+  ended_place (Frame.Items listing ss vs ∷ fs) v h e = went (λ x. place x ≡ item_place listing) _ q e refl
+  ended_place (Frame.Named ss ms name ∷ fs) v h e = went (λ x. place x ≡ Place.FieldValue) _ q e refl
+  ended_place (Frame.Fields ss ms ∷ fs) v h e = absurd cc
 
   -- behind a field's name and its colon the struct is open, in the same item, with nothing waiting
   pub named_stays : (fs : List Frame) (s : Option (List ℕ)) → named spot.start spot.context fs s ≡ goes q → StaysIn spot.start q
   named_stays [] s e = absurd cc
-  named_stays (frames.Items listing ss vs ∷ fs) s e = absurd cc
-  named_stays (frames.Named ss ms name ∷ fs) s e = absurd cc
-  named_stays (frames.Fields ss ms ∷ fs) s e = went (StaysIn spot.start) _ q e (refl, refl, tt)
+  named_stays (Frame.Items listing ss vs ∷ fs) s e = absurd cc
+  named_stays (Frame.Named ss ms name ∷ fs) s e = absurd cc
+  named_stays (Frame.Fields ss ms ∷ fs) s e = went (StaysIn spot.start) _ q e (refl, refl, tt)
 
 -- in an open container what was held is taken for a value, even a word of a version marker's form
 pub released_inner : (setting : Setting) (spot : Spot) (fs : List Frame) (ss : Symbols) (h : Held) → is_top fs ≡ false → released setting spot fs ss h
@@ -213,15 +187,15 @@ released_inner setting spot [] ss h e = absurd cc
 released_inner setting spot (f ∷ fs) ss h e = refl
 
 -- what waits for `::` stands in the place where a value may come
-pub same_place_in : (fs : List Frame) (n m : Now) → (n ≡ nows.Ready) → (h : Held) (e : ℕ) → m ≡ nows.Pending h e → place_in fs m ≡ place_in fs nows.Ready
+pub same_place_in : (fs : List Frame) (n m : Now) → (n ≡ Now.Ready) → (h : Held) (e : ℕ) → m ≡ Now.Pending h e → place_in fs m ≡ place_in fs Now.Ready
 same_place_in fs n m a h e i = ap (place_in fs) i ∙ pending_at fs h e
 
 -- where a colon is to come behind a field's name, the place is that of the name
-pub name_place : (fs : List Frame) (s : Option (List ℕ)) → place_in fs (nows.Keyed s) ≡ place_in fs nows.Name
+pub name_place : (fs : List Frame) (s : Option (List ℕ)) → place_in fs (Now.Keyed s) ≡ place_in fs Now.Name
 name_place [] s = refl
-name_place (frames.Items listing ss vs ∷ fs) s = refl
-name_place (frames.Named ss ms name ∷ fs) s = refl
-name_place (frames.Fields ss ms ∷ fs) s = refl
+name_place (Frame.Items listing ss vs ∷ fs) s = refl
+name_place (Frame.Named ss ms name ∷ fs) s = refl
+name_place (Frame.Fields ss ms ∷ fs) s = refl
 
 -- the first octet behind so many others is the one at that number
 pub at_drop : (k : ℕ) (w : List ℕ) → get_or (drop k w) 0 0 ≡ get_or w k 0

@@ -1,14 +1,8 @@
 -- What a step answers that builds what a walk tells.
 use Rattle.std.proofs.Common.{◌≡◌, ℕ, ◌+◌, ◌≤◌, List, ◌∷◌, ◌++◌, length, take, drop, Ok, Option, None, IfSome, subst}
-use Rattle.ion_model.specs.declared.value.Value.{Value}
-use Rattle.ion_symtab.specs.Trace.{Trace, Answers, given_at}
+use Rattle.ion_text.specs.Names.{Answers, Event, TextWalk, Told, Trace, Value, given_at, grows, trace}
 use Rattle.ion_symtab.specs.laws.Builds.{step_said}
-use Rattle.ion_visiting.specs.Events.{Event}
-use Rattle.ion_text.specs.declared.walk.TextWalk.{TextWalk}
 use Rattle.ion_text.specs.laws.reading.Tells.{walk_told}
-use Rattle.ion_text.specs.machine.Pieces.{grows}
-use Rattle.ion_text.specs.machine.Run.{trace}
-use Rattle.ion_text.specs.walk.Runs.{Told}
 
 pub step_answers : (old new : TextWalk) (u : List ℕ) (s : List (Value × ℕ)) (es : List Event) (piece : List ℕ) (used : ℕ) (value : Option Value)
     → (new.catalog.now ≡ old.catalog.now) × (new.limits ≡ old.limits) → used ≤ length piece → (value ≡ None → used ≡ length piece)

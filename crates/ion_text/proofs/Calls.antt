@@ -1,11 +1,7 @@
 -- The calls of a writer over a whole stream write its document.
 use Rattle.std.proofs.Common.{List, [], ◌∷◌, sym, subst}
-use Rattle.ion_model.specs.declared.value.Value.{Value}
-use Rattle.ion_symtab.specs.Took.{Took}
-use Rattle.ion_symtab.specs.laws.Took.{Took-nil, Took-trans, Took-kept}
-use Rattle.ion_symtab.specs.declared.outlet.Outlet.{Ghosts as Outlet}
-use Rattle.ion_text.specs.Output.{adds, text_of}
-use Rattle.ion_text.specs.Calls.{PutsEach, WritesEach}
+use Rattle.ion_text.specs.Names.{Outlet, PutsEach, Took, Value, WritesEach, adds, text_of}
+use Rattle.ion_symtab.specs.laws.Took.{Took-kept, Took-nil, Took-trans}
 
 module _ {T : Type 0} (W : Outlet T) where
   puts_each : (old : T) (s : List Value) (new : T) → PutsEach W old s new → Took W.took W.written old new (text_of s)

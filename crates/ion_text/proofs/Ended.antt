@@ -1,32 +1,11 @@
 -- What a token does to a reader that holds no values: what stages, ends, opens and closes.
 use Rattle.std.proofs.Common.{◌≡◌, ℕ, ◌+◌, List, [], ◌∷◌, ◌++◌, Bool, true, false, Option, Some, None, Result, Ok, refl, ap, sym, subst, ◌∙◌}
 use Rattle.std.specs.Prelude.{if◌then◌else◌, nat_le}
-use Rattle.ion_atoms.specs.declared.refusal.Reason.{Reason}
-use Rattle.ion_atoms.specs.declared.refusal.Reason.TheVariants as reasons
-use Rattle.ion_model.specs.Kinds.{is_table}
-use Rattle.ion_symtab.specs.Next.{next}
-use Rattle.ion_model.specs.declared.value.Value.{Value}
-use Rattle.ion_model.specs.declared.value.Payload.{Payload}
-use Rattle.ion_model.specs.declared.value.Payload.TheViews.{out-Payload}
-use Rattle.ion_model.specs.Measures.{annotated, field_of}
-use Rattle.ion_visiting.specs.declared.bracket.Bracket.{Bracket}
-use Rattle.ion_visiting.specs.Events.{Event, part, events_of, layer_events}
-use Rattle.ion_text.specs.declared.state.Frame.{Frame}
-use Rattle.ion_text.specs.declared.state.Frame.TheVariants as frames
-use Rattle.ion_text.specs.declared.state.Listing.TheVariants as listings
-use Rattle.ion_text.specs.declared.state.Now.{Now}
-use Rattle.ion_text.specs.declared.state.Now.TheVariants as nows
-use Rattle.ion_text.specs.declared.state.Effect.{Effect as Turned}
-use Rattle.ion_text.specs.declared.state.Effect.TheVariants.{Goes, Gives}
-use Rattle.ion_text.specs.declared.walk.TextWalk.{TextWalk}
-use Rattle.ion_visiting.specs.declared.table_filter.TableFilter.{TableFilter}
-use Rattle.ion_text.specs.machine.Run.{is_top}
-use Rattle.ion_text.specs.machine.EachToken.{Setting, Spot, Symbols, Turn, goes, gives, refuses, at, ended, fresh, turned, within}
-use Rattle.ion_visiting.specs.declared.table_filter.Table.TheVariants as tables
-use Rattle.ion_visiting.specs.Tables.{WasTold, Hears, heard, heard_by, table_of}
+use Rattle.ion_text.specs.Names.{AreAround, AreOpen, Bracket, Does, DoesAlone, Event, Frame, Gives, Goes, Hears, Holds, IsShape, Listing, Now, Payload, Reason, Setting, Spot, Symbols, TableFilter, TextWalk, Turn, Turned, Value, WasTold, annotated, at, behind_value, brackets_of, calm, ended, events_of, field_of, fresh, gives, goes, has_notes, heard, heard_by, is_inside, is_table, is_top, layer_events, next, open_brackets, out-Payload, part, reading_of, refuses, setting_of, spot_of, table_of, told, turned, within}
+use Rattle.ion_visiting.specs.declared.table_filter.Table.{Table}
 use Rattle.ion_visiting.specs.laws.Filters.{table_told}
-use Rattle.ion_text.specs.walk.Holds.{AreAround, AreOpen, Does, DoesAlone, Holds, IsShape, behind_value, brackets_of, calm, has_notes, is_inside, open_brackets, reading_of, setting_of, spot_of, told, told_in}
-use Rattle.ion_text.proofs.Holding.{part_told, item_told, field_told}
+use Rattle.ion_text.specs.walk.Holds.{told_in}
+use Rattle.ion_text.proofs.Holding.{field_told, item_told, part_told}
 use Rattle.ion_text.proofs.Taking.{does_behind}
 
 -- 1. Where nothing is told.
@@ -91,31 +70,31 @@ module _ (r : TextWalk) (end : ℕ) where
 
   ends_at : (f : Frame) (fs : List Frame) (v : Value) → open_brackets r ≡ brackets_of (f ∷ fs) → AreAround (f ∷ fs)
       → WasTold r.filter (told_in (f ∷ fs) ++ events_of v) → Ends (f ∷ fs) v (behind_in r (behind_value (brackets_of (f ∷ fs))))
-  ends_at (frames.Items listings.List ss vs) fs v same around was =
-      let e = item_told listings.List fs ss vs v in (
-        frames.Items listings.List ss (vs ++ v ∷ []) ∷ fs,
+  ends_at (Frame.Items Listing.List ss vs) fs v same around was =
+      let e = item_told Listing.List fs ss vs v in (
+        Frame.Items Listing.List ss (vs ++ v ∷ []) ∷ fs,
         [],
         refl,
         (record { frames = same; notes = refl; open_there = around }, subst (λ es. WasTold r.filter es) (sym e) was),
         ap heard e,
       )
-  ends_at (frames.Items listings.Sexp ss vs) fs v same around was =
-      let e = item_told listings.Sexp fs ss vs v in (
-        frames.Items listings.Sexp ss (vs ++ v ∷ []) ∷ fs,
+  ends_at (Frame.Items Listing.Sexp ss vs) fs v same around was =
+      let e = item_told Listing.Sexp fs ss vs v in (
+        Frame.Items Listing.Sexp ss (vs ++ v ∷ []) ∷ fs,
         [],
         refl,
         (record { frames = same; notes = refl; open_there = around }, subst (λ es. WasTold r.filter es) (sym e) was),
         ap heard e,
       )
-  ends_at (frames.Named ss ms s) fs v same around was =
+  ends_at (Frame.Named ss ms s) fs v same around was =
       let e = field_told fs ss ms s v in (
-        frames.Fields ss (ms ++ field_of s v ∷ []) ∷ fs,
+        Frame.Fields ss (ms ++ field_of s v ∷ []) ∷ fs,
         [],
         refl,
         (record { frames = same; notes = refl; open_there = around }, subst (λ es. WasTold r.filter es) (sym e) was),
         ap heard e,
       )
-  ends_at (frames.Fields ss ms) fs v same around was = absurd around
+  ends_at (Frame.Fields ss ms) fs v same around was = absurd around
 
   -- in an open container
   pub inner_ends : (new : TextWalk) → is_inside (open_brackets r) ≡ true → new ≡ behind_in r (behind_value (open_brackets r))
@@ -157,7 +136,7 @@ a_table v t true e n = (sym e, ap (value_or t) n) where
 a_table v t false e n = absurd cc
 
 module _ (setting : Setting) (spot : Spot) (f : TableFilter) (new : TextWalk) (o : Option Value)
-    (none : open_brackets new ≡ []) (noted : new.noted ≡ false) (stage : new.stage ≡ nows.Ready) (start : new.start ≡ 0)
+    (none : open_brackets new ≡ []) (noted : new.noted ≡ false) (stage : new.stage ≡ Now.Ready) (start : new.start ≡ 0)
     (fits : nat_le spot.end (spot.start + setting.limits.item) ≡ true)
     (told_end : (v : Value) → WasTold f (events_of v) → (o ≡ table_of v) × WasTold new.filter []) where
   holds_none : (v : Value) → WasTold f (events_of v) → Holds new [] []
@@ -167,7 +146,7 @@ module _ (setting : Setting) (spot : Spot) (f : TableFilter) (new : TextWalk) (o
   )
 
   fresh_reading : fresh new.context ≡ reading_of new [] []
-  fresh_reading = ap (λ x. at x new.context [] [] nows.Ready) (sym start) ∙ ap (λ x. at new.start new.context [] [] x) (sym stage)
+  fresh_reading = ap (λ x. at x new.context [] [] Now.Ready) (sym start) ∙ ap (λ x. at new.start new.context [] [] x) (sym stage)
 
   pub gives_out : new.context ≡ spot.context → o ≡ None → (v : Value) → WasTold f (events_of v)
       → DoesAlone (events_of v) (ended setting spot [] v) (Ok Gives) new
@@ -176,10 +155,10 @@ module _ (setting : Setting) (spot : Spot) (f : TableFilter) (new : TextWalk) (o
         v,
         ap (λ b. if b then turned setting.limits.item spot.start spot.end (next spot.context v setting.catalog)
             else within setting.limits.item spot.start spot.end (gives v (fresh spot.context))) no
-            ∙ (ap (λ b. if b then gives v (fresh spot.context) else refuses reasons.ItemTooLong) fits
+            ∙ (ap (λ b. if b then gives v (fresh spot.context) else refuses Reason.ItemTooLong) fits
             ∙ ap (gives v) (ap fresh (sym context) ∙ fresh_reading)),
         holds_none v h,
-        sym (ap (λ t. heard_by t (events_of v)) (table_told v ∙ ap (λ b. if b then tables.Yes else tables.No) no)),
+        sym (ap (λ t. heard_by t (events_of v)) (table_told v ∙ ap (λ b. if b then Table.Yes else Table.No) no)),
       )
 
   pub table_out : (t : Value) → (is_table t ≡ true → next spot.context t setting.catalog ≡ Ok new.context) → o ≡ Some t
@@ -193,16 +172,16 @@ module _ (setting : Setting) (spot : Spot) (f : TableFilter) (new : TextWalk) (o
         ap (λ b. if b then turned setting.limits.item spot.start spot.end (next spot.context v setting.catalog)
             else within setting.limits.item spot.start spot.end (gives v (fresh spot.context))) yes.0
             ∙ (ap (turned setting.limits.item spot.start spot.end) led
-            ∙ (ap (λ b. if b then goes (fresh new.context) else refuses reasons.ItemTooLong) fits ∙ ap goes fresh_reading)),
+            ∙ (ap (λ b. if b then goes (fresh new.context) else refuses Reason.ItemTooLong) fits ∙ ap goes fresh_reading)),
         holds_none v h,
-        sym (ap (λ t. heard_by t (events_of v)) (table_told v ∙ ap (λ b. if b then tables.Yes else tables.No) yes.0)),
+        sym (ap (λ t. heard_by t (events_of v)) (table_told v ∙ ap (λ b. if b then Table.Yes else Table.No) yes.0)),
       )
 
 -- 4. A part is told, and with it a value ends.
 
 module _ {V : Type 0} (leads : V → Event → V → Type 0) where
   pub whole_does : (E : List Frame → Value → Turn) (r : TextWalk) (p : Payload) (g : TableFilter) (result : Result Turned Reason) (new : TextWalk) (a b : V)
-      → r.stage ≡ nows.Ready → layer_events (out-Payload p) ≡ part p ∷ []
+      → r.stage ≡ Now.Ready → layer_events (out-Payload p) ≡ part p ∷ []
       → ((es : List Event) → WasTold r.filter es → WasTold g (es ++ part p ∷ []) × Hears leads (heard es) (heard (es ++ part p ∷ [])) a b)
       → ((fs : List Frame) (v : Value) → open_brackets r ≡ brackets_of fs → AreAround fs → WasTold g (told_in fs ++ events_of v)
       → DoesAlone (told_in fs ++ events_of v) (E fs v) result new)
@@ -217,13 +196,13 @@ module _ {V : Type 0} (leads : V → Event → V → Type 0) where
 -- 5. What a token does, where this was expected.
 
 calm_twice : (now : Now) → calm (calm now) ≡ calm now
-calm_twice nows.Ready = refl
-calm_twice (nows.Pending h end) = refl
-calm_twice (nows.Long w end) = refl
-calm_twice nows.After = refl
-calm_twice nows.Name = refl
-calm_twice (nows.LongName w) = refl
-calm_twice (nows.Keyed s) = refl
+calm_twice Now.Ready = refl
+calm_twice (Now.Pending h end) = refl
+calm_twice (Now.Long w end) = refl
+calm_twice Now.After = refl
+calm_twice Now.Name = refl
+calm_twice (Now.LongName w) = refl
+calm_twice (Now.Keyed s) = refl
 
 -- a reader in which nothing waits any more stands for what it stood for
 pub holds_calm : (r mid : TextWalk) → mid ≡ staged r (calm r.stage) → (fs : List Frame) (ss : Symbols) → Holds r fs ss → Holds mid fs ss
@@ -232,27 +211,27 @@ holds_calm r mid is fs ss h = subst (λ w. Holds w fs ss) (sym is)
 
 -- behind an element or a field, and where a name may come, there are no annotations
 abbrev pub IsBare : Now → Type 0
-IsBare nows.After = Unit {0}
-IsBare nows.Name = Unit {0}
+IsBare Now.After = Unit {0}
+IsBare Now.Name = Unit {0}
 IsBare _ = ⊥
 
 pub no_notes : (fs : List Frame) (ss : Symbols) (now : Now) → IsBare now → AreOpen fs ss now → ss ≡ []
 no_notes fs [] now b h = refl
-no_notes [] (s ∷ ss) nows.After b h = absurd h
-no_notes (frames.Items listings.List qs vs ∷ fs) (s ∷ ss) nows.After b h = absurd h
-no_notes (frames.Items listings.Sexp qs vs ∷ fs) (s ∷ ss) nows.After b h = absurd h
-no_notes (frames.Fields qs ms ∷ fs) (s ∷ ss) nows.After b h = absurd h
-no_notes (frames.Named qs ms n ∷ fs) (s ∷ ss) nows.After b h = absurd h
-no_notes [] (s ∷ ss) nows.Name b h = absurd h
-no_notes (frames.Items listings.List qs vs ∷ fs) (s ∷ ss) nows.Name b h = absurd h
-no_notes (frames.Items listings.Sexp qs vs ∷ fs) (s ∷ ss) nows.Name b h = absurd h
-no_notes (frames.Fields qs ms ∷ fs) (s ∷ ss) nows.Name b h = absurd h
-no_notes (frames.Named qs ms n ∷ fs) (s ∷ ss) nows.Name b h = absurd h
-no_notes fs (s ∷ ss) nows.Ready b h = absurd b
-no_notes fs (s ∷ ss) (nows.Pending k end) b h = absurd b
-no_notes fs (s ∷ ss) (nows.Long w end) b h = absurd b
-no_notes fs (s ∷ ss) (nows.LongName w) b h = absurd b
-no_notes fs (s ∷ ss) (nows.Keyed k) b h = absurd b
+no_notes [] (s ∷ ss) Now.After b h = absurd h
+no_notes (Frame.Items Listing.List qs vs ∷ fs) (s ∷ ss) Now.After b h = absurd h
+no_notes (Frame.Items Listing.Sexp qs vs ∷ fs) (s ∷ ss) Now.After b h = absurd h
+no_notes (Frame.Fields qs ms ∷ fs) (s ∷ ss) Now.After b h = absurd h
+no_notes (Frame.Named qs ms n ∷ fs) (s ∷ ss) Now.After b h = absurd h
+no_notes [] (s ∷ ss) Now.Name b h = absurd h
+no_notes (Frame.Items Listing.List qs vs ∷ fs) (s ∷ ss) Now.Name b h = absurd h
+no_notes (Frame.Items Listing.Sexp qs vs ∷ fs) (s ∷ ss) Now.Name b h = absurd h
+no_notes (Frame.Fields qs ms ∷ fs) (s ∷ ss) Now.Name b h = absurd h
+no_notes (Frame.Named qs ms n ∷ fs) (s ∷ ss) Now.Name b h = absurd h
+no_notes fs (s ∷ ss) Now.Ready b h = absurd b
+no_notes fs (s ∷ ss) (Now.Pending k end) b h = absurd b
+no_notes fs (s ∷ ss) (Now.Long w end) b h = absurd b
+no_notes fs (s ∷ ss) (Now.LongName w) b h = absurd b
+no_notes fs (s ∷ ss) (Now.Keyed k) b h = absurd b
 
 -- what a method does where there are no annotations, it does for whatever the reader stood for
 pub bare_does : (P : List Frame → Symbols → Type 0) (r mid : TextWalk) → mid ≡ staged r (calm r.stage) → IsBare (calm r.stage)

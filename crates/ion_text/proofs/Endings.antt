@@ -1,21 +1,8 @@
 -- What the end of the octets shows.
 use Rattle.std.proofs.Common.{◌≡◌, ◌≢◌, ℕ, List, Option, Some, None, Result, Ok, Err, refl, sym, ap, ◌∙◌, subst}
-use Rattle.ion_atoms.specs.declared.refusal.Reason.{Reason}
-use Rattle.ion_atoms.specs.declared.refusal.Reason.TheVariants.{Memory}
-use Rattle.ion_atoms.specs.declared.refusal.Refusal.{Refusal}
-use Rattle.ion_symtab.specs.declared.limits.Limits.{Limits}
-use Rattle.ion_symtab.specs.declared.catalog.Catalog.{Catalog}
-use Rattle.ion_tokens.specs.declared.token.Token.{Token as Found}
-use Rattle.ion_tokens.specs.Lexemes.{Lexeme}
+use Rattle.ion_text.specs.Names.{Catalog, DidEnd, Found, Held, Lexeme, Limits, Memory, Now, Reading, Reason, Refusal, Turn, end_now, end_ready, end_said, end_settled, end_turned, end_waiting, gives, goes, late, refuses, said, says, settle, turn}
 use Rattle.ion_tokens.specs.machine.Steps.{Ends}
 use Rattle.ion_tokens.proofs.runs.Cutting.{one_body}
-use Rattle.ion_tokens.specs.machine.Said.{said, says}
-use Rattle.ion_text.specs.declared.state.Held.{Held}
-use Rattle.ion_text.specs.declared.state.Now.{Now}
-use Rattle.ion_text.specs.declared.state.Now.TheVariants as nows
-use Rattle.ion_text.specs.machine.EachToken.{Reading, Turn, goes, gives, refuses, late, settle, turn}
-use Rattle.ion_text.specs.machine.Run.{end_settled, end_waiting, end_ready, end_turned, end_said, end_now}
-use Rattle.ion_text.specs.machine.Progress.{DidEnd}
 use Rattle.ion_text.specs.machine.Views.{token_in}
 use Rattle.ion_text.proofs.Meetings.{said_so, token_so}
 
@@ -80,12 +67,12 @@ module _ (g : Catalog) (l : Limits) (used : ℕ) where
       ap (end_turned g l used) e ∙ (ap (λ x. end_settled used (settle x l r)) (sym i) ∙ ap (λ x. end_settled used (settle h x r)) (sym j))
 
   -- where nothing waits
-  pub now_ready : (r : Reading) (x : Result (Option Lexeme) Reason) (n : Now) → ((h : Held) (end : ℕ) → n ≡ nows.Pending h end → ⊥)
-      → ((w : List ℕ) (end : ℕ) → n ≡ nows.Long w end → ⊥) → ((w : List ℕ) → n ≡ nows.LongName w → ⊥) → end_now g l used r x n ≡ end_ready g l used r x
-  now_ready r x nows.Ready p q s = refl
-  now_ready r x (nows.Pending h end) p q s = absurd (p h end refl)
-  now_ready r x (nows.Long w end) p q s = absurd (q w end refl)
-  now_ready r x nows.After p q s = refl
-  now_ready r x nows.Name p q s = refl
-  now_ready r x (nows.LongName w) p q s = absurd (s w refl)
-  now_ready r x (nows.Keyed name) p q s = refl
+  pub now_ready : (r : Reading) (x : Result (Option Lexeme) Reason) (n : Now) → ((h : Held) (end : ℕ) → n ≡ Now.Pending h end → ⊥)
+      → ((w : List ℕ) (end : ℕ) → n ≡ Now.Long w end → ⊥) → ((w : List ℕ) → n ≡ Now.LongName w → ⊥) → end_now g l used r x n ≡ end_ready g l used r x
+  now_ready r x Now.Ready p q s = refl
+  now_ready r x (Now.Pending h end) p q s = absurd (p h end refl)
+  now_ready r x (Now.Long w end) p q s = absurd (q w end refl)
+  now_ready r x Now.After p q s = refl
+  now_ready r x Now.Name p q s = refl
+  now_ready r x (Now.LongName w) p q s = absurd (s w refl)
+  now_ready r x (Now.Keyed name) p q s = refl

@@ -1,27 +1,11 @@
 -- What the end of the octets shows to a reader that holds no values.
 use Rattle.std.proofs.Common.{◌≡◌, ◌≢◌, ℕ, List, [], ◌∷◌, Bool, true, false, Option, Some, None, Result, Ok, Err, refl, ap, sym, ◌∙◌}
 use Rattle.std.specs.Prelude.{if◌then◌else◌}
-use Rattle.ion_model.specs.declared.value.Value.{Value}
-use Rattle.ion_atoms.specs.declared.refusal.Reason.{Reason}
-use Rattle.ion_atoms.specs.declared.refusal.Reason.TheVariants as reasons
-use Rattle.ion_atoms.specs.declared.refusal.Refusal.{Refusal}
-use Rattle.ion_symtab.specs.declared.limits.Limits.{Limits}
-use Rattle.ion_symtab.specs.declared.catalog.Catalog.{Catalog}
-use Rattle.ion_tokens.specs.Lexemes.{Lexeme}
+use Rattle.ion_text.specs.Names.{Catalog, Does, EndedSo, Event, Found, Frame, Gives, Goes, Hears, Holds, Lexeme, Limits, Reading, Reason, Refusal, Symbols, TextWalk, Turn, Value, cut_short, end_ready, end_settled, end_turned, end_waiting, events_of, heard, is_fresh, reading_of, settle, told, turn}
 use Rattle.ion_tokens.specs.machine.Steps.{Ends}
-use Rattle.ion_tokens.specs.declared.token.Token.{Token as Found}
-use Rattle.ion_visiting.specs.Events.{Event, events_of}
-use Rattle.ion_visiting.specs.Tables.{Hears, heard}
-use Rattle.ion_visiting.specs.laws.Filters.{hears_none, hears_both}
-use Rattle.ion_text.specs.declared.state.Frame.{Frame}
-use Rattle.ion_text.specs.declared.state.Effect.TheVariants.{Goes, Gives}
-use Rattle.ion_text.specs.declared.walk.TextWalk.{TextWalk}
-use Rattle.ion_text.specs.machine.EachToken.{Reading, Symbols, Turn, settle, turn}
-use Rattle.ion_text.specs.machine.Run.{cut_short, end_settled, end_waiting, end_ready, end_turned, is_fresh}
+use Rattle.ion_visiting.specs.laws.Filters.{hears_both, hears_none}
 use Rattle.ion_text.specs.machine.Views.{token_in}
-use Rattle.ion_text.specs.walk.Holds.{Does, Holds, reading_of, told}
-use Rattle.ion_text.specs.walk.Ends.{EndedSo}
-use Rattle.ion_text.proofs.Endings.{none_settles, token_opens, refused_opens, token_turns, goes_settles}
+use Rattle.ion_text.proofs.Endings.{goes_settles, none_settles, refused_opens, token_opens, token_turns}
 
 -- where no item is open, nothing was told of one
 pub fresh_told : (r : TextWalk) (fs : List Frame) (ss : Symbols) → is_fresh (reading_of r fs ss) ≡ true → told fs ss ≡ []
@@ -50,7 +34,7 @@ module _ {V : Type 0} (leads : V → Event → V → Type 0) where
 
     module _ (g : Catalog) (l : Limits) where
       -- something is open behind what waited, which is a value
-      pub open_gives : (e : Reason) → Does leads es t (Ok Gives) mid a b → EndedSo leads es used (end_waiting g l used (Err e) t) (Err reasons.Incomplete) a b
+      pub open_gives : (e : Reason) → Does leads es t (Ok Gives) mid a b → EndedSo leads es used (end_waiting g l used (Err e) t) (Err Reason.Incomplete) a b
       open_gives e d = λ _. ap (end_waiting g l used (Err e)) d.1
 
       -- the end ended a token, and with it a value
@@ -78,14 +62,14 @@ module _ {V : Type 0} (leads : V → Event → V → Type 0) where
     pub waits_token : (t : Turn) (found : Found) → Ends used x (Ok (Some found))
         → ((e : Reason) → EndedSo leads es used (end_waiting g l used (Err e) t) result a b) → EndedSo leads es used (end_waiting g l used x t) result a b
     waits_token t found h d =
-        ended_same es used (end_waiting g l used x t) (end_waiting g l used (Err reasons.Memory) t) result a b (token_opens g l used x t reasons.Memory found h)
-        (d reasons.Memory)
+        ended_same es used (end_waiting g l used x t) (end_waiting g l used (Err Reason.Memory) t) result a b (token_opens g l used x t Reason.Memory found h)
+        (d Reason.Memory)
 
-    pub waits_refused : (t : Turn) (r : Refusal) → Ends used x (Err r) → r.reason ≢ reasons.Memory
+    pub waits_refused : (t : Turn) (r : Refusal) → Ends used x (Err r) → r.reason ≢ Reason.Memory
         → ((e : Reason) → EndedSo leads es used (end_waiting g l used (Err e) t) result a b) → EndedSo leads es used (end_waiting g l used x t) result a b
     waits_refused t r h other d =
-        ended_same es used (end_waiting g l used x t) (end_waiting g l used (Err reasons.Memory) t) result a b
-        (refused_opens g l used x t reasons.Memory r h other) (d reasons.Memory)
+        ended_same es used (end_waiting g l used x t) (end_waiting g l used (Err Reason.Memory) t) result a b
+        (refused_opens g l used x t Reason.Memory r h other) (d Reason.Memory)
 
     -- nothing waits, and the end ends a token
     pub readies_token : (q : Reading) (found : Found) → Ends used x (Ok (Some found))
@@ -106,7 +90,7 @@ module _ {V : Type 0} (leads : V → Event → V → Type 0) where
 
   pub ready_cut : (g : Catalog) (l : Limits) (used : ℕ) (x : Result (Option Lexeme) Reason) (r : TextWalk) (fs : List Frame) (ss : Symbols) (a : V)
       → Ends used x (Ok None) → false ≡ is_fresh (reading_of r fs ss)
-      → EndedSo leads (told fs ss) used (end_ready g l used (reading_of r fs ss) x) (Err reasons.Incomplete) a a
+      → EndedSo leads (told fs ss) used (end_ready g l used (reading_of r fs ss) x) (Err Reason.Incomplete) a a
   ready_cut g l used (Ok None) r fs ss a h cut = λ _. ap (λ (x : Bool). if x then Ok None else cut_short used) (sym cut)
   ready_cut g l used (Ok (Some x)) r fs ss a h cut = absurd h
   ready_cut g l used (Err e) r fs ss a h cut = absurd h

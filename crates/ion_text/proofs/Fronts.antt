@@ -4,38 +4,12 @@ use Rattle.std.specs.Prelude.{◌==◌, ◌&&◌, not, nat_le, bytes_eq, codes, 
 use Rattle.std.proofs.lemmas.Bool.Decides.{nat_tests}
 use Rattle.std.proofs.Math.Seq.{take-append-add, take-append_seam}
 use Rattle.std.proofs.lemmas.List.{get_or-append-add, take_all}
-use Rattle.ion_model.specs.declared.value.Value.{Value}
-use Rattle.ion_atoms.specs.declared.refusal.Reason.{Reason}
-use Rattle.ion_atoms.specs.declared.refusal.Reason.TheVariants as reasons
-use Rattle.ion_atoms.specs.declared.refusal.Refusal.{Refusal}
-use Rattle.ion_symtab.specs.declared.limits.Limits.{Limits}
-use Rattle.ion_symtab.specs.declared.catalog.Catalog.{Catalog}
-use Rattle.ion_symtab.specs.Slots.{Slot}
-use Rattle.ion_tokens.specs.declared.mode.Place.{Place}
-use Rattle.ion_tokens.specs.declared.mode.Mode.{Mode}
-use Rattle.ion_tokens.specs.declared.mode.Mode.TheVariants as modes
-use Rattle.ion_tokens.specs.declared.mode.TokenKind.TheVariants as kinds
-use Rattle.ion_tokens.specs.declared.mode.Action.{Action}
-use Rattle.ion_tokens.specs.declared.mode.Action.TheVariants as actions
-use Rattle.ion_tokens.specs.declared.token.Begun.{Begun}
-use Rattle.ion_tokens.specs.machine.Bounds.{is_idle}
-use Rattle.ion_tokens.specs.Blobs.{blob_of}
-use Rattle.ion_tokens.specs.machine.Table.{next}
-use Rattle.ion_tokens.specs.machine.Views.{begun_in, behind, form_of}
+use Rattle.ion_text.specs.Names.{Action, Begun, Catalog, Effect, Frame, Given, GivesOver, IsBehind, IsCalm, Known, LeadsOver, LeavesBehind, Left, Limits, Mode, Next, Now, OnNext, Outcome, Place, Quiet, Reading, Reason, Refusal, Refused, Setting, Slot, State, Symbols, TokenKind, Value, acts, at, base, begun_in, behind, blob_ends, blob_of, cut, decided, drive, eats, failed_at, fails, feed, floor, follow, form_of, go_to, goes, is_idle, is_left, is_long_begun, leaves, led, longest_top, noticed, on_scan, on_settled, or_worse, past, place, reaches, run, run-append, run_on, settle, settled, shut, start_of, takes, tells, then_run, under, unsettled, uses, with_scan}
 use Rattle.ion_tokens.specs.machine.Scanning as scanning
-use Rattle.ion_tokens.specs.machine.Scanning.{Known, Outcome, Next, Given, Left, Refused, start_of, go_to, cut, past, acts, blob_ends, feed, follow}
-use Rattle.ion_tokens.proofs.runs.Runs.{feed_used, next_used}
+use Rattle.ion_tokens.specs.machine.Table.{next}
 use Rattle.ion_tokens.proofs.runs.LastOctets.{IsLast, last_octet, refused_here}
-use Rattle.ion_text.specs.declared.state.Now.{Now}
-use Rattle.ion_text.specs.declared.state.Now.TheVariants as nows
-use Rattle.ion_text.specs.declared.state.Frame.{Frame}
-use Rattle.ion_text.specs.machine.EachToken.{Setting, under, Reading, Symbols, goes, at, place, settle, settled}
-use Rattle.ion_text.specs.machine.Run.{State, Effect, or_worse, uses, tells, leaves, fails, noticed, shut, reaches, longest_top, is_long_begun, with_scan, eats, takes, on_scan, on_settled, unsettled, failed_at, run, run_on}
-use Rattle.ion_text.specs.machine.Views.{floor, IsCalm, base, decided, is_left, IsBehind}
-use Rattle.ion_text.specs.walk.Fronts.{LeadsOver, GivesOver, LeavesBehind}
+use Rattle.ion_tokens.proofs.runs.Runs.{feed_used, next_used}
 use Rattle.ion_text.proofs.Octets.{given_here, left_here}
-use Rattle.ion_tokens.specs.machine.Ahead.{OnNext}
-use Rattle.ion_text.specs.machine.Pieces.{led, then_run, run-append, Quiet, drive}
 
 start_in : Outcome → ℕ → ℕ
 start_in (Next s) n = s.start
@@ -48,40 +22,40 @@ blob_start s t (Some b) e = sym (ap (λ x. start_in x 0) e)
 
 acts_start : (p : Place) (s t : Known) (o : ℕ) (a : Action) → acts p s o a ≡ Next t → t.start ≡ floor s
 unfolding start_in
-acts_start p s t o (actions.Go m k) e = sym (ap (λ x. start_in x 0) e)
-acts_start p s t o (actions.Give _ _) e = cc
-acts_start p s t o (actions.Before _ _ _) e = cc
-acts_start p s t o actions.EndWord e = sym (one ((o == 46) && bytes_eq s.kept (codes "null")) e) where
-  one : (b : Bool) → cond b (Next (go_to s modes.KindName [])) (Left (cut s kinds.Word s.kept s.used) (past p kinds.Word modes.Blank [] s.used s.used)) ≡ Next t
+acts_start p s t o (Action.Go m k) e = sym (ap (λ x. start_in x 0) e)
+acts_start p s t o (Action.Give _ _) e = cc
+acts_start p s t o (Action.Before _ _ _) e = cc
+acts_start p s t o Action.EndWord e = sym (one ((o == 46) && bytes_eq s.kept (codes "null")) e) where
+  one : (b : Bool) → cond b (Next (go_to s Mode.KindName [])) (Left (cut s TokenKind.Word s.kept s.used) (past p TokenKind.Word Mode.Blank [] s.used s.used)) ≡ Next t
       → floor s ≡ t.start
   one true h = ap (λ x. start_in x 0) h
   one false h = cc
-acts_start p s t o (actions.Split _) e = cc
-acts_start p s t o actions.EndBlob e = blob_start s t (blob_of s.kept) e
-acts_start p s t o (actions.Refuse _) e = cc
+acts_start p s t o (Action.Split _) e = cc
+acts_start p s t o Action.EndBlob e = blob_start s t (blob_of s.kept) e
+acts_start p s t o (Action.Refuse _) e = cc
 
 feed_start : (p : Place) (s t : Known) (o : ℕ) → feed p s o ≡ Next t → t.start ≡ floor s
 feed_start p s t o e = acts_start p s t o (next p s.colon s.mode o) e
 
 start_later : (m : Mode) (f u : ℕ) → f ≤ u → (f ≤ start_of m f (u + 1)) × (start_of m f (u + 1) ≤ u + 1)
-start_later modes.Blank f u h = (omega arith, omega arith)
-start_later modes.Slash f u h = (omega arith, omega arith)
-start_later modes.LineComment f u h = (omega arith, omega arith)
-start_later modes.BlockComment f u h = (omega arith, omega arith)
-start_later modes.BlockCommentStar f u h = (omega arith, omega arith)
-start_later modes.Colon f u h = (omega arith, omega arith)
-start_later modes.Word f u h = (omega arith, omega arith)
-start_later modes.KindName f u h = (omega arith, omega arith)
-start_later modes.Number f u h = (omega arith, omega arith)
-start_later modes.NumberSlash f u h = (omega arith, omega arith)
-start_later (modes.Operator e) f u h = (omega arith, omega arith)
-start_later modes.OperatorSlash f u h = (omega arith, omega arith)
-start_later (modes.Infinity n) f u h = (omega arith, omega arith)
-start_later modes.Quote f u h = (omega arith, omega arith)
-start_later modes.Quotes f u h = (omega arith, omega arith)
-start_later (modes.Text s w) f u h = (omega arith, omega arith)
-start_later modes.Brace f u h = (omega arith, omega arith)
-start_later (modes.Lob l) f u h = (omega arith, omega arith)
+start_later Mode.Blank f u h = (omega arith, omega arith)
+start_later Mode.Slash f u h = (omega arith, omega arith)
+start_later Mode.LineComment f u h = (omega arith, omega arith)
+start_later Mode.BlockComment f u h = (omega arith, omega arith)
+start_later Mode.BlockCommentStar f u h = (omega arith, omega arith)
+start_later Mode.Colon f u h = (omega arith, omega arith)
+start_later Mode.Word f u h = (omega arith, omega arith)
+start_later Mode.KindName f u h = (omega arith, omega arith)
+start_later Mode.Number f u h = (omega arith, omega arith)
+start_later Mode.NumberSlash f u h = (omega arith, omega arith)
+start_later (Mode.Operator e) f u h = (omega arith, omega arith)
+start_later Mode.OperatorSlash f u h = (omega arith, omega arith)
+start_later (Mode.Infinity n) f u h = (omega arith, omega arith)
+start_later Mode.Quote f u h = (omega arith, omega arith)
+start_later Mode.Quotes f u h = (omega arith, omega arith)
+start_later (Mode.Text s w) f u h = (omega arith, omega arith)
+start_later Mode.Brace f u h = (omega arith, omega arith)
+start_later (Mode.Lob l) f u h = (omega arith, omega arith)
 
 -- it never moves back
 floor_later : (p : Place) (s t : Known) (o : ℕ) → feed p s o ≡ Next t → floor s ≤ s.used → (floor s ≤ t.start) × (floor s ≤ floor t) × (floor t ≤ t.used)
@@ -94,17 +68,17 @@ floor_later p s t o e h =
     (omega (arith, start), subst (λ (k : ℕ). floor s ≤ k) same later.0, omega (arith, used, same, later.1))
 
 calm_open : (n : Now) → IsCalm n → shut n ≡ false
-calm_open nows.Ready h = refl
-calm_open nows.Name h = refl
-calm_open (nows.Pending k end) h = absurd h
-calm_open (nows.Long w end) h = absurd h
-calm_open nows.After h = absurd h
-calm_open (nows.LongName w) h = absurd h
-calm_open (nows.Keyed s) h = absurd h
+calm_open Now.Ready h = refl
+calm_open Now.Name h = refl
+calm_open (Now.Pending k end) h = absurd h
+calm_open (Now.Long w end) h = absurd h
+calm_open Now.After h = absurd h
+calm_open (Now.LongName w) h = absurd h
+calm_open (Now.Keyed s) h = absurd h
 
 top_span : (idle : Bool) (s : Known) (from lo : ℕ) → lo ≤ s.start → (b : Option Begun)
     → b ≡ (if idle then None else Some (record { start = s.start; end = s.used - behind s.mode; form = form_of s.mode })) → (n : ℕ)
-    → longest_top from s.used nows.Ready [] b n ≤ s.used - lo
+    → longest_top from s.used Now.Ready [] b n ≤ s.used - lo
 top_span true s from lo h None e n = omega arith
 top_span true s from lo h (Some b) e n = absurd cc
 top_span false s from lo h None e n = absurd cc
@@ -127,19 +101,19 @@ reach_bound : (r : Reading) (s : Known) (lo : ℕ) → IsCalm r.now → lo ≤ s
 reach_bound r s lo calm h [] [] e = by r.now calm
   where
     by : (n : Now) → IsCalm n → longest_top r.start s.used n r.notes (begun_in s) (is_long_begun (begun_in s)) ≤ s.used - lo
-    by nows.Ready c = subst (λ (ss : Symbols). longest_top r.start s.used nows.Ready ss (begun_in s) (is_long_begun (begun_in s)) ≤ s.used - lo) (sym e)
+    by Now.Ready c = subst (λ (ss : Symbols). longest_top r.start s.used Now.Ready ss (begun_in s) (is_long_begun (begun_in s)) ≤ s.used - lo) (sym e)
         (top_span (is_idle s.mode) s r.start lo h (begun_in s) refl (is_long_begun (begun_in s)))
-    by nows.Name c = omega arith
-    by (nows.Pending k end) c = absurd c
-    by (nows.Long w end) c = absurd c
-    by nows.After c = absurd c
-    by (nows.LongName w) c = absurd c
-    by (nows.Keyed k) c = absurd c
+    by Now.Name c = omega arith
+    by (Now.Pending k end) c = absurd c
+    by (Now.Long w end) c = absurd c
+    by Now.After c = absurd c
+    by (Now.LongName w) c = absurd c
+    by (Now.Keyed k) c = absurd c
 reach_bound r s lo calm h [] (x ∷ xs) e = by r.now calm
   where
     noted : (idle : Bool) (b : Option Begun) → b ≡ (if idle then None else Some
         (record { start = s.start; end = s.used - behind s.mode; form = form_of s.mode })) → (n : ℕ)
-        → longest_top r.start s.used nows.Ready (x ∷ xs) b n ≤ s.used - r.start
+        → longest_top r.start s.used Now.Ready (x ∷ xs) b n ≤ s.used - r.start
     noted true None i n = omega arith
     noted true (Some b) i n = absurd cc
     noted false None i n = absurd cc
@@ -150,22 +124,22 @@ reach_bound r s lo calm h [] (x ∷ xs) e = by r.now calm
         end_if d (Some b) = b.end
 
     by : (n : Now) → IsCalm n → longest_top r.start s.used n r.notes (begun_in s) (is_long_begun (begun_in s)) ≤ s.used - r.start
-    by nows.Ready c = subst (λ (ss : Symbols). longest_top r.start s.used nows.Ready ss (begun_in s) (is_long_begun (begun_in s)) ≤ s.used - r.start) (sym e)
+    by Now.Ready c = subst (λ (ss : Symbols). longest_top r.start s.used Now.Ready ss (begun_in s) (is_long_begun (begun_in s)) ≤ s.used - r.start) (sym e)
         (noted (is_idle s.mode) (begun_in s) refl (is_long_begun (begun_in s)))
-    by nows.Name c = omega arith
-    by (nows.Pending k end) c = absurd c
-    by (nows.Long w end) c = absurd c
-    by nows.After c = absurd c
-    by (nows.LongName w) c = absurd c
-    by (nows.Keyed k) c = absurd c
+    by Now.Name c = omega arith
+    by (Now.Pending k end) c = absurd c
+    by (Now.Long w end) c = absurd c
+    by Now.After c = absurd c
+    by (Now.LongName w) c = absurd c
+    by (Now.Keyed k) c = absurd c
 reach_bound r s lo calm h (f ∷ fs) ss e = omega arith
 
 module _ (g : Catalog) (l : Limits) (r : Reading) (lo : ℕ) (calm : IsCalm r.now) where
   fits_noticed : (s : Known) → reaches r.frames r s ≤ l.item → noticed l r s ≡ uses (with_scan s r)
   fits_noticed s h =
-      ap (λ b. if b && not (is_idle s.mode) then fails reasons.Unexpected else
-      (if nat_le (reaches r.frames r s) l.item then uses (with_scan s r) else fails reasons.ItemTooLong)) (calm_open r.now calm)
-      ∙ ap (λ b. if b then uses (with_scan s r) else fails reasons.ItemTooLong) (le_true (reaches r.frames r s) l.item h)
+      ap (λ b. if b && not (is_idle s.mode) then fails Reason.Unexpected else
+      (if nat_le (reaches r.frames r s) l.item then uses (with_scan s r) else fails Reason.ItemTooLong)) (calm_open r.now calm)
+      ∙ ap (λ b. if b then uses (with_scan s r) else fails Reason.ItemTooLong) (le_true (reaches r.frames r s) l.item h)
     where
       le_true : (x y : ℕ) → x ≤ y → nat_le x y ≡ true
       le_true x y h = grind (arith, nat_tests)
@@ -189,13 +163,13 @@ module _ (g : Catalog) (l : Limits) (r : Reading) (lo : ℕ) (calm : IsCalm r.no
 
 calm_settled : (setting : Setting) (start : ℕ) (c : List Slot) (fs : List Frame) (ss : Symbols) (n : Now) → IsCalm n → settled setting start c fs ss n
     ≡ goes (at start c fs ss n)
-calm_settled setting start c fs ss nows.Ready h = refl
-calm_settled setting start c fs ss nows.Name h = refl
-calm_settled setting start c fs ss (nows.Pending k end) h = absurd h
-calm_settled setting start c fs ss (nows.Long w end) h = absurd h
-calm_settled setting start c fs ss nows.After h = absurd h
-calm_settled setting start c fs ss (nows.LongName w) h = absurd h
-calm_settled setting start c fs ss (nows.Keyed s) h = absurd h
+calm_settled setting start c fs ss Now.Ready h = refl
+calm_settled setting start c fs ss Now.Name h = refl
+calm_settled setting start c fs ss (Now.Pending k end) h = absurd h
+calm_settled setting start c fs ss (Now.Long w end) h = absurd h
+calm_settled setting start c fs ss Now.After h = absurd h
+calm_settled setting start c fs ss (Now.LongName w) h = absurd h
+calm_settled setting start c fs ss (Now.Keyed s) h = absurd h
 
 module _ (g : Catalog) (l : Limits) (r : Reading) (calm : IsCalm r.now) (s : Known) (piece : List ℕ) (high : floor s ≤ s.used)
     (room : s.used + length piece ≤ l.item + base r.frames r.notes r.start (floor s)) where
@@ -318,7 +292,7 @@ module _ (g : Catalog) (l : Limits) (r : Reading) (calm : IsCalm r.now) (s : Kno
         → now.used ≡ s.used + count → ((again : State → Effect) → on_scan g l again r x ≡ uses n) → LeadsOver g l s.used (with_scan s r) piece count n
     uses_front (Next t) now count n e b f u d =
         let k = next_count t now count e b u in
-        let same = uses_same (with_scan t r) n (sym (all_noticed t some e) ∙ d (λ m. fails reasons.Memory)) in (
+        let same = uses_same (with_scan t r) n (sym (all_noticed t some e) ∙ d (λ m. fails Reason.Memory)) in (
           omega arith,
           omega arith,
           ap (λ k. run g l s.used (with_scan s r) (take k piece)) k
@@ -340,7 +314,7 @@ module _ (g : Catalog) (l : Limits) (r : Reading) (calm : IsCalm r.now) (s : Kno
     -- where the last of the octets handed over ended a value, a run over them gives it with that octet
     pub tells_front : (x : Outcome) (now : Known) (count : ℕ) (v : Value) (n : State) → scanning.run (place r) piece s ≡ x → IsBehind x now → is_left x ≡ false
         → now.used ≡ s.used + count → ((again : State → Effect) → on_scan g l again r x ≡ tells v n) → GivesOver g l s.used (with_scan s r) piece count v n
-    tells_front (Next t) now count v n e b f u d = absurd (no_telling v (with_scan t r) n (sym (all_noticed t some e) ∙ d (λ m. fails reasons.Memory)))
+    tells_front (Next t) now count v n e b f u d = absurd (no_telling v (with_scan t r) n (sym (all_noticed t some e) ∙ d (λ m. fails Reason.Memory)))
     tells_front (Given y t) now count v n e b f u d =
         let a = at_last (Given y t) tt e in
         let m = ap (λ (k : Known). k.used) b in
@@ -407,7 +381,7 @@ module _ (g : Catalog) (l : Limits) (r : Reading) (calm : IsCalm r.now) (s : Kno
     -- where what came of the octets is refused, a run over the piece is refused so
     pub refused_front : (x : Outcome) (refusal : Refusal) → scanning.run (place r) piece s ≡ x → refusal.offset ≡ decided x
         → ((again : State → Effect) → on_scan g l again r x ≡ fails refusal.reason) → run g l s.used (with_scan s r) piece ≡ record { given = []; now = Err refusal }
-    refused_front (Next t) refusal e offset d = absurd (no_failing refusal.reason (with_scan t r) (sym (all_noticed t some e) ∙ d (λ m. fails reasons.Memory)))
+    refused_front (Next t) refusal e offset d = absurd (no_failing refusal.reason (with_scan t r) (sym (all_noticed t some e) ∙ d (λ m. fails Reason.Memory)))
     refused_front (Given y t) refusal e offset d =
         let a = at_last (Given y t) tt e in
         let n : refusal.offset ≡ s.used + a.count + 1 = omega (arith, offset, given_here (place r) a.octet a.known t y a.fed, a.counted) in

@@ -3,16 +3,9 @@ use Rattle.std.proofs.Common.{◌≡◌, ℕ, zero, suc, ◌+◌, ◌<◌, ◌�
 use Rattle.std.specs.Option.{is_some}
 use Rattle.std.proofs.lemmas.Grind.{common_steps}
 use Rattle.std.proofs.lemmas.List.{length-take-le, take-append-drop}
-use Rattle.ion_model.specs.declared.value.Value.{Value}
-use Rattle.ion_atoms.specs.declared.refusal.Refusal.{Refusal}
-use Rattle.ion_symtab.specs.Trace.{Answers, IsFront, given_at}
-use Rattle.ion_symtab.specs.declared.items.Step.{Step}
-use Rattle.ion_symtab.specs.declared.limits.Limits.{Limits}
-use Rattle.ion_symtab.specs.declared.catalog.Catalog.{Catalog}
-use Rattle.ion_text.specs.machine.Run.{State, Run, run, run_on, once_more, eats, begun, trace, trace_of}
-use Rattle.ion_text.specs.machine.Pieces.{led, then_run, run-append, grows}
+use Rattle.ion_text.specs.Names.{Advances, Answers, Catalog, IsFront, Limits, Ran, Refusal, Run, State, Step, StopsBefore, Value, begun, eats, given_at, grows, led, once_more, resumed, run, run-append, run_on, then_run, trace, trace_of}
+use Rattle.ion_text.specs.machine.Progress.{BeginsWith}
 use Rattle.ion_text.specs.laws.reading.Stands.{behind, further}
-use Rattle.ion_text.specs.machine.Progress.{resumed, BeginsWith, StopsBefore, Advances, Ran}
 
 module _ (g : Catalog) (l : Limits) where
   begins_take : (awaited : Option ℕ) (piece : List ℕ) (used : ℕ) → BeginsWith awaited piece → (is_some awaited ≡ true → 0 < used)

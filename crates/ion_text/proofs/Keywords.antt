@@ -3,7 +3,7 @@ use Rattle.std.proofs.Common.{◌≡◌, ℕ, ◌<◌, ◌≤◌, Bool, true, fa
 use Rattle.std.specs.Prelude.{◌||◌, codes}
 use Rattle.std.specs.Str.{bytes_eq}
 use Rattle.std.proofs.lemmas.Slice.Eq.{bytes_eq-Decides}
-use Rattle.ion_text.specs.Grammar.{is_keyword}
+use Rattle.ion_text.specs.Names.{is_keyword}
 
 differs : (w v : List ℕ) (n : ℕ) → 5 < length w → length v ≡ n → n ≤ 5 → bytes_eq w v ≡ false
 differs w v n long size few = by (bytes_eq w v) refl

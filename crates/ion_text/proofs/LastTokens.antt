@@ -3,57 +3,18 @@ use Rattle.std.proofs.Common.{◌≡◌, ℕ, ◌+◌, ◌-◌, ◌<◌, ◌≤�
 use Rattle.std.specs.Prelude.{◌&&◌, ◌||◌, if◌then◌else◌}
 use Rattle.std.proofs.lemmas.Grind.{common_steps}
 use Rattle.std.proofs.lemmas.List.{length-take-le}
-use Rattle.ion_atoms.specs.declared.refusal.Reason.{Reason}
-use Rattle.ion_model.specs.declared.value.Payload.{Payload}
+use Rattle.ion_text.specs.Names.{Ahead, BeginsValue, Bracket, Catalog, Content, Does, Effect, Ended, EndsAtOnce, EndsBy, EndsSo, Event, FoundSymbol, FoundToken, Frame, Gives, Held, Holds, IsFound, IsPassed, IsStill, IsValue, Known, Limits, Mark', Now, Passes, Payload, Pays, Place, Quiet, Reading, Reason, Rest, SameSetting, Scalar, Scanner, Setting, Spot, State, StridesBy, Strode, Symbols, Taken, TextWalk, TokenKind, TookSo, Turn, annotated, at, begun_at, behind_left, close_mark, close_octet, closed, closes, drive, eats, ended, ends_symbol, events_of, feed, gives, go_on, goes, heard, held_of, held_payload, is_fields, is_marker, is_table, is_top, layer_kind, leaves, led, lexeme_at, names_table, on_said, on_scan, on_settled, paid, past_blank, past_token, place, reading_of, released, resting, resting_at, run, said, scanned, settle, spot_at, state_of, takes as takes_up, token_at, token_of, told, turn, turn_now, under, unsettled, with_scan}
 use Rattle.ion_model.specs.declared.value.Payload.TheVariants as payloads
 use Rattle.ion_model.specs.declared.value.Payload.TheViews as views
-use Rattle.ion_model.specs.Kinds.{is_fields, is_table, layer_kind, names_table}
-use Rattle.ion_model.specs.Measures.{annotated}
-use Rattle.ion_symtab.specs.declared.limits.Limits.{Limits}
-use Rattle.ion_symtab.specs.declared.catalog.Catalog.{Catalog}
-use Rattle.ion_tokens.specs.Bodies.{Content, Mark'}
-use Rattle.ion_tokens.specs.declared.mode.Place.{Place}
-use Rattle.ion_tokens.specs.declared.mode.Place.TheVariants as places
-use Rattle.ion_tokens.specs.declared.mode.TokenKind.{TokenKind}
-use Rattle.ion_tokens.specs.declared.mode.TokenKind.TheVariants as kinds
-use Rattle.ion_tokens.specs.declared.plain_tokens.Rest.{Rest}
-use Rattle.ion_tokens.specs.declared.token_reader.FoundToken.{FoundToken}
-use Rattle.ion_tokens.specs.machine.Rests.{resting, past_blank, past_token, lexeme_at, IsPassed, IsFound}
-use Rattle.ion_tokens.specs.machine.Said.{said}
-use Rattle.ion_tokens.specs.machine.Scanning.{Known, feed}
-use Rattle.ion_tokens.specs.machine.Views.{scanned}
-use Rattle.ion_tokens.specs.declared.scanner.Scanner.{Scanner}
-use Rattle.ion_visiting.specs.declared.bracket.Bracket.{Bracket}
-use Rattle.ion_visiting.specs.Events.{Event, events_of}
-use Rattle.ion_text.specs.declared.tokens.finders.Scalar.{Scalar}
-use Rattle.ion_text.specs.declared.state.Frame.{Frame}
-use Rattle.ion_text.specs.declared.state.Held.{Held}
-use Rattle.ion_text.specs.declared.state.Held.TheVariants as helds
-use Rattle.ion_text.specs.declared.state.Now.{Now}
-use Rattle.ion_text.specs.declared.state.Now.TheVariants as nows
-use Rattle.ion_text.specs.declared.state.Effect.TheVariants.{Gives}
-use Rattle.ion_text.specs.declared.state.Taken.{Taken}
-use Rattle.ion_text.specs.declared.state.Taken.TheVariants as taken
-use Rattle.ion_text.specs.declared.walk.TextWalk.{TextWalk}
-use Rattle.ion_text.specs.machine.EachToken.{Setting, Spot, under, spot_at, Reading, Symbols, Turn, at, begun_at, closed, ended, gives, goes, held_payload, paid, place, released, settle, turn, turn_now, token_at}
-use Rattle.ion_text.specs.machine.LongStrings.{LongThere}
-use Rattle.ion_text.specs.machine.FrontTokens.{ends_symbol, held_of, is_marker, BeginsValue, EndsAtOnce, IsValue, Pays}
-use Rattle.ion_text.specs.visiting.Walks.{FoundSymbol}
-use Rattle.ion_text.specs.machine.Nested.{close_mark, close_octet, closes}
-use Rattle.ion_text.specs.machine.AtOnce.{Passes, IsStill}
-use Rattle.ion_text.specs.machine.Pieces.{drive, go_on, led, Quiet}
-use Rattle.ion_text.specs.machine.Run.{State, Effect, eats, is_top, leaves, on_said, on_scan, on_settled, behind_left, run, takes as takes_up, token_of, unsettled, with_scan}
-use Rattle.ion_text.specs.walk.Holds.{Does, Holds, SameSetting, reading_of, state_of, told}
-use Rattle.ion_text.specs.walk.Strides.{Ahead, Ended, EndsBy, EndsSo, Strode, StridesBy, TookSo, resting_at}
-use Rattle.ion_visiting.specs.Tables.{heard}
-use Rattle.ion_text.proofs.Strides.{front_same, settings_none, settings_on, strides_there, strode_none, strode_on, take_short, with_moved}
 use Rattle.ion_visiting.specs.laws.Filters.{hears_both}
+use Rattle.ion_text.specs.machine.LongStrings.{LongThere}
 use Rattle.ion_text.proofs.Arms.{blank_used, given_found, left_found, mark_says}
+use Rattle.ion_text.proofs.LongStrings.{long_unsettled}
 use Rattle.ion_text.proofs.Nested.{close_found, closing}
 use Rattle.ion_text.proofs.Passing.{NoticesNothing, blank_quiet, blank_waits}
+use Rattle.ion_text.proofs.Strides.{front_same, settings_none, settings_on, strides_there, strode_none, strode_on, take_short, with_moved}
 use Rattle.ion_text.proofs.Striding.{still_settles}
 use Rattle.ion_text.proofs.Symbols.{ends_waits, held_in, waits_so}
-use Rattle.ion_text.proofs.LongStrings.{long_unsettled}
 use Rattle.ion_text.proofs.Tops.{passes_then, token_gives, top_ended, top_quiet, waits_notices}
 
 -- what holds where no container is open
@@ -64,11 +25,11 @@ top_only P (f ∷ fs) h p = absurd cc
 -- what is no version marker is paid where no container is open, whatever annotations were read
 released_top : (setting : Setting) (spot : Spot) (ss : Symbols) (h : Held) → is_marker h ≡ false → released setting spot [] ss h
     ≡ paid setting spot [] ss (held_payload h)
-released_top setting spot [] (helds.Symbol s) e = refl
-released_top setting spot [] (helds.Version ours s) e = absurd cc
-released_top setting spot [] (helds.Null k) e = refl
-released_top setting spot [] (helds.Truth b) e = refl
-released_top setting spot [] helds.Nan e = refl
+released_top setting spot [] (Held.Symbol s) e = refl
+released_top setting spot [] (Held.Version ours s) e = absurd cc
+released_top setting spot [] (Held.Null k) e = refl
+released_top setting spot [] (Held.Truth b) e = refl
+released_top setting spot [] Held.Nan e = refl
 released_top setting spot (x ∷ ss) h e = refl
 
 -- a text is no local symbol table
@@ -94,7 +55,7 @@ module _ {V : Type 0} (leads : V → Event → V → Type 0) (old new : TextWalk
   pub given_ends : (here : Place) (kind : TokenKind) (kept : List ℕ) (n : ℕ) (c : Content) (t : Turn) → here ≡ place r
       → IsFound here rest octets kind kept n false → Quiet g l r (place r) (resting rest) (take (n - 1) octets) → said kind kept ≡ Ok c
       → turn g l r (token_of (lexeme_at rest kind kept n) c) ≡ t → Does leads (told fs ss) t (Ok Gives) new a b
-      → EndsSo leads fs ss old new rest (past_token here rest kind n) octets n a b taken.Tells
+      → EndsSo leads fs ss old new rest (past_token here rest kind n) octets n a b Taken.Tells
   given_ends here kind kept n c t is found quiet says turns does = (
     found.some,
     does.0,
@@ -109,7 +70,7 @@ module _ {V : Type 0} (leads : V → Event → V → Type 0) (old new : TextWalk
   pub left_ends : (here : Place) (kind : TokenKind) (kept : List ℕ) (n : ℕ) (c : Content) (t : Turn) → here ≡ place r
       → IsFound here rest octets kind kept n true → Quiet g l r (place r) (resting rest) (take n octets) → said kind kept ≡ Ok c
       → turn g l r (token_of (lexeme_at rest kind kept n) c) ≡ t → Does leads (told fs ss) t (Ok Gives) new a b
-      → EndsSo leads fs ss old new rest (past_token here rest kind n) octets n a b taken.Leaves
+      → EndsSo leads fs ss old new rest (past_token here rest kind n) octets n a b Taken.Leaves
   left_ends here kind kept n c t is found quiet says turns does =
       let f = subst (λ p. IsFound p rest octets kind kept n true) is found in
       let o = get_or octets n 0 in
@@ -131,18 +92,18 @@ module _ {V : Type 0} (leads : V → Event → V → Type 0) (old new : TextWalk
   -- the close of a container of the top level
   pub close_ends : (here : Place) (x : Bracket) → 1 < length octets → ss ≡ [] → get_or octets 0 0 ≡ close_octet x → closes x fs old.stage ≡ true
       → here ≡ place r → Does leads (told fs ss) (closed x (under g l) (spot_at (rest.used + 1) old.start old.context) fs) (Ok Gives) new a b
-      → EndsSo leads fs ss old new rest (past_token here rest (kinds.Mark (close_mark x)) 1) octets 1 a b taken.Tells
+      → EndsSo leads fs ss old new rest (past_token here rest (TokenKind.Mark (close_mark x)) 1) octets 1 a b Taken.Tells
   close_ends here x more bare first fits is does =
       let k = closing g l rest.used (rest.used + 1) old.start old.context x fs old.stage fits in
-      given_ends here (kinds.Mark (close_mark x)) [] 1 (Mark' (close_mark x)) (closed x (under g l) (spot_at (rest.used + 1) old.start old.context) fs) is
-      (subst (λ p. IsFound p rest octets (kinds.Mark (close_mark x)) [] 1 false) (sym is)
+      given_ends here (TokenKind.Mark (close_mark x)) [] 1 (Mark' (close_mark x)) (closed x (under g l) (spot_at (rest.used + 1) old.start old.context) fs) is
+      (subst (λ p. IsFound p rest octets (TokenKind.Mark (close_mark x)) [] 1 false) (sym is)
       (close_found x fs old.stage rest octets fits (omega arith) first)) tt (mark_says (close_mark x))
-      (ap (λ ns. turn g l (at old.start old.context fs ns old.stage) (token_of (lexeme_at rest (kinds.Mark (close_mark x)) [] 1) (Mark' (close_mark x)))) bare
+      (ap (λ ns. turn g l (at old.start old.context fs ns old.stage) (token_of (lexeme_at rest (TokenKind.Mark (close_mark x)) [] 1) (Mark' (close_mark x)))) bare
       ∙ k.0) does
 
 -- where no container is open
 module _ {V : Type 0} (leads : V → Event → V → Type 0) (old new : TextWalk) (rest : Rest) (octets : List ℕ) (a b : V) (ss : Symbols)
-    (h : Ahead old [] ss rest (length octets)) (now : old.stage ≡ nows.Ready) where
+    (h : Ahead old [] ss rest (length octets)) (now : old.stage ≡ Now.Ready) where
   abbrev g' : Catalog
   g' = old.catalog.now
 
@@ -155,10 +116,10 @@ module _ {V : Type 0} (leads : V → Event → V → Type 0) (old new : TextWalk
   abbrev begun : ℕ
   begun = begun_at old.start rest.used [] ss
 
-  quiet : (n : ℕ) → n ≤ length octets → Quiet g' l' q places.Top (resting rest) (take n octets)
+  quiet : (n : ℕ) → n ≤ length octets → Quiet g' l' q Place.Top (resting rest) (take n octets)
   quiet n within =
       let fits = h.fits in
-      subst (λ k. Quiet g' l' (at old.start old.context [] ss k) places.Top (resting rest) (take n octets)) (sym now)
+      subst (λ k. Quiet g' l' (at old.start old.context [] ss k) Place.Top (resting rest) (take n octets)) (sym now)
       (top_quiet g' l' old.start old.context ss rest octets n within (omega arith))
 
   -- a token that is a value at once
@@ -168,27 +129,27 @@ module _ {V : Type 0} (leads : V → Event → V → Type 0) (old new : TextWalk
   turns_so kind kept n c payload at_once =
       ap (turn_now (under g' l') q (token_at rest.used (rest.used + n) c)) now ∙ at_once (under g' l') (spot_at (rest.used + n) begun old.context) [] ss
 
-  pub value_tells : (kind : TokenKind) (kept : List ℕ) (n : ℕ) (c : Content) (payload : Payload) → IsFound places.Top rest octets kind kept n false
+  pub value_tells : (kind : TokenKind) (kept : List ℕ) (n : ℕ) (c : Content) (payload : Payload) → IsFound Place.Top rest octets kind kept n false
       → said kind kept ≡ Ok c → EndsAtOnce c payload
       → Does leads (told [] ss) (ended (under g' l') (spot_at (rest.used + n) begun old.context) [] (annotated ss payload)) (Ok Gives) new a b
-      → EndsSo leads [] ss old new rest (past_token places.Top rest kind n) octets n a b taken.Tells
+      → EndsSo leads [] ss old new rest (past_token Place.Top rest kind n) octets n a b Taken.Tells
   value_tells kind kept n c payload found says at_once does =
       let shown = found.shown in
-      given_ends leads old new rest octets a b [] ss h places.Top kind kept n c _ refl found (quiet (n - 1) (omega arith)) says
+      given_ends leads old new rest octets a b [] ss h Place.Top kind kept n c _ refl found (quiet (n - 1) (omega arith)) says
       (turns_so kind kept n c payload at_once) does
 
-  pub value_leaves : (kind : TokenKind) (kept : List ℕ) (n : ℕ) (c : Content) (payload : Payload) → IsFound places.Top rest octets kind kept n true
+  pub value_leaves : (kind : TokenKind) (kept : List ℕ) (n : ℕ) (c : Content) (payload : Payload) → IsFound Place.Top rest octets kind kept n true
       → said kind kept ≡ Ok c → EndsAtOnce c payload
       → Does leads (told [] ss) (ended (under g' l') (spot_at (rest.used + n) begun old.context) [] (annotated ss payload)) (Ok Gives) new a b
-      → EndsSo leads [] ss old new rest (past_token places.Top rest kind n) octets n a b taken.Leaves
+      → EndsSo leads [] ss old new rest (past_token Place.Top rest kind n) octets n a b Taken.Leaves
   value_leaves kind kept n c payload found says at_once does =
       let shown = found.shown in
-      left_ends leads old new rest octets a b [] ss h places.Top kind kept n c _ refl found (quiet n (omega arith)) says
+      left_ends leads old new rest octets a b [] ss h Place.Top kind kept n c _ refl found (quiet n (omega arith)) says
       (turns_so kind kept n c payload at_once) does
 
   -- a symbol, null or truth, and the blank behind it
   module _ (kind : TokenKind) (kept : List ℕ) (n m : ℕ) (left : Bool) (c : Content) (payload : Payload) (some : 0 < m) (more : n + m < length octets)
-      (found : IsFound places.Top rest octets kind kept n left) (says : said kind kept ≡ Ok c) (passed : IsPassed (drop n octets) m)
+      (found : IsFound Place.Top rest octets kind kept n left) (says : said kind kept ≡ Ok c) (passed : IsPassed (drop n octets) m)
       (ends : ends_symbol (get_or octets (n + m) 0) ≡ true) (pays : Pays (held_of c) payload)
       (free : (x : Held) → held_of c ≡ Some x → is_marker x ≡ false)
       (does : Does leads (told [] ss) (ended (under g' l') (spot_at (rest.used + n) begun old.context) [] (annotated ss payload)) (Ok Gives) new a b) where
@@ -196,10 +157,10 @@ module _ {V : Type 0} (leads : V → Event → V → Type 0) (old new : TextWalk
     held = held_in (held_of c) payload pays
 
     abbrev waiting : Reading
-    waiting = at begun old.context [] ss (nows.Pending held.0 (rest.used + n))
+    waiting = at begun old.context [] ss (Now.Pending held.0 (rest.used + n))
 
     abbrev past_symbol : Rest
-    past_symbol = past_token places.Top rest kind n
+    past_symbol = past_token Place.Top rest kind n
 
     abbrev past_between : Rest
     past_between = past_blank past_symbol m
@@ -211,7 +172,7 @@ module _ {V : Type 0} (leads : V → Event → V → Type 0) (old new : TextWalk
     turns = ap (turn_now (under g' l') q (token_at rest.used (rest.used + n) c)) now
         ∙ waits_so (under g' l') (spot_at (rest.used + n) begun old.context) [] ss c held.0 held.1
 
-    symbol_led : (x : Bool) → IsFound places.Top rest octets kind kept n x
+    symbol_led : (x : Bool) → IsFound Place.Top rest octets kind kept n x
         → Passes g' l' (with_scan (resting rest) q) octets n (with_scan (resting past_symbol) waiting)
     symbol_led true f = left_found g' l' q (still_settles g' l' q h.still) rest octets kind kept n c waiting says turns f (quiet n (omega arith))
     symbol_led false f = given_found g' l' q (still_settles g' l' q h.still) rest octets kind kept n c waiting says turns f (quiet (n - 1) (omega arith))
@@ -232,7 +193,7 @@ module _ {V : Type 0} (leads : V → Event → V → Type 0) (old new : TextWalk
     settles = released_top (under g' l') (spot_at (rest.used + n) begun old.context) ss held.0 (free held.0 held.1)
         ∙ (ap (paid (under g' l') (spot_at (rest.used + n) begun old.context) [] ss) held.2 ∙ does.1)
 
-    pub word_leaves : EndsSo leads [] ss old new rest past_between octets (n + m) a b taken.Leaves
+    pub word_leaves : EndsSo leads [] ss old new rest past_between octets (n + m) a b Taken.Leaves
     word_leaves =
         let o = get_or octets (n + m) 0 in
         let x = feed (place waiting) (resting past_between) o in
@@ -248,9 +209,9 @@ module _ {V : Type 0} (leads : V → Event → V → Type 0) (old new : TextWalk
         )
 
   -- a long string and the blank behind it, where the octet behind them shows that no segment follows
-  pub long_leaves : (count : ℕ) (after : Rest) (text : List ℕ) → LongThere places.Top rest octets count after text
+  pub long_leaves : (count : ℕ) (after : Rest) (text : List ℕ) → LongThere Place.Top rest octets count after text
       → Does leads (told [] ss) (ended (under g' l') (spot_at after.used begun old.context) [] (annotated ss (payloads.Str text))) (Ok Gives) new a b
-      → EndsSo leads [] ss old new rest after octets count a b taken.Leaves
+      → EndsSo leads [] ss old new rest after octets count a b Taken.Leaves
   long_leaves count after text x does =
       let fits = h.fits in
       let more = x.more in
@@ -259,7 +220,7 @@ module _ {V : Type 0} (leads : V → Event → V → Type 0) (old new : TextWalk
       let early = s.1 in
       let v = annotated ss (payloads.Str text) in
       let free = text_free ss text in
-      let waiting = at begun old.context [] ss (nows.Long text s.0) in
+      let waiting = at begun old.context [] ss (Now.Long text s.0) in
       let o = get_or octets count 0 in
       let known = feed (place waiting) (resting after) o in
       let again : State → Effect = λ m. takes_up g' l' 2 m o in
@@ -279,7 +240,7 @@ module _ {V : Type 0} (leads : V → Event → V → Type 0) (old new : TextWalk
 
 -- what each token answers, from what its method does
 module _ {V : Type 0} (leads : V → Event → V → Type 0) where
-  pub ends_none : (r : TextWalk) (rest : Rest) (octets : List ℕ) (a : V) → EndsBy leads r r rest rest octets (Ok (0, taken.Uses)) a a
+  pub ends_none : (r : TextWalk) (rest : Rest) (octets : List ℕ) (a : V) → EndsBy leads r r rest rest octets (Ok (0, Taken.Uses)) a a
   ends_none r rest octets a =
       let x = strode_none leads r rest octets a in
       record { ended = record { leads = x.leads; within = x.within; used = x.used }; memory = tt; same = settings_none r }
@@ -292,11 +253,11 @@ module _ {V : Type 0} (leads : V → Event → V → Type 0) where
 
   -- what goes on ends no value
   pub strides_ends : (old new : TextWalk) (before after : Rest) (octets : List ℕ) (count : ℕ) (a b : V)
-      → StridesBy leads old new before after octets (Ok count) a b → EndsBy leads old new before after octets (Ok (count, taken.Uses)) a b
+      → StridesBy leads old new before after octets (Ok count) a b → EndsBy leads old new before after octets (Ok (count, Taken.Uses)) a b
   strides_ends old new before after octets count a b x =
       record { ended = record { leads = x.strode.leads; within = x.strode.within; used = x.strode.used }; memory = tt; same = x.same }
 
-  pub ends_strode : (old new : TextWalk) (before after : Rest) (octets : List ℕ) (count : ℕ) (t : Taken) (a b : V) → t ≡ taken.Uses
+  pub ends_strode : (old new : TextWalk) (before after : Rest) (octets : List ℕ) (count : ℕ) (t : Taken) (a b : V) → t ≡ Taken.Uses
       → EndsBy leads old new before after octets (Ok (count, t)) a b → Strode leads old new before after octets count a b
   ends_strode old new before after octets count t a b is x =
       let y = subst (λ t. Ended leads old new before after octets (count, t) a b) is x.ended in
@@ -314,9 +275,9 @@ module _ {V : Type 0} (leads : V → Event → V → Type 0) where
         → ((fs : List Frame) (ss : Symbols) → Holds old fs ss → here ≡ place (reading_of old fs ss))
         → ((fs : List Frame) → Holds old fs [] → Does leads (told fs []) (closed x (under g'' l'') (spot_at (rest.used + 1) old.start old.context) fs) (Ok Gives)
         new a b)
-        → EndsBy leads old new rest (past_token here rest (kinds.Mark (close_mark x)) 1) octets (Ok (1, taken.Tells)) a b
+        → EndsBy leads old new rest (past_token here rest (TokenKind.Mark (close_mark x)) 1) octets (Ok (1, Taken.Tells)) a b
     container_answer here x more first fits is does =
-        ends_so old new rest (past_token here rest (kinds.Mark (close_mark x)) 1) octets 1 taken.Tells a b
+        ends_so old new rest (past_token here rest (TokenKind.Mark (close_mark x)) 1) octets 1 Taken.Tells a b
         (λ fs ss h.
         let k = fits fs ss h.holds in
         close_ends leads old new rest octets a b fs ss h here x more k.1 first k.0 (is fs ss h.holds)
@@ -332,50 +293,50 @@ module _ {V : Type 0} (leads : V → Event → V → Type 0) where
     abbrev IsTop : Type 0
     IsTop = (fs : List Frame) (ss : Symbols) → Holds old fs ss → is_top fs ≡ true
 
-    pub leaves_answer : (token : FoundToken) (payload : Payload) → token.left ≡ true → token.count < length octets → old.stage ≡ nows.Ready → IsTop
-        → BeginsValue false places.Top rest octets token payload → TopDoes token.count payload
-        → EndsBy leads old new rest (past_token places.Top rest token.kind token.count) octets (Ok (token.count, taken.Leaves)) a b
+    pub leaves_answer : (token : FoundToken) (payload : Payload) → token.left ≡ true → token.count < length octets → old.stage ≡ Now.Ready → IsTop
+        → BeginsValue false Place.Top rest octets token payload → TopDoes token.count payload
+        → EndsBy leads old new rest (past_token Place.Top rest token.kind token.count) octets (Ok (token.count, Taken.Leaves)) a b
     leaves_answer token payload left more now top x does =
-        ends_so old new rest (past_token places.Top rest token.kind token.count) octets token.count taken.Leaves a b
+        ends_so old new rest (past_token Place.Top rest token.kind token.count) octets token.count Taken.Leaves a b
         (λ fs ss h. top_only (λ fs. Ahead old fs ss rest (length octets)
-        → EndsSo leads fs ss old new rest (past_token places.Top rest token.kind token.count) octets token.count a b taken.Leaves) fs (top fs ss h.holds)
+        → EndsSo leads fs ss old new rest (past_token Place.Top rest token.kind token.count) octets token.count a b Taken.Leaves) fs (top fs ss h.holds)
         (λ h. value_leaves leads old new rest octets a b ss h now token.kind x.kept token.count x.content payload
-        (subst (λ w. IsFound places.Top rest octets token.kind x.kept token.count w) left x.found) x.says x.is (does [] ss h.holds)) h) more refl same
+        (subst (λ w. IsFound Place.Top rest octets token.kind x.kept token.count w) left x.found) x.says x.is (does [] ss h.holds)) h) more refl same
 
-    pub tells_answer : (token : FoundToken) (payload : Payload) → token.left ≡ false → token.count < length octets → old.stage ≡ nows.Ready → IsTop
-        → BeginsValue false places.Top rest octets token payload → TopDoes token.count payload
-        → EndsBy leads old new rest (past_token places.Top rest token.kind token.count) octets (Ok (token.count, taken.Tells)) a b
+    pub tells_answer : (token : FoundToken) (payload : Payload) → token.left ≡ false → token.count < length octets → old.stage ≡ Now.Ready → IsTop
+        → BeginsValue false Place.Top rest octets token payload → TopDoes token.count payload
+        → EndsBy leads old new rest (past_token Place.Top rest token.kind token.count) octets (Ok (token.count, Taken.Tells)) a b
     tells_answer token payload left more now top x does =
-        ends_so old new rest (past_token places.Top rest token.kind token.count) octets token.count taken.Tells a b
+        ends_so old new rest (past_token Place.Top rest token.kind token.count) octets token.count Taken.Tells a b
         (λ fs ss h. top_only (λ fs. Ahead old fs ss rest (length octets)
-        → EndsSo leads fs ss old new rest (past_token places.Top rest token.kind token.count) octets token.count a b taken.Tells) fs (top fs ss h.holds)
+        → EndsSo leads fs ss old new rest (past_token Place.Top rest token.kind token.count) octets token.count a b Taken.Tells) fs (top fs ss h.holds)
         (λ h. value_tells leads old new rest octets a b ss h now token.kind x.kept token.count x.content payload
-        (subst (λ w. IsFound places.Top rest octets token.kind x.kept token.count w) left x.found) x.says x.is (does [] ss h.holds)) h) more refl same
+        (subst (λ w. IsFound Place.Top rest octets token.kind x.kept token.count w) left x.found) x.says x.is (does [] ss h.holds)) h) more refl same
 
-    pub word_ends_answer : (s : Scalar) (m : ℕ) (payload : Payload) → FoundSymbol places.Top rest octets s payload → 0 < m
-        → s.token.count + m < length octets → old.stage ≡ nows.Ready → IsTop → IsPassed (drop s.token.count octets) m
+    pub word_ends_answer : (s : Scalar) (m : ℕ) (payload : Payload) → FoundSymbol Place.Top rest octets s payload → 0 < m
+        → s.token.count + m < length octets → old.stage ≡ Now.Ready → IsTop → IsPassed (drop s.token.count octets) m
         → ends_symbol (get_or octets (s.token.count + m) 0) ≡ true → TopDoes s.token.count payload
-        → EndsBy leads old new rest (past_blank (past_token places.Top rest s.token.kind s.token.count) m) octets (Ok (s.token.count + m, taken.Leaves)) a b
+        → EndsBy leads old new rest (past_blank (past_token Place.Top rest s.token.kind s.token.count) m) octets (Ok (s.token.count + m, Taken.Leaves)) a b
     word_ends_answer s m payload f some more now top passed ends does =
         let content = f.part.token.content in
         let pays : Pays (held_of content) payload =
         subst (λ q. IsValue true content q) f.part.is (subst (λ w. IsValue w content f.part.token.payload) f.waits f.part.token.is) in
-        let used = blank_used (past_token places.Top rest s.token.kind s.token.count) m in
-        let after = past_blank (past_token places.Top rest s.token.kind s.token.count) m in
-        ends_so old new rest after octets (s.token.count + m) taken.Leaves a b
+        let used = blank_used (past_token Place.Top rest s.token.kind s.token.count) m in
+        let after = past_blank (past_token Place.Top rest s.token.kind s.token.count) m in
+        ends_so old new rest after octets (s.token.count + m) Taken.Leaves a b
         (λ fs ss h. top_only (λ fs. Ahead old fs ss rest (length octets)
-        → EndsSo leads fs ss old new rest after octets (s.token.count + m) a b taken.Leaves) fs (top fs ss h.holds)
+        → EndsSo leads fs ss old new rest after octets (s.token.count + m) a b Taken.Leaves) fs (top fs ss h.holds)
         (λ h. word_leaves leads old new rest octets a b ss h now s.token.kind f.part.token.kept s.token.count m s.token.left content payload some
         more f.part.token.found f.part.token.says passed ends pays f.free (does [] ss h.holds)) h) more (omega arith) same
 
-    pub long_ends_answer : (count : ℕ) (after : Rest) (text : List ℕ) → old.stage ≡ nows.Ready → IsTop → LongThere places.Top rest octets count after text
+    pub long_ends_answer : (count : ℕ) (after : Rest) (text : List ℕ) → old.stage ≡ Now.Ready → IsTop → LongThere Place.Top rest octets count after text
         → ((fs : List Frame) (ss : Symbols) → Holds old fs ss
         → Does leads (told fs ss) (ended (under g'' l'') (spot_at after.used (begun_at old.start rest.used fs ss) old.context) fs
         (annotated ss (payloads.Str text))) (Ok Gives) new a b)
-        → EndsBy leads old new rest after octets (Ok (count, taken.Leaves)) a b
+        → EndsBy leads old new rest after octets (Ok (count, Taken.Leaves)) a b
     long_ends_answer count after text now top x does =
-        ends_so old new rest after octets count taken.Leaves a b
-        (λ fs ss h. top_only (λ fs. Ahead old fs ss rest (length octets) → EndsSo leads fs ss old new rest after octets count a b taken.Leaves) fs
+        ends_so old new rest after octets count Taken.Leaves a b
+        (λ fs ss h. top_only (λ fs. Ahead old fs ss rest (length octets) → EndsSo leads fs ss old new rest after octets count a b Taken.Leaves) fs
         (top fs ss h.holds) (λ h. long_leaves leads old new rest octets a b ss h now count after text x (does [] ss h.holds)) h) x.more x.segments.used same
 
   -- behind octets that give nothing
@@ -402,10 +363,10 @@ module _ {V : Type 0} (leads : V → Event → V → Type 0) where
         ∙ (ap (λ g. run g l0 s.used k (take j behind)) (sym catalogs) ∙ ap (λ l. run mid.catalog.now l s.used k (take j behind)) (sym same.limits)))
 
     pub ended_on : (e : Taken) → Ended leads mid new s t behind (j, e) m b → Ended leads old new r t octets (i + j, e) a b
-    ended_on taken.Uses y =
+    ended_on Taken.Uses y =
         let z = strode_on leads old mid new r s t octets behind i j a m b is same x (record { leads = y.leads; within = y.within; used = y.used }) in
         record { leads = z.leads; within = z.within; used = z.used }
-    ended_on taken.Tells y =
+    ended_on Taken.Tells y =
         let size : length behind ≡ length octets - i = ap (λ (w : List ℕ). length w) is ∙ length-drop i octets in
         let within = x.within in
         let within' = y.within in
@@ -429,7 +390,7 @@ module _ {V : Type 0} (leads : V → Event → V → Type 0) where
           within = omega arith;
           used = omega arith;
         }
-    ended_on taken.Leaves y =
+    ended_on Taken.Leaves y =
         let size : length behind ≡ length octets - i = ap (λ (w : List ℕ). length w) is ∙ length-drop i octets in
         let within = x.within in
         let within' = y.within in
@@ -482,10 +443,10 @@ module _ {V : Type 0} (leads : V → Event → V → Type 0) (old mid : TextWalk
     (fits : (fs : List Frame) (ss : Symbols) → Holds old fs ss → first.used + length octets ≤ old.limits.item + begun_at old.start first.used fs ss) where
   pub took_there : (e : Taken) → Ended leads old mid first behind octets (count, e) a b
       → (fs : List Frame) (ss : Symbols) → Holds old fs ss → TookSo leads fs ss old (with_moved mid moved) piece count a b e
-  took_there taken.Uses y =
+  took_there Taken.Uses y =
       strides_there leads old mid moved first behind piece octets most count a b is some rests there still fits
       (record { leads = y.leads; within = y.within; used = y.used })
-  took_there taken.Tells y = λ fs ss h.
+  took_there Taken.Tells y = λ fs ss h.
       let two = y.leads fs ss (record { holds = h; still = still; fits = fits fs ss h }) in
       let within = y.within in
       let size : length octets ≡ length (take most piece) = ap (λ (w : List ℕ). length w) is in
@@ -500,7 +461,7 @@ module _ {V : Type 0} (leads : V → Event → V → Type 0) (old mid : TextWalk
             (ap (run old.catalog.now old.limits first.used (resting_at first old fs ss)) front ∙ two.2)),
         record { holds = two.3.holds; hears = two.3.hears },
       )
-  took_there taken.Leaves y = λ fs ss h.
+  took_there Taken.Leaves y = λ fs ss h.
       let two = y.leads fs ss (record { holds = h; still = still; fits = fits fs ss h }) in
       let within = y.within in
       let size : length octets ≡ length (take most piece) = ap (λ (w : List ℕ). length w) is in

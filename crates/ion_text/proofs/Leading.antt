@@ -4,14 +4,8 @@ use Rattle.std.proofs.lemmas.Grind.{common_steps}
 use Rattle.std.proofs.lemmas.List.{length-take-le, take-append-drop, get_or-drop}
 use Rattle.std.proofs.Math.Seq.{take-add, drop-cons}
 use Rattle.std.specs.Option.{is_some}
-use Rattle.ion_model.specs.declared.value.Value.{Value}
-use Rattle.ion_atoms.specs.declared.refusal.Reason.TheVariants as reasons
-use Rattle.ion_atoms.specs.declared.refusal.Refusal.{Refusal}
-use Rattle.ion_symtab.specs.declared.limits.Limits.{Limits}
-use Rattle.ion_symtab.specs.declared.catalog.Catalog.{Catalog}
-use Rattle.ion_text.specs.machine.Run.{State, Effect, uses, tells, leaves, fails, Run, run, run_on, once_more, with_value, eats}
-use Rattle.ion_text.specs.machine.Pieces.{led, then_run, run-append}
-use Rattle.ion_text.specs.machine.Progress.{GaveLast, LedLeaving, resumed, Advances, BeginsWith}
+use Rattle.ion_text.specs.Names.{Advances, Catalog, Effect, GaveLast, LedLeaving, Limits, Reason, Refusal, Run, State, Value, eats, fails, leaves, led, once_more, resumed, run, run-append, run_on, tells, then_run, uses, with_value}
+use Rattle.ion_text.specs.machine.Progress.{BeginsWith}
 
 no_cons : {A : Type 0} (x : A) (xs : List A) → x ∷ xs ≡ [] → ⊥
 no_cons x xs e = absurd cc
@@ -253,7 +247,7 @@ module _ (g : Catalog) (l : Limits) (again : Bool) (to : ℕ) (start m : State) 
   -- a second value whose end the first octet shows
   pub leads_to_second : (k : ℕ) (given : Option Value) (n : State) → again ≡ true → i + k ≡ 0
       → LedLeaving cat lim used m (take (length piece - i) (drop i piece)) k given n
-      → resumed g l again to start piece ≡ record { given = []; now = Err (record { offset = to + 1; reason = reasons.Unexpected }) }
+      → resumed g l again to start piece ≡ record { given = []; now = Err (record { offset = to + 1; reason = Reason.Unexpected }) }
   leads_to_second k None n twice none h = absurd h.left
   leads_to_second k (Some v) n twice none h =
       let no_i : i ≡ 0 = omega arith in

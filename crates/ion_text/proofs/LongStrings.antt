@@ -3,45 +3,17 @@ use Rattle.std.proofs.Common.{◌≡◌, ℕ, ◌+◌, ◌-◌, ◌<◌, ◌≤�
 use Rattle.std.specs.Prelude.{◌&&◌, ◌||◌, not, if◌then◌else◌, ◌==◌, cond}
 use Rattle.std.proofs.lemmas.Bool.Decides.{nat_tests}
 use Rattle.std.proofs.lemmas.List.{length-take-le}
-use Rattle.ion_symtab.specs.declared.limits.Limits.{Limits}
-use Rattle.ion_symtab.specs.declared.catalog.Catalog.{Catalog}
-use Rattle.ion_tokens.specs.declared.mode.Place.{Place}
-use Rattle.ion_tokens.specs.machine.Scanning.{Known, Outcome, Next, Given, feed, acts}
+use Rattle.ion_text.specs.Names.{Action, Catalog, Effect, Frame, Given, IsFound, Known, LeadsTo, Limits, Long, Mode, Next, Now, OnNext, Outcome, Passes, Place, Quiet, Reading, Rest, Setting, Slot, State, Stays, Symbols, TokenKind, Value, Waiting, acts, annotated, at, begins_value, begins_word, begun_at, behind_given, drive, eats, ended, ended_so_far, ends_symbol, feed, followed, go_on, goes, in_blank, in_segment, is_digit, is_idle, is_name, is_operator_octet, is_quoting, is_sane, is_sexp, is_top, is_white, lexeme_at, long_waits, lulls, noticed, on_said, on_scan, on_settled, past_blank, past_token, place, place_in, rested, resting, said, settle, spot_at, takes, token_of, turn, turn_now, under, unsettled, uses, waits, waits_now, with_scan}
+use Rattle.ion_model.specs.declared.value.Payload.TheVariants as payloads
+use Rattle.ion_tokens.specs.machine.Scanning as scanning
 use Rattle.ion_tokens.proofs.runs.Runs.{feed_used, next_used}
-use Rattle.ion_tokens.specs.machine.Bounds.{is_idle}
-use Rattle.ion_tokens.specs.Bodies.{Long}
-use Rattle.ion_tokens.specs.machine.Said.{said}
-use Rattle.ion_tokens.specs.machine.Ahead.{OnNext, is_sane, is_quoting, long_waits}
-use Rattle.ion_text.specs.declared.state.Frame.{Frame}
-use Rattle.ion_text.specs.machine.EachToken.{Reading, Symbols, goes, place, settle, turn, Setting, under, spot_at, place_in, turn_now, begun_at, ended, at}
-use Rattle.ion_text.specs.machine.Run.{State, Effect, uses, is_top, noticed, waits, waits_now, in_segment, unsettled, with_scan, eats, takes, on_scan, on_said, on_settled, behind_given, token_of}
-use Rattle.ion_text.specs.machine.Pieces.{followed, Quiet, Stays, Waiting, drive, go_on}
+use Rattle.ion_text.specs.machine.LongStrings.{LongSoFar, LongThere, PassedSegment, ends_long}
 use Rattle.ion_text.specs.laws.reading.complete.Meets.{follows_as}
-use Rattle.ion_text.specs.machine.Views.{lulls, ended_so_far}
-use Rattle.ion_text.specs.machine.AtOnce.{LeadsTo, Passes}
-use Rattle.ion_model.specs.declared.value.Value.{Value}
-use Rattle.ion_tokens.specs.declared.plain_tokens.Rest.{Rest}
-use Rattle.ion_tokens.specs.Octets.{is_digit, is_white, begins_word, is_operator_octet}
-use Rattle.ion_tokens.specs.machine.Rests.{resting, past_blank, past_token, lexeme_at, IsFound}
+use Rattle.ion_text.proofs.Arms.{at_drop, blank_used, ended_place, ended_stays}
 use Rattle.ion_text.proofs.Lulls.{lull_noticed}
-use Rattle.ion_text.proofs.Passing.{calm_quiet, leads_on, leads_one, passes_none, passes_on, passes_same, passes_led}
+use Rattle.ion_text.proofs.Passing.{calm_quiet, leads_on, leads_one, passes_led, passes_none, passes_on, passes_same}
 use Rattle.ion_text.proofs.Striding.{still_settles}
 use Rattle.ion_text.proofs.Tops.{top_quiet}
-use Rattle.ion_model.specs.Measures.{annotated}
-use Rattle.ion_symtab.specs.Slots.{Slot}
-use Rattle.ion_tokens.specs.Places.{is_name, is_sexp}
-use Rattle.ion_text.specs.machine.FrontTokens.{ends_symbol}
-use Rattle.ion_text.specs.machine.Walked.{rested}
-use Rattle.ion_text.proofs.Arms.{ended_stays, at_drop, blank_used, ended_place}
-use Rattle.ion_tokens.specs.declared.mode.Mode.{Mode}
-use Rattle.ion_tokens.specs.declared.mode.Action.{Action}
-use Rattle.ion_tokens.specs.machine.Table.{begins_value, in_blank}
-use Rattle.ion_text.specs.machine.LongStrings.{ends_long, PassedSegment, LongSoFar, LongThere}
-use Rattle.ion_tokens.specs.machine.Scanning as scanning
-use Rattle.ion_text.specs.declared.state.Now.TheVariants as nows
-use Rattle.ion_tokens.specs.declared.mode.TokenKind.TheVariants as kinds
-use Rattle.ion_text.specs.declared.state.Frame.TheVariants as frames
-use Rattle.ion_model.specs.declared.value.Payload.TheVariants as payloads
 
 -- the mode of a blank, or of what may be a segment of a long string
 abbrev pub may_be_long : Mode → Bool
@@ -90,17 +62,17 @@ run_sane p (o ∷ os) s t sane e =
 -- Where a value may come, octets within the limit on items are no reason to refuse.
 ready_quiet : (g : Catalog) (l : Limits) (start : ℕ) (c : List Slot) (fs : List Frame) (ss : Symbols) (rest : Rest) (octets : List ℕ) (n : ℕ)
     → n ≤ length octets → rest.used + n ≤ l.item + begun_at start rest.used fs ss
-    → Quiet g l (at start c fs ss nows.Ready) (place_in fs nows.Ready) (resting rest) (take n octets)
+    → Quiet g l (at start c fs ss Now.Ready) (place_in fs Now.Ready) (resting rest) (take n octets)
 ready_quiet g l start c [] ss rest octets n within room = top_quiet g l start c ss rest octets n within room
 ready_quiet g l start c (f ∷ fs) ss rest octets n within room =
-    calm_quiet g l (at start c (f ∷ fs) ss nows.Ready) refl tt (resting rest) refl octets n within room
+    calm_quiet g l (at start c (f ∷ fs) ss Now.Ready) refl tt (resting rest) refl octets n within room
 
 -- a segment leads the run behind it where it settles nothing that waits, and nothing is refused then
 module _ (g : Catalog) (l : Limits) (r q : Reading) (rest : Rest) (octets kept : List ℕ) (n : ℕ)
-    (found : IsFound (place r) rest octets kinds.LongString kept n false) (more : List ℕ) (says : said kinds.LongString kept ≡ Ok (Long more))
-    (turns : turn g l r (token_of (lexeme_at rest kinds.LongString kept n) (Long more)) ≡ goes q) where
+    (found : IsFound (place r) rest octets TokenKind.LongString kept n false) (more : List ℕ) (says : said TokenKind.LongString kept ≡ Ok (Long more))
+    (turns : turn g l r (token_of (lexeme_at rest TokenKind.LongString kept n) (Long more)) ≡ goes q) where
   abbrev behind : Known
-  behind = resting (past_token (place r) rest kinds.LongString n)
+  behind = resting (past_token (place r) rest TokenKind.LongString n)
 
   abbrev octet : ℕ
   octet = get_or octets (n - 1) 0
@@ -120,7 +92,7 @@ module _ (g : Catalog) (l : Limits) (r q : Reading) (rest : Rest) (octets kept :
         go_on g l (λ m. takes g l 2 m octet) r found.known (feed (place r) found.known octet) (unsettled found.known r (feed (place r) found.known octet))
         goes_on
         ∙ (ap (on_scan g l (λ m. takes g l 2 m octet) r) found.ends
-        ∙ (ap (λ a. on_said a (λ c. behind_given l behind (turn g l r (token_of (lexeme_at rest kinds.LongString kept n) c)))) says
+        ∙ (ap (λ a. on_said a (λ c. behind_given l behind (turn g l r (token_of (lexeme_at rest TokenKind.LongString kept n) c)))) says
         ∙ (ap (behind_given l behind) turns ∙ notices)))
 
     segment_leads : Quiet g l r (place r) (resting rest) (take (n - 1) octets) → Stays g l r (place r) (resting rest) (take (n - 1) octets)
@@ -137,7 +109,7 @@ module _ (g : Catalog) (l : Limits) (r q : Reading) (rest : Rest) (octets kept :
         (ap (λ o. eats g l (with_scan found.known r) o) (at_drop (n - 1) octets) ∙ ends_it)))
 
 -- where a long string waits for more
-module _ (g : Catalog) (l : Limits) (r : Reading) (w : List ℕ) (end : ℕ) (now : r.now ≡ nows.Long w end) (early : end ≤ r.start + l.item) where
+module _ (g : Catalog) (l : Limits) (r : Reading) (w : List ℕ) (end : ℕ) (now : r.now ≡ Now.Long w end) (early : end ≤ r.start + l.item) where
   long_noticed : (s : Known) → may_be_long s.mode ≡ true → s.used ≤ r.start + l.item → noticed l r s ≡ uses (with_scan s r)
   long_noticed s long room = lull_noticed l r s (ap (λ n. lulls n s.mode) now ∙ long) (subst (λ n. ended_so_far n ≤ r.start + l.item) (sym now) early) room
 
@@ -170,16 +142,16 @@ module _ (g : Catalog) (l : Limits) (r : Reading) (w : List ℕ) (end : ℕ) (no
       (inr (long_waits_on (place r) (take n octets) s t sane long e))
 
   -- a further segment
-  module _ (rest : Rest) (octets kept : List ℕ) (n : ℕ) (found : IsFound (place r) rest octets kinds.LongString kept n false)
-      (more : List ℕ) (says : said kinds.LongString kept ≡ Ok (Long more)) (room : rest.used + length octets ≤ r.start + l.item) where
+  module _ (rest : Rest) (octets kept : List ℕ) (n : ℕ) (found : IsFound (place r) rest octets TokenKind.LongString kept n false)
+      (more : List ℕ) (says : said TokenKind.LongString kept ≡ Ok (Long more)) (room : rest.used + length octets ≤ r.start + l.item) where
     abbrev longer : Reading
-    longer = at r.start r.context r.frames r.notes (nows.Long (w ++ more) (rest.used + n))
+    longer = at r.start r.context r.frames r.notes (Now.Long (w ++ more) (rest.used + n))
 
     abbrev last_octet : ℕ
     last_octet = get_or octets (n - 1) 0
 
     abbrev known_behind : Known
-    known_behind = resting (past_token (place r) rest kinds.LongString n)
+    known_behind = resting (past_token (place r) rest TokenKind.LongString n)
 
     is_long_mode : may_be_long found.known.mode ≡ true
     is_long_mode = by (is_idle found.known.mode) (is_quoting found.known.mode) refl refl
@@ -188,18 +160,18 @@ module _ (g : Catalog) (l : Limits) (r : Reading) (w : List ℕ) (end : ℕ) (no
         by true b e f = ap (λ a. a || is_quoting found.known.mode) e
         by false true e f = ap (λ a. a || is_quoting found.known.mode) e ∙ f
         by false false e f =
-            let x = follows_as (place r) found.known last_octet (Given (lexeme_at rest kinds.LongString kept n) known_behind) known_sane found.ends in
+            let x = follows_as (place r) found.known last_octet (Given (lexeme_at rest TokenKind.LongString kept n) known_behind) known_sane found.ends in
             let never : true ≡ false = x.1 e f in absurd cc
           where
             known_sane : is_sane found.known.mode ≡ true
             known_sane = run_sane (place r) (take (n - 1) octets) (resting rest) found.known refl found.ran
 
-    turns_longer : turn g l r (token_of (lexeme_at rest kinds.LongString kept n) (Long more)) ≡ goes longer
-    turns_longer = ap (turn_now (under g l) r (token_of (lexeme_at rest kinds.LongString kept n) (Long more))) now
+    turns_longer : turn g l r (token_of (lexeme_at rest TokenKind.LongString kept n) (Long more)) ≡ goes longer
+    turns_longer = ap (turn_now (under g l) r (token_of (lexeme_at rest TokenKind.LongString kept n) (Long more))) now
 
     waits_on : unsettled found.known r (feed (place r) found.known last_octet) ≡ true
     waits_on = ap (λ y. unsettled found.known r y) found.ends
-        ∙ ap (λ k. waits_now (is_top r.frames) k (Given (lexeme_at rest kinds.LongString kept n) known_behind) || in_segment k found.known) now
+        ∙ ap (λ k. waits_now (is_top r.frames) k (Given (lexeme_at rest TokenKind.LongString kept n) known_behind) || in_segment k found.known) now
 
     -- behind a long string that waits another segment of it is joined to it
     segment_joined : LeadsTo g l (with_scan (resting rest) r) octets n (with_scan known_behind longer)
@@ -275,7 +247,7 @@ long_shows top p r o h =
 long_ends : (top : Bool) (p : Place) (r : Rest) (o : ℕ) → ends_long o ≡ true → long_waits top (feed p (resting r) o) ≡ false
 long_ends top p r o h = (long_shows top p r o h).is
 
-module _ (g : Catalog) (l : Limits) (r : Reading) (w : List ℕ) (end : ℕ) (now : r.now ≡ nows.Long w end) where
+module _ (g : Catalog) (l : Limits) (r : Reading) (w : List ℕ) (end : ℕ) (now : r.now ≡ Now.Long w end) where
   -- so nothing goes on there
   pub long_unsettled : (rest : Rest) (o : ℕ) → ends_long o ≡ true → unsettled (resting rest) r (feed (place r) (resting rest) o) ≡ false
   long_unsettled rest o ends =
@@ -307,27 +279,27 @@ module _ (g : Catalog) (l : Limits) (r : Reading) (w : List ℕ) (end : ℕ) (no
           ∙ ap (λ p. on_scan g l again q (feed p (resting rest) o)) same
 
 -- what waits stands in the place where the value may come
-long_place : (fs : List Frame) (w : List ℕ) (end : ℕ) → place_in fs (nows.Long w end) ≡ place_in fs nows.Ready
+long_place : (fs : List Frame) (w : List ℕ) (end : ℕ) → place_in fs (Now.Long w end) ≡ place_in fs Now.Ready
 long_place [] w end = refl
-long_place (frames.Items listing ss vs ∷ fs) w end = refl
-long_place (frames.Named ss ms name ∷ fs) w end = refl
-long_place (frames.Fields ss ms ∷ fs) w end = refl
+long_place (Frame.Items listing ss vs ∷ fs) w end = refl
+long_place (Frame.Named ss ms name ∷ fs) w end = refl
+long_place (Frame.Fields ss ms ∷ fs) w end = refl
 
 -- in a container it says nothing where a value ended
 ended_anywhere : (setting : Setting) (start : ℕ) (c : List Slot) (fs : List Frame) (v : Value) (i j : ℕ) → is_top fs ≡ false
     → ended setting (spot_at i start c) fs v ≡ ended setting (spot_at j start c) fs v
 ended_anywhere setting start c [] v i j h = absurd cc
-ended_anywhere setting start c (frames.Items listing ss vs ∷ fs) v i j h = refl
-ended_anywhere setting start c (frames.Named ss ms name ∷ fs) v i j h = refl
-ended_anywhere setting start c (frames.Fields ss ms ∷ fs) v i j h = refl
+ended_anywhere setting start c (Frame.Items listing ss vs ∷ fs) v i j h = refl
+ended_anywhere setting start c (Frame.Named ss ms name ∷ fs) v i j h = refl
+ended_anywhere setting start c (Frame.Fields ss ms ∷ fs) v i j h = refl
 
 module _ (g : Catalog) (l : Limits) (start : ℕ) (c : List Slot) (ss : Symbols) (fs : List Frame) where
   -- a long string waits
   abbrev waits_long : List ℕ → ℕ → Reading
-  waits_long w end = at start c fs ss (nows.Long w end)
+  waits_long w end = at start c fs ss (Now.Long w end)
 
   module _ (p : Place) (before : Rest) (octets : List ℕ) (count : ℕ) (after : Rest) (old new : List ℕ)
-      (x : PassedSegment p before octets count after old new) (here : place_in fs nows.Ready ≡ p)
+      (x : PassedSegment p before octets count after old new) (here : place_in fs Now.Ready ≡ p)
       (room : before.used + length octets ≤ l.item + start) where
     abbrev n : ℕ
     n = x.size
@@ -336,11 +308,11 @@ module _ (g : Catalog) (l : Limits) (start : ℕ) (c : List Slot) (ss : Symbols)
     text = old ++ x.segment.more
 
     abbrev mid : Rest
-    mid = past_token p before kinds.LongString n
+    mid = past_token p before TokenKind.LongString n
 
     -- behind the segment the blank is passed
     behind_it : (m : State) → m.scan.used ≡ before.used → LeadsTo g l m octets n (with_scan (resting mid) (waits_long text (before.used + n)))
-        → LeadsTo g l m octets count (rested after start c fs ss (nows.Long new (before.used + n)))
+        → LeadsTo g l m octets count (rested after start c fs ss (Now.Long new (before.used + n)))
     behind_it m from h =
         let size = length-drop n octets in
         let total = x.total in
@@ -350,78 +322,78 @@ module _ (g : Catalog) (l : Limits) (start : ℕ) (c : List Slot) (ss : Symbols)
         let blank : LeadsTo g l (with_scan (resting mid) r) (drop n octets) x.blank (with_scan (resting (past_blank mid x.blank)) r) =
         long_blank g l r text end refl (omega arith) (resting mid) (resting (past_blank mid x.blank)) (drop n octets) x.blank (omega arith) refl
         refl (x.passed (place r) mid) (omega arith) in
-        subst (λ t. LeadsTo g l m octets count (rested after start c fs ss (nows.Long t end))) (sym x.segment.joined)
-        (subst (λ r. LeadsTo g l m octets count (rested r start c fs ss (nows.Long text end))) (sym x.rests)
-        (subst (λ k. LeadsTo g l m octets k (rested (past_blank mid x.blank) start c fs ss (nows.Long text end))) (sym x.total)
-        (leads_on g l m (with_scan (resting mid) r) (rested (past_blank mid x.blank) start c fs ss (nows.Long text end)) octets n x.blank
+        subst (λ t. LeadsTo g l m octets count (rested after start c fs ss (Now.Long t end))) (sym x.segment.joined)
+        (subst (λ r. LeadsTo g l m octets count (rested r start c fs ss (Now.Long text end))) (sym x.rests)
+        (subst (λ k. LeadsTo g l m octets k (rested (past_blank mid x.blank) start c fs ss (Now.Long text end))) (sym x.total)
+        (leads_on g l m (with_scan (resting mid) r) (rested (past_blank mid x.blank) start c fs ss (Now.Long text end)) octets n x.blank
         (omega arith) (omega arith) h blank)))
 
     -- the first segment, where a value may come of an item that begins there
     first_on : (s : ℕ) → begun_at s before.used fs ss ≡ start → old ≡ []
-        → LeadsTo g l (rested before s c fs ss nows.Ready) octets count (rested after start c fs ss (nows.Long new (before.used + n)))
+        → LeadsTo g l (rested before s c fs ss Now.Ready) octets count (rested after start c fs ss (Now.Long new (before.used + n)))
     first_on s begins none =
-        let r = at s c fs ss nows.Ready in
+        let r = at s c fs ss Now.Ready in
         let f = x.segment in
         let some = f.found.some in
         let shown = f.found.shown in
         let end = before.used + n in
         let early : end ≤ start + l.item = omega arith in
         let only : f.more ≡ text = ap (λ w. w ++ f.more) (sym none) in
-        let found : IsFound (place r) before octets kinds.LongString f.kept n false =
-        subst (λ p. IsFound p before octets kinds.LongString f.kept n false) (sym here) f.found in
-        let turns : turn g l r (token_of (lexeme_at before kinds.LongString f.kept n) (Long f.more)) ≡ goes (waits_long f.more end) =
-        ap (λ s. goes (at s c fs ss (nows.Long f.more end))) begins in
+        let found : IsFound (place r) before octets TokenKind.LongString f.kept n false =
+        subst (λ p. IsFound p before octets TokenKind.LongString f.kept n false) (sym here) f.found in
+        let turns : turn g l r (token_of (lexeme_at before TokenKind.LongString f.kept n) (Long f.more)) ≡ goes (waits_long f.more end) =
+        ap (λ s. goes (at s c fs ss (Now.Long f.more end))) begins in
         let one = segment_leads g l r (waits_long f.more end) before octets f.kept n found f.more f.says turns (inr refl)
-        (lull_noticed l (waits_long f.more end) (resting (past_token (place r) before kinds.LongString n)) refl early early)
+        (lull_noticed l (waits_long f.more end) (resting (past_token (place r) before TokenKind.LongString n)) refl early early)
         (ready_quiet g l s c fs ss before octets (n - 1) (omega arith) (omega arith)) (inl refl) in
-        behind_it (rested before s c fs ss nows.Ready) refl
-        (subst (λ w. LeadsTo g l (rested before s c fs ss nows.Ready) octets n (with_scan (resting mid) (waits_long w end))) only
-        (subst (λ p. LeadsTo g l (rested before s c fs ss nows.Ready) octets n
-        (with_scan (resting (past_token p before kinds.LongString n)) (waits_long f.more end))) here one))
+        behind_it (rested before s c fs ss Now.Ready) refl
+        (subst (λ w. LeadsTo g l (rested before s c fs ss Now.Ready) octets n (with_scan (resting mid) (waits_long w end))) only
+        (subst (λ p. LeadsTo g l (rested before s c fs ss Now.Ready) octets n
+        (with_scan (resting (past_token p before TokenKind.LongString n)) (waits_long f.more end))) here one))
 
     -- where a long string waits, a further one
-    further_on : (end : ℕ) → end ≤ before.used → LeadsTo g l (rested before start c fs ss (nows.Long old end)) octets count
-        (rested after start c fs ss (nows.Long new (before.used + n)))
+    further_on : (end : ℕ) → end ≤ before.used → LeadsTo g l (rested before start c fs ss (Now.Long old end)) octets count
+        (rested after start c fs ss (Now.Long new (before.used + n)))
     further_on end early =
         let r = waits_long old end in
         let f = x.segment in
         let there : place r ≡ p = long_place fs old end ∙ here in
-        let found : IsFound (place r) before octets kinds.LongString f.kept n false =
-        subst (λ p. IsFound p before octets kinds.LongString f.kept n false) (sym there) f.found in
-        behind_it (rested before start c fs ss (nows.Long old end)) refl
-        (subst (λ p. LeadsTo g l (rested before start c fs ss (nows.Long old end)) octets n
-        (with_scan (resting (past_token p before kinds.LongString n)) (waits_long text (before.used + n)))) there
+        let found : IsFound (place r) before octets TokenKind.LongString f.kept n false =
+        subst (λ p. IsFound p before octets TokenKind.LongString f.kept n false) (sym there) f.found in
+        behind_it (rested before start c fs ss (Now.Long old end)) refl
+        (subst (λ p. LeadsTo g l (rested before start c fs ss (Now.Long old end)) octets n
+        (with_scan (resting (past_token p before TokenKind.LongString n)) (waits_long text (before.used + n)))) there
         (segment_joined g l r old end refl (omega arith) before octets f.kept n found f.more f.says (omega arith)))
 
 -- behind a long string in an open container the octet shows that it is whole
 pub settled_on : (g : Catalog) (l : Limits) (start : ℕ) (c : List Slot) (ss : Symbols) (fs : List Frame) (p : Place) (before : Rest) (octets : List ℕ)
-    (count : ℕ) (after : Rest) (text : List ℕ) (x : LongThere p before octets count after text) → is_top fs ≡ false → place_in fs nows.Ready ≡ p
+    (count : ℕ) (after : Rest) (text : List ℕ) (x : LongThere p before octets count after text) → is_top fs ≡ false → place_in fs Now.Ready ≡ p
     → before.used + length octets ≤ l.item + start → (end : ℕ) (q : Reading)
     → ended (under g l) (spot_at end start c) fs (annotated ss (payloads.Str text)) ≡ goes q
-    → Passes g l (rested before start c fs ss nows.Ready) octets count (with_scan (resting after) q)
+    → Passes g l (rested before start c fs ss Now.Ready) octets count (with_scan (resting after) q)
 settled_on g l start c ss [] p before octets count after text x inner here room end q does = absurd cc
 settled_on g l start c ss (f ∷ fs) p before octets count after text x inner here room end q does =
     let s = x.segments.leads g l start c ss (f ∷ fs) here room in
-    let r = at start c (f ∷ fs) ss (nows.Long text s.0) in
+    let r = at start c (f ∷ fs) ss (Now.Long text s.0) in
     let more = x.more in
     let size = length-drop count octets in
     let stays = ended_stays (under g l) (spot_at end start c) q (f ∷ fs) (annotated ss (payloads.Str text)) refl does in
     let none : count + 0 ≡ count = omega arith in
-    let up_to = passes_led g l (rested before start c (f ∷ fs) ss nows.Ready) (with_scan (resting after) r) octets count (omega arith) x.segments.used s.2 in
+    let up_to = passes_led g l (rested before start c (f ∷ fs) ss Now.Ready) (with_scan (resting after) r) octets count (omega arith) x.segments.used s.2 in
     let whole : Passes g l (with_scan (resting after) r) (drop count octets) 0 (with_scan (resting after) q) =
     long_settled g l r text s.0 refl after (drop count octets) q (omega arith) (ap ends_long (at_drop count octets) ∙ x.ends)
     (ended_anywhere (under g l) start c (f ∷ fs) (annotated ss (payloads.Str text)) s.0 end refl ∙ does) (still_settles g l q stays.2)
     (ended_place (under g l) (spot_at end start c) q (f ∷ fs) (annotated ss (payloads.Str text)) refl does ∙ sym (long_place (f ∷ fs) text s.0)) in
-    subst (λ k. Passes g l (rested before start c (f ∷ fs) ss nows.Ready) octets k (with_scan (resting after) q)) none
-    (passes_on g l (rested before start c (f ∷ fs) ss nows.Ready) (with_scan (resting after) r) (with_scan (resting after) q) octets count 0 up_to whole)
+    subst (λ k. Passes g l (rested before start c (f ∷ fs) ss Now.Ready) octets k (with_scan (resting after) q)) none
+    (passes_on g l (rested before start c (f ∷ fs) ss Now.Ready) (with_scan (resting after) r) (with_scan (resting after) q) octets count 0 up_to whole)
 
 -- behind a segment and a blank so many octets are used
 segment_used : (p : Place) (before : Rest) (octets : List ℕ) (count : ℕ) (after : Rest) (old new : List ℕ) → PassedSegment p before octets count after old new
     → after.used ≡ before.used + count
 segment_used p before octets count after old new x =
-    let blank = blank_used (past_token p before kinds.LongString x.size) x.blank in
+    let blank = blank_used (past_token p before TokenKind.LongString x.size) x.blank in
     let total = x.total in
-    let is : after.used ≡ (past_blank (past_token p before kinds.LongString x.size) x.blank).used = ap (λ (r : Rest). r.used) x.rests in
+    let is : after.used ≡ (past_blank (past_token p before TokenKind.LongString x.size) x.blank).used = ap (λ (r : Rest). r.used) x.rests in
     omega arith
 
 -- a segment is a long string so far
@@ -459,10 +431,10 @@ more_segments p before mid after octets behind i j old new is s x =
           let start' = begun_at start before.used fs ss in (
             mid.used + x.size,
             omega arith,
-            leads_on g l (rested before start c fs ss nows.Ready) (rested mid start' c fs ss (nows.Long old begun.0))
-                (rested after start' c fs ss (nows.Long new (mid.used + x.size))) octets i j first used begun.2
-                (subst (λ w. LeadsTo g l (rested mid start' c fs ss (nows.Long old begun.0)) w j
-                (rested after start' c fs ss (nows.Long new (mid.used + x.size)))) is
+            leads_on g l (rested before start c fs ss Now.Ready) (rested mid start' c fs ss (Now.Long old begun.0))
+                (rested after start' c fs ss (Now.Long new (mid.used + x.size))) octets i j first used begun.2
+                (subst (λ w. LeadsTo g l (rested mid start' c fs ss (Now.Long old begun.0)) w j
+                (rested after start' c fs ss (Now.Long new (mid.used + x.size)))) is
                 (further_on g l start' c ss fs p mid behind j after old new x here (omega arith) begun.0 begun.1)),
           );
       some = omega arith;

@@ -2,51 +2,28 @@
 use Rattle.std.proofs.Common.{◌≡◌, ℕ, ◌+◌, ◌-◌, ◌≤◌, Bool, true, false, List, [], ◌∷◌, length, Option, Some, None, refl, ap, sym, ◌∙◌, subst, arith, ◌⊎◌, inl, inr}
 use Rattle.std.specs.Prelude.{◌==◌, ◌&&◌, ◌||◌, not, nat_le, if◌then◌else◌}
 use Rattle.std.proofs.lemmas.Bool.Decides.{nat_tests}
-use Rattle.ion_atoms.specs.declared.refusal.Reason.TheVariants as reasons
-use Rattle.ion_symtab.specs.declared.limits.Limits.{Limits}
-use Rattle.ion_symtab.specs.declared.catalog.Catalog.{Catalog}
-use Rattle.ion_tokens.specs.declared.mode.Place.{Place}
-use Rattle.ion_tokens.specs.declared.mode.Mode.{Mode}
-use Rattle.ion_tokens.specs.declared.token.Begun.{Begun}
-use Rattle.ion_tokens.specs.declared.mode.Mode.TheVariants as modes
-use Rattle.ion_tokens.specs.declared.mode.Style.{Style}
-use Rattle.ion_tokens.specs.declared.mode.Style.TheVariants as styles
-use Rattle.ion_tokens.specs.declared.mode.Within.TheVariants as within
-use Rattle.ion_tokens.specs.machine.Ahead.{is_long_form, is_quoting, AtEach, OnNext}
-use Rattle.ion_tokens.specs.machine.Bounds.{is_idle}
-use Rattle.ion_tokens.specs.machine.AtOnce.{goes_on, gone_on, GoesOver}
-use Rattle.ion_tokens.specs.Lexemes.{Each}
+use Rattle.ion_text.specs.Names.{AtEach, Begun, Catalog, Each, Frame, GoesOver, IsLull, Known, Limits, Mode, Next, Now, OnNext, Place, Quiet, Reading, Reason, Slot, Stays, Style, Symbols, Waiting, Within, at, begun_in, behind, drive, ended_so_far, fails, feed, form_of, goes, goes_on, gone_on, is_idle, is_long_begun, is_long_form, is_quoting, is_top, led, longest_top, lulls, noticed, place, reaches, run, settle, settled, shut, under, uses, waits, waits_now, with_scan}
 use Rattle.ion_tokens.specs.machine.Scanning as scanning
-use Rattle.ion_tokens.specs.machine.Scanning.{Known, Next, feed}
-use Rattle.ion_tokens.specs.machine.Views.{begun_in, behind, form_of}
-use Rattle.ion_tokens.proofs.runs.Runs.{next_used, feed_used}
 use Rattle.ion_tokens.proofs.runs.GoesOn.{one_on, through}
+use Rattle.ion_tokens.proofs.runs.Runs.{feed_used, next_used}
 use Rattle.ion_text.specs.laws.reading.complete.Meets.{LongOn, is_long_text, long_feed}
-use Rattle.ion_text.specs.declared.state.Frame.{Frame}
-use Rattle.ion_text.specs.declared.state.Now.{Now}
-use Rattle.ion_text.specs.declared.state.Now.TheVariants as nows
-use Rattle.ion_symtab.specs.Slots.{Slot}
-use Rattle.ion_text.specs.machine.EachToken.{under, Reading, Symbols, goes, at, place, settle, settled}
-use Rattle.ion_text.specs.machine.Run.{uses, fails, noticed, shut, reaches, longest_top, is_long_begun, with_scan, waits, waits_now, is_top, run}
-use Rattle.ion_text.specs.machine.Pieces.{led, Quiet, Stays, Waiting, drive}
-use Rattle.ion_text.specs.machine.Views.{lulls, ended_so_far, IsLull}
 
 -- no token has begun that may not
 open_mode : (n : Now) (m : Mode) → lulls n m ≡ true → (shut n && not (is_idle m)) ≡ false
-open_mode nows.Ready m h = absurd cc
-open_mode nows.Name m h = absurd cc
-open_mode (nows.Pending k end) m h = refl
-open_mode (nows.Long w end) m h = refl
-open_mode nows.After m h = ap not h
-open_mode (nows.LongName w) m h = refl
-open_mode (nows.Keyed s) m h = ap not h
+open_mode Now.Ready m h = absurd cc
+open_mode Now.Name m h = absurd cc
+open_mode (Now.Pending k end) m h = refl
+open_mode (Now.Long w end) m h = refl
+open_mode Now.After m h = ap not h
+open_mode (Now.LongName w) m h = refl
+open_mode (Now.Keyed s) m h = ap not h
 
 end_if : ℕ → Option Begun → ℕ
 end_if d None = d
 end_if d (Some b) = b.end
 
 long_within : (start used bound : ℕ) (end : ℕ) (w : List ℕ) (ss : Symbols) (b : Option Begun) (n : ℕ) → end ≤ start + bound → end_if 0 b ≤ used
-    → used ≤ start + bound → longest_top start used (nows.Long w end) ss b n ≤ bound
+    → used ≤ start + bound → longest_top start used (Now.Long w end) ss b n ≤ bound
 unfolding end_if
 long_within start used bound end w ss None n h e u = omega arith
 long_within start used bound end w ss (Some b) n h e u = let inside : b.end ≤ used = e in by inside (is_long_form b.form && not (n == 0)) where
@@ -63,13 +40,13 @@ begun_end s false = let inside : s.used - behind s.mode ≤ s.used = omega arith
 -- the open item has at most as many octets as the limit
 top_within : (start bound : ℕ) (n : Now) (s : Known) (ss : Symbols) (k : ℕ) → lulls n s.mode ≡ true → ended_so_far n ≤ start + bound → s.used ≤ start + bound
     → longest_top start s.used n ss (begun_in s) k ≤ bound
-top_within start bound nows.Ready s ss k l e u = absurd cc
-top_within start bound nows.Name s ss k l e u = absurd cc
-top_within start bound (nows.Pending h end) s ss k l e u = omega arith
-top_within start bound (nows.Long w end) s ss k l e u = long_within start s.used bound end w ss (begun_in s) k e (begun_end s (is_idle s.mode)) u
-top_within start bound nows.After s ss k l e u = omega arith
-top_within start bound (nows.LongName w) s ss k l e u = omega arith
-top_within start bound (nows.Keyed x) s ss k l e u = omega arith
+top_within start bound Now.Ready s ss k l e u = absurd cc
+top_within start bound Now.Name s ss k l e u = absurd cc
+top_within start bound (Now.Pending h end) s ss k l e u = omega arith
+top_within start bound (Now.Long w end) s ss k l e u = long_within start s.used bound end w ss (begun_in s) k e (begun_end s (is_idle s.mode)) u
+top_within start bound Now.After s ss k l e u = omega arith
+top_within start bound (Now.LongName w) s ss k l e u = omega arith
+top_within start bound (Now.Keyed x) s ss k l e u = omega arith
 
 reach_within : (l : Limits) (r : Reading) (s : Known) (fs : List Frame) → lulls r.now s.mode ≡ true → ended_so_far r.now ≤ r.start + l.item
     → s.used ≤ r.start + l.item → reaches fs r s ≤ l.item
@@ -80,44 +57,44 @@ reach_within l r s (f ∷ fs) w e u = omega arith
 pub lull_noticed : (l : Limits) (r : Reading) (s : Known) → lulls r.now s.mode ≡ true → ended_so_far r.now ≤ r.start + l.item → s.used ≤ r.start + l.item
     → noticed l r s ≡ uses (with_scan s r)
 lull_noticed l r s w e u =
-    ap (λ b. if b then fails reasons.Unexpected else (if nat_le (reaches r.frames r s) l.item then uses (with_scan s r) else fails reasons.ItemTooLong))
+    ap (λ b. if b then fails Reason.Unexpected else (if nat_le (reaches r.frames r s) l.item then uses (with_scan s r) else fails Reason.ItemTooLong))
     (open_mode r.now s.mode w)
-    ∙ ap (λ b. if b then uses (with_scan s r) else fails reasons.ItemTooLong) (le_true (reaches r.frames r s) l.item (reach_within l r s r.frames w e u))
+    ∙ ap (λ b. if b then uses (with_scan s r) else fails Reason.ItemTooLong) (le_true (reaches r.frames r s) l.item (reach_within l r s r.frames w e u))
   where
     le_true : (x y : ℕ) → x ≤ y → nat_le x y ≡ true
     le_true x y h = grind (arith, nat_tests)
 
 -- a further segment of a long string goes on to be one
 quoting_text : (m : Mode) → is_long_text m ≡ true → (is_idle m || is_quoting m) ≡ true
-quoting_text (modes.Text styles.LongString w) h = refl
+quoting_text (Mode.Text Style.LongString w) h = refl
 quoting_text _ h = absurd cc
 
 no_text : (m : Mode) → is_idle m ≡ true → is_long_text m ≡ true → ⊥
-no_text (modes.Text style w) i h = absurd cc
+no_text (Mode.Text style w) i h = absurd cc
 no_text _ i h = absurd cc
 
 text_lulls : (n : Now) (m k : Mode) → lulls n m ≡ true → is_long_text m ≡ true → is_long_text k ≡ true → lulls n k ≡ true
-text_lulls nows.Ready m k w h i = absurd cc
-text_lulls nows.Name m k w h i = absurd cc
-text_lulls (nows.Pending held end) m k w h i = absurd (no_text m w h)
-text_lulls (nows.Long w end) m k w' h i = quoting_text k i
-text_lulls nows.After m k w h i = absurd (no_text m w h)
-text_lulls (nows.LongName w) m k w' h i = quoting_text k i
-text_lulls (nows.Keyed s) m k w h i = absurd (no_text m w h)
+text_lulls Now.Ready m k w h i = absurd cc
+text_lulls Now.Name m k w h i = absurd cc
+text_lulls (Now.Pending held end) m k w h i = absurd (no_text m w h)
+text_lulls (Now.Long w end) m k w' h i = quoting_text k i
+text_lulls Now.After m k w h i = absurd (no_text m w h)
+text_lulls (Now.LongName w) m k w' h i = quoting_text k i
+text_lulls (Now.Keyed s) m k w h i = absurd (no_text m w h)
 
 -- the only text over which it waits
-waits_in_text : (n : Now) (s : Style) → lulls n (modes.Text s within.Plain) ≡ true → is_long_text (modes.Text s within.Plain) ≡ true
-waits_in_text n styles.LongString h = refl
-waits_in_text nows.Ready _ h = absurd cc
-waits_in_text nows.Name _ h = absurd cc
-waits_in_text (nows.Pending held end) _ h = absurd cc
-waits_in_text (nows.Long w end) _ h = absurd cc
-waits_in_text nows.After _ h = absurd cc
-waits_in_text (nows.LongName w) _ h = absurd cc
-waits_in_text (nows.Keyed name) _ h = absurd cc
+waits_in_text : (n : Now) (s : Style) → lulls n (Mode.Text s Within.Plain) ≡ true → is_long_text (Mode.Text s Within.Plain) ≡ true
+waits_in_text n Style.LongString h = refl
+waits_in_text Now.Ready _ h = absurd cc
+waits_in_text Now.Name _ h = absurd cc
+waits_in_text (Now.Pending held end) _ h = absurd cc
+waits_in_text (Now.Long w end) _ h = absurd cc
+waits_in_text Now.After _ h = absurd cc
+waits_in_text (Now.LongName w) _ h = absurd cc
+waits_in_text (Now.Keyed name) _ h = absurd cc
 
 each_or_text : (n : Now) (m : Mode) (w : List ℕ) → lulls n m ≡ true → GoesOver m w → Each (goes_on m) w ⊎ (is_long_text m ≡ true)
-each_or_text n (modes.Text s within.Plain) w h over = inr (waits_in_text n s h)
+each_or_text n (Mode.Text s Within.Plain) w h over = inr (waits_in_text n s h)
 each_or_text n _ w h over = inl over
 
 module _ (g : Catalog) (l : Limits) (r : Reading) where
@@ -143,13 +120,13 @@ module _ (g : Catalog) (l : Limits) (r : Reading) where
   -- a mark is awaited, or more of what waits
   waits_or_not : (start : ℕ) (c : List Slot) (fs : List Frame) (ss : Symbols) (top : Bool) (n : Now) (m : Mode) → lulls n m ≡ true
       → (settled (under g l) start c fs ss n ≡ goes (at start c fs ss n)) ⊎ ((t : Known) → lulls n t.mode ≡ true → waits_now top n (Next t) ≡ true)
-  waits_or_not start c fs ss top nows.Ready m h = absurd cc
-  waits_or_not start c fs ss top nows.Name m h = absurd cc
-  waits_or_not start c fs ss top (nows.Pending k end) m h = inr (λ t h. h)
-  waits_or_not start c fs ss top (nows.Long w end) m h = inr (λ t h. h)
-  waits_or_not start c fs ss top nows.After m h = inl refl
-  waits_or_not start c fs ss top (nows.LongName w) m h = inr (λ t h. h)
-  waits_or_not start c fs ss top (nows.Keyed s) m h = inl refl
+  waits_or_not start c fs ss top Now.Ready m h = absurd cc
+  waits_or_not start c fs ss top Now.Name m h = absurd cc
+  waits_or_not start c fs ss top (Now.Pending k end) m h = inr (λ t h. h)
+  waits_or_not start c fs ss top (Now.Long w end) m h = inr (λ t h. h)
+  waits_or_not start c fs ss top Now.After m h = inl refl
+  waits_or_not start c fs ss top (Now.LongName w) m h = inr (λ t h. h)
+  waits_or_not start c fs ss top (Now.Keyed s) m h = inl refl
 
   stays_lull : (os : List ℕ) (s : Known) → Each (goes_on s.mode) os → lulls r.now s.mode ≡ true → Stays g l r (place r) s os
   stays_lull os s each lull = by (waits_or_not r.start r.context r.frames r.notes (is_top r.frames) r.now s.mode lull) where

@@ -1,20 +1,10 @@
 -- What the scanner answers, and what comes of the octets.
 use Rattle.std.proofs.Common.{◌≡◌, ◌≢◌, ℕ, ◌+◌, true, false, Some, None, Ok, Err, refl, sym, ap, ◌∙◌, subst, arith}
-use Rattle.ion_atoms.specs.declared.refusal.Reason.{Reason}
-use Rattle.ion_atoms.specs.declared.refusal.Reason.TheVariants.{Memory}
-use Rattle.ion_atoms.specs.declared.refusal.Refusal.{Refusal}
-use Rattle.ion_symtab.specs.declared.limits.Limits.{Limits}
-use Rattle.ion_symtab.specs.declared.catalog.Catalog.{Catalog}
-use Rattle.ion_tokens.specs.declared.token.Token.{Token as Found}
-use Rattle.ion_tokens.specs.Bodies.{Content, content}
-use Rattle.ion_tokens.specs.machine.Scanning.{Known, Outcome, Next, Given, Left, Refused}
-use Rattle.ion_tokens.specs.Lexemes.{Lexeme}
-use Rattle.ion_tokens.specs.machine.Steps.{Stepped, Answers, IsToken, GivesToken}
+use Rattle.ion_text.specs.Names.{Catalog, Content, Effect, Found, Given, GivesToken, IsToken, Known, Left, Lexeme, Limits, Memory, Next, Outcome, Reading, Reason, Refusal, Refused, State, Stepped, behind_given, behind_left, decided, fails, noticed, on_said, on_scan, said, says, token_of, turn}
+use Rattle.ion_tokens.specs.Bodies.{content}
+use Rattle.ion_tokens.specs.machine.Steps.{Answers}
 use Rattle.ion_tokens.proofs.runs.Cutting.{one_body}
-use Rattle.ion_tokens.specs.machine.Said.{said, says}
-use Rattle.ion_text.specs.machine.EachToken.{Reading, turn}
-use Rattle.ion_text.specs.machine.Run.{State, Effect, fails, noticed, behind_given, behind_left, on_said, on_scan, token_of}
-use Rattle.ion_text.specs.machine.Views.{token_in, decided}
+use Rattle.ion_text.specs.machine.Views.{token_in}
 
 -- a lexeme says what the scanner's token of it holds
 pub said_so : (x : Lexeme) (t : Found) → IsToken x t → said x.kind x.octets ≡ Ok (content t.body)

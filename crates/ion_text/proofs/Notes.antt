@@ -3,7 +3,7 @@ use Rattle.std.proofs.Common.{◌≡◌, ◌≢◌, ℕ, zero, suc, false, List,
 use Rattle.std.specs.Prelude.{◌==◌, ◌&&◌, codes}
 use Rattle.std.specs.Str.{bytes_eq}
 use Rattle.std.proofs.lemmas.Bool.Decides.{nat_tests}
-use Rattle.ion_model.specs.Kinds.{names_table}
+use Rattle.ion_text.specs.Names.{names_table}
 
 -- a text that begins with no `$` doesn't name local symbol tables
 pub no_table : (w : List ℕ) → get_or w 0 0 ≢ 36 → names_table (Some w) ≡ false

@@ -1,43 +1,33 @@
 -- One octet, as often as it comes.
 use Rattle.std.proofs.Common.{◌≡◌, ℕ, zero, suc, ◌+◌, ◌-◌, ◌<◌, true, false, [], ◌∷◌, refl, sym, ap, ◌∙◌, subst, arith}
 use Rattle.std.specs.Prelude.{if◌then◌else◌}
-use Rattle.ion_atoms.specs.declared.refusal.Reason.{Reason}
-use Rattle.ion_atoms.specs.declared.refusal.Reason.TheVariants as reasons
-use Rattle.ion_symtab.specs.declared.limits.Limits.{Limits}
-use Rattle.ion_symtab.specs.declared.catalog.Catalog.{Catalog}
-use Rattle.ion_tokens.specs.declared.mode.Place.{Place}
-use Rattle.ion_tokens.specs.machine.Scanning.{Known, Outcome, Next, Given, Left, Refused, feed, follow, run}
-use Rattle.ion_tokens.specs.Lexemes.{Lexeme}
+use Rattle.ion_text.specs.Names.{Catalog, Effect, Given, IsBehind, Known, Left, Lexeme, Limits, Met, Next, Outcome, Place, Reading, Reason, Refused, State, Turn, comes_again, feed, follow, is_left, lesser, on_octet, on_scan, on_settled, place, scan as run, settle, takes, unsettled}
 use Rattle.ion_tokens.proofs.runs.Runs.{feed_used, given_used, left_used}
-use Rattle.ion_text.specs.declared.state.Met.{Met}
-use Rattle.ion_text.specs.machine.EachToken.{Reading, Turn, place, settle}
-use Rattle.ion_text.specs.machine.Run.{State, Effect, lesser, unsettled, on_scan, on_settled, on_octet, takes}
-use Rattle.ion_text.specs.machine.Views.{IsBehind, is_left, comes_again}
 
 -- memory that runs out answers for every other reason
-pub least : (e : Reason) → lesser e reasons.Memory ≡ reasons.Memory
-least reasons.Memory = refl
-least reasons.Incomplete = refl
-least reasons.TooLarge = refl
-least reasons.Malformed = refl
-least reasons.Float = refl
-least reasons.DuplicateTable = refl
-least reasons.BadTable = refl
-least reasons.SymbolRange = refl
-least reasons.ImportGap = refl
-least reasons.MissingImport = refl
-least reasons.RepeatedField = refl
-least reasons.TableTooLarge = refl
-least reasons.NullTable = refl
-least reasons.BadEscape = refl
-least reasons.BadUtf8 = refl
-least reasons.BadBase64 = refl
-least reasons.Ambiguous = refl
-least reasons.Unexpected = refl
-least reasons.Depth = refl
-least reasons.ItemTooLong = refl
-least reasons.Version = refl
-least reasons.KeywordAsName = refl
+pub least : (e : Reason) → lesser e Reason.Memory ≡ Reason.Memory
+least Reason.Memory = refl
+least Reason.Incomplete = refl
+least Reason.TooLarge = refl
+least Reason.Malformed = refl
+least Reason.Float = refl
+least Reason.DuplicateTable = refl
+least Reason.BadTable = refl
+least Reason.SymbolRange = refl
+least Reason.ImportGap = refl
+least Reason.MissingImport = refl
+least Reason.RepeatedField = refl
+least Reason.TableTooLarge = refl
+least Reason.NullTable = refl
+least Reason.BadEscape = refl
+least Reason.BadUtf8 = refl
+least Reason.BadBase64 = refl
+least Reason.Ambiguous = refl
+least Reason.Unexpected = refl
+least Reason.Depth = refl
+least Reason.ItemTooLong = refl
+least Reason.Version = refl
+least Reason.KeywordAsName = refl
 
 -- one octet at the scanner
 pub one_octet : (p : Place) (s : Known) (o : ℕ) → run p (o ∷ []) s ≡ feed p s o

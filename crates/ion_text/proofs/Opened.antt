@@ -3,40 +3,25 @@ use Rattle.std.proofs.Common.{◌≡◌, List, [], ◌∷◌, ◌++◌, reverse,
 use Rattle.std.specs.Prelude.{◌<◌, IsSome}
 use Rattle.std.specs.Option.{option_to_list}
 use Rattle.std.proofs.lemmas.List.{reverse-append}
-use Rattle.ion_atoms.specs.declared.refusal.Reason.{Reason}
-use Rattle.ion_model.specs.declared.value.Value.{Value}
+use Rattle.ion_text.specs.Names.{AreAround, AreOpen, Bracket, Does, DoesAlone, Enters, Event, Frame, Goes, Hears, Holds, Listing, MayClose, Now, Reason, Setting, Spot, Symbols, TableFilter, Tells, TextWalk, Turned, Value, WasTold, WentOn, annotated, annotation, at, behind_comma, bracket_of, brackets_of, calm, closed, closes_in, ended, events_of, first_now, goes, has_notes, heard, is_same, name, named, on_comma, open_brackets, opened, opens, told, unexpected}
 use Rattle.ion_model.specs.declared.value.Payload.TheVariants as payloads
-use Rattle.ion_model.specs.Measures.{annotated}
-use Rattle.ion_visiting.specs.declared.bracket.Bracket.{Bracket}
-use Rattle.ion_visiting.specs.declared.bracket.Bracket.TheVariants as brackets
-use Rattle.ion_visiting.specs.Events.{Event, annotation, name, opens, closes, events_of}
-use Rattle.ion_text.specs.declared.state.Frame.{Frame}
-use Rattle.ion_text.specs.declared.state.Frame.TheVariants as frames
-use Rattle.ion_text.specs.declared.state.Listing.TheVariants as listings
-use Rattle.ion_text.specs.declared.state.Now.{Now}
-use Rattle.ion_text.specs.declared.state.Now.TheVariants as nows
-use Rattle.ion_text.specs.declared.state.Effect.{Effect as Turned}
-use Rattle.ion_text.specs.declared.state.Effect.TheVariants.{Goes}
-use Rattle.ion_text.specs.declared.walk.TextWalk.{TextWalk}
-use Rattle.ion_visiting.specs.declared.table_filter.TableFilter.{TableFilter}
-use Rattle.ion_text.specs.machine.EachToken.{Setting, Spot, Symbols, first_now, goes, at, ended, opened, closed, on_comma, named, unexpected}
-use Rattle.ion_visiting.specs.Tables.{WasTold, Hears, Tells, heard}
-use Rattle.ion_text.specs.walk.Holds.{AreAround, AreOpen, Does, DoesAlone, Enters, Holds, MayClose, WentOn, bracket_of, brackets_of, behind_comma, calm, closes_in, has_notes, is_same, open_brackets, told, told_in}
-use Rattle.ion_text.proofs.Holding.{note_told, open_told, list_told, sexp_told, fields_told, name_told}
-use Rattle.ion_text.proofs.Taking.{does_behind}
+use Rattle.ion_visiting.specs.Events.{closes}
+use Rattle.ion_text.specs.walk.Holds.{told_in}
 use Rattle.ion_text.proofs.Ended.{staged}
+use Rattle.ion_text.proofs.Holding.{fields_told, list_told, name_told, note_told, open_told, sexp_told}
+use Rattle.ion_text.proofs.Taking.{does_behind}
 
 -- 1. An open.
 
 bracket_opened : (b : Bracket) (ss : Symbols) → bracket_of (opened b ss) ≡ b
-bracket_opened brackets.List ss = refl
-bracket_opened brackets.Sexp ss = refl
-bracket_opened brackets.Fields ss = refl
+bracket_opened Bracket.List ss = refl
+bracket_opened Bracket.Sexp ss = refl
+bracket_opened Bracket.Fields ss = refl
 
 opened_there : (b : Bracket) (fs : List Frame) (ss : Symbols) → AreAround fs → AreOpen (opened b ss ∷ fs) [] (calm (first_now b))
-opened_there brackets.List fs ss h = h
-opened_there brackets.Sexp fs ss h = h
-opened_there brackets.Fields fs ss h = h
+opened_there Bracket.List fs ss h = h
+opened_there Bracket.Sexp fs ss h = h
+opened_there Bracket.Fields fs ss h = h
 
 -- a bracket is pushed behind those that were open
 pushed : (items : List Bracket) (b : Bracket) (fs : List Frame) (ss : Symbols) → reverse items ≡ brackets_of fs
@@ -44,7 +29,7 @@ pushed : (items : List Bracket) (b : Bracket) (fs : List Frame) (ss : Symbols) �
 pushed items b fs ss e =
     reverse-append items (b ∷ []) ∙ (ap (λ bs. b ∷ bs) e ∙ ap (λ x. x ∷ brackets_of fs) (sym (bracket_opened b ss)))
 
-pub entered : {V : Type 0} (leads : V → Event → V → Type 0) (r new : TextWalk) (b : Bracket) (a z : V) → r.stage ≡ nows.Ready
+pub entered : {V : Type 0} (leads : V → Event → V → Type 0) (r new : TextWalk) (b : Bracket) (a z : V) → r.stage ≡ Now.Ready
     → new.frames.items ≡ r.frames.items ++ b ∷ [] → new.noted ≡ false → new.stage ≡ first_now b → new.start ≡ r.start → new.context ≡ r.context
     → Tells leads (opens b) r.filter new.filter a z
     → (fs : List Frame) (ss : Symbols) → Holds r fs ss → Enters leads b r new fs ss a z
@@ -73,7 +58,7 @@ noted_some : (ss : Symbols) (s : _) → true ≡ has_notes (ss ++ s ∷ [])
 noted_some [] s = refl
 noted_some (t ∷ ss) s = refl
 
-pub notes_went : {V : Type 0} (leads : V → Event → V → Type 0) (r new : TextWalk) (s : _) (a z : V) → r.stage ≡ nows.Ready
+pub notes_went : {V : Type 0} (leads : V → Event → V → Type 0) (r new : TextWalk) (s : _) (a z : V) → r.stage ≡ Now.Ready
     → new.frames ≡ r.frames → new.noted ≡ true → new.stage ≡ r.stage
     → ((es : List Event) → WasTold r.filter es
     → WasTold new.filter (es ++ annotation s ∷ []) × Hears leads (heard es) (heard (es ++ annotation s ∷ [])) a z)
@@ -95,34 +80,34 @@ notes_went leads r new s a z ready same noted stage tells fs ss h =
 
 -- 3. The name of a field.
 
-pub names_does : {V : Type 0} (leads : V → Event → V → Type 0) (r new : TextWalk) (s : _) (a z : V) → r.stage ≡ nows.Name
-    → new.frames ≡ r.frames → new.noted ≡ r.noted → new.stage ≡ nows.Ready → new.start ≡ r.start → new.context ≡ r.context
+pub names_does : {V : Type 0} (leads : V → Event → V → Type 0) (r new : TextWalk) (s : _) (a z : V) → r.stage ≡ Now.Name
+    → new.frames ≡ r.frames → new.noted ≡ r.noted → new.stage ≡ Now.Ready → new.start ≡ r.start → new.context ≡ r.context
     → ((es : List Event) → WasTold r.filter es → WasTold new.filter (es ++ name s ∷ []) × Hears leads (heard es) (heard (es ++ name s ∷ [])) a z)
     → (fs : List Frame) → Holds r fs [] → Does leads (told fs []) (named r.start r.context fs s) (Ok Goes) new a z
 names_does leads r new s a z stage same noted now start context tells fs h = by fs h (subst (λ n. AreOpen fs [] (calm n)) stage h.0.open_there)
   where
-    by : (fs : List Frame) → Holds r fs [] → AreOpen fs [] nows.Name → Does leads (told fs []) (named r.start r.context fs s) (Ok Goes) new a z
+    by : (fs : List Frame) → Holds r fs [] → AreOpen fs [] Now.Name → Does leads (told fs []) (named r.start r.context fs s) (Ok Goes) new a z
     by [] h o = absurd o
-    by (frames.Items listing ss vs ∷ fs) h o = absurd o
-    by (frames.Named ss ms t ∷ fs) h o = absurd o
-    by (frames.Fields ss ms ∷ fs) h o =
-        let i = tells (told (frames.Fields ss ms ∷ fs) []) h.1 in
+    by (Frame.Items listing ss vs ∷ fs) h o = absurd o
+    by (Frame.Named ss ms t ∷ fs) h o = absurd o
+    by (Frame.Fields ss ms ∷ fs) h o =
+        let i = tells (told (Frame.Fields ss ms ∷ fs) []) h.1 in
         let e = name_told fs ss ms s in (
-          frames.Named ss ms s ∷ fs,
+          Frame.Named ss ms s ∷ fs,
           [],
-          ap (λ x. goes (at x r.context (frames.Named ss ms s ∷ fs) [] nows.Ready)) (sym start)
-              ∙ (ap (λ x. goes (at new.start x (frames.Named ss ms s ∷ fs) [] nows.Ready)) (sym context)
-              ∙ ap (λ x. goes (at new.start new.context (frames.Named ss ms s ∷ fs) [] x)) (sym now)),
+          ap (λ x. goes (at x r.context (Frame.Named ss ms s ∷ fs) [] Now.Ready)) (sym start)
+              ∙ (ap (λ x. goes (at new.start x (Frame.Named ss ms s ∷ fs) [] Now.Ready)) (sym context)
+              ∙ ap (λ x. goes (at new.start new.context (Frame.Named ss ms s ∷ fs) [] x)) (sym now)),
           record {
             holds = (
               record {
                 frames = ap (λ f. reverse f.items) same ∙ h.0.frames;
                 notes = noted ∙ h.0.notes;
-                open_there = subst (λ n. AreOpen (frames.Named ss ms s ∷ fs) [] (calm n)) (sym now) o;
+                open_there = subst (λ n. AreOpen (Frame.Named ss ms s ∷ fs) [] (calm n)) (sym now) o;
               },
               subst (λ es. WasTold new.filter es) e i.0,
             );
-            hears = subst (λ es. Hears leads (heard (told (frames.Fields ss ms ∷ fs) [])) (heard es) a z) e i.1;
+            hears = subst (λ es. Hears leads (heard (told (Frame.Fields ss ms ∷ fs) [])) (heard es) a z) e i.1;
           },
         )
 
@@ -153,63 +138,63 @@ module _ {V : Type 0} (leads : V → Event → V → Type 0) (setting : Setting)
   by : (b' : Bracket) → b' ≡ b → (f : Frame) (fs : List Frame) (now : Now) → b ≡ bracket_of f → outer ≡ brackets_of fs → MayClose b' now
       → AreOpen (f ∷ fs) [] now → WasTold r.filter (told (f ∷ fs) [])
       → Does leads (told (f ∷ fs) []) (closed b' setting spot (f ∷ fs)) result new a z
-  by brackets.List e (frames.Items listings.List ss vs) fs now i same m o was =
-      whole fs (frames.Items listings.List ss vs ∷ fs) (annotated ss (payloads.List vs)) was same (items_around now o)
-      (subst (λ x. told (frames.Items listings.List ss vs ∷ fs) [] ++ closes x ∷ [] ≡ told_in fs ++ events_of (annotated ss (payloads.List vs))) e
+  by Bracket.List e (Frame.Items Listing.List ss vs) fs now i same m o was =
+      whole fs (Frame.Items Listing.List ss vs ∷ fs) (annotated ss (payloads.List vs)) was same (items_around now o)
+      (subst (λ x. told (Frame.Items Listing.List ss vs ∷ fs) [] ++ closes x ∷ [] ≡ told_in fs ++ events_of (annotated ss (payloads.List vs))) e
       (list_told fs ss vs))
     where
-      items_around : (now : Now) → AreOpen (frames.Items listings.List ss vs ∷ fs) [] now → AreAround fs
-      items_around nows.Ready o = o
-      items_around nows.After o = o
-      items_around nows.Name o = absurd o
-      items_around (nows.Pending h end) o = absurd o
-      items_around (nows.Long w end) o = absurd o
-      items_around (nows.LongName w) o = absurd o
-      items_around (nows.Keyed s) o = absurd o
-  by brackets.Sexp e (frames.Items listings.Sexp ss vs) fs now i same m o was =
-      whole fs (frames.Items listings.Sexp ss vs ∷ fs) (annotated ss (payloads.Sexp vs)) was same (items_around now o)
-      (subst (λ x. told (frames.Items listings.Sexp ss vs ∷ fs) [] ++ closes x ∷ [] ≡ told_in fs ++ events_of (annotated ss (payloads.Sexp vs))) e
+      items_around : (now : Now) → AreOpen (Frame.Items Listing.List ss vs ∷ fs) [] now → AreAround fs
+      items_around Now.Ready o = o
+      items_around Now.After o = o
+      items_around Now.Name o = absurd o
+      items_around (Now.Pending h end) o = absurd o
+      items_around (Now.Long w end) o = absurd o
+      items_around (Now.LongName w) o = absurd o
+      items_around (Now.Keyed s) o = absurd o
+  by Bracket.Sexp e (Frame.Items Listing.Sexp ss vs) fs now i same m o was =
+      whole fs (Frame.Items Listing.Sexp ss vs ∷ fs) (annotated ss (payloads.Sexp vs)) was same (items_around now o)
+      (subst (λ x. told (Frame.Items Listing.Sexp ss vs ∷ fs) [] ++ closes x ∷ [] ≡ told_in fs ++ events_of (annotated ss (payloads.Sexp vs))) e
       (sexp_told fs ss vs))
     where
-      items_around : (now : Now) → AreOpen (frames.Items listings.Sexp ss vs ∷ fs) [] now → AreAround fs
-      items_around nows.Ready o = o
-      items_around nows.After o = absurd o
-      items_around nows.Name o = absurd o
-      items_around (nows.Pending h end) o = absurd o
-      items_around (nows.Long w end) o = absurd o
-      items_around (nows.LongName w) o = absurd o
-      items_around (nows.Keyed s) o = absurd o
-  by brackets.Fields e (frames.Fields ss ms) fs now i same m o was =
-      whole fs (frames.Fields ss ms ∷ fs) (annotated ss (payloads.Fields ms)) was same (fields_around now o)
-      (subst (λ x. told (frames.Fields ss ms ∷ fs) [] ++ closes x ∷ [] ≡ told_in fs ++ events_of (annotated ss (payloads.Fields ms))) e
+      items_around : (now : Now) → AreOpen (Frame.Items Listing.Sexp ss vs ∷ fs) [] now → AreAround fs
+      items_around Now.Ready o = o
+      items_around Now.After o = absurd o
+      items_around Now.Name o = absurd o
+      items_around (Now.Pending h end) o = absurd o
+      items_around (Now.Long w end) o = absurd o
+      items_around (Now.LongName w) o = absurd o
+      items_around (Now.Keyed s) o = absurd o
+  by Bracket.Fields e (Frame.Fields ss ms) fs now i same m o was =
+      whole fs (Frame.Fields ss ms ∷ fs) (annotated ss (payloads.Fields ms)) was same (fields_around now o)
+      (subst (λ x. told (Frame.Fields ss ms ∷ fs) [] ++ closes x ∷ [] ≡ told_in fs ++ events_of (annotated ss (payloads.Fields ms))) e
       (fields_told fs ss ms))
     where
-      fields_around : (now : Now) → AreOpen (frames.Fields ss ms ∷ fs) [] now → AreAround fs
-      fields_around nows.Ready o = absurd o
-      fields_around nows.After o = o
-      fields_around nows.Name o = o
-      fields_around (nows.Pending h end) o = absurd o
-      fields_around (nows.Long w end) o = absurd o
-      fields_around (nows.LongName w) o = absurd o
-      fields_around (nows.Keyed s) o = absurd o
-  by brackets.Fields e (frames.Named ss ms s) fs now i same m o was = absurd (nowhere now m o)
+      fields_around : (now : Now) → AreOpen (Frame.Fields ss ms ∷ fs) [] now → AreAround fs
+      fields_around Now.Ready o = absurd o
+      fields_around Now.After o = o
+      fields_around Now.Name o = o
+      fields_around (Now.Pending h end) o = absurd o
+      fields_around (Now.Long w end) o = absurd o
+      fields_around (Now.LongName w) o = absurd o
+      fields_around (Now.Keyed s) o = absurd o
+  by Bracket.Fields e (Frame.Named ss ms s) fs now i same m o was = absurd (nowhere now m o)
     where
-      nowhere : (now : Now) → MayClose brackets.Fields now → AreOpen (frames.Named ss ms s ∷ fs) [] now → ⊥
-      nowhere nows.Ready m o = m
-      nowhere nows.After m o = o
-      nowhere nows.Name m o = o
-      nowhere (nows.Pending h end) m o = o
-      nowhere (nows.Long w end) m o = o
-      nowhere (nows.LongName w) m o = o
-      nowhere (nows.Keyed s) m o = o
-  by brackets.List e (frames.Items listings.Sexp ss vs) fs now i same m o was = absurd cc
-  by brackets.List e (frames.Fields ss ms) fs now i same m o was = absurd cc
-  by brackets.List e (frames.Named ss ms s) fs now i same m o was = absurd cc
-  by brackets.Sexp e (frames.Items listings.List ss vs) fs now i same m o was = absurd cc
-  by brackets.Sexp e (frames.Fields ss ms) fs now i same m o was = absurd cc
-  by brackets.Sexp e (frames.Named ss ms s) fs now i same m o was = absurd cc
-  by brackets.Fields e (frames.Items listings.List ss vs) fs now i same m o was = absurd cc
-  by brackets.Fields e (frames.Items listings.Sexp ss vs) fs now i same m o was = absurd cc
+      nowhere : (now : Now) → MayClose Bracket.Fields now → AreOpen (Frame.Named ss ms s ∷ fs) [] now → ⊥
+      nowhere Now.Ready m o = m
+      nowhere Now.After m o = o
+      nowhere Now.Name m o = o
+      nowhere (Now.Pending h end) m o = o
+      nowhere (Now.Long w end) m o = o
+      nowhere (Now.LongName w) m o = o
+      nowhere (Now.Keyed s) m o = o
+  by Bracket.List e (Frame.Items Listing.Sexp ss vs) fs now i same m o was = absurd cc
+  by Bracket.List e (Frame.Fields ss ms) fs now i same m o was = absurd cc
+  by Bracket.List e (Frame.Named ss ms s) fs now i same m o was = absurd cc
+  by Bracket.Sexp e (Frame.Items Listing.List ss vs) fs now i same m o was = absurd cc
+  by Bracket.Sexp e (Frame.Fields ss ms) fs now i same m o was = absurd cc
+  by Bracket.Sexp e (Frame.Named ss ms s) fs now i same m o was = absurd cc
+  by Bracket.Fields e (Frame.Items Listing.List ss vs) fs now i same m o was = absurd cc
+  by Bracket.Fields e (Frame.Items Listing.Sexp ss vs) fs now i same m o was = absurd cc
 
   pub closes_does : (fs : List Frame) → Holds r fs [] → Does leads (told fs []) (closed b setting spot fs) result new a z
   closes_does [] h = let none = open_there in let e = h.0.frames in absurd cc
@@ -217,15 +202,15 @@ module _ {V : Type 0} (leads : V → Event → V → Type 0) (setting : Setting)
       by b refl f fs (calm r.stage) (ap first_of (sym open_there ∙ h.0.frames)) (ap rest_of (sym open_there ∙ h.0.frames)) may h.0.open_there h.1
 
 same_true : (b x : Bracket) → is_same b x ≡ true → b ≡ x
-same_true brackets.List brackets.List h = refl
-same_true brackets.Sexp brackets.Sexp h = refl
-same_true brackets.Fields brackets.Fields h = refl
-same_true brackets.List brackets.Sexp h = absurd cc
-same_true brackets.List brackets.Fields h = absurd cc
-same_true brackets.Sexp brackets.List h = absurd cc
-same_true brackets.Sexp brackets.Fields h = absurd cc
-same_true brackets.Fields brackets.List h = absurd cc
-same_true brackets.Fields brackets.Sexp h = absurd cc
+same_true Bracket.List Bracket.List h = refl
+same_true Bracket.Sexp Bracket.Sexp h = refl
+same_true Bracket.Fields Bracket.Fields h = refl
+same_true Bracket.List Bracket.Sexp h = absurd cc
+same_true Bracket.List Bracket.Fields h = absurd cc
+same_true Bracket.Sexp Bracket.List h = absurd cc
+same_true Bracket.Sexp Bracket.Fields h = absurd cc
+same_true Bracket.Fields Bracket.List h = absurd cc
+same_true Bracket.Fields Bracket.Sexp h = absurd cc
 
 -- the innermost container that closes was the last in memory
 pub popped : (b : Bracket) (items rest : List Bracket) (o : Option Bracket) → items ≡ rest ++ option_to_list o → (0 < length items → IsSome o)
@@ -238,7 +223,7 @@ popped b (y ∷ items) rest None e some h = let s = some (omega arith) in absurd
 
 -- 5. A comma.
 
-pub comma_goes : (r new : TextWalk) (s : Now) → behind_comma (open_brackets r) ≡ Some s → new ≡ staged r s → r.stage ≡ nows.After
+pub comma_goes : (r new : TextWalk) (s : Now) → behind_comma (open_brackets r) ≡ Some s → new ≡ staged r s → r.stage ≡ Now.After
     → (fs : List Frame) → Holds r fs [] → DoesAlone (told fs []) (on_comma r.start r.context fs) (Ok Goes) new
 comma_goes r new s behind is stage fs h =
     subst (λ n. DoesAlone (told fs []) (on_comma r.start r.context fs) (Ok Goes) n) (sym is)
@@ -248,28 +233,28 @@ comma_goes r new s behind is stage fs h =
     now_in d None = d
     now_in d (Some n) = n
 
-    by : (fs : List Frame) → Holds r fs [] → AreOpen fs [] nows.After → behind_comma (brackets_of fs) ≡ Some s
+    by : (fs : List Frame) → Holds r fs [] → AreOpen fs [] Now.After → behind_comma (brackets_of fs) ≡ Some s
         → DoesAlone (told fs []) (on_comma r.start r.context fs) (Ok Goes) (staged r s)
     by [] h o e = absurd o
-    by (frames.Items listings.Sexp ss vs ∷ fs) h o e = absurd o
-    by (frames.Named ss ms t ∷ fs) h o e = absurd o
-    by (frames.Items listings.List ss vs ∷ fs) h o e =
-        let now : nows.Ready ≡ s = ap (now_in s) e in
-        subst (λ n. DoesAlone (told (frames.Items listings.List ss vs ∷ fs) []) (on_comma r.start r.context (frames.Items listings.List ss vs ∷ fs))
+    by (Frame.Items Listing.Sexp ss vs ∷ fs) h o e = absurd o
+    by (Frame.Named ss ms t ∷ fs) h o e = absurd o
+    by (Frame.Items Listing.List ss vs ∷ fs) h o e =
+        let now : Now.Ready ≡ s = ap (now_in s) e in
+        subst (λ n. DoesAlone (told (Frame.Items Listing.List ss vs ∷ fs) []) (on_comma r.start r.context (Frame.Items Listing.List ss vs ∷ fs))
         (Ok Goes) (staged r n)) now
-        (frames.Items listings.List ss vs ∷ fs, [], refl, (record { frames = h.0.frames; notes = h.0.notes; open_there = o }, h.1), refl)
-    by (frames.Fields ss ms ∷ fs) h o e =
-        let now : nows.Name ≡ s = ap (now_in s) e in
-        subst (λ n. DoesAlone (told (frames.Fields ss ms ∷ fs) []) (on_comma r.start r.context (frames.Fields ss ms ∷ fs)) (Ok Goes) (staged r n)) now
-        (frames.Fields ss ms ∷ fs, [], refl, (record { frames = h.0.frames; notes = h.0.notes; open_there = o }, h.1), refl)
+        (Frame.Items Listing.List ss vs ∷ fs, [], refl, (record { frames = h.0.frames; notes = h.0.notes; open_there = o }, h.1), refl)
+    by (Frame.Fields ss ms ∷ fs) h o e =
+        let now : Now.Name ≡ s = ap (now_in s) e in
+        subst (λ n. DoesAlone (told (Frame.Fields ss ms ∷ fs) []) (on_comma r.start r.context (Frame.Fields ss ms ∷ fs)) (Ok Goes) (staged r n)) now
+        (Frame.Fields ss ms ∷ fs, [], refl, (record { frames = h.0.frames; notes = h.0.notes; open_there = o }, h.1), refl)
 
-pub comma_refused : (r : TextWalk) → behind_comma (open_brackets r) ≡ None → r.stage ≡ nows.After
+pub comma_refused : (r : TextWalk) → behind_comma (open_brackets r) ≡ None → r.stage ≡ Now.After
     → (fs : List Frame) → Holds r fs [] → on_comma r.start r.context fs ≡ unexpected
 comma_refused r none stage fs h = by fs (subst (λ n. AreOpen fs [] (calm n)) stage h.0.open_there) (ap behind_comma (sym h.0.frames) ∙ none)
   where
-    by : (fs : List Frame) → AreOpen fs [] nows.After → behind_comma (brackets_of fs) ≡ None → on_comma r.start r.context fs ≡ unexpected
+    by : (fs : List Frame) → AreOpen fs [] Now.After → behind_comma (brackets_of fs) ≡ None → on_comma r.start r.context fs ≡ unexpected
     by [] o e = absurd o
-    by (frames.Items listings.Sexp ss vs ∷ fs) o e = absurd o
-    by (frames.Named ss ms t ∷ fs) o e = absurd o
-    by (frames.Items listings.List ss vs ∷ fs) o e = absurd cc
-    by (frames.Fields ss ms ∷ fs) o e = absurd cc
+    by (Frame.Items Listing.Sexp ss vs ∷ fs) o e = absurd o
+    by (Frame.Named ss ms t ∷ fs) o e = absurd o
+    by (Frame.Items Listing.List ss vs ∷ fs) o e = absurd cc
+    by (Frame.Fields ss ms ∷ fs) o e = absurd cc

@@ -4,31 +4,12 @@ use Rattle.std.specs.Prelude.{◌&&◌, ◌||◌, not, nat_le, if◌then◌else�
 use Rattle.std.proofs.lemmas.Bool.Decides.{nat_tests}
 use Rattle.std.proofs.lemmas.Grind.{common_steps}
 use Rattle.std.proofs.lemmas.List.{length-take-le, take-append-drop, drop-take}
-use Rattle.ion_symtab.specs.declared.limits.Limits.{Limits}
-use Rattle.ion_symtab.specs.declared.catalog.Catalog.{Catalog}
-use Rattle.ion_tokens.specs.declared.mode.Place.{Place}
-use Rattle.ion_tokens.specs.declared.mode.Mode.TheVariants as modes
+use Rattle.ion_text.specs.Names.{Catalog, Content, Effect, Frame, Given, Held, IsCalm, IsUsed, Known, LeadsTo, Left, Lexeme, Limits, Mode, Next, Now, OnNext, Outcome, Passes, Place, Quiet, Reading, Reason, Refused, State, Stays, Symbols, Waiting, base, behind_given, behind_left, drive, eats, fails, feed, floor, followed, go_on, goes, in_segment, is_colons, is_idle, is_sane, is_top, led, noticed, on_said, on_scan, on_settled, place, reaches, run, run-append, run_on, said, settle, shut, symbol_waits, takes, then_run, token_of, turn, unsettled, uses, waits, waits_now, with_scan}
 use Rattle.ion_tokens.specs.machine.Scanning as scanning
-use Rattle.ion_tokens.specs.machine.Scanning.{Known, Outcome, Next, Given, Left, Refused, feed}
-use Rattle.ion_tokens.specs.Lexemes.{Lexeme}
 use Rattle.ion_tokens.specs.laws.Again.{blank_uses}
 use Rattle.ion_tokens.proofs.runs.Runs.{feed_used, next_used}
-use Rattle.ion_tokens.specs.machine.Bounds.{is_idle}
-use Rattle.ion_tokens.specs.Bodies.{Content}
-use Rattle.ion_tokens.specs.machine.Said.{said}
-use Rattle.ion_tokens.specs.machine.Ahead.{OnNext, IsUsed, is_sane, is_colons, symbol_waits}
-use Rattle.ion_atoms.specs.declared.refusal.Reason.TheVariants as reasons
-use Rattle.ion_text.specs.declared.state.Frame.{Frame}
-use Rattle.ion_text.specs.declared.state.Held.{Held}
-use Rattle.ion_text.specs.declared.state.Now.{Now}
-use Rattle.ion_text.specs.declared.state.Now.TheVariants as nows
-use Rattle.ion_text.specs.machine.EachToken.{Reading, Symbols, goes, place, settle, turn}
-use Rattle.ion_text.specs.machine.Run.{State, Effect, uses, fails, is_top, shut, reaches, noticed, waits, waits_now, in_segment, unsettled, with_scan, eats, takes, on_scan, on_said, on_settled, behind_left, behind_given, token_of, run, run_on}
-use Rattle.ion_text.specs.machine.Pieces.{led, then_run, run-append, followed, Quiet, Waiting, Stays, drive, go_on}
-use Rattle.ion_text.specs.laws.reading.complete.Fuel.{UsedThen, Twice, twice_fuel}
+use Rattle.ion_text.specs.laws.reading.complete.Fuel.{Twice, UsedThen, twice_fuel}
 use Rattle.ion_text.specs.laws.reading.complete.Meets.{follows_as}
-use Rattle.ion_text.specs.machine.Views.{floor, base, IsCalm}
-use Rattle.ion_text.specs.machine.AtOnce.{LeadsTo, Passes}
 use Rattle.ion_text.proofs.Fronts.{quiet_within}
 
 agree_less : (j k : ℕ) (w os : List ℕ) → j ≤ k → take k w ≡ take k os → take j w ≡ take j os
@@ -135,7 +116,7 @@ used_then o (Next t) u = tt
 used_then o (Given x t) u = tt
 used_then o (Refused n e) u = tt
 
-blank_twice : (s : Known) (o : ℕ) → s.mode ≡ modes.Blank → Twice s o
+blank_twice : (s : Known) (o : ℕ) → s.mode ≡ Mode.Blank → Twice s o
 blank_twice s o e p = used_then o (feed p s o) (blank_uses p s o e)
 
 base_open : (fs : List Frame) (ss : Symbols) (start lo : ℕ) → is_top fs ≡ false → base fs ss start lo ≡ start
@@ -151,11 +132,11 @@ module _ (l : Limits) where
   pub idle_noticed : (r : Reading) (s : Known) → is_idle s.mode ≡ true → is_top r.frames ≡ false → s.used ≤ l.item + r.start
       → noticed l r s ≡ uses (with_scan s r)
   idle_noticed r s idle inner room =
-      ap (λ b. if shut r.now && not b then fails reasons.Unexpected else
-      (if nat_le (reaches r.frames r s) l.item then uses (with_scan s r) else fails reasons.ItemTooLong)) idle
-      ∙ (ap (λ b. if b then fails reasons.Unexpected else (if nat_le (reaches r.frames r s) l.item then uses (with_scan s r) else fails reasons.ItemTooLong))
+      ap (λ b. if shut r.now && not b then fails Reason.Unexpected else
+      (if nat_le (reaches r.frames r s) l.item then uses (with_scan s r) else fails Reason.ItemTooLong)) idle
+      ∙ (ap (λ b. if b then fails Reason.Unexpected else (if nat_le (reaches r.frames r s) l.item then uses (with_scan s r) else fails Reason.ItemTooLong))
       (never (shut r.now))
-      ∙ ap (λ b. if b then uses (with_scan s r) else fails reasons.ItemTooLong)
+      ∙ ap (λ b. if b then uses (with_scan s r) else fails Reason.ItemTooLong)
       (fits (reaches r.frames r s) l.item (let e = reaches_open r.frames r s inner in omega arith)))
     where
       never : (b : Bool) → (b && not true) ≡ false
@@ -198,7 +179,7 @@ inner_notices l r inner s idle room = idle_noticed l r s idle inner room
 
 module _ (g : Catalog) (l : Limits) (r : Reading) where
   -- a blank behind what may be a symbol goes on to wait
-  pub blank_waits : (h : Held) (end : ℕ) → r.now ≡ nows.Pending h end → (p : Place) (os : List ℕ) (s t : Known) → is_sane s.mode ≡ true → is_idle t.mode ≡ true
+  pub blank_waits : (h : Held) (end : ℕ) → r.now ≡ Now.Pending h end → (p : Place) (os : List ℕ) (s t : Known) → is_sane s.mode ≡ true → is_idle t.mode ≡ true
       → scanning.run p os s ≡ Next t → Waiting g l r p s os
   blank_waits h end now p [] s t sane idle e = tt
   blank_waits h end now p (o ∷ os) s t sane idle e =
@@ -234,12 +215,12 @@ module _ (g : Catalog) (l : Limits) (r : Reading) where
       passes_blank still = blank_led (inl still)
 
       -- a blank behind what may be a symbol
-      pub passes_waiting : (h : Held) (end : ℕ) → r.now ≡ nows.Pending h end → Passes g l (with_scan s r) octets n (with_scan t r)
+      pub passes_waiting : (h : Held) (end : ℕ) → r.now ≡ Now.Pending h end → Passes g l (with_scan s r) octets n (with_scan t r)
       passes_waiting h end now = blank_led (inr (blank_waits h end now (place r) (take n octets) s t sane idle e))
 
 module _ (g : Catalog) (l : Limits) (r : Reading) (inner : is_top r.frames ≡ false) where
   -- where values or names may come
-  pub calm_quiet : IsCalm r.now → (s : Known) → s.mode ≡ modes.Blank → (octets : List ℕ) (n : ℕ) → n ≤ length octets → s.used + n ≤ l.item + r.start
+  pub calm_quiet : IsCalm r.now → (s : Known) → s.mode ≡ Mode.Blank → (octets : List ℕ) (n : ℕ) → n ≤ length octets → s.used + n ≤ l.item + r.start
       → Quiet g l r (place r) s (take n octets)
   calm_quiet calm s rests octets n within room =
       let size = length-take-le n octets within in
@@ -274,7 +255,7 @@ module _ (g : Catalog) (l : Limits) (r : Reading) where
     scans y f = go_on g l again r k (feed (place r) k octet) (unsettled k r (feed (place r) k octet)) (inr still) ∙ ap (on_scan g l again r) f
 
     -- a token that the octet behind it ends leads a run behind it
-    pub passes_left : b.mode ≡ modes.Blank → b.used ≡ s.used + n → feed (place r) k octet ≡ Left x b → Passes g l (with_scan s r) octets n (with_scan b q)
+    pub passes_left : b.mode ≡ Mode.Blank → b.used ≡ s.used + n → feed (place r) k octet ≡ Left x b → Passes g l (with_scan s r) octets n (with_scan b q)
     passes_left blank used f =
         passes_same g l (with_scan s r) (with_scan k r) (with_scan b q) octets n shown (let i = counted in omega arith)
         (scans (Left x b) f
@@ -306,7 +287,7 @@ module _ (g : Catalog) (l : Limits) (r : Reading) where
 
 module _ (g : Catalog) (l : Limits) (r : Reading) where
   -- `::` behind what may be a symbol: its last octet, where the scanner knows this before it
-  pub passes_colons : (h : Held) (end : ℕ) → r.now ≡ nows.Pending h end → (k b : Known) (octets : List ℕ) (x : Lexeme) (c : Content) (q : Reading)
+  pub passes_colons : (h : Held) (end : ℕ) → r.now ≡ Now.Pending h end → (k b : Known) (octets : List ℕ) (x : Lexeme) (c : Content) (q : Reading)
       → 0 < length octets → feed (place r) k (get_or octets 0 0) ≡ Given x b → is_colons x.kind ≡ true → said x.kind x.octets ≡ Ok c → turn g l r (token_of x c)
       ≡ goes q
       → is_idle b.mode ≡ true → b.used ≡ k.used + 1 → (most : ℕ) → NoticesNothing l q most → b.used ≤ most → Passes g l (with_scan k r) octets 1 (with_scan b q)
@@ -322,7 +303,7 @@ module _ (g : Catalog) (l : Limits) (r : Reading) where
       waits_on = ap (λ y. unsettled k r y) f ∙ (ap (λ n. waits_now (is_top r.frames) n (Given x b) || in_segment n k) now ∙ ap (λ b. b || false) colons)
 
   -- an octet that shows that what may be a symbol is none before `::`
-  pub passes_settled : (s : Known) (h : Held) (end : ℕ) (octets : List ℕ) (q : Reading) → 0 < length octets → r.now ≡ nows.Pending h end
+  pub passes_settled : (s : Known) (h : Held) (end : ℕ) (octets : List ℕ) (q : Reading) → 0 < length octets → r.now ≡ Now.Pending h end
       → symbol_waits (feed (place r) s (get_or octets 0 0)) ≡ false → settle g l r ≡ goes q → settle g l q ≡ goes q → place q ≡ place r
       → Passes g l (with_scan s r) octets 0 (with_scan s q)
   passes_settled s h end octets q some now ends settles still same =
@@ -334,7 +315,7 @@ module _ (g : Catalog) (l : Limits) (r : Reading) where
           (λ m. takes g l 2 m (get_or octets 0 0)) s (feed (place r) s (get_or octets 0 0)) (settle g l r)) (free r.now now ∙ ends)
           ∙ ap (on_settled g l (λ m. takes g l 2 m (get_or octets 0 0)) s (feed (place r) s (get_or octets 0 0))) settles
         where
-          free : (n : Now) → n ≡ nows.Pending h end → (waits_now (is_top r.frames) n (feed (place r) s (get_or octets 0 0)) || in_segment n s)
+          free : (n : Now) → n ≡ Now.Pending h end → (waits_now (is_top r.frames) n (feed (place r) s (get_or octets 0 0)) || in_segment n s)
               ≡ symbol_waits (feed (place r) s (get_or octets 0 0))
           free n e = ap (λ k. waits_now (is_top r.frames) k (feed (place r) s (get_or octets 0 0)) || in_segment k s) e
               ∙ none (symbol_waits (feed (place r) s (get_or octets 0 0)))

@@ -1,6 +1,6 @@
 -- How many values may still come before another octet is used.
 use Rattle.std.proofs.Common.{◌≡◌, ℕ, ◌≤◌, Bool, true, false, List, [], ◌∷◌, Option, Some, None, arith}
-use Rattle.ion_text.specs.machine.Progress.{pending_by}
+use Rattle.ion_text.specs.Names.{pending_by}
 
 -- one at most
 pub few : (b : Bool) (o : Option ℕ) → pending_by b o ≤ 1

@@ -2,11 +2,7 @@
 use Rattle.std.proofs.Common.{◌≡◌, ℕ, ◌+◌, ◌<◌, ◌≤◌, List, [], length, take, drop, get_or, Err, ap, sym, ◌∙◌, arith}
 use Rattle.std.proofs.lemmas.Grind.{common_steps}
 use Rattle.std.proofs.lemmas.List.{length-take-le, take-append-drop}
-use Rattle.ion_atoms.specs.declared.refusal.Refusal.{Refusal}
-use Rattle.ion_symtab.specs.declared.limits.Limits.{Limits}
-use Rattle.ion_symtab.specs.declared.catalog.Catalog.{Catalog}
-use Rattle.ion_text.specs.machine.Run.{State, run}
-use Rattle.ion_text.specs.machine.Pieces.{then_run, run-append}
+use Rattle.ion_text.specs.Names.{Catalog, Limits, Refusal, State, run, run-append, then_run}
 
 module _ (g : Catalog) (l : Limits) (to : ℕ) (m : State) (piece : List ℕ) (n : ℕ) (within : n ≤ length piece) where
   pub size : length (take n piece) ≡ n

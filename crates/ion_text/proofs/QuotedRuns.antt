@@ -2,8 +2,7 @@
 use Rattle.std.proofs.Common.{◌≡◌, ℕ, ◌+◌, ◌-◌, ◌<◌, ◌≤◌, true, false, List, [], ◌++◌, length, get_or, take, drop, length-drop, get_or-drop, append_assoc, append-nil, take_all, refl, arith}
 use Rattle.std.proofs.lemmas.Bool.Decides.{nat_tests}
 use Rattle.std.proofs.lemmas.List.{drop_more, take_more, drop_all}
-use Rattle.ion_text.specs.declared.escape.Quotes.{Quotes}
-use Rattle.ion_text.specs.Output.{of_symbol, escape, escaped_text, is_raw}
+use Rattle.ion_text.specs.Names.{Quotes, escape, escaped_text, is_raw, of_symbol}
 use Rattle.ion_text.specs.laws.writing.RawRuns.{raw_escape}
 
 -- what is written of the octet at an index, and of what follows

@@ -1,29 +1,9 @@
 -- Octets that a reader without values hands to the scanner at once.
 use Rattle.std.proofs.Common.{◌≡◌, ◌≢◌, ℕ, ◌+◌, ◌<◌, ◌≤◌, true, false, List, [], length, get_or, Result, Ok, Err, refl, ap, sym, ◌∙◌, subst, arith}
-use Rattle.ion_atoms.specs.declared.refusal.Reason.{Reason}
-use Rattle.ion_atoms.specs.declared.refusal.Reason.TheVariants.{Memory}
-use Rattle.ion_atoms.specs.declared.refusal.Refusal.{Refusal}
-use Rattle.ion_symtab.specs.declared.limits.Limits.{Limits}
-use Rattle.ion_symtab.specs.declared.catalog.Catalog.{Catalog}
-use Rattle.ion_tokens.specs.declared.mode.Place.{Place}
-use Rattle.ion_tokens.specs.machine.Views.{scanned}
+use Rattle.ion_text.specs.Names.{Catalog, DidMeet, DidTake, Event, Frame, Given, Holds, IsBehind, IsCalm, IsMet, Known, Left, Limits, MeetsWith, Memory, Met, Next, Outcome, Place, Reached, Reading, Reason, Refusal, Refused, Symbols, Taken, TextWalk, base, comes_again, fails, floor, is_left, on_scan, place, run, scanned, state_of, takes, told, with_scan, worse}
 use Rattle.ion_tokens.specs.machine.Scanning as scanning
-use Rattle.ion_tokens.specs.machine.Scanning.{Known, Outcome, Next, Given, Left, Refused}
 use Rattle.ion_tokens.proofs.runs.Runs.{given_used, left_used, next_used}
-use Rattle.ion_visiting.specs.Events.{Event}
-use Rattle.ion_text.specs.declared.state.Frame.{Frame}
-use Rattle.ion_text.specs.declared.state.Met.{Met}
-use Rattle.ion_text.specs.declared.state.Met.TheVariants as met
-use Rattle.ion_text.specs.declared.state.Taken.{Taken}
-use Rattle.ion_text.specs.declared.state.Taken.TheVariants as taken
-use Rattle.ion_text.specs.declared.walk.TextWalk.{TextWalk}
-use Rattle.ion_text.specs.machine.EachToken.{Reading, Symbols, place}
-use Rattle.ion_text.specs.machine.Run.{fails, on_scan, run, takes, with_scan}
-use Rattle.ion_text.specs.machine.Views.{base, comes_again, floor, is_left, worse, IsBehind, IsCalm}
-use Rattle.ion_text.specs.walk.Fronts.{Reached}
-use Rattle.ion_text.specs.walk.Holds.{Holds, state_of, told}
-use Rattle.ion_text.specs.walk.Takes.{DidMeet, DidTake, IsMet, MeetsWith}
-use Rattle.ion_text.proofs.Fronts.{uses_front, tells_front, leaves_front, refused_front, again_uses_front, again_tells_front, again_leaves_front, again_refused_front, late_front}
+use Rattle.ion_text.proofs.Fronts.{again_leaves_front, again_refused_front, again_tells_front, again_uses_front, late_front, leaves_front, refused_front, tells_front, uses_front}
 use Rattle.ion_text.proofs.Taking.{take_behind, take_worse}
 
 -- how many octets are used
@@ -77,7 +57,7 @@ module _ {V : Type 0} (leads : V → Event → V → Type 0) (g : Catalog) (l : 
   module _ (y : Met) (mid : TextWalk) (count : ℕ) (a b : V) (d : Met_it y mid a b) (m : IsMet (scanning.run p piece s) y mid)
       (u : (scanned mid.scanner).used ≡ s.used + count) where
     -- they are used
-    pub uses_reached : y ≡ met.Uses → Reached leads es g l s.used (with_scan s q) piece count taken.Uses mid a b
+    pub uses_reached : y ≡ Met.Uses → Reached leads es g l s.used (with_scan s q) piece count Taken.Uses mid a b
     uses_reached is =
         let h = subst (λ (y : Met). Met_it y mid a b) is d in (
           h.0,
@@ -88,7 +68,7 @@ module _ {V : Type 0} (leads : V → Event → V → Type 0) (g : Catalog) (l : 
         )
 
     -- the last of them ends a value
-    pub tells_reached : y ≡ met.Tells → Reached leads es g l s.used (with_scan s q) piece count taken.Tells mid a b
+    pub tells_reached : y ≡ Met.Tells → Reached leads es g l s.used (with_scan s q) piece count Taken.Tells mid a b
     tells_reached is =
         let h = subst (λ (y : Met). Met_it y mid a b) is d in (
           h.0,
@@ -98,7 +78,7 @@ module _ {V : Type 0} (leads : V → Event → V → Type 0) (g : Catalog) (l : 
         )
 
     -- the one behind them shows the end of one
-    pub leaves_reached : y ≡ met.Leaves → Reached leads es g l s.used (with_scan s q) piece count taken.Leaves mid a b
+    pub leaves_reached : y ≡ Met.Leaves → Reached leads es g l s.used (with_scan s q) piece count Taken.Leaves mid a b
     leaves_reached is =
         let h = subst (λ (y : Met). Met_it y mid a b) is d in (
           h.0,
@@ -119,8 +99,8 @@ module _ {V : Type 0} (leads : V → Event → V → Type 0) (g : Catalog) (l : 
       (result : Result Taken Reason) (new : TextWalk) (b : V)
       (behind : (fs : List Frame) (ss : Symbols) → Holds mid fs ss →
       DidTake leads (told fs ss) (takes mid.catalog.now mid.limits 2 (state_of mid fs ss) (get_or piece count 0)) result new m b) where
-    module _ (is : y ≡ met.Again) where
-      met_it : Met_it met.Again mid a m
+    module _ (is : y ≡ Met.Again) where
+      met_it : Met_it Met.Again mid a m
       met_it = subst (λ (y : Met). Met_it y mid a m) is d
 
       did : (t : Result Taken Reason) → result ≡ t
@@ -135,10 +115,10 @@ module _ {V : Type 0} (leads : V → Event → V → Type 0) (g : Catalog) (l : 
       left = met_so.1 ∙ ap comes_again is
 
       -- and is used
-      pub again_uses_reached : result ≡ Ok taken.Uses → Reached leads es g l s.used (with_scan s q) piece (count + 1) taken.Uses new a b
+      pub again_uses_reached : result ≡ Ok Taken.Uses → Reached leads es g l s.used (with_scan s q) piece (count + 1) Taken.Uses new a b
       again_uses_reached i =
           let h = met_it in
-          let j = did (Ok taken.Uses) i in (
+          let j = did (Ok Taken.Uses) i in (
             j.0,
             j.1,
             again_uses_front g l q calm s piece high room some (scanning.run p piece s) (scanned mid.scanner) count came met_so.0 left u
@@ -147,10 +127,10 @@ module _ {V : Type 0} (leads : V → Event → V → Type 0) (g : Catalog) (l : 
           )
 
       -- and ends a value
-      pub again_tells_reached : result ≡ Ok taken.Tells → Reached leads es g l s.used (with_scan s q) piece (count + 1) taken.Tells new a b
+      pub again_tells_reached : result ≡ Ok Taken.Tells → Reached leads es g l s.used (with_scan s q) piece (count + 1) Taken.Tells new a b
       again_tells_reached i =
           let h = met_it in
-          let j = did (Ok taken.Tells) i in (
+          let j = did (Ok Taken.Tells) i in (
             j.0,
             again_tells_front g l q calm s piece high room some (scanning.run p piece s) (scanned mid.scanner) count came met_so.0 left u
                 (state_of mid h.0 h.1) mid.catalog.now mid.limits same_catalog same_limits h.2 j.0 (state_of new [] []) j.1,
@@ -158,10 +138,10 @@ module _ {V : Type 0} (leads : V → Event → V → Type 0) (g : Catalog) (l : 
           )
 
       -- and shows the end of one
-      pub again_leaves_reached : result ≡ Ok taken.Leaves → Reached leads es g l s.used (with_scan s q) piece count taken.Leaves new a b
+      pub again_leaves_reached : result ≡ Ok Taken.Leaves → Reached leads es g l s.used (with_scan s q) piece count Taken.Leaves new a b
       again_leaves_reached i =
           let h = met_it in
-          let j = did (Ok taken.Leaves) i in (
+          let j = did (Ok Taken.Leaves) i in (
             j.0,
             again_leaves_front g l q calm s piece high room some (scanning.run p piece s) (scanned mid.scanner) count came met_so.0 left u
                 (state_of mid h.0 h.1) mid.catalog.now mid.limits same_catalog same_limits h.2 j.0 (state_of new [] []) j.1,
@@ -177,7 +157,7 @@ module _ {V : Type 0} (leads : V → Event → V → Type 0) (g : Catalog) (l : 
           (state_of mid h.0 h.1) mid.catalog.now mid.limits same_catalog same_limits h.2 offset reason o (did (Err reason) i other)
 
     -- behind a late refusal it is refused for the smaller reason
-    pub late_reached : (offset : ℕ) (reason cause : Reason) → offset ≡ (scanned mid.scanner).used + 1 → y ≡ met.Late reason → cause ≡ worse reason result
+    pub late_reached : (offset : ℕ) (reason cause : Reason) → offset ≡ (scanned mid.scanner).used + 1 → y ≡ Met.Late reason → cause ≡ worse reason result
         → cause ≢ Memory → run g l s.used (with_scan s q) piece ≡ record { given = []; now = Err (record { offset = offset; reason = cause }) }
     late_reached offset reason cause o is w other =
         let h = subst (λ (y : Met). Met_it y mid a m) is d in

@@ -1,25 +1,6 @@
 -- What tokens say that lie whole in a piece, for a reader that holds no values.
 use Rattle.std.proofs.Common.{◌≡◌, ℕ, Bool, true, false, List, Option, Some, Ok, refl, ap, sym, subst}
-use Rattle.ion_model.specs.declared.value.Payload.{Payload}
-use Rattle.ion_symtab.specs.Slots.{Slot, resolve}
-use Rattle.ion_scalar.specs.declared.number.Number.{Number}
-use Rattle.ion_tokens.specs.Bodies.{Id, Number', id_of}
-use Rattle.ion_tokens.specs.Lexemes.{takes_colon}
-use Rattle.ion_tokens.specs.declared.mode.Place.{Place}
-use Rattle.ion_tokens.specs.declared.mode.Place.TheVariants as places
-use Rattle.ion_tokens.specs.declared.token_reader.FoundToken.{FoundToken}
-use Rattle.ion_tokens.specs.declared.mode.TokenKind.TheVariants as kinds
-use Rattle.ion_tokens.specs.declared.plain_tokens.Rest.{Rest}
-use Rattle.ion_tokens.specs.machine.Said.{said, word_said}
-use Rattle.ion_visiting.specs.Parts.{number_payload}
-use Rattle.ion_text.specs.declared.tokens.finders.Scalar.{Scalar}
-use Rattle.ion_text.specs.declared.state.Held.{Held}
-use Rattle.ion_text.specs.declared.state.Held.TheVariants as helds
-use Rattle.ion_text.specs.declared.state.Now.TheVariants as nows
-use Rattle.ion_text.specs.machine.EachToken.{spot_at, at, goes, held_payload, keyed, resolved}
-use Rattle.ion_text.specs.machine.FrontTokens.{held_of, BeginsName, BeginsValue, IsValue}
-use Rattle.ion_text.specs.visiting.Walks.{FoundNumber, FoundPart}
-use Rattle.ion_text.specs.walk.Rare.{NameThere, SaysThere, SymbolThere, WaitsThere}
+use Rattle.ion_text.specs.Names.{BeginsName, BeginsValue, FoundNumber, FoundPart, FoundToken, Held, Id, IsValue, NameThere, Now, Number, Number', Payload, Place, Rest, SaysThere, Scalar, Slot, SymbolThere, TokenKind, WaitsThere, at, goes, held_of, held_payload, id_of, keyed, number_payload, resolve, resolved, said, spot_at, takes_colon, word_said}
 use Rattle.ion_text.proofs.Symbols.{held_in, name_colon, names_so, symbol_colon, waits_so}
 
 -- a part that was found is such a value
@@ -58,38 +39,38 @@ begins_waits slots p r octets token payload b =
 
 -- a field's name that is no id
 pub begins_name : (slots : List Slot) (r : Rest) (octets : List ℕ) (token : FoundToken) (name : Option (List ℕ))
-    → BeginsName places.Name r octets token name → NameThere slots r octets token name
+    → BeginsName Place.Name r octets token name → NameThere slots r octets token name
 begins_name slots r octets token name b = record {
   content = b.content;
   there = record { kept = b.kept; found = b.found; says = b.says };
-  may = name_colon places.Name token.kind b.kept b.content name b.says b.names refl;
+  may = name_colon Place.Name token.kind b.kept b.content name b.says b.names refl;
   names = λ setting end start fs. names_so setting (spot_at end start slots) fs b.content name b.names;
 }
 
 -- what a symbol's id says
-pub id_said : (w : List ℕ) (id : ℕ) → Some id ≡ id_of w → said kinds.Word w ≡ Ok (Id id)
+pub id_said : (w : List ℕ) (id : ℕ) → Some id ≡ id_of w → said TokenKind.Word w ≡ Ok (Id id)
 unfolding said
 id_said w id e = ap (word_said w) (sym e)
 
 -- a symbol's id
-module _ (slots : List Slot) (r : Rest) (octets : List ℕ) (token : FoundToken) (id : ℕ) (s : Option (List ℕ)) (word : token.kind ≡ kinds.Word)
+module _ (slots : List Slot) (r : Rest) (octets : List ℕ) (token : FoundToken) (id : ℕ) (s : Option (List ℕ)) (word : token.kind ≡ TokenKind.Word)
     (is : resolve slots id ≡ Ok s) where
   pub id_waits : (p : Place) → SaysThere p r octets token (Id id) → SymbolThere slots p r octets token s
   id_waits p x = record {
-    held = helds.Symbol s;
+    held = Held.Symbol s;
     there = record {
       content = Id id;
       there = x;
       may = ap (takes_colon p) word;
-      waits = λ setting end start fs ss. ap (λ k. resolved k (λ s. goes (at start slots fs ss (nows.Pending (helds.Symbol s) end)))) is;
+      waits = λ setting end start fs ss. ap (λ k. resolved k (λ s. goes (at start slots fs ss (Now.Pending (Held.Symbol s) end)))) is;
     };
     is = refl;
   }
 
-  pub id_names : SaysThere places.Name r octets token (Id id) → NameThere slots r octets token s
+  pub id_names : SaysThere Place.Name r octets token (Id id) → NameThere slots r octets token s
   id_names x = record {
     content = Id id;
     there = x;
-    may = ap (takes_colon places.Name) word;
+    may = ap (takes_colon Place.Name) word;
     names = λ setting end start fs. ap (λ k. resolved k (λ s. goes (keyed start slots fs s))) is;
   }

@@ -4,58 +4,18 @@ use Rattle.std.specs.Prelude.{if◌then◌else◌, nat_lt}
 use Rattle.std.proofs.lemmas.Bool.Decides.{nat_tests}
 use Rattle.std.proofs.lemmas.Grind.{common_steps}
 use Rattle.std.proofs.lemmas.List.{length-map, length-reverse, length-take}
-use Rattle.ion_model.specs.declared.value.Payload.{Payload}
+use Rattle.ion_text.specs.Names.{Ahead, AreAround, AreOpen, BeginsValue, Bracket, Catalog, Content, Does, DoesAlone, EndsAtOnce, Event, FoundNote, FoundToken, Frame, Goes, Held, Holds, IsCalm, IsFound, IsPassed, IsStill, Known, Limits, Listing, Mark, Mark', NameThere, Now, OpensAt, Passes, Payload, Place, Reading, Rest, RestsBehind, SameSetting, Scanner, Slot, Strides, StridesBy, Strode, StrodeFrom, SymbolThere, Symbols, TextWalk, TokenKind, Turn, WaitsThere, WentOn, annotated, at, before_end, begun_at, behind_note, beyond_depth, bracket_of, brackets_of, calm, close_mark, close_octet, closed, closes, ended, ends_symbol, first_now, goes, heard, held_payload, is_name, is_top, lexeme_at, named, on_comma, open_brackets, open_mark, opened, opening, past_blank, past_token, place, place_in, reading_of, resting, resting_at, said, scanned, spot_at, takes_colon, token_of, told, turn, under, with_scan}
 use Rattle.ion_model.specs.declared.value.Payload.TheVariants as payloads
-use Rattle.ion_model.specs.Measures.{annotated}
-use Rattle.ion_symtab.specs.declared.limits.Limits.{Limits}
-use Rattle.ion_symtab.specs.declared.catalog.Catalog.{Catalog}
-use Rattle.ion_symtab.specs.Slots.{Slot}
-use Rattle.ion_tokens.specs.Bodies.{Content, Mark'}
-use Rattle.ion_tokens.specs.Lexemes.{takes_colon}
-use Rattle.ion_tokens.specs.Places.{is_name}
-use Rattle.ion_tokens.specs.declared.mode.Place.{Place}
-use Rattle.ion_tokens.specs.declared.mode.Place.TheVariants as places
-use Rattle.ion_tokens.specs.declared.mode.Mark.TheVariants as marks
-use Rattle.ion_tokens.specs.declared.token_reader.FoundToken.{FoundToken}
-use Rattle.ion_tokens.specs.declared.mode.TokenKind.{TokenKind}
-use Rattle.ion_tokens.specs.declared.mode.TokenKind.TheVariants as kinds
-use Rattle.ion_tokens.specs.declared.plain_tokens.Rest.{Rest}
-use Rattle.ion_tokens.specs.machine.Rests.{resting, past_blank, past_token, lexeme_at, before_end, IsPassed, IsFound, RestsBehind}
-use Rattle.ion_tokens.specs.machine.Said.{said}
-use Rattle.ion_tokens.specs.machine.Scanning.{Known}
-use Rattle.ion_tokens.specs.machine.Views.{scanned}
-use Rattle.ion_tokens.specs.declared.scanner.Scanner.{Scanner}
 use Rattle.ion_tokens.proofs.runs.WholeTokens.{comma_found}
-use Rattle.ion_visiting.specs.declared.bracket.Bracket.{Bracket}
-use Rattle.ion_visiting.specs.Events.{Event}
-use Rattle.ion_text.specs.declared.state.Frame.{Frame}
-use Rattle.ion_text.specs.declared.state.Frame.TheVariants as frames
-use Rattle.ion_text.specs.declared.state.Held.{Held}
-use Rattle.ion_text.specs.declared.state.Listing.TheVariants as listings
-use Rattle.ion_text.specs.declared.state.Now.{Now}
-use Rattle.ion_text.specs.declared.state.Now.TheVariants as nows
-use Rattle.ion_text.specs.declared.state.Effect.TheVariants.{Goes}
-use Rattle.ion_text.specs.declared.walk.TextWalk.{TextWalk}
-use Rattle.ion_text.specs.machine.AtOnce.{Passes, IsStill}
-use Rattle.ion_text.specs.machine.EachToken.{under, spot_at, Reading, Symbols, Turn, at, beyond_depth, begun_at, closed, ended, first_now, goes, held_payload, named, on_comma, opened, opening, place, place_in, turn}
-use Rattle.ion_text.specs.machine.FrontTokens.{ends_symbol, BeginsValue, EndsAtOnce}
-use Rattle.ion_text.specs.machine.LongStrings.{LongThere}
-use Rattle.ion_text.specs.machine.Walked.{behind_note, FoundNote}
-use Rattle.ion_text.specs.machine.Nested.{close_mark, close_octet, closes, open_mark, OpensAt}
-use Rattle.ion_text.specs.machine.Run.{is_top, token_of, with_scan}
-use Rattle.ion_text.specs.machine.Views.{IsCalm}
-use Rattle.ion_visiting.specs.Tables.{heard}
-use Rattle.ion_text.specs.walk.Holds.{AreAround, AreOpen, Does, DoesAlone, Holds, SameSetting, WentOn, bracket_of, brackets_of, calm, open_brackets, reading_of, told}
-use Rattle.ion_text.specs.walk.Rare.{NameThere, SymbolThere, WaitsThere}
-use Rattle.ion_text.specs.walk.Strides.{Ahead, resting_at, Strides, Strode, StrodeFrom, StridesBy}
-use Rattle.ion_text.proofs.Arms.{StaysIn, after_turns, blank_used, comma_stays, ended_stays, mark_says, named_stays, ready_turns, went}
 use Rattle.ion_visiting.specs.laws.Filters.{hears_both, hears_none}
-use Rattle.ion_text.proofs.Taking.{does_alone}
+use Rattle.ion_text.specs.machine.LongStrings.{LongThere}
+use Rattle.ion_text.proofs.Arms.{StaysIn, after_turns, blank_used, comma_stays, ended_stays, mark_says, named_stays, ready_turns, went}
+use Rattle.ion_text.proofs.LongStrings.{settled_on}
 use Rattle.ion_text.proofs.Nested.{close_found, close_stays, closing, is_open_left, open_found, opened_stays}
 use Rattle.ion_text.proofs.Passing.{inner_notices, passes_blank, passes_none, passes_on}
 use Rattle.ion_text.proofs.Striding.{still_settles}
 use Rattle.ion_text.proofs.Symbols.{name_passes, note_passes, symbol_held, symbol_passes}
-use Rattle.ion_text.proofs.LongStrings.{settled_on}
+use Rattle.ion_text.proofs.Taking.{does_alone}
 use Rattle.ion_text.proofs.Tops.{any_blank, begun_more, note_leads, top_open}
 use Rattle.ion_text.proofs.Walking.{open_goes, token_passes}
 
@@ -84,50 +44,50 @@ begun_later start i j [] (s ∷ ss) h = omega arith
 begun_later start i j (f ∷ fs) ss h = omega arith
 
 -- where no value may come a container is open
-pub open_inner : (fs : List Frame) (ss : Symbols) (now : Now) → AreOpen fs ss now → now ≢ nows.Ready → is_top fs ≡ false
-open_inner fs ss nows.Ready h other = absurd (other refl)
-open_inner (frames.Items listings.List ns vs ∷ fs) [] nows.After h other = refl
-open_inner (frames.Fields ns ms ∷ fs) [] nows.After h other = refl
-open_inner (frames.Fields ns ms ∷ fs) [] nows.Name h other = refl
+pub open_inner : (fs : List Frame) (ss : Symbols) (now : Now) → AreOpen fs ss now → now ≢ Now.Ready → is_top fs ≡ false
+open_inner fs ss Now.Ready h other = absurd (other refl)
+open_inner (Frame.Items Listing.List ns vs ∷ fs) [] Now.After h other = refl
+open_inner (Frame.Fields ns ms ∷ fs) [] Now.After h other = refl
+open_inner (Frame.Fields ns ms ∷ fs) [] Now.Name h other = refl
 open_inner _ _ _ h other = absurd h
 
 -- nor were annotations read
-pub open_bare : (fs : List Frame) (ss : Symbols) (now : Now) → AreOpen fs ss now → now ≢ nows.Ready → ss ≡ []
-open_bare fs ss nows.Ready h other = absurd (other refl)
-open_bare (frames.Items listings.List ns vs ∷ fs) [] nows.After h other = refl
-open_bare (frames.Fields ns ms ∷ fs) [] nows.After h other = refl
-open_bare (frames.Fields ns ms ∷ fs) [] nows.Name h other = refl
+pub open_bare : (fs : List Frame) (ss : Symbols) (now : Now) → AreOpen fs ss now → now ≢ Now.Ready → ss ≡ []
+open_bare fs ss Now.Ready h other = absurd (other refl)
+open_bare (Frame.Items Listing.List ns vs ∷ fs) [] Now.After h other = refl
+open_bare (Frame.Fields ns ms ∷ fs) [] Now.After h other = refl
+open_bare (Frame.Fields ns ms ∷ fs) [] Now.Name h other = refl
 open_bare _ _ _ h other = absurd h
 
 -- a name may come in a struct
-pub open_name : (fs : List Frame) (ss : Symbols) → AreOpen fs ss nows.Name → place_in fs nows.Name ≡ places.Name
-open_name (frames.Fields ns ms ∷ fs) [] h = refl
+pub open_name : (fs : List Frame) (ss : Symbols) → AreOpen fs ss Now.Name → place_in fs Now.Name ≡ Place.Name
+open_name (Frame.Fields ns ms ∷ fs) [] h = refl
 open_name _ _ h = absurd h
 
 -- where a value may come no name may
-around_value : (fs : List Frame) → AreAround fs → is_name (place_in fs nows.Ready) ≡ false
+around_value : (fs : List Frame) → AreAround fs → is_name (place_in fs Now.Ready) ≡ false
 around_value [] h = refl
-around_value (frames.Items listings.List ns vs ∷ fs) h = refl
-around_value (frames.Items listings.Sexp ns vs ∷ fs) h = refl
-around_value (frames.Named ns ms name ∷ fs) h = refl
-around_value (frames.Fields ns ms ∷ fs) h = absurd h
+around_value (Frame.Items Listing.List ns vs ∷ fs) h = refl
+around_value (Frame.Items Listing.Sexp ns vs ∷ fs) h = refl
+around_value (Frame.Named ns ms name ∷ fs) h = refl
+around_value (Frame.Fields ns ms ∷ fs) h = absurd h
 
-pub value_place : (r : TextWalk) (fs : List Frame) (ss : Symbols) → r.stage ≡ nows.Ready → Holds r fs ss → is_name (place (reading_of r fs ss)) ≡ false
+pub value_place : (r : TextWalk) (fs : List Frame) (ss : Symbols) → r.stage ≡ Now.Ready → Holds r fs ss → is_name (place (reading_of r fs ss)) ≡ false
 value_place r fs ss now h = ap (λ n. is_name (place_in fs n)) now ∙ around_value fs (subst (AreOpen fs ss) (ap calm now) h.0.open_there)
 
 -- an open leads into the container, wherever a value may come
 open_passes : (g : Catalog) (l : Limits) (start : ℕ) (c : List Slot) (fs : List Frame) (ss : Symbols) (rest : Rest) (octets : List ℕ) (x : Bracket)
-    → length fs < l.depth → 1 < length octets → OpensAt octets x → is_name (place_in fs nows.Ready) ≡ false
+    → length fs < l.depth → 1 < length octets → OpensAt octets x → is_name (place_in fs Now.Ready) ≡ false
     → rest.used + length octets ≤ l.item + begun_at start rest.used fs ss
-    → Passes g l (with_scan (resting rest) (at start c fs ss nows.Ready)) octets 1
-    (with_scan (resting (past_token (place_in fs nows.Ready) rest (kinds.Mark (open_mark x)) 1))
+    → Passes g l (with_scan (resting rest) (at start c fs ss Now.Ready)) octets 1
+    (with_scan (resting (past_token (place_in fs Now.Ready) rest (TokenKind.Mark (open_mark x)) 1))
     (at (begun_at start rest.used fs ss) c (opened x ss ∷ fs) [] (first_now x)))
 open_passes g l start c [] ss rest octets x deep more opens value fits = top_open g l start c ss rest octets x deep more opens fits
 open_passes g l start c (f ∷ fs) ss rest octets x deep more opens value fits =
-    let r = at start c (f ∷ fs) ss nows.Ready in
-    token_passes g l r refl tt rest octets (kinds.Mark (open_mark x)) [] 1 (Mark' (open_mark x))
+    let r = at start c (f ∷ fs) ss Now.Ready in
+    token_passes g l r refl tt rest octets (TokenKind.Mark (open_mark x)) [] 1 (Mark' (open_mark x))
     (at start c (opened x ss ∷ (f ∷ fs)) [] (first_now x)) (mark_says (open_mark x))
-    (ready_turns g l r (lexeme_at rest (kinds.Mark (open_mark x)) [] 1) (Mark' (open_mark x)) refl refl
+    (ready_turns g l r (lexeme_at rest (TokenKind.Mark (open_mark x)) [] 1) (Mark' (open_mark x)) refl refl
     ∙ open_goes (under g l) (spot_at (rest.used + 1) start c) (f ∷ fs) ss x deep) fits
     (opened_stays start c (f ∷ fs) ss x) (is_open_left x) (open_found x (place r) rest octets opens more value) (inl tt)
 
@@ -208,7 +168,7 @@ module _ {V : Type 0} (takes : V → Event → V → Type 0) where
           passes_blank r.catalog.now r.limits q (r.limits.item + r.start) (inner_notices r.limits q open_there) (resting before) (resting after) octets n
           within refl refl (b.ran (place q)) (omega arith) (still_settles r.catalog.now r.limits q h.still)
 
-      other : (fs : List Frame) (ss : Symbols) → Ahead r fs ss before (length octets) → (now : Now) → r.stage ≡ now → calm now ≢ nows.Ready
+      other : (fs : List Frame) (ss : Symbols) → Ahead r fs ss before (length octets) → (now : Now) → r.stage ≡ now → calm now ≢ Now.Ready
           → Passes r.catalog.now r.limits (resting_at before r fs ss) octets n (resting_at after r fs ss)
       other fs ss h now is never =
           inner fs ss h (open_inner fs ss (calm r.stage) h.holds.0.open_there (λ e. never (sym (ap calm is) ∙ e)))
@@ -219,18 +179,18 @@ module _ {V : Type 0} (takes : V → Event → V → Type 0) where
 
       passes : (fs : List Frame) (ss : Symbols) → Ahead r fs ss before (length octets) → (now : Now) → r.stage ≡ now
           → Passes r.catalog.now r.limits (resting_at before r fs ss) octets n (resting_at after r fs ss)
-      passes fs ss h nows.Ready is =
+      passes fs ss h Now.Ready is =
           let within = b.within in
           let fits = h.fits in
           subst (λ (q : Now). Passes r.catalog.now r.limits (with_scan (resting before) (at r.start r.context fs ss q)) octets n
           (with_scan (resting after) (at r.start r.context fs ss q))) (sym is)
           (any_blank r.catalog.now r.limits r.start r.context fs ss before after octets n (omega arith) b)
-      passes fs ss h nows.After is = other fs ss h nows.After is (λ e. cc)
-      passes fs ss h nows.Name is = other fs ss h nows.Name is (λ e. cc)
-      passes fs ss h (nows.Keyed s) is = other fs ss h (nows.Keyed s) is (λ e. cc)
-      passes fs ss h (nows.Pending k end) is = waits fs ss h (nows.Pending k end) is (λ e. e)
-      passes fs ss h (nows.Long w end) is = waits fs ss h (nows.Long w end) is (λ e. e)
-      passes fs ss h (nows.LongName w) is = waits fs ss h (nows.LongName w) is (λ e. e)
+      passes fs ss h Now.After is = other fs ss h Now.After is (λ e. cc)
+      passes fs ss h Now.Name is = other fs ss h Now.Name is (λ e. cc)
+      passes fs ss h (Now.Keyed s) is = other fs ss h (Now.Keyed s) is (λ e. cc)
+      passes fs ss h (Now.Pending k end) is = waits fs ss h (Now.Pending k end) is (λ e. e)
+      passes fs ss h (Now.Long w end) is = waits fs ss h (Now.Long w end) is (λ e. e)
+      passes fs ss h (Now.LongName w) is = waits fs ss h (Now.LongName w) is (λ e. e)
 
   -- a token where a container is open
   module _ (old new : TextWalk) (rest : Rest) (octets : List ℕ) (a b : V) (fs : List Frame) (ss : Symbols) (h : Ahead old fs ss rest (length octets))
@@ -281,33 +241,33 @@ module _ {V : Type 0} (takes : V → Event → V → Type 0) where
         (subst (λ p. IsFound p rest octets kind kept n left) is found) may))
 
     -- a comma
-    pub comma_strode : (here : Place) → old.stage ≡ nows.After → 1 < length octets → get_or octets 0 0 ≡ 44 → is_top fs ≡ false → here ≡ place r
+    pub comma_strode : (here : Place) → old.stage ≡ Now.After → 1 < length octets → get_or octets 0 0 ≡ 44 → is_top fs ≡ false → here ≡ place r
         → Does takes (told fs ss) (on_comma old.start old.context fs) (Ok Goes) new a b
-        → StrodeFrom takes fs ss old new rest (past_token here rest (kinds.Mark marks.Comma) 1) octets 1 a b
+        → StrodeFrom takes fs ss old new rest (past_token here rest (TokenKind.Mark Mark.Comma) 1) octets 1 a b
     comma_strode here now more first open_there is does =
-        token_strode here (kinds.Mark marks.Comma) [] 1 false (Mark' marks.Comma) (on_comma old.start old.context fs) more open_there is
-        (comma_found here rest octets (omega arith) first) (mark_says marks.Comma)
-        (after_turns old.catalog.now old.limits r (lexeme_at rest (kinds.Mark marks.Comma) [] 1) (Mark' marks.Comma) now)
+        token_strode here (TokenKind.Mark Mark.Comma) [] 1 false (Mark' Mark.Comma) (on_comma old.start old.context fs) more open_there is
+        (comma_found here rest octets (omega arith) first) (mark_says Mark.Comma)
+        (after_turns old.catalog.now old.limits r (lexeme_at rest (TokenKind.Mark Mark.Comma) [] 1) (Mark' Mark.Comma) now)
         (λ q e. comma_stays (under old.catalog.now old.limits) (spot_at 0 old.start old.context) q fs e) (inr refl) does
 
     -- a close of a container that stands in another
     pub close_strode : (here : Place) (x : Bracket) → 1 < length octets → 1 < length fs → ss ≡ [] → get_or octets 0 0 ≡ close_octet x
         → closes x fs old.stage ≡ true → is_top fs ≡ false → here ≡ place r
         → Does takes (told fs ss) (closed x (under old.catalog.now old.limits) (spot_at (rest.used + 1) old.start old.context) fs) (Ok Goes) new a b
-        → StrodeFrom takes fs ss old new rest (past_token here rest (kinds.Mark (close_mark x)) 1) octets 1 a b
+        → StrodeFrom takes fs ss old new rest (past_token here rest (TokenKind.Mark (close_mark x)) 1) octets 1 a b
     close_strode here x more nested bare first fits open_there is does =
         let k = closing old.catalog.now old.limits rest.used (rest.used + 1) old.start old.context x fs old.stage fits in
-        token_strode here (kinds.Mark (close_mark x)) [] 1 false (Mark' (close_mark x))
+        token_strode here (TokenKind.Mark (close_mark x)) [] 1 false (Mark' (close_mark x))
         (closed x (under old.catalog.now old.limits) (spot_at (rest.used + 1) old.start old.context) fs) more open_there is
-        (subst (λ p. IsFound p rest octets (kinds.Mark (close_mark x)) [] 1 false) (sym is)
+        (subst (λ p. IsFound p rest octets (TokenKind.Mark (close_mark x)) [] 1 false) (sym is)
         (close_found x fs old.stage rest octets fits (omega arith) first)) (mark_says (close_mark x))
-        (ap (λ ns. turn old.catalog.now old.limits (at old.start old.context fs ns old.stage) (token_of (lexeme_at rest (kinds.Mark (close_mark x)) [] 1)
+        (ap (λ ns. turn old.catalog.now old.limits (at old.start old.context fs ns old.stage) (token_of (lexeme_at rest (TokenKind.Mark (close_mark x)) [] 1)
         (Mark' (close_mark x)))) bare ∙ k.0)
         (λ q e. close_stays (under old.catalog.now old.limits) (spot_at (rest.used + 1) old.start old.context) q x fs nested e) (inr refl) does
 
     -- a token that is a value at once
     pub value_strode : (here : Place) (kind : TokenKind) (kept : List ℕ) (n : ℕ) (left : Bool) (c : Content) (payload : Payload) → n < length octets
-        → old.stage ≡ nows.Ready → is_top fs ≡ false → here ≡ place r → IsFound here rest octets kind kept n left → said kind kept ≡ Ok c
+        → old.stage ≡ Now.Ready → is_top fs ≡ false → here ≡ place r → IsFound here rest octets kind kept n left → said kind kept ≡ Ok c
         → EndsAtOnce c payload
         → Does takes (told fs ss) (ended (under old.catalog.now old.limits) (spot_at (rest.used + n) old.start old.context) fs (annotated ss payload)) (Ok Goes)
         new a b
@@ -321,7 +281,7 @@ module _ {V : Type 0} (takes : V → Event → V → Type 0) where
 
     -- a symbol, null or truth, and the blank behind it
     pub word_strode : (here : Place) (token : FoundToken) (m : ℕ) (after : Rest) (held : Held) (payload : Payload) → token.count + m < length octets
-        → old.stage ≡ nows.Ready → is_top fs ≡ false → here ≡ place r → (x : WaitsThere old.context here rest octets token held)
+        → old.stage ≡ Now.Ready → is_top fs ≡ false → here ≡ place r → (x : WaitsThere old.context here rest octets token held)
         → held_payload held ≡ Ok payload → RestsBehind (drop token.count octets) m (past_token here rest token.kind token.count) after
         → ends_symbol (get_or octets (token.count + m) 0) ≡ true
         → Does takes (told fs ss) (ended (under old.catalog.now old.limits) (spot_at (rest.used + token.count) old.start old.context) fs (annotated ss payload))
@@ -343,15 +303,15 @@ module _ {V : Type 0} (takes : V → Event → V → Type 0) where
         (subst (λ p. RestsBehind (drop n octets) m (past_token p rest token.kind n) after) is rests) q payload pays e ends)
 
     -- an annotation in a container, the blank behind it and `::`
-    pub symbol_note_strode : (here : Place) (token : FoundToken) (m : ℕ) (s : Option (List ℕ)) → token.count + m + 2 < length octets → old.stage ≡ nows.Ready
+    pub symbol_note_strode : (here : Place) (token : FoundToken) (m : ℕ) (s : Option (List ℕ)) → token.count + m + 2 < length octets → old.stage ≡ Now.Ready
         → is_top fs ≡ false → here ≡ place r → (x : SymbolThere old.context here rest octets token s) → IsPassed (drop token.count octets) m
         → get_or octets (token.count + m) 0 ≡ 58 → get_or octets (token.count + m + 1) 0 ≡ 58
-        → Does takes (told fs ss) (goes (at old.start old.context fs (ss ++ s ∷ []) nows.Ready)) (Ok Goes) new a b
+        → Does takes (told fs ss) (goes (at old.start old.context fs (ss ++ s ∷ []) Now.Ready)) (Ok Goes) new a b
         → StrodeFrom takes fs ss old new rest (behind_note here rest token m) octets (token.count + m + 2) a b
     symbol_note_strode here token m s more now open_there is x passed one two does =
         let n = token.count in
         let setting = under old.catalog.now old.limits in
-        let noting = at old.start old.context fs (ss ++ s ∷ []) nows.Ready in
+        let noting = at old.start old.context fs (ss ++ s ∷ []) Now.Ready in
         let fits = h.fits in
         let begun = begun_inner old.start rest.used fs ss open_there in
         let used = blank_used (past_token here rest token.kind n) m in
@@ -370,7 +330,7 @@ module _ {V : Type 0} (takes : V → Event → V → Type 0) where
         more one two)))
 
     -- a long string
-    pub long_strode : (here : Place) (count : ℕ) (after : Rest) (text : List ℕ) → old.stage ≡ nows.Ready → is_top fs ≡ false → here ≡ place r
+    pub long_strode : (here : Place) (count : ℕ) (after : Rest) (text : List ℕ) → old.stage ≡ Now.Ready → is_top fs ≡ false → here ≡ place r
         → (x : LongThere here rest octets count after text)
         → Does takes (told fs ss) (ended (under old.catalog.now old.limits) (spot_at after.used old.start old.context) fs (annotated ss (payloads.Str text)))
         (Ok Goes) new a b
@@ -390,19 +350,19 @@ module _ {V : Type 0} (takes : V → Event → V → Type 0) where
 
     -- a field's name, the blank behind it and its colon
     pub key_strode : (token : FoundToken) (m : ℕ) (name : Option (List ℕ)) → token.count + m + 1 < length octets
-        → old.stage ≡ nows.Name → is_top fs ≡ false → place r ≡ places.Name → (x : NameThere old.context rest octets token name)
+        → old.stage ≡ Now.Name → is_top fs ≡ false → place r ≡ Place.Name → (x : NameThere old.context rest octets token name)
         → IsPassed (drop token.count octets) m → get_or octets (token.count + m) 0 ≡ 58 → get_or octets (token.count + m + 1) 0 ≢ 58
         → Does takes (told fs ss) (named old.start old.context fs name) (Ok Goes) new a b
         → StrodeFrom takes fs ss old new rest
-        (past_token places.Name (past_blank (past_token places.Name rest token.kind token.count) m) (kinds.Mark marks.Colon) 1) octets (token.count + m + 1) a b
+        (past_token Place.Name (past_blank (past_token Place.Name rest token.kind token.count) m) (TokenKind.Mark Mark.Colon) 1) octets (token.count + m + 1) a b
     key_strode token m name more now open_there is x passed colon one does =
         let n = token.count in
         let kind = token.kind in
         let fits = h.fits in
         let begun = begun_inner old.start rest.used fs ss open_there in
-        let used = blank_used (past_token places.Name rest kind n) m in
-        let after : Place → Rest = λ p. past_token p (past_blank (past_token p rest kind n) m) (kinds.Mark marks.Colon) 1 in
-        token_leads (after places.Name) (n + m + 1) (named old.start old.context fs name) more (omega arith) open_there
+        let used = blank_used (past_token Place.Name rest kind n) m in
+        let after : Place → Rest = λ p. past_token p (past_blank (past_token p rest kind n) m) (TokenKind.Mark Mark.Colon) 1 in
+        token_leads (after Place.Name) (n + m + 1) (named old.start old.context fs name) more (omega arith) open_there
         (λ q e. named_stays (under old.catalog.now old.limits) (spot_at 0 old.start old.context) q fs name e) does
         (λ q e there.
         subst (λ p. Passes old.catalog.now old.limits (with_scan (resting rest) r) octets (n + m + 1) (with_scan (resting (after p)) q)) is
@@ -413,7 +373,7 @@ module _ {V : Type 0} (takes : V → Event → V → Type 0) where
 
     -- an annotation, the blank behind it and `::`
     pub note_strode : (here : Place) (token : FoundToken) (f : FoundNote octets token) (m : ℕ) → token.count + m + 2 < length octets
-        → old.stage ≡ nows.Ready → new.stage ≡ old.stage → here ≡ place r → new.start ≡ begun_at old.start rest.used fs ss → new.context ≡ old.context
+        → old.stage ≡ Now.Ready → new.stage ≡ old.stage → here ≡ place r → new.start ≡ begun_at old.start rest.used fs ss → new.context ≡ old.context
         → IsPassed (drop token.count octets) m → get_or octets (token.count + m) 0 ≡ 58 → get_or octets (token.count + m + 1) 0 ≡ 58
         → WentOn takes (told fs ss) new fs (ss ++ f.name ∷ []) a b
         → StrodeFrom takes fs ss old new rest (behind_note here rest token m) octets (token.count + m + 2) a b
@@ -424,7 +384,7 @@ module _ {V : Type 0} (takes : V → Event → V → Type 0) where
         let after = behind_note here rest token m in
         let begins : begun_at new.start after.used fs (ss ++ f.name ∷ []) ≡ begun_at old.start rest.used fs ss =
         begun_more new.start after.used fs ss f.name ∙ start in
-        let there : reading_of new fs (ss ++ f.name ∷ []) ≡ at (begun_at old.start rest.used fs ss) old.context fs (ss ++ f.name ∷ []) nows.Ready =
+        let there : reading_of new fs (ss ++ f.name ∷ []) ≡ at (begun_at old.start rest.used fs ss) old.context fs (ss ++ f.name ∷ []) Now.Ready =
         ap (λ k. at k new.context fs (ss ++ f.name ∷ []) new.stage) start
         ∙ (ap (λ c. at (begun_at old.start rest.used fs ss) c fs (ss ++ f.name ∷ []) new.stage) context
         ∙ ap (λ k. at (begun_at old.start rest.used fs ss) old.context fs (ss ++ f.name ∷ []) k) (stage ∙ now)) in
@@ -434,9 +394,9 @@ module _ {V : Type 0} (takes : V → Event → V → Type 0) where
           passes =
               subst (λ q. Passes old.catalog.now old.limits (with_scan (resting rest) r) octets n (with_scan (resting after) q)) (sym there)
               (subst (λ k. Passes old.catalog.now old.limits (with_scan (resting rest) (at old.start old.context fs ss k)) octets n
-              (with_scan (resting after) (at (begun_at old.start rest.used fs ss) old.context fs (ss ++ f.name ∷ []) nows.Ready))) (sym now)
-              (subst (λ p. Passes old.catalog.now old.limits (with_scan (resting rest) (at old.start old.context fs ss nows.Ready)) octets n
-              (with_scan (resting (behind_note p rest token m)) (at (begun_at old.start rest.used fs ss) old.context fs (ss ++ f.name ∷ []) nows.Ready)))
+              (with_scan (resting after) (at (begun_at old.start rest.used fs ss) old.context fs (ss ++ f.name ∷ []) Now.Ready))) (sym now)
+              (subst (λ p. Passes old.catalog.now old.limits (with_scan (resting rest) (at old.start old.context fs ss Now.Ready)) octets n
+              (with_scan (resting (behind_note p rest token m)) (at (begun_at old.start rest.used fs ss) old.context fs (ss ++ f.name ∷ []) Now.Ready)))
               (sym (is ∙ ap (place_in fs) now))
               (note_leads octets token f m more passed one two old.catalog.now old.limits old.start old.context fs ss rest fits)));
           ahead = record {
@@ -449,10 +409,10 @@ module _ {V : Type 0} (takes : V → Event → V → Type 0) where
         }
 
     -- an open
-    pub open_strode : (here : Place) (x : Bracket) → 1 < length octets → OpensAt octets x → old.stage ≡ nows.Ready → here ≡ place r
+    pub open_strode : (here : Place) (x : Bracket) → 1 < length octets → OpensAt octets x → old.stage ≡ Now.Ready → here ≡ place r
         → nat_lt (length fs) old.limits.depth ≡ true
         → Does takes (told fs ss) (opening x old.limits.depth (begun_at old.start rest.used fs ss) old.context fs ss) (Ok Goes) new a b
-        → StrodeFrom takes fs ss old new rest (past_token here rest (kinds.Mark (open_mark x)) 1) octets 1 a b
+        → StrodeFrom takes fs ss old new rest (past_token here rest (TokenKind.Mark (open_mark x)) 1) octets 1 a b
     open_strode here x more opens now is admits does =
         let gs = does.0 in
         let ns = does.1 in
@@ -460,7 +420,7 @@ module _ {V : Type 0} (takes : V → Event → V → Type 0) where
         let fits = h.fits in
         let start = begun_at old.start rest.used fs ss in
         let inside = at start old.context (opened x ss ∷ fs) [] (first_now x) in
-        let after = past_token here rest (kinds.Mark (open_mark x)) 1 in
+        let after = past_token here rest (TokenKind.Mark (open_mark x)) 1 in
         let turned : goes inside ≡ goes q =
         sym (ap (λ b. if b then goes inside else beyond_depth x inside) admits) ∙ does.2 in
         let there : inside ≡ q = went (λ k. inside ≡ k) inside q turned refl in
@@ -474,8 +434,8 @@ module _ {V : Type 0} (takes : V → Event → V → Type 0) where
               subst (λ k. Passes old.catalog.now old.limits (with_scan (resting rest) r) octets 1 (with_scan (resting after) k)) there
               (subst (λ k. Passes old.catalog.now old.limits (with_scan (resting rest) (at old.start old.context fs ss k)) octets 1
               (with_scan (resting after) inside)) (sym now)
-              (subst (λ p. Passes old.catalog.now old.limits (with_scan (resting rest) (at old.start old.context fs ss nows.Ready)) octets 1
-              (with_scan (resting (past_token p rest (kinds.Mark (open_mark x)) 1)) inside)) (sym (is ∙ ap (place_in fs) now))
+              (subst (λ p. Passes old.catalog.now old.limits (with_scan (resting rest) (at old.start old.context fs ss Now.Ready)) octets 1
+              (with_scan (resting (past_token p rest (TokenKind.Mark (open_mark x)) 1)) inside)) (sym (is ∙ ap (place_in fs) now))
               (open_passes old.catalog.now old.limits old.start old.context fs ss rest octets x (below admits) more opens
               (around_value fs (subst (AreOpen fs ss) (ap calm now) h.holds.0.open_there)) fits)));
           ahead = record {
@@ -520,19 +480,19 @@ module _ {V : Type 0} (takes : V → Event → V → Type 0) where
     IsInner = (fs : List Frame) (ss : Symbols) → Holds old fs ss → is_top fs ≡ false
 
     -- where this may come next no value may
-    bare_at : (now : Now) → old.stage ≡ now → calm now ≢ nows.Ready → (fs : List Frame) (ss : Symbols) → Holds old fs ss
+    bare_at : (now : Now) → old.stage ≡ now → calm now ≢ Now.Ready → (fs : List Frame) (ss : Symbols) → Holds old fs ss
         → (ss ≡ []) × (is_top fs ≡ false)
     bare_at now is other fs ss h =
-        let never : calm old.stage ≢ nows.Ready = λ e. other (sym (ap calm is) ∙ e) in
+        let never : calm old.stage ≢ Now.Ready = λ e. other (sym (ap calm is) ∙ e) in
         (open_bare fs ss (calm old.stage) h.0.open_there never, open_inner fs ss (calm old.stage) h.0.open_there never)
 
-    pub comma_answer : (here : Place) → old.stage ≡ nows.After → 1 < length octets → get_or octets 0 0 ≡ 44 → IsHere here → a ≡ b
+    pub comma_answer : (here : Place) → old.stage ≡ Now.After → 1 < length octets → get_or octets 0 0 ≡ 44 → IsHere here → a ≡ b
         → ((fs : List Frame) → Holds old fs [] → DoesAlone (told fs []) (on_comma old.start old.context fs) (Ok Goes) new)
-        → StridesBy takes old new rest (past_token here rest (kinds.Mark marks.Comma) 1) octets (Ok 1) a b
+        → StridesBy takes old new rest (past_token here rest (TokenKind.Mark Mark.Comma) 1) octets (Ok 1) a b
     comma_answer here now more first is silent does =
-        strides_so old new rest (past_token here rest (kinds.Mark marks.Comma) 1) octets 1 a b
+        strides_so old new rest (past_token here rest (TokenKind.Mark Mark.Comma) 1) octets 1 a b
         (λ fs ss h.
-        let k = bare_at nows.After now (λ e. cc) fs ss h.holds in
+        let k = bare_at Now.After now (λ e. cc) fs ss h.holds in
         let d = does_alone takes (told fs []) (on_comma old.start old.context fs) (Ok Goes) new a
         (does fs (subst (λ ns. Holds old fs ns) k.0 h.holds)) in
         comma_strode old new rest octets a b fs ss h same here now more first k.1 (is fs ss h.holds)
@@ -543,9 +503,9 @@ module _ {V : Type 0} (takes : V → Event → V → Type 0) where
         → ((fs : List Frame) (ss : Symbols) → Holds old fs ss → (closes x fs old.stage ≡ true) × (ss ≡ [])) → IsHere here → 1 < length old.frames.items
         → ((fs : List Frame) → Holds old fs [] → Does takes (told fs []) (closed x (under g l) (spot_at (rest.used + 1) old.start old.context) fs) (Ok Goes)
         new a b)
-        → StridesBy takes old new rest (past_token here rest (kinds.Mark (close_mark x)) 1) octets (Ok 1) a b
+        → StridesBy takes old new rest (past_token here rest (TokenKind.Mark (close_mark x)) 1) octets (Ok 1) a b
     close_answer here x more first fits is nested does =
-        strides_so old new rest (past_token here rest (kinds.Mark (close_mark x)) 1) octets 1 a b
+        strides_so old new rest (past_token here rest (TokenKind.Mark (close_mark x)) 1) octets 1 a b
         (λ fs ss h.
         let k = fits fs ss h.holds in
         let deep = many fs ss h.holds in
@@ -564,17 +524,17 @@ module _ {V : Type 0} (takes : V → Event → V → Type 0) where
         not_top [] h = absurd (omega arith)
         not_top (f ∷ fs) h = refl
 
-    pub open_answer : (here : Place) (x : Bracket) → 1 < length octets → OpensAt octets x → old.stage ≡ nows.Ready → IsHere here
+    pub open_answer : (here : Place) (x : Bracket) → 1 < length octets → OpensAt octets x → old.stage ≡ Now.Ready → IsHere here
         → ((fs : List Frame) (ss : Symbols) → Holds old fs ss → nat_lt (length fs) l.depth ≡ true)
         → ((fs : List Frame) (ss : Symbols) → Holds old fs ss
         → Does takes (told fs ss) (opening x l.depth (begun_at old.start rest.used fs ss) old.context fs ss) (Ok Goes) new a b)
-        → StridesBy takes old new rest (past_token here rest (kinds.Mark (open_mark x)) 1) octets (Ok 1) a b
+        → StridesBy takes old new rest (past_token here rest (TokenKind.Mark (open_mark x)) 1) octets (Ok 1) a b
     open_answer here x more opens now is admits does =
-        strides_so old new rest (past_token here rest (kinds.Mark (open_mark x)) 1) octets 1 a b
+        strides_so old new rest (past_token here rest (TokenKind.Mark (open_mark x)) 1) octets 1 a b
         (λ fs ss h. open_strode old new rest octets a b fs ss h same here x more opens now (is fs ss h.holds) (admits fs ss h.holds) (does fs ss h.holds)) more
         refl same
 
-    pub value_answer : (here : Place) (token : FoundToken) (payload : Payload) → token.count < length octets → old.stage ≡ nows.Ready → IsInner → IsHere here
+    pub value_answer : (here : Place) (token : FoundToken) (payload : Payload) → token.count < length octets → old.stage ≡ Now.Ready → IsInner → IsHere here
         → ((fs : List Frame) (ss : Symbols) → Holds old fs ss → BeginsValue false here rest octets token payload)
         → ((fs : List Frame) (ss : Symbols) → Holds old fs ss
         → Does takes (told fs ss) (ended (under g l) (spot_at (rest.used + token.count) old.start old.context) fs (annotated ss payload)) (Ok Goes) new a b)
@@ -587,7 +547,7 @@ module _ {V : Type 0} (takes : V → Event → V → Type 0) where
         (is fs ss h.holds) x.found x.says x.is (does fs ss h.holds)) more refl same
 
     pub word_answer : (here : Place) (token : FoundToken) (m : ℕ) (after : Rest) (held : Held) (payload : Payload) → token.count + m < length octets
-        → old.stage ≡ nows.Ready → IsInner → IsHere here → WaitsThere old.context here rest octets token held → held_payload held ≡ Ok payload
+        → old.stage ≡ Now.Ready → IsInner → IsHere here → WaitsThere old.context here rest octets token held → held_payload held ≡ Ok payload
         → RestsBehind (drop token.count octets) m (past_token here rest token.kind token.count) after → ends_symbol (get_or octets (token.count + m) 0) ≡ true
         → ((fs : List Frame) (ss : Symbols) → Holds old fs ss
         → Does takes (told fs ss) (ended (under g l) (spot_at (rest.used + token.count) old.start old.context) fs (annotated ss payload)) (Ok Goes) new a b)
@@ -598,11 +558,11 @@ module _ {V : Type 0} (takes : V → Event → V → Type 0) where
         (λ fs ss h. word_strode old new rest octets a b fs ss h same here token m after held payload more now (inner fs ss h.holds) (is fs ss h.holds) x pays
         rests ends (does fs ss h.holds)) more (omega arith) same
 
-    pub symbol_note_answer : (here : Place) (token : FoundToken) (m : ℕ) (s : Option (List ℕ)) → token.count + m + 2 < length octets → old.stage ≡ nows.Ready
+    pub symbol_note_answer : (here : Place) (token : FoundToken) (m : ℕ) (s : Option (List ℕ)) → token.count + m + 2 < length octets → old.stage ≡ Now.Ready
         → IsInner → IsHere here → SymbolThere old.context here rest octets token s → IsPassed (drop token.count octets) m
         → get_or octets (token.count + m) 0 ≡ 58 → get_or octets (token.count + m + 1) 0 ≡ 58
         → ((fs : List Frame) (ss : Symbols) → Holds old fs ss
-        → Does takes (told fs ss) (goes (at old.start old.context fs (ss ++ s ∷ []) nows.Ready)) (Ok Goes) new a b)
+        → Does takes (told fs ss) (goes (at old.start old.context fs (ss ++ s ∷ []) Now.Ready)) (Ok Goes) new a b)
         → StridesBy takes old new rest (behind_note here rest token m) octets (Ok (token.count + m + 2)) a b
     symbol_note_answer here token m s more now inner is x passed one two does =
         let used = blank_used (past_token here rest token.kind token.count) m in
@@ -610,7 +570,7 @@ module _ {V : Type 0} (takes : V → Event → V → Type 0) where
         (λ fs ss h. symbol_note_strode old new rest octets a b fs ss h same here token m s more now (inner fs ss h.holds) (is fs ss h.holds) x passed one two
         (does fs ss h.holds)) more (omega arith) same
 
-    pub long_answer : (here : Place) (count : ℕ) (after : Rest) (text : List ℕ) → old.stage ≡ nows.Ready → IsInner → IsHere here
+    pub long_answer : (here : Place) (count : ℕ) (after : Rest) (text : List ℕ) → old.stage ≡ Now.Ready → IsInner → IsHere here
         → LongThere here rest octets count after text
         → ((fs : List Frame) (ss : Symbols) → Holds old fs ss
         → Does takes (told fs ss) (ended (under g l) (spot_at after.used old.start old.context) fs (annotated ss (payloads.Str text))) (Ok Goes) new a b)
@@ -620,26 +580,26 @@ module _ {V : Type 0} (takes : V → Event → V → Type 0) where
         (λ fs ss h. long_strode old new rest octets a b fs ss h same here count after text now (inner fs ss h.holds) (is fs ss h.holds) x (does fs ss h.holds))
         x.more x.segments.used same
 
-    pub key_answer : (token : FoundToken) (m : ℕ) (name : Option (List ℕ)) → token.count + m + 1 < length octets → old.stage ≡ nows.Name
+    pub key_answer : (token : FoundToken) (m : ℕ) (name : Option (List ℕ)) → token.count + m + 1 < length octets → old.stage ≡ Now.Name
         → NameThere old.context rest octets token name → IsPassed (drop token.count octets) m → get_or octets (token.count + m) 0 ≡ 58
         → get_or octets (token.count + m + 1) 0 ≢ 58
         → ((fs : List Frame) → Holds old fs [] → Does takes (told fs []) (named old.start old.context fs name) (Ok Goes) new a b)
         → StridesBy takes old new rest
-        (past_token places.Name (past_blank (past_token places.Name rest token.kind token.count) m) (kinds.Mark marks.Colon) 1) octets
+        (past_token Place.Name (past_blank (past_token Place.Name rest token.kind token.count) m) (TokenKind.Mark Mark.Colon) 1) octets
         (Ok (token.count + m + 1)) a b
     key_answer token m name more now x passed colon one does =
-        let used = blank_used (past_token places.Name rest token.kind token.count) m in
-        strides_so old new rest (past_token places.Name (past_blank (past_token places.Name rest token.kind token.count) m) (kinds.Mark marks.Colon) 1) octets
+        let used = blank_used (past_token Place.Name rest token.kind token.count) m in
+        strides_so old new rest (past_token Place.Name (past_blank (past_token Place.Name rest token.kind token.count) m) (TokenKind.Mark Mark.Colon) 1) octets
         (token.count + m + 1) a b
         (λ fs ss h.
-        let k = bare_at nows.Name now (λ e. cc) fs ss h.holds in
+        let k = bare_at Now.Name now (λ e. cc) fs ss h.holds in
         key_strode old new rest octets a b fs ss h same token m name more now k.1
         (ap (place_in fs) now ∙ open_name fs ss (subst (λ s. AreOpen fs ss (calm s)) now h.holds.0.open_there)) x passed colon one
         (subst (λ ns. Does takes (told fs ns) (named old.start old.context fs name) (Ok Goes) new a b) (sym k.0)
         (does fs (subst (λ ns. Holds old fs ns) k.0 h.holds)))) more (omega arith) same
 
     pub note_answer : (here : Place) (token : FoundToken) (f : FoundNote octets token) (m : ℕ) → token.count + m + 2 < length octets
-        → old.stage ≡ nows.Ready → new.stage ≡ old.stage → IsHere here
+        → old.stage ≡ Now.Ready → new.stage ≡ old.stage → IsHere here
         → ((fs : List Frame) (ss : Symbols) → Holds old fs ss → new.start ≡ begun_at old.start rest.used fs ss) → new.context ≡ old.context
         → IsPassed (drop token.count octets) m → get_or octets (token.count + m) 0 ≡ 58 → get_or octets (token.count + m + 1) 0 ≡ 58
         → ((fs : List Frame) (ss : Symbols) → Holds old fs ss → WentOn takes (told fs ss) new fs (ss ++ f.name ∷ []) a b)

@@ -4,48 +4,13 @@ use Rattle.std.specs.Prelude.{◌==◌, ◌&&◌, if◌then◌else◌, IsUtf8}
 use Rattle.std.proofs.lemmas.Bool.Decides.{nat_tests}
 use Rattle.std.proofs.lemmas.Grind.{common_steps}
 use Rattle.std.proofs.lemmas.List.{length-take-le}
-use Rattle.ion_model.specs.declared.value.Payload.{Payload}
+use Rattle.ion_text.specs.Names.{Action, BeginsName, BeginsValue, Blob, Catalog, Clob, Content, FoundToken, Frame, Held, Id, IsBody, IsCalm, IsFound, IsPassed, IsStill, Known, Limits, Long, Mark, Mark', Names, Next, Now, Number', Operator, Outcome, Passes, Payload, Pays, Place, Quiet, Quoted, Reading, Reason, Rest, RestsBehind, SaysNumber, Setting, Short, Slot, Spot, Symbols, TokenKind, TypedNull, Word, acts, annotated, at, begins_value, begins_word, ended, ends_symbol, feed, follow, goes, held_of, held_payload, held_symbol, held_word, in_blank, is_digit, is_idle, is_keyword, is_name, is_operator_octet, is_sexp, is_top, is_white, keyed, late, lexeme_at, named, noted, on_name, on_ready, paid, past_blank, past_token, place, place_in, resting, said, says, settle, spot_in, symbol_waits, takes_colon, token_at, token_of, turn, turn_now, under, with_scan}
 use Rattle.ion_model.specs.declared.value.Payload.TheVariants as payloads
-use Rattle.ion_model.specs.Measures.{annotated}
-use Rattle.ion_atoms.specs.declared.refusal.Reason.{Reason}
-use Rattle.ion_atoms.specs.declared.refusal.Reason.TheVariants as reasons
-use Rattle.ion_symtab.specs.declared.limits.Limits.{Limits}
-use Rattle.ion_symtab.specs.declared.catalog.Catalog.{Catalog}
-use Rattle.ion_symtab.specs.Slots.{Slot}
-use Rattle.ion_tokens.specs.declared.token_reader.FoundToken.{FoundToken}
-use Rattle.ion_tokens.specs.declared.mode.Place.{Place}
-use Rattle.ion_tokens.specs.declared.mode.Mark.TheVariants as marks
-use Rattle.ion_tokens.specs.declared.mode.TokenKind.{TokenKind}
-use Rattle.ion_tokens.specs.declared.mode.TokenKind.TheVariants as kinds
-use Rattle.ion_tokens.specs.declared.plain_tokens.Rest.{Rest}
-use Rattle.ion_tokens.specs.machine.Ahead.{symbol_waits}
-use Rattle.ion_tokens.specs.Bodies.{Content, Word, Id, Quoted, Short, Long, Number', TypedNull, Operator, Clob, Blob, Mark', SaysNumber, IsBody}
-use Rattle.ion_tokens.specs.machine.Bounds.{is_idle}
-use Rattle.ion_tokens.specs.Octets.{is_white, begins_word, is_digit, is_operator_octet}
-use Rattle.ion_tokens.specs.Places.{is_name, is_sexp}
-use Rattle.ion_tokens.specs.machine.Rests.{resting, past_blank, past_token, lexeme_at, IsPassed, IsFound, RestsBehind}
-use Rattle.ion_tokens.specs.machine.Said.{said, says}
 use Rattle.ion_tokens.specs.machine.Scanning as scanning
-use Rattle.ion_tokens.specs.machine.Scanning.{Known, Outcome, Next, feed, follow, acts}
-use Rattle.ion_tokens.specs.Lexemes.{takes_colon}
-use Rattle.ion_tokens.specs.machine.Table.{in_blank, begins_value}
-use Rattle.ion_tokens.specs.declared.mode.Action.{Action}
 use Rattle.ion_tokens.proofs.runs.Runs.{next_used}
 use Rattle.ion_tokens.proofs.runs.WholeTokens.{colon_found, colons_found}
-use Rattle.ion_text.specs.Grammar.{is_keyword}
-use Rattle.ion_text.specs.declared.state.Frame.{Frame}
-use Rattle.ion_text.specs.declared.state.Frame.TheVariants as frames
-use Rattle.ion_text.specs.declared.state.Held.{Held}
-use Rattle.ion_text.specs.declared.state.Held.TheVariants as helds
-use Rattle.ion_text.specs.declared.state.Now.TheVariants as nows
-use Rattle.ion_text.specs.machine.FrontTokens.{ends_symbol, held_of, Pays, Names, BeginsValue, BeginsName}
-use Rattle.ion_text.specs.machine.EachToken.{Setting, Spot, under, spot_in, token_at, Reading, Symbols, goes, late, at, place, place_in, settle, turn, turn_now, on_ready, on_name, ended, paid, held_word, held_payload, held_symbol, noted, keyed, named}
-use Rattle.ion_text.specs.machine.AtOnce.{Passes, IsStill}
-use Rattle.ion_text.specs.machine.Run.{is_top, with_scan, token_of}
-use Rattle.ion_text.specs.machine.Pieces.{Quiet}
-use Rattle.ion_text.specs.machine.Views.{IsCalm}
-use Rattle.ion_text.proofs.Arms.{left_found, given_found, StaysIn, spelled_utf8, short_says, word_says, first_of, ready_turns, left_passes, given_leads, ended_stays, ended_place, released_inner, same_place_in, name_place, mark_says, blank_used, blank_colon, at_drop}
-use Rattle.ion_text.proofs.Passing.{NoticesNothing, inner_notices, passes_on, passes_blank, passes_waiting, passes_settled, passes_colons, calm_quiet, blank_quiet}
+use Rattle.ion_text.proofs.Arms.{StaysIn, at_drop, blank_colon, blank_used, ended_place, ended_stays, first_of, given_found, given_leads, left_found, left_passes, mark_says, name_place, ready_turns, released_inner, same_place_in, short_says, spelled_utf8, word_says}
+use Rattle.ion_text.proofs.Passing.{NoticesNothing, blank_quiet, calm_quiet, inner_notices, passes_blank, passes_colons, passes_on, passes_settled, passes_waiting}
 use Rattle.ion_text.proofs.Striding.{still_settles}
 
 -- What the tokens do.
@@ -58,14 +23,14 @@ ok_is a b e = cc
 
 -- what may be an annotation waits for `::` where a value may come
 pub waits_so : (setting : Setting) (spot : Spot) (fs : List Frame) (ss : Symbols) (c : Content) (h : Held) → held_of c ≡ Some h → on_ready setting spot fs ss c
-    ≡ goes (at spot.start spot.context fs ss (nows.Pending h spot.end))
+    ≡ goes (at spot.start spot.context fs ss (Now.Pending h spot.end))
 waits_so setting spot fs ss c h e = go c e
   where
-    held : (a : Held) → Some a ≡ Some h → goes (at spot.start spot.context fs ss (nows.Pending a spot.end))
-        ≡ goes (at spot.start spot.context fs ss (nows.Pending h spot.end))
-    held a e = ap (λ x. goes (at spot.start spot.context fs ss (nows.Pending x spot.end))) (some_is a h e)
+    held : (a : Held) → Some a ≡ Some h → goes (at spot.start spot.context fs ss (Now.Pending a spot.end))
+        ≡ goes (at spot.start spot.context fs ss (Now.Pending h spot.end))
+    held a e = ap (λ x. goes (at spot.start spot.context fs ss (Now.Pending x spot.end))) (some_is a h e)
 
-    go : (c : Content) → held_of c ≡ Some h → on_ready setting spot fs ss c ≡ goes (at spot.start spot.context fs ss (nows.Pending h spot.end))
+    go : (c : Content) → held_of c ≡ Some h → on_ready setting spot fs ss c ≡ goes (at spot.start spot.context fs ss (Now.Pending h spot.end))
     go (Word w) e = held _ e
     go (Quoted w) e = held _ e
     go (TypedNull k) e = held _ e
@@ -87,7 +52,7 @@ names_so setting spot fs c s e = go c e
     name w e = ap (λ x. goes (keyed spot.start spot.context fs x)) (sym e)
 
     go : (c : Content) → Names c s → on_name setting spot fs c ≡ goes (keyed spot.start spot.context fs s)
-    go (Word w) e = ap (λ b. if b then late reasons.KeywordAsName (keyed spot.start spot.context fs (Some w)) else goes
+    go (Word w) e = ap (λ b. if b then late Reason.KeywordAsName (keyed spot.start spot.context fs (Some w)) else goes
         (keyed spot.start spot.context fs (Some w))) e.1 ∙ name w e.0
     go (Quoted w) e = name w e
     go (Short w) e = name w e
@@ -113,16 +78,16 @@ name_colon p k kept c s e n h = go k (subst (λ x. IsBody k kept x) e (says k ke
     number _ f n = f
 
     go : (k : TokenKind) → IsBody k kept (Ok c) → takes_colon p k ≡ true
-    go kinds.Word f = refl
-    go kinds.KindName f = refl
-    go kinds.QuotedSymbol f = refl
-    go kinds.ShortString f = h
-    go kinds.LongString f = h
-    go kinds.Number f = absurd (number c f n)
-    go kinds.Operator f = absurd (other (Operator kept) f.0)
-    go kinds.Clob f = absurd (other (Clob kept) (ok_is c (Clob kept) f))
-    go kinds.Blob f = absurd (other (Blob kept) (ok_is c (Blob kept) f))
-    go (kinds.Mark m) f = absurd (other (Mark' m) (ok_is c (Mark' m) f))
+    go TokenKind.Word f = refl
+    go TokenKind.KindName f = refl
+    go TokenKind.QuotedSymbol f = refl
+    go TokenKind.ShortString f = h
+    go TokenKind.LongString f = h
+    go TokenKind.Number f = absurd (number c f n)
+    go TokenKind.Operator f = absurd (other (Operator kept) f.0)
+    go TokenKind.Clob f = absurd (other (Clob kept) (ok_is c (Clob kept) f))
+    go TokenKind.Blob f = absurd (other (Blob kept) (ok_is c (Blob kept) f))
+    go (TokenKind.Mark m) f = absurd (other (Mark' m) (ok_is c (Mark' m) f))
 
 pub symbol_colon : (p : Place) (k : TokenKind) (kept : List ℕ) (c : Content) (h : Held) → said k kept ≡ Ok c → held_of c ≡ Some h → takes_colon p k ≡ true
 symbol_colon p k kept c h e is = go k (subst (λ x. IsBody k kept x) e (says k kept))
@@ -135,16 +100,16 @@ symbol_colon p k kept c h e is = go k (subst (λ x. IsBody k kept x) e (says k k
     number _ f n = f
 
     go : (k : TokenKind) → IsBody k kept (Ok c) → takes_colon p k ≡ true
-    go kinds.Word f = refl
-    go kinds.KindName f = refl
-    go kinds.QuotedSymbol f = refl
-    go kinds.ShortString f = absurd (other (Short kept) f.0 refl)
-    go kinds.LongString f = absurd (other (Long kept) f.0 refl)
-    go kinds.Number f = absurd (number c f is)
-    go kinds.Operator f = absurd (other (Operator kept) f.0 refl)
-    go kinds.Clob f = absurd (other (Clob kept) (ok_is c (Clob kept) f) refl)
-    go kinds.Blob f = absurd (other (Blob kept) (ok_is c (Blob kept) f) refl)
-    go (kinds.Mark m) f = absurd (other (Mark' m) (ok_is c (Mark' m) f) refl)
+    go TokenKind.Word f = refl
+    go TokenKind.KindName f = refl
+    go TokenKind.QuotedSymbol f = refl
+    go TokenKind.ShortString f = absurd (other (Short kept) f.0 refl)
+    go TokenKind.LongString f = absurd (other (Long kept) f.0 refl)
+    go TokenKind.Number f = absurd (number c f is)
+    go TokenKind.Operator f = absurd (other (Operator kept) f.0 refl)
+    go TokenKind.Clob f = absurd (other (Clob kept) (ok_is c (Clob kept) f) refl)
+    go TokenKind.Blob f = absurd (other (Blob kept) (ok_is c (Blob kept) f) refl)
+    go (TokenKind.Mark m) f = absurd (other (Mark' m) (ok_is c (Mark' m) f) refl)
 
 -- The octet that shows that no `::` follows.
 
@@ -219,17 +184,17 @@ colon_idle p b octets may colon k e = ap idle_in (sym e) ∙ by octets colon
         ∙ ap (λ c. idle_in (follow (acts p (resting b) 58 (in_blank p c 58)) (λ s. Next s))) may
 
 -- An annotation, wherever it may come, with the blank and `::` behind it.
-module _ (g : Catalog) (l : Limits) (r : Reading) (start : ℕ) (now : r.now ≡ nows.Ready) (still : settle g l r ≡ goes r) (rest : Rest) (octets : List ℕ)
+module _ (g : Catalog) (l : Limits) (r : Reading) (start : ℕ) (now : r.now ≡ Now.Ready) (still : settle g l r ≡ goes r) (rest : Rest) (octets : List ℕ)
     (kind : TokenKind) (kept : List ℕ) (n m : ℕ) (left : Bool) (c : Content) (held : Held) (s : Option (List ℕ))
     (found : IsFound (place r) rest octets kind kept n left) (says : said kind kept ≡ Ok c) (may : takes_colon (place r) kind ≡ true)
     (symbol : held_symbol held ≡ Ok s)
     (passed : IsPassed (drop n octets) m)
     (within : n + m + 2 < length octets) (one : get_or octets (n + m) 0 ≡ 58) (two : get_or octets (n + m + 1) 0 ≡ 58) where
   abbrev pub held_back : Reading
-  held_back = at start r.context r.frames r.notes (nows.Pending held (rest.used + n))
+  held_back = at start r.context r.frames r.notes (Now.Pending held (rest.used + n))
 
   abbrev pub with_note : Reading
-  with_note = at start r.context r.frames (r.notes ++ s ∷ []) nows.Ready
+  with_note = at start r.context r.frames (r.notes ++ s ∷ []) Now.Ready
 
   abbrev past_symbol : Rest
   past_symbol = past_token (place r) rest kind n
@@ -238,7 +203,7 @@ module _ (g : Catalog) (l : Limits) (r : Reading) (start : ℕ) (now : r.now ≡
   past_between = past_blank past_symbol m
 
   abbrev past_colons : Rest
-  past_colons = past_token (place r) past_between (kinds.Mark marks.Colons) 2
+  past_colons = past_token (place r) past_between (TokenKind.Mark Mark.Colons) 2
 
   module _ (quiet : (k : ℕ) → k ≤ n → Quiet g l r (place r) (resting rest) (take k octets))
       (turns : turn g l r (token_of (lexeme_at rest kind kept n) c) ≡ goes held_back)
@@ -267,7 +232,7 @@ module _ (g : Catalog) (l : Limits) (r : Reading) (start : ℕ) (now : r.now ≡
     may_colons : past_between.colon ≡ true
     may_colons = blank_colon past_symbol m ∙ may
 
-    colons : IsFound (place held_back) past_between (drop (n + m) octets) (kinds.Mark marks.Colons) [] 2 false
+    colons : IsFound (place held_back) past_between (drop (n + m) octets) (TokenKind.Mark Mark.Colons) [] 2 false
     colons = let some = colons_size in colons_found (place held_back) past_between (drop (n + m) octets) may_colons (omega arith) (at_drop (n + m) octets ∙ one)
         (next_at (n + m) octets ∙ two)
 
@@ -287,8 +252,8 @@ module _ (g : Catalog) (l : Limits) (r : Reading) (start : ℕ) (now : r.now ≡
         let few = length-take-le 1 (drop (n + m) octets) (omega arith) in
         let counted = next_used (place held_back) (take 1 (drop (n + m) octets)) (resting past_between) colons.known (sym colons.ran) in
         passes_colons g l held_back held (rest.used + n) refl colons.known (resting past_colons) (drop 1 (drop (n + m) octets))
-        (lexeme_at past_between (kinds.Mark marks.Colons) [] 2) (Mark' marks.Colons) with_note (omega arith)
-        (ap (feed (place held_back) colons.known) (at_drop 1 (drop (n + m) octets)) ∙ colons.ends) refl (mark_says marks.Colons)
+        (lexeme_at past_between (TokenKind.Mark Mark.Colons) [] 2) (Mark' Mark.Colons) with_note (omega arith)
+        (ap (feed (place held_back) colons.known) (at_drop 1 (drop (n + m) octets)) ∙ colons.ends) refl (mark_says Mark.Colons)
         (ap (noted start r.context r.frames r.notes) symbol) refl (omega arith) (rest.used + length octets) notes (omega arith)
 
     -- a symbol, a blank and `::` lead a run to a state that has the annotation
@@ -302,12 +267,12 @@ module _ (g : Catalog) (l : Limits) (r : Reading) (start : ℕ) (now : r.now ≡
 
 -- The machine over such a token, the blank behind it, and what follows.
 
-named_place : (start : ℕ) (c : List Slot) (q : Reading) (fs : List Frame) (s : Option (List ℕ)) → named start c fs s ≡ goes q → is_name (place_in fs nows.Name)
+named_place : (start : ℕ) (c : List Slot) (q : Reading) (fs : List Frame) (s : Option (List ℕ)) → named start c fs s ≡ goes q → is_name (place_in fs Now.Name)
     ≡ true
 named_place start c q [] s e = absurd cc
-named_place start c q (frames.Items listing ss vs ∷ fs) s e = absurd cc
-named_place start c q (frames.Named ss ms name ∷ fs) s e = absurd cc
-named_place start c q (frames.Fields ss ms ∷ fs) s e = refl
+named_place start c q (Frame.Items listing ss vs ∷ fs) s e = absurd cc
+named_place start c q (Frame.Named ss ms name ∷ fs) s e = absurd cc
+named_place start c q (Frame.Fields ss ms ∷ fs) s e = refl
 
 module _ (g : Catalog) (l : Limits) (r : Reading) (inner : is_top r.frames ≡ false) (rest : Rest) (octets : List ℕ) (kind : TokenKind) (kept : List ℕ) (n m : ℕ)
     (left : Bool) (c : Content) (room : rest.used + length octets ≤ l.item + r.start) (within : n + m < length octets)
@@ -334,14 +299,14 @@ module _ (g : Catalog) (l : Limits) (r : Reading) (inner : is_top r.frames ≡ f
       by false f = given_leads g l r inner (still_settles g l r still) rest octets kind kept n c q says turns room f (quiet (n - 1) (omega arith)) inside same
 
   -- where a value or an annotation may come
-  module _ (now : r.now ≡ nows.Ready) (held : Held) (may : takes_colon (place r) kind ≡ true)
+  module _ (now : r.now ≡ Now.Ready) (held : Held) (may : takes_colon (place r) kind ≡ true)
       (waits : on_ready (under g l) (spot_in r (rest.used + n)) r.frames r.notes c
-      ≡ goes (at r.start r.context r.frames r.notes (nows.Pending held (rest.used + n)))) where
+      ≡ goes (at r.start r.context r.frames r.notes (Now.Pending held (rest.used + n)))) where
     abbrev waiting : Reading
-    waiting = at r.start r.context r.frames r.notes (nows.Pending held (rest.used + n))
+    waiting = at r.start r.context r.frames r.notes (Now.Pending held (rest.used + n))
 
     waits_there : place waiting ≡ place r
-    waits_there = same_place_in r.frames nows.Ready waiting.now refl held (rest.used + n) refl ∙ ap (place_in r.frames) (sym now)
+    waits_there = same_place_in r.frames Now.Ready waiting.now refl held (rest.used + n) refl ∙ ap (place_in r.frames) (sym now)
 
     is_token : Passes g l (with_scan (resting rest) r) octets n (with_scan (resting behind_token) waiting)
     is_token =
@@ -390,18 +355,18 @@ module _ (g : Catalog) (l : Limits) (r : Reading) (inner : is_top r.frames ≡ f
         (one : get_or octets (n + m) 0 ≡ 58)
         (two : get_or octets (n + m + 1) 0 ≡ 58) where
       abbrev noting : Reading
-      noting = at r.start r.context r.frames (r.notes ++ s ∷ []) nows.Ready
+      noting = at r.start r.context r.frames (r.notes ++ s ∷ []) Now.Ready
 
       -- an annotation in a container, a blank and `::` lead the run behind them
       pub note_passes : Passes g l (with_scan (resting rest) r) octets (n + m + 2)
-          (with_scan (resting (past_token (place r) behind_blank (kinds.Mark marks.Colons) 2)) noting)
+          (with_scan (resting (past_token (place r) behind_blank (TokenKind.Mark Mark.Colons) 2)) noting)
       note_passes =
           noted_passes g l r r.start now (still_settles g l r still) rest octets kind kept n m left c held s found says may symbol passed more one two quiet
           (ready_turns g l r (lexeme_at rest kind kept n) c now inner ∙ waits)
           (λ k idle few. inner_notices l waiting inner k idle (omega arith)) (λ k idle few. inner_notices l noting inner k idle (omega arith))
 
   -- where a field's name may come, and its colon
-  module _ (now : r.now ≡ nows.Name) (q : Reading) (passed : IsPassed (drop n octets) m) (more : n + m + 1 < length octets) (name : Option (List ℕ))
+  module _ (now : r.now ≡ Now.Name) (q : Reading) (passed : IsPassed (drop n octets) m) (more : n + m + 1 < length octets) (name : Option (List ℕ))
       (may : is_name (place r) ≡ true → takes_colon (place r) kind ≡ true)
       (names : on_name (under g l) (spot_in r (rest.used + n)) r.frames c ≡ goes (keyed r.start r.context r.frames name))
       (colon : get_or octets (n + m) 0 ≡ 58) (one : get_or octets (n + m + 1) 0 ≢ 58) (does : named r.start r.context r.frames name ≡ goes q) where
@@ -409,7 +374,7 @@ module _ (g : Catalog) (l : Limits) (r : Reading) (inner : is_top r.frames ≡ f
     with_name = keyed r.start r.context r.frames name
 
     abbrev behind_colon : Rest
-    behind_colon = past_token (place r) behind_blank (kinds.Mark marks.Colon) 1
+    behind_colon = past_token (place r) behind_blank (TokenKind.Mark Mark.Colon) 1
 
     name_there : place with_name ≡ place r
     name_there = name_place r.frames name ∙ ap (place_in r.frames) (sym now)
@@ -436,8 +401,8 @@ module _ (g : Catalog) (l : Limits) (r : Reading) (inner : is_top r.frames ≡ f
         let f = colon_found (place with_name) behind_blank (drop (n + m) octets) may_colon (omega arith) (at_drop (n + m) octets ∙ colon)
         (λ e. one (sym (next_at (n + m) octets) ∙ e)) in
         subst (λ p. Passes g l (with_scan (resting behind_blank) with_name) (drop (n + m) octets) 1
-        (with_scan (resting (past_token p behind_blank (kinds.Mark marks.Colon) 1)) q)) name_there
-        (left_passes g l with_name inner refl behind_blank (drop (n + m) octets) (kinds.Mark marks.Colon) [] 1 (Mark' marks.Colon) q (mark_says marks.Colon)
+        (with_scan (resting (past_token p behind_blank (TokenKind.Mark Mark.Colon) 1)) q)) name_there
+        (left_passes g l with_name inner refl behind_blank (drop (n + m) octets) (TokenKind.Mark Mark.Colon) [] 1 (Mark' Mark.Colon) q (mark_says Mark.Colon)
         does (omega arith) f
         (blank_quiet g l with_name (l.item + r.start) (inner_notices l with_name inner) (place with_name) (take 1 (drop (n + m) octets)) (resting behind_blank)
         f.known refl (colon_idle (place with_name) behind_blank (drop (n + m) octets) may_colon (at_drop (n + m) octets ∙ colon) f.known f.ran) f.ran
@@ -453,27 +418,27 @@ module _ (g : Catalog) (l : Limits) (r : Reading) (inner : is_top r.frames ≡ f
 -- Tokens that are found whole, and what they are.
 
 -- the token of a quoted symbol in UTF-8 says its octets
-pub quoted_says : (w : List ℕ) → IsUtf8 w → said kinds.QuotedSymbol w ≡ Ok (Quoted w)
+pub quoted_says : (w : List ℕ) → IsUtf8 w → said TokenKind.QuotedSymbol w ≡ Ok (Quoted w)
 unfolding said
 quoted_says w h = spelled_utf8 (Quoted w) w h
 
 module _ (p : Place) (r : Rest) (octets : List ℕ) (n : ℕ) where
   abbrev found_word : FoundToken
-  found_word = record { kind = kinds.Word; count = n; left = true }
+  found_word = record { kind = TokenKind.Word; count = n; left = true }
 
   abbrev found_quoted : FoundToken
-  found_quoted = record { kind = kinds.QuotedSymbol; count = n; left = false }
+  found_quoted = record { kind = TokenKind.QuotedSymbol; count = n; left = false }
 
   abbrev short_token : FoundToken
-  short_token = record { kind = kinds.ShortString; count = n; left = false }
+  short_token = record { kind = TokenKind.ShortString; count = n; left = false }
 
   -- a word found there that doesn't begin with `$` says its octets
-  pub word_said : IsFound p r octets kinds.Word (take n octets) n true → IsUtf8 (take n octets) → get_or octets 0 0 ≢ 36 → said kinds.Word (take n octets)
+  pub word_said : IsFound p r octets TokenKind.Word (take n octets) n true → IsUtf8 (take n octets) → get_or octets 0 0 ≢ 36 → said TokenKind.Word (take n octets)
       ≡ Ok (Word (take n octets))
   word_said found text first = let some = found.some in word_says (take n octets) text (λ e. first (sym (first_of n octets some) ∙ e))
 
   -- a word found there is the value that is held of it, unless `::` follows
-  pub word_symbol : (payload : Payload) → IsFound p r octets kinds.Word (take n octets) n true → IsUtf8 (take n octets) → get_or octets 0 0 ≢ 36
+  pub word_symbol : (payload : Payload) → IsFound p r octets TokenKind.Word (take n octets) n true → IsUtf8 (take n octets) → get_or octets 0 0 ≢ 36
       → held_payload (held_word (take n octets)) ≡ Ok payload → BeginsValue true p r octets found_word payload
   word_symbol payload found text first pays = record {
     kept = take n octets;
@@ -484,7 +449,7 @@ module _ (p : Place) (r : Rest) (octets : List ℕ) (n : ℕ) where
   }
 
   -- a word found there that is no keyword is the name of a field
-  pub word_name : (name : Option (List ℕ)) → IsFound p r octets kinds.Word (take n octets) n true → IsUtf8 (take n octets) → get_or octets 0 0 ≢ 36
+  pub word_name : (name : Option (List ℕ)) → IsFound p r octets TokenKind.Word (take n octets) n true → IsUtf8 (take n octets) → get_or octets 0 0 ≢ 36
       → is_keyword (take n octets) ≡ false → name ≡ Some (take n octets) → BeginsName p r octets found_word name
   word_name name found text first free is = record {
     kept = take n octets;
@@ -496,7 +461,7 @@ module _ (p : Place) (r : Rest) (octets : List ℕ) (n : ℕ) where
 
   module _ (w : List ℕ) (s : Option (List ℕ)) (text : IsUtf8 w) (is : s ≡ Some w) where
     -- a quoted symbol found there is the symbol of its text, unless `::` follows
-    pub quoted_symbol : IsFound p r octets kinds.QuotedSymbol w n false → BeginsValue true p r octets found_quoted (payloads.Symbol s)
+    pub quoted_symbol : IsFound p r octets TokenKind.QuotedSymbol w n false → BeginsValue true p r octets found_quoted (payloads.Symbol s)
     quoted_symbol found = record {
       kept = w;
       content = Quoted w;
@@ -506,27 +471,27 @@ module _ (p : Place) (r : Rest) (octets : List ℕ) (n : ℕ) where
     }
 
     -- a quoted symbol found there is the name of a field
-    pub quoted_name : IsFound p r octets kinds.QuotedSymbol w n false → BeginsName p r octets found_quoted s
+    pub quoted_name : IsFound p r octets TokenKind.QuotedSymbol w n false → BeginsName p r octets found_quoted s
     quoted_name found = record { kept = w; content = Quoted w; found = found; says = quoted_says w text; names = is }
 
     -- a short string found there is the name of a field
-    pub short_name : IsFound p r octets kinds.ShortString w n false → BeginsName p r octets short_token s
+    pub short_name : IsFound p r octets TokenKind.ShortString w n false → BeginsName p r octets short_token s
     short_name found = record { kept = w; content = Short w; found = found; says = short_says w text; names = is }
 
 -- what is held of a symbol may be an annotation
 
 in_symbol : Result Payload Reason → Result (Option (List ℕ)) Reason
 in_symbol (Ok (payloads.Symbol x)) = Ok x
-in_symbol _ = Err reasons.KeywordAsName
+in_symbol _ = Err Reason.KeywordAsName
 
 -- what is held and is a symbol as a value is the same symbol as an annotation
 pub symbol_held : (h : Held) (s : Option (List ℕ)) → held_payload h ≡ Ok (payloads.Symbol s) → held_symbol h ≡ Ok s
 unfolding in_symbol
-symbol_held (helds.Symbol a) s e = ap in_symbol e
-symbol_held (helds.Version ours a) s e = ap in_symbol e
-symbol_held (helds.Null k) s e = absurd cc
-symbol_held (helds.Truth b) s e = absurd cc
-symbol_held helds.Nan s e = absurd cc
+symbol_held (Held.Symbol a) s e = ap in_symbol e
+symbol_held (Held.Version ours a) s e = ap in_symbol e
+symbol_held (Held.Null k) s e = absurd cc
+symbol_held (Held.Truth b) s e = absurd cc
+symbol_held Held.Nan s e = absurd cc
 
 -- where what is held is a value, something is held
 pub held_in : (o : Option Held) (v : Payload) → Pays o v → (h : Held) × (o ≡ Some h) × (held_payload h ≡ Ok v)

@@ -1,35 +1,11 @@
 -- What a reader that holds no values does, over what it did before.
 use Rattle.std.proofs.Common.{◌≡◌, ◌≢◌, ℕ, ◌-◌, ◌<◌, true, false, List, [], ◌∷◌, Some, None, Result, Ok, Err, refl, sym, ap, ◌∙◌, subst}
-use Rattle.ion_model.specs.declared.value.Value.{Value}
-use Rattle.ion_atoms.specs.declared.refusal.Reason.{Reason}
-use Rattle.ion_atoms.specs.declared.refusal.Reason.TheVariants as reasons
-use Rattle.ion_atoms.specs.declared.refusal.Refusal.{Refusal}
-use Rattle.ion_symtab.specs.declared.limits.Limits.{Limits}
-use Rattle.ion_symtab.specs.declared.catalog.Catalog.{Catalog}
-use Rattle.ion_tokens.specs.declared.mode.Place.{Place}
-use Rattle.ion_tokens.specs.machine.Scanning.{Known, Outcome, feed, run}
-use Rattle.ion_tokens.specs.machine.Views.{scanned}
-use Rattle.ion_visiting.specs.Events.{Event, events_of}
-use Rattle.ion_text.specs.declared.state.Frame.{Frame}
-use Rattle.ion_text.specs.declared.state.Effect.{Effect as Turned}
-use Rattle.ion_text.specs.declared.state.Effect.TheVariants.{Goes, Gives, Late}
-use Rattle.ion_text.specs.declared.state.Taken.{Taken}
-use Rattle.ion_text.specs.declared.state.Taken.TheVariants as taken
-use Rattle.ion_text.specs.declared.state.Met.{Met}
-use Rattle.ion_text.specs.declared.state.Met.TheVariants as met
-use Rattle.ion_text.specs.declared.walk.TextWalk.{TextWalk}
-use Rattle.ion_text.specs.machine.EachToken.{Reading, Symbols, Turn, goes, gives, late, refuses, place, settle, turn}
-use Rattle.ion_text.specs.machine.Run.{State, Effect, uses, tells, leaves, fails, lesser, or_worse, unsettled, with_scan, on_scan, takes, noticed, behind_given, behind_left}
-use Rattle.ion_text.specs.machine.Views.{worse, token_in, IsBehind, is_left, comes_again}
-use Rattle.ion_tokens.specs.declared.scanner.Scanner.{Scanner}
-use Rattle.ion_tokens.specs.declared.token.Token.{Token as Found}
-use Rattle.ion_tokens.specs.machine.Steps.{Stepped, Answers}
-use Rattle.ion_text.proofs.Meetings.{no_token, given_token, left_token, on_given, on_left}
-use Rattle.ion_visiting.specs.Tables.{Hears, heard}
-use Rattle.ion_text.specs.walk.Holds.{Does, DoesAlone, Holds, WentOn, GaveOut, told, reading_of, state_of}
-use Rattle.ion_text.specs.walk.Takes.{DidTake, DidMeet, MeetsWith, IsMet}
-use Rattle.ion_visiting.specs.laws.Filters.{hears_none, hears_both}
-use Rattle.ion_text.proofs.Octets.{least, one_octet, same_scan, same_takes, goes_on_takes, settles}
+use Rattle.ion_text.specs.Names.{Catalog, DidMeet, DidTake, Does, DoesAlone, Effect, Event, Found, Frame, GaveOut, Gives, Goes, Hears, Holds, IsBehind, IsMet, Known, Late, Limits, MeetsWith, Met, Outcome, Place, Reading, Reason, Refusal, Scanner, State, Stepped, Symbols, Taken, TextWalk, Turn, Turned, Value, WentOn, behind_given, behind_left, comes_again, events_of, fails, feed, gives, goes, heard, is_left, late, leaves, lesser, noticed, on_scan, or_worse, place, reading_of, refuses, scan as run, scanned, settle, state_of, takes, tells, told, turn, unsettled, uses, with_scan, worse}
+use Rattle.ion_tokens.specs.machine.Steps.{Answers}
+use Rattle.ion_visiting.specs.laws.Filters.{hears_both, hears_none}
+use Rattle.ion_text.specs.machine.Views.{token_in}
+use Rattle.ion_text.proofs.Meetings.{given_token, left_token, no_token, on_given, on_left}
+use Rattle.ion_text.proofs.Octets.{goes_on_takes, least, one_octet, same_scan, same_takes, settles}
 
 module _ {V : Type 0} (leads : V → Event → V → Type 0) where
   -- 1. Tokens.
@@ -63,33 +39,33 @@ module _ {V : Type 0} (leads : V → Event → V → Type 0) where
 
   pub take_same : (es : List Event) (e f : Effect) (result : Result Taken Reason) (r : TextWalk) (a b : V) → e ≡ f → DidTake leads es f result r a b
       → DidTake leads es e result r a b
-  take_same es e f (Ok taken.Uses) r a b h d = (d.0, d.1, h ∙ d.2, d.3)
-  take_same es e f (Ok taken.Tells) r a b h d = (d.0, h ∙ d.1, d.2)
-  take_same es e f (Ok taken.Leaves) r a b h d = (d.0, h ∙ d.1, d.2)
+  take_same es e f (Ok Taken.Uses) r a b h d = (d.0, d.1, h ∙ d.2, d.3)
+  take_same es e f (Ok Taken.Tells) r a b h d = (d.0, h ∙ d.1, d.2)
+  take_same es e f (Ok Taken.Leaves) r a b h d = (d.0, h ∙ d.1, d.2)
   take_same es e f (Err reason) r a b h d = λ other. h ∙ d other
 
   pub take_behind : (es fs : List Event) (e : Effect) (result : Result Taken Reason) (r : TextWalk) (a m b : V) → Hears leads (heard es) (heard fs) a m
       → DidTake leads fs e result r m b → DidTake leads es e result r a b
-  take_behind es fs e (Ok taken.Uses) r a m b h d = (d.0, d.1, d.2, went_behind es fs r d.0 d.1 a m b h d.3)
-  take_behind es fs e (Ok taken.Tells) r a m b h d = (d.0, d.1, gave_behind es fs r d.0 a m b h d.2)
-  take_behind es fs e (Ok taken.Leaves) r a m b h d = (d.0, d.1, gave_behind es fs r d.0 a m b h d.2)
+  take_behind es fs e (Ok Taken.Uses) r a m b h d = (d.0, d.1, d.2, went_behind es fs r d.0 d.1 a m b h d.3)
+  take_behind es fs e (Ok Taken.Tells) r a m b h d = (d.0, d.1, gave_behind es fs r d.0 a m b h d.2)
+  take_behind es fs e (Ok Taken.Leaves) r a m b h d = (d.0, d.1, gave_behind es fs r d.0 a m b h d.2)
   take_behind es fs e (Err reason) r a m b h d = d
 
   -- an octet that was refused already and comes again is refused for the smaller of the reasons
   pub take_worse : (es : List Event) (reason : Reason) (e : Effect) (again : Result Taken Reason) (r : TextWalk) (a b : V) → DidTake leads es e again r a b
-      → (worse reason again ≢ reasons.Memory) → or_worse reason e ≡ fails (worse reason again)
-  take_worse es reason e (Ok taken.Uses) r a b d other = ap (or_worse reason) d.2
-  take_worse es reason e (Ok taken.Tells) r a b d other = ap (or_worse reason) d.1
-  take_worse es reason e (Ok taken.Leaves) r a b d other = ap (or_worse reason) d.1
+      → (worse reason again ≢ Reason.Memory) → or_worse reason e ≡ fails (worse reason again)
+  take_worse es reason e (Ok Taken.Uses) r a b d other = ap (or_worse reason) d.2
+  take_worse es reason e (Ok Taken.Tells) r a b d other = ap (or_worse reason) d.1
+  take_worse es reason e (Ok Taken.Leaves) r a b d other = ap (or_worse reason) d.1
   take_worse es reason e (Err f) r a b d other = ap (or_worse reason) (d (λ m. other (ap (lesser reason) m ∙ least reason)))
 
   pub meet_same : (es : List Event) (e f : (State → Effect) → Effect) (result : Result Met Reason) (r : TextWalk) (a b : V)
       → ((again : State → Effect) → e again ≡ f again) → DidMeet leads es f result r a b → DidMeet leads es e result r a b
-  meet_same es e f (Ok met.Uses) r a b h d = (d.0, d.1, (λ again. h again ∙ d.2 again), d.3)
-  meet_same es e f (Ok met.Tells) r a b h d = (d.0, (λ again. h again ∙ d.1 again), d.2)
-  meet_same es e f (Ok met.Leaves) r a b h d = (d.0, (λ again. h again ∙ d.1 again), d.2)
-  meet_same es e f (Ok met.Again) r a b h d = (d.0, d.1, (λ again. h again ∙ d.2 again), d.3)
-  meet_same es e f (Ok (met.Late reason)) r a b h d = (d.0, d.1, (λ again. h again ∙ d.2 again), d.3)
+  meet_same es e f (Ok Met.Uses) r a b h d = (d.0, d.1, (λ again. h again ∙ d.2 again), d.3)
+  meet_same es e f (Ok Met.Tells) r a b h d = (d.0, (λ again. h again ∙ d.1 again), d.2)
+  meet_same es e f (Ok Met.Leaves) r a b h d = (d.0, (λ again. h again ∙ d.1 again), d.2)
+  meet_same es e f (Ok Met.Again) r a b h d = (d.0, d.1, (λ again. h again ∙ d.2 again), d.3)
+  meet_same es e f (Ok (Met.Late reason)) r a b h d = (d.0, d.1, (λ again. h again ∙ d.2 again), d.3)
   meet_same es e f (Err reason) r a b h d = λ other again. h again ∙ d other again
 
   -- 3. One octet at the scanner.
@@ -105,18 +81,18 @@ module _ {V : Type 0} (leads : V → Event → V → Type 0) where
     Met_it result mid a b = DidMeet leads es (λ again. on_scan g l again q (run p (o ∷ []) s)) result mid a b
 
     -- it is used
-    pub uses_octet : (y : Met) (mid : TextWalk) (a b : V) → y ≡ met.Uses → Met_it (Ok y) mid a b
-        → DidTake leads es (on_scan g l (λ m. takes g l n m o) q (feed p s o)) (Ok taken.Uses) mid a b
+    pub uses_octet : (y : Met) (mid : TextWalk) (a b : V) → y ≡ Met.Uses → Met_it (Ok y) mid a b
+        → DidTake leads es (on_scan g l (λ m. takes g l n m o) q (feed p s o)) (Ok Taken.Uses) mid a b
     uses_octet y mid a b is d = let h = subst (λ (y : Met). Met_it (Ok y) mid a b) is d in (h.0, h.1, here ∙ h.2 (λ m. takes g l n m o), h.3)
 
     -- it ends a value
-    pub tells_octet : (y : Met) (mid : TextWalk) (a b : V) → y ≡ met.Tells → Met_it (Ok y) mid a b
-        → DidTake leads es (on_scan g l (λ m. takes g l n m o) q (feed p s o)) (Ok taken.Tells) mid a b
+    pub tells_octet : (y : Met) (mid : TextWalk) (a b : V) → y ≡ Met.Tells → Met_it (Ok y) mid a b
+        → DidTake leads es (on_scan g l (λ m. takes g l n m o) q (feed p s o)) (Ok Taken.Tells) mid a b
     tells_octet y mid a b is d = let h = subst (λ (y : Met). Met_it (Ok y) mid a b) is d in (h.0, here ∙ h.1 (λ m. takes g l n m o), h.2)
 
     -- it shows the end of one
-    pub leaves_octet : (y : Met) (mid : TextWalk) (a b : V) → y ≡ met.Leaves → Met_it (Ok y) mid a b
-        → DidTake leads es (on_scan g l (λ m. takes g l n m o) q (feed p s o)) (Ok taken.Leaves) mid a b
+    pub leaves_octet : (y : Met) (mid : TextWalk) (a b : V) → y ≡ Met.Leaves → Met_it (Ok y) mid a b
+        → DidTake leads es (on_scan g l (λ m. takes g l n m o) q (feed p s o)) (Ok Taken.Leaves) mid a b
     leaves_octet y mid a b is d = let h = subst (λ (y : Met). Met_it (Ok y) mid a b) is d in (h.0, here ∙ h.1 (λ m. takes g l n m o), h.2)
 
     -- it is refused
@@ -129,7 +105,7 @@ module _ {V : Type 0} (leads : V → Event → V → Type 0) where
         (result : Result Taken Reason) (new : TextWalk) (b : V)
         (again : (fs : List Frame) (ss : Symbols) → Holds mid fs ss →
         DidTake leads (told fs ss) (takes mid.catalog.now mid.limits n (state_of mid fs ss) o) result new m b) where
-      pub again_octet : y ≡ met.Again → DidTake leads es (on_scan g l (λ m. takes g l n m o) q (feed p s o)) result new a b
+      pub again_octet : y ≡ Met.Again → DidTake leads es (on_scan g l (λ m. takes g l n m o) q (feed p s o)) result new a b
       again_octet is =
           let h = subst (λ (y : Met). Met_it (Ok y) mid a m) is d in
           let fs = h.0 in
@@ -139,7 +115,7 @@ module _ {V : Type 0} (leads : V → Event → V → Type 0) where
           (take_behind es (told fs ss) _ result new a m b h.3.hears (again fs ss h.3.holds))
 
       -- behind a late refusal it is refused for the smaller of both reasons
-      pub late_octet : (reason cause : Reason) → y ≡ met.Late reason → cause ≡ worse reason result → cause ≢ reasons.Memory
+      pub late_octet : (reason cause : Reason) → y ≡ Met.Late reason → cause ≡ worse reason result → cause ≢ Reason.Memory
           → on_scan g l (λ m. takes g l n m o) q (feed p s o) ≡ fails cause
       late_octet reason cause is same other =
           let h = subst (λ (y : Met). Met_it (Ok y) mid a m) is d in
@@ -169,7 +145,7 @@ module _ {V : Type 0} (leads : V → Event → V → Type 0) where
 
       -- it is a value, whose end the octet shows, which isn't used
       pub settles_gives : (mid : TextWalk) (a b : V) → scanned mid.scanner ≡ m.scan → Does leads es (settle g l m.reading) (Ok Gives) mid a b
-          → DidTake leads es (takes g l n m o) (Ok taken.Leaves) mid a b
+          → DidTake leads es (takes g l n m o) (Ok Taken.Leaves) mid a b
       settles_gives mid a b scan d = (
         d.0,
         settles g l n o m p place_is some (gives d.0 (reading_of mid [] [])) w d.1
@@ -192,7 +168,7 @@ module _ {V : Type 0} (leads : V → Event → V → Type 0) where
 
           -- where it is refused late, the octet is refused for the smaller of both reasons
           pub settles_late : (reason cause : Reason) → Does leads es (settle g l m.reading) (Ok (Late reason)) mid a c → cause ≡ worse reason result
-              → cause ≢ reasons.Memory → takes g l n m o ≡ fails cause
+              → cause ≢ Reason.Memory → takes g l n m o ≡ fails cause
           settles_late reason cause d same other =
               let q = reading_of mid d.0 d.1 in
               settles g l n o m p place_is some (late reason q) w d.2
@@ -203,11 +179,11 @@ module _ {V : Type 0} (leads : V → Event → V → Type 0) where
 
   module _ (l : Limits) (s : Known) (es : List Event) (t : Turn) (mid : TextWalk) (a b : V) where
     -- it ended with the last octet
-    pub given_gives : scanned mid.scanner ≡ s → Does leads es t (Ok Gives) mid a b → DidMeet leads es (λ _. behind_given l s t) (Ok met.Tells) mid a b
+    pub given_gives : scanned mid.scanner ≡ s → Does leads es t (Ok Gives) mid a b → DidMeet leads es (λ _. behind_given l s t) (Ok Met.Tells) mid a b
     given_gives scan d = (d.0, (λ again. ap (behind_given l s) d.1 ∙ ap (λ x. tells d.0 (with_scan x (reading_of mid [] []))) (sym scan)), d.2)
 
     -- it ended before the last octet
-    pub left_gives : scanned mid.scanner ≡ s → Does leads es t (Ok Gives) mid a b → DidMeet leads es (λ again. behind_left again s t) (Ok met.Leaves) mid a b
+    pub left_gives : scanned mid.scanner ≡ s → Does leads es t (Ok Gives) mid a b → DidMeet leads es (λ again. behind_left again s t) (Ok Met.Leaves) mid a b
     left_gives scan d = (d.0, (λ again. ap (behind_left again s) d.1 ∙ ap (λ x. leaves d.0 (with_scan x (reading_of mid [] []))) (sym scan)), d.2)
 
   -- 6. What the scanner answered.
@@ -216,7 +192,7 @@ module _ {V : Type 0} (leads : V → Event → V → Type 0) where
     where
       -- no token
       pub no_token_meets : (r : TextWalk) (fs : List Frame) (ss : Symbols) (a : V) → scan.token ≡ None → told fs ss ≡ es → Holds r fs ss
-          → noticed l q now ≡ uses (state_of r fs ss) → DidMeet leads es (λ again. on_scan g l again q x) (Ok met.Uses) r a a
+          → noticed l q now ≡ uses (state_of r fs ss) → DidMeet leads es (λ again. on_scan g l again q x) (Ok Met.Uses) r a a
       no_token_meets r fs ss a none same h notices = (
         fs,
         ss,
@@ -263,7 +239,7 @@ with_scanner r s = record {
 -- how many octets are used then
 module _ (g : Catalog) (l : Limits) (q : Reading) (before : ℕ) (x : Outcome) (scan : Stepped) (now : Known) (answers : Answers before x (Ok scan) now)
     (new : TextWalk) (same : scanned new.scanner ≡ now) where
-  pub no_token_met : scan.token ≡ None → IsMet x met.Uses new
+  pub no_token_met : scan.token ≡ None → IsMet x Met.Uses new
   no_token_met none =
       let h = (no_token g l q before x scan now answers none).is in (subst (λ y. IsBehind y (scanned new.scanner)) (sym h) same, ap is_left h)
 

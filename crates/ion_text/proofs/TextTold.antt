@@ -3,27 +3,16 @@ use Rattle.std.proofs.Common.{◌≡◌, ℕ, ◌<◌, zero, suc, List, [], ◌�
 use Rattle.std.specs.Prelude.{codes, option_to_list, ⊤}
 use Rattle.std.specs.List.{flat_map}
 use Rattle.std.proofs.lemmas.List.{take_all, take_at}
-use Rattle.ion_model.specs.declared.value.Value.{Value}
-use Rattle.ion_model.specs.declared.value.Field.{Field}
-use Rattle.ion_model.specs.declared.value.Payload.{Payload}
-use Rattle.ion_model.specs.declared.value.Payload.TheOpen.{Payload-F}
+use Rattle.ion_text.specs.Names.{AreKept, AreKeptEvents, Bracket, Built, Event, Field, IsKept, Layer, Led, Payload, Payload-F, Value, Writes, Written, adds, annotation, between, bracket_close, depth, enclosed, events_of, field_events, field_text, front, greatest, layer_depth, layer_events, layer_text, lines, name, no_text, notes_text, octet_between, open_octet, opens, part, stream_events, symbol_text, text_of, value_text, with_begun, with_close, with_item, with_open, wrote}
 use Rattle.ion_model.specs.declared.value.Payload.TheViews as views
-use Rattle.ion_model.specs.Kept.{IsKept, AreKept}
-use Rattle.ion_model.specs.Measures.{Layer, depth, layer_depth, greatest}
 use Rattle.ion_model.specs.laws.Measures.{depth-out}
-use Rattle.ion_visiting.specs.declared.bracket.Bracket.{Bracket}
-use Rattle.ion_visiting.specs.declared.bracket.Bracket.TheVariants as brackets
-use Rattle.ion_visiting.specs.declared.building.Open.TheVariants as places
-use Rattle.ion_visiting.specs.Building.{Built, fresh}
-use Rattle.ion_visiting.specs.Events.{Event, part, annotation, name, opens, closes, ended, within, events_of, field_events, layer_events, stream_events, Led}
-use Rattle.ion_visiting.specs.KeptEvents.{AreKeptEvents}
+use Rattle.ion_visiting.specs.Building.{fresh}
+use Rattle.ion_visiting.specs.Events.{closes, ended, within}
+use Rattle.ion_visiting.specs.declared.building.Open.{Open}
+use Rattle.ion_visiting.specs.laws.Built.{Awaits, is_end, value_awaited}
 use Rattle.ion_visiting.specs.laws.KeptEvents as kept_events
-use Rattle.ion_visiting.specs.laws.Built.{is_end, Awaits, value_awaited}
 use Rattle.ion_visiting.specs.laws.Led.{events_out}
-use Rattle.ion_text.specs.Output.{symbol_text, notes_text, enclosed, value_text, field_text, layer_text, adds, text_of}
 use Rattle.ion_text.specs.laws.writing.Output.{text-out}
-use Rattle.ion_text.specs.visiting.Brackets.{open_octet, bracket_close, octet_between}
-use Rattle.ion_text.specs.visiting.TextOut.{Written, no_text, lines, between, front, with_begun, with_item, with_open, with_close, wrote, Writes}
 
 -- 1. Events one behind the other.
 
@@ -137,9 +126,9 @@ layer_wrote n h (Payload-F.Symbol t) small a = part_wrote _ _ a (views.outs-Symb
 layer_wrote n h (Payload-F.Str w) small a = part_wrote _ _ a (views.outs-Str w)
 layer_wrote n h (Payload-F.Clob w) small a = part_wrote _ _ a (views.outs-Clob w)
 layer_wrote n h (Payload-F.Blob w) small a = part_wrote _ _ a (views.outs-Blob w)
-layer_wrote n h (Payload-F.List vs) small a = within_wrote events_of value_text brackets.List vs (items_wrote n h vs (omega (arith, small))) a
-layer_wrote n h (Payload-F.Sexp vs) small a = within_wrote events_of value_text brackets.Sexp vs (items_wrote n h vs (omega (arith, small))) a
-layer_wrote n h (Payload-F.Fields ms) small a = within_wrote field_events field_text brackets.Fields ms (fields_wrote n h ms (omega (arith, small))) a
+layer_wrote n h (Payload-F.List vs) small a = within_wrote events_of value_text Bracket.List vs (items_wrote n h vs (omega (arith, small))) a
+layer_wrote n h (Payload-F.Sexp vs) small a = within_wrote events_of value_text Bracket.Sexp vs (items_wrote n h vs (omega (arith, small))) a
+layer_wrote n h (Payload-F.Fields ms) small a = within_wrote field_events field_text Bracket.Fields ms (fields_wrote n h ms (omega (arith, small))) a
 
 each_wrote : (n : ℕ) → Wrote n
 each_wrote zero = record { value = λ v small a. absurd (omega (arith, small)) }

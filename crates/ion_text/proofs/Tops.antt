@@ -5,42 +5,14 @@ use Rattle.std.proofs.lemmas.Bool.Decides.{nat_tests}
 use Rattle.std.proofs.lemmas.Grind.{common_steps}
 use Rattle.std.proofs.lemmas.Bool.{cond-true}
 use Rattle.std.proofs.lemmas.List.{length-take-le, drop-take}
-use Rattle.ion_model.specs.declared.value.Value.{Value}
-use Rattle.ion_atoms.specs.declared.refusal.Reason.TheVariants as reasons
-use Rattle.ion_model.specs.Kinds.{is_table}
-use Rattle.ion_symtab.specs.declared.limits.Limits.{Limits}
-use Rattle.ion_symtab.specs.declared.catalog.Catalog.{Catalog}
-use Rattle.ion_symtab.specs.Slots.{Slot}
-use Rattle.ion_symtab.specs.Next.{next}
-use Rattle.ion_tokens.specs.declared.token_reader.FoundToken.{FoundToken}
-use Rattle.ion_tokens.specs.declared.mode.Place.TheVariants as places
-use Rattle.ion_visiting.specs.declared.bracket.Bracket.{Bracket}
-use Rattle.ion_tokens.specs.declared.mode.TokenKind.{TokenKind}
-use Rattle.ion_tokens.specs.declared.mode.TokenKind.TheVariants as kinds
-use Rattle.ion_tokens.specs.declared.plain_tokens.Rest.{Rest}
-use Rattle.ion_tokens.specs.Bodies.{Content, Mark'}
-use Rattle.ion_tokens.specs.machine.Rests.{resting, past_token, lexeme_at, IsPassed, IsFound, RestsBehind}
-use Rattle.ion_tokens.specs.machine.Said.{said}
-use Rattle.ion_tokens.specs.machine.Scanning.{Known, feed}
-use Rattle.ion_tokens.specs.machine.Views.{begun_in}
+use Rattle.ion_text.specs.Names.{Bracket, Catalog, Content, FoundNote, FoundToken, Frame, Held, IsFound, IsPassed, Known, Limits, Mark', Now, OpensAt, Passes, Place, Quiet, Reading, Reason, Rest, RestsBehind, Slot, State, Symbols, TokenKind, Value, at, base, begun_at, begun_in, behind_given, behind_note, drive, eats, ended, fails, feed, first_now, fresh, gives, go_on, goes, held_of, is_long_begun, is_table, led, lexeme_at, longest_top, next, on_said, on_scan, open_mark, opened, past_token, place, place_in, reaches, refuses, rested, resting, run, run_on, said, settle, spot_at, takes, tells, token_of, turn, turned, under, unsettled, uses, with_scan, within}
 use Rattle.ion_tokens.proofs.runs.Runs.{next_used}
-use Rattle.ion_text.specs.declared.state.Frame.{Frame}
-use Rattle.ion_text.specs.declared.state.Held.{Held}
-use Rattle.ion_text.specs.declared.state.Now.TheVariants as nows
-use Rattle.ion_text.specs.machine.AtOnce.{Passes}
-use Rattle.ion_text.specs.machine.EachToken.{under, spot_at, Reading, Symbols, goes, gives, refuses, at, fresh, place, place_in, settle, turn, turned, within, ended, begun_at, opened, first_now}
-use Rattle.ion_text.specs.machine.Nested.{open_mark, OpensAt}
-use Rattle.ion_text.specs.machine.Pieces.{led, drive, go_on, Quiet}
-use Rattle.ion_text.specs.machine.Run.{State, uses, fails, tells, eats, takes, on_scan, on_said, behind_given, unsettled, reaches, longest_top, is_long_begun, token_of, run, run_on, with_scan}
-use Rattle.ion_text.specs.machine.Views.{base}
-use Rattle.ion_text.specs.machine.Walked.{behind_note, rested, FoundNote}
-use Rattle.ion_text.specs.machine.FrontTokens.{held_of}
-use Rattle.ion_text.proofs.Arms.{left_found, given_found, mark_says}
-use Rattle.ion_text.proofs.Nested.{is_open_left, open_found}
-use Rattle.ion_text.proofs.Passing.{NoticesNothing, inner_notices, passes_blank, passes_led, next_octet}
+use Rattle.ion_text.proofs.Arms.{given_found, left_found, mark_says}
 use Rattle.ion_text.proofs.Fronts.{quiet_within}
+use Rattle.ion_text.proofs.Nested.{is_open_left, open_found}
+use Rattle.ion_text.proofs.Passing.{NoticesNothing, inner_notices, next_octet, passes_blank, passes_led}
 use Rattle.ion_text.proofs.Striding.{still_settles}
-use Rattle.ion_text.proofs.Symbols.{held_in, symbol_colon, symbol_held, note_passes, noted_passes, waits_so}
+use Rattle.ion_text.proofs.Symbols.{held_in, note_passes, noted_passes, symbol_colon, symbol_held, waits_so}
 use Rattle.ion_text.proofs.Walking.{open_goes}
 
 -- behind octets that give nothing the next one gives a value
@@ -113,7 +85,7 @@ pub top_ended : (g : Catalog) (l : Limits) (end start : ℕ) (c : List Slot) (v 
     → ended (under g l) (spot_at end start c) [] v ≡ gives v (fresh c)
 top_ended g l end start c v free room =
     ap (λ b. if b then turned l.item start end (next c v g) else within l.item start end (gives v (fresh c))) free
-    ∙ ap (λ b. if b then gives v (fresh c) else refuses reasons.ItemTooLong) (le_true end (start + l.item) room)
+    ∙ ap (λ b. if b then gives v (fresh c) else refuses Reason.ItemTooLong) (le_true end (start + l.item) room)
 
 -- where an item begins behind these annotations of it
 base_begun : (start begin : ℕ) (ss : Symbols) → base [] ss start begin ≡ begun_at start begin [] ss
@@ -127,24 +99,24 @@ begun_more start begin (f ∷ fs) ss s = refl
 
 module _ (g : Catalog) (l : Limits) (start : ℕ) (c : List Slot) (ss : Symbols) where
   abbrev pub on_top : Reading
-  on_top = at start c [] ss nows.Ready
+  on_top = at start c [] ss Now.Ready
 
   abbrev begin : ℕ → ℕ
   begin used = begun_at start used [] ss
 
   pub top_quiet : (rest : Rest) (octets : List ℕ) (n : ℕ) → n ≤ length octets → rest.used + n ≤ l.item + begin rest.used
-      → Quiet g l on_top places.Top (resting rest) (take n octets)
+      → Quiet g l on_top Place.Top (resting rest) (take n octets)
   top_quiet rest octets n within room =
       let size = length-take-le n octets within in
       let is = base_begun start rest.used ss in
-      quiet_within g l on_top rest.used tt places.Top (take n octets) (resting rest) (omega arith) (omega arith) (omega arith)
+      quiet_within g l on_top rest.used tt Place.Top (take n octets) (resting rest) (omega arith) (omega arith) (omega arith)
 
   pub top_blank : (rest behind : Rest) (piece : List ℕ) (n : ℕ) → rest.used + n ≤ l.item + begin rest.used → RestsBehind piece n rest behind
-      → Passes g l (rested rest start c [] ss nows.Ready) piece n (rested behind start c [] ss nows.Ready)
+      → Passes g l (rested rest start c [] ss Now.Ready) piece n (rested behind start c [] ss Now.Ready)
   top_blank rest behind piece n room h =
       let within = h.within in
-      passes_led g l (rested rest start c [] ss nows.Ready) (rested behind start c [] ss nows.Ready) piece n within h.used
-      (drive g l (take n piece) rest.used on_top (resting rest) (resting behind) (h.ran places.Top) (top_quiet rest piece n within room) (inl refl))
+      passes_led g l (rested rest start c [] ss Now.Ready) (rested behind start c [] ss Now.Ready) piece n within h.used
+      (drive g l (take n piece) rest.used on_top (resting rest) (resting behind) (h.ran Place.Top) (top_quiet rest piece n within room) (inl refl))
 
   -- a container opens
   abbrev behind_open : Rest → Bracket → Reading
@@ -152,49 +124,49 @@ module _ (g : Catalog) (l : Limits) (start : ℕ) (c : List Slot) (ss : Symbols)
 
   pub top_open : (rest : Rest) (octets : List ℕ) (bracket : Bracket) → 0 < l.depth → 1 < length octets → OpensAt octets bracket
       → rest.used + length octets ≤ l.item + begin rest.used
-      → Passes g l (rested rest start c [] ss nows.Ready) octets 1
-      (rested (past_token places.Top rest (kinds.Mark (open_mark bracket)) 1) (begin rest.used) c (opened bracket ss ∷ []) [] (first_now bracket))
-  top_open rest octets bracket deep more opens room = by (is_open_left bracket) (open_found bracket places.Top rest octets opens more refl)
+      → Passes g l (rested rest start c [] ss Now.Ready) octets 1
+      (rested (past_token Place.Top rest (TokenKind.Mark (open_mark bracket)) 1) (begin rest.used) c (opened bracket ss ∷ []) [] (first_now bracket))
+  top_open rest octets bracket deep more opens room = by (is_open_left bracket) (open_found bracket Place.Top rest octets opens more refl)
     where
-      turns : turn g l on_top (token_of (lexeme_at rest (kinds.Mark (open_mark bracket)) [] 1) (Mark' (open_mark bracket))) ≡ goes (behind_open rest bracket)
+      turns : turn g l on_top (token_of (lexeme_at rest (TokenKind.Mark (open_mark bracket)) [] 1) (Mark' (open_mark bracket))) ≡ goes (behind_open rest bracket)
       turns = open_goes (under g l) (spot_at (rest.used + 1) (begin rest.used) c) [] ss bracket deep
 
-      by : (b : Bool) → IsFound places.Top rest octets (kinds.Mark (open_mark bracket)) [] 1 b
-          → Passes g l (rested rest start c [] ss nows.Ready) octets 1
-          (rested (past_token places.Top rest (kinds.Mark (open_mark bracket)) 1) (begin rest.used) c (opened bracket ss ∷ []) [] (first_now bracket))
-      by true f = left_found g l on_top refl rest octets (kinds.Mark (open_mark bracket)) [] 1 (Mark' (open_mark bracket)) (behind_open rest bracket)
+      by : (b : Bool) → IsFound Place.Top rest octets (TokenKind.Mark (open_mark bracket)) [] 1 b
+          → Passes g l (rested rest start c [] ss Now.Ready) octets 1
+          (rested (past_token Place.Top rest (TokenKind.Mark (open_mark bracket)) 1) (begin rest.used) c (opened bracket ss ∷ []) [] (first_now bracket))
+      by true f = left_found g l on_top refl rest octets (TokenKind.Mark (open_mark bracket)) [] 1 (Mark' (open_mark bracket)) (behind_open rest bracket)
           (mark_says (open_mark bracket)) turns f
           (top_quiet rest octets 1 (omega arith) (omega arith))
-      by false f = given_found g l on_top refl rest octets (kinds.Mark (open_mark bracket)) [] 1 (Mark' (open_mark bracket)) (behind_open rest bracket)
+      by false f = given_found g l on_top refl rest octets (TokenKind.Mark (open_mark bracket)) [] 1 (Mark' (open_mark bracket)) (behind_open rest bracket)
           (mark_says (open_mark bracket)) turns f tt (l.item + begin rest.used)
           (inner_notices l (behind_open rest bracket) refl) room
 
 -- what waits behind an annotation, or behind `::`, isn't too long
 pub waits_notices : (l : Limits) (start : ℕ) (c : List Slot) (ss : Symbols) (h : Held) (end most : ℕ) → end ≤ start + l.item
-    → NoticesNothing l (at start c [] ss (nows.Pending h end)) most
+    → NoticesNothing l (at start c [] ss (Now.Pending h end)) most
 waits_notices l start c ss h end most room s idle few = ap
-    (λ b. if b then uses (with_scan s (at start c [] ss (nows.Pending h end))) else fails reasons.ItemTooLong) (le_true (end - start) l.item (omega arith))
+    (λ b. if b then uses (with_scan s (at start c [] ss (Now.Pending h end))) else fails Reason.ItemTooLong) (le_true (end - start) l.item (omega arith))
 
 noted_notices : (l : Limits) (start : ℕ) (c : List Slot) (ss : Symbols) (x : Option (List ℕ))
-    → NoticesNothing l (at start c [] (ss ++ x ∷ []) nows.Ready) (l.item + start)
+    → NoticesNothing l (at start c [] (ss ++ x ∷ []) Now.Ready) (l.item + start)
 noted_notices l start c ss x s idle few =
-    ap (λ b. if b then uses (with_scan s (at start c [] (ss ++ x ∷ []) nows.Ready)) else fails reasons.ItemTooLong)
-    (le_true (reaches [] (at start c [] (ss ++ x ∷ []) nows.Ready) s) l.item (let e = reach ss in omega arith))
+    ap (λ b. if b then uses (with_scan s (at start c [] (ss ++ x ∷ []) Now.Ready)) else fails Reason.ItemTooLong)
+    (le_true (reaches [] (at start c [] (ss ++ x ∷ []) Now.Ready) s) l.item (let e = reach ss in omega arith))
   where
     none : begun_in s ≡ None
     none = cond-true _ _ _ idle
 
-    reach : (ss : Symbols) → reaches [] (at start c [] (ss ++ x ∷ []) nows.Ready) s ≡ s.used - start
-    reach [] = ap (λ b. longest_top start s.used nows.Ready (x ∷ []) b (is_long_begun b)) none
-    reach (y ∷ ss) = ap (λ b. longest_top start s.used nows.Ready (y ∷ (ss ++ x ∷ [])) b (is_long_begun b)) none
+    reach : (ss : Symbols) → reaches [] (at start c [] (ss ++ x ∷ []) Now.Ready) s ≡ s.used - start
+    reach [] = ap (λ b. longest_top start s.used Now.Ready (x ∷ []) b (is_long_begun b)) none
+    reach (y ∷ ss) = ap (λ b. longest_top start s.used Now.Ready (y ∷ (ss ++ x ∷ [])) b (is_long_begun b)) none
 
 -- a blank, wherever a value may come
 pub any_blank : (g : Catalog) (l : Limits) (start : ℕ) (c : List Slot) (fs : List Frame) (ss : Symbols) (rest behind : Rest) (piece : List ℕ) (n : ℕ)
     → rest.used + n ≤ l.item + begun_at start rest.used fs ss → RestsBehind piece n rest behind
-    → Passes g l (rested rest start c fs ss nows.Ready) piece n (rested behind start c fs ss nows.Ready)
+    → Passes g l (rested rest start c fs ss Now.Ready) piece n (rested behind start c fs ss Now.Ready)
 any_blank g l start c [] ss rest behind piece n room h = top_blank g l start c ss rest behind piece n room h
 any_blank g l start c (f ∷ fs) ss rest behind piece n room h =
-    let r = at start c (f ∷ fs) ss nows.Ready in
+    let r = at start c (f ∷ fs) ss Now.Ready in
     passes_blank g l r (l.item + start) (inner_notices l r refl) (resting rest) (resting behind) piece n h.within refl refl (h.ran (place r))
     (omega arith) (still_settles g l r tt)
 
@@ -203,22 +175,22 @@ module _ (octets : List ℕ) (token : FoundToken) (f : FoundNote octets token) (
     (passed : IsPassed (drop token.count octets) m) (one : get_or octets (token.count + m) 0 ≡ 58) (two : get_or octets (token.count + m + 1) 0 ≡ 58) where
   pub note_leads : (g : Catalog) (l : Limits) (start : ℕ) (c : List Slot) (fs : List Frame) (ss : Symbols) (rest : Rest)
       → rest.used + length octets ≤ l.item + begun_at start rest.used fs ss
-      → Passes g l (rested rest start c fs ss nows.Ready) octets (token.count + m + 2)
-      (rested (behind_note (place_in fs nows.Ready) rest token m) (begun_at start rest.used fs ss) c fs (ss ++ f.name ∷ []) nows.Ready)
+      → Passes g l (rested rest start c fs ss Now.Ready) octets (token.count + m + 2)
+      (rested (behind_note (place_in fs Now.Ready) rest token m) (begun_at start rest.used fs ss) c fs (ss ++ f.name ∷ []) Now.Ready)
   note_leads g l start c [] ss rest room =
-      let b = f.begins places.Top rest in
+      let b = f.begins Place.Top rest in
       let n = token.count in
       let start' = begun_at start rest.used [] ss in
       let pays = held_in (held_of b.content) _ b.is in
-      noted_passes g l (at start c [] ss nows.Ready) start' refl refl rest octets token.kind b.kept n m token.left b.content pays.0 f.name b.found b.says
-      (symbol_colon places.Top token.kind b.kept b.content pays.0 b.says pays.1)
+      noted_passes g l (at start c [] ss Now.Ready) start' refl refl rest octets token.kind b.kept n m token.left b.content pays.0 f.name b.found b.says
+      (symbol_colon Place.Top token.kind b.kept b.content pays.0 b.says pays.1)
       (symbol_held pays.0 f.name pays.2) passed within one two
       (λ k few. top_quiet g l start c ss rest octets k (omega arith) (omega arith))
       (waits_so (under g l) (spot_at (rest.used + n) start' c) [] ss b.content pays.0 pays.1)
       (waits_notices l start' c ss pays.0 (rest.used + n) (rest.used + length octets) (omega arith))
       (λ k idle few. noted_notices l start' c ss f.name k idle (omega arith))
   note_leads g l start c (h ∷ fs) ss rest room =
-      let r = at start c (h ∷ fs) ss nows.Ready in
+      let r = at start c (h ∷ fs) ss Now.Ready in
       let b = f.begins (place r) rest in
       let pays = held_in (held_of b.content) _ b.is in
       note_passes g l r refl rest octets token.kind b.kept token.count m token.left b.content room (omega arith) b.found b.says tt tt refl pays.0

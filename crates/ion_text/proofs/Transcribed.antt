@@ -1,15 +1,8 @@
 -- The text of one token is that of the level that its value is.
 use Rattle.std.proofs.Common.{◌≡◌, ℕ, List, ◌++◌, Some, None, Result, OnOk, refl, ap, sym, subst}
+use Rattle.ion_text.specs.Names.{Fault, Layer, Number, Part, known_text, layer_text, number_payload, number_text, payload_of, symbol_text}
 use Rattle.ion_model.specs.declared.value.Payload.TheVariants as payloads
 use Rattle.ion_model.specs.declared.value.Payload.TheViews as views
-use Rattle.ion_model.specs.Measures.{Layer}
-use Rattle.ion_symtab.specs.declared.fault.Fault.{Fault}
-use Rattle.ion_scalar.specs.declared.number.Number.{Number}
-use Rattle.ion_scalar.specs.declared.number.Number.TheVariants as numbers
-use Rattle.ion_scalar.specs.text.Texts.{number_text}
-use Rattle.ion_text.specs.Output.{known_text, symbol_text, layer_text}
-use Rattle.ion_visiting.specs.Parts.{number_payload, payload_of}
-use Rattle.ion_visiting.specs.declared.part.Part.{Part}
 
 -- a symbol whose text is known
 pub symbol_known : (w : List ℕ) → symbol_text (Some w) ≡ known_text w
@@ -26,9 +19,9 @@ module _ (s x : Part) (is : s ≡ x) where
 
 -- the text of a number as a level
 pub number_level : (n : Number) → number_text n ≡ layer_text (views.out-Payload (number_payload n))
-number_level (numbers.Int z) = ap layer_text (sym (views.outs-Int z))
-number_level (numbers.Decimal d) = ap layer_text (sym (views.outs-Decimal d))
-number_level (numbers.Timestamp t) = ap layer_text (sym (views.outs-Timestamp t))
+number_level (Number.Int z) = ap layer_text (sym (views.outs-Int z))
+number_level (Number.Decimal d) = ap layer_text (sym (views.outs-Decimal d))
+number_level (Number.Timestamp t) = ap layer_text (sym (views.outs-Timestamp t))
 
 -- the text of a symbol of unknown text as a level
 pub unknown_level : symbol_text None ≡ layer_text (views.out-Payload (payloads.Symbol None))

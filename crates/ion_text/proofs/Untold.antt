@@ -1,19 +1,15 @@
 -- Values of which a visitor heeds nothing, and that needn't be told it.
 use Rattle.std.proofs.Common.{◌≡◌, List, Bool, true, false, refl, sym, ◌∙◌}
 use Rattle.std.proofs.lemmas.Bool.{false≢true}
-use Rattle.ion_model.specs.declared.value.Payload.{Payload}
+use Rattle.ion_text.specs.Names.{Event, LetsPass, Payload, TableFilter, Tells, WasTold, begins_struct, heard, is_of_table, part}
 use Rattle.ion_visiting.specs.declared.table_filter.Table.{Table}
-use Rattle.ion_visiting.specs.declared.table_filter.Table.TheVariants as tables
-use Rattle.ion_visiting.specs.declared.table_filter.TableFilter.{TableFilter}
-use Rattle.ion_visiting.specs.Events.{Event, part}
-use Rattle.ion_visiting.specs.Tables.{LetsPass, Tells, WasTold, begins_struct, heard, is_of_table}
 use Rattle.ion_visiting.specs.laws.Filters.{hears_none, visitor_tells}
 
 plain_of : (t : Table) (b : Bool) → is_of_table t true ≡ false → is_of_table t b ≡ false
-plain_of tables.Unknown b h = refl
-plain_of tables.No b h = refl
-plain_of tables.Noted b h = absurd (false≢true (sym h))
-plain_of tables.Yes b h = absurd (false≢true (sym h))
+plain_of Table.Unknown b h = refl
+plain_of Table.No b h = refl
+plain_of Table.Noted b h = absurd (false≢true (sym h))
+plain_of Table.Yes b h = absurd (false≢true (sym h))
 
 -- what answers false only there answers true elsewhere
 pub let_by : (b x : Bool) → (b ≡ false → x ≡ true) → x ≡ false → b ≡ true

@@ -3,8 +3,7 @@ use Rattle.std.proofs.Common.{◌≡◌, ℕ, Bool, true, false, List, [], ◌�
 use Rattle.std.specs.Prelude.{◌==◌, ◌&&◌, ◌||◌}
 use Rattle.std.specs.List.{list_all}
 use Rattle.std.proofs.lemmas.Bool.Decides.{nat_tests}
-use Rattle.ion_tokens.specs.Octets.{is_digit}
-use Rattle.ion_text.specs.Grammar.{version_parts, some_digits}
+use Rattle.ion_text.specs.Names.{is_digit, some_digits, version_parts}
 
 -- a digit in place of those that were passed
 abbrev pub since : Bool → List ℕ → List ℕ

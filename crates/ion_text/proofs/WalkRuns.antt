@@ -3,29 +3,11 @@ use Rattle.std.proofs.Common.{◌≡◌, ℕ, zero, suc, ◌+◌, ◌*◌, ◌<�
 use Rattle.std.specs.Option.{is_some, IsSome}
 use Rattle.std.specs.Prelude.{IsNone, IfSome}
 use Rattle.std.proofs.lemmas.List.{length-take-le}
-use Rattle.ion_model.specs.declared.value.Value.{Value}
-use Rattle.ion_atoms.specs.declared.refusal.Refusal.{Refusal}
-use Rattle.ion_symtab.specs.Steps.{StepsOver}
-use Rattle.ion_symtab.specs.Trace.{Answers, given_at}
-use Rattle.ion_symtab.specs.Walks.{EndsOn, WalksOn, if_ended}
-use Rattle.ion_symtab.specs.declared.items.Walked.{Walked}
-use Rattle.ion_symtab.specs.declared.limits.Limits.{Limits}
-use Rattle.ion_symtab.specs.declared.catalog.Catalog.{Catalog}
-use Rattle.ion_tokens.specs.machine.Bounds.{IsSteady}
-use Rattle.ion_tokens.specs.machine.Views.{scanned, looks, failure}
-use Rattle.ion_visiting.specs.Events.{Event, events_of}
-use Rattle.ion_visiting.specs.Tables.{Hears, heard}
-use Rattle.ion_text.specs.declared.state.Frame.{Frame}
-use Rattle.ion_text.specs.declared.walk.TextWalk.{TextWalk}
-use Rattle.ion_text.specs.laws.reading.Stands.{none_is, ran_ends}
-use Rattle.ion_text.specs.machine.EachToken.{Symbols}
-use Rattle.ion_text.specs.machine.Progress.{Advances, BeginsWith, Ran, is_quiet, or_first, pending_by}
-use Rattle.ion_text.specs.machine.Run.{State, begun, ends, trace}
+use Rattle.ion_text.specs.Names.{Advances, Answers, Begins, Catalog, EndsOn, Event, FinishedSo, Frame, Hears, Holds, IsSteady, Limits, Ran, Refusal, StandsFor, State, StaysSteady, StepsOver, Symbols, TextWalk, Told, Value, Walked, WalksOn, begun, events_of, failed, failure, given_at, heard, if_ended, is_quiet, looks, octets_used, or_first, pending, pending_by, scanned, state_of, told, trace}
+use Rattle.ion_text.specs.machine.Progress.{BeginsWith}
+use Rattle.ion_text.specs.machine.Run.{ends}
 use Rattle.ion_text.specs.walk.Advances.{AdvancesBy, DidAdvance}
-use Rattle.ion_text.specs.walk.Ends.{FinishedSo, failed, octets_used}
-use Rattle.ion_text.specs.walk.Holds.{Holds, state_of, told}
-use Rattle.ion_text.specs.walk.Runs.{Begins, StandsFor, Told, pending}
-use Rattle.ion_text.specs.walk.Takes.{StaysSteady}
+use Rattle.ion_text.specs.laws.reading.Stands.{none_is, ran_ends}
 use Rattle.ion_text.proofs.Further.{answers, ran_further}
 use Rattle.ion_text.proofs.Pendings.{few, nothing}
 

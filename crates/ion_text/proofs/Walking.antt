@@ -2,24 +2,9 @@
 use Rattle.std.proofs.Common.{◌≡◌, ℕ, ◌+◌, ◌-◌, ◌<◌, ◌≤◌, Bool, true, false, List, [], ◌∷◌, length, take, Ok, refl, ap, sym, ◌∙◌, subst, arith, ◌⊎◌, inl, inr}
 use Rattle.std.specs.Prelude.{if◌then◌else◌, nat_lt}
 use Rattle.std.proofs.lemmas.Bool.Decides.{nat_tests}
-use Rattle.ion_symtab.specs.declared.limits.Limits.{Limits}
-use Rattle.ion_symtab.specs.declared.catalog.Catalog.{Catalog}
-use Rattle.ion_visiting.specs.declared.bracket.Bracket.{Bracket}
-use Rattle.ion_tokens.specs.declared.mode.TokenKind.{TokenKind}
-use Rattle.ion_tokens.specs.declared.plain_tokens.Rest.{Rest}
-use Rattle.ion_tokens.specs.Bodies.{Content, Mark'}
-use Rattle.ion_tokens.specs.machine.Rests.{resting, past_token, lexeme_at, before_end, IsFound}
-use Rattle.ion_tokens.specs.machine.Said.{said}
-use Rattle.ion_text.specs.declared.state.Frame.{Frame}
-use Rattle.ion_text.specs.declared.state.Frame.TheVariants as frames
-use Rattle.ion_text.specs.machine.EachToken.{Setting, Spot, Reading, Symbols, goes, at, place, turn, on_ready, opened, first_now, beyond_depth}
-use Rattle.ion_text.specs.machine.Run.{is_top, with_scan, token_of}
-use Rattle.ion_text.specs.machine.Pieces.{Quiet}
-use Rattle.ion_text.specs.machine.Nested.{open_mark}
-use Rattle.ion_text.specs.machine.Views.{IsCalm}
-use Rattle.ion_text.specs.machine.AtOnce.{Passes, IsStill}
+use Rattle.ion_text.specs.Names.{Bracket, Catalog, Content, Frame, IsCalm, IsFound, IsStill, Limits, Mark', Passes, Quiet, Reading, Rest, Setting, Spot, Symbols, TokenKind, at, before_end, beyond_depth, first_now, goes, is_top, lexeme_at, on_ready, open_mark, opened, past_token, place, resting, said, token_of, turn, with_scan}
 use Rattle.ion_text.specs.laws.reading.Brackets.{open_turns}
-use Rattle.ion_text.proofs.Arms.{StaysIn, left_passes, given_passes}
+use Rattle.ion_text.proofs.Arms.{StaysIn, given_passes, left_passes}
 use Rattle.ion_text.proofs.Passing.{calm_quiet}
 use Rattle.ion_text.proofs.Striding.{still_settles}
 

@@ -4,18 +4,14 @@ use Rattle.std.specs.Prelude.{if◌then◌else◌, ◌==◌, ◌&&◌, ◌||◌,
 use Rattle.std.specs.Str.{bytes_eq}
 use Rattle.std.proofs.lemmas.Bool.{cond-true, cond-false}
 use Rattle.std.proofs.lemmas.Bool.Decides.{nat_tests}
-use Rattle.ion_atoms.specs.declared.kind.Kind.TheVariants as sorts
+use Rattle.ion_text.specs.Names.{Held, Kind, behind_front, held_payload, held_word, is_keyword, is_marker, is_version, the_marker, version_parts}
 use Rattle.ion_model.specs.declared.value.Payload.TheVariants as payloads
-use Rattle.ion_text.specs.Grammar.{behind_front, is_keyword, is_version, the_marker, version_parts}
-use Rattle.ion_text.specs.declared.state.Held.TheVariants as helds
-use Rattle.ion_text.specs.machine.EachToken.{held_word, held_payload}
-use Rattle.ion_text.specs.machine.FrontTokens.{is_marker}
 
 -- words
 
 module _ (w : List ℕ) where
   -- the word `null` is the null without a type
-  pub word_null : bytes_eq w (codes "null") ≡ true → held_payload (held_word w) ≡ Ok (payloads.Null sorts.Null)
+  pub word_null : bytes_eq w (codes "null") ≡ true → held_payload (held_word w) ≡ Ok (payloads.Null Kind.Null)
   word_null e = ap held_payload (cond-true _ _ _ e)
 
   -- the word `true` is the boolean true
@@ -32,7 +28,7 @@ module _ (w : List ℕ) where
       ≡ false → held_payload (held_word w) ≡ Ok (payloads.Symbol (Some w))
   word_symbol n t f a = ap held_payload (cond-false _ _ _ n ∙ (cond-false _ _ _ t ∙ (cond-false _ _ _ f ∙ cond-false _ _ _ a))) ∙ by (is_version w)
     where
-      by : (b : Bool) → held_payload (if b then helds.Version (bytes_eq w the_marker) (Some w) else helds.Symbol (Some w)) ≡ Ok (payloads.Symbol (Some w))
+      by : (b : Bool) → held_payload (if b then Held.Version (bytes_eq w the_marker) (Some w) else Held.Symbol (Some w)) ≡ Ok (payloads.Symbol (Some w))
       by true = refl
       by false = refl
 
@@ -47,11 +43,11 @@ module _ (w : List ℕ) where
           other : (o : ℕ) → o ≢ 36 → (36 == o) ≡ false
           other o h = grind (arith, nat_tests)
 
-      last : is_marker (if is_version w then helds.Version (bytes_eq w the_marker) (Some w) else helds.Symbol (Some w)) ≡ false
-      last = ap (λ b. is_marker (if b then helds.Version (bytes_eq w the_marker) (Some w) else helds.Symbol (Some w))) (plain w first)
+      last : is_marker (if is_version w then Held.Version (bytes_eq w the_marker) (Some w) else Held.Symbol (Some w)) ≡ false
+      last = ap (λ b. is_marker (if b then Held.Version (bytes_eq w the_marker) (Some w) else Held.Symbol (Some w))) (plain w first)
 
-      go : (n t f a : Bool) → is_marker (if n then helds.Null sorts.Null else (if t then helds.Truth true else (if f then helds.Truth false
-          else (if a then helds.Nan else (if is_version w then helds.Version (bytes_eq w the_marker) (Some w) else helds.Symbol (Some w)))))) ≡ false
+      go : (n t f a : Bool) → is_marker (if n then Held.Null Kind.Null else (if t then Held.Truth true else (if f then Held.Truth false
+          else (if a then Held.Nan else (if is_version w then Held.Version (bytes_eq w the_marker) (Some w) else Held.Symbol (Some w)))))) ≡ false
       go true t f a = refl
       go false true f a = refl
       go false false true a = refl

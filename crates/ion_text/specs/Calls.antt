@@ -1,8 +1,6 @@
 -- The calls of a writer, one after another.
 use Rattle.std.specs.Prelude.{◌≡◌, List, [], ◌∷◌}
-use Rattle.ion_model.specs.declared.value.Value.{Value}
-use Rattle.ion_symtab.specs.Took.{Took}
-use Rattle.ion_symtab.specs.declared.outlet.Outlet.{Ghosts as Outlet}
+use Rattle.ion_text.specs.Names.Below.{Outlet, Took, Value}
 use Rattle.ion_text.specs.Output.{adds}
 
 module _ {T : Type 0} (W : Outlet T) where

@@ -2,25 +2,9 @@
 -- and levels give: for each of these rows of docs/FORMAT.md, "Values in text", the constructors of `Gives` that stand under it. A row says
 -- which tokens the octets are (whole pieces of the grammar, then those of an open item), and what shows it. Nothing here speaks of reading.
 use Rattle.std.specs.Prelude.{◌≡◌, ◌≢◌, ◌⊎◌, ◌+◌, ◌≤◌, ℕ, suc, Bool, true, false, ◌&&◌, List, [], ◌∷◌, ◌++◌, length, map, Option, Err, codes}
-use Rattle.ion_model.specs.declared.value.Value.{Value}
-use Rattle.ion_model.specs.declared.value.Field.{Field}
+use Rattle.ion_text.specs.Names.Below.{Catalog, Content, Depth, Field, Id, ImportGap, KeywordAsName, Kind, LexesTo, Limits, Mark, Mark', MissingImport, NullTable, Place, Placed, Reason, RepeatedField, Slot, SymbolRange, TableTooLarge, TypedNull, Value, Version, Word, annotated, depth, greatest, is_table, next, resolve}
 use Rattle.ion_model.specs.declared.value.Payload.TheVariants as payloads
-use Rattle.ion_model.specs.Measures.{depth, annotated, greatest}
-use Rattle.ion_model.specs.Kinds.{is_table}
-use Rattle.ion_atoms.specs.declared.kind.Kind.{Kind}
-use Rattle.ion_atoms.specs.declared.refusal.Reason.{Reason}
-use Rattle.ion_atoms.specs.declared.refusal.Reason.TheVariants.{Depth, Version, KeywordAsName}
-use Rattle.ion_atoms.specs.declared.refusal.Reason.TheVariants.{SymbolRange, ImportGap, MissingImport, RepeatedField, TableTooLarge, NullTable}
-use Rattle.ion_symtab.specs.declared.limits.Limits.{Limits}
-use Rattle.ion_symtab.specs.declared.catalog.Catalog.{Catalog}
-use Rattle.ion_symtab.specs.Slots.{Slot, resolve}
-use Rattle.ion_symtab.specs.Next.{next}
-use Rattle.ion_tokens.specs.declared.mode.Place.{Place}
-use Rattle.ion_tokens.specs.declared.mode.Place.TheVariants as places
-use Rattle.ion_tokens.specs.declared.mode.Mark.TheVariants as marks
-use Rattle.ion_tokens.specs.Bodies.{Content, Word, Id, TypedNull, Mark'}
-use Rattle.ion_tokens.specs.Lexed.{Placed, LexesTo}
-use Rattle.ion_text.specs.Grammar.{Says, Annotations, IsName, Means, Elements, Row, Members, Pieces, BlankThen, ends_long, begins_as_long, is_keyword, is_version, the_marker}
+use Rattle.ion_text.specs.Grammar.{Annotations, BlankThen, Elements, IsName, Means, Members, Pieces, Row, Says, begins_as_long, ends_long, is_keyword, is_version, the_marker}
 
 -- 1. What stands open.
 
@@ -37,11 +21,11 @@ pub data Container : Type 0 where
 
 -- where the next token stands
 abbrev pub place_of : List Container → Place
-place_of [] = places.Top
-place_of (InList ∷ ks) = places.List
-place_of (InSexp ∷ ks) = places.Sexp
-place_of (InStruct ∷ ks) = places.Name
-place_of (InField ∷ ks) = places.FieldValue
+place_of [] = Place.Top
+place_of (InList ∷ ks) = Place.List
+place_of (InSexp ∷ ks) = Place.Sexp
+place_of (InStruct ∷ ks) = Place.Name
+place_of (InField ∷ ks) = Place.FieldValue
 
 -- a value may come there, and no name
 abbrev pub TakesValue : List Container → Type 0
@@ -56,16 +40,16 @@ MayGoSoDeep l ks deepest = deepest + suc (length ks) ≤ l.depth
 pub data Open (l : Limits) (c : List Slot) : List Container → List Placed → Type 0 where
   none_open : Open l c [] []
   list_open : (ks : List Container) (ts notes us : List Placed) (ss : List (Option (List ℕ))) (t : Placed) (vs : List Value)
-      → Open l c ks ts → TakesValue ks → Annotations c (place_of ks) notes ss → Says (place_of ks) t (Mark' marks.ListOpen) → Elements c us vs true
+      → Open l c ks ts → TakesValue ks → Annotations c (place_of ks) notes ss → Says (place_of ks) t (Mark' Mark.ListOpen) → Elements c us vs true
       → MayGoSoDeep l ks (greatest (map depth vs)) → Open l c (InList ∷ ks) (ts ++ (notes ++ t ∷ us))
   sexp_open : (ks : List Container) (ts notes us : List Placed) (ss : List (Option (List ℕ))) (t : Placed) (vs : List Value)
-      → Open l c ks ts → TakesValue ks → Annotations c (place_of ks) notes ss → Says (place_of ks) t (Mark' marks.SexpOpen) → Row c us vs
+      → Open l c ks ts → TakesValue ks → Annotations c (place_of ks) notes ss → Says (place_of ks) t (Mark' Mark.SexpOpen) → Row c us vs
       → MayGoSoDeep l ks (greatest (map depth vs)) → Open l c (InSexp ∷ ks) (ts ++ (notes ++ t ∷ us))
   struct_open : (ks : List Container) (ts notes us : List Placed) (ss : List (Option (List ℕ))) (t : Placed) (ms : List Field)
-      → Open l c ks ts → TakesValue ks → Annotations c (place_of ks) notes ss → Says (place_of ks) t (Mark' marks.FieldsOpen) → Members c us ms true
+      → Open l c ks ts → TakesValue ks → Annotations c (place_of ks) notes ss → Says (place_of ks) t (Mark' Mark.FieldsOpen) → Members c us ms true
       → MayGoSoDeep l ks (greatest (map (λ f. depth f.value) ms)) → Open l c (InStruct ∷ ks) (ts ++ (notes ++ t ∷ us))
   named : (ks : List Container) (ts ns : List Placed) (s : Option (List ℕ)) (colon : Placed)
-      → Open l c (InStruct ∷ ks) ts → IsName c ns s → Says places.Name colon (Mark' marks.Colon) → Open l c (InField ∷ ks) (ts ++ (ns ++ colon ∷ []))
+      → Open l c (InStruct ∷ ks) ts → IsName c ns s → Says Place.Name colon (Mark' Mark.Colon) → Open l c (InField ∷ ks) (ts ++ (ns ++ colon ∷ []))
 
 -- annotations may stand before a value, and none before a name
 abbrev pub MayNote : List Container → List Placed → Type 0
@@ -96,7 +80,7 @@ pub record Ends (g : Catalog) (l : Limits) (c : List Slot) (v : Value) (ts : Lis
   pub values : List Value
   pub parts : ts ≡ front ++ item
   pub pieces : Pieces g l front values c
-  pub means : Means c places.Top item v
+  pub means : Means c Place.Top item v
   pub deep : depth v ≤ l.depth
   pub apart : (ends_long front && begins_as_long item) ≡ false
 
@@ -158,7 +142,7 @@ IsKeyword _ = ⊥
 
 -- the mark that opens a list or an s-expression
 abbrev pub OpensRow : Content → Type 0
-OpensRow said = (said ≡ Mark' marks.ListOpen) ⊎ (said ≡ Mark' marks.SexpOpen)
+OpensRow said = (said ≡ Mark' Mark.ListOpen) ⊎ (said ≡ Mark' Mark.SexpOpen)
 
 -- 3. What decides, each under its row of the table.
 
@@ -171,7 +155,7 @@ pub data Gives (g : Catalog) (l : Limits) (sight : Sight) : Reason → Type 0 wh
       → sight.word ts → Comes g l c (InStruct ∷ ks) said ts → IsKeyword said → Gives g l sight KeywordAsName
   -- "`KeywordAsName` of an annotation | the second colon"
   keyword_as_annotation : (ts : List Placed) (colons : Placed) (c : List Slot) (ks : List Container) (said : Content)
-      → sight.mark (ts ++ colons ∷ []) → Comes g l c ks said ts → TakesValue ks → IsKeyword said → Says (place_of ks) colons (Mark' marks.Colons)
+      → sight.mark (ts ++ colons ∷ []) → Comes g l c ks said ts → TakesValue ks → IsKeyword said → Says (place_of ks) colons (Mark' Mark.Colons)
       → Gives g l sight KeywordAsName
   -- "`nan`, `Version`, `NullTable` | the octet that shows that no `::` follows, or the end"
   other_version : (ts : List Placed) (c : List Slot) (w : List ℕ)
@@ -183,7 +167,7 @@ pub data Gives (g : Catalog) (l : Limits) (sight : Sight) : Reason → Type 0 wh
   too_deep : (ts : List Placed) (c : List Slot) (ks : List Container) (said : Content)
       → sight.mark ts → Comes g l c ks said ts → TakesValue ks → OpensRow said → l.depth ≤ length ks → Gives g l sight Depth
   struct_too_deep : (ts : List Placed) (c : List Slot) (ks : List Container)
-      → sight.struct ts → Comes g l c ks (Mark' marks.FieldsOpen) ts → TakesValue ks → l.depth ≤ length ks → Gives g l sight Depth
+      → sight.struct ts → Comes g l c ks (Mark' Mark.FieldsOpen) ts → TakesValue ks → l.depth ≤ length ks → Gives g l sight Depth
   -- "a local symbol table, but `NullTable` | its `}`"
   bad_table : (ts : List Placed) (c : List Slot) (ss : List (Option (List ℕ))) (ms : List Field) (e : Reason)
       → sight.mark ts → Ends g l c (annotated ss (payloads.Fields ms)) ts → is_table (annotated ss (payloads.Fields ms)) ≡ true

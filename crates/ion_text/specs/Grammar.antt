@@ -1,29 +1,7 @@
 -- What text documents are (Ion 1.0, "Ion Text Encoding" and "Symbols"), over tokens with blanks alone between them.
 use Rattle.std.specs.Prelude.{◌≡◌, ◌⊎◌, ℕ, ◌+◌, ◌-◌, ◌≤◌, ◌==◌, Bool, true, false, ◌&&◌, ◌||◌, List, [], ◌∷◌, ◌++◌, length, Option, Some, Ok, codes, bytes_eq}
-use Rattle.ion_model.specs.declared.value.Value.{Value}
-use Rattle.ion_model.specs.declared.value.Field.{Field}
-use Rattle.ion_model.specs.declared.value.Payload.{Payload}
+use Rattle.ion_text.specs.Names.Below.{Blob, Catalog, Clob, Content, Field, Id, IsBlank, IsBody, Kind, Lexes, LexesTo, Limits, Long, Mark, Mark', Number, Number', Operator, Payload, Place, Placed, Quoted, Short, Slot, TokenKind, TypedNull, Value, Word, annotated, depth, field_of, is_digit, is_segment, is_table, next, resolve, system_slots, underscore}
 use Rattle.ion_model.specs.declared.value.Payload.TheVariants as payloads
-use Rattle.ion_atoms.specs.declared.kind.Kind.{Kind}
-use Rattle.ion_atoms.specs.declared.kind.Kind.TheVariants as values
-use Rattle.ion_model.specs.Measures.{depth, annotated, field_of}
-use Rattle.ion_model.specs.Kinds.{is_table}
-use Rattle.ion_scalar.specs.declared.number.Number.TheVariants as numbers
-use Rattle.ion_symtab.specs.declared.limits.Limits.{Limits}
-use Rattle.ion_symtab.specs.declared.catalog.Catalog.{Catalog}
-use Rattle.ion_symtab.specs.Slots.{Slot, system_slots, resolve}
-use Rattle.ion_symtab.specs.Next.{next}
-use Rattle.ion_tokens.specs.declared.mode.Place.{Place}
-use Rattle.ion_tokens.specs.declared.mode.Place.TheVariants as places
-use Rattle.ion_tokens.specs.declared.mode.Mark.TheVariants as marks
-use Rattle.ion_tokens.specs.declared.mode.TokenKind.{TokenKind}
-use Rattle.ion_tokens.specs.declared.mode.TokenKind.TheVariants as kinds
-use Rattle.ion_tokens.specs.Ascii.{underscore}
-use Rattle.ion_tokens.specs.Lexemes.{is_segment}
-use Rattle.ion_tokens.specs.Octets.{is_digit}
-use Rattle.ion_tokens.specs.Blanks.{IsBlank}
-use Rattle.ion_tokens.specs.Bodies.{Content, Word, Id, Quoted, Short, Long, Number', TypedNull, Operator, Clob, Blob, Mark', IsBody}
-use Rattle.ion_tokens.specs.Lexed.{Placed, Lexes, LexesTo}
 
 -- 1. Values of one token.
 
@@ -44,13 +22,13 @@ pub data IsSymbol (c : List Slot) : Content → Option (List ℕ) → Type 0 whe
 
 -- one token that is a value by itself, without annotations
 pub data IsScalar (c : List Slot) : Content → Payload → Type 0 where
-  is_null : IsScalar c (Word (codes "null")) (payloads.Null values.Null)
+  is_null : IsScalar c (Word (codes "null")) (payloads.Null Kind.Null)
   is_typed_null : (k : Kind) → IsScalar c (TypedNull k) (payloads.Null k)
   is_true : IsScalar c (Word (codes "true")) (payloads.Truth true)
   is_false : IsScalar c (Word (codes "false")) (payloads.Truth false)
-  is_int : (z : _) → IsScalar c (Number' (numbers.Int z)) (payloads.Int z)
-  is_decimal : (d : _) → IsScalar c (Number' (numbers.Decimal d)) (payloads.Decimal d)
-  is_timestamp : (t : _) → IsScalar c (Number' (numbers.Timestamp t)) (payloads.Timestamp t)
+  is_int : (z : _) → IsScalar c (Number' (Number.Int z)) (payloads.Int z)
+  is_decimal : (d : _) → IsScalar c (Number' (Number.Decimal d)) (payloads.Decimal d)
+  is_timestamp : (t : _) → IsScalar c (Number' (Number.Timestamp t)) (payloads.Timestamp t)
   is_symbol : (said : Content) (s : Option (List ℕ)) → IsSymbol c said s → IsScalar c said (payloads.Symbol s)
   is_operator : (w : List ℕ) → IsScalar c (Operator w) (payloads.Symbol (Some w))
   is_short : (w : List ℕ) → IsScalar c (Short w) (payloads.Str w)
@@ -63,7 +41,7 @@ pub data IsScalar (c : List Slot) : Content → Payload → Type 0 where
 pub data Annotations (c : List Slot) (p : Place) : List Placed → List (Option (List ℕ)) → Type 0 where
   no_annotation : Annotations c p [] []
   one_annotation : (ts : List Placed) (ss : List (Option (List ℕ))) (t colons : Placed) (said : Content) (s : Option (List ℕ))
-      → Annotations c p ts ss → Says p t said → IsSymbol c said s → Says p colons (Mark' marks.Colons)
+      → Annotations c p ts ss → Says p t said → IsSymbol c said s → Says p colons (Mark' Mark.Colons)
       → Annotations c p (ts ++ t ∷ colons ∷ []) (ss ++ s ∷ [])
 
 -- segments of a long string, which are one text together
@@ -73,9 +51,9 @@ pub data Segments (p : Place) : List Placed → List ℕ → Type 0 where
 
 -- a field's name: a symbol, a short string, or a long one
 pub data IsName (c : List Slot) : List Placed → Option (List ℕ) → Type 0 where
-  by_symbol : (t : Placed) (said : Content) (s : Option (List ℕ)) → Says places.Name t said → IsSymbol c said s → IsName c (t ∷ []) s
-  by_short : (t : Placed) (w : List ℕ) → Says places.Name t (Short w) → IsName c (t ∷ []) (Some w)
-  by_long : (ts : List Placed) (w : List ℕ) → Segments places.Name ts w → IsName c ts (Some w)
+  by_symbol : (t : Placed) (said : Content) (s : Option (List ℕ)) → Says Place.Name t said → IsSymbol c said s → IsName c (t ∷ []) s
+  by_short : (t : Placed) (w : List ℕ) → Says Place.Name t (Short w) → IsName c (t ∷ []) (Some w)
+  by_long : (ts : List Placed) (w : List ℕ) → Segments Place.Name ts w → IsName c ts (Some w)
 
 -- a segment of a long string
 abbrev pub is_long : Placed → Bool
@@ -96,8 +74,8 @@ begins_long (t ∷ ts) = is_long t
 
 -- where a struct's `}` stands: where a name may come, or behind a field
 abbrev pub close_place : Bool → Place
-close_place true = places.Name
-close_place false = places.FieldValue
+close_place true = Place.Name
+close_place false = Place.FieldValue
 
 mutual
   -- these tokens in this place are a value of this payload without annotations
@@ -105,13 +83,13 @@ mutual
     one_token : (p : Place) (t : Placed) (said : Content) (q : Payload) → Says p t said → IsScalar c said q → Plain c p (t ∷ []) q
     long_string : (p : Place) (ts : List Placed) (w : List ℕ) → Segments p ts w → Plain c p ts (payloads.Str w)
     is_list : (p : Place) (open' close : Placed) (ts : List Placed) (vs : List Value) (more : Bool)
-        → Says p open' (Mark' marks.ListOpen) → Elements c ts vs more → Says places.List close (Mark' marks.ListClose)
+        → Says p open' (Mark' Mark.ListOpen) → Elements c ts vs more → Says Place.List close (Mark' Mark.ListClose)
         → Plain c p (open' ∷ (ts ++ close ∷ [])) (payloads.List vs)
     is_sexp : (p : Place) (open' close : Placed) (ts : List Placed) (vs : List Value)
-        → Says p open' (Mark' marks.SexpOpen) → Row c ts vs → Says places.Sexp close (Mark' marks.SexpClose)
+        → Says p open' (Mark' Mark.SexpOpen) → Row c ts vs → Says Place.Sexp close (Mark' Mark.SexpClose)
         → Plain c p (open' ∷ (ts ++ close ∷ [])) (payloads.Sexp vs)
     is_struct : (p : Place) (open' close : Placed) (ts : List Placed) (ms : List Field) (more : Bool)
-        → Says p open' (Mark' marks.FieldsOpen) → Members c ts ms more → Says (close_place more) close (Mark' marks.FieldsClose)
+        → Says p open' (Mark' Mark.FieldsOpen) → Members c ts ms more → Says (close_place more) close (Mark' Mark.FieldsClose)
         → Plain c p (open' ∷ (ts ++ close ∷ [])) (payloads.Fields ms)
 
   -- these tokens in this place are this value
@@ -123,24 +101,24 @@ mutual
   pub data Elements (c : List Slot) : List Placed → List Value → Bool → Type 0 where
     no_element : Elements c [] [] true
     element : (ts us : List Placed) (vs : List Value) (v : Value)
-        → Elements c ts vs true → Means c places.List us v → Elements c (ts ++ us) (vs ++ v ∷ []) false
+        → Elements c ts vs true → Means c Place.List us v → Elements c (ts ++ us) (vs ++ v ∷ []) false
     comma : (ts : List Placed) (vs : List Value) (t : Placed)
-        → Elements c ts vs false → Says places.List t (Mark' marks.Comma) → Elements c (ts ++ t ∷ []) vs true
+        → Elements c ts vs false → Says Place.List t (Mark' Mark.Comma) → Elements c (ts ++ t ∷ []) vs true
 
   -- the elements of an s-expression; no long string stands directly behind a long string, which would be one with it
   pub data Row (c : List Slot) : List Placed → List Value → Type 0 where
     no_item : Row c [] []
     item : (ts us : List Placed) (vs : List Value) (v : Value)
-        → Row c ts vs → Means c places.Sexp us v → (ends_long ts && begins_long us) ≡ false → Row c (ts ++ us) (vs ++ v ∷ [])
+        → Row c ts vs → Means c Place.Sexp us v → (ends_long ts && begins_long us) ≡ false → Row c (ts ++ us) (vs ++ v ∷ [])
 
   -- the fields of a struct, with commas as in a list
   pub data Members (c : List Slot) : List Placed → List Field → Bool → Type 0 where
     no_field : Members c [] [] true
     field : (ts ns us : List Placed) (colon : Placed) (ms : List Field) (s : Option (List ℕ)) (v : Value)
-        → Members c ts ms true → IsName c ns s → Says places.Name colon (Mark' marks.Colon) → Means c places.FieldValue us v
+        → Members c ts ms true → IsName c ns s → Says Place.Name colon (Mark' Mark.Colon) → Means c Place.FieldValue us v
         → Members c (ts ++ (ns ++ colon ∷ us)) (ms ++ field_of s v ∷ []) false
     field_comma : (ts : List Placed) (ms : List Field) (t : Placed)
-        → Members c ts ms false → Says places.FieldValue t (Mark' marks.Comma) → Members c (ts ++ t ∷ []) ms true
+        → Members c ts ms false → Says Place.FieldValue t (Mark' Mark.Comma) → Members c (ts ++ t ∷ []) ms true
 
 -- 4. Version markers.
 
@@ -178,7 +156,7 @@ the_marker = codes "$ion_1_0"
 abbrev pub is_version_word : List Placed → Bool
 is_version_word (t ∷ []) = of_kind t.lexeme.kind where
   of_kind : TokenKind → Bool
-  of_kind kinds.Word = is_version t.lexeme.octets
+  of_kind TokenKind.Word = is_version t.lexeme.octets
   of_kind _ = false
 is_version_word _ = false
 
@@ -186,7 +164,7 @@ is_version_word _ = false
 
 -- `''`, the symbol of empty text
 abbrev pub is_two_quotes : TokenKind → ℕ → ℕ → Bool
-is_two_quotes kinds.QuotedSymbol start end = end == start + 2
+is_two_quotes TokenKind.QuotedSymbol start end = end == start + 2
 is_two_quotes _ start end = false
 
 -- the first of the tokens is a segment of a long string or begins like one; behind a long string at the top level none may stand
@@ -209,12 +187,12 @@ span (t ∷ ts) = end_of t.lexeme.end ts - t.lexeme.start
 pub data Pieces (g : Catalog) (l : Limits) : List Placed → List Value → List Slot → Type 0 where
   begins : Pieces g l [] [] system_slots
   marked : (ts : List Placed) (s : List Value) (c : List Slot) (t : Placed)
-      → Pieces g l ts s c → Says places.Top t (Word the_marker) → span (t ∷ []) ≤ l.item → Pieces g l (ts ++ t ∷ []) s system_slots
+      → Pieces g l ts s c → Says Place.Top t (Word the_marker) → span (t ∷ []) ≤ l.item → Pieces g l (ts ++ t ∷ []) s system_slots
   turns : (ts us : List Placed) (s : List Value) (c d : List Slot) (v : Value)
-      → Pieces g l ts s c → Means c places.Top us v → is_table v ≡ true → next c v g ≡ Ok d → depth v ≤ l.depth → span us ≤ l.item
+      → Pieces g l ts s c → Means c Place.Top us v → is_table v ≡ true → next c v g ≡ Ok d → depth v ≤ l.depth → span us ≤ l.item
       → (ends_long ts && begins_as_long us) ≡ false → Pieces g l (ts ++ us) s d
   holds : (ts us : List Placed) (s : List Value) (c : List Slot) (v : Value)
-      → Pieces g l ts s c → Means c places.Top us v → is_table v ≡ false → is_version_word us ≡ false → depth v ≤ l.depth
+      → Pieces g l ts s c → Means c Place.Top us v → is_table v ≡ false → is_version_word us ≡ false → depth v ≤ l.depth
       → span us ≤ l.item → (ends_long ts && begins_as_long us) ≡ false → Pieces g l (ts ++ us) (s ++ v ∷ []) c
 
 -- the octets are a document with these values

@@ -7,3 +7,4 @@ pub mod machine
 pub mod walk
 pub mod visiting
 pub mod laws
+pub mod Names

@@ -2,22 +2,8 @@
 -- one spelling.
 use Rattle.std.specs.Prelude.{ℕ, ◌≤◌, ◌+◌, ◌-◌, ◌/◌, ◌%◌, ◌==◌, Bool, true, false, not, ◌&&◌, ◌||◌, nat_le, nat_lt, List, [], ◌∷◌, ◌++◌, length, map, Option, None, Some, codes, if◌then◌else◌}
 use Rattle.std.specs.List.{flat_map, list_all}
-use Rattle.ion_atoms.specs.declared.kind.Kind.{Kind}
-use Rattle.ion_atoms.specs.declared.kind.Kind.TheVariants as kinds
-use Rattle.ion_atoms.specs.Kinds.{kind_name}
-use Rattle.ion_model.specs.declared.value.Value.{Value}
-use Rattle.ion_model.specs.declared.value.Field.{Field}
-use Rattle.ion_model.specs.declared.value.Payload.TheOpen.{Payload-F}
-use Rattle.ion_model.specs.declared.value.Payload.TheFolds.{fold-Value}
-use Rattle.ion_model.specs.Measures.{Layer, depth}
-use Rattle.ion_scalar.specs.declared.number.Number.TheVariants as numbers
-use Rattle.ion_scalar.specs.text.Texts.{number_text}
-use Rattle.ion_symtab.specs.declared.limits.Limits.{Limits}
-use Rattle.ion_tokens.specs.Ascii.{tab, line_feed, carriage_return, space, double_quote, single_quote, digit_0, backslash, underscore, lower_a, lower_n, lower_r, lower_t, delete}
-use Rattle.ion_tokens.specs.Octets.{is_letter, is_word_octet}
-use Rattle.ion_tokens.specs.Blobs.{base64_of}
+use Rattle.ion_text.specs.Names.Below.{Field, Kind, Layer, Limits, Number, Payload-F, Quotes, Value, backslash, base64_of, carriage_return, delete, depth, digit_0, double_quote, fold-Value, is_letter, is_word_octet, kind_name, line_feed, lower_a, lower_n, lower_r, lower_t, number_text, single_quote, space, tab, underscore}
 use Rattle.ion_text.specs.Grammar.{is_keyword}
-use Rattle.ion_text.specs.declared.escape.Quotes.{Quotes}
 
 -- 1. Texts between quotes ("Strings", "Symbols", "Clobs"). A text is its octets in UTF-8, and a character from 80 on stands as it is.
 
@@ -103,7 +89,7 @@ symbol_text (Some w) = known_text w
 
 -- a null of a kind: `null`, or `null.` and the name of the kind
 abbrev pub null_text : Kind → List ℕ
-null_text kinds.Null = codes "null"
+null_text Kind.Null = codes "null"
 null_text k = codes "null." ++ kind_name k
 
 -- a boolean
@@ -140,9 +126,9 @@ enclosed before between behind ws = (before ++ separated between ws) ++ behind
 abbrev pub text_step : Payload-F (List ℕ) (List ℕ) (List ℕ) → List ℕ
 text_step (Payload-F.Null k) = null_text k
 text_step (Payload-F.Truth b) = truth_text b
-text_step (Payload-F.Int z) = number_text (numbers.Int z)
-text_step (Payload-F.Decimal d) = number_text (numbers.Decimal d)
-text_step (Payload-F.Timestamp t) = number_text (numbers.Timestamp t)
+text_step (Payload-F.Int z) = number_text (Number.Int z)
+text_step (Payload-F.Decimal d) = number_text (Number.Decimal d)
+text_step (Payload-F.Timestamp t) = number_text (Number.Timestamp t)
 text_step (Payload-F.Symbol s) = symbol_text s
 text_step (Payload-F.Str text) = quoted of_string text
 text_step (Payload-F.Clob octets) = clob_text octets
@@ -163,9 +149,9 @@ field_text f = named_text f.name (value_text f.value)
 abbrev pub layer_text : Layer → List ℕ
 layer_text (Payload-F.Null k) = null_text k
 layer_text (Payload-F.Truth b) = truth_text b
-layer_text (Payload-F.Int z) = number_text (numbers.Int z)
-layer_text (Payload-F.Decimal d) = number_text (numbers.Decimal d)
-layer_text (Payload-F.Timestamp t) = number_text (numbers.Timestamp t)
+layer_text (Payload-F.Int z) = number_text (Number.Int z)
+layer_text (Payload-F.Decimal d) = number_text (Number.Decimal d)
+layer_text (Payload-F.Timestamp t) = number_text (Number.Timestamp t)
 layer_text (Payload-F.Symbol s) = symbol_text s
 layer_text (Payload-F.Str text) = quoted of_string text
 layer_text (Payload-F.Clob octets) = clob_text octets

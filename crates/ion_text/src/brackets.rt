@@ -1,6 +1,6 @@
 //! What opens and closes lists, s-expressions and structs, and what stands between their items.
 ghost use Rattle.std.specs.Prelude.{◌≡◌};
-ghost use Rattle.ion_text.specs.visiting.Brackets.{bracket_close, octet_between, open_octet};
+ghost use Rattle.ion_text.specs.Names.{bracket_close, octet_between, open_octet};
 
 use ion_visiting::Bracket;
 

@@ -1,7 +1,7 @@
 //! Symbols that print as text documents spell them (Ion 1.0, "Ion Text Encoding", symbols).
 ghost use Rattle.std.specs.Prelude.{◌≡◌, Some, false};
 ghost use Rattle.std.specs.Fmt.{WritesOnOk};
-ghost use Rattle.ion_text.specs.Output.{of_symbol, escape, escaped_text, known_text, symbol_text, is_raw};
+ghost use Rattle.ion_text.specs.Names.{escape, escaped_text, is_raw, known_text, of_symbol, symbol_text};
 
 use crate::escape::{OF_SYMBOL, hexadecimal_of, is_raw, letter_for};
 use crate::scalar::is_unquoted;

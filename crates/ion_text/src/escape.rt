@@ -4,8 +4,8 @@
 ghost use Rattle.std.specs.Prelude.{◌≡◌, ◌<◌, ◌++◌, OnOk, IsOkUnless, length, map, not, if◌then◌else◌};
 ghost use Rattle.std.specs.List.{take_while};
 ghost use Rattle.std.specs.Simd.Lanes.{mask_l};
+ghost use Rattle.ion_text.specs.Names.{escape, escaped_text, hexadecimal_of, is_raw, letter_for, quoted, stands_raw};
 ghost use Rattle.ion_symtab.specs.declared.fault.Fault.TheVariants as faults;
-ghost use Rattle.ion_text.specs.Output.{hexadecimal_of, letter_for, stands_raw, escape, escaped_text, quoted, is_raw};
 
 use ion_symtab::Fault;
 use std::simd::prelude::*;

@@ -2,31 +2,10 @@
 //! of reading is said of the definitions of `specs/machine/Run.antt`, which read octet by octet;
 //! `TextReader` is proved to answer what they say.
 ghost use Rattle.std.specs.Prelude.{◌≡◌, ◌↔◌, ◌<◌, ◌≤◌, ◌++◌, ◌⊎◌, ℕ, Bool, List, [], ◌∷◌, length, take, codes, Some, None, Ok, Err};
-ghost use Rattle.ion_model.specs.declared.value.Value.{Value};
-ghost use Rattle.ion_atoms.specs.declared.refusal.Reason.{Reason};
-ghost use Rattle.ion_atoms.specs.declared.refusal.Reason.TheVariants.{ItemTooLong};
-ghost use Rattle.ion_atoms.specs.Reasons.{reason_number};
-ghost use Rattle.ion_atoms.specs.declared.refusal.Refusal.{Refusal};
-ghost use Rattle.ion_model.specs.Kept.{AreKept, IsKept};
-ghost use Rattle.ion_model.specs.Measures.{nodes};
-ghost use Rattle.ion_symtab.specs.declared.limits.Limits.{Limits};
-ghost use Rattle.ion_symtab.specs.Slots.{Slot};
-ghost use Rattle.ion_symtab.specs.Tables.{Table};
-ghost use Rattle.ion_symtab.specs.Promises.{EndsValues, GivesNoTable, HasPieces, HasReasons, IsFirst, IsSmall, NoTables, Refuses, Shown, Shows};
-ghost use Rattle.ion_symtab.specs.Trace.{Grows, Streams, plain};
+ghost use Rattle.ion_text.specs.Names.{AreKept, Decides, Document, EndDecides, EndsValues, Event, FitsIn, GivesNoTable, Grows, HasPieces, HasReasons, HasRow, IsFirst, IsKept, IsSmall, ItemTooLong, Led, LexesTo, Limits, Means, NoTables, OpenRest, Place, Placed, Reason, Refusal, Refuses, Shown, Shows, Slot, Streams, Table, Took, Value, Whole, Writes, WritesEach, Written, events_of, lines, no_text, nodes, plain, reason_number, span, stream_events, text_of, trace, value_text, with_item};
 ghost use Rattle.ion_symtab.specs.laws.ContextTexts.{AreTextTables};
-ghost use Rattle.ion_tokens.specs.declared.mode.Place.{Place};
-ghost use Rattle.ion_tokens.specs.Lexed.{LexesTo, Placed};
-ghost use Rattle.ion_text.specs.Grammar.{Document, Means, OpenRest, Whole, span};
-ghost use Rattle.ion_text.specs.Deciding.{Decides, EndDecides, HasRow};
-ghost use Rattle.ion_text.specs.Output.{text_of, value_text, FitsIn};
 ghost use Rattle.ion_text.specs.laws.reading.Rows.{AreDocuments, worked_documents};
 ghost use Rattle.ion_text.specs.laws.writing.Rows.{worked};
-ghost use Rattle.ion_text.specs.Calls.{WritesEach};
-ghost use Rattle.ion_symtab.specs.Took.{Took};
-ghost use Rattle.ion_text.specs.machine.Run.{trace};
-ghost use Rattle.ion_text.specs.visiting.TextOut.{Writes, Written, lines, no_text, with_item};
-ghost use Rattle.ion_visiting.specs.Events.{Event, Led, events_of, stream_events};
 
 use ion_symtab::Outlet;
 

@@ -1,6 +1,6 @@
 //! The reader of text documents that gives values.
 ghost use Rattle.std.specs.Prelude.{◌≡◌, IfOk, IfErr};
-ghost use Rattle.ion_atoms.specs.declared.refusal.Reason.TheVariants.{Memory};
+ghost use Rattle.ion_text.specs.Names.{Memory};
 ghost use Rattle.ion_symtab.specs.IsNew.{IsNew};
 
 use crate::walk::TextWalk;

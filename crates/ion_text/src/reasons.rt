@@ -1,8 +1,6 @@
 //! Which reason is answered where more than one stands.
 ghost use Rattle.std.specs.Prelude.{◌≡◌, ◌≢◌, ℕ, Err};
-ghost use Rattle.ion_atoms.specs.declared.refusal.Reason.TheVariants.{Memory};
-ghost use Rattle.ion_text.specs.machine.Run.{end_late, lesser};
-ghost use Rattle.ion_text.specs.machine.Views.{worse};
+ghost use Rattle.ion_text.specs.Names.{Memory, end_late, lesser, worse};
 
 use crate::state::Taken;
 use ion_model::{Reason, Refusal};

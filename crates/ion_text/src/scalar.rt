@@ -2,14 +2,9 @@
 //! only fault is `Memory`, on which some of the octets may stand there.
 ghost use Rattle.std.specs.Prelude.{◌≡◌, ◌++◌, OnOk, IsOkUnless, IsUtf8, MatchResult, string_bytes};
 ghost use Rattle.std.specs.List.{list_all};
+ghost use Rattle.ion_text.specs.Names.{KeptPayload, begins_identifier, blob_text, clob_text, is_identifier, is_unquoted, is_word_octet, known_text, layer_text, null_text, number_text, out-Payload, payload_of, symbol_text, truth_text};
 ghost use Rattle.ion_atoms.specs.declared.refusal.Reason.TheVariants as reasons;
-ghost use Rattle.ion_scalar.specs.text.Texts.{number_text};
-ghost use Rattle.ion_model.specs.Kept.{KeptPayload};
-ghost use Rattle.ion_model.specs.declared.value.Payload.TheViews.{out-Payload};
 ghost use Rattle.ion_symtab.specs.declared.fault.Fault.TheVariants as faults;
-ghost use Rattle.ion_visiting.specs.Parts.{payload_of};
-ghost use Rattle.ion_tokens.specs.Octets.{is_word_octet};
-ghost use Rattle.ion_text.specs.Output.{begins_identifier, is_identifier, is_unquoted, known_text, symbol_text, null_text, truth_text, blob_text, clob_text, layer_text};
 
 use crate::escape::{OF_CLOB, OF_STRING, OF_SYMBOL, put_quoted};
 use crate::words::is_keyword;

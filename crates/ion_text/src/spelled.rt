@@ -1,9 +1,8 @@
 //! The text of one value.
 ghost use Rattle.std.specs.Prelude.{◌≡◌, ◌++◌, MatchResult, OnOk, IsOkUnless, string_bytes};
+ghost use Rattle.ion_text.specs.Names.{IsKept, value_text};
 ghost use Rattle.ion_atoms.specs.declared.refusal.Reason.TheVariants as reasons;
-ghost use Rattle.ion_model.specs.Kept.{IsKept};
 ghost use Rattle.ion_symtab.specs.declared.fault.Fault.TheVariants as faults;
-ghost use Rattle.ion_text.specs.Output.{value_text};
 
 use crate::text_out::TextOut;
 use ion_model::{Reason, Value};

@@ -1,9 +1,7 @@
 //! The visitor that writes values as text.
 ghost use Rattle.std.specs.Prelude.{◌≡◌, ◌++◌, OnOk, IsOkUnless, None, length, min, option_map, reverse, true};
-ghost use Rattle.ion_model.specs.Kept.{IsText};
+ghost use Rattle.ion_text.specs.Names.{IsText, between, front, lines, no_text, symbol_text, with_begun, without_lines};
 ghost use Rattle.ion_symtab.specs.declared.fault.Fault.TheVariants as faults;
-ghost use Rattle.ion_text.specs.Output.{symbol_text};
-ghost use Rattle.ion_text.specs.visiting.TextOut.{between, front, lines, no_text, with_begun, without_lines};
 
 use crate::brackets::{bracket_close, octet_between, open_octet};
 use crate::scalar::{put_known, put_numeral, put_part};

@@ -1,21 +1,9 @@
 //! The reader of text documents that holds no values: what it holds, and what ends a value.
 ghost use Rattle.std.specs.Prelude.{◌≡◌, ◌++◌, ◌∷◌, [], List, nat_lt, length, true, false, Ok, Err, OnOk, IfErr, ◌⊎◌};
-ghost use Rattle.ion_atoms.specs.declared.refusal.Reason.TheVariants.{Memory};
-ghost use Rattle.ion_model.specs.Kinds.{is_table};
-ghost use Rattle.ion_model.specs.Measures.{annotated};
-ghost use Rattle.ion_symtab.specs.Next.{next};
-ghost use Rattle.ion_model.specs.declared.value.Payload.{Payload};
+ghost use Rattle.ion_text.specs.Names.{AreAround, Does, DoesAlone, Frame, Holds, Memory, Payload, SameSetting, Symbols, Value as AnyValue, WasTold, annotated, begun_at, behind_value, brackets_of, calm, ended, events_of, is_inside, is_of_table, is_table, is_top, layer_events, next, number_payload, open_brackets, out-Payload, part, payload_of, place, reading_of, setting_of, spot_of, told};
 ghost use Rattle.ion_model.specs.declared.value.Payload.TheVariants as payloads;
-ghost use Rattle.ion_model.specs.declared.value.Payload.TheViews.{out-Payload};
-ghost use Rattle.ion_model.specs.declared.value.Value.{Value as AnyValue};
-ghost use Rattle.ion_visiting.specs.Events.{events_of, layer_events, part};
-ghost use Rattle.ion_visiting.specs.Parts.{number_payload, payload_of};
-ghost use Rattle.ion_text.specs.declared.state.Frame.{Frame};
 ghost use Rattle.ion_text.specs.declared.state.Now.TheVariants as nows;
-ghost use Rattle.ion_text.specs.machine.EachToken.{Symbols, place, begun_at, ended};
-ghost use Rattle.ion_text.specs.machine.Run.{is_top};
-ghost use Rattle.ion_visiting.specs.Tables.{WasTold, is_of_table};
-ghost use Rattle.ion_text.specs.walk.Holds.{AreAround, Does, DoesAlone, Holds, SameSetting, behind_value, brackets_of, calm, is_inside, open_brackets, reading_of, setting_of, spot_of, told, told_in};
+ghost use Rattle.ion_text.specs.walk.Holds.{told_in};
 
 use crate::state::{Effect, Now};
 use ion_model::{Reason, Refusal, Symbol, Value};

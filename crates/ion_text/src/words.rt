@@ -1,11 +1,8 @@
 //! What unquoted words are (Ion 1.0, "Symbols" and "Ion Text Encoding").
 ghost use Rattle.std.specs.Prelude.{◌≡◌, ◌-◌, ◌^◌, min, false, MatchResult, if◌then◌else◌, Some, None};
 ghost use Rattle.std.specs.List.{list_all};
+ghost use Rattle.ion_text.specs.Names.{held_word, id_of, is_digit, is_keyword, is_version, number_in, some_digits, version_parts};
 ghost use Rattle.ion_atoms.specs.declared.refusal.Reason.TheVariants as reasons;
-ghost use Rattle.ion_tokens.specs.Bodies.{id_of, number_in};
-ghost use Rattle.ion_tokens.specs.Octets.{is_digit};
-ghost use Rattle.ion_text.specs.Grammar.{is_keyword, is_version, version_parts, some_digits};
-ghost use Rattle.ion_text.specs.machine.EachToken.{held_word};
 
 use crate::state::Held;
 use ion_model::{Kind, Reason};

@@ -1,10 +1,8 @@
 //! The writer of text documents.
 ghost use Rattle.std.specs.Prelude.{◌≡◌, ◌+◌, ◌<◌, ◌++◌, Some, None, Err, true, false, [], codes, OnOk, OnErr, IfErr};
-ghost use Rattle.ion_model.specs.Kept.{IsKept};
-ghost use Rattle.ion_symtab.specs.declared.fault.Fault.{Fault as AnyFault};
+ghost use Rattle.ion_text.specs.Names.{Fault as AnyFault, IsKept, Took, adds};
+ghost use Rattle.ion_symtab.specs.Took.{TookFront};
 ghost use Rattle.ion_symtab.specs.declared.fault.Fault.TheVariants as faults;
-ghost use Rattle.ion_symtab.specs.Took.{Took, TookFront};
-ghost use Rattle.ion_text.specs.Output.{adds};
 ghost use Rattle.ion_text.specs.Writing.{IsWritingFault};
 
 use crate::spelled::put_value;

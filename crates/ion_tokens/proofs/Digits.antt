@@ -1,7 +1,7 @@
 -- Numbers of digits up to a bound.
 use Rattle.std.proofs.Common.{◌≡◌, ℕ, ◌+◌, ◌-◌, ◌*◌, ◌<◌, ◌≤◌, min, List, [], ◌∷◌, length, drop, get_or, sym, ap, ◌∙◌, arith, add-one, drop-cons, suc}
 use Rattle.std.proofs.lemmas.List.{drop_all}
-use Rattle.ion_tokens.specs.Bodies.{number_in}
+use Rattle.ion_tokens.specs.Names.{number_in}
 
 -- bounding a front changes nothing below the bound
 pub bounded : (m n : ℕ) (ds : List ℕ) → min (number_in (min n m) ds) m ≡ min (number_in n ds) m

@@ -2,19 +2,9 @@
 use Rattle.std.specs.Prelude.{◌≡◌, ℕ, ◌+◌, ◌-◌, ◌*◌, ◌^◌, ◌==◌, ◌&&◌, min, nat_lt, List, [], ◌∷◌, length, if◌then◌else◌, Option, Some, None, Result, Ok, Err, bytes_eq, find, IsUtf8}
 use Rattle.std.specs.List.{list_all}
 use Rattle.std.specs.Cow.{cow_str_bytes}
-use Rattle.ion_atoms.specs.declared.kind.Kind.{Kind}
-use Rattle.ion_atoms.specs.declared.kind.Kind.TheVariants as values
+use Rattle.ion_tokens.specs.Names.Below.{Body, Kind, Mark, Number, ReadsNumber, Reason, TokenKind}
 use Rattle.ion_atoms.specs.Kinds.{kind_name}
-use Rattle.ion_atoms.specs.declared.refusal.Reason.{Reason}
-use Rattle.ion_atoms.specs.declared.refusal.Reason.TheVariants as reasons
-use Rattle.ion_scalar.specs.declared.number.Number.{Number}
-use Rattle.ion_scalar.specs.text.Numbers.{ReadsNumber}
-use Rattle.ion_tokens.specs.declared.mode.Mark.{Mark}
-use Rattle.ion_tokens.specs.declared.mode.TokenKind.{TokenKind}
-use Rattle.ion_tokens.specs.declared.mode.TokenKind.TheVariants as kinds
-use Rattle.ion_tokens.specs.declared.token.Body.{Body}
-use Rattle.ion_tokens.specs.declared.token.Body.TheVariants as bodies
-use Rattle.ion_tokens.specs.Ascii.{dollar, digit_0}
+use Rattle.ion_tokens.specs.Ascii.{digit_0, dollar}
 use Rattle.ion_tokens.specs.Octets.{is_digit}
 
 -- what a token says; octets stand for texts
@@ -33,21 +23,21 @@ pub data Content : Type 0 where
 
 -- what a token in memory says
 abbrev pub content : Body → Content
-content (bodies.Word w) = Word (cow_str_bytes w)
-content (bodies.Id n) = Id n
-content (bodies.Quoted t) = Quoted t
-content (bodies.Short t) = Short t
-content (bodies.Long t) = Long t
-content (bodies.Number n) = Number' n
-content (bodies.TypedNull k) = TypedNull k
-content (bodies.Operator w) = Operator (cow_str_bytes w)
-content (bodies.Clob b) = Clob b
-content (bodies.Blob b) = Blob b
-content (bodies.Mark m) = Mark' m
+content (Body.Word w) = Word (cow_str_bytes w)
+content (Body.Id n) = Id n
+content (Body.Quoted t) = Quoted t
+content (Body.Short t) = Short t
+content (Body.Long t) = Long t
+content (Body.Number n) = Number' n
+content (Body.TypedNull k) = TypedNull k
+content (Body.Operator w) = Operator (cow_str_bytes w)
+content (Body.Clob b) = Clob b
+content (Body.Blob b) = Blob b
+content (Body.Mark m) = Mark' m
 
 abbrev pub every_kind : List Kind
-every_kind = values.Null ∷ values.Bool ∷ values.Int ∷ values.Float ∷ values.Decimal ∷ values.Timestamp ∷ values.Symbol
-    ∷ values.Str ∷ values.Clob ∷ values.Blob ∷ values.List ∷ values.Sexp ∷ values.Fields ∷ []
+every_kind = Kind.Null ∷ Kind.Bool ∷ Kind.Int ∷ Kind.Float ∷ Kind.Decimal ∷ Kind.Timestamp ∷ Kind.Symbol
+    ∷ Kind.Str ∷ Kind.Clob ∷ Kind.Blob ∷ Kind.List ∷ Kind.Sexp ∷ Kind.Fields ∷ []
 
 -- the kind of this name
 abbrev pub kind_named : List ℕ → Option Kind
@@ -66,7 +56,7 @@ id_of (o ∷ os) = if (o == dollar) && nat_lt 0 (length os) && list_all is_digit
 -- octets that are a text say this, and others aren't UTF-8
 abbrev pub Spells : Content → List ℕ → Result Content Reason → Type 0
 Spells said octets (Ok c) = (c ≡ said) × IsUtf8 octets
-Spells said octets (Err e) = (e ≡ reasons.BadUtf8) × ¬ (IsUtf8 octets)
+Spells said octets (Err e) = (e ≡ Reason.BadUtf8) × ¬ (IsUtf8 octets)
 
 -- a word, if it is no symbol id
 abbrev pub IsWordBody : List ℕ → Option ℕ → Result Content Reason → Type 0
@@ -80,19 +70,19 @@ SaysNumber octets _ = ⊥
 
 -- the null of a kind; a name that no kind has is malformed
 abbrev pub null_of : Option Kind → Result Content Reason
-null_of None = Err reasons.Malformed
+null_of None = Err Reason.Malformed
 null_of (Some k) = Ok (TypedNull k)
 
 -- what the octets of a token of that kind say, or why they say nothing
 abbrev pub IsBody : TokenKind → List ℕ → Result Content Reason → Type 0
-IsBody kinds.Word octets answer = IsWordBody octets (id_of octets) answer
-IsBody kinds.KindName octets answer = answer ≡ null_of (kind_named octets)
-IsBody kinds.Number octets (Ok c) = SaysNumber octets c
-IsBody kinds.Number octets (Err e) = ReadsNumber octets (Err e)
-IsBody kinds.Operator octets answer = Spells (Operator octets) octets answer
-IsBody kinds.QuotedSymbol octets answer = Spells (Quoted octets) octets answer
-IsBody kinds.ShortString octets answer = Spells (Short octets) octets answer
-IsBody kinds.LongString octets answer = Spells (Long octets) octets answer
-IsBody kinds.Clob octets answer = answer ≡ Ok (Clob octets)
-IsBody kinds.Blob octets answer = answer ≡ Ok (Blob octets)
-IsBody (kinds.Mark m) octets answer = answer ≡ Ok (Mark' m)
+IsBody TokenKind.Word octets answer = IsWordBody octets (id_of octets) answer
+IsBody TokenKind.KindName octets answer = answer ≡ null_of (kind_named octets)
+IsBody TokenKind.Number octets (Ok c) = SaysNumber octets c
+IsBody TokenKind.Number octets (Err e) = ReadsNumber octets (Err e)
+IsBody TokenKind.Operator octets answer = Spells (Operator octets) octets answer
+IsBody TokenKind.QuotedSymbol octets answer = Spells (Quoted octets) octets answer
+IsBody TokenKind.ShortString octets answer = Spells (Short octets) octets answer
+IsBody TokenKind.LongString octets answer = Spells (Long octets) octets answer
+IsBody TokenKind.Clob octets answer = answer ≡ Ok (Clob octets)
+IsBody TokenKind.Blob octets answer = answer ≡ Ok (Blob octets)
+IsBody (TokenKind.Mark m) octets answer = answer ≡ Ok (Mark' m)

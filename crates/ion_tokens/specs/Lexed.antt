@@ -1,11 +1,9 @@
 -- The tokens of octets: which they are, where, with blanks alone between them.
 use Rattle.std.specs.Prelude.{◌≡◌, ℕ, ◌+◌, ◌==◌, Bool, false, List, [], ◌∷◌, ◌++◌, length}
-use Rattle.ion_tokens.specs.declared.mode.Place.{Place}
-use Rattle.ion_tokens.specs.Blanks.{IsBlank, IsLastBlank}
 use Rattle.std.specs.List.{list_any, AllByRecursion}
-use Rattle.ion_tokens.specs.declared.mode.TokenKind.{TokenKind}
-use Rattle.ion_tokens.specs.declared.mode.TokenKind.TheVariants as kinds
+use Rattle.ion_tokens.specs.Names.Below.{Place, TokenKind}
 use Rattle.ion_tokens.specs.Ascii.{slash}
+use Rattle.ion_tokens.specs.Blanks.{IsBlank, IsLastBlank}
 use Rattle.ion_tokens.specs.Lexemes.{IsLexeme, Lexeme, takes_colon}
 
 -- a token and the place that it was looked for in
@@ -44,7 +42,7 @@ BeginsLexed = LexesBefore (λ colon before octets. Unit {0})
 
 -- what is known of a token that isn't refused when it is judged: no number has a `/`
 abbrev pub Passes : TokenKind → List ℕ → Type 0
-Passes kinds.Number kept = list_any (λ o. o == slash) kept ≡ false
+Passes TokenKind.Number kept = list_any (λ o. o == slash) kept ≡ false
 Passes _ kept = Unit {0}
 
 -- none of them is refused when it is judged

@@ -1,17 +1,12 @@
 -- The tokens of the text format by their octets: of which kind they are, where, before what, and what is kept of them to be judged.
 use Rattle.std.specs.Prelude.{◌≡◌, ◌≢◌, ℕ, ◌==◌, Bool, true, false, ◌&&◌, ◌||◌, not, List, [], ◌∷◌, ◌++◌, ◌⊎◌, codes}
 use Rattle.std.specs.List.{flat_map, filter, AllByRecursion}
-use Rattle.ion_tokens.specs.Ascii.{double_quote, single_quote, asterisk, plus, minus, dot, slash, lower_f, lower_i, lower_n, open_brace}
+use Rattle.ion_tokens.specs.Names.Below.{Mark, Place, Style, TokenKind}
+use Rattle.ion_tokens.specs.Ascii.{asterisk, dot, double_quote, lower_f, lower_i, lower_n, minus, open_brace, plus, single_quote, slash}
 use Rattle.ion_tokens.specs.Ascii as ascii
-use Rattle.ion_tokens.specs.Octets.{is_white, is_digit, begins_word, is_word_octet, is_operator_octet, is_stop, is_base64}
-use Rattle.ion_tokens.specs.declared.mode.Place.{Place}
-use Rattle.ion_tokens.specs.declared.mode.Mark.{Mark}
-use Rattle.ion_tokens.specs.declared.mode.TokenKind.{TokenKind}
-use Rattle.ion_tokens.specs.declared.mode.Mark.TheVariants as marks
-use Rattle.ion_tokens.specs.declared.mode.Style.TheVariants as styles
-use Rattle.ion_tokens.specs.declared.mode.TokenKind.TheVariants as kinds
-use Rattle.ion_tokens.specs.Places.{is_sexp, is_name}
 use Rattle.ion_tokens.specs.Blobs.{IsBase64}
+use Rattle.ion_tokens.specs.Octets.{begins_word, is_base64, is_digit, is_operator_octet, is_stop, is_white, is_word_octet}
+use Rattle.ion_tokens.specs.Places.{is_name, is_sexp}
 use Rattle.ion_tokens.specs.Quoted.{IsQuoted}
 
 -- each octet is of the class
@@ -83,7 +78,7 @@ pub record Segment : Type 0 where
 
 -- the content means the octets, as that of a long clob, and white space stands behind it
 abbrev pub IsSegment : Segment → Type 0
-IsSegment g = IsQuoted styles.LongClob g.content g.octets × Each is_white g.white
+IsSegment g = IsQuoted Style.LongClob g.content g.octets × Each is_white g.white
 
 -- the content between three quotes and three, and the white space
 abbrev pub segment_spelling : Segment → List ℕ
@@ -91,53 +86,53 @@ segment_spelling g = codes "'''" ++ g.content ++ codes "'''" ++ g.white
 
 -- one short segment, or one or more long ones, with white space around
 pub data IsClobContent (content octets : List ℕ) : Type 0 where
-  ShortText : (before text after : List ℕ) → Each is_white before → IsQuoted styles.ShortClob text octets → Each is_white after
+  ShortText : (before text after : List ℕ) → Each is_white before → IsQuoted Style.ShortClob text octets → Each is_white after
       → content ≡ before ++ (double_quote ∷ text) ++ double_quote ∷ after → IsClobContent content octets
   LongTexts : (before : List ℕ) (segments : List Segment) → Each is_white before → segments ≢ [] → AllByRecursion IsSegment segments
       → content ≡ before ++ flat_map segment_spelling segments → octets ≡ flat_map (λ (g : Segment). g.octets) segments → IsClobContent content octets
 
 -- the octets of a mark
 abbrev pub mark_spelling : Mark → List ℕ
-mark_spelling marks.FieldsOpen = codes "{"
-mark_spelling marks.FieldsClose = codes "}"
-mark_spelling marks.ListOpen = codes "["
-mark_spelling marks.ListClose = codes "]"
-mark_spelling marks.SexpOpen = codes "("
-mark_spelling marks.SexpClose = codes ")"
-mark_spelling marks.Comma = codes ","
-mark_spelling marks.Colon = codes ":"
-mark_spelling marks.Colons = codes "::"
+mark_spelling Mark.FieldsOpen = codes "{"
+mark_spelling Mark.FieldsClose = codes "}"
+mark_spelling Mark.ListOpen = codes "["
+mark_spelling Mark.ListClose = codes "]"
+mark_spelling Mark.SexpOpen = codes "("
+mark_spelling Mark.SexpClose = codes ")"
+mark_spelling Mark.Comma = codes ","
+mark_spelling Mark.Colon = codes ":"
+mark_spelling Mark.Colons = codes "::"
 
 -- where a mark may stand: what opens or closes a list or an s-expression, or opens a struct, not in place of a field's name; a
 -- colon only behind what may be a symbol or a field's name
 abbrev pub MarkStands : Place → Bool → Mark → Type 0
-MarkStands p colon marks.FieldsClose = Unit {0}
-MarkStands p colon marks.Comma = Unit {0}
-MarkStands p colon marks.Colon = colon ≡ true
-MarkStands p colon marks.Colons = colon ≡ true
+MarkStands p colon Mark.FieldsClose = Unit {0}
+MarkStands p colon Mark.Comma = Unit {0}
+MarkStands p colon Mark.Colon = colon ≡ true
+MarkStands p colon Mark.Colons = colon ≡ true
 MarkStands p colon _ = is_name p ≡ false
 
 -- a mark that may go on
 abbrev pub MarkEnds : Mark → List ℕ → Type 0
-MarkEnds marks.FieldsOpen r = begins (λ o. o == open_brace) r ≡ false
-MarkEnds marks.Colon r = begins (λ o. o == ascii.colon) r ≡ false
+MarkEnds Mark.FieldsOpen r = begins (λ o. o == open_brace) r ≡ false
+MarkEnds Mark.Colon r = begins (λ o. o == ascii.colon) r ≡ false
 MarkEnds _ r = Unit {0}
 
 -- The octets w before r are a token of this kind in this place, of which these octets are kept: the word, the name behind `null.`,
 -- the numeric token, the operator, the text in UTF-8, the octets of a clob or a blob. The Bool says whether a colon may stand here.
 abbrev pub IsLexeme : Place → Bool → List ℕ → List ℕ → TokenKind → List ℕ → Type 0
-IsLexeme p colon w r kinds.Word kept = (kept ≡ w) × IsWord w × (begins is_word_octet r ≡ false) × (w ≡ codes "null" → begins (λ o. o == dot) r ≡ false)
-IsLexeme p colon w r kinds.KindName kept = (w ≡ codes "null." ++ kept) × Each is_word_octet kept × (begins is_word_octet r ≡ false)
-IsLexeme p colon w r kinds.Number kept = (kept ≡ w) × (is_name p ≡ false) × IsNumeric w r
-IsLexeme p colon w r kinds.Operator kept = (kept ≡ w) × (is_sexp p ≡ true) × IsOperator w r
-IsLexeme p colon w r kinds.QuotedSymbol kept = (content : List ℕ) × IsQuoted styles.QuotedSymbol content kept
+IsLexeme p colon w r TokenKind.Word kept = (kept ≡ w) × IsWord w × (begins is_word_octet r ≡ false) × (w ≡ codes "null" → begins (λ o. o == dot) r ≡ false)
+IsLexeme p colon w r TokenKind.KindName kept = (w ≡ codes "null." ++ kept) × Each is_word_octet kept × (begins is_word_octet r ≡ false)
+IsLexeme p colon w r TokenKind.Number kept = (kept ≡ w) × (is_name p ≡ false) × IsNumeric w r
+IsLexeme p colon w r TokenKind.Operator kept = (kept ≡ w) × (is_sexp p ≡ true) × IsOperator w r
+IsLexeme p colon w r TokenKind.QuotedSymbol kept = (content : List ℕ) × IsQuoted Style.QuotedSymbol content kept
     × (w ≡ (single_quote ∷ content) ++ single_quote ∷ []) × (content ≡ [] → begins (λ o. o == single_quote) r ≡ false)
-IsLexeme p colon w r kinds.ShortString kept = (content : List ℕ) × IsQuoted styles.ShortString content kept
+IsLexeme p colon w r TokenKind.ShortString kept = (content : List ℕ) × IsQuoted Style.ShortString content kept
     × (w ≡ (double_quote ∷ content) ++ double_quote ∷ [])
-IsLexeme p colon w r kinds.LongString kept = (content : List ℕ) × IsQuoted styles.LongString content kept × (w ≡ codes "'''" ++ content ++ codes "'''")
-IsLexeme p colon w r kinds.Clob kept = (is_name p ≡ false) × (content : List ℕ) × IsClobContent content kept × (w ≡ codes "{{" ++ content ++ codes "}}")
-IsLexeme p colon w r kinds.Blob kept = (is_name p ≡ false) × (content : List ℕ) × IsBlobContent content kept × (w ≡ codes "{{" ++ content ++ codes "}}")
-IsLexeme p colon w r (kinds.Mark m) kept = (kept ≡ []) × (w ≡ mark_spelling m) × MarkStands p colon m × MarkEnds m r
+IsLexeme p colon w r TokenKind.LongString kept = (content : List ℕ) × IsQuoted Style.LongString content kept × (w ≡ codes "'''" ++ content ++ codes "'''")
+IsLexeme p colon w r TokenKind.Clob kept = (is_name p ≡ false) × (content : List ℕ) × IsClobContent content kept × (w ≡ codes "{{" ++ content ++ codes "}}")
+IsLexeme p colon w r TokenKind.Blob kept = (is_name p ≡ false) × (content : List ℕ) × IsBlobContent content kept × (w ≡ codes "{{" ++ content ++ codes "}}")
+IsLexeme p colon w r (TokenKind.Mark m) kept = (kept ≡ []) × (w ≡ mark_spelling m) × MarkStands p colon m × MarkEnds m r
 
 -- a token that isn't judged: its span, what it is, and what its octets mean
 pub record Lexeme : Type 0 where
@@ -148,14 +143,14 @@ pub record Lexeme : Type 0 where
 
 -- whether a colon may stand behind the token: behind what may be a symbol, and behind a field's name
 abbrev pub takes_colon : Place → TokenKind → Bool
-takes_colon p kinds.Word = true
-takes_colon p kinds.KindName = true
-takes_colon p kinds.QuotedSymbol = true
-takes_colon p kinds.ShortString = is_name p
-takes_colon p kinds.LongString = is_name p
+takes_colon p TokenKind.Word = true
+takes_colon p TokenKind.KindName = true
+takes_colon p TokenKind.QuotedSymbol = true
+takes_colon p TokenKind.ShortString = is_name p
+takes_colon p TokenKind.LongString = is_name p
 takes_colon p _ = false
 
 -- one segment of a long string
 abbrev pub is_segment : TokenKind → Bool
-is_segment kinds.LongString = true
+is_segment TokenKind.LongString = true
 is_segment _ = false

@@ -10,3 +10,4 @@ pub mod Styles
 pub mod Quoted
 pub mod laws
 pub mod machine
+pub mod Names

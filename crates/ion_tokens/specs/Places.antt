@@ -1,14 +1,13 @@
 -- What differs between the places of tokens.
 use Rattle.std.specs.Prelude.{Bool, true, false}
-use Rattle.ion_tokens.specs.declared.mode.Place.{Place}
-use Rattle.ion_tokens.specs.declared.mode.Place.TheVariants as places
+use Rattle.ion_tokens.specs.Names.Below.{Place}
 
 -- in an s-expression, where alone operators may stand
 abbrev pub is_sexp : Place → Bool
-is_sexp places.Sexp = true
+is_sexp Place.Sexp = true
 is_sexp _ = false
 
 -- in a struct, where a field's name may stand
 abbrev pub is_name : Place → Bool
-is_name places.Name = true
+is_name Place.Name = true
 is_name _ = false

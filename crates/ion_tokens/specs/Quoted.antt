@@ -2,10 +2,10 @@
 use Rattle.std.specs.Prelude.{◌≡◌, ◌≢◌, ℕ, ◌+◌, ◌*◌, ◌<◌, ◌≤◌, ◌==◌, Bool, true, false, List, [], ◌∷◌, ◌++◌, length, if◌then◌else◌, ◌⊎◌, IsTrue, Option, Some, None, encode_utf8}
 use Rattle.std.specs.List.{flat_map, AllByRecursion}
 use Rattle.std.specs.Char.{IsScalar}
-use Rattle.ion_tokens.specs.declared.mode.Style.{Style}
-use Rattle.ion_tokens.specs.Ascii.{tab, line_feed, vertical_tab, form_feed, carriage_return, space, single_quote, upper_u, backslash, lower_u, lower_x}
-use Rattle.ion_tokens.specs.Styles.{is_long, is_clob, quote_of}
-use Rattle.ion_tokens.specs.Octets.{hexadecimal_digit, escaped}
+use Rattle.ion_tokens.specs.Names.Below.{Style}
+use Rattle.ion_tokens.specs.Ascii.{backslash, carriage_return, form_feed, line_feed, lower_u, lower_x, single_quote, space, tab, upper_u, vertical_tab}
+use Rattle.ion_tokens.specs.Octets.{escaped, hexadecimal_digit}
+use Rattle.ion_tokens.specs.Styles.{is_clob, is_long, quote_of}
 
 -- a character that may stand for itself: no control character but tab, VT and FF
 abbrev pub IsRaw : Style → ℕ → Type 0

@@ -1,10 +1,7 @@
 //! Which token has begun, and what the next octet would show of it.
 ghost use Rattle.std.specs.Prelude.{◌≡◌, ℕ};
-ghost use Rattle.ion_tokens.specs.declared.mode.Place.{Place};
-ghost use Rattle.ion_tokens.specs.machine.Scanning.{Known, acts};
-ghost use Rattle.ion_tokens.specs.machine.Bounds.{is_idle};
+ghost use Rattle.ion_tokens.specs.Names.{Known, Place, acts, begun_in, behind, foresight, form_of, is_idle};
 ghost use Rattle.ion_tokens.specs.machine.Machines.{known};
-ghost use Rattle.ion_tokens.specs.machine.Views.{behind, form_of, begun_in, foresight};
 
 use crate::machine::Machine;
 use crate::mode::{Action, Mark, Mode, Style, TokenKind};

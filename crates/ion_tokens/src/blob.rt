@@ -1,6 +1,6 @@
 //! Base64 of blobs (RFC 4648, section 4).
 ghost use Rattle.std.specs.Prelude.{◌≡◌, true, false, IfOk, None, Some};
-ghost use Rattle.ion_tokens.specs.Blobs.{blob_of};
+ghost use Rattle.ion_tokens.specs.Names.{blob_of};
 
 use base64::DecodeAllocError;
 use base64::engine::general_purpose::STANDARD;

@@ -2,11 +2,8 @@
 ghost use Rattle.std.specs.Prelude.{◌≡◌, ◌≢◌, ◌^◌, ◌-◌, ℕ, List, min, MatchResult, IfOk, IfErr, IsUtf8};
 ghost use Rattle.std.specs.Cow.{cow_str_bytes, IsBorrowedStr, IsOwnedStr};
 ghost use Rattle.std.specs.List.{list_all};
-ghost use Rattle.ion_atoms.specs.declared.refusal.Reason.TheVariants.{Memory, BadUtf8};
-ghost use Rattle.ion_tokens.specs.Octets.{is_digit};
-ghost use Rattle.ion_tokens.specs.Bodies.{content, kind_named, id_of, number_in, IsBody};
-ghost use Rattle.ion_tokens.specs.Lexed.{Passes};
-ghost use Rattle.ion_tokens.specs.machine.Lent.{BorrowsFrom};
+ghost use Rattle.ion_tokens.specs.Names.{BadUtf8, BorrowsFrom, IsBody, Memory, Passes, id_of, is_digit, kind_named, number_in};
+ghost use Rattle.ion_tokens.specs.Bodies.{content};
 
 use crate::mode::TokenKind;
 use crate::octets::is_digit;

@@ -2,12 +2,8 @@
 //! Encoding", comments). What is cut isn't told here: the scanner takes it up octet by octet.
 ghost use Rattle.std.specs.Prelude.{◌≡◌, ◌+◌, ◌≤◌, ◌<◌, ◌^◌, length, get_or, take, IfSome};
 ghost use Rattle.std.specs.List.{take_while};
-ghost use Rattle.ion_tokens.specs.Blanks.{HasNoClose};
-ghost use Rattle.ion_tokens.specs.Octets.{is_white};
-ghost use Rattle.ion_tokens.specs.machine.AtOnce.{goes_on};
-ghost use Rattle.ion_tokens.specs.machine.Rests.{past_comment, RestsBehind};
+ghost use Rattle.ion_tokens.specs.Names.{HasNoClose, Rest, RestsBehind, goes_on, is_white, past_comment};
 ghost use Rattle.ion_tokens.specs.declared.mode.Mode.TheVariants as modes;
-ghost use Rattle.ion_tokens.specs.declared.plain_tokens.Rest.{Rest};
 
 use crate::front::of_comment;
 use crate::octets::is_line_end;

@@ -1,8 +1,7 @@
 //! Quoted texts with escapes that lie whole in memory: what stands between two of them is kept at
 //! once.
 ghost use Rattle.std.specs.Prelude.{◌≡◌, ◌<◌, ◌≤◌, [], ◌∷◌, length, slice_index, take, IfSome};
-ghost use Rattle.ion_tokens.specs.Styles.{quote_of};
-ghost use Rattle.ion_tokens.specs.machine.Contents.{LeadsOn, StandsWhole};
+ghost use Rattle.ion_tokens.specs.Names.{LeadsOn, StandsWhole, quote_of};
 
 use crate::escapes::escape;
 use crate::front::characters;

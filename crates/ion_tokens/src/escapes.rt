@@ -1,9 +1,7 @@
 //! Escapes that lie whole in memory: what one means is kept at once.
 ghost use Rattle.std.specs.Prelude.{◌≡◌, ◌<◌, ◌≤◌, ◌∷◌, ◌++◌, ℕ, List, [], if◌then◌else◌, IsTrue, length, slice_index, take, encode_utf8, Some, IfSome};
 ghost use Rattle.std.specs.Char.{IsScalar};
-ghost use Rattle.ion_tokens.specs.Quoted.{hex_length, IsHexAfter};
-ghost use Rattle.ion_tokens.specs.Styles.{is_clob};
-ghost use Rattle.ion_tokens.specs.machine.Contents.{LeadsOn};
+ghost use Rattle.ion_tokens.specs.Names.{IsHexAfter, LeadsOn, hex_length, is_clob};
 
 use crate::mode::Style;
 use crate::octets::{escaped, hexadecimal_digit};

@@ -1,11 +1,9 @@
 //! Octets at the front of a piece with which the mode goes on as it is: they are taken up at once.
 ghost use Rattle.std.specs.Prelude.{◌≡◌, ◌+◌, ◌-◌, ◌^◌, ◌<◌, ◌≤◌, min, length, take, IfOk, IfSome, IsUtf8, false};
 ghost use Rattle.std.specs.List.{take_while};
-ghost use Rattle.ion_tokens.specs.Octets.{is_base64, is_digit, is_white, is_word_octet};
-ghost use Rattle.ion_tokens.specs.Lexemes.{Each};
-ghost use Rattle.ion_tokens.specs.machine.AtOnce.{is_between, is_plain, is_raw, is_numeric, is_plain_operator, goes_on, keeps_them, gone_on, AreKept, GoesOver};
-ghost use Rattle.ion_tokens.specs.machine.Machines.{known};
+ghost use Rattle.ion_tokens.specs.Names.{AreKept, Each, GoesOver, goes_on, gone_on, is_base64, is_between, is_digit, is_numeric, is_plain, is_plain_operator, is_raw, is_white, is_word_octet, keeps_them};
 ghost use Rattle.ion_tokens.specs.declared.mode.Mode.TheVariants as modes;
+ghost use Rattle.ion_tokens.specs.machine.Machines.{known};
 
 use crate::lanes::{base64_ends, digit_ends, number_ends, raw_ends, stars, text_ends, word_ends};
 use crate::machine::{Machine, start_of};

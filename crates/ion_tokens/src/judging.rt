@@ -1,11 +1,8 @@
 //! The tokens of the scanner's machine, judged: what they say, or why they say nothing.
 ghost use Rattle.std.specs.Prelude.{◌≡◌, ◌≢◌, ◌+◌, ◌-◌, ◌≤◌, ◌<◌, ◌^◌, length, [], IfOk, IfErr, IfSome, min};
-ghost use Rattle.ion_atoms.specs.declared.refusal.Reason.TheVariants.{Memory};
-ghost use Rattle.ion_tokens.specs.machine.Scanning.{run, at_end};
-ghost use Rattle.ion_tokens.specs.machine.Bounds.{IsSteady};
+ghost use Rattle.ion_tokens.specs.Names.{Answers, BorrowsAt, GivesToken, IsSteady, IsToken, Memory, RefusesToken, StandIn, answered, at_end, deciding, run};
 ghost use Rattle.ion_tokens.specs.machine.Machines.{known, lexeme_in};
-ghost use Rattle.ion_tokens.specs.machine.Lent.{StandIn, BorrowsAt};
-ghost use Rattle.ion_tokens.specs.machine.Steps.{answered, Answers, Ends, IsToken, GivesToken, RefusesToken, deciding};
+ghost use Rattle.ion_tokens.specs.machine.Steps.{Ends};
 
 use crate::body::body_of;
 use crate::machine::{Lexeme, Machine, Taken};

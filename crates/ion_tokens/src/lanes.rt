@@ -1,8 +1,7 @@
 //! Which of sixteen octets end a run, as the bits of a number, the first octet's lowest.
 ghost use Rattle.std.specs.Prelude.{◌≡◌, map, not, if◌then◌else◌};
 ghost use Rattle.std.specs.Simd.Lanes.{mask_l};
-ghost use Rattle.ion_tokens.specs.Octets.{is_base64, is_digit, is_word_octet};
-ghost use Rattle.ion_tokens.specs.machine.AtOnce.{goes_on, is_between, is_raw, is_numeric};
+ghost use Rattle.ion_tokens.specs.Names.{goes_on, is_base64, is_between, is_digit, is_numeric, is_raw, is_word_octet};
 ghost use Rattle.ion_tokens.specs.declared.mode.Mode.TheVariants as modes;
 
 use std::simd::prelude::*;

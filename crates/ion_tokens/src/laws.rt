@@ -2,20 +2,8 @@
 //! is called for its clause alone.
 ghost use Rattle.std.specs.Prelude.{◌≡◌, ◌↔◌, ◌+◌, ◌<◌, ◌^◌, ◌++◌, ◌∷◌, ℕ, List, [], Bool, Some, Ok, Result, length, take, false};
 ghost use Rattle.std.specs.List.{flat_map};
-ghost use Rattle.ion_atoms.specs.declared.refusal.Reason.{Reason};
-ghost use Rattle.ion_tokens.specs.declared.mode.Place.{Place};
-ghost use Rattle.ion_tokens.specs.declared.mode.TokenKind.{TokenKind};
-ghost use Rattle.ion_tokens.specs.Blobs.{AreOctets, base64_of, blob_of};
-ghost use Rattle.ion_tokens.specs.Bodies.{Content, IsBody};
-ghost use Rattle.ion_tokens.specs.declared.token.Begun.{Begun};
-ghost use Rattle.ion_tokens.specs.Lexed.{Placed, Lexes, LooksIn, Passes};
-ghost use Rattle.ion_tokens.specs.machine.Scanned.{Scanned, Continues, ShowsBegun};
-ghost use Rattle.ion_tokens.specs.machine.Scanning.{Known, feed, follow, run, start_of};
-ghost use Rattle.ion_tokens.specs.declared.plain_tokens.Rest.{Rest};
-ghost use Rattle.ion_tokens.specs.machine.Rests.{resting, past_blank, past_token, lexeme_at, left_after, IsPassed, IsFound, RestsBehind};
-ghost use Rattle.ion_tokens.specs.machine.Said.{said};
-ghost use Rattle.ion_tokens.specs.machine.Traces.{Told, Places, over, over_pieces, told_there, IsTraced};
-ghost use Rattle.ion_tokens.specs.laws.Tokens.{TellsRightly, ToldAll, OneBegun, TracesTokens};
+ghost use Rattle.ion_tokens.specs.Names.{AreOctets, Begun, Content, Continues, IsBody, IsFound, IsPassed, IsTraced, Known, Lexes, LooksIn, Passes, Place, Placed, Places, Reason, Rest, RestsBehind, Scanned, ShowsBegun, TokenKind, Told, base64_of, blob_of, feed, follow, left_after, lexeme_at, over, over_pieces, past_blank, past_token, resting, run, said, start_of, told_there};
+ghost use Rattle.ion_tokens.specs.laws.Tokens.{OneBegun, TellsRightly, ToldAll, TracesTokens};
 ghost use Rattle.ion_tokens.specs.laws.TokensTraced.{TokensTraced};
 
 /// It doesn't matter how octets are cut: pieces lead to the tokens, totals and refusal to which the

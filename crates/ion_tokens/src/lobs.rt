@@ -1,6 +1,6 @@
 //! Blobs and clobs (Ion 1.0, "Ion Text Encoding", blobs and clobs).
 ghost use Rattle.std.specs.Prelude.{◌≡◌};
-ghost use Rattle.ion_tokens.specs.machine.Table.{third_quote, second_brace, in_blob, lob_start, after_short, after_long, in_lob};
+ghost use Rattle.ion_tokens.specs.Names.{after_long, after_short, in_blob, in_lob, lob_start, second_brace, third_quote};
 
 use crate::mode::{Action, Keep, Lob, Mode, Style, TokenKind, Within, add, go, unexpected};
 use crate::octets::{is_base64, is_white};

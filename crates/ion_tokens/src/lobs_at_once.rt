@@ -1,9 +1,7 @@
 //! Blobs and clobs that lie whole in memory: each run of a blob's base64 is kept at once, and so is
 //! what stands between two escapes of a clob.
 ghost use Rattle.std.specs.Prelude.{◌≡◌, ◌+◌, ◌^◌, ◌<◌, ◌≤◌, ℕ, List, true, false, [], ◌∷◌, length, slice_index, take, IfSome, Some};
-ghost use Rattle.ion_tokens.specs.Blobs.{blob_of};
-ghost use Rattle.ion_tokens.specs.machine.Contents.{AddsBase64, AddsSegments, StandsIn};
-ghost use Rattle.ion_tokens.specs.machine.Table.{is_name};
+ghost use Rattle.ion_tokens.specs.Names.{AddsBase64, AddsSegments, StandsIn, blob_of, is_name};
 
 use crate::blob::decoded;
 use crate::escaped_texts::before_quote;

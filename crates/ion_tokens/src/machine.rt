@@ -1,11 +1,7 @@
 //! The scanner's machine: the table, and the octets that are kept of the open token.
 ghost use Rattle.std.specs.Prelude.{◌≡◌, ℕ, ◌+◌, ◌-◌, ◌<◌, ◌^◌, [], length, min, IfOk, IfErr, false, ◌≢◌};
-ghost use Rattle.ion_atoms.specs.declared.refusal.Reason.TheVariants.{Memory};
-ghost use Rattle.ion_tokens.specs.machine.Scanning.{feed, run, at_end, kept_after, start_of, left_of, cut, past, go_to, initial, acts, blob_ends, split_at};
-ghost use Rattle.ion_tokens.specs.Lexemes.{takes_colon};
-ghost use Rattle.ion_tokens.specs.Blobs.{blob_of};
-ghost use Rattle.ion_tokens.specs.machine.Bounds.{IsSteady, StaysSteady, taken_up};
-ghost use Rattle.ion_tokens.specs.machine.Machines.{known, lexeme_in, outcome_in, found_in};
+ghost use Rattle.ion_tokens.specs.Names.{IsSteady, Memory, StaysSteady, acts, at_end, blob_ends, blob_of, cut, feed, go_to, initial, kept_after, left_of, past, run, split_at, start_of, taken_up, takes_colon};
+ghost use Rattle.ion_tokens.specs.machine.Machines.{found_in, known, lexeme_in, outcome_in};
 
 use crate::blob::decoded;
 use crate::mode::{Action, End, Keep, Lob, Mode, Place, TokenKind};

@@ -1,6 +1,7 @@
 //! Classes of octets (Ion 1.0, "Ion Text Encoding").
 ghost use Rattle.std.specs.Prelude.{◌≡◌, IfSome, ◌<◌};
-ghost use Rattle.ion_tokens.specs.Octets.{is_white, is_line_end, is_digit, is_upper, is_lower, is_letter, begins_word, is_word_octet, is_operator_octet, is_stop, hexadecimal_digit, escaped, is_base64};
+ghost use Rattle.ion_tokens.specs.Names.{begins_word, hexadecimal_digit, is_base64, is_digit, is_letter, is_line_end, is_lower, is_operator_octet, is_stop, is_upper, is_white, is_word_octet};
+ghost use Rattle.ion_tokens.specs.Octets.{escaped};
 
 /// Tab, LF, VT, FF, CR and space.
 pub fn is_white(octet: u8) -> bool

@@ -1,7 +1,7 @@
 //! Runs of operator characters, and signs before digits and `inf` (Ion 1.0, "Ion Text Encoding",
 //! s-expressions).
 ghost use Rattle.std.specs.Prelude.{◌≡◌};
-ghost use Rattle.ion_tokens.specs.machine.Table.{is_other, run_ending, digit_behind, in_operator, in_operator_slash, in_infinity};
+ghost use Rattle.ion_tokens.specs.Names.{digit_behind, in_infinity, in_operator, in_operator_slash, is_other, run_ending};
 
 use crate::mode::{Action, Ending, Keep, Mode, Place, TokenKind, add, before, go, unexpected};
 use crate::octets::{is_digit, is_operator_octet, is_word_octet};

@@ -2,14 +2,8 @@
 //! refused or unusual isn't told here: the scanner takes it up octet by octet.
 ghost use Rattle.std.specs.Prelude.{◌≡◌, ◌≢◌, ◌+◌, ◌-◌, ◌<◌, ◌≤◌, ◌∷◌, ◌^◌, ℕ, List, Some, Ok, false, true, length, get_or, take, drop, IfSome, IsUtf8};
 ghost use Rattle.std.specs.List.{take_while};
-ghost use Rattle.ion_scalar.specs.declared.number.Number.{Number};
-ghost use Rattle.ion_scalar.specs.text.Numbers.{ReadsNumber};
+ghost use Rattle.ion_tokens.specs.Names.{IsFound, IsPassed, Number, Place, ReadsNumber, is_digit, is_name, is_white, kind_named, past_blank, past_token};
 ghost use Rattle.ion_scalar.specs.text.laws.PlainNumerals.{PlainNumeral};
-ghost use Rattle.ion_tokens.specs.Bodies.{kind_named};
-ghost use Rattle.ion_tokens.specs.Octets.{is_digit, is_white};
-ghost use Rattle.ion_tokens.specs.Places.{is_name};
-ghost use Rattle.ion_tokens.specs.machine.Rests.{past_blank, past_token, IsPassed, IsFound};
-ghost use Rattle.ion_tokens.specs.declared.mode.Place.{Place};
 
 use crate::body::kind_named;
 use crate::front::{characters, few_digits, of_number, of_operator, of_word, white};

@@ -1,7 +1,7 @@
 //! Quoted texts: raw characters and escapes (Ion 1.0, "Ion Text Encoding", strings, symbols and
 //! clobs).
 ghost use Rattle.std.specs.Prelude.{◌≡◌, ◌<◌};
-ghost use Rattle.ion_tokens.specs.machine.Table.{is_long, is_clob, quote_of, stands, close, close_long, raw, lead, in_utf8, in_escape, grow, character, after_digits, in_hexadecimal, in_text, is_high, is_low};
+ghost use Rattle.ion_tokens.specs.Names.{after_digits, character, close, close_long, grow, in_escape, in_hexadecimal, in_text, in_utf8, is_clob, is_high, is_long, is_low, lead, quote_of, raw, stands};
 
 use crate::mode::{Action, Digits, Keep, Lob, Mode, Style, TokenKind, Within, add, go, unexpected};
 use crate::octets::{escaped, hexadecimal_digit};

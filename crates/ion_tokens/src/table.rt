@@ -1,7 +1,8 @@
 //! The scanner's table: what an octet does in each mode (Ion 1.0, "Ion Text Encoding" and its
 //! grammar).
 ghost use Rattle.std.specs.Prelude.{◌≡◌};
-ghost use Rattle.ion_tokens.specs.machine.Table.{is_sexp, is_name, in_blank, begins_value, in_slash, in_block_star, in_colon, in_word, in_kind_name, in_number, in_number_slash, in_quote, in_quotes, in_brace, next, operator_end, end_of};
+ghost use Rattle.ion_tokens.specs.Names.{begins_value, end_of, in_blank, in_block_star, in_brace, in_colon, in_kind_name, in_number, in_number_slash, in_quote, in_quotes, in_slash, in_word, is_name, is_sexp, operator_end};
+ghost use Rattle.ion_tokens.specs.machine.Table.{next};
 
 use crate::lobs::in_lob;
 use crate::mode::{

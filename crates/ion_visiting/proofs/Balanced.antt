@@ -1,16 +1,8 @@
 -- Events in which each bracket that opens closes: those of every value.
 use Rattle.std.proofs.Common.{ℕ, ◌<◌, zero, suc, List, [], ◌∷◌, ◌++◌, map, Option, sym, subst, arith, append_assoc, append-nil}
 use Rattle.std.specs.List.{flat_map}
-use Rattle.ion_model.specs.declared.value.Value.{Value}
-use Rattle.ion_model.specs.declared.value.Field.{Field}
-use Rattle.ion_model.specs.declared.value.Payload.{Payload}
-use Rattle.ion_model.specs.declared.value.Payload.TheViews.{out-Payload}
-use Rattle.ion_model.specs.declared.value.Payload.TheOpen.{Payload-F}
-use Rattle.ion_model.specs.Measures.{Layer, depth, layer_depth, greatest}
+use Rattle.ion_visiting.specs.Names.{Bracket, Event, Field, Layer, Payload, Payload-F, Value, annotation, depth, events_of, field_events, greatest, layer_depth, layer_events, name, out-Payload, part, within}
 use Rattle.ion_model.specs.laws.Measures.{depth-out}
-use Rattle.ion_visiting.specs.declared.bracket.Bracket.{Bracket}
-use Rattle.ion_visiting.specs.declared.bracket.Bracket.TheVariants as brackets
-use Rattle.ion_visiting.specs.Events.{Event, part, annotation, name, within, events_of, field_events, layer_events}
 use Rattle.ion_visiting.specs.laws.Led.{events_out}
 
 pub data Balanced : List Event → Type 0 where
@@ -46,9 +38,9 @@ of_fields n h (m ∷ ms) small = a_name m.name (events_of m.value ++ flat_map fi
     (joined (events_of m.value) (flat_map field_events ms) (h.at_value m.value (omega (arith, small))) (of_fields n h ms (omega (arith, small))))
 
 of_layer : (n : ℕ) → Each n → (d : Layer) → layer_depth d < suc n → Balanced (layer_events d)
-of_layer n h (Payload-F.List vs) small = bracketed brackets.List _ (of_items n h vs (omega (arith, small)))
-of_layer n h (Payload-F.Sexp vs) small = bracketed brackets.Sexp _ (of_items n h vs (omega (arith, small)))
-of_layer n h (Payload-F.Fields ms) small = bracketed brackets.Fields _ (of_fields n h ms (omega (arith, small)))
+of_layer n h (Payload-F.List vs) small = bracketed Bracket.List _ (of_items n h vs (omega (arith, small)))
+of_layer n h (Payload-F.Sexp vs) small = bracketed Bracket.Sexp _ (of_items n h vs (omega (arith, small)))
+of_layer n h (Payload-F.Fields ms) small = bracketed Bracket.Fields _ (of_fields n h ms (omega (arith, small)))
 of_layer n h (Payload-F.Null k) small = a_part _ [] none
 of_layer n h (Payload-F.Truth b) small = a_part _ [] none
 of_layer n h (Payload-F.Int z) small = a_part _ [] none

@@ -2,10 +2,9 @@
 use Rattle.std.proofs.Common.{◌≡◌, ◌≢◌, ℕ, zero, suc, ◌+◌, ◌*◌, ◌/◌, ◌%◌, ◌^◌, ◌<◌, Bool, true, false, cond, List, [], ◌∷◌, ◌++◌, length, slice_get, set, replicate, Some, None, refl, ap, ◌∙◌, arith}
 use Rattle.std.proofs.lemmas.Grind.{common_steps}
 use Rattle.std.specs.List.{count_by}
-use Rattle.ion_model.specs.declared.value.Field.{Field}
-use Rattle.ion_model.specs.Same.{same, field_same, fields_same}
-use Rattle.ion_model.specs.laws.Counts.{count_by-cons, alike_from}
-use Rattle.ion_model.specs.laws.Equivalence.{same-equiv, field_same-equiv}
+use Rattle.ion_visiting.specs.Names.{Field, field_same, fields_same, same}
+use Rattle.ion_model.specs.laws.Counts.{alike_from, count_by-cons}
+use Rattle.ion_model.specs.laws.Equivalence.{field_same-equiv, same-equiv}
 
 abbrev one : Bool → ℕ
 one b = cond b 1 0

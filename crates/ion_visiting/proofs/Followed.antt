@@ -2,35 +2,18 @@
 use Rattle.std.proofs.Common.{◌≡◌, ◌≢◌, ℕ, zero, suc, ◌+◌, ◌≤◌, ◌<◌, ◌⊎◌, ◌/◌, ◌%◌, ◌^◌, Bool, true, false, List, [], ◌∷◌, ◌++◌, length, drop, set, replicate, slice_get, map, append_assoc, append-nil, Option, Some, inl, inr, refl, ap, sym, subst, ◌∙◌, arith}
 use Rattle.std.proofs.lemmas.Cmp.{lists_equiv}
 use lib.Pointwise.{pointwise}
+use Rattle.ion_visiting.specs.Names.{Bracket, Entry, Event, Field, Following, Form, Frame, Led, Payload, Role, Tape, Value, annotated, annotation, bare, closes, ended, events_of, field_of, fields_same, name, number_payload, opens, part, same, symbol_same}
 use Rattle.ion_atoms.specs.laws.Tests.{both}
-use Rattle.ion_model.specs.declared.value.Value.{Value}
-use Rattle.ion_model.specs.declared.value.Field.{Field}
-use Rattle.ion_model.specs.declared.value.Payload.{Payload}
 use Rattle.ion_model.specs.declared.value.Payload.TheVariants as payloads
-use Rattle.ion_model.specs.Measures.{annotated, bare, field_of}
-use Rattle.ion_model.specs.Same.{same, fields_same}
-use Rattle.ion_model.specs.Symbols.{symbol_same}
 use Rattle.ion_model.specs.laws.Equivalence.{same-equiv, symbol_same-equiv}
 use Rattle.ion_model.specs.laws.Same.{same-payload}
 use Rattle.ion_model.proofs.Replacing.{same-lists, same-sexps, structs}
-use Rattle.ion_visiting.specs.declared.bracket.Bracket.{Bracket}
-use Rattle.ion_visiting.specs.declared.bracket.Bracket.TheVariants as brackets
-use Rattle.ion_visiting.specs.declared.tape.Entry.{Entry}
-use Rattle.ion_visiting.specs.declared.tape.Entry.TheVariants as entries
-use Rattle.ion_visiting.specs.declared.tape.Role.TheVariants as roles
-use Rattle.ion_visiting.specs.declared.tape.Form.{Form}
-use Rattle.ion_visiting.specs.declared.tape.Form.TheVariants as forms
-use Rattle.ion_visiting.specs.declared.tape.Tape.{Tape}
-use Rattle.ion_visiting.specs.declared.following.Frame.{Frame}
-use Rattle.ion_visiting.specs.declared.following.Following.{Following}
-use Rattle.ion_visiting.specs.Events.{Event, part, annotation, name, opens, closes, ended, events_of, Led}
-use Rattle.ion_visiting.specs.Tapes.{Tells, told, text_at, text_event, Walk, Enters, Leaves, walks, Holds}
-use Rattle.ion_visiting.specs.Parts.{number_payload}
 use Rattle.ion_visiting.specs.Following as following
-use Rattle.ion_visiting.specs.Following.{Behind, IsField, Steps, no_step, one_step, Skips, none_skipped, one_skipped, Seeks, StartsOn, follows, is_name, is_annotation, behind_payload, place_in}
-use Rattle.ion_visiting.proofs.FieldPairs.{Paired, paired_none, paired_more, paired_all, bit, bit_set, bit_other, no_bit}
-use Rattle.ion_visiting.proofs.Taped.{get_set, get_other, length_set, ends_alike, walk_tells, some_told}
-use Rattle.ion_visiting.proofs.Trees.{Told, value_told, ToldPayload, in_one, in_sequence, in_struct, ToldItems, no_items, items_from, ToldFields, no_fields, fields_from, sequence, sequence_bracket, told_by}
+use Rattle.ion_visiting.specs.Following.{Behind, IsField, Seeks, Skips, StartsOn, Steps, behind_payload, follows, is_annotation, is_name, no_step, none_skipped, one_skipped, one_step, place_in}
+use Rattle.ion_visiting.specs.Tapes.{Enters, Holds, Leaves, Tells, Walk, text_at, text_event, told, walks}
+use Rattle.ion_visiting.proofs.FieldPairs.{Paired, bit, bit_other, bit_set, no_bit, paired_all, paired_more, paired_none}
+use Rattle.ion_visiting.proofs.Taped.{ends_alike, get_other, get_set, length_set, some_told, walk_tells}
+use Rattle.ion_visiting.proofs.Trees.{Told, ToldFields, ToldItems, ToldPayload, fields_from, in_one, in_sequence, in_struct, items_from, no_fields, no_items, sequence, sequence_bracket, told_by, value_told}
 
 -- 1. Of one place.
 
@@ -51,43 +34,43 @@ note_event (annotation s) = true
 note_event _ = false
 
 text_no_note : (x : Form) (w : List ℕ) → note_event (text_event x w) ≡ false
-text_no_note forms.Str w = refl
-text_no_note forms.Clob w = refl
-text_no_note forms.Blob w = refl
+text_no_note Form.Str w = refl
+text_no_note Form.Clob w = refl
+text_no_note Form.Blob w = refl
 
 entry_note : (t : Tape) (e : Entry) (x : Event) → told t e ≡ Some x → is_annotation e ≡ note_event x
-entry_note t (entries.Null k) x h = ap note_event (some_one _ x h)
-entry_note t (entries.Truth b) x h = ap note_event (some_one _ x h)
-entry_note t (entries.Int z) x h = ap note_event (some_one _ x h)
-entry_note t (entries.Decimal b y m) x h = ap note_event (some_one _ x h)
-entry_note t (entries.Number n) x h = let y = some_told (slice_get t.numbers.items n) (λ m. part (number_payload m)) x h in ap note_event y.2
-entry_note t (entries.Unknown roles.Value) x h = ap note_event (some_one _ x h)
-entry_note t (entries.Unknown roles.Annotation) x h = ap note_event (some_one _ x h)
-entry_note t (entries.Unknown roles.Name) x h = ap note_event (some_one _ x h)
-entry_note t (entries.Symbol roles.Value r) x h = let y = some_told (text_at t r) (λ w. part (payloads.Symbol (Some w))) x h in ap note_event y.2
-entry_note t (entries.Symbol roles.Annotation r) x h = let y = some_told (text_at t r) (λ w. annotation (Some w)) x h in ap note_event y.2
-entry_note t (entries.Symbol roles.Name r) x h = let y = some_told (text_at t r) (λ w. name (Some w)) x h in ap note_event y.2
-entry_note t (entries.Text z r) x h = let y = some_told (text_at t r) (text_event z) x h in sym (text_no_note z y.0) ∙ ap note_event y.2
-entry_note t (entries.Open z j) x h = ap note_event (some_one _ x h)
-entry_note t (entries.Close z) x h = ap note_event (some_one _ x h)
+entry_note t (Entry.Null k) x h = ap note_event (some_one _ x h)
+entry_note t (Entry.Truth b) x h = ap note_event (some_one _ x h)
+entry_note t (Entry.Int z) x h = ap note_event (some_one _ x h)
+entry_note t (Entry.Decimal b y m) x h = ap note_event (some_one _ x h)
+entry_note t (Entry.Number n) x h = let y = some_told (slice_get t.numbers.items n) (λ m. part (number_payload m)) x h in ap note_event y.2
+entry_note t (Entry.Unknown Role.Value) x h = ap note_event (some_one _ x h)
+entry_note t (Entry.Unknown Role.Annotation) x h = ap note_event (some_one _ x h)
+entry_note t (Entry.Unknown Role.Name) x h = ap note_event (some_one _ x h)
+entry_note t (Entry.Symbol Role.Value r) x h = let y = some_told (text_at t r) (λ w. part (payloads.Symbol (Some w))) x h in ap note_event y.2
+entry_note t (Entry.Symbol Role.Annotation r) x h = let y = some_told (text_at t r) (λ w. annotation (Some w)) x h in ap note_event y.2
+entry_note t (Entry.Symbol Role.Name r) x h = let y = some_told (text_at t r) (λ w. name (Some w)) x h in ap note_event y.2
+entry_note t (Entry.Text z r) x h = let y = some_told (text_at t r) (text_event z) x h in sym (text_no_note z y.0) ∙ ap note_event y.2
+entry_note t (Entry.Open z j) x h = ap note_event (some_one _ x h)
+entry_note t (Entry.Close z) x h = ap note_event (some_one _ x h)
 
 -- an entry that tells a part is one alone
 part_alone : (t : Tape) (e : Entry) (p : Payload) (i : ℕ) → told t e ≡ Some (part p) → behind_payload e i ≡ i + 1
-part_alone t (entries.Open x j) p i h = absurd cc
-part_alone t (entries.Null k) p i h = refl
-part_alone t (entries.Truth b) p i h = refl
-part_alone t (entries.Int z) p i h = refl
-part_alone t (entries.Decimal b y m) p i h = refl
-part_alone t (entries.Number n) p i h = refl
-part_alone t (entries.Unknown x) p i h = refl
-part_alone t (entries.Symbol x r) p i h = refl
-part_alone t (entries.Text x r) p i h = refl
-part_alone t (entries.Close x) p i h = refl
+part_alone t (Entry.Open x j) p i h = absurd cc
+part_alone t (Entry.Null k) p i h = refl
+part_alone t (Entry.Truth b) p i h = refl
+part_alone t (Entry.Int z) p i h = refl
+part_alone t (Entry.Decimal b y m) p i h = refl
+part_alone t (Entry.Number n) p i h = refl
+part_alone t (Entry.Unknown x) p i h = refl
+part_alone t (Entry.Symbol x r) p i h = refl
+part_alone t (Entry.Text x r) p i h = refl
+part_alone t (Entry.Close x) p i h = refl
 
 -- no field begins where brackets close
-no_field : (t : Tape) (i : ℕ) (x : Bracket) → slice_get t.entries.items i ≡ Some (entries.Close x) → IsField t i → ⊥
+no_field : (t : Tape) (i : ℕ) (x : Bracket) → slice_get t.entries.items i ≡ Some (Entry.Close x) → IsField t i → ⊥
 no_field t i x h f =
-    let e : true ≡ false = sym f.is ∙ ap is_name (some_one f.entry (entries.Close x) (sym f.there ∙ h)) in absurd cc
+    let e : true ≡ false = sym f.is ∙ ap is_name (some_one f.entry (Entry.Close x) (sym f.there ∙ h)) in absurd cc
 
 -- 2. Of the tape: where values end, and which brackets are around them.
 
@@ -110,7 +93,7 @@ module _ (t : Tape) where
     payload_level _ _ _ (in_one p a b h) = ap (λ (w : Walk). w.ends) h.is
     payload_level _ _ _ (in_sequence l vs a m n b o h c) =
         (brackets_end (sequence_bracket l) a m n b o (items_level vs m n h) c).1
-    payload_level _ _ _ (in_struct ms a m n b o h c) = (brackets_end brackets.Fields a m n b o (fields_level ms m n h) c).1
+    payload_level _ _ _ (in_struct ms a m n b o h c) = (brackets_end Bracket.Fields a m n b o (fields_level ms m n h) c).1
 
     items_level : (vs : List Value) (a b : Walk) → ToldItems (walks t) vs a b → b.ends ≡ a.ends
     items_level _ _ _ (no_items a) = refl
@@ -121,7 +104,7 @@ module _ (t : Tape) where
     fields_level _ _ _ (fields_from f fs a n m b i x h) = fields_level fs m b h ∙ (level f.value n m x ∙ ap (λ (w : Walk). w.ends) i.is)
 
   open_behind : (x : Bracket) (a m b : Walk) (o : Enters t a x m) → o.end ≡ b.at → Behind t a.at b.at
-  open_behind x a m b o e = subst (Behind t a.at) e (following.past_payload a.at (entries.Open x o.end) o.there refl)
+  open_behind x a m b o e = subst (Behind t a.at) e (following.past_payload a.at (Entry.Open x o.end) o.there refl)
 
   payload_behind : (p : Payload) (a b : Walk) → ToldPayload (walks t) p a b → Behind t a.at b.at
   payload_behind _ _ _ (in_one p a b h) =
@@ -129,7 +112,7 @@ module _ (t : Tape) where
       (following.past_payload a.at h.tells.entry h.tells.there (entry_note t h.tells.entry (part p) h.tells.is))
   payload_behind _ _ _ (in_sequence l vs a m n b o h c) =
       open_behind (sequence_bracket l) a m b o (brackets_end (sequence_bracket l) a m n b o (items_level vs m n h) c).0
-  payload_behind _ _ _ (in_struct ms a m n b o h c) = open_behind brackets.Fields a m b o (brackets_end brackets.Fields a m n b o (fields_level ms m n h) c).0
+  payload_behind _ _ _ (in_struct ms a m n b o h c) = open_behind Bracket.Fields a m b o (brackets_end Bracket.Fields a m n b o (fields_level ms m n h) c).0
 
   notes_behind : (ss : List (Option (List ℕ))) (a m : Walk) (j : ℕ) → Led (walks t) (map annotation ss) a m → Behind t m.at j → Behind t a.at j
   notes_behind [] a m j h k = subst (λ (w : Walk). Behind t w.at j) (sym h) k
@@ -154,7 +137,7 @@ abbrev seat : Following → Seat
 seat a = record { at = a.at; frame = a.frame; outer = a.outer.items }
 
 abbrev place_of : Bracket → Seat → ℕ
-place_of brackets.Fields a = a.frame.free
+place_of Bracket.Fields a = a.frame.free
 place_of _ a = a.at
 
 record SitsOn (t : Tape) (a : Seat) (e : Event) (b : Seat) : Type 0 where
@@ -170,7 +153,7 @@ record SitsDown (t : Tape) (a : Seat) (x : Bracket) (b : Seat) : Type 0 where
   outer : b.outer ≡ a.outer ++ a.frame ∷ []
 
 record SitsUp (t : Tape) (a : Seat) (x : Bracket) (b : Seat) : Type 0 where
-  there : slice_get t.entries.items (place_of x a) ≡ Some (entries.Close x)
+  there : slice_get t.entries.items (place_of x a) ≡ Some (Entry.Close x)
   at : b.at ≡ place_of x a + 1
   outer : a.outer ≡ b.outer ++ b.frame ∷ []
 
@@ -190,9 +173,9 @@ sits t a ended b = a ≡ b
 sits t a e b = SitsOn t a e b
 
 place_seat : (x : Bracket) (a : Following) → place_in x a ≡ place_of x (seat a)
-place_seat brackets.List a = refl
-place_seat brackets.Sexp a = refl
-place_seat brackets.Fields a = refl
+place_seat Bracket.List a = refl
+place_seat Bracket.Sexp a = refl
+place_seat Bracket.Fields a = refl
 
 -- a step leaves the tape as it is, and is one on it
 seated : (t : Tape) (e : Event) (a b : Following) → a.tape.now ≡ t → follows a e b → (b.tape.now ≡ t) × sits t (seat a) e (seat b)
@@ -228,7 +211,7 @@ seated t (name s) a b k h = (
 seated t (opens x) a b k h = (
   ap (λ (x : _). x.now) h.tape ∙ k,
   record {
-    tells = record { entry = entries.Open x h.end; there = subst (λ (u : Tape). slice_get u.entries.items a.at ≡ Some (entries.Open x h.end)) k h.there; is = refl };
+    tells = record { entry = Entry.Open x h.end; there = subst (λ (u : Tape). slice_get u.entries.items a.at ≡ Some (Entry.Open x h.end)) k h.there; is = refl };
     at = h.at;
     frame = h.frame;
     outer = h.outer;
@@ -237,8 +220,8 @@ seated t (opens x) a b k h = (
 seated t (closes x) a b k h = (
   ap (λ (x : _). x.now) h.tape ∙ k,
   record {
-    there = subst (λ i. slice_get t.entries.items i ≡ Some (entries.Close x)) (place_seat x a)
-        (subst (λ (u : Tape). slice_get u.entries.items (place_in x a) ≡ Some (entries.Close x)) k h.there);
+    there = subst (λ i. slice_get t.entries.items i ≡ Some (Entry.Close x)) (place_seat x a)
+        (subst (λ (u : Tape). slice_get u.entries.items (place_in x a) ≡ Some (Entry.Close x)) k h.there);
     at = h.at ∙ ap (λ n. n + 1) (place_seat x a);
     outer = h.outer;
   },
@@ -252,8 +235,8 @@ all_seated t (e ∷ es) a b k h =
 
 -- 4. Fields.
 
-close_there : (t : Tape) (i : ℕ) (x : Bracket) → slice_get t.entries.items i ≡ Some (entries.Close x) → Tells t i (closes x)
-close_there t i x h = record { entry = entries.Close x; there = h; is = refl }
+close_there : (t : Tape) (i : ℕ) (x : Bracket) → slice_get t.entries.items i ≡ Some (Entry.Close x) → Tells t i (closes x)
+close_there t i x h = record { entry = Entry.Close x; there = h; is = refl }
 
 less_or : (k c : ℕ) → k < suc c → (k < c) ⊎ (k ≡ c)
 less_or zero zero h = inr refl
@@ -353,7 +336,7 @@ steps_halve t f n _ _ _ (one_step k g m h s i b) = ap (λ x. x / 2) (steps_halve
 
 -- 5. A struct's fields on the tape, which end at a walk where brackets close.
 
-module _ (t : Tape) (z : Walk) (closed : slice_get t.entries.items z.at ≡ Some (entries.Close brackets.Fields)) where
+module _ (t : Tape) (z : Walk) (closed : slice_get t.entries.items z.at ≡ Some (Entry.Close Bracket.Fields)) where
   abbrev from : List Field → ℕ → Type 0
   from fs i = ToldFields (walks t) fs (record { at = i; ends = z.ends }) z
 
@@ -369,11 +352,11 @@ module _ (t : Tape) (z : Walk) (closed : slice_get t.entries.items z.at ≡ Some
     lies : Told (walks t) field.value n m
     others : from rest m.at
 
-  next_field : (fs : List Field) (i : ℕ) → from fs i → (slice_get t.entries.items i ≡ Some (entries.Close brackets.Fields) → ⊥) → Next fs i
+  next_field : (fs : List Field) (i : ℕ) → from fs i → (slice_get t.entries.items i ≡ Some (Entry.Close Bracket.Fields) → ⊥) → Next fs i
   next_field fs i h open_yet = by fs (record { at = i; ends = z.ends }) refl h
     where
       by : (fs : List Field) (a : Walk) → a ≡ record { at = i; ends = z.ends } → ToldFields (walks t) fs a z → Next fs i
-      by _ _ e (no_fields a) = absurd (open_yet (subst (λ (w : Walk). slice_get t.entries.items w.at ≡ Some (entries.Close brackets.Fields)) e closed))
+      by _ _ e (no_fields a) = absurd (open_yet (subst (λ (w : Walk). slice_get t.entries.items w.at ≡ Some (Entry.Close Bracket.Fields)) e closed))
       by _ _ e (fields_from f fs a n m b x v h) =
           let ends : m.ends ≡ z.ends =
           level t f.value n m v ∙ (ap (λ (w : Walk). w.ends) x.is ∙ ap (λ (w : Walk). w.ends) e) in
@@ -393,7 +376,7 @@ module _ (t : Tape) (z : Walk) (closed : slice_get t.entries.items z.at ≡ Some
   passed : (fs : List Field) (c i h : ℕ) → from (drop c fs) i → IsField t i → ((j : ℕ) → Behind t (i + 1) j → h ≡ j)
       → from (drop (suc c) fs) h × (c < length fs)
   passed fs c i h rest field behind =
-      let l = next_field (drop c fs) i rest (λ e. no_field t i brackets.Fields e field) in
+      let l = next_field (drop c fs) i rest (λ e. no_field t i Bracket.Fields e field) in
       let d = drop_next fs c l.field l.rest l.are in
       let is : h ≡ l.m.at = behind l.m.at (subst (λ k. Behind t k l.m.at) l.at (value_behind t l.field.value l.n l.m l.lies)) in
       (subst (λ k. from (drop (suc c) fs) k) (sym is) (subst (λ r. from r l.m.at) (sym d.0) l.others), d.2)
@@ -443,7 +426,7 @@ module _ (t : Tape) (z : Walk) (closed : slice_get t.entries.items z.at ≡ Some
   }
 
   -- where brackets close all are taken
-  all_taken : (fs ms : List Field) (a : Seat) → FollowedFields fs ms a → slice_get t.entries.items a.frame.free ≡ Some (entries.Close brackets.Fields)
+  all_taken : (fs ms : List Field) (a : Seat) → FollowedFields fs ms a → slice_get t.entries.items a.frame.free ≡ Some (Entry.Close Bracket.Fields)
       → (z.at ≡ a.frame.free) × (fields_same same fs ms ≡ true)
   all_taken fs ms a f close = by (drop f.left.c fs) refl (record { at = a.frame.free; ends = z.ends }) refl f.left.rest
     where
@@ -453,9 +436,9 @@ module _ (t : Tape) (z : Walk) (closed : slice_get t.entries.items z.at ≡ Some
           let short = drop_none fs f.left.c e in
           (i, paired_all fs ms f.taken (λ k l. f.left.slots.before k (omega (arith, l, short))) f.paired)
       by _ e _ i (fields_from g gs x n m b y v h) =
-          let apart : name g.name ≡ closes brackets.Fields =
-          tells_one t a.frame.free (name g.name) (closes brackets.Fields) (moved t x.at a.frame.free (name g.name) i y.tells)
-          (close_there t a.frame.free brackets.Fields close) in
+          let apart : name g.name ≡ closes Bracket.Fields =
+          tells_one t a.frame.free (name g.name) (closes Bracket.Fields) (moved t x.at a.frame.free (name g.name) i y.tells)
+          (close_there t a.frame.free Bracket.Fields close) in
           absurd cc
 
   -- a name was found: its value lies there, and behind an equivalent one the field is taken
@@ -472,8 +455,8 @@ module _ (t : Tape) (z : Walk) (closed : slice_get t.entries.items z.at ≡ Some
       let c = f.left.c in
       let k = x.seeks.k in
       let rest = stepped fs a.frame.free a.frame.taken k x.place x.seeks.others c x.seeks.steps f.left.rest in
-      let l = next_field (drop (c + k) fs) x.place rest (λ e. unlike (tells_one t x.place (name s) (closes brackets.Fields) x.seeks.tells
-      (close_there t x.place brackets.Fields e))) in
+      let l = next_field (drop (c + k) fs) x.place rest (λ e. unlike (tells_one t x.place (name s) (closes Bracket.Fields) x.seeks.tells
+      (close_there t x.place Bracket.Fields e))) in
       let d = drop_next fs (c + k) l.field l.rest l.are in
       let is : l.field.name ≡ s = name_is l.field.name (tells_one t x.place (name l.field.name) (name s) l.tells x.seeks.tells) in
       let clear : bit a.frame.taken k ≡ 0 = bit_halved a.frame.taken k ∙ (ap (λ m. m % 2) (sym (steps_halve t a.frame.free a.frame.taken k x.place
@@ -503,7 +486,7 @@ module _ (t : Tape) (z : Walk) (closed : slice_get t.entries.items z.at ≡ Some
         };
       }
     where
-      unlike : name s ≡ closes brackets.Fields → ⊥
+      unlike : name s ≡ closes Bracket.Fields → ⊥
       unlike e = cc
 
       name_is : (r : Option (List ℕ)) → name r ≡ name s → r ≡ s
@@ -542,7 +525,7 @@ sequence_one false false e = refl
 sequence_one true false e = cc
 sequence_one false true e = cc
 
-sequence_struct : (l : Bool) → opens (sequence_bracket l) ≡ opens brackets.Fields → ⊥
+sequence_struct : (l : Bool) → opens (sequence_bracket l) ≡ opens Bracket.Fields → ⊥
 sequence_struct true e = cc
 sequence_struct false e = cc
 
@@ -573,12 +556,12 @@ module _ (t : Tape) where
   payload_there _ _ _ (in_one p a b h) = record { event = part p; tells = h.tells; first = refl }
   payload_there _ _ _ (in_sequence l vs a m n b o i c) =
       record { event = opens (sequence_bracket l); tells = walk_tells t (opens (sequence_bracket l)) a m o; first = refl }
-  payload_there _ _ _ (in_struct ms a m n b o i c) = record { event = opens brackets.Fields; tells = walk_tells t (opens brackets.Fields) a m o; first = refl }
+  payload_there _ _ _ (in_struct ms a m n b o i c) = record { event = opens Bracket.Fields; tells = walk_tells t (opens Bracket.Fields) a m o; first = refl }
 
   payload_found : (p : Payload) (a b : Seat) → ToldPayload (sits t) p a b → Begins front_event a.at
   payload_found _ _ _ (in_one p a b h) = record { event = part p; tells = h.tells; first = refl }
   payload_found _ _ _ (in_sequence l vs a m n b o i c) = record { event = opens (sequence_bracket l); tells = o.tells; first = refl }
-  payload_found _ _ _ (in_struct ms a m n b o i c) = record { event = opens brackets.Fields; tells = o.tells; first = refl }
+  payload_found _ _ _ (in_struct ms a m n b o i c) = record { event = opens Bracket.Fields; tells = o.tells; first = refl }
 
   as_first : (i j : ℕ) → i ≡ j → Begins front_event i → Begins first_event j
   as_first i j e b = record { event = b.event; tells = moved t i j b.event e b.tells; first = by b.event b.first }
@@ -664,17 +647,17 @@ module _ (t : Tape) where
         absurd (part_open q (sequence_bracket l) (tells_one t a.at (part q) (opens (sequence_bracket l)) h.tells
         (moved t x.at a.at (opens (sequence_bracket l)) e (walk_tells t (opens (sequence_bracket l)) x z o))))
     payload_followed _ _ _ (in_one q a b h) _ _ _ (in_struct fs x z k y o i c) e =
-        absurd (part_open q brackets.Fields (tells_one t a.at (part q) (opens brackets.Fields) h.tells
-        (moved t x.at a.at (opens brackets.Fields) e (walk_tells t (opens brackets.Fields) x z o))))
+        absurd (part_open q Bracket.Fields (tells_one t a.at (part q) (opens Bracket.Fields) h.tells
+        (moved t x.at a.at (opens Bracket.Fields) e (walk_tells t (opens Bracket.Fields) x z o))))
     payload_followed _ _ _ (in_sequence r ws a m n b o i c) _ _ _ (in_one p x y k) e =
         absurd (part_open p (sequence_bracket r) (tells_one t a.at (part p) (opens (sequence_bracket r)) (moved t x.at a.at (part p) e k.tells) o.tells))
     payload_followed _ _ _ (in_sequence r ws a m n b o i c) _ _ _ (in_struct fs x z k y u j d) e =
-        absurd (sequence_struct r (tells_one t a.at (opens (sequence_bracket r)) (opens brackets.Fields) o.tells
-        (moved t x.at a.at (opens brackets.Fields) e (walk_tells t (opens brackets.Fields) x z u))))
+        absurd (sequence_struct r (tells_one t a.at (opens (sequence_bracket r)) (opens Bracket.Fields) o.tells
+        (moved t x.at a.at (opens Bracket.Fields) e (walk_tells t (opens Bracket.Fields) x z u))))
     payload_followed _ _ _ (in_struct ms a m n b o i c) _ _ _ (in_one p x y k) e =
-        absurd (part_open p brackets.Fields (tells_one t a.at (part p) (opens brackets.Fields) (moved t x.at a.at (part p) e k.tells) o.tells))
+        absurd (part_open p Bracket.Fields (tells_one t a.at (part p) (opens Bracket.Fields) (moved t x.at a.at (part p) e k.tells) o.tells))
     payload_followed _ _ _ (in_struct ms a m n b o i c) _ _ _ (in_sequence l vs x z k y u j d) e =
-        absurd (sequence_struct l (tells_one t a.at (opens (sequence_bracket l)) (opens brackets.Fields)
+        absurd (sequence_struct l (tells_one t a.at (opens (sequence_bracket l)) (opens Bracket.Fields)
         (moved t x.at a.at (opens (sequence_bracket l)) e (walk_tells t (opens (sequence_bracket l)) x z u)) o.tells))
     payload_followed _ _ _ (in_sequence r ws a m n b o i c) _ _ _ (in_sequence l vs x z k y u j d) e =
         let one : l ≡ r = sequence_one l r (tells_one t a.at (opens (sequence_bracket l)) (opens (sequence_bracket r))
@@ -725,7 +708,7 @@ module _ (t : Tape) where
         }
 
     fields_followed : (ms : List Field) (a n : Seat) → ToldFields (sits t) ms a n
-        → (z : Walk) (closed : slice_get t.entries.items z.at ≡ Some (entries.Close brackets.Fields)) (fs done : List Field)
+        → (z : Walk) (closed : slice_get t.entries.items z.at ≡ Some (Entry.Close Bracket.Fields)) (fs done : List Field)
         → FollowedFields t z closed fs done a → FollowedFields t z closed fs (done ++ ms) n × (n.outer ≡ a.outer)
     fields_followed _ _ _ (no_fields a) z closed fs done f = (subst (λ ms. FollowedFields t z closed fs ms a) (sym (append-nil done)) f, refl)
     fields_followed _ _ _ (fields_from m ms a n b c i h j) z closed fs done f =

@@ -1,10 +1,9 @@
 -- Where values end, as their fronts say.
 use Rattle.std.proofs.Common.{◌≡◌, ℕ, ◌+◌, ◌<◌, length, true, false, slice_get, Some, None, ap, sym, ◌∙◌}
-use Rattle.ion_visiting.specs.declared.tape.Entry.{Entry}
-use Rattle.ion_visiting.specs.declared.tape.Tape.{Tape}
-use Rattle.ion_visiting.specs.Following as following
 use Rattle.std.proofs.lemmas.Option.{slice_get_within}
-use Rattle.ion_visiting.specs.Following.{Behind, IsField, is_annotation, behind_payload}
+use Rattle.ion_visiting.specs.Names.{Entry, Tape}
+use Rattle.ion_visiting.specs.Following as following
+use Rattle.ion_visiting.specs.Following.{Behind, IsField, behind_payload, is_annotation}
 
 some_one : {X : Type 0} (x y : X) → Some x ≡ Some y → x ≡ y
 some_one x y e = cc

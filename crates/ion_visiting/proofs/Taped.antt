@@ -5,18 +5,10 @@ use Rattle.std.specs.Option.{option_to_list}
 use Rattle.std.proofs.lemmas.Bool.{le-leb}
 use Rattle.std.proofs.lemmas.List.{drop_all}
 use Rattle.std.proofs.lemmas.Grind.{common_steps}
-use Rattle.ion_model.specs.declared.value.Value.{Value}
-use Rattle.ion_scalar.specs.declared.number.Number.{Number}
-use Rattle.ion_visiting.specs.declared.bracket.Bracket.{Bracket}
-use Rattle.ion_visiting.specs.declared.tape.Range.{Range}
-use Rattle.ion_visiting.specs.declared.tape.Entry.{Entry}
-use Rattle.ion_visiting.specs.declared.tape.Entry.TheVariants as entries
-use Rattle.ion_visiting.specs.declared.tape.Tape.{Tape}
-use Rattle.ion_visiting.specs.Events.{Event, part, annotation, name, opens, closes, ended, within, events_of, Led}
-use Rattle.ion_visiting.specs.Tapes.{told, text_at, symbol_event, text_event, events_in, Tells, IsBlank, Grows, Writes, Rests, Opens, Closes, tapes, Walk, Passes, walks, Holds}
-use Rattle.ion_visiting.specs.Parts.{number_payload}
+use Rattle.ion_visiting.specs.Names.{Bracket, Entry, Event, Led, Number, Range, Tape, Value, annotation, closes, ended, events_of, name, number_payload, opens, part, within}
+use Rattle.ion_visiting.specs.Tapes.{Closes, Grows, Holds, IsBlank, Opens, Passes, Rests, Tells, Walk, Writes, events_in, symbol_event, tapes, text_at, text_event, told, walks}
 use Rattle.ion_visiting.specs.laws.Led.{led_both, led_split}
-use Rattle.ion_visiting.proofs.Balanced.{Balanced, none, a_part, an_annotation, a_name, in_brackets, balanced}
+use Rattle.ion_visiting.proofs.Balanced.{Balanced, a_name, a_part, an_annotation, balanced, in_brackets, none}
 
 -- 1. Lists.
 
@@ -118,29 +110,29 @@ some_told (Some y) f x h = let e : f y ≡ x = cc in (y, refl, e)
 some_told None f x h = absurd cc
 
 told_kept : (t u : Tape) (e : Entry) (x : Event) → Longer t u → told t e ≡ Some x → told u e ≡ Some x
-told_kept t u (entries.Null k) x g h = h
-told_kept t u (entries.Truth b) x g h = h
-told_kept t u (entries.Int z) x g h = h
-told_kept t u (entries.Decimal b y m) x g h = h
-told_kept t u (entries.Number i) x g h =
+told_kept t u (Entry.Null k) x g h = h
+told_kept t u (Entry.Truth b) x g h = h
+told_kept t u (Entry.Int z) x g h = h
+told_kept t u (Entry.Decimal b y m) x g h = h
+told_kept t u (Entry.Number i) x g h =
     let y = some_told (slice_get t.numbers.items i) (λ n. part (number_payload n)) x h in
     ap (option_map (λ n. part (number_payload n)))
     (ap (λ ns. slice_get ns i) g.numbers ∙ get_front t.numbers.items g.number i y.0 y.1) ∙ ap Some y.2
-told_kept t u (entries.Unknown r) x g h = h
-told_kept t u (entries.Symbol z r) x g h =
+told_kept t u (Entry.Unknown r) x g h = h
+told_kept t u (Entry.Symbol z r) x g h =
     let y = some_told (text_at t r) (λ w. symbol_event z (Some w)) x h in
     ap (option_map (λ w. symbol_event z (Some w))) (text_kept t u r y.0 g y.1) ∙ ap Some y.2
-told_kept t u (entries.Text z r) x g h =
+told_kept t u (Entry.Text z r) x g h =
     let y = some_told (text_at t r) (text_event z) x h in
     ap (option_map (text_event z)) (text_kept t u r y.0 g y.1) ∙ ap Some y.2
-told_kept t u (entries.Open y j) x g h = h
-told_kept t u (entries.Close y) x g h = h
+told_kept t u (Entry.Open y j) x g h = h
+told_kept t u (Entry.Close y) x g h = h
 
 -- a number and its entry
-pub number_writes : (a b : Tape) (n : Number) (i : ℕ) → i ≡ length a.numbers.items → b.entries.items ≡ a.entries.items ++ entries.Number i ∷ []
+pub number_writes : (a b : Tape) (n : Number) (i : ℕ) → i ≡ length a.numbers.items → b.entries.items ≡ a.entries.items ++ Entry.Number i ∷ []
     → b.octets ≡ a.octets → b.opened ≡ a.opened → b.numbers.items ≡ a.numbers.items ++ n ∷ [] → Writes a b (part (number_payload n))
 number_writes a b n i place e o k all = record {
-  entry = entries.Number i;
+  entry = Entry.Number i;
   entries = e;
   is = ap (option_map (λ m. part (number_payload m)))
       (ap (λ x. slice_get x i) all ∙ (ap (λ j. slice_get (a.numbers.items ++ n ∷ []) j) place ∙ get_last a.numbers.items n));
@@ -258,27 +250,27 @@ wrote_one e es a m b to x w =
 wrote_within : (x : Bracket) (es : List Event) (a m n d : Tape) → Opens a m x → Written es m n → Closes n d x → Written (within x es) a d
 wrote_within x es a m n d o w c =
     let last = ends_alike d.opened.items a.opened.items c.place (size a) (sym c.opened ∙ (w.0.opened ∙ o.opened)) in
-    let head = entries.Open x (size n + 1) in
+    let head = Entry.Open x (size n + 1) in
     let front = set n.entries.items (size a) head in
-    let all : d.entries.items ≡ front ++ entries.Close x ∷ [] =
-    subst (λ k. d.entries.items ≡ set n.entries.items k head ++ entries.Close x ∷ []) last.1 c.entries in
-    let long : size m ≡ size a + 1 = ap length o.entries ∙ size_more a.entries.items (entries.Open x 0) in
+    let all : d.entries.items ≡ front ++ Entry.Close x ∷ [] =
+    subst (λ k. d.entries.items ≡ set n.entries.items k head ++ Entry.Close x ∷ []) last.1 c.entries in
+    let long : size m ≡ size a + 1 = ap length o.entries ∙ size_more a.entries.items (Entry.Open x 0) in
     let more = w.0.more in
     let front_long : length front ≡ size n = length_set n.entries.items (size a) head in
-    let end : size d ≡ size n + 1 = ap length all ∙ (size_more front (entries.Close x) ∙ ap (λ k. k + 1) front_long) in
+    let end : size d ≡ size n + 1 = ap length all ∙ (size_more front (Entry.Close x) ∙ ap (λ k. k + 1) front_long) in
     let closed : Longer n d = longer_none n d c.rests in
     let kept : (k : ℕ) → k < size n → size a ≢ k → slice_get d.entries.items k ≡ slice_get n.entries.items k = λ k h e.
-    ap (λ xs. slice_get xs k) all ∙ (get_same front (entries.Close x ∷ []) k (omega (arith, h, front_long)) ∙ get_other n.entries.items (size a) k head e) in
-    let there : slice_get d.entries.items (size a) ≡ Some (entries.Open x (size d)) =
-    ap (λ xs. slice_get xs (size a)) all ∙ (get_same front (entries.Close x ∷ []) (size a) (omega (arith, front_long, more, long))
-    ∙ (get_set n.entries.items (size a) head (omega (arith, more, long)) ∙ ap (λ k. Some (entries.Open x k)) (sym end))) in
-    let close : slice_get d.entries.items (size n) ≡ Some (entries.Close x) =
-    ap (λ xs. slice_get xs (size n)) all ∙ subst (λ k. slice_get (front ++ entries.Close x ∷ []) k ≡ Some (entries.Close x)) front_long
-    (get_last front (entries.Close x)) in (
+    ap (λ xs. slice_get xs k) all ∙ (get_same front (Entry.Close x ∷ []) k (omega (arith, h, front_long)) ∙ get_other n.entries.items (size a) k head e) in
+    let there : slice_get d.entries.items (size a) ≡ Some (Entry.Open x (size d)) =
+    ap (λ xs. slice_get xs (size a)) all ∙ (get_same front (Entry.Close x ∷ []) (size a) (omega (arith, front_long, more, long))
+    ∙ (get_set n.entries.items (size a) head (omega (arith, more, long)) ∙ ap (λ k. Some (Entry.Open x k)) (sym end))) in
+    let close : slice_get d.entries.items (size n) ≡ Some (Entry.Close x) =
+    ap (λ xs. slice_get xs (size n)) all ∙ subst (λ k. slice_get (front ++ Entry.Close x ∷ []) k ≡ Some (Entry.Close x)) front_long
+    (get_last front (Entry.Close x)) in (
       record {
         more = omega (arith, long, more, end);
         same = λ k h. kept k (omega (arith, h, more, long)) (λ e. omega (arith, e, h))
-            ∙ (w.0.same k (omega (arith, h, long)) ∙ (ap (λ xs. slice_get xs k) o.entries ∙ get_same a.entries.items (entries.Open x 0 ∷ []) k h));
+            ∙ (w.0.same k (omega (arith, h, long)) ∙ (ap (λ xs. slice_get xs k) o.entries ∙ get_same a.entries.items (Entry.Open x 0 ∷ []) k h));
         longer = longer_on a m d (longer_none a m o.rests) (longer_on m n d w.0.longer closed);
         opened = last.0;
       },
@@ -322,8 +314,8 @@ pub walk_tells : (t : Tape) (e : Event) (a b : Walk) → walks t a e b → Tells
 walk_tells t (part p) a b h = h.tells
 walk_tells t (annotation s) a b h = h.tells
 walk_tells t (name s) a b h = h.tells
-walk_tells t (opens x) a b h = record { entry = entries.Open x h.end; there = h.there; is = refl }
-walk_tells t (closes x) a b h = record { entry = entries.Close x; there = h.there; is = refl }
+walk_tells t (opens x) a b h = record { entry = Entry.Open x h.end; there = h.there; is = refl }
+walk_tells t (closes x) a b h = record { entry = Entry.Close x; there = h.there; is = refl }
 walk_tells t ended a b h = h.tells
 
 drop_get : {X : Type 0} (xs : List X) (i : ℕ) (x : X) → slice_get xs i ≡ Some x → drop i xs ≡ x ∷ drop (suc i) xs
@@ -357,9 +349,9 @@ text_same : (t u : Tape) (r : Range) → t.octets.items ≡ u.octets.items → t
 text_same t u r o = ap (λ w. cond (nat_le (r.from + r.count) (length w)) (Some (take r.count (drop r.from w))) None) o
 
 told_same : (t u : Tape) (e : Entry) → t.octets.items ≡ u.octets.items → t.numbers.items ≡ u.numbers.items → told t e ≡ told u e
-told_same t u (entries.Number i) o n = ap (λ ns. option_map (λ m. part (number_payload m)) (slice_get ns i)) n
-told_same t u (entries.Symbol x r) o n = ap (option_map (λ w. symbol_event x (Some w))) (text_same t u r o)
-told_same t u (entries.Text x r) o n = ap (option_map (text_event x)) (text_same t u r o)
+told_same t u (Entry.Number i) o n = ap (λ ns. option_map (λ m. part (number_payload m)) (slice_get ns i)) n
+told_same t u (Entry.Symbol x r) o n = ap (option_map (λ w. symbol_event x (Some w))) (text_same t u r o)
+told_same t u (Entry.Text x r) o n = ap (option_map (text_event x)) (text_same t u r o)
 told_same t u _ o n = refl
 
 -- they tell the same events

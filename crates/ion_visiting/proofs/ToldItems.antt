@@ -4,7 +4,7 @@ use Rattle.std.specs.List.{flat_map}
 use Rattle.std.specs.Option.{is_some, option_to_list}
 use Rattle.std.proofs.lemmas.Grind.{flat_map-append}
 use Rattle.std.proofs.lemmas.List.{get_or_default, take_all, take_more}
-use Rattle.ion_visiting.specs.Events.{Event, Led, opens, closes, within}
+use Rattle.ion_visiting.specs.Names.{Event, Led, closes, opens, within}
 use Rattle.ion_visiting.specs.laws.Led.{led_both, led_more}
 
 -- 1. Of items, each of which tells some events.

@@ -1,18 +1,11 @@
 -- Events that lead from one state to another, as the tree that their value is.
 use Rattle.std.proofs.Common.{ℕ, ◌<◌, zero, suc, List, [], ◌∷◌, map, Bool, true, false, Option, subst, arith}
 use Rattle.std.specs.List.{flat_map}
-use Rattle.ion_model.specs.declared.value.Value.{Value}
-use Rattle.ion_model.specs.declared.value.Field.{Field}
-use Rattle.ion_model.specs.declared.value.Payload.{Payload}
+use Rattle.ion_visiting.specs.Names.{Bracket, Event, Field, Layer, Led, Payload, Payload-F, Value, annotated, annotation, closes, depth, events_of, field_events, greatest, layer_depth, layer_events, name, opens, out-Payload, part, roll-out-Payload}
 use Rattle.ion_model.specs.declared.value.Payload.TheVariants as payloads
-use Rattle.ion_model.specs.declared.value.Payload.TheOpen.{Payload-F}
-use Rattle.ion_model.specs.declared.value.Payload.TheViews.{out-Payload, roll-Payload, roll-out-Payload}
-use Rattle.ion_model.specs.Measures.{Layer, depth, layer_depth, greatest, annotated}
+use Rattle.ion_model.specs.declared.value.Payload.TheViews.{roll-Payload}
 use Rattle.ion_model.specs.laws.Measures.{depth-out}
-use Rattle.ion_visiting.specs.declared.bracket.Bracket.{Bracket}
-use Rattle.ion_visiting.specs.declared.bracket.Bracket.TheVariants as brackets
-use Rattle.ion_visiting.specs.Events.{Event, part, annotation, name, opens, closes, events_of, field_events, layer_events, Led}
-use Rattle.ion_visiting.specs.laws.Led.{led_split, events_out}
+use Rattle.ion_visiting.specs.laws.Led.{events_out, led_split}
 
 -- a list, or else an s-expression
 abbrev pub sequence : Bool → List Value → Payload
@@ -20,8 +13,8 @@ sequence true vs = payloads.List vs
 sequence false vs = payloads.Sexp vs
 
 abbrev pub sequence_bracket : Bool → Bracket
-sequence_bracket true = brackets.List
-sequence_bracket false = brackets.Sexp
+sequence_bracket true = Bracket.List
+sequence_bracket false = Bracket.Sexp
 
 mutual
   -- annotations, then a payload
@@ -33,7 +26,7 @@ mutual
     in_one : (p : Payload) (a b : S) → takes a (part p) b → ToldPayload takes p a b
     in_sequence : (l : Bool) (vs : List Value) (a m n b : S) → takes a (opens (sequence_bracket l)) m → ToldItems takes vs m n
         → takes n (closes (sequence_bracket l)) b → ToldPayload takes (sequence l vs) a b
-    in_struct : (ms : List Field) (a m n b : S) → takes a (opens brackets.Fields) m → ToldFields takes ms m n → takes n (closes brackets.Fields) b
+    in_struct : (ms : List Field) (a m n b : S) → takes a (opens Bracket.Fields) m → ToldFields takes ms m n → takes n (closes Bracket.Fields) b
         → ToldPayload takes (payloads.Fields ms) a b
 
   pub data ToldItems {S : Type 0} (takes : S → Event → S → Type 0) : List Value → S → S → Type 0 where
@@ -78,15 +71,15 @@ module _ {S : Type 0} (takes : S → Event → S → Type 0) where
   of_layer n h (Payload-F.Clob w) small a b l = of_one _ a b l
   of_layer n h (Payload-F.Blob w) small a b l = of_one _ a b l
   of_layer n h (Payload-F.List vs) small a b l =
-      let s = led_split takes (flat_map events_of vs) (closes brackets.List ∷ []) l.0 b l.2 in
+      let s = led_split takes (flat_map events_of vs) (closes Bracket.List ∷ []) l.0 b l.2 in
       subst (ToldPayload takes (payloads.List vs) a) s.2.2
       (in_sequence true vs a l.0 s.0 s.2.0 l.1 (of_items n h vs (omega (arith, small)) l.0 s.0 s.1) s.2.1)
   of_layer n h (Payload-F.Sexp vs) small a b l =
-      let s = led_split takes (flat_map events_of vs) (closes brackets.Sexp ∷ []) l.0 b l.2 in
+      let s = led_split takes (flat_map events_of vs) (closes Bracket.Sexp ∷ []) l.0 b l.2 in
       subst (ToldPayload takes (payloads.Sexp vs) a) s.2.2
       (in_sequence false vs a l.0 s.0 s.2.0 l.1 (of_items n h vs (omega (arith, small)) l.0 s.0 s.1) s.2.1)
   of_layer n h (Payload-F.Fields ms) small a b l =
-      let s = led_split takes (flat_map field_events ms) (closes brackets.Fields ∷ []) l.0 b l.2 in
+      let s = led_split takes (flat_map field_events ms) (closes Bracket.Fields ∷ []) l.0 b l.2 in
       subst (ToldPayload takes (payloads.Fields ms) a) s.2.2
       (in_struct ms a l.0 s.0 s.2.0 l.1 (of_fields n h ms (omega (arith, small)) l.0 s.0 s.1) s.2.1)
 

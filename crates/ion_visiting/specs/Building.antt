@@ -1,14 +1,12 @@
 -- The visitor that builds values.
 use Rattle.std.specs.Prelude.{◌≡◌, ℕ, List, [], ◌∷◌, ◌++◌, Option, Some, None}
-use Rattle.ion_model.specs.declared.value.Value.{Value}
+use Rattle.ion_model.specs.Measures.{annotated, field_of}
 use Rattle.ion_model.specs.declared.value.Payload.{Payload}
 use Rattle.ion_model.specs.declared.value.Payload.TheVariants as payloads
-use Rattle.ion_model.specs.Measures.{annotated, field_of}
+use Rattle.ion_model.specs.declared.value.Value.{Value}
+use Rattle.ion_visiting.specs.Events.{Event, annotation, closes, ended, name, opens, part}
 use Rattle.ion_visiting.specs.declared.bracket.Bracket.{Bracket}
-use Rattle.ion_visiting.specs.declared.bracket.Bracket.TheVariants as brackets
-use Rattle.ion_visiting.specs.Events.{Event, part, annotation, name, opens, closes, ended}
 use Rattle.ion_visiting.specs.declared.building.Open.{Open}
-use Rattle.ion_visiting.specs.declared.building.Open.TheVariants as places
 use Rattle.ion_visiting.specs.declared.building.Outer.{Outer}
 
 -- what is built so far: the annotations of the value that comes, its place, and what stands around that, the innermost first
@@ -19,42 +17,42 @@ pub record Built : Type 0 where
 
 -- nothing yet
 abbrev pub fresh : Built
-fresh = record { notes = []; place = places.Top None; outer = [] }
+fresh = record { notes = []; place = Open.Top None; outer = [] }
 
 -- a value put into a place: at the top level it is what came, in a list or an s-expression the last item, in a struct the last field, of
 -- the name that came before it
 abbrev pub with_value : Open → Value → Open
-with_value (places.Top o) v = places.Top (Some v)
-with_value (places.Items vs) v = places.Items (vs ++ v ∷ [])
-with_value (places.Fields ms (Some s)) v = places.Fields (ms ++ field_of s v ∷ []) None
-with_value (places.Fields ms None) v = places.Fields ms None
+with_value (Open.Top o) v = Open.Top (Some v)
+with_value (Open.Items vs) v = Open.Items (vs ++ v ∷ [])
+with_value (Open.Fields ms (Some s)) v = Open.Fields (ms ++ field_of s v ∷ []) None
+with_value (Open.Fields ms None) v = Open.Fields ms None
 
 -- the name of a field put into a place: in a struct it is that of the value that comes
 abbrev pub with_name : Open → Option (List ℕ) → Open
-with_name (places.Fields ms o) s = places.Fields ms (Some s)
+with_name (Open.Fields ms o) s = Open.Fields ms (Some s)
 with_name place s = place
 
 -- a list, an s-expression or a struct of nothing yet
 abbrev pub opened : Bracket → Open
-opened brackets.List = places.Items []
-opened brackets.Sexp = places.Items []
-opened brackets.Fields = places.Fields [] None
+opened Bracket.List = Open.Items []
+opened Bracket.Sexp = Open.Items []
+opened Bracket.Fields = Open.Fields [] None
 
 -- the list, s-expression or struct of what came
 abbrev pub closed : Bracket → Open → Option Payload
-closed brackets.List (places.Items vs) = Some (payloads.List vs)
-closed brackets.Sexp (places.Items vs) = Some (payloads.Sexp vs)
-closed brackets.Fields (places.Fields ms o) = Some (payloads.Fields ms)
+closed Bracket.List (Open.Items vs) = Some (payloads.List vs)
+closed Bracket.Sexp (Open.Items vs) = Some (payloads.Sexp vs)
+closed Bracket.Fields (Open.Fields ms o) = Some (payloads.Fields ms)
 closed _ _ = None
 
 -- the value of the top level, if it came
 abbrev pub value_in : Open → Option Value
-value_in (places.Top o) = o
+value_in (Open.Top o) = o
 value_in _ = None
 
 -- no value of the top level
 abbrev pub without_value : Open → Open
-without_value (places.Top o) = places.Top None
+without_value (Open.Top o) = Open.Top None
 without_value place = place
 
 -- a payload is put into its place as the value of the annotations before it, of which none are left

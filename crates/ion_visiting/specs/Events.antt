@@ -1,15 +1,14 @@
 -- What a visitor is told of a value, event by event, and from which state to which events lead it.
 use Rattle.std.specs.Prelude.{◌≡◌, ℕ, List, [], ◌∷◌, ◌++◌, map, Option}
 use Rattle.std.specs.List.{flat_map}
-use Rattle.ion_model.specs.declared.value.Value.{Value}
+use Rattle.ion_model.specs.Measures.{Layer}
 use Rattle.ion_model.specs.declared.value.Field.{Field}
 use Rattle.ion_model.specs.declared.value.Payload.{Payload}
-use Rattle.ion_model.specs.declared.value.Payload.TheVariants as payloads
-use Rattle.ion_model.specs.declared.value.Payload.TheOpen.{Payload-F}
 use Rattle.ion_model.specs.declared.value.Payload.TheFolds.{fold-Value}
-use Rattle.ion_model.specs.Measures.{Layer}
+use Rattle.ion_model.specs.declared.value.Payload.TheOpen.{Payload-F}
+use Rattle.ion_model.specs.declared.value.Payload.TheVariants as payloads
+use Rattle.ion_model.specs.declared.value.Value.{Value}
 use Rattle.ion_visiting.specs.declared.bracket.Bracket.{Bracket}
-use Rattle.ion_visiting.specs.declared.bracket.Bracket.TheVariants as brackets
 
 -- A part is a null of a kind, a truth, a number, a symbol, a text or a lob. Symbols are told by their texts, or as unknown.
 pub data Event : Type 0 where
@@ -37,9 +36,9 @@ events_step (Payload-F.Symbol s) = part (payloads.Symbol s) ∷ []
 events_step (Payload-F.Str w) = part (payloads.Str w) ∷ []
 events_step (Payload-F.Clob w) = part (payloads.Clob w) ∷ []
 events_step (Payload-F.Blob w) = part (payloads.Blob w) ∷ []
-events_step (Payload-F.List es) = within brackets.List (flat_map (λ e. e) es)
-events_step (Payload-F.Sexp es) = within brackets.Sexp (flat_map (λ e. e) es)
-events_step (Payload-F.Fields es) = within brackets.Fields (flat_map (λ e. e) es)
+events_step (Payload-F.List es) = within Bracket.List (flat_map (λ e. e) es)
+events_step (Payload-F.Sexp es) = within Bracket.Sexp (flat_map (λ e. e) es)
+events_step (Payload-F.Fields es) = within Bracket.Fields (flat_map (λ e. e) es)
 
 -- what is told of a value: its annotations, and then its payload, a list, s-expression or struct between its brackets
 unfoldable pub events_of : Value → List Event
@@ -61,9 +60,9 @@ layer_events (Payload-F.Symbol s) = part (payloads.Symbol s) ∷ []
 layer_events (Payload-F.Str w) = part (payloads.Str w) ∷ []
 layer_events (Payload-F.Clob w) = part (payloads.Clob w) ∷ []
 layer_events (Payload-F.Blob w) = part (payloads.Blob w) ∷ []
-layer_events (Payload-F.List vs) = within brackets.List (flat_map events_of vs)
-layer_events (Payload-F.Sexp vs) = within brackets.Sexp (flat_map events_of vs)
-layer_events (Payload-F.Fields fs) = within brackets.Fields (flat_map field_events fs)
+layer_events (Payload-F.List vs) = within Bracket.List (flat_map events_of vs)
+layer_events (Payload-F.Sexp vs) = within Bracket.Sexp (flat_map events_of vs)
+layer_events (Payload-F.Fields fs) = within Bracket.Fields (flat_map field_events fs)
 
 -- what is told of values of the top level, each of which ends
 abbrev pub stream_events : List Value → List Event

@@ -1,14 +1,6 @@
 -- Finding on a tape what another tells, event by event.
 use Rattle.std.specs.Prelude.{◌≡◌, ◌+◌, ◌/◌, ◌%◌, ◌^◌, ◌++◌, ℕ, suc, [], ◌∷◌, List, slice_get, Bool, true, false, Option, Some}
-use Rattle.ion_visiting.specs.declared.bracket.Bracket.{Bracket}
-use Rattle.ion_visiting.specs.declared.bracket.Bracket.TheVariants as brackets
-use Rattle.ion_visiting.specs.declared.following.Following.{Following}
-use Rattle.ion_visiting.specs.declared.following.Frame.{Frame}
-use Rattle.ion_visiting.specs.declared.tape.Role.TheVariants as roles
-use Rattle.ion_visiting.specs.declared.tape.Entry.{Entry}
-use Rattle.ion_visiting.specs.declared.tape.Entry.TheVariants as entries
-use Rattle.ion_visiting.specs.declared.tape.Tape.{Tape}
-use Rattle.ion_visiting.specs.Events.{Event, name, opens, closes, ended}
+use Rattle.ion_visiting.specs.Names.{Bracket, Entry, Event, Following, Frame, Role, Tape, closes, ended, name, opens}
 use Rattle.ion_visiting.specs.Tapes.{Tells}
 
 -- at the front of a tape
@@ -18,8 +10,8 @@ pub record StartsOn (t : Tape) (a : Following) : Type 0 where
 
 -- what a name is
 abbrev pub is_name : Entry → Bool
-is_name (entries.Unknown roles.Name) = true
-is_name (entries.Symbol roles.Name r) = true
+is_name (Entry.Unknown Role.Name) = true
+is_name (Entry.Symbol Role.Name r) = true
 is_name _ = false
 
 -- a field begins at a place
@@ -30,13 +22,13 @@ pub record IsField (t : Tape) (i : ℕ) : Type 0 where
 
 -- what an annotation is
 abbrev pub is_annotation : Entry → Bool
-is_annotation (entries.Unknown roles.Annotation) = true
-is_annotation (entries.Symbol roles.Annotation r) = true
+is_annotation (Entry.Unknown Role.Annotation) = true
+is_annotation (Entry.Symbol Role.Annotation r) = true
 is_annotation _ = false
 
 -- where the payload ends whose front stands at a place
 abbrev pub behind_payload : Entry → ℕ → ℕ
-behind_payload (entries.Open x j) i = j
+behind_payload (Entry.Open x j) i = j
 behind_payload _ i = i + 1
 
 -- the value at a place ends before another, as its front says
@@ -86,7 +78,7 @@ pub record Names (a : Following) (s : Option (List ℕ)) (b : Following) : Type 
 -- into brackets; the frame around them is kept
 pub record Descends (a : Following) (x : Bracket) (b : Following) : Type 0 where
   pub end : ℕ
-  pub there : slice_get a.tape.now.entries.items a.at ≡ Some (entries.Open x end)
+  pub there : slice_get a.tape.now.entries.items a.at ≡ Some (Entry.Open x end)
   pub tape : b.tape ≡ a.tape
   pub at : b.at ≡ a.at + 1
   pub frame : b.frame ≡ record { free = a.at + 1; taken = 0 }
@@ -94,12 +86,12 @@ pub record Descends (a : Following) (x : Bracket) (b : Following) : Type 0 where
 
 -- where nothing may be left at a close: in a struct at the first field that isn't taken
 abbrev pub place_in : Bracket → Following → ℕ
-place_in brackets.Fields a = a.frame.free
+place_in Bracket.Fields a = a.frame.free
 place_in _ a = a.at
 
 -- out of brackets
 pub record Ascends (a : Following) (x : Bracket) (b : Following) : Type 0 where
-  pub there : slice_get a.tape.now.entries.items (place_in x a) ≡ Some (entries.Close x)
+  pub there : slice_get a.tape.now.entries.items (place_in x a) ≡ Some (Entry.Close x)
   pub tape : b.tape ≡ a.tape
   pub at : b.at ≡ place_in x a + 1
   pub outer : a.outer.items ≡ b.outer.items ++ b.frame ∷ []

@@ -1,7 +1,6 @@
 -- Events that are such as the types keep: texts are UTF-8, numbers are in range, and what lobs hold are octets.
 use Rattle.std.specs.Prelude.{List, [], ◌∷◌, ⊤}
-use Rattle.ion_model.specs.Kept.{IsText, KeptPayload}
-use Rattle.ion_visiting.specs.Events.{Event, part, annotation, name}
+use Rattle.ion_visiting.specs.Names.{Event, IsText, KeptPayload, annotation, name, part}
 
 -- what is told is such as the types keep
 abbrev pub KeptEvent : Event → Type 0

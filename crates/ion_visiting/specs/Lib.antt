@@ -8,3 +8,4 @@ pub mod Tables
 pub mod Tapes
 pub mod Following
 pub mod laws
+pub mod Names

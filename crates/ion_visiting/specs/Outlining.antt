@@ -1,24 +1,17 @@
 -- The visitor that takes the outline of a value.
 use Rattle.std.specs.Prelude.{◌≡◌, ◌+◌, ◌-◌, ◌^◌, ℕ, min, max, ◌==◌, if◌then◌else◌}
-use Rattle.ion_atoms.specs.declared.kind.Kind.{Kind}
-use Rattle.ion_atoms.specs.declared.kind.Kind.TheVariants as kinds
+use Rattle.ion_visiting.specs.Names.{Bracket, Event, Kind, Outlining, annotation, closes, ended, layer_kind, name, opens, out-Payload, part}
 use Rattle.ion_model.specs.declared.outline.Outline.{Outline}
-use Rattle.ion_model.specs.declared.value.Payload.TheViews.{out-Payload}
-use Rattle.ion_model.specs.Kinds.{layer_kind}
-use Rattle.ion_visiting.specs.declared.bracket.Bracket.{Bracket}
-use Rattle.ion_visiting.specs.declared.bracket.Bracket.TheVariants as brackets
-use Rattle.ion_visiting.specs.Events.{Event, part, annotation, name, opens, closes, ended}
-use Rattle.ion_visiting.specs.declared.outlining.Outlining.{Outlining}
 
 -- the kind of what stands between brackets
 abbrev pub bracket_kind : Bracket → Kind
-bracket_kind brackets.List = kinds.List
-bracket_kind brackets.Sexp = kinds.Sexp
-bracket_kind brackets.Fields = kinds.Fields
+bracket_kind Bracket.List = Kind.List
+bracket_kind Bracket.Sexp = Kind.Sexp
+bracket_kind Bracket.Fields = Kind.Fields
 
 -- no event yet
 abbrev pub no_outline : Outlining
-no_outline = record { kind = kinds.Null; level = 0; depth = 0; nodes = 0 }
+no_outline = record { kind = Kind.Null; level = 0; depth = 0; nodes = 0 }
 
 -- the outline of the value that ended
 abbrev pub outline_in : Outlining → Outline

@@ -1,17 +1,7 @@
 -- Local symbol tables, which are kept from a visitor: which events of a value of the top level it is told.
 use Rattle.std.specs.Prelude.{◌≡◌, ℕ, List, [], ◌∷◌, ◌++◌, map, Option, Some, None, Bool, true, false, if◌then◌else◌}
-use Rattle.ion_atoms.specs.declared.kind.Kind.TheVariants as kinds
-use Rattle.ion_model.specs.declared.value.Value.{Value}
-use Rattle.ion_model.specs.declared.value.Payload.{Payload}
+use Rattle.ion_visiting.specs.Names.{Bracket, Built, Event, Kind, Led, Payload, Table, TableFilter, Value, annotation, builds, fresh, is_table, names_table, opens, part}
 use Rattle.ion_model.specs.declared.value.Payload.TheVariants as payloads
-use Rattle.ion_model.specs.Kinds.{names_table, is_table}
-use Rattle.ion_visiting.specs.declared.bracket.Bracket.{Bracket}
-use Rattle.ion_visiting.specs.declared.bracket.Bracket.TheVariants as brackets
-use Rattle.ion_visiting.specs.Building.{Built, builds, fresh}
-use Rattle.ion_visiting.specs.Events.{Event, part, annotation, opens, Led}
-use Rattle.ion_visiting.specs.declared.table_filter.Table.{Table}
-use Rattle.ion_visiting.specs.declared.table_filter.Table.TheVariants as tables
-use Rattle.ion_visiting.specs.declared.table_filter.TableFilter.{TableFilter}
 
 -- what annotations are: texts, or unknown
 abbrev pub Symbols : Type 0
@@ -19,11 +9,11 @@ Symbols = List (Option (List ℕ))
 
 -- the null of structs
 abbrev pub is_null_struct : Payload → Bool
-is_null_struct (payloads.Null kinds.Fields) = true
+is_null_struct (payloads.Null Kind.Fields) = true
 is_null_struct _ = false
 
 abbrev pub is_fields : Bracket → Bool
-is_fields brackets.Fields = true
+is_fields Bracket.Fields = true
 is_fields _ = false
 
 -- whether an event is a struct, or begins one
@@ -34,19 +24,19 @@ begins_struct _ = false
 
 -- where so much is known of a value, an event is one of a table; the Bool says whether it is a struct, or begins one
 abbrev pub is_of_table : Table → Bool → Bool
-is_of_table tables.Yes begins = true
-is_of_table tables.Noted begins = begins
+is_of_table Table.Yes begins = true
+is_of_table Table.Noted begins = begins
 is_of_table _ begins = false
 
 -- whether a value is a local symbol table, as far as it was told, behind one annotation more
 abbrev pub table_noted : Table → Option (List ℕ) → Table
-table_noted tables.Unknown s = if names_table s then tables.Noted else tables.No
+table_noted Table.Unknown s = if names_table s then Table.Noted else Table.No
 table_noted t s = t
 
 -- behind one event more
 abbrev pub table_behind : Table → Event → Table
 table_behind t (annotation s) = table_noted t s
-table_behind t e = if is_of_table t (begins_struct e) then tables.Yes else tables.No
+table_behind t e = if is_of_table t (begins_struct e) then Table.Yes else Table.No
 
 -- behind these events more
 abbrev pub table_after : Table → List Event → Table
@@ -55,11 +45,11 @@ table_after t (e ∷ es) = table_after (table_behind t e) es
 
 -- behind these events
 abbrev pub table_by : List Event → Table
-table_by es = table_after tables.Unknown es
+table_by es = table_after Table.Unknown es
 
 -- what a visitor is told of these events: all of them, unless they are or may be those of a table
 abbrev pub heard_by : Table → List Event → List Event
-heard_by tables.No es = es
+heard_by Table.No es = es
 heard_by _ es = []
 
 abbrev pub heard : List Event → List Event
@@ -67,10 +57,10 @@ heard es = heard_by (table_by es) es
 
 -- the annotations that are kept, and what was built, where these events were told
 abbrev pub AreKept : Table → List Event → Symbols → Built → Type 0
-AreKept tables.Unknown es ss b = (es ≡ []) × (ss ≡ []) × (b ≡ fresh)
-AreKept tables.No es ss b = (ss ≡ []) × (b ≡ fresh)
-AreKept tables.Noted es ss b = (es ≡ map annotation ss) × (b ≡ fresh)
-AreKept tables.Yes es ss b = (ss ≡ []) × Led builds es fresh b
+AreKept Table.Unknown es ss b = (es ≡ []) × (ss ≡ []) × (b ≡ fresh)
+AreKept Table.No es ss b = (ss ≡ []) × (b ≡ fresh)
+AreKept Table.Noted es ss b = (es ≡ map annotation ss) × (b ≡ fresh)
+AreKept Table.Yes es ss b = (ss ≡ []) × Led builds es fresh b
 
 -- a filter was told these events of the value that it is told now
 pub record WasTold (f : TableFilter) (es : List Event) : Type 0 where
@@ -93,12 +83,12 @@ table_of v = if is_table v then Some v else None
 
 -- a table was begun, of which these events were told
 pub record IsTable (f : TableFilter) (es : List Event) : Type 0 where
-  pub table : f.table ≡ tables.Yes
+  pub table : f.table ≡ Table.Yes
   pub notes : f.notes ≡ []
   pub built : Led builds es fresh f.tables
 
 -- what is told is no table, and nothing is kept
 pub record LetsPass (f : TableFilter) : Type 0 where
-  pub table : f.table ≡ tables.No
+  pub table : f.table ≡ Table.No
   pub notes : f.notes ≡ []
   pub tables : f.tables ≡ fresh

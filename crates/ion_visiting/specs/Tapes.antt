@@ -2,32 +2,20 @@
 use Rattle.std.specs.Prelude.{◌≡◌, ◌+◌, ℕ, List, [], ◌∷◌, ◌++◌, length, take, drop, set, slice_get, nat_le, cond, Option, Some, None, option_map}
 use Rattle.std.specs.List.{flat_map}
 use Rattle.std.specs.Option.{option_to_list}
-use Rattle.ion_model.specs.declared.value.Value.{Value}
+use Rattle.ion_visiting.specs.Names.{Bracket, Entry, Event, Form, Led, Number, Range, Role, Tape, Value, annotation, closes, ended, events_of, name, number_payload, opens, part}
 use Rattle.ion_model.specs.declared.value.Payload.TheVariants as payloads
-use Rattle.ion_scalar.specs.declared.number.Number.{Number}
-use Rattle.ion_visiting.specs.declared.bracket.Bracket.{Bracket}
-use Rattle.ion_visiting.specs.declared.tape.Role.{Role}
-use Rattle.ion_visiting.specs.declared.tape.Role.TheVariants as roles
-use Rattle.ion_visiting.specs.declared.tape.Form.{Form}
-use Rattle.ion_visiting.specs.declared.tape.Form.TheVariants as forms
-use Rattle.ion_visiting.specs.declared.tape.Range.{Range}
-use Rattle.ion_visiting.specs.declared.tape.Entry.{Entry}
-use Rattle.ion_visiting.specs.declared.tape.Entry.TheVariants as entries
-use Rattle.ion_visiting.specs.declared.tape.Tape.{Tape}
-use Rattle.ion_visiting.specs.Events.{Event, part, annotation, name, opens, closes, ended, events_of, Led}
-use Rattle.ion_visiting.specs.Parts.{number_payload}
 
 -- a symbol as a value, as an annotation or as the name of a field
 abbrev pub symbol_event : Role → Option (List ℕ) → Event
-symbol_event roles.Value s = part (payloads.Symbol s)
-symbol_event roles.Annotation s = annotation s
-symbol_event roles.Name s = name s
+symbol_event Role.Value s = part (payloads.Symbol s)
+symbol_event Role.Annotation s = annotation s
+symbol_event Role.Name s = name s
 
 -- a string or a lob
 abbrev pub text_event : Form → List ℕ → Event
-text_event forms.Str w = part (payloads.Str w)
-text_event forms.Clob w = part (payloads.Clob w)
-text_event forms.Blob w = part (payloads.Blob w)
+text_event Form.Str w = part (payloads.Str w)
+text_event Form.Clob w = part (payloads.Clob w)
+text_event Form.Blob w = part (payloads.Blob w)
 
 -- the octets of a range, where it ends among those that there are
 abbrev pub text_at : Tape → Range → Option (List ℕ)
@@ -35,16 +23,16 @@ text_at t r = cond (nat_le (r.from + r.count) (length t.octets.items)) (Some (ta
 
 -- what an entry tells; none where its text or its number isn't there
 abbrev pub told : Tape → Entry → Option Event
-told t (entries.Null k) = Some (part (payloads.Null k))
-told t (entries.Truth b) = Some (part (payloads.Truth b))
-told t (entries.Int z) = Some (part (payloads.Int z))
-told t (entries.Decimal b x m) = Some (part (payloads.Decimal (record { negative = b; magnitude = m; exponent = x })))
-told t (entries.Number i) = option_map (λ n. part (number_payload n)) (slice_get t.numbers.items i)
-told t (entries.Unknown x) = Some (symbol_event x None)
-told t (entries.Symbol x r) = option_map (λ w. symbol_event x (Some w)) (text_at t r)
-told t (entries.Text x r) = option_map (text_event x) (text_at t r)
-told t (entries.Open x j) = Some (opens x)
-told t (entries.Close x) = Some (closes x)
+told t (Entry.Null k) = Some (part (payloads.Null k))
+told t (Entry.Truth b) = Some (part (payloads.Truth b))
+told t (Entry.Int z) = Some (part (payloads.Int z))
+told t (Entry.Decimal b x m) = Some (part (payloads.Decimal (record { negative = b; magnitude = m; exponent = x })))
+told t (Entry.Number i) = option_map (λ n. part (number_payload n)) (slice_get t.numbers.items i)
+told t (Entry.Unknown x) = Some (symbol_event x None)
+told t (Entry.Symbol x r) = option_map (λ w. symbol_event x (Some w)) (text_at t r)
+told t (Entry.Text x r) = option_map (text_event x) (text_at t r)
+told t (Entry.Open x j) = Some (opens x)
+told t (Entry.Close x) = Some (closes x)
 
 -- the events that a tape tells
 abbrev pub events_in : Tape → List Event
@@ -83,7 +71,7 @@ pub record Rests (a b : Tape) : Type 0 where
 
 -- brackets are opened
 pub record Opens (a b : Tape) (x : Bracket) : Type 0 where
-  pub entries : b.entries.items ≡ a.entries.items ++ entries.Open x 0 ∷ []
+  pub entries : b.entries.items ≡ a.entries.items ++ Entry.Open x 0 ∷ []
   pub opened : b.opened.items ≡ a.opened.items ++ length a.entries.items ∷ []
   pub rests : Rests a b
 
@@ -91,7 +79,7 @@ pub record Opens (a b : Tape) (x : Bracket) : Type 0 where
 pub record Closes (a b : Tape) (x : Bracket) : Type 0 where
   pub place : ℕ
   pub opened : a.opened.items ≡ b.opened.items ++ place ∷ []
-  pub entries : b.entries.items ≡ set a.entries.items place (entries.Open x (length a.entries.items + 1)) ++ entries.Close x ∷ []
+  pub entries : b.entries.items ≡ set a.entries.items place (Entry.Open x (length a.entries.items + 1)) ++ Entry.Close x ∷ []
   pub rests : Rests a b
 
 -- the visitor that writes down what it takes; that a value of the top level ended is not written
@@ -114,12 +102,12 @@ pub record Passes (t : Tape) (a : Walk) (e : Event) (b : Walk) : Type 0 where
 -- into brackets, which say where they end
 pub record Enters (t : Tape) (a : Walk) (x : Bracket) (b : Walk) : Type 0 where
   pub end : ℕ
-  pub there : slice_get t.entries.items a.at ≡ Some (entries.Open x end)
+  pub there : slice_get t.entries.items a.at ≡ Some (Entry.Open x end)
   pub is : b ≡ record { at = a.at + 1; ends = end ∷ a.ends }
 
 -- out of brackets, which end there
 pub record Leaves (t : Tape) (a : Walk) (x : Bracket) (b : Walk) : Type 0 where
-  pub there : slice_get t.entries.items a.at ≡ Some (entries.Close x)
+  pub there : slice_get t.entries.items a.at ≡ Some (Entry.Close x)
   pub at : b.at ≡ a.at + 1
   pub ends : a.ends ≡ b.at ∷ b.ends
 

@@ -1,6 +1,6 @@
 //! The visitor that counts values.
 ghost use Rattle.std.specs.Prelude.{◌≡◌};
-ghost use Rattle.ion_visiting.specs.Count.{no_values};
+ghost use Rattle.ion_visiting.specs.Names.{no_values};
 
 use crate::bracket::Bracket;
 use crate::part::Part;

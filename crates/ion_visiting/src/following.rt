@@ -1,9 +1,8 @@
 //! Finding on one tape the value of another, the fields of a struct in any order.
 ghost use Rattle.std.specs.Prelude.{◌≡◌, ◌+◌, ◌<◌, ◌^◌, ℕ, true, IfSome, Some, option_map};
 ghost use Rattle.std.specs.Option.{is_some};
-ghost use Rattle.ion_visiting.specs.Events.{Led, closes, name, opens, part};
+ghost use Rattle.ion_visiting.specs.Names.{Led, closes, name, number_payload, opens, part};
 ghost use Rattle.ion_visiting.specs.Following.{Behind, IsField, Seeks, Skips, StartsOn, Takes, behind_payload, follows, is_annotation};
-ghost use Rattle.ion_visiting.specs.Parts.{number_payload};
 ghost use Rattle.ion_visiting.specs.Tapes.{Tells, events_in, symbol_event, text_event, told};
 
 use crate::bracket::Bracket;

@@ -1,21 +1,11 @@
 //! Laws of events and of visitors. Each stands on an empty function: its contract is the law.
 ghost use Rattle.std.specs.Prelude.{◌≡◌, ◌-◌, ◌^◌, ◌++◌, List, length, min, true, Some};
-ghost use Rattle.ion_model.specs.Kept.{AreKept, IsKept};
-ghost use Rattle.ion_model.specs.Outlines.{outline_of};
-ghost use Rattle.ion_model.specs.Same.{same};
-ghost use Rattle.ion_model.specs.declared.value.Value.{Value};
-ghost use Rattle.ion_visiting.specs.declared.building.Open.TheVariants as places;
-ghost use Rattle.ion_visiting.specs.declared.count.Count.{Count};
-ghost use Rattle.ion_visiting.specs.declared.following.Following.{Following};
-ghost use Rattle.ion_visiting.specs.declared.outlining.Outlining.{Outlining};
-ghost use Rattle.ion_visiting.specs.declared.tape.Tape.{Tape};
-ghost use Rattle.ion_visiting.specs.Building.{Built, builds, fresh};
-ghost use Rattle.ion_visiting.specs.Count.{counts, no_values};
-ghost use Rattle.ion_visiting.specs.Events.{Event, Led, events_of, stream_events};
+ghost use Rattle.ion_visiting.specs.Names.{AreKept, Built, Count, Event, Following, IsKept, Led, Outlining, Tape, Value, builds, counts, events_of, fresh, no_values, outline_of, same, stream_events};
 ghost use Rattle.ion_visiting.specs.Following.{StartsOn, follows};
 ghost use Rattle.ion_visiting.specs.KeptEvents.{AreKeptEvents};
 ghost use Rattle.ion_visiting.specs.Outlining.{no_outline, outline_in, outlines};
 ghost use Rattle.ion_visiting.specs.Tapes.{Holds, IsBlank, events_in, tapes};
+ghost use Rattle.ion_visiting.specs.declared.building.Open.TheVariants as places;
 
 use crate::visitor::Visitor;
 

@@ -1,9 +1,7 @@
 //! The visitor that takes the outline of a value.
 ghost use Rattle.std.specs.Prelude.{◌≡◌};
-ghost use Rattle.ion_model.specs.declared.value.Payload.TheViews.{out-Payload};
-ghost use Rattle.ion_model.specs.Kinds.{layer_kind};
-ghost use Rattle.ion_visiting.specs.Outlining.{bracket_kind, no_outline, outline_in, kind_at, more_nodes};
-ghost use Rattle.ion_visiting.specs.Parts.{number_payload, payload_of};
+ghost use Rattle.ion_visiting.specs.Names.{layer_kind, number_payload, out-Payload, payload_of};
+ghost use Rattle.ion_visiting.specs.Outlining.{bracket_kind, kind_at, more_nodes, no_outline, outline_in};
 
 use crate::bracket::Bracket;
 use crate::part::Part;

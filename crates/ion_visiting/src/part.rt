@@ -1,8 +1,7 @@
 //! Values with no others in them, as a visitor is told them.
 ghost use Rattle.std.specs.Str.{IsUtf8};
+ghost use Rattle.ion_visiting.specs.Names.{KeptPayload, number_payload, payload_of};
 ghost use Rattle.ion_atoms.specs.Octets.{AreOctets};
-ghost use Rattle.ion_model.specs.Kept.{KeptPayload};
-ghost use Rattle.ion_visiting.specs.Parts.{number_payload, payload_of};
 
 use ion_model::Kind;
 use ion_scalar::Number;

@@ -1,7 +1,7 @@
 //! Values without others in them, as they are built.
 ghost use Rattle.std.specs.Prelude.{◌≡◌, IfOk, IfErr, MatchResult, option_map};
+ghost use Rattle.ion_visiting.specs.Names.{number_payload, payload_of};
 ghost use Rattle.ion_atoms.specs.declared.refusal.Reason.TheVariants.{Memory};
-ghost use Rattle.ion_visiting.specs.Parts.{number_payload, payload_of};
 
 use crate::part::Part;
 use crate::recent_symbols::RecentSymbols;

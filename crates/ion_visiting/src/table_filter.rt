@@ -1,12 +1,9 @@
 //! Local symbol tables, which are kept from a visitor (Ion 1.0, "Symbols", "Local Symbol Tables").
 ghost use Rattle.std.specs.Prelude.{◌≡◌, ◌++◌, ◌∷◌, [], List, Some, map, true, false};
-ghost use Rattle.ion_model.specs.Kinds.{names_table};
+ghost use Rattle.ion_visiting.specs.Names.{Event, Led, Value as AnyValue, annotation, closes, events_of, name, names_table, number_payload, opens, part, payload_of};
 ghost use Rattle.ion_model.specs.declared.value.Payload.TheVariants as payloads;
-ghost use Rattle.ion_model.specs.declared.value.Value.{Value as AnyValue};
-ghost use Rattle.ion_visiting.specs.Events.{Event, Led, annotation, closes, events_of, name, opens, part};
-ghost use Rattle.ion_visiting.specs.Parts.{number_payload, payload_of};
-ghost use Rattle.ion_visiting.specs.declared.table_filter.Table.TheVariants as tables;
 ghost use Rattle.ion_visiting.specs.Tables.{Hears, IsTable, LetsPass, Tells, WasTold, heard, is_fields, is_null_struct, is_of_table, table_of};
+ghost use Rattle.ion_visiting.specs.declared.table_filter.Table.TheVariants as tables;
 
 use crate::bracket::Bracket;
 use crate::building::Building;

@@ -1,8 +1,7 @@
 //! Values written down event by event, in whatever encoding they were read.
 ghost use Rattle.std.specs.Prelude.{◌≡◌, ◌+◌, ◌++◌, ◌∷◌, [], ℕ, true, IfSome, Some, option_map, slice_get};
 ghost use Rattle.std.specs.Option.{is_some};
-ghost use Rattle.ion_visiting.specs.Events.{Led, part};
-ghost use Rattle.ion_visiting.specs.Parts.{number_payload, payload_of};
+ghost use Rattle.ion_visiting.specs.Names.{Led, number_payload, part, payload_of};
 ghost use Rattle.ion_visiting.specs.Tapes.{Grows, IsBlank, Rests, Writes, events_in, symbol_event, text_at, text_event, told};
 
 use crate::bracket::Bracket;

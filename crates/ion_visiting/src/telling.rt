@@ -1,10 +1,8 @@
 //! Telling a visitor a value that was built.
 ghost use Rattle.std.specs.Prelude.{◌≡◌, true, map};
 ghost use Rattle.std.specs.List.{flat_map};
-ghost use Rattle.ion_model.specs.declared.value.Payload.TheViews.{out-Payload};
+ghost use Rattle.ion_visiting.specs.Names.{Fields, Led, annotation, events_of, field_events, layer_events, name, out-Payload, part, within};
 ghost use Rattle.ion_model.specs.declared.value.Payload.TheVariants as payloads;
-ghost use Rattle.ion_visiting.specs.declared.bracket.Bracket.TheVariants.{Fields};
-ghost use Rattle.ion_visiting.specs.Events.{Led, annotation, name, part, within, events_of, field_events, layer_events};
 
 use crate::bracket::Bracket;
 use crate::part::Part;

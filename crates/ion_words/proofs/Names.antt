@@ -14,9 +14,9 @@ use Rattle.clap.specs.Words.{Text}
 use Rattle.clap.proofs.OnLiterals.{clap_on_literals}
 use Rattle.clap.proofs.FaultLemmas.{stopped_fault}
 use Rattle.clap.proofs.WalkLemmas.{walk_stopped}
-use Rattle.ion_symtab.specs.declared.target.Target.TheVariants as target
+use Rattle.ion_symtab.specs.declared.target.Target.{Target}
+use Rattle.ion_words.specs.Asked.{Asked, IsPlain, asked, asked_by, check, compare, convert, input_once, is_input, number_in, show, usual}
 use Rattle.ion_words.specs.Program.{program}
-use Rattle.ion_words.specs.Asked.{Asked, IsPlain, asked, asked_by, check, show, convert, compare, usual, input_once, is_input, number_in}
 
 plain_octet : (x : ℕ) → x ≢ 45 → (x == 45) ≡ false
 plain_octet x plain = ne_eqb _ _ plain
@@ -130,14 +130,14 @@ unfolding clap_on_literals
 show_plain name plain = in_show (name ∷ []) ∙ plain_step (codes "show") (command_of (codes "show")) nothing_held idle 1 name [] plain
 
 -- `convert`, a plain name and `--to text` ask to convert that document to text
-pub to_text_plain : (name : Text) → IsPlain name → asked (codes "convert" ∷ name ∷ codes "--to" ∷ codes "text" ∷ []) ≡ Some (usual (convert name target.Text))
+pub to_text_plain : (name : Text) → IsPlain name → asked (codes "convert" ∷ name ∷ codes "--to" ∷ codes "text" ∷ []) ≡ Some (usual (convert name Target.Text))
 unfolding clap_on_literals
 to_text_plain name plain = in_convert (name ∷ codes "--to" ∷ codes "text" ∷ [])
     ∙ plain_step (codes "convert") (command_of (codes "convert")) nothing_held idle 1 name (codes "--to" ∷ codes "text" ∷ []) plain
 
 -- `convert`, a plain name and `--to binary` ask to convert that document to binary
 pub to_binary_plain : (name : Text) → IsPlain name → asked (codes "convert" ∷ name ∷ codes "--to" ∷ codes "binary" ∷ [])
-    ≡ Some (usual (convert name target.Binary))
+    ≡ Some (usual (convert name Target.Binary))
 unfolding clap_on_literals
 to_binary_plain name plain = in_convert (name ∷ codes "--to" ∷ codes "binary" ∷ [])
     ∙ plain_step (codes "convert") (command_of (codes "convert")) nothing_held idle 1 name (codes "--to" ∷ codes "binary" ∷ []) plain

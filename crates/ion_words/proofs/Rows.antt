@@ -2,8 +2,8 @@
 use Rattle.std.proofs.Common.{◌≡◌, [], Some, None, codes, refl}
 use Rattle.std.specs.Prelude.{◌^◌}
 use Rattle.clap.proofs.OnLiterals.{clap_on_literals}
-use Rattle.ion_symtab.specs.declared.target.Target.TheVariants as target
-use Rattle.ion_words.specs.Asked.{asked, check, show, convert, compare, usual}
+use Rattle.ion_symtab.specs.declared.target.Target.{Target}
+use Rattle.ion_words.specs.Asked.{asked, check, compare, convert, show, usual}
 use Rattle.ion_words.specs.Lines.{words_in}
 
 -- no words at all ask to show the standard input
@@ -21,12 +21,12 @@ unfolding clap_on_literals
 show_row = refl
 
 -- `convert --to binary a` asks to convert `a` to binary: the target may stand before the name
-pub target_before : asked (words_in (codes "convert --to binary a")) ≡ Some (usual (convert (codes "a") target.Binary))
+pub target_before : asked (words_in (codes "convert --to binary a")) ≡ Some (usual (convert (codes "a") Target.Binary))
 unfolding clap_on_literals
 target_before = refl
 
 -- `convert a --to=text` asks to convert `a` to text: the target may stand behind the name
-pub target_behind : asked (words_in (codes "convert a --to=text")) ≡ Some (usual (convert (codes "a") target.Text))
+pub target_behind : asked (words_in (codes "convert a --to=text")) ≡ Some (usual (convert (codes "a") Target.Text))
 unfolding clap_on_literals
 target_behind = refl
 

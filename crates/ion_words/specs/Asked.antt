@@ -8,11 +8,9 @@ use Rattle.clap.specs.ValueTests.{is_unsigned_in}
 use Rattle.clap.specs.Words.{Row, Text, fault_of, first_of, one_of, subcommand_of}
 use Rattle.ion_symtab.specs.declared.limits.Limits.{Limits}
 use Rattle.ion_symtab.specs.declared.target.Target.{Target}
-use Rattle.ion_symtab.specs.declared.target.Target.TheVariants as target
-use Rattle.ion_words.specs.declared.request.Task.{Task}
-use Rattle.ion_words.specs.declared.request.Task.TheVariants as task
-use Rattle.ion_words.specs.declared.request.Request.{Request}
 use Rattle.ion_words.specs.Program.{program}
+use Rattle.ion_words.specs.declared.request.Request.{Request}
+use Rattle.ion_words.specs.declared.request.Task.{Task}
 
 -- what is to be done, with the names of the documents
 pub data Job : Type 0 where
@@ -34,8 +32,8 @@ usual job = record { job = job; catalog = None; depth = 64; item = 2 ^ 24 }
 
 -- the encoding that a target names: `text` or `binary`
 abbrev pub target_named : Text → Option Target
-target_named name = if bytes_eq name (codes "text") then Some target.Text
-    else if bytes_eq name (codes "binary") then Some target.Binary
+target_named name = if bytes_eq name (codes "text") then Some Target.Text
+    else if bytes_eq name (codes "binary") then Some Target.Binary
     else None
 
 -- the job of the command of this name, by what was found for it
@@ -114,10 +112,10 @@ up_to most = option_and_then (λ n. if nat_le 1 n && nat_le n most then Some n e
 
 -- what a task asks to be done, without the places that its names stand in
 abbrev pub job : Task → Job
-job (task.Check file) = check file.now
-job (task.Show file) = show file.now
-job (task.Convert file to) = convert file.now to
-job (task.Compare left right) = compare left.now right.now
+job (Task.Check file) = check file.now
+job (Task.Show file) = show file.now
+job (Task.Convert file to) = convert file.now to
+job (Task.Compare left right) = compare left.now right.now
 
 -- the depth, and the octets of an item
 abbrev pub limits_told : Limits → ℕ × ℕ

@@ -7,14 +7,13 @@ use Rattle.std.specs.Ordering.{ordering_then, is_eq, nat_cmp, int_cmp, int_eq, b
 use Rattle.std.proofs.lemmas.Bool.{eqb-true}
 use Rattle.std.proofs.lemmas.Bool.Decides.{nat_tests}
 use Rattle.std.proofs.lemmas.Cmp.{tied_itself}
+use Rattle.ion_atoms.specs.Decimals.{DecimalParts, decimal_cmp, decimal_same}
+use Rattle.ion_atoms.specs.Timestamps.{TimestampParts, date_cmp, local_same, precision_rank, time_cmp, timestamp_cmp, timestamp_same}
 use Rattle.ion_atoms.specs.declared.timestamp.Local.{Local}
 use Rattle.ion_atoms.specs.declared.timestamp.Precision.{Precision}
-use Rattle.ion_atoms.specs.declared.timestamp.Precision.TheVariants as precisions
-use Rattle.ion_atoms.specs.Decimals.{DecimalParts, decimal_same, decimal_cmp}
-use Rattle.ion_atoms.specs.Timestamps.{TimestampParts, precision_rank, local_same, timestamp_same, date_cmp, time_cmp, timestamp_cmp}
-use Rattle.ion_atoms.specs.laws.Tests.{first, second, same_bool}
 use Rattle.ion_atoms.specs.laws.Equivalence.{timestamp_same-equiv}
 use Rattle.ion_atoms.specs.laws.OrderTotal.{timestamp_cmp-total}
+use Rattle.ion_atoms.specs.laws.Tests.{first, same_bool, second}
 
 -- a chain of two ties where both do
 pub then_tie : (a b : Ordering) → a ≡ Equal → b ≡ Equal → ordering_then a b ≡ Equal
@@ -81,21 +80,21 @@ offset_is (Some y) (Some z) h = ap Some (int_is y z h)
 
 -- the precision of a rank
 precision_at : ℕ → Precision
-precision_at zero = precisions.Year
-precision_at (suc zero) = precisions.Month
-precision_at (suc (suc zero)) = precisions.Day
-precision_at (suc (suc (suc zero))) = precisions.Minute
-precision_at (suc (suc (suc (suc zero)))) = precisions.Second
-precision_at (suc (suc (suc (suc (suc digits))))) = precisions.Fraction digits
+precision_at zero = Precision.Year
+precision_at (suc zero) = Precision.Month
+precision_at (suc (suc zero)) = Precision.Day
+precision_at (suc (suc (suc zero))) = Precision.Minute
+precision_at (suc (suc (suc (suc zero)))) = Precision.Second
+precision_at (suc (suc (suc (suc (suc digits))))) = Precision.Fraction digits
 
 precision_at-rank : (p : Precision) → precision_at (precision_rank p) ≡ p
 unfolding precision_at
-precision_at-rank precisions.Year = refl
-precision_at-rank precisions.Month = refl
-precision_at-rank precisions.Day = refl
-precision_at-rank precisions.Minute = refl
-precision_at-rank precisions.Second = refl
-precision_at-rank (precisions.Fraction digits) = let e : 5 + digits ≡ suc (suc (suc (suc (suc digits)))) = omega arith in ap precision_at e
+precision_at-rank Precision.Year = refl
+precision_at-rank Precision.Month = refl
+precision_at-rank Precision.Day = refl
+precision_at-rank Precision.Minute = refl
+precision_at-rank Precision.Second = refl
+precision_at-rank (Precision.Fraction digits) = let e : 5 + digits ≡ suc (suc (suc (suc (suc digits)))) = omega arith in ap precision_at e
 
 precision_from : (p q : Precision) → precision_rank p ≡ precision_rank q → p ≡ q
 precision_from p q h = sym (precision_at-rank p) ∙ ap precision_at h ∙ precision_at-rank q

@@ -1,14 +1,8 @@
 -- Octets that a body or a pad goes on with, taken up at once.
 use Rattle.std.proofs.Common.{◌≡◌, ℕ, zero, suc, ◌+◌, ◌-◌, ◌≤◌, List, [], ◌∷◌, ◌++◌, length, ap, sym, ◌∙◌, arith, append_assoc, append-nil, ne_eqb}
 use Rattle.std.proofs.lemmas.Bool.{cond-false}
-use Rattle.ion_symtab.specs.declared.limits.Limits.{Limits}
-use Rattle.ion_symtab.specs.declared.catalog.Catalog.{Catalog}
-use Rattle.ion_binary.specs.declared.form.Scalar.{Scalar}
-use Rattle.ion_binary.specs.machine.Frames.{Frame}
-use Rattle.ion_binary.specs.declared.state.Phase.TheVariants.{InPad}
-use Rattle.ion_binary.specs.machine.EachOctet.{Spot, Outcome, under, moved, at, in_body, on_body, on_pad}
-use Rattle.ion_binary.specs.machine.Run.{run, run_on}
-use Rattle.ion_binary.specs.machine.Pieces.{led}
+use Rattle.ion_binary.specs.Names.{Catalog, Frame, InPad, Limits, Outcome, Scalar, Spot, at, in_body, led, on_body, on_pad, run, run_on, under}
+use Rattle.ion_binary.specs.machine.EachOctet.{moved}
 
 module _ (g : Catalog) (l : Limits) where
   -- an octet that doesn't end the body

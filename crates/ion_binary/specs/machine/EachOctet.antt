@@ -1,34 +1,12 @@
 -- The reader as a machine: what each octet does. `used` counts the octets so far, this one with them.
 use Rattle.std.specs.Prelude.{ℕ, suc, ◌+◌, ◌-◌, ◌*◌, ◌^◌, Bool, true, ◌&&◌, ◌||◌, List, [], ◌∷◌, ◌++◌, ◌==◌, nat_lt, nat_le, if◌then◌else◌, Result, Ok, Err, Option, Some, None}
-use Rattle.ion_model.specs.declared.value.Value.{Value}
-use Rattle.ion_model.specs.declared.value.Payload.{Payload}
+use Rattle.ion_binary.specs.Names.Below.{Catalog, Depth, First, Follows, Form, Fourth, InBody, InMarker, InNumber, InPad, ItemTooLong, Known, Limits, Malformed, Mark, Marker, Null, Opening, Payload, Phase, Purpose, Ready, Reason, Refused, Scalar, Second, Sized, Slot, Third, TooLarge, Truth, Value, Version, annotated, bare, field_of, is_table, next, resolve, system_slots}
 use Rattle.ion_model.specs.declared.value.Payload.TheVariants as payloads
-use Rattle.ion_atoms.specs.declared.refusal.Reason.{Reason}
-use Rattle.ion_atoms.specs.declared.refusal.Reason.TheVariants.{TooLarge, Malformed, Version, Depth, ItemTooLong}
-use Rattle.ion_model.specs.Measures.{bare, annotated, field_of}
-use Rattle.ion_model.specs.Kinds.{is_table}
-use Rattle.ion_scalar.specs.declared.descriptor.Size.TheVariants.{Known, Follows}
-use Rattle.ion_symtab.specs.declared.limits.Limits.{Limits}
-use Rattle.ion_symtab.specs.declared.catalog.Catalog.{Catalog}
-use Rattle.ion_symtab.specs.Slots.{Slot, system_slots, resolve}
-use Rattle.ion_symtab.specs.Next.{next}
-use Rattle.ion_binary.specs.declared.form.Scalar.{Scalar}
-use Rattle.ion_binary.specs.declared.form.Scalar.TheVariants as scalars
-use Rattle.ion_binary.specs.declared.form.Form.{Form}
-use Rattle.ion_binary.specs.declared.form.Form.TheVariants as forms
-use Rattle.ion_binary.specs.declared.form.Opening.{Opening}
-use Rattle.ion_binary.specs.declared.form.Opening.TheVariants.{Refused, Marker, Null, Truth, Sized}
-use Rattle.ion_binary.specs.machine.Frames.{Frame}
-use Rattle.ion_binary.specs.machine.Frames as frames
-use Rattle.ion_binary.specs.declared.state.Mark.{Mark}
-use Rattle.ion_binary.specs.declared.state.Mark.TheVariants.{First, Second, Third, Fourth}
-use Rattle.ion_binary.specs.declared.state.Purpose.{Purpose}
-use Rattle.ion_binary.specs.declared.state.Purpose.TheVariants as purposes
-use Rattle.ion_binary.specs.declared.state.Phase.{Phase}
-use Rattle.ion_binary.specs.declared.state.Phase.TheVariants.{InMarker, Ready, InNumber, InBody, InPad}
-use Rattle.ion_binary.specs.Opening.{opening_of, is_pad, is_wrapper}
 use Rattle.ion_binary.specs.Grammar.{listed}
 use Rattle.ion_binary.specs.Judge.{judge}
+use Rattle.ion_binary.specs.Opening.{is_pad, is_wrapper, opening_of}
+use Rattle.ion_binary.specs.machine.Frames.{Frame}
+use Rattle.ion_binary.specs.machine.Frames as frames
 
 -- what stays: the shared tables that a document may import, and how much may come
 pub record Setting : Type 0 where
@@ -114,7 +92,7 @@ deliver setting spot (frames.Items end x vs ∷ fs) v =
 deliver setting spot (frames.Fields end ms ∷ fs) v = refuses Malformed
 deliver setting spot (frames.Named end ms (Ok s) ∷ fs) v =
     if spot.used == end then deliver setting spot fs (bare (payloads.Fields (ms ++ field_of s v ∷ [])))
-    else goes (at spot (frames.Fields end (ms ++ field_of s v ∷ []) ∷ fs) (InNumber purposes.FieldName 0))
+    else goes (at spot (frames.Fields end (ms ++ field_of s v ∷ []) ∷ fs) (InNumber Purpose.FieldName 0))
 deliver setting spot (frames.Named end ms (Err e) ∷ fs) v = refuses e
 deliver setting spot (frames.Annotated end ss ∷ fs) v = deliver setting spot fs (annotated ss v.payload)
 
@@ -126,10 +104,10 @@ proceed setting spot (frames.Items end x vs ∷ fs) =
     else goes (at spot (frames.Items end x vs ∷ fs) Ready)
 proceed setting spot (frames.Fields end ms ∷ fs) =
     if spot.used == end then deliver setting spot fs (bare (payloads.Fields ms))
-    else goes (at spot (frames.Fields end ms ∷ fs) (InNumber purposes.FieldName 0))
+    else goes (at spot (frames.Fields end ms ∷ fs) (InNumber Purpose.FieldName 0))
 proceed setting spot (frames.Named end ms name ∷ fs) =
     if spot.used == end then deliver setting spot fs (bare (payloads.Fields ms))
-    else goes (at spot (frames.Fields end ms ∷ fs) (InNumber purposes.FieldName 0))
+    else goes (at spot (frames.Fields end ms ∷ fs) (InNumber Purpose.FieldName 0))
 proceed setting spot (frames.Annotated end ss ∷ fs) = refuses Malformed
 
 -- a refusal, if there is a reason, or else what comes
@@ -176,10 +154,10 @@ outside (f ∷ fs) used = if nat_lt used (end_of f) then None else Some Malforme
 
 -- why a VarUInt may not go on behind `used` octets
 abbrev pub past : ℕ → ℕ → List Frame → Purpose → ℕ → Option Reason
-past item start fs (purposes.Length form) used = unending item start fs form used
-past item start fs purposes.FieldName used = outside fs used
-past item start fs purposes.AnnotationsLength used = outside fs used
-past item start fs (purposes.Annotation stop) used = if nat_lt used stop then None else Some Malformed
+past item start fs (Purpose.Length form) used = unending item start fs form used
+past item start fs Purpose.FieldName used = outside fs used
+past item start fs Purpose.AnnotationsLength used = outside fs used
+past item start fs (Purpose.Annotation stop) used = if nat_lt used stop then None else Some Malformed
 
 -- why a form whose body ends at `to` may not stand here
 abbrev pub unfit : ℕ → ℕ → List Frame → Form → ℕ → Option Reason
@@ -201,26 +179,26 @@ open_struct setting spot fs n =
 
 -- a header has ended, and n octets of body follow, which the form may have
 abbrev pub begin : Setting → Spot → List Frame → Form → ℕ → Outcome
-begin setting spot fs forms.Pad n = if n == 0 then proceed setting spot fs else goes (at spot fs (InPad (n - 1)))
-begin setting spot fs (forms.Scalar t) n =
+begin setting spot fs Form.Pad n = if n == 0 then proceed setting spot fs else goes (at spot fs (InPad (n - 1)))
+begin setting spot fs (Form.Scalar t) n =
     if n == 0 then judged setting spot fs (judge spot.context t []) else goes (in_body spot fs t (n - 1) [])
-begin setting spot fs (forms.Listing x) n =
+begin setting spot fs (Form.Listing x) n =
     deeper setting.limits.depth fs (proceed setting spot (frames.Items (spot.used + n) x [] ∷ fs))
-begin setting spot fs forms.Struct n = open_struct setting spot fs n
-begin setting spot fs forms.OrderedStruct n = open_struct setting spot fs n
-begin setting spot fs forms.Wrapper n =
-    goes (at spot (frames.Annotated (spot.used + n) [] ∷ fs) (InNumber purposes.AnnotationsLength 0))
+begin setting spot fs Form.Struct n = open_struct setting spot fs n
+begin setting spot fs Form.OrderedStruct n = open_struct setting spot fs n
+begin setting spot fs Form.Wrapper n =
+    goes (at spot (frames.Annotated (spot.used + n) [] ∷ fs) (InNumber Purpose.AnnotationsLength 0))
 
 -- why a form has no body of so many octets: a negative int, a timestamp, a struct that announces the order of its fields, and a wrapper have some
 abbrev pub hollow : Form → ℕ → Option Reason
-hollow (forms.Scalar scalars.NegativeInt) n = if n == 0 then Some Malformed else None
-hollow (forms.Scalar scalars.Timestamp) n = if n == 0 then Some Malformed else None
-hollow (forms.Scalar _) n = None
-hollow forms.OrderedStruct n = if n == 0 then Some Malformed else None
-hollow forms.Wrapper n = if n == 0 then Some Malformed else None
-hollow forms.Pad n = None
-hollow (forms.Listing x) n = None
-hollow forms.Struct n = None
+hollow (Form.Scalar Scalar.NegativeInt) n = if n == 0 then Some Malformed else None
+hollow (Form.Scalar Scalar.Timestamp) n = if n == 0 then Some Malformed else None
+hollow (Form.Scalar _) n = None
+hollow Form.OrderedStruct n = if n == 0 then Some Malformed else None
+hollow Form.Wrapper n = if n == 0 then Some Malformed else None
+hollow Form.Pad n = None
+hollow (Form.Listing x) n = None
+hollow Form.Struct n = None
 
 -- the same, if the body fits
 abbrev pub sized : Setting → Spot → List Frame → Form → ℕ → Outcome
@@ -237,7 +215,7 @@ abbrev pub unsized : Setting → Spot → List Frame → Form → Outcome
 unsized setting spot fs form =
     unless (stray fs form)
     (unless (unending setting.limits.item spot.start fs form spot.used)
-    (unless (nameless fs form) (goes (at spot fs (InNumber (purposes.Length form) 0)))))
+    (unless (nameless fs form) (goes (at spot fs (InNumber (Purpose.Length form) 0)))))
 
 -- a version marker begins, at the top level alone
 abbrev pub marks : Spot → List Frame → Outcome
@@ -247,7 +225,7 @@ marks spot (f ∷ fs) = refuses Malformed
 -- a value of one octet, to which the rules of any form that is no pad and no wrapper apply
 abbrev pub one_octet : Setting → Spot → List Frame → Payload → Outcome
 one_octet setting spot fs p =
-    unless (unfit setting.limits.item spot.start fs forms.Struct spot.used) (deliver setting spot fs (bare p))
+    unless (unfit setting.limits.item spot.start fs Form.Struct spot.used) (deliver setting spot fs (bare p))
 
 -- an octet where a descriptor comes
 abbrev pub on_descriptor : Setting → Spot → List Frame → Opening → Outcome
@@ -270,7 +248,7 @@ abbrev pub count_came : Spot → List Frame → ℕ → Outcome
 count_came spot (frames.Annotated end ss ∷ fs) n =
     if n == 0 then refuses Malformed
     else if nat_lt (spot.used + n) end
-    then goes (at spot (frames.Annotated end ss ∷ fs) (InNumber (purposes.Annotation (spot.used + n)) 0))
+    then goes (at spot (frames.Annotated end ss ∷ fs) (InNumber (Purpose.Annotation (spot.used + n)) 0))
     else refuses Malformed
 count_came spot _ n = refuses Malformed
 
@@ -278,16 +256,16 @@ count_came spot _ n = refuses Malformed
 abbrev pub annotation_came : Spot → List Frame → ℕ → Result (Option (List ℕ)) Reason → Outcome
 annotation_came spot (frames.Annotated end ss ∷ fs) stop (Ok s) =
     goes (at spot (frames.Annotated end (ss ++ s ∷ []) ∷ fs)
-    (if spot.used == stop then Ready else InNumber (purposes.Annotation stop) 0))
+    (if spot.used == stop then Ready else InNumber (Purpose.Annotation stop) 0))
 annotation_came spot (frames.Annotated end ss ∷ fs) stop (Err e) = refuses e
 annotation_came spot _ stop r = refuses Malformed
 
 -- a VarUInt has ended
 abbrev pub number_came : Setting → Spot → List Frame → Purpose → ℕ → Outcome
-number_came setting spot fs (purposes.Length form) n = sized setting spot fs form n
-number_came setting spot fs purposes.FieldName n = name_came spot fs n
-number_came setting spot fs purposes.AnnotationsLength n = count_came spot fs n
-number_came setting spot fs (purposes.Annotation stop) n = annotation_came spot fs stop (resolve spot.context n)
+number_came setting spot fs (Purpose.Length form) n = sized setting spot fs form n
+number_came setting spot fs Purpose.FieldName n = name_came spot fs n
+number_came setting spot fs Purpose.AnnotationsLength n = count_came spot fs n
+number_came setting spot fs (Purpose.Annotation stop) n = annotation_came spot fs stop (resolve spot.context n)
 
 -- an octet of a VarUInt whose octets before it make a
 abbrev pub on_number : Setting → Spot → List Frame → Purpose → ℕ → ℕ → Outcome

@@ -1,9 +1,6 @@
 -- The containers that the machine holds open: the octet at which one ends, and what has come of it.
 use Rattle.std.specs.Prelude.{ℕ, List, Option, Result}
-use Rattle.ion_atoms.specs.declared.refusal.Reason.{Reason}
-use Rattle.ion_model.specs.declared.value.Field.{Field}
-use Rattle.ion_model.specs.declared.value.Value.{Value}
-use Rattle.ion_binary.specs.declared.form.Listing.{Listing}
+use Rattle.ion_binary.specs.Names.Below.{Field, Listing, Reason, Value}
 
 pub data Frame : Type 0 where
   -- the items of a list or an s-expression

@@ -1,10 +1,7 @@
 -- Runs in pieces.
 use Rattle.std.proofs.Common.{◌≡◌, ℕ, ◌+◌, List, [], ◌∷◌, ◌++◌, length, Result, Ok, Err, refl, ap, ◌∙◌, arith, length-append}
-use Rattle.ion_model.specs.declared.value.Value.{Value}
-use Rattle.ion_atoms.specs.declared.refusal.Refusal.{Refusal}
-use Rattle.ion_symtab.specs.declared.limits.Limits.{Limits}
-use Rattle.ion_symtab.specs.declared.catalog.Catalog.{Catalog}
-use Rattle.ion_binary.specs.machine.EachOctet.{Machine, Outcome, goes, gives, refuses, under, feed}
+use Rattle.ion_binary.specs.Names.Below.{Catalog, Limits, Refusal, Value}
+use Rattle.ion_binary.specs.machine.EachOctet.{Machine, Outcome, feed, gives, goes, refuses, under}
 use Rattle.ion_binary.specs.machine.Run.{Run, run, run_on, with_value}
 
 -- behind the values given, the rest of the run, unless it was refused

@@ -1,15 +1,8 @@
 -- Whole runs of the machine.
 use Rattle.std.specs.Prelude.{ℕ, ◌+◌, List, [], ◌∷◌, Option, Some, None, Result, Ok, Err, Bool, true, false, if◌then◌else◌}
-use Rattle.ion_model.specs.declared.value.Value.{Value}
-use Rattle.ion_atoms.specs.declared.refusal.Refusal.{Refusal}
-use Rattle.ion_atoms.specs.declared.refusal.Reason.TheVariants.{Incomplete}
-use Rattle.ion_symtab.specs.declared.limits.Limits.{Limits}
-use Rattle.ion_symtab.specs.declared.catalog.Catalog.{Catalog}
-use Rattle.ion_symtab.specs.Trace.{Trace}
+use Rattle.ion_binary.specs.Names.Below.{Catalog, Incomplete, Limits, Phase, Ready, Refusal, Trace, Value}
+use Rattle.ion_binary.specs.machine.EachOctet.{Machine, Outcome, feed, gives, goes, initial, refuses, under}
 use Rattle.ion_binary.specs.machine.Frames.{Frame}
-use Rattle.ion_binary.specs.declared.state.Phase.{Phase}
-use Rattle.ion_binary.specs.declared.state.Phase.TheVariants.{Ready}
-use Rattle.ion_binary.specs.machine.EachOctet.{Machine, Outcome, goes, gives, refuses, under, feed, initial}
 
 -- the values with the octets up to where each came, and the machine or the refusal at which the octets end
 pub record Run : Type 0 where

@@ -1,14 +1,8 @@
 -- The visitor that writes values as binary values as it is told them.
 use Rattle.std.specs.Prelude.{◌≡◌, if◌then◌else◌, ◌+◌, ℕ, Bool, true, false, List, [], ◌∷◌, ◌++◌, length, take, drop, Option}
-use Rattle.ion_model.specs.declared.value.Value.{Value}
-use Rattle.ion_model.specs.declared.value.Payload.{Payload}
-use Rattle.ion_model.specs.declared.value.Payload.TheViews.{out-Payload}
-use Rattle.ion_scalar.specs.binary.Spellings.{var_uint_octets}
-use Rattle.ion_visiting.specs.Events.{Event, part, annotation, name, opens, closes, ended}
-use Rattle.ion_visiting.specs.KeptEvents.{KeptEvent}
+use Rattle.ion_binary.specs.Names.{Event, KeptEvent, Names, Payload, Progress, Value, annotation, closes, code_in, ended, framed, id_of, layer_octets, layer_symbols, name, names_after, opening, out-Payload, part, system_names, table_from, value_octets, var_uint_octets, with_count, with_name, with_names}
+use Rattle.ion_visiting.specs.Events.{opens}
 use Rattle.ion_binary.specs.declared.binary_out.Frame.{Frame}
-use Rattle.ion_binary.specs.Output.{Names, Progress, system_names, id_of, with_name, with_names, framed, with_count, layer_octets, layer_symbols, value_octets, names_after, opening, table_from}
-use Rattle.ion_binary.specs.visiting.Brackets.{code_in}
 
 -- what is written so far: the octets of the values that ended, with the tables before them; the symbols that have ids, how many of them have
 -- them there, and whether the marker stands there; what came of the value that is open; where octets stand in place of a descriptor, the

@@ -2,34 +2,13 @@
 -- was told.
 use Rattle.std.specs.Prelude.{◌≡◌, ◌≢◌, ◌≤◌, ℕ, List, [], ◌∷◌, ◌++◌, map, reverse, Option, Some, None, Result, Ok, Err, Bool, true, false, ◌==◌, if◌then◌else◌}
 use Rattle.std.specs.List.{flat_map}
-use Rattle.ion_model.specs.declared.value.Value.{Value}
-use Rattle.ion_model.specs.declared.value.Field.{Field}
-use Rattle.ion_model.specs.declared.value.Payload.{Payload}
-use Rattle.ion_model.specs.declared.value.Payload.TheViews.{out-Payload}
-use Rattle.ion_atoms.specs.declared.refusal.Reason.{Reason}
-use Rattle.ion_atoms.specs.declared.refusal.Reason.TheVariants.{Memory}
-use Rattle.ion_symtab.specs.Slots.{resolve}
-use Rattle.ion_visiting.specs.declared.bracket.Bracket.TheVariants as brackets
-use Rattle.ion_visiting.specs.Events.{Event, part, layer_events, annotation, name, opens, events_of, field_events}
-use Rattle.ion_binary.specs.declared.form.Scalar.{Scalar}
-use Rattle.ion_binary.specs.declared.form.Scalar.TheVariants as scalars
-use Rattle.ion_binary.specs.declared.form.Form.{Form}
-use Rattle.ion_binary.specs.declared.form.Form.TheVariants as forms
+use Rattle.ion_binary.specs.Names.Below.{BinaryWalk, Bracket, Container, Effect, Event, Field, Form, Gives, Goes, Hears, InBody, InMarker, InNumber, InPad, Memory, Payload, Phase, Purpose, Ready, Reason, Scalar, TableFilter, Tells, Value, WasTold, annotation, events_of, field_events, heard, layer_events, name, out-Payload, part, resolve}
+use Rattle.ion_visiting.specs.Events.{opens}
+use Rattle.ion_binary.specs.machine.EachOctet.{Machine, Outcome, Setting, Spot, deliver, gives, goes, refuses, spot_at, under}
 use Rattle.ion_binary.specs.machine.Frames.{Frame}
 use Rattle.ion_binary.specs.machine.Frames as frames
-use Rattle.ion_binary.specs.declared.state.Purpose.TheVariants as purposes
-use Rattle.ion_binary.specs.declared.state.Phase.{Phase}
-use Rattle.ion_binary.specs.declared.state.Phase.TheVariants.{InMarker, Ready, InNumber, InBody, InPad}
-use Rattle.ion_binary.specs.declared.state.Effect.{Effect}
-use Rattle.ion_binary.specs.declared.state.Effect.TheVariants.{Goes, Gives}
-use Rattle.ion_binary.specs.declared.walking.BinaryWalk.{BinaryWalk}
-use Rattle.ion_visiting.specs.declared.table_filter.TableFilter.{TableFilter}
-use Rattle.ion_binary.specs.declared.walking.Container.{Container}
-use Rattle.ion_binary.specs.declared.walking.Container.TheVariants as containers
-use Rattle.ion_binary.specs.visiting.Brackets.{bracket_of}
-use Rattle.ion_binary.specs.machine.EachOctet.{Setting, Spot, under, spot_at, Machine, Outcome, goes, gives, refuses, deliver}
 use Rattle.ion_binary.specs.machine.Views.{body_so_far}
-use Rattle.ion_visiting.specs.Tables.{WasTold, Hears, Tells, heard}
+use Rattle.ion_binary.specs.visiting.Brackets.{bracket_of}
 
 -- what a field's id stands for, or why it is none
 abbrev pub Name : Type 0
@@ -39,20 +18,20 @@ Name = Result (Option (List ℕ)) Reason
 
 -- what is kept of one
 abbrev pub container_of : Frame → Container
-container_of (frames.Items end x vs) = containers.Items end x
-container_of (frames.Fields end ms) = containers.Fields end
-container_of (frames.Named end ms n) = containers.Named end
-container_of (frames.Annotated end ss) = containers.Annotated end
+container_of (frames.Items end x vs) = Container.Items end x
+container_of (frames.Fields end ms) = Container.Fields end
+container_of (frames.Named end ms n) = Container.Named end
+container_of (frames.Annotated end ss) = Container.Annotated end
 
 abbrev pub containers_of : List Frame → List Container
 containers_of fs = map container_of fs
 
 -- one with nothing in it; in a struct a field of this name comes next
 abbrev pub shell : Name → Container → Frame
-shell n (containers.Items end x) = frames.Items end x []
-shell n (containers.Fields end) = frames.Fields end []
-shell n (containers.Named end) = frames.Named end [] n
-shell n (containers.Annotated end) = frames.Annotated end []
+shell n (Container.Items end x) = frames.Items end x []
+shell n (Container.Fields end) = frames.Fields end []
+shell n (Container.Named end) = frames.Named end [] n
+shell n (Container.Annotated end) = frames.Annotated end []
 
 -- the innermost is no wrapper
 abbrev pub HoldsNoWrapper : List Frame → Type 0
@@ -102,12 +81,12 @@ IsInside (InPad missing) fs = Unit {0}
 
 -- a value of this form, or a pad, may begin in them
 abbrev pub MayBegin : Form → List Frame → Type 0
-MayBegin forms.Pad fs = Unit {0}
-MayBegin (forms.Scalar t) fs = AreAround fs
-MayBegin (forms.Listing x) fs = AreAround fs
-MayBegin forms.Struct fs = AreAround fs
-MayBegin forms.OrderedStruct fs = AreAround fs
-MayBegin forms.Wrapper fs = HoldsNoWrapper fs × AreAround fs
+MayBegin Form.Pad fs = Unit {0}
+MayBegin (Form.Scalar t) fs = AreAround fs
+MayBegin (Form.Listing x) fs = AreAround fs
+MayBegin Form.Struct fs = AreAround fs
+MayBegin Form.OrderedStruct fs = AreAround fs
+MayBegin Form.Wrapper fs = HoldsNoWrapper fs × AreAround fs
 
 -- a payload with no value in it
 abbrev pub IsPart : Payload → Type 0
@@ -119,14 +98,14 @@ TellsAs takes judged f g a b = (p : Payload) × (judged ≡ Ok p) × IsPart p ×
 
 -- such a scalar is a number
 abbrev pub IsNumber : Scalar → Type 0
-IsNumber scalars.Int = Unit {0}
-IsNumber scalars.NegativeInt = Unit {0}
-IsNumber scalars.Decimal = Unit {0}
-IsNumber scalars.Timestamp = Unit {0}
-IsNumber scalars.Symbol = ⊥
-IsNumber scalars.Str = ⊥
-IsNumber scalars.Clob = ⊥
-IsNumber scalars.Blob = ⊥
+IsNumber Scalar.Int = Unit {0}
+IsNumber Scalar.NegativeInt = Unit {0}
+IsNumber Scalar.Decimal = Unit {0}
+IsNumber Scalar.Timestamp = Unit {0}
+IsNumber Scalar.Symbol = ⊥
+IsNumber Scalar.Str = ⊥
+IsNumber Scalar.Clob = ⊥
+IsNumber Scalar.Blob = ⊥
 
 -- 2. What was told.
 
@@ -134,8 +113,8 @@ IsNumber scalars.Blob = ⊥
 abbrev pub told_in : List Frame → List Event
 told_in [] = []
 told_in (frames.Items end x vs ∷ fs) = told_in fs ++ opens (bracket_of x) ∷ flat_map events_of vs
-told_in (frames.Fields end ms ∷ fs) = told_in fs ++ opens brackets.Fields ∷ flat_map field_events ms
-told_in (frames.Named end ms (Ok s) ∷ fs) = told_in fs ++ opens brackets.Fields ∷ (flat_map field_events ms ++ name s ∷ [])
+told_in (frames.Fields end ms ∷ fs) = told_in fs ++ opens Bracket.Fields ∷ flat_map field_events ms
+told_in (frames.Named end ms (Ok s) ∷ fs) = told_in fs ++ opens Bracket.Fields ∷ (flat_map field_events ms ++ name s ∷ [])
 told_in (frames.Named end ms (Err e) ∷ fs) = []
 told_in (frames.Annotated end ss ∷ fs) = told_in fs ++ map annotation ss
 
@@ -165,37 +144,37 @@ shells r = map (shell (name_of r)) (open_containers r)
 
 -- a struct whose next field has a name
 abbrev pub is_named : List Container → Bool
-is_named (containers.Named end ∷ cs) = true
+is_named (Container.Named end ∷ cs) = true
 is_named _ = false
 
 -- a struct where a name comes next: the octet at which it ends
 abbrev pub fields_end : List Container → Option ℕ
-fields_end (containers.Fields end ∷ cs) = Some end
+fields_end (Container.Fields end ∷ cs) = Some end
 fields_end _ = None
 
 -- a struct where a name comes next, with so many octets of the document in it
 abbrev pub IsWithin : List Container → ℕ → Type 0
-IsWithin (containers.Fields end ∷ cs) to = to ≤ end
+IsWithin (Container.Fields end ∷ cs) to = to ≤ end
 IsWithin _ to = ⊥
 
 -- a list or an s-expression: the octet at which it ends
 abbrev pub items_end : List Container → Option ℕ
-items_end (containers.Items end x ∷ cs) = Some end
+items_end (Container.Items end x ∷ cs) = Some end
 items_end _ = None
 
 -- a struct where the value of a field comes next: the octet at which it ends
 abbrev pub named_end : List Container → Option ℕ
-named_end (containers.Named end ∷ cs) = Some end
+named_end (Container.Named end ∷ cs) = Some end
 named_end _ = None
 
 -- a wrapper: the octet at which it ends
 abbrev pub wrapper_end : List Container → Option ℕ
-wrapper_end (containers.Annotated end ∷ cs) = Some end
+wrapper_end (Container.Annotated end ∷ cs) = Some end
 wrapper_end _ = None
 
 -- what comes behind an annotation that ends behind `used` octets, where the annotations end at the octet `stop`: another one, or the value
 abbrev pub behind_annotation : ℕ → ℕ → Phase
-behind_annotation used stop = if used == stop then Ready else InNumber (purposes.Annotation stop) 0
+behind_annotation used stop = if used == stop then Ready else InNumber (Purpose.Annotation stop) 0
 
 -- A reader may stand for these containers: they are the open ones, and what there is to tell of them was told.
 pub record Holds (r : BinaryWalk) (fs : List Frame) : Type 0 where
@@ -221,9 +200,9 @@ pub record IsBehind (r : BinaryWalk) (fs : List Frame) (v : Value) : Type 0 wher
 
 -- the name of a field was told, while its struct waits for it
 pub record IsTelling (r : BinaryWalk) (end : ℕ) (ms : List Field) (s : Option (List ℕ)) (fs : List Frame) : Type 0 where
-  pub containers : open_containers r ≡ containers.Fields end ∷ containers_of fs
+  pub containers : open_containers r ≡ Container.Fields end ∷ containers_of fs
   pub around : AreAround fs
-  pub phase : r.phase ≡ InNumber purposes.FieldName 0
+  pub phase : r.phase ≡ InNumber Purpose.FieldName 0
   pub was_told : WasTold r.filter (told_in (frames.Named end ms (Ok s) ∷ fs))
 
 -- what stays of a reader

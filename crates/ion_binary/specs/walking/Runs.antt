@@ -1,26 +1,11 @@
 -- What a reader that holds no values did over octets: what a run of the machine does, for all containers that it may stand for.
 use Rattle.std.specs.Prelude.{◌≡◌, ◌≢◌, ◌<◌, ◌≤◌, ℕ, ◌+◌, ◌-◌, ◌^◌, List, [], ◌∷◌, length, take, drop, Bool, true, false, Option, None, Result, Ok, Err}
-use Rattle.ion_model.specs.declared.value.Value.{Value}
-use Rattle.ion_atoms.specs.declared.refusal.Reason.{Reason}
-use Rattle.ion_atoms.specs.declared.refusal.Reason.TheVariants.{Memory}
-use Rattle.ion_atoms.specs.declared.refusal.Refusal.{Refusal}
-use Rattle.ion_visiting.specs.Events.{Event}
-use Rattle.ion_visiting.specs.Tables.{heard}
-use Rattle.ion_symtab.specs.declared.items.Walked.{Walked}
-use Rattle.ion_binary.specs.machine.Frames.{Frame}
-use Rattle.ion_binary.specs.declared.state.Effect.{Effect}
-use Rattle.ion_binary.specs.declared.state.Effect.TheVariants.{Goes, Gives}
-use Rattle.ion_binary.specs.declared.walking.BinaryWalk.{BinaryWalk}
-use Rattle.ion_scalar.specs.binary.Fields.{VarUInt}
-use Rattle.ion_binary.specs.declared.form.Form.{Form}
-use Rattle.ion_binary.specs.declared.form.Form.TheVariants as forms
-use Rattle.ion_binary.specs.declared.form.Scalar.{Scalar}
-use Rattle.ion_binary.specs.declared.state.Phase.TheVariants.{InNumber, Ready}
-use Rattle.ion_binary.specs.declared.state.Purpose.TheVariants as purposes
+use Rattle.ion_binary.specs.Names.Below.{BinaryWalk, Effect, Event, Form, Gives, Goes, InNumber, Memory, Purpose, Ready, Reason, Refusal, Scalar, Value, VarUInt, Walked, heard}
 use Rattle.ion_binary.specs.Grammar.{Header}
 use Rattle.ion_binary.specs.machine.EachOctet.{hollow, initial, unfit}
-use Rattle.ion_binary.specs.machine.Run.{Run, run}
+use Rattle.ion_binary.specs.machine.Frames.{Frame}
 use Rattle.ion_binary.specs.machine.Pieces.{led}
+use Rattle.ion_binary.specs.machine.Run.{Run, run}
 use Rattle.ion_binary.specs.machine.Views.{body_so_far}
 use Rattle.ion_binary.specs.walking.Holds.{GaveOut, Holds, IsWithin, WentOn, machine_of, open_containers, shells, told}
 
@@ -48,7 +33,7 @@ pub record Opens (r : BinaryWalk) (piece : List ℕ) (form : Form) (front size :
 
 -- at the front of a piece lies the id of a field's name, of `size` octets, where one comes
 pub record HasName (r : BinaryWalk) (piece : List ℕ) (id size : ℕ) : Type 0 where
-  pub phase : r.phase ≡ InNumber purposes.FieldName 0
+  pub phase : r.phase ≡ InNumber Purpose.FieldName 0
   pub is : VarUInt (take size piece) id
   pub some : 0 < size
   pub within : size ≤ length piece
@@ -59,8 +44,8 @@ pub record HasScalar (r : BinaryWalk) (piece : List ℕ) (named : ℕ) (t : Scal
   pub behind : named < front
   pub few : front ≤ to
   pub within : to ≤ length piece
-  pub header : Header (forms.Scalar t) (to - front) (take (front - named) (drop named piece))
-  pub full : hollow (forms.Scalar t) (to - front) ≡ None
+  pub header : Header (Form.Scalar t) (to - front) (take (front - named) (drop named piece))
+  pub full : hollow (Form.Scalar t) (to - front) ≡ None
   pub inside : IsWithin (open_containers r) (r.used + to)
 
 -- the run led where the reader stands for these containers

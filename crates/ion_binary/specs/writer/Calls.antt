@@ -1,10 +1,6 @@
 -- The calls of a writer, one after another.
 use Rattle.std.specs.Prelude.{◌≡◌, List, [], ◌∷◌}
-use Rattle.ion_model.specs.declared.value.Value.{Value}
-use Rattle.ion_symtab.specs.Took.{Took}
-use Rattle.ion_symtab.specs.declared.outlet.Outlet.{Ghosts as Outlet}
-use Rattle.ion_binary.specs.Output.{Progress, adds, after, opening}
-use Rattle.ion_binary.specs.writer.Puts.{behind}
+use Rattle.ion_binary.specs.Names.{Outlet, Progress, Took, Value, adds, after, behind, opening}
 
 module _ {T : Type 0} (W : Outlet T) where
   -- `put` was called with each of these values and answered `Ok`: between old and new the device took what each adds

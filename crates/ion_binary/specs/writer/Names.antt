@@ -6,11 +6,8 @@ use Rattle.std.proofs.lemmas.List.{map-append}
 use Rattle.std.proofs.lemmas.List.Folds.{list_any-append}
 use Rattle.std.proofs.lemmas.List.Sums.{prefix_len-le-length}
 use Rattle.std.proofs.lemmas.Slice.Eq.{bytes_eq-Decides}
-use Rattle.ion_model.specs.Symbols.{symbol_same}
-use Rattle.ion_model.specs.Kept.{IsText, AreTexts}
-use Rattle.ion_symtab.specs.Slots.{Slot, system_texts, system_slots, slot_symbol, resolve}
-use Rattle.ion_symtab.specs.Next.{local_slot}
-use Rattle.ion_binary.specs.Output.{Names, system_names, id_of, with_name, with_names}
+use Rattle.ion_binary.specs.Names.Below.{AreTexts, IsText, Slot, local_slot, resolve, slot_symbol, symbol_same, system_slots, system_texts}
+use Rattle.ion_binary.specs.Output.{Names, id_of, system_names, with_name, with_names}
 
 -- 1. Symbols among names.
 

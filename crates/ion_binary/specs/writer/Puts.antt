@@ -1,7 +1,7 @@
 -- What a stream's values add to its document, one behind the other.
 use Rattle.std.proofs.Common.{◌≡◌, ℕ, List, [], ◌∷◌, ◌++◌, refl, ap, sym, ◌∙◌, append_assoc}
-use Rattle.ion_model.specs.declared.value.Value.{Value}
-use Rattle.ion_binary.specs.Output.{Progress, adds, after, opening, bin_from}
+use Rattle.ion_binary.specs.Names.Below.{Value}
+use Rattle.ion_binary.specs.Output.{Progress, adds, after, bin_from, opening}
 
 -- what the values add, without the end
 abbrev pub puts : Progress → List Value → List ℕ

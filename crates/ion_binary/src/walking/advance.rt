@@ -1,19 +1,9 @@
 //! Walks over pieces: octets of a body or a pad are taken up at once, else one.
 ghost use Rattle.std.specs.Prelude.{◌≡◌, ◌≢◌, ℕ, ◌+◌, ◌-◌, ◌≤◌, ◌<◌, ◌^◌, [], ◌++◌, List, true, false, length, take, None, Some, Result, IfOk, IfErr, IfSome, IsNone};
-ghost use Rattle.ion_atoms.specs.declared.refusal.Reason.TheVariants.{Memory};
-ghost use Rattle.ion_visiting.specs.Events.{Event};
-ghost use Rattle.ion_symtab.specs.Trace.{Answers};
-ghost use Rattle.ion_symtab.specs.Steps.{RefusesBy, StepsOver};
-ghost use Rattle.ion_symtab.specs.Walks.{EndsOn, WalksOn, if_ended};
-ghost use Rattle.ion_binary.specs.Judge.{judge};
-ghost use Rattle.ion_binary.specs.machine.EachOctet.{judged, moved};
-ghost use Rattle.ion_model.specs.declared.value.Value.{Value as AnyValue};
-ghost use Rattle.ion_binary.specs.machine.Run.{trace, whole};
-ghost use Rattle.ion_binary.specs.machine.Views.{goes_on, is_in_body};
-ghost use Rattle.ion_binary.specs.machine.Frames.{Frame as AnyFrame};
+ghost use Rattle.ion_binary.specs.Names.{Answers, AreAround, Does, EndsOn, Event, Frame as AnyFrame, Holds, Memory, RefusesBy, SameSetting, StepsOver, Told, Value as AnyValue, Walks, WalksOn, awaits, failed, goes_on, if_ended, is_in_body, judge, judged, pending, run_of, setting_of, shells, spot_of, taken, told, trace, whole};
 ghost use Rattle.ion_binary.specs.declared.state.Phase.TheVariants as phases;
-ghost use Rattle.ion_binary.specs.walking.Holds.{AreAround, Does, Holds, SameSetting, setting_of, shells, spot_of, told};
-ghost use Rattle.ion_binary.specs.walking.Runs.{Led, Told, Took, Walks, awaits, failed, kept, pending, run_of, taken};
+ghost use Rattle.ion_binary.specs.machine.EachOctet.{moved};
+ghost use Rattle.ion_binary.specs.walking.Runs.{Led, Took, kept};
 
 use super::{BinaryWalk, TableFilter};
 use crate::form::Scalar;

@@ -1,10 +1,7 @@
 //! Bodies: of scalars, pads and containers.
 ghost use Rattle.std.specs.Prelude.{◌≡◌, ◌<◌, ◌^◌, List, []};
-ghost use Rattle.ion_binary.specs.Judge.{judge};
+ghost use Rattle.ion_binary.specs.Names.{AreAround, Does, Frame as AnyFrame, Holds, HoldsNoWrapper, MayBegin, SameSetting, begin, judge, judged, on_pad, open_struct, setting_of, sized, spot_of, told};
 ghost use Rattle.ion_binary.specs.declared.form.Form.TheVariants as forms;
-ghost use Rattle.ion_binary.specs.machine.Frames.{Frame as AnyFrame};
-ghost use Rattle.ion_binary.specs.machine.EachOctet.{begin, judged, on_pad, open_struct, sized};
-ghost use Rattle.ion_binary.specs.walking.Holds.{AreAround, Does, Holds, HoldsNoWrapper, MayBegin, SameSetting, setting_of, spot_of, told};
 
 use super::{BinaryWalk, Container, heard};
 use crate::form::{Form, Listing, Scalar, bracket_of, hollow};

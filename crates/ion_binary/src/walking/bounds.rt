@@ -1,8 +1,6 @@
 //! Where a value, a pad or a number may stand, and how far it may reach.
 ghost use Rattle.std.specs.Prelude.{◌≡◌, nat_lt};
-ghost use Rattle.ion_binary.specs.machine.EachOctet.{levels, too_long, misfits, stray, nameless, unending, outside, past, unfit};
-ghost use Rattle.ion_binary.specs.machine.Views.{malformed_unless};
-ghost use Rattle.ion_binary.specs.walking.Holds.{fields_end, is_named, items_end, named_end, open_containers, shells, wrapper_end};
+ghost use Rattle.ion_binary.specs.Names.{fields_end, is_named, items_end, levels, malformed_unless, misfits, named_end, nameless, open_containers, outside, past, shells, stray, too_long, unending, unfit, wrapper_end};
 
 use super::{BinaryWalk, Container};
 use crate::form::Form;

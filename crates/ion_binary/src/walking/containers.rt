@@ -1,19 +1,10 @@
 //! Containers that end.
 ghost use Rattle.std.specs.Prelude.{◌≡◌, ◌⊎◌, List, [], ◌∷◌, ◌++◌, IfErr, IfOk, OnOk, Ok, Err, Result, true, false};
-ghost use Rattle.ion_atoms.specs.declared.refusal.Reason.TheVariants.{Memory};
-ghost use Rattle.ion_model.specs.Kinds.{is_table};
-ghost use Rattle.ion_symtab.specs.Next.{next};
-ghost use Rattle.ion_model.specs.declared.value.Field.{Field as AnyField};
-ghost use Rattle.ion_model.specs.declared.value.Value.{Value as AnyValue};
-ghost use Rattle.ion_visiting.specs.Events.{Event, events_of};
-ghost use Rattle.ion_binary.specs.declared.walking.Container.{Container as AnyContainer};
-ghost use Rattle.ion_binary.specs.machine.Frames.{Frame as AnyFrame};
-ghost use Rattle.ion_binary.specs.machine.Frames as frames;
+ghost use Rattle.ion_binary.specs.Names.{AreAround, Closes, Container as AnyContainer, Does, DoesAlone, Event, Field as AnyField, Frame as AnyFrame, Holds, IsBareIn, IsBehind, Memory, Outcome, SameSetting, Value as AnyValue, WasTold, container_of, containers_of, deliver, events_of, is_table, next, open_containers, proceed, setting_of, spot_of, told};
 ghost use Rattle.ion_binary.specs.declared.state.Effect.TheVariants as effects;
 ghost use Rattle.ion_binary.specs.declared.state.Phase.TheVariants as phases;
-ghost use Rattle.ion_binary.specs.machine.EachOctet.{Outcome, deliver, proceed};
-ghost use Rattle.ion_visiting.specs.Tables.{WasTold};
-ghost use Rattle.ion_binary.specs.walking.Holds.{AreAround, Closes, Does, DoesAlone, Holds, IsBareIn, IsBehind, SameSetting, container_of, containers_of, open_containers, setting_of, spot_of, told, told_in};
+ghost use Rattle.ion_binary.specs.machine.Frames as frames;
+ghost use Rattle.ion_binary.specs.walking.Holds.{told_in};
 
 use super::{BinaryWalk, Container, heard};
 use crate::form::{Listing, bracket_of};

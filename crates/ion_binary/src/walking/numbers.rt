@@ -1,10 +1,7 @@
 //! VarUInts: lengths, and the ids of field names and annotations.
 ghost use Rattle.std.specs.Prelude.{◌≡◌, ◌+◌, ◌<◌, ◌^◌, List, IfSome, length};
-ghost use Rattle.ion_symtab.specs.Slots.{resolve};
-ghost use Rattle.ion_binary.specs.machine.Frames.{Frame as AnyFrame};
-ghost use Rattle.ion_binary.specs.machine.EachOctet.{longer, unsized, name_came, count_came, annotation_came, moved, number_came, on_number};
-ghost use Rattle.ion_binary.specs.walking.Holds.{Does, DoesAlone, Holds, SameSetting, behind_annotation, setting_of, spot_of, told};
-ghost use Rattle.ion_binary.specs.walking.Runs.{HasName};
+ghost use Rattle.ion_binary.specs.Names.{Does, DoesAlone, Frame as AnyFrame, HasName, Holds, SameSetting, annotation_came, behind_annotation, count_came, longer, name_came, number_came, on_number, resolve, setting_of, spot_of, told, unsized};
+ghost use Rattle.ion_binary.specs.machine.EachOctet.{moved};
 
 use super::{BinaryWalk, Container, heard};
 use crate::form::Form;

@@ -1,13 +1,8 @@
 //! Scalars, whose octets are their body: told apart here alone.
 ghost use Rattle.std.specs.Prelude.{◌≡◌, ◌≢◌, List, ℕ, Ok, Err, MatchResult, OnOk, IfErr};
-ghost use Rattle.ion_atoms.specs.declared.refusal.Reason.TheVariants.{Memory};
+ghost use Rattle.ion_binary.specs.Names.{IsNumber, Memory, Slot, TellsAs, int_of, judge, number_payload, symbol_of, text_of, uint_field};
 ghost use Rattle.ion_model.specs.declared.value.Payload.TheVariants as payloads;
-ghost use Rattle.ion_visiting.specs.Parts.{number_payload};
-ghost use Rattle.ion_scalar.specs.binary.Fields.{uint_field};
-ghost use Rattle.ion_symtab.specs.Slots.{Slot};
-ghost use Rattle.ion_binary.specs.Judge.{judge, int_of, symbol_of, text_of};
 ghost use Rattle.ion_binary.specs.declared.form.Scalar.TheVariants as scalars;
-ghost use Rattle.ion_binary.specs.walking.Holds.{IsNumber, TellsAs};
 
 use super::heard;
 use crate::form::Scalar;

@@ -1,8 +1,6 @@
 //! Scalars that a visitor heeds not: whether a body is one, without reading it.
 ghost use Rattle.std.specs.Prelude.{◌≡◌, true, is_ok, List, IfSome};
-ghost use Rattle.ion_scalar.specs.binary.Fields.{positional};
-ghost use Rattle.ion_symtab.specs.Slots.{Slot};
-ghost use Rattle.ion_binary.specs.Judge.{judge};
+ghost use Rattle.ion_binary.specs.Names.{Slot, judge, positional};
 ghost use Rattle.ion_binary.specs.declared.form.Scalar.TheVariants as scalars;
 
 use crate::form::Scalar;

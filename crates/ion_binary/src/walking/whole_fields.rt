@@ -1,14 +1,11 @@
 //! Fields that lie whole in a piece and have a scalar, each taken up at once. Of any other the
 //! name is.
 ghost use Rattle.std.specs.Prelude.{◌≡◌, ◌≢◌, ◌+◌, ◌≤◌, ◌<◌, ◌^◌, List, ◌∷◌, Ok, Option, ℕ, length, IfErr, IfOk, IfSome};
-ghost use Rattle.ion_atoms.specs.declared.refusal.Reason.TheVariants.{Memory};
-ghost use Rattle.ion_model.specs.declared.value.Field.{Field as AnyField};
-ghost use Rattle.ion_binary.specs.Judge.{judge};
-ghost use Rattle.ion_binary.specs.machine.Frames.{Frame as AnyFrame};
+ghost use Rattle.ion_binary.specs.Names.{Does, Field as AnyField, Frame as AnyFrame, HasName, HasScalar, Holds, IsTelling, Memory, SameSetting, judge, judged, run_of, setting_of, spot_of, told};
+ghost use Rattle.ion_binary.specs.machine.EachOctet.{moved};
 ghost use Rattle.ion_binary.specs.machine.Frames as frames;
-ghost use Rattle.ion_binary.specs.machine.EachOctet.{judged, moved};
-ghost use Rattle.ion_binary.specs.walking.Holds.{Does, Holds, IsTelling, SameSetting, setting_of, spot_of, told, told_in};
-ghost use Rattle.ion_binary.specs.walking.Runs.{HasName, HasScalar, Took, run_of};
+ghost use Rattle.ion_binary.specs.walking.Holds.{told_in};
+ghost use Rattle.ion_binary.specs.walking.Runs.{Took};
 
 use super::whole_headers::{header_at, scalar_in};
 use super::{BinaryWalk, heard};

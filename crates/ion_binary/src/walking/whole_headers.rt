@@ -1,14 +1,10 @@
 //! Headers that lie whole in a piece, each taken up at once, and the scalars behind them that do,
 //! too. What is cut, or may not stand where it does, is left to the walk octet by octet.
 ghost use Rattle.std.specs.Prelude.{◌≡◌, ◌+◌, ◌-◌, ◌≤◌, ◌<◌, ◌^◌, List, None, drop, length, take, IfErr, IfOk, IfSome, ◌≢◌};
-ghost use Rattle.ion_atoms.specs.declared.refusal.Reason.TheVariants.{Memory};
-ghost use Rattle.ion_binary.specs.Grammar.{Header};
-ghost use Rattle.ion_binary.specs.Judge.{judge};
+ghost use Rattle.ion_binary.specs.Names.{AreAround, Does, Frame as AnyFrame, Header, Holds, MayBegin, Memory, Opens, SameSetting, begin, hollow, judge, judged, run_of, setting_of, spot_of, told};
 ghost use Rattle.ion_binary.specs.declared.form.Form.TheVariants as forms;
-ghost use Rattle.ion_binary.specs.machine.Frames.{Frame as AnyFrame};
-ghost use Rattle.ion_binary.specs.machine.EachOctet.{begin, hollow, judged, moved};
-ghost use Rattle.ion_binary.specs.walking.Holds.{AreAround, Does, Holds, MayBegin, SameSetting, setting_of, spot_of, told};
-ghost use Rattle.ion_binary.specs.walking.Runs.{Opens, Took, run_of};
+ghost use Rattle.ion_binary.specs.machine.EachOctet.{moved};
+ghost use Rattle.ion_binary.specs.walking.Runs.{Took};
 
 use super::BinaryWalk;
 use crate::form::{Form, Opening, Scalar, hollow, opening_of};

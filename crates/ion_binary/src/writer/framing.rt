@@ -2,11 +2,8 @@
 //! "Ion Binary Encoding"). Each function appends to `out`, and its only fault is `Memory`, on which
 //! some of the octets may stand there.
 ghost use Rattle.std.specs.Prelude.{◌≡◌, ◌<◌, ◌≤◌, ◌*◌, ◌^◌, ◌+◌, ◌++◌, ◌∷◌, [], take, drop, vec_len, OnOk, IsOkUnless};
+ghost use Rattle.ion_binary.specs.Names.{code_in, decimal_octets, framed, null_octet, timestamp_octets, truth_octet, uint_octets, var_uint_octets, whole_octets};
 ghost use Rattle.ion_symtab.specs.declared.fault.Fault.TheVariants as faults;
-ghost use Rattle.ion_scalar.specs.binary.Spellings.{var_uint_octets, uint_octets, decimal_octets};
-ghost use Rattle.ion_binary.specs.Output.{framed, null_octet, truth_octet, whole_octets};
-ghost use Rattle.ion_binary.specs.visiting.Brackets.{code_in};
-ghost use Rattle.ion_scalar.specs.binary.TimestampSpellings.{timestamp_octets};
 
 use ion_model::{Decimal, Kind, Timestamp, Whole};
 use ion_scalar::{put_decimal, put_timestamp, put_uint, put_var_uint};

@@ -1,11 +1,7 @@
 //! The ids that a writer has given to symbols (Ion 1.0, "Symbols", "Symbol IDs").
 ghost use Rattle.std.specs.Prelude.{◌≡◌, ◌<◌, ◌≤◌, ◌^◌, Some, suc, true, length, map, take, drop, MatchBool, MatchResult, IfOk};
-ghost use Rattle.ion_model.specs.Symbols.{symbol_same};
-ghost use Rattle.ion_symtab.specs.Slots.{greatest_id};
+ghost use Rattle.ion_binary.specs.Names.{IsLater, Names as SymbolsById, NeedsLargeId, greatest_id, id_of, symbol_same, system_names, with_name, with_names};
 ghost use Rattle.ion_symtab.specs.declared.fault.Fault.TheVariants as faults;
-ghost use Rattle.ion_binary.specs.Output.{Names as SymbolsById, system_names, id_of, with_name, with_names};
-ghost use Rattle.ion_binary.specs.Writing.{NeedsLargeId};
-ghost use Rattle.ion_binary.specs.writer.Later.{IsLater};
 
 use indexmap::IndexSet;
 use ion_model::Symbol;

@@ -3,9 +3,8 @@
 //! there.
 ghost use Rattle.std.specs.Prelude.{◌≡◌, ◌≤◌, ◌<◌, ◌^◌, ◌++◌, Some, codes, drop, length, OnOk, IsOkUnless};
 ghost use Rattle.std.specs.List.{flat_map};
-ghost use Rattle.ion_scalar.specs.binary.Spellings.{uint_octets, var_uint_octets};
+ghost use Rattle.ion_binary.specs.Names.{framed, name_text, named_octets, table_value, uint_octets, value_octets, var_uint_octets, with_count};
 ghost use Rattle.ion_symtab.specs.declared.fault.Fault.TheVariants as faults;
-ghost use Rattle.ion_binary.specs.Output.{with_count, framed, named_octets, table_value, name_text, value_octets};
 
 use super::framing::{frame, insert_length, put_framed, put_id, put_symbol};
 use super::names::Names;

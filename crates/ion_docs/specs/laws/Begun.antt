@@ -1,16 +1,9 @@
 -- What the first octet decides: in which encoding octets are read.
 use Rattle.std.proofs.Common.{◌≡◌, ℕ, List, [], ◌∷◌, ◌++◌, ap, Bool, true, false, cond, Option, Some, None}
 use Rattle.std.specs.Prelude.{IfSome}
-use Rattle.ion_atoms.specs.declared.refusal.Refusal.{Refusal}
-use Rattle.ion_model.specs.declared.value.Value.{Value}
-use Rattle.ion_symtab.specs.declared.catalog.Catalog.{Catalog}
-use Rattle.ion_symtab.specs.declared.limits.Limits.{Limits}
-use Rattle.ion_symtab.specs.Trace.{Trace}
-use Rattle.ion_symtab.specs.Walks.{HasTold}
+use Rattle.ion_docs.specs.Names.{Begins, Catalog, HasTold, Limits, Refusal, Trace, Value, chosen}
 use Rattle.ion_binary.specs.machine.Run as binary
 use Rattle.ion_text.specs.machine.Run as text
-use Rattle.ion_docs.specs.reading.Chosen.{chosen}
-use Rattle.ion_docs.specs.reading.DocTold.{Begins}
 
 -- octets have begun as those before them
 pub begins_on : (b : Bool) (u w : List ℕ) → Begins b u → Begins b (u ++ w)

@@ -1,10 +1,6 @@
 -- What a reader promises of octets, and that it promises the same of a format in which octets that begin so mean the same.
 use Rattle.std.proofs.Common.{◌≡◌, ◌↔◌, ℕ, zero, suc, List, [], ◌∷◌, ◌++◌, length, take, Err, Some, None, ap, sym, ◌∙◌, subst, append_assoc}
-use Rattle.ion_model.specs.declared.value.Value.{Value}
-use Rattle.ion_atoms.specs.declared.refusal.Refusal.{Refusal}
-use Rattle.ion_symtab.specs.Trace.{Trace, Streams, Grows, plain}
-use Rattle.ion_symtab.specs.Promises.{Refuses, BeginsNone, IsFirst, Shown, Shows, IsSmall, HasReasons, GivesNoTable, EndsValues}
-use Rattle.ion_streams.specs.Formats.{Format}
+use Rattle.ion_docs.specs.Names.{BeginsNone, EndsValues, Format, GivesNoTable, Grows, HasReasons, IsFirst, IsSmall, Refusal, Refuses, Shown, Shows, Streams, Trace, Value, plain}
 
 -- what is promised of these octets, of which a reader of the format says t
 pub record Promised (F : Format) (open_after : List ℕ → List ℕ → Type 0) (item : ℕ) (u : List ℕ) (t : Trace) : Type 0 where

@@ -1,35 +1,17 @@
 -- The document of a stream in either encoding denotes it, chosen by the first octet.
 use Rattle.std.proofs.Common.{◌≡◌, ℕ, ◌==◌, Bool, true, false, List, [], ◌∷◌, ◌++◌, Result, Ok, Err, IfOk, arith, refl, subst}
 use Rattle.std.proofs.lemmas.Bool.Decides.{nat_tests}
-use Rattle.ion_model.specs.declared.value.Value.{Value}
-use Rattle.ion_atoms.specs.declared.refusal.Refusal.{Refusal}
-use Rattle.ion_atoms.specs.declared.refusal.Reason.TheVariants.{Unexpected}
-use Rattle.ion_atoms.specs.Octets.{AreOctets}
-use Rattle.ion_model.specs.Kept.{AreKept}
-use Rattle.ion_symtab.specs.declared.fault.Fault.{Fault}
-use Rattle.ion_symtab.specs.declared.catalog.Catalog.{Catalog}
-use Rattle.ion_symtab.specs.declared.limits.Limits.{Limits}
-use Rattle.ion_symtab.specs.declared.inlet.Inlet.{Ghosts as Inlet}
-use Rattle.ion_symtab.specs.declared.outlet.Outlet.{Ghosts as Outlet}
-use Rattle.ion_symtab.specs.Promises.{NoTables}
+use Rattle.ion_docs.specs.Names.{AreKept, AreOctets, Catalog, Denotes, DenotesAnywhere, Fault, Inlet, KeepsStream, Limits, NoTables, Outlet, Pieces, Refusal, Slot, Target, Unexpected, Value, WasRead, WritesKept, bin_of, binary_pieces, documents, encoding_of, in_binary, in_text, is_binary, text_of, text_pieces}
+use Rattle.ion_symtab.specs.declared.target.Target.TheVariants.{Binary, Text}
 use Rattle.ion_symtab.specs.laws.ContextTexts.{AreTextTables}
-use Rattle.ion_binary.specs.Output.{bin_of}
-use Rattle.ion_symtab.specs.Slots.{Slot}
 use Rattle.ion_binary.specs.Grammar as binary
+use Rattle.ion_binary.specs.laws.reading.DocumentKept as binary_kept
 use Rattle.ion_binary.specs.laws.reading.Promises as binary_laws
 use Rattle.ion_binary.specs.laws.writing.RoundTrip.{round_trip as binary_round_trip}
-use Rattle.ion_binary.specs.laws.reading.DocumentKept as binary_kept
 use Rattle.ion_text.specs.Grammar.{Document}
-use Rattle.ion_text.specs.Output.{text_of}
-use Rattle.ion_text.specs.laws.writing.RoundTrip.{round_trip as text_round_trip}
 use Rattle.ion_text.specs.laws.reading.Stops.{begins_none}
 use Rattle.ion_text.specs.laws.reading.ValuesKept as text_kept
-use Rattle.ion_symtab.specs.declared.target.Target.{Target}
-use Rattle.ion_symtab.specs.declared.target.Target.TheVariants.{Binary, Text}
-use Rattle.ion_docs.specs.Encodings.{encoding_of}
-use Rattle.ion_docs.specs.Documents.{is_binary, Denotes, in_binary, in_text, Pieces, binary_pieces, text_pieces}
-use Rattle.ion_docs.specs.Formats.{documents}
-use Rattle.ion_docs.specs.Conversion.{WasRead, DenotesAnywhere, KeepsStream, WritesKept}
+use Rattle.ion_text.specs.laws.writing.RoundTrip.{round_trip as text_round_trip}
 
 binary-append : (u w : List ℕ) → is_binary u ≡ true → is_binary (u ++ w) ≡ true
 binary-append [] w h = absurd cc

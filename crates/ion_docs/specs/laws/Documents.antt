@@ -1,33 +1,25 @@
 -- The promises of a reader of either encoding, from those of both: the first octet chooses.
 use Rattle.std.proofs.Common.{◌≡◌, ℕ, List, [], ◌∷◌, ◌++◌, ◌<◌, ◌≤◌, length, None, refl, ap, sym, ◌∙◌, arith, Bool, true, false, cond, ◌==◌, append_assoc, length-append}
-use Rattle.ion_model.specs.declared.value.Value.{Value}
+use Rattle.ion_docs.specs.Names.{Catalog, Denotes, Format, HasPieces, Limits, OpenAfter, Pieces, Shown, Shows, Value, binary_pieces, binary_rest, chosen, documents, in_binary, in_text, is_binary, system_slots, text_pieces, text_rest}
 use Rattle.ion_model.specs.Measures.{nodes}
-use Rattle.ion_symtab.specs.declared.catalog.Catalog.{Catalog}
-use Rattle.ion_symtab.specs.declared.limits.Limits.{Limits}
-use Rattle.ion_symtab.specs.Promises.{HasPieces, Shown, Shows}
 use Rattle.ion_symtab.specs.laws.Promises.{shown_once}
-use Rattle.ion_symtab.specs.Slots.{system_slots}
 use Rattle.ion_binary.specs.Grammar as binary
 use Rattle.ion_binary.specs.machine.Run as binary_run
-use Rattle.ion_binary.specs.laws.reading.Promises as binary_laws
 use Rattle.ion_binary.specs.laws.reading.Apart as binary_apart
+use Rattle.ion_binary.specs.laws.reading.Promises as binary_laws
 use Rattle.ion_text.specs.Grammar as text
-use Rattle.ion_text.specs.machine.Run as text_run
 use Rattle.ion_text.specs.machine.Pieces as text_runs
+use Rattle.ion_text.specs.machine.Run as text_run
 use Rattle.ion_text.specs.laws.reading.Promises as text_laws
 use Rattle.ion_text.specs.laws.reading.Stops as text_stops
+use Rattle.ion_text.specs.laws.reading.small.Apart as text_apart
 use Rattle.ion_text.specs.laws.reading.small.Small as text_small
+use Rattle.ion_text.specs.laws.showing.ended.AtItsEnd as text_at_its_end
+use Rattle.ion_text.specs.laws.showing.refused.Refusing as text_refusing
 use Rattle.ion_text.specs.laws.showing.tokens.Alone as text_alone
 use Rattle.ion_text.specs.laws.showing.tokens.Once as text_once
-use Rattle.ion_text.specs.laws.reading.small.Apart as text_apart
+use Rattle.ion_docs.specs.laws.ByFirstOctet.{Alike, Promised, carried}
 use Rattle.ion_text.specs.laws.showing.shown.Given as text_given
-use Rattle.ion_text.specs.laws.showing.refused.Refusing as text_refusing
-use Rattle.ion_text.specs.laws.showing.ended.AtItsEnd as text_at_its_end
-use Rattle.ion_docs.specs.Documents.{is_binary, Denotes, in_binary, in_text, Pieces, binary_pieces, text_pieces, OpenAfter, binary_rest, text_rest}
-use Rattle.ion_docs.specs.reading.Chosen.{chosen}
-use Rattle.ion_docs.specs.Formats.{documents}
-use Rattle.ion_streams.specs.Formats.{Format}
-use Rattle.ion_docs.specs.laws.ByFirstOctet.{Promised, Alike, carried}
 
 differ : {A : Type 0} → (b : Bool) → b ≡ true → b ≡ false → A
 differ b h k = let e : true ≡ false = sym h ∙ k in absurd cc

@@ -1,13 +1,9 @@
 -- How the documents of both encodings grow value by value.
 use Rattle.std.proofs.Common.{◌≡◌, List, [], ◌∷◌, ◌++◌, ap, sym, ◌∙◌, append-nil}
 use Rattle.std.proofs.lemmas.List.{flat_map_more}
-use Rattle.ion_model.specs.declared.value.Value.{Value}
-use Rattle.ion_binary.specs.Output.{Progress, opening, bin_of, nothing_yet}
+use Rattle.ion_docs.specs.Names.{IsFrontOf, Progress, Value, behind, behind_more, bin_of, bin_puts, nothing_yet, opening, puts, puts_more, text_of}
 use Rattle.ion_binary.specs.Output as binary
-use Rattle.ion_binary.specs.writer.Puts.{puts, behind, bin_puts, puts_more, behind_more}
-use Rattle.ion_text.specs.Output.{text_of}
 use Rattle.ion_text.specs.Output as text
-use Rattle.ion_docs.specs.Encodings.{IsFrontOf}
 
 -- what the values add, and the end, are the document
 pub binary_ends : (s : List Value) → puts nothing_yet s ++ opening (behind nothing_yet s).begun ≡ bin_of s

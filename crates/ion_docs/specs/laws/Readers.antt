@@ -1,20 +1,11 @@
 -- What is known of a reader of either encoding, from what is known of the walk that it holds.
 use Rattle.std.proofs.Common.{◌≡◌, ℕ, ◌≤◌, List, [], ◌∷◌, ◌++◌, length, Option, Some, None, refl}
 use Rattle.std.specs.Prelude.{IsNone, IfSome}
-use Rattle.ion_model.specs.declared.value.Value.{Value}
-use Rattle.ion_symtab.specs.Trace.{Trace, IsFront}
-use Rattle.ion_symtab.specs.Walks.{HasTold}
-use Rattle.ion_visiting.specs.Building.{Built, built, builds, fresh}
-use Rattle.ion_visiting.specs.Events.{Event, Led}
-use Rattle.ion_docs.specs.declared.doc_reader.DocReader.{DocReader}
-use Rattle.ion_docs.specs.declared.doc_walk.DocWalk.{DocWalk}
+use Rattle.ion_docs.specs.Names.{Built, DocReader, DocTold, DocWalk, EncodingTold, Event, HasTold, IsFront, Led, Trace, Value, awaits_of, builds, built, chosen, failed_of, fresh, kept_of, taken_of}
 use Rattle.ion_docs.specs.declared.doc_walk.Encoding.{Encoding}
-use Rattle.ion_docs.specs.declared.doc_walk.Encoding.TheVariants as encodings
+use Rattle.ion_docs.specs.reading.DocStands.{DocStands, Told}
 use Rattle.ion_docs.specs.laws.Begun.{told_by}
 use Rattle.ion_docs.specs.laws.Walks as walks
-use Rattle.ion_docs.specs.reading.Chosen.{chosen}
-use Rattle.ion_docs.specs.reading.DocStands.{DocStands, Told}
-use Rattle.ion_docs.specs.reading.DocTold.{DocTold, EncodingTold, taken_of, failed_of, awaits_of, kept_of}
 
 -- what a reader told is so
 pub doc_told : (d : DocReader) (u : List ℕ) (s : List (Value × ℕ)) (es : List Event) → Told d u s es
@@ -52,10 +43,10 @@ doc_bounded d u s h = (doc_told d u s h.0 h.1).bounded
 
 -- a reader of no octets has told nothing
 begun_nothing : (w : DocWalk) (e : Encoding) (es : List Event) → EncodingTold w e [] [] es → EncodingTold w e [] [] []
-begun_nothing w encodings.Unbegun es h = (refl, refl, refl)
-begun_nothing w (encodings.Refused refusal) es h = absurd h
-begun_nothing w (encodings.Binary r) es h = absurd h.1
-begun_nothing w (encodings.Text r) es h = absurd h.1
+begun_nothing w Encoding.Unbegun es h = (refl, refl, refl)
+begun_nothing w (Encoding.Refused refusal) es h = absurd h
+begun_nothing w (Encoding.Binary r) es h = absurd h.1
+begun_nothing w (Encoding.Text r) es h = absurd h.1
 
 pub doc_nothing_told : (d : DocReader) → DocStands d [] [] → Told d [] [] []
 doc_nothing_told d h = begun_nothing d.walk d.walk.encoding h.0 h.1

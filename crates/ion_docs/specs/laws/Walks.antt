@@ -1,12 +1,7 @@
 -- What is known of a reader of either encoding that told what octets are, from what is known of both.
 use Rattle.std.proofs.Common.{◌≡◌, ℕ, ◌≤◌, List, [], ◌∷◌, ◌++◌, length, Option, Some, None, refl, ap, sym, ◌∙◌, subst, arith, true, false, append-nil}
 use Rattle.std.specs.Prelude.{IsNone, IfSome}
-use Rattle.ion_model.specs.declared.value.Value.{Value}
-use Rattle.ion_symtab.specs.declared.catalog.Catalog.{Catalog}
-use Rattle.ion_symtab.specs.declared.limits.Limits.{Limits}
-use Rattle.ion_symtab.specs.Trace.{Trace, IsFront}
-use Rattle.ion_symtab.specs.Walks.{HasTold}
-use Rattle.ion_visiting.specs.Events.{Event}
+use Rattle.ion_docs.specs.Names.{Binary, Catalog, DocTold, DocWalk, EncodingTold, Event, HasTold, IsFront, Limits, Text, Trace, Unbegun, Value, awaits_in, awaits_of, chosen, failed_in, failed_of, kept_in, kept_of, taken_in, taken_of}
 use Rattle.ion_binary.specs.declared.walking.BinaryWalk.{BinaryWalk}
 use Rattle.ion_binary.specs.machine.Run as binary
 use Rattle.ion_binary.specs.laws.reading.Walking as binary_told
@@ -14,11 +9,8 @@ use Rattle.ion_text.specs.declared.walk.TextWalk.{TextWalk}
 use Rattle.ion_text.specs.machine.Run as text
 use Rattle.ion_text.specs.laws.reading.Tells as text_told
 use Rattle.ion_docs.specs.declared.doc_walk.Encoding.{Encoding}
-use Rattle.ion_docs.specs.declared.doc_walk.Encoding.TheVariants.{Unbegun, Refused, Binary, Text}
-use Rattle.ion_docs.specs.declared.doc_walk.DocWalk.{DocWalk}
+use Rattle.ion_docs.specs.declared.doc_walk.Encoding.TheVariants.{Refused}
 use Rattle.ion_docs.specs.laws.Begun.{begins_on, chosen_in, each_some, same_trace, told_by}
-use Rattle.ion_docs.specs.reading.Chosen.{chosen}
-use Rattle.ion_docs.specs.reading.DocTold.{DocTold, EncodingTold, awaits_in, awaits_of, failed_in, failed_of, kept_in, kept_of, taken_in, taken_of}
 
 module _ (d : DocWalk) where
   abbrev doc_trace : List ℕ → Trace

@@ -1,8 +1,6 @@
 -- What a reader of either encoding says of octets: the first chooses.
 use Rattle.std.specs.Prelude.{ℕ, List, if◌then◌else◌}
-use Rattle.ion_symtab.specs.declared.catalog.Catalog.{Catalog}
-use Rattle.ion_symtab.specs.declared.limits.Limits.{Limits}
-use Rattle.ion_symtab.specs.Trace.{Trace}
+use Rattle.ion_docs.specs.Names.Below.{Catalog, Limits, Trace}
 use Rattle.ion_binary.specs.machine.Run as binary
 use Rattle.ion_text.specs.machine.Run as text
 use Rattle.ion_docs.specs.Documents.{is_binary}

@@ -1,9 +1,6 @@
 -- What a reader of either encoding stands for.
 use Rattle.std.specs.Prelude.{ℕ, List}
-use Rattle.ion_model.specs.declared.value.Value.{Value}
-use Rattle.ion_visiting.specs.Events.{Event}
-use Rattle.ion_docs.specs.declared.doc_reader.DocReader.{DocReader}
-use Rattle.ion_docs.specs.reading.DocTold.{DocTold, HasBuilt}
+use Rattle.ion_docs.specs.Names.{DocReader, DocTold, Event, HasBuilt, Value}
 
 -- what the reader holds is that of these octets, with which it gave these values
 abbrev pub DocStands : DocReader → List ℕ → List (Value × ℕ) → Type 0

@@ -1,17 +1,11 @@
 -- What a reader of either encoding has told, and what it stands for.
 use Rattle.std.specs.Prelude.{◌≡◌, ℕ, ◌==◌, Bool, true, false, List, [], ◌∷◌, Option, Some, None}
-use Rattle.ion_model.specs.declared.value.Value.{Value}
-use Rattle.ion_atoms.specs.declared.refusal.Refusal.{Refusal}
-use Rattle.ion_symtab.specs.declared.catalog.Catalog.{Catalog}
-use Rattle.ion_symtab.specs.declared.limits.Limits.{Limits}
-use Rattle.ion_visiting.specs.Building.{Built, builds, fresh}
-use Rattle.ion_visiting.specs.Events.{Event, Led}
+use Rattle.ion_docs.specs.Names.Below.{Binary, Built, Catalog, DocWalk, Event, Led, Limits, Refusal, Text, Unbegun, Value, builds, fresh}
 use Rattle.ion_binary.specs.walking.Runs as binary
-use Rattle.ion_text.specs.walk.Runs as text
 use Rattle.ion_text.specs.walk.Ends as text_ends
+use Rattle.ion_text.specs.walk.Runs as text
 use Rattle.ion_docs.specs.declared.doc_walk.Encoding.{Encoding}
-use Rattle.ion_docs.specs.declared.doc_walk.Encoding.TheVariants.{Unbegun, Refused, Binary, Text}
-use Rattle.ion_docs.specs.declared.doc_walk.DocWalk.{DocWalk}
+use Rattle.ion_docs.specs.declared.doc_walk.Encoding.TheVariants.{Refused}
 
 -- there are octets, and whether the first is E0
 abbrev pub Begins : Bool → List ℕ → Type 0

@@ -1,16 +1,11 @@
 -- Equivalence is reflexive, symmetric and transitive: first each part, then one level, then n levels by induction.
 use Rattle.std.proofs.Common.{ℕ, zero, suc, max, Bool, refl, rules, arith, sym, ◌∙◌}
-use Rattle.std.specs.Cmp.{IsEquivalence}
+use Rattle.std.specs.Cmp.{IsEquivalence, bool_eq_equiv}
 use Rattle.std.specs.Cmp.Rules.{comparing}
 use Rattle.std.proofs.lemmas.Cmp.{and_equiv, on_equiv, lists_equiv, nat_eq_equiv, int_eq_equiv, nat_list_eq_equiv}
-use Rattle.std.specs.Cmp.{bool_eq_equiv}
-use Rattle.ion_model.specs.declared.value.Value.{Value}
-use Rattle.ion_model.specs.declared.value.Payload.TheViews.{out-Payload}
-use Rattle.ion_model.specs.Measures.{depth}
-use Rattle.ion_model.specs.Same.{scalar_same, scalar, items, fields, field_same, fields_same, layer_same, value_same, same_to, same}
-use Rattle.ion_model.specs.laws.Counts.{alike_equiv}
+use Rattle.ion_model.specs.Names.{Value, depth, field_same, fields, fields_same, items, layer_same, out-Payload, same, same_to, scalar, scalar_same, symbol_same, value_same}
 use Rattle.ion_atoms.specs.laws.Equivalence.{decimal_same-equiv, timestamp_same-equiv}
-use Rattle.ion_model.specs.Symbols.{symbol_same}
+use Rattle.ion_model.specs.laws.Counts.{alike_equiv}
 use Rattle.ion_model.specs.laws.Same.{same-agrees}
 
 -- whether symbols are the same is an equivalence

@@ -3,18 +3,11 @@ use Rattle.std.proofs.Common.{◌≡◌, suc, List, [], ◌∷◌, ◌++◌, map
 use Rattle.std.specs.Hash as fed
 use Rattle.std.specs.Hash.{HashWrites}
 use Rattle.std.specs.Ordering.{is_eq}
-use Rattle.ion_model.specs.Hashed.{symbol_fed, head_fed, layer_fed, hashed_step, hashed, field_hashed}
-use Rattle.ion_model.specs.Measures.{Layer}
-use Rattle.ion_model.specs.Order.{order}
+use Rattle.ion_model.specs.Names.{Field, Kind, Layer, Payload, Payload-F, Value, fold-Field, fold-Payload, fold_out-Field, fold_out-Payload, fold_out-Value, map-Payload, order}
 use Rattle.ion_atoms.specs.laws.Ties.{tie_from_is_eq}
-use Rattle.ion_model.specs.laws.OrderEqual.{equal_from_order}
-use Rattle.ion_atoms.specs.declared.kind.Kind.TheVariants as kinds
-use Rattle.ion_model.specs.declared.value.Value.{Value}
-use Rattle.ion_model.specs.declared.value.Field.{Field}
-use Rattle.ion_model.specs.declared.value.Payload.{Payload}
+use Rattle.ion_model.specs.Hashed.{field_hashed, hashed, hashed_step, head_fed, layer_fed, symbol_fed}
 use Rattle.ion_model.specs.declared.value.Payload.TheViews as views
-use Rattle.ion_model.specs.declared.value.Payload.TheFolds.{fold_out-Payload, fold_out-Value, fold_out-Field, fold-Payload, fold-Field, map-Payload}
-use Rattle.ion_model.specs.declared.value.Payload.TheOpen.{Payload-F}
+use Rattle.ion_model.specs.laws.OrderEqual.{equal_from_order}
 
 -- values that tie in the order feed a hasher alike
 pub values_alike : (v w : Value) → is_eq (order v w) ≡ true → hashed v ≡ hashed w
@@ -47,9 +40,9 @@ members_fed F G same xs = ap (λ n. fed.usize n ++ flat_map (λ w. w) (map F xs)
 
 hashed_step-layer : (d : Layer) → hashed_step (map-Payload Payload Field Value HashWrites HashWrites HashWrites payload_hashed field_folded hashed d)
     ≡ layer_fed field_hashed hashed d
-hashed_step-layer (Payload-F.List vs) = ap (λ ws. head_fed kinds.List true ++ ws) (members_fed hashed hashed (λ v. refl) vs)
-hashed_step-layer (Payload-F.Sexp vs) = ap (λ ws. head_fed kinds.Sexp true ++ ws) (members_fed hashed hashed (λ v. refl) vs)
-hashed_step-layer (Payload-F.Fields fs) = ap (λ ws. head_fed kinds.Fields true ++ ws) (members_fed field_folded field_hashed field_folded-is fs)
+hashed_step-layer (Payload-F.List vs) = ap (λ ws. head_fed Kind.List true ++ ws) (members_fed hashed hashed (λ v. refl) vs)
+hashed_step-layer (Payload-F.Sexp vs) = ap (λ ws. head_fed Kind.Sexp true ++ ws) (members_fed hashed hashed (λ v. refl) vs)
+hashed_step-layer (Payload-F.Fields fs) = ap (λ ws. head_fed Kind.Fields true ++ ws) (members_fed field_folded field_hashed field_folded-is fs)
 hashed_step-layer _ = refl
 
 -- what a value feeds by one level

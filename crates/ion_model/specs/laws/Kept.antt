@@ -1,12 +1,9 @@
 -- Values that are kept, behind values that are; and by levels.
 use Rattle.std.proofs.Common.{◌≡◌, ℕ, ◌+◌, ◌<◌, List, [], ◌∷◌, ◌++◌, length, drop, get_or, Option, sym, subst, arith}
 use Rattle.std.proofs.lemmas.List.{drop_more}
-use Rattle.ion_model.specs.declared.value.Value.{Value}
-use Rattle.ion_model.specs.declared.value.Field.{Field}
-use Rattle.ion_model.specs.declared.value.Payload.TheOpen.{Payload-F}
-use Rattle.ion_model.specs.declared.value.Payload.TheViews.{out-Payload, roll-Payload, roll-out-Payload}
-use Rattle.ion_model.specs.Measures.{Layer, field_of}
-use Rattle.ion_model.specs.Kept.{IsText, AreTexts, IsKept, kept, KeptPayload, kept_null, kept_truth, kept_int, kept_decimal, kept_timestamp, kept_symbol, kept_string, kept_clob, kept_blob, kept_list, kept_sexp, kept_fields, KeptItems, no_items, an_item, KeptFields, no_fields, a_field, AreKept, KeptLayer}
+use Rattle.ion_model.specs.Names.{AreTexts, Field, IsText, Layer, Payload-F, Value, field_of, out-Payload, roll-out-Payload}
+use Rattle.ion_model.specs.Kept.{AreKept, IsKept, KeptFields, KeptItems, KeptLayer, KeptPayload, a_field, an_item, kept, kept_blob, kept_clob, kept_decimal, kept_fields, kept_int, kept_list, kept_null, kept_sexp, kept_string, kept_symbol, kept_timestamp, kept_truth, no_fields, no_items}
+use Rattle.ion_model.specs.declared.value.Payload.TheViews.{roll-Payload}
 
 -- symbols that are kept, behind others that are, are kept
 pub texts_both : (ss ts : List (Option (List ℕ))) → AreTexts ss → AreTexts ts → AreTexts (ss ++ ts)

@@ -2,16 +2,10 @@
 use Rattle.std.proofs.Common.{sum, length, get_or, ◌≡◌, ℕ, ◌+◌, ◌≤◌, ◌<◌, zero, suc, max, map, List, [], ◌∷◌, ◌++◌, Bool, ℤ, refl, ap, ◌∙◌, arith}
 use Rattle.std.specs.List.{sum_by}
 use Rattle.std.proofs.lemmas.List.Sums.{sum-map, sum_by-append, sum_by-cons}
-use Rattle.ion_model.specs.Measures.{depth, depth_step, nodes, nodes_step, greatest, bare, Layer}
+use Rattle.ion_model.specs.Names.{Field, Kind, Layer, Payload, Payload-F, Value, bare, depth, depth_step, fold-Field, fold-Payload, fold_out-Field, fold_out-Payload, fold_out-Value, greatest, map-Payload, nodes, nodes_step}
 pub use Rattle.ion_model.specs.Measures.{layer_depth, layer_nodes}
-use Rattle.ion_atoms.specs.declared.kind.Kind.{Kind}
-use Rattle.ion_model.specs.declared.value.Value.{Value}
-use Rattle.ion_model.specs.declared.value.Field.{Field}
-use Rattle.ion_model.specs.declared.value.Payload.{Payload}
-use Rattle.ion_model.specs.declared.value.Payload.TheViews as views
 use Rattle.ion_model.specs.declared.value.Payload.TheVariants as payloads
-use Rattle.ion_model.specs.declared.value.Payload.TheFolds.{fold_out-Payload, fold_out-Value, fold_out-Field, fold-Payload, fold-Field, map-Payload}
-use Rattle.ion_model.specs.declared.value.Payload.TheOpen.{Payload-F}
+use Rattle.ion_model.specs.declared.value.Payload.TheViews as views
 
 abbrev payload_depth : Payload → ℕ
 payload_depth = fold-Payload ℕ ℕ ℕ depth_step (λ f. f.value) (λ v. v.payload)

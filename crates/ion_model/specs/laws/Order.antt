@@ -2,18 +2,9 @@
 use Rattle.std.proofs.Common.{◌≡◌, ℕ, ◌≤◌, ◌<◌, zero, suc, max, List, [], ◌∷◌, length, drop, Ordering, Less, refl, arith, ap}
 use Rattle.std.specs.Cmp.Lexicographic.{slice_cmp}
 use Rattle.std.specs.Ordering.{ordering_then}
-use Rattle.ion_model.specs.Measures.{depth, Layer}
-use Rattle.ion_model.specs.Kinds.{layer_kind}
-use Rattle.ion_model.specs.Same.{items, fields, scalar}
-use Rattle.ion_atoms.specs.Kinds.{kind_rank}
-use Rattle.ion_model.specs.Order.{order, order_to, value_cmp, layer_cmp, field_cmp}
-use Rattle.ion_model.specs.Symbols.{symbol_cmp}
-use Rattle.ion_model.specs.laws.Measures.{depth-out, layer_depth}
-use Rattle.ion_model.specs.laws.Same.{Agree, items_deep, fields_deep, items-deep, fields-deep}
-use Rattle.ion_model.specs.declared.value.Value.{Value}
-use Rattle.ion_model.specs.declared.value.Field.{Field}
-use Rattle.ion_model.specs.declared.value.Payload.TheViews.{out-Payload}
-use Rattle.ion_model.specs.declared.value.Payload.TheOpen.{Payload-F}
+use Rattle.ion_model.specs.Names.{Field, Layer, Payload-F, Value, depth, field_cmp, fields, items, kind_rank, layer_cmp, layer_depth, layer_kind, order, order_to, out-Payload, scalar, symbol_cmp, value_cmp}
+use Rattle.ion_model.specs.laws.Measures.{depth-out}
+use Rattle.ion_model.specs.laws.Same.{Agree, fields-deep, fields_deep, items-deep, items_deep}
 
 slice_cmp-agree : (n : ℕ) (R S : Value → Value → Ordering) → Agree n R S → (vs ws : List Value) → items_deep vs ≤ n → items_deep ws ≤ n
     → slice_cmp R vs ws ≡ slice_cmp S vs ws

@@ -1,46 +1,36 @@
 -- The order ties no two values.
 use Rattle.std.proofs.Common.{◌≡◌, ℕ, ◌≤◌, ◌<◌, zero, suc, max, List, [], ◌∷◌, map, cond, Ordering, Equal, Option, refl, arith, ap, ◌∙◌, sym, eqb}
 use Rattle.std.specs.Cmp.Lexicographic.{slice_cmp}
-use Rattle.ion_model.specs.Measures.{depth, greatest, Layer}
-use Rattle.ion_model.specs.Same.{Scalar, scalar, items, fields}
-use Rattle.ion_atoms.specs.Kinds.{kind_rank}
-use Rattle.ion_model.specs.Order.{order, order_to, layer_cmp, field_cmp, scalar_cmp}
-use Rattle.ion_model.specs.Symbols.{symbol_cmp}
-use Rattle.ion_atoms.specs.declared.kind.Kind.{Kind}
-use Rattle.ion_atoms.specs.declared.kind.Kind.TheVariants as kinds
-use Rattle.ion_model.specs.declared.value.Value.{Value}
-use Rattle.ion_model.specs.declared.value.Field.{Field}
-use Rattle.ion_model.specs.declared.value.Payload.{Payload}
-use Rattle.ion_model.specs.declared.value.Payload.TheOpen.{Payload-F}
-use Rattle.ion_model.specs.declared.value.Payload.TheViews.{out-Payload, roll-Payload, roll-out-Payload}
-use Rattle.ion_model.specs.laws.Measures.{depth-out}
-use Rattle.ion_model.specs.laws.Same.{items_deep, fields_deep, items-deep, fields-deep}
-use Rattle.ion_model.specs.laws.Order.{order-agrees}
-use Rattle.ion_model.specs.laws.Parts.{symbol_is, scalar_is}
+use Rattle.ion_model.specs.Names.{Field, Kind, Layer, Payload, Payload-F, Scalar, Value, depth, field_cmp, fields, greatest, items, kind_rank, layer_cmp, order, order_to, out-Payload, roll-out-Payload, scalar, scalar_cmp, symbol_cmp}
 use Rattle.ion_atoms.specs.laws.Ties.{then_first, then_second}
+use Rattle.ion_model.specs.declared.value.Payload.TheViews.{roll-Payload}
+use Rattle.ion_model.specs.laws.Measures.{depth-out}
+use Rattle.ion_model.specs.laws.Order.{order-agrees}
+use Rattle.ion_model.specs.laws.Parts.{scalar_is, symbol_is}
+use Rattle.ion_model.specs.laws.Same.{fields-deep, fields_deep, items-deep, items_deep}
 
 kind_at : ℕ → Kind
 kind_at n =
-    cond (eqb n 0) kinds.Null (cond (eqb n 1) kinds.Bool (cond (eqb n 2) kinds.Int
-    (cond (eqb n 3) kinds.Float (cond (eqb n 4) kinds.Decimal (cond (eqb n 5) kinds.Timestamp (cond (eqb n 6) kinds.Symbol
-    (cond (eqb n 7) kinds.Str (cond (eqb n 8) kinds.Clob (cond (eqb n 9) kinds.Blob
-    (cond (eqb n 10) kinds.List (cond (eqb n 11) kinds.Sexp kinds.Fields)))))))))))
+    cond (eqb n 0) Kind.Null (cond (eqb n 1) Kind.Bool (cond (eqb n 2) Kind.Int
+    (cond (eqb n 3) Kind.Float (cond (eqb n 4) Kind.Decimal (cond (eqb n 5) Kind.Timestamp (cond (eqb n 6) Kind.Symbol
+    (cond (eqb n 7) Kind.Str (cond (eqb n 8) Kind.Clob (cond (eqb n 9) Kind.Blob
+    (cond (eqb n 10) Kind.List (cond (eqb n 11) Kind.Sexp Kind.Fields)))))))))))
 
 kind_at-rank : (k : Kind) → kind_at (kind_rank k) ≡ k
 unfolding kind_at
-kind_at-rank kinds.Null = refl
-kind_at-rank kinds.Bool = refl
-kind_at-rank kinds.Int = refl
-kind_at-rank kinds.Float = refl
-kind_at-rank kinds.Decimal = refl
-kind_at-rank kinds.Timestamp = refl
-kind_at-rank kinds.Symbol = refl
-kind_at-rank kinds.Str = refl
-kind_at-rank kinds.Clob = refl
-kind_at-rank kinds.Blob = refl
-kind_at-rank kinds.List = refl
-kind_at-rank kinds.Sexp = refl
-kind_at-rank kinds.Fields = refl
+kind_at-rank Kind.Null = refl
+kind_at-rank Kind.Bool = refl
+kind_at-rank Kind.Int = refl
+kind_at-rank Kind.Float = refl
+kind_at-rank Kind.Decimal = refl
+kind_at-rank Kind.Timestamp = refl
+kind_at-rank Kind.Symbol = refl
+kind_at-rank Kind.Str = refl
+kind_at-rank Kind.Clob = refl
+kind_at-rank Kind.Blob = refl
+kind_at-rank Kind.List = refl
+kind_at-rank Kind.Sexp = refl
+kind_at-rank Kind.Fields = refl
 
 -- the layer that has these parts
 rebuild : Scalar → List Value → List Field → Layer

@@ -1,19 +1,13 @@
 -- `order` is a total order, and tells any two values apart.
 use Rattle.std.proofs.Common.{◌≡◌, ℕ, List, Option, None, Some, zero, suc, max, Ordering, refl, rules, arith, ap, ◌∙◌, sym}
-use Rattle.std.specs.Cmp.{IsTotalOrder}
+use Rattle.std.specs.Cmp.{IsTotalOrder, bool_cmp_total}
 use Rattle.std.specs.Cmp.Rules.{comparing}
 use Rattle.std.specs.Ordering.{ordering_reverse, is_eq}
 use Rattle.std.proofs.lemmas.Map.Text.{is_eq-slice_cmp}
 use Rattle.std.proofs.lemmas.Cmp.{then_total, on_total, lists_total, nat_cmp_total, int_cmp_total, nat_list_cmp_total}
-use Rattle.std.specs.Cmp.{bool_cmp_total}
+use Rattle.ion_model.specs.Names.{Value, depth, field_cmp, fields, items, layer_cmp, order, order_to, out-Payload, scalar, scalar_cmp, symbol_cmp, symbol_same, value_cmp}
 use Rattle.ion_atoms.specs.laws.OrderTotal.{decimal_cmp-total, timestamp_cmp-total}
-use Rattle.ion_model.specs.Measures.{depth}
-use Rattle.ion_model.specs.Same.{items, fields, scalar}
-use Rattle.ion_model.specs.Order.{order, order_to, value_cmp, layer_cmp, field_cmp, scalar_cmp}
-use Rattle.ion_model.specs.Symbols.{symbol_same, symbol_cmp}
 use Rattle.ion_model.specs.laws.Order.{order-agrees}
-use Rattle.ion_model.specs.declared.value.Value.{Value}
-use Rattle.ion_model.specs.declared.value.Payload.TheViews.{out-Payload}
 
 -- the order of symbols has no ties but those of the same symbols
 pub symbol_ties : (s t : Option (List ℕ)) → symbol_same s t ≡ is_eq (symbol_cmp s t)

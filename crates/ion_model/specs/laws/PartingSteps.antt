@@ -3,13 +3,12 @@ use Rattle.std.specs.Prelude.{ℕ, List, [], ◌∷◌, ◌++◌, ◌≡◌, ◌
 use Rattle.std.specs.declared.cmp.Ordering.{Ordering}
 use Rattle.std.specs.declared.cmp.Ordering.TheVariants.{Less, Equal, Greater}
 use lib.Pointwise.{pointwise}
-use Rattle.ion_model.specs.declared.path.Part.{Part}
-use Rattle.ion_model.specs.declared.path.Part.TheVariants as parts
-use Rattle.ion_model.specs.declared.value.Value.{Value}
-use Rattle.ion_model.specs.declared.value.Field.{Field}
-use Rattle.ion_model.specs.Order.{order, field_cmp}
-use Rattle.ion_model.specs.Parting.{IsPath, ItemsPart, FieldsPart}
+use Rattle.ion_model.specs.Order.{field_cmp, order}
+use Rattle.ion_model.specs.Parting.{FieldsPart, IsPath, ItemsPart}
 use Rattle.ion_model.specs.Same.{same}
+use Rattle.ion_model.specs.declared.path.Part.{Part}
+use Rattle.ion_model.specs.declared.value.Field.{Field}
+use Rattle.ion_model.specs.declared.value.Value.{Value}
 
 -- the list with a path put behind it
 pub record Extends (P : List Part → Type 0) (old new : List Part) : Type 0 where
@@ -19,12 +18,12 @@ pub record Extends (P : List Part → Type 0) (old new : List Part) : Type 0 whe
 
 -- the path of two lists of items, from their number on
 abbrev pub ItemsPath : List Value → List Value → List Part → Type 0
-ItemsPath vs ws (parts.Item n ∷ rest) = ItemsPart rest (IsPath rest) n vs ws
+ItemsPath vs ws (Part.Item n ∷ rest) = ItemsPart rest (IsPath rest) n vs ws
 ItemsPath vs ws _ = ⊥
 
 -- the path of two lists of fields, from the name on
 abbrev pub FieldsPath : List Field → List Field → List Part → Type 0
-FieldsPath fs gs (parts.Name s ∷ rest) = FieldsPart rest (IsPath rest) s fs gs
+FieldsPath fs gs (Part.Name s ∷ rest) = FieldsPart rest (IsPath rest) s fs gs
 FieldsPath fs gs _ = ⊥
 
 -- one list ends, or the first items left differ

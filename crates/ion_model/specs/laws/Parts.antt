@@ -7,14 +7,10 @@ use Rattle.std.proofs.lemmas.Bool.{eqb-true}
 use Rattle.std.proofs.lemmas.Cmp.{tied_itself}
 use Rattle.std.proofs.lemmas.Slice.Eq.{bytes_eq-Decides}
 use lib.Pointwise.{pointwise}
+use Rattle.ion_model.specs.Names.{Scalar, decimal_cmp, decimal_same, scalar_cmp, scalar_same, symbol_cmp, symbol_same, text_cmp, text_same, timestamp_cmp, timestamp_same}
 use Rattle.ion_atoms.specs.laws.Tests.{both, first, second}
-use Rattle.ion_atoms.specs.Decimals.{decimal_same, decimal_cmp}
+use Rattle.ion_atoms.specs.laws.Ties.{bool_from, bool_is, decimal_from, decimal_is, int_from, int_is, nat_back, nat_is, then_first, then_second, then_tie, timestamp_from, timestamp_is}
 use Rattle.ion_model.specs.laws.Equivalence.{scalar_same-equiv, symbol_same-equiv}
-use Rattle.ion_model.specs.Order.{scalar_cmp}
-use Rattle.ion_model.specs.Same.{Scalar, scalar_same}
-use Rattle.ion_model.specs.Symbols.{text_same, symbol_same, text_cmp, symbol_cmp}
-use Rattle.ion_atoms.specs.Timestamps.{timestamp_same, timestamp_cmp}
-use Rattle.ion_atoms.specs.laws.Ties.{then_tie, then_first, then_second, nat_back, nat_is, bool_is, bool_from, int_from, int_is, decimal_from, decimal_is, timestamp_from, timestamp_is}
 use Rattle.ion_model.specs.laws.OrderTotal.{scalar_cmp-total, symbol_cmp-total}
 
 text_back : (s t : List ℕ) → text_cmp s t ≡ Equal → text_same s t ≡ true

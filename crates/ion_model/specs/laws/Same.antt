@@ -3,15 +3,9 @@ use Rattle.std.proofs.Common.{◌≡◌, ℕ, ◌≤◌, ◌<◌, ◌+◌, zero,
 use Rattle.std.proofs.lemmas.List.Folds.{list_all_at, list_all_more}
 use Rattle.std.proofs.lemmas.Bool.{ne_eqb}
 use lib.Pointwise.{pointwise}
+use Rattle.ion_model.specs.Names.{Field, Layer, Payload-F, Value, counts_agree, depth, field_count, field_same, fields, greatest, items, layer_depth, layer_same, out-Payload, same, same_to, symbol_same, value_same}
 use Rattle.ion_model.specs.laws.Counts.{count_by-cons}
-use Rattle.ion_model.specs.Measures.{depth, greatest, Layer}
-use Rattle.ion_model.specs.Same.{same, same_to, value_same, layer_same, field_same, field_count, counts_agree, items, fields}
-use Rattle.ion_model.specs.Symbols.{symbol_same}
-use Rattle.ion_model.specs.laws.Measures.{depth-out, layer_depth}
-use Rattle.ion_model.specs.declared.value.Value.{Value}
-use Rattle.ion_model.specs.declared.value.Field.{Field}
-use Rattle.ion_model.specs.declared.value.Payload.TheViews.{out-Payload}
-use Rattle.ion_model.specs.declared.value.Payload.TheOpen.{Payload-F}
+use Rattle.ion_model.specs.laws.Measures.{depth-out}
 
 -- two tests that agree on values less than n deep
 pub record Agree {A : Type 0} (n : ℕ) (E F : Value → Value → A) : Type 0 where

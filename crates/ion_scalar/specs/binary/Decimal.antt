@@ -1,10 +1,7 @@
 -- The body of a decimal in binary (Ion 1.0, "Ion Binary Encoding", decimal): an exponent, which is a VarInt, and a coefficient, which is an Int of the rest.
 use Rattle.std.specs.Prelude.{◌≡◌, ◌⊎◌, ℕ, ℤ, pos, ◌^◌, Bool, false, List, [], ◌∷◌, ◌++◌, drop, nat_le, nat_lt, if◌then◌else◌, Result, Ok, Err}
-use Rattle.ion_atoms.specs.Decimals.{DecimalParts}
-use Rattle.ion_atoms.specs.declared.refusal.Reason.{Reason}
-use Rattle.ion_atoms.specs.declared.refusal.Reason.TheVariants.{TooLarge, Malformed}
-use Rattle.ion_scalar.specs.declared.fields.Signed.{Signed}
-use Rattle.ion_scalar.specs.binary.Fields.{VarInt, var_int, int_negative, int_magnitude}
+use Rattle.ion_scalar.specs.Names.Below.{DecimalParts, Malformed, Reason, Signed, TooLarge}
+use Rattle.ion_scalar.specs.binary.Fields.{VarInt, int_magnitude, int_negative, var_int}
 use Rattle.ion_scalar.specs.text.Decimals.{signed}
 
 -- a whole body is that decimal

@@ -1,18 +1,12 @@
 -- The table of descriptors (Ion 1.0, "Ion Binary Encoding", typed value formats): a row for each type code, by the length code.
 use Rattle.std.specs.Prelude.{◌/◌, ◌%◌, ℕ, [], ◌∷◌, ◌==◌, ◌||◌, if◌then◌else◌, slice_index_or, true, false, Result, Ok, Err}
-use Rattle.ion_atoms.specs.declared.refusal.Reason.{Reason}
-use Rattle.ion_atoms.specs.declared.refusal.Reason.TheVariants.{Malformed, Float}
-use Rattle.ion_atoms.specs.declared.kind.Kind.{Kind}
-use Rattle.ion_atoms.specs.declared.kind.Kind.TheVariants as kinds
+use Rattle.ion_scalar.specs.Names.Below.{Body, Descriptor, Float, Follows, Kind, Known, Malformed, Marker, Null, Ordered, Pad, Reason, Truth}
 use Rattle.ion_scalar.specs.declared.descriptor.Size.{Size}
-use Rattle.ion_scalar.specs.declared.descriptor.Size.TheVariants.{Known, Follows}
-use Rattle.ion_scalar.specs.declared.descriptor.Descriptor.{Descriptor}
-use Rattle.ion_scalar.specs.declared.descriptor.Descriptor.TheVariants.{Marker, Null, Truth, Pad, Ordered, Body}
 
 -- the kind of a type code: both those of ints are ints, one past 13 counts as a struct's
 abbrev pub kind : ℕ → Kind
-kind tag = slice_index_or (kinds.Null ∷ kinds.Bool ∷ kinds.Int ∷ kinds.Int ∷ kinds.Float ∷ kinds.Decimal ∷ kinds.Timestamp ∷ kinds.Symbol ∷ kinds.Str
-    ∷ kinds.Clob ∷ kinds.Blob ∷ kinds.List ∷ kinds.Sexp ∷ kinds.Fields ∷ []) tag kinds.Fields
+kind tag = slice_index_or (Kind.Null ∷ Kind.Bool ∷ Kind.Int ∷ Kind.Int ∷ Kind.Float ∷ Kind.Decimal ∷ Kind.Timestamp ∷ Kind.Symbol ∷ Kind.Str
+    ∷ Kind.Clob ∷ Kind.Blob ∷ Kind.List ∷ Kind.Sexp ∷ Kind.Fields ∷ []) tag Kind.Fields
 
 -- what a length code says: 14 that the length follows, any other the length itself
 abbrev pub size : ℕ → Size

@@ -1,9 +1,7 @@
 -- Whole numbers as octets (Ion 1.0, "Ion Binary Encoding", basic field formats).
 use Rattle.std.specs.Prelude.{◌≡◌, ℕ, ◌+◌, ◌-◌, ◌*◌, ◌^◌, ◌<◌, ◌≤◌, List, [], ◌∷◌, ◌++◌, length, map, take, nat_le, nat_lt, if◌then◌else◌, Result, Ok, Err, Bool, false}
 use Rattle.std.specs.List.{position_or_len}
-use Rattle.ion_scalar.specs.declared.fields.Signed.{Signed}
-use Rattle.ion_atoms.specs.declared.refusal.Reason.{Reason}
-use Rattle.ion_atoms.specs.declared.refusal.Reason.TheVariants.{TooLarge, Incomplete}
+use Rattle.ion_scalar.specs.Names.Below.{Incomplete, Reason, Signed, TooLarge}
 
 -- the number with these digits, the most significant first: the sum of each digit times the power of the base that its place has
 abbrev pub positional : ℕ → List ℕ → ℕ

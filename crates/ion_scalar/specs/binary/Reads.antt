@@ -1,11 +1,8 @@
 -- What each answer of a reading call says of the octets that it was given.
 use Rattle.std.specs.Prelude.{◌≡◌, ◌≢◌, ◌⊎◌, ℕ, ◌^◌, ◌<◌, ◌≤◌, List, [], ◌∷◌, ◌++◌, length, take, Result, Ok, Err}
-use Rattle.ion_atoms.specs.Decimals.{DecimalParts, IsDecimal}
-use Rattle.ion_atoms.specs.declared.refusal.Reason.{Reason}
-use Rattle.ion_atoms.specs.declared.refusal.Reason.TheVariants.{TooLarge, Malformed, Incomplete}
-use Rattle.ion_scalar.specs.declared.fields.Signed.{Signed}
+use Rattle.ion_scalar.specs.Names.Below.{DecimalParts, Incomplete, IsDecimal, Malformed, Reason, Signed, TooLarge}
 use Rattle.ion_scalar.specs.binary.Decimal.{IsDecimalField}
-use Rattle.ion_scalar.specs.binary.Fields.{positional, Digits128, VarUInt, VarInt, seven_bits, six_bits}
+use Rattle.ion_scalar.specs.binary.Fields.{Digits128, VarInt, VarUInt, positional, seven_bits, six_bits}
 
 -- behind the digit `front`, the seven bits of octets reach 2^63 with one that no octet before it ends
 pub record Reaches (front : ℕ) (octets : List ℕ) : Type 0 where

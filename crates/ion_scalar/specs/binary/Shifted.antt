@@ -1,8 +1,6 @@
 -- A minute of the day before, of the same day or of the day after, by how many minutes it lies later or earlier.
 use Rattle.std.specs.Prelude.{ℕ, ◌+◌, ◌*◌, ◌/◌, ◌%◌, ℤ, pos, ◌+ℤ◌, nat_lt, unsigned_abs, if◌then◌else◌}
-use Rattle.ion_atoms.specs.declared.calendar.Date.{Date}
-use Rattle.ion_atoms.specs.declared.calendar.Minute.{Minute}
-use Rattle.ion_atoms.specs.Neighbours.{previous_day, next_day}
+use Rattle.ion_scalar.specs.Names.Below.{Date, Minute, next_day, previous_day}
 
 -- in which of the three days a minute comes that is counted from the beginning of the day before
 abbrev pub day_at : Date → ℕ → Date

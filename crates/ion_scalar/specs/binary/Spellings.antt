@@ -2,7 +2,7 @@
 use Rattle.std.specs.Prelude.{int_lt, ℕ, ℤ, pos, not, ◌&&◌, ◌==◌, unsigned_abs, ◌+◌, ◌/◌, ◌%◌, ◌<◌, Bool, true, false, List, [], ◌∷◌, ◌++◌, length, slice_index, nat_lt, if◌then◌else◌}
 use Rattle.std.specs.Ordering.{int_eq}
 use Rattle.std.specs.Int.Digits.{digits_of}
-use Rattle.ion_atoms.specs.Decimals.{DecimalParts}
+use Rattle.ion_scalar.specs.Names.Below.{DecimalParts}
 
 -- the digits of base 128, one at least, 128 added to the last
 abbrev pub var_uint_octets : ℕ → List ℕ

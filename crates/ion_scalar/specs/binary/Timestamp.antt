@@ -2,22 +2,10 @@
 -- day, hour, minute and second, each a VarUInt, then a fraction of the second: an exponent of ten, which is a VarInt, and a coefficient, which is an
 -- Int of the rest. Trailing parts may be absent, but offset and year stand there, and a minute behind each hour.
 use Rattle.std.specs.Prelude.{◌≡◌, ◌⊎◌, ℕ, ℤ, pos, ◌^◌, ◌<◌, ◌≤◌, Bool, true, false, List, [], ◌∷◌, ◌++◌, drop, nat_le, nat_lt, ◌&&◌, ◌==◌, not, if◌then◌else◌, Option, Some, None, Result, Ok, Err}
-use Rattle.ion_atoms.specs.declared.calendar.Date.{Date}
-use Rattle.ion_atoms.specs.declared.calendar.Minute.{Minute}
-use Rattle.ion_atoms.specs.declared.refusal.Reason.{Reason}
-use Rattle.ion_atoms.specs.declared.refusal.Reason.TheVariants.{TooLarge, Malformed}
-use Rattle.ion_atoms.specs.declared.timestamp.Local.{Local}
-use Rattle.ion_atoms.specs.declared.timestamp.Precision.{Precision}
-use Rattle.ion_atoms.specs.declared.timestamp.Precision.TheVariants as precisions
-use Rattle.ion_atoms.specs.TimestampBounds.{last_year, last_month, last_hour, last_minute, last_second, farthest_offset, most_digits}
-use Rattle.ion_atoms.specs.Calendar.{month_length, minute_number}
-use Rattle.ion_atoms.specs.Timestamps.{TimestampParts, IsTimestamp, instant, minutes_ahead}
-use Rattle.ion_scalar.specs.declared.fields.Signed.{Signed}
-use Rattle.ion_scalar.specs.declared.timestamp_body.Utc.{Utc}
-use Rattle.ion_scalar.specs.binary.Fields.{VarUInt, VarInt, var_uint, var_int, int_negative, int_magnitude}
-use Rattle.ion_scalar.specs.text.Decimals.{signed}
-use Rattle.ion_atoms.specs.Neighbours.{day_of}
+use Rattle.ion_scalar.specs.Names.Below.{Date, IsTimestamp, Local, Malformed, Minute, Precision, Reason, Signed, TimestampParts, TooLarge, Utc, day_of, farthest_offset, instant, last_hour, last_minute, last_month, last_second, last_year, minute_number, minutes_ahead, month_length, most_digits}
+use Rattle.ion_scalar.specs.binary.Fields.{VarInt, VarUInt, int_magnitude, int_negative, var_int, var_uint}
 use Rattle.ion_scalar.specs.binary.Shifted.{moved}
+use Rattle.ion_scalar.specs.text.Decimals.{signed}
 
 -- a day, of which nothing more is known
 abbrev pub day_known : Precision → Date → Utc
@@ -48,8 +36,8 @@ abbrev pub IsFractionOf : Bool → ℕ → List ℕ → Minute → ℕ → Utc �
 IsFractionOf below power coefficient minute second utc =
     ((below ≡ true) × (1 ≤ power) × (power ≤ most_digits) × ((int_negative coefficient ≡ false) ⊎ (int_magnitude coefficient ≡ 0))
     × (int_magnitude coefficient < 10 ^ power)
-    × (utc ≡ time_known (precisions.Fraction power) minute second (int_magnitude coefficient)))
-    ⊎ (((below ≡ false) ⊎ (power ≡ 0)) × (int_magnitude coefficient ≡ 0) × (utc ≡ time_known precisions.Second minute second 0))
+    × (utc ≡ time_known (Precision.Fraction power) minute second (int_magnitude coefficient)))
+    ⊎ (((below ≡ false) ⊎ (power ≡ 0)) × (int_magnitude coefficient ≡ 0) × (utc ≡ time_known Precision.Second minute second 0))
 
 -- an exponent, and a coefficient that all the rest is
 pub record IsSecondsFraction (minute : Minute) (second : ℕ) (octets : List ℕ) (utc : Utc) : Type 0 where
@@ -64,12 +52,12 @@ pub record IsSecondsFraction (minute : Minute) (second : ℕ) (octets : List ℕ
 -- nothing behind a part, or the next one
 abbrev pub IsBehindSecond : Minute → ℕ → List ℕ → Utc → Type 0
 IsBehindSecond minute second octets utc =
-    ((octets ≡ []) × (utc ≡ time_known precisions.Second minute second 0)) ⊎ IsSecondsFraction minute second octets utc
+    ((octets ≡ []) × (utc ≡ time_known Precision.Second minute second 0)) ⊎ IsSecondsFraction minute second octets utc
 
 -- behind the minute nothing stands, or a second
 abbrev pub IsBehindMinute : Minute → List ℕ → Utc → Type 0
 IsBehindMinute minute octets utc =
-    ((octets ≡ []) × (utc ≡ time_known precisions.Minute minute 0 0)) ⊎ Begins 0 last_second (λ second rest. IsBehindSecond minute second rest utc) octets
+    ((octets ≡ []) × (utc ≡ time_known Precision.Minute minute 0 0)) ⊎ Begins 0 last_second (λ second rest. IsBehindSecond minute second rest utc) octets
 
 -- behind the hour a minute stands
 abbrev pub IsBehindHour : Date → ℕ → List ℕ → Utc → Type 0
@@ -78,18 +66,18 @@ IsBehindHour date hour octets utc = Begins 0 last_minute (λ minute rest. IsBehi
 -- behind the day nothing stands, or an hour
 abbrev pub IsBehindDay : Date → List ℕ → Utc → Type 0
 IsBehindDay date octets utc =
-    ((octets ≡ []) × (utc ≡ day_known precisions.Day date)) ⊎ Begins 0 last_hour (λ hour rest. IsBehindHour date hour rest utc) octets
+    ((octets ≡ []) × (utc ≡ day_known Precision.Day date)) ⊎ Begins 0 last_hour (λ hour rest. IsBehindHour date hour rest utc) octets
 
 -- behind the month nothing stands, or a day that the month has
 abbrev pub IsBehindMonth : ℕ → ℕ → List ℕ → Utc → Type 0
 IsBehindMonth year month octets utc =
-    ((octets ≡ []) × (utc ≡ day_known precisions.Month (day_of year month 1)))
+    ((octets ≡ []) × (utc ≡ day_known Precision.Month (day_of year month 1)))
     ⊎ Begins 1 (month_length year month) (λ day rest. IsBehindDay (day_of year month day) rest utc) octets
 
 -- behind the year nothing stands, or a month
 abbrev pub IsBehindYear : ℕ → List ℕ → Utc → Type 0
 IsBehindYear year octets utc =
-    ((octets ≡ []) × (utc ≡ day_known precisions.Year (day_of year 1 1))) ⊎ Begins 1 last_month (λ month rest. IsBehindMonth year month rest utc) octets
+    ((octets ≡ []) × (utc ≡ day_known Precision.Year (day_of year 1 1))) ⊎ Begins 1 last_month (λ month rest. IsBehindMonth year month rest utc) octets
 
 -- these octets are the fields in UTC, from the year on
 abbrev pub AreFields : List ℕ → Utc → Type 0
@@ -101,9 +89,9 @@ offset_from negative n = if negative && (n == 0) then None else Some (signed neg
 
 -- below minute precision the offset isn't part of the value
 abbrev pub kept_offset : Precision → Option ℤ → Option ℤ
-kept_offset precisions.Year offset = None
-kept_offset precisions.Month offset = None
-kept_offset precisions.Day offset = None
+kept_offset Precision.Year offset = None
+kept_offset Precision.Month offset = None
+kept_offset Precision.Day offset = None
 kept_offset _ offset = offset
 
 -- a whole body is that timestamp: it has the fields' instant and precision, and shows it by the offset
@@ -142,13 +130,13 @@ and_then octets judge (Err reason) = Err reason
 abbrev pub read_digits : ℕ → Minute → ℕ → List ℕ → Result Utc Reason
 read_digits digits minute second octets =
     if int_negative octets && nat_lt 0 (int_magnitude octets) then Err Malformed
-    else if nat_lt (int_magnitude octets) (10 ^ digits) then Ok (time_known (precisions.Fraction digits) minute second (int_magnitude octets))
+    else if nat_lt (int_magnitude octets) (10 ^ digits) then Ok (time_known (Precision.Fraction digits) minute second (int_magnitude octets))
     else Err Malformed
 
 -- behind an exponent that isn't below 0 the coefficient is to be 0, and there is no fraction
 abbrev pub read_no_digits : Minute → ℕ → List ℕ → Result Utc Reason
 read_no_digits minute second octets =
-    if nat_lt 0 (int_magnitude octets) then Err Malformed else Ok (time_known precisions.Second minute second 0)
+    if nat_lt 0 (int_magnitude octets) then Err Malformed else Ok (time_known Precision.Second minute second 0)
 
 -- more than 38 digits are too many
 unfoldable pub read_fraction : Minute → ℕ → Signed → List ℕ → Result Utc Reason
@@ -165,27 +153,27 @@ with_power minute second octets (Err TooLarge) = Err TooLarge
 with_power minute second octets (Err _) = Err Malformed
 
 unfoldable pub read_behind_second : Minute → ℕ → List ℕ → Result Utc Reason
-read_behind_second minute second [] = Ok (time_known precisions.Second minute second 0)
+read_behind_second minute second [] = Ok (time_known Precision.Second minute second 0)
 read_behind_second minute second (octet ∷ rest) = with_power minute second (octet ∷ rest) (var_int (octet ∷ rest))
 
 unfoldable pub read_behind_minute : Minute → List ℕ → Result Utc Reason
-read_behind_minute minute [] = Ok (time_known precisions.Minute minute 0 0)
+read_behind_minute minute [] = Ok (time_known Precision.Minute minute 0 0)
 read_behind_minute minute (octet ∷ rest) = and_then (octet ∷ rest) (read_behind_second minute) (read_field 0 last_second (octet ∷ rest))
 
 unfoldable pub read_behind_hour : Date → ℕ → List ℕ → Result Utc Reason
 read_behind_hour date hour octets = and_then octets (λ minute. read_behind_minute (minute_of date hour minute)) (read_field 0 last_minute octets)
 
 unfoldable pub read_behind_day : Date → List ℕ → Result Utc Reason
-read_behind_day date [] = Ok (day_known precisions.Day date)
+read_behind_day date [] = Ok (day_known Precision.Day date)
 read_behind_day date (octet ∷ rest) = and_then (octet ∷ rest) (read_behind_hour date) (read_field 0 last_hour (octet ∷ rest))
 
 unfoldable pub read_behind_month : ℕ → ℕ → List ℕ → Result Utc Reason
-read_behind_month year month [] = Ok (day_known precisions.Month (day_of year month 1))
+read_behind_month year month [] = Ok (day_known Precision.Month (day_of year month 1))
 read_behind_month year month (octet ∷ rest) =
     and_then (octet ∷ rest) (λ day. read_behind_day (day_of year month day)) (read_field 1 (month_length year month) (octet ∷ rest))
 
 unfoldable pub read_behind_year : ℕ → List ℕ → Result Utc Reason
-read_behind_year year [] = Ok (day_known precisions.Year (day_of year 1 1))
+read_behind_year year [] = Ok (day_known Precision.Year (day_of year 1 1))
 read_behind_year year (octet ∷ rest) = and_then (octet ∷ rest) (read_behind_month year) (read_field 1 last_month (octet ∷ rest))
 
 unfoldable pub read_fields : List ℕ → Result Utc Reason

@@ -1,10 +1,6 @@
 -- Which bodies are too large for a timestamp: those of which a part is, and each part before it ends and lies in its range.
 use Rattle.std.specs.Prelude.{◌≡◌, ◌⊎◌, ℕ, ◌^◌, ◌<◌, ◌≤◌, Bool, true, List, ◌++◌, Result, Ok, Err}
-use Rattle.ion_atoms.specs.declared.refusal.Reason.{Reason}
-use Rattle.ion_atoms.specs.declared.refusal.Reason.TheVariants.{TooLarge, Malformed}
-use Rattle.ion_atoms.specs.TimestampBounds.{last_year, last_month, last_hour, last_minute, last_second, farthest_offset, most_digits}
-use Rattle.ion_atoms.specs.Calendar.{month_length}
-use Rattle.ion_atoms.specs.Timestamps.{TimestampParts}
+use Rattle.ion_scalar.specs.Names.Below.{Malformed, Reason, TimestampParts, TooLarge, farthest_offset, last_hour, last_minute, last_month, last_second, last_year, month_length, most_digits}
 use Rattle.ion_scalar.specs.binary.Fields.{VarInt, int_magnitude}
 use Rattle.ion_scalar.specs.binary.Reads.{Reaches, ReachesInt}
 use Rattle.ion_scalar.specs.binary.Timestamp.{Begins, IsTimestampBody}

@@ -1,11 +1,8 @@
 -- How timestamps are written as octets: the offset, then the fields in UTC up to the precision.
 use Rattle.std.specs.Prelude.{ℕ, ℤ, pos, neg_ℤ, int_lt, unsigned_abs, true, false, List, [], ◌++◌, Option, Some, None}
-use Rattle.ion_atoms.specs.declared.timestamp.Precision.{Precision}
-use Rattle.ion_atoms.specs.declared.timestamp.Precision.TheVariants as precisions
-use Rattle.ion_atoms.specs.Timestamps.{TimestampParts, local_minute, minutes_ahead}
-use Rattle.ion_scalar.specs.declared.timestamp_body.Utc.{Utc}
+use Rattle.ion_scalar.specs.Names.Below.{Precision, TimestampParts, Utc, local_minute, minutes_ahead}
 use Rattle.ion_scalar.specs.binary.Shifted.{moved}
-use Rattle.ion_scalar.specs.binary.Spellings.{var_uint_octets, var_int_octets, int_octets}
+use Rattle.ion_scalar.specs.binary.Spellings.{int_octets, var_int_octets, var_uint_octets}
 
 -- the unknown offset is -0
 abbrev pub ahead_octets : Option ℤ → List ℕ
@@ -23,34 +20,34 @@ utc_of t = record {
 
 -- d digits are the exponent -d and a coefficient
 abbrev pub octets_behind_second : Precision → Utc → List ℕ
-octets_behind_second (precisions.Fraction digits) utc = var_int_octets true digits ++ int_octets false utc.fraction
+octets_behind_second (Precision.Fraction digits) utc = var_int_octets true digits ++ int_octets false utc.fraction
 octets_behind_second _ utc = []
 
 -- the second and what stands behind it, from second precision on
 abbrev pub octets_behind_minute : Precision → Utc → List ℕ
-octets_behind_minute precisions.Year utc = []
-octets_behind_minute precisions.Month utc = []
-octets_behind_minute precisions.Day utc = []
-octets_behind_minute precisions.Minute utc = []
+octets_behind_minute Precision.Year utc = []
+octets_behind_minute Precision.Month utc = []
+octets_behind_minute Precision.Day utc = []
+octets_behind_minute Precision.Minute utc = []
 octets_behind_minute precision utc = var_uint_octets utc.second ++ octets_behind_second precision utc
 
 -- the hour, the minute and what stands behind them, from minute precision on
 abbrev pub octets_behind_day : Precision → Utc → List ℕ
-octets_behind_day precisions.Year utc = []
-octets_behind_day precisions.Month utc = []
-octets_behind_day precisions.Day utc = []
+octets_behind_day Precision.Year utc = []
+octets_behind_day Precision.Month utc = []
+octets_behind_day Precision.Day utc = []
 octets_behind_day precision utc =
     var_uint_octets utc.minute.hour ++ (var_uint_octets utc.minute.minute ++ octets_behind_minute precision utc)
 
 -- the day and what stands behind it, from day precision on
 abbrev pub octets_behind_month : Precision → Utc → List ℕ
-octets_behind_month precisions.Year utc = []
-octets_behind_month precisions.Month utc = []
+octets_behind_month Precision.Year utc = []
+octets_behind_month Precision.Month utc = []
 octets_behind_month precision utc = var_uint_octets utc.minute.date.day ++ octets_behind_day precision utc
 
 -- the month and what stands behind it, from month precision on
 abbrev pub octets_behind_year : Precision → Utc → List ℕ
-octets_behind_year precisions.Year utc = []
+octets_behind_year Precision.Year utc = []
 octets_behind_year precision utc = var_uint_octets utc.minute.date.month ++ octets_behind_month precision utc
 
 -- the year and what stands behind it to the precision

@@ -4,9 +4,7 @@ use Rattle.std.specs.List.{position_or_len}
 use Rattle.std.proofs.lemmas.Bool.{leb-true, le-leb, lt-leb, lt-ltb, le-ltb, cases_lt}
 use Rattle.std.proofs.lemmas.List.{map_more, take-take, take_all, take-append-drop, map-append}
 use Rattle.std.proofs.lemmas.List.Sums.{position_or_len_is, passes_at_first}
-use Rattle.ion_atoms.specs.declared.refusal.Reason.TheVariants.{TooLarge, Incomplete}
-use Rattle.ion_scalar.specs.binary.Fields.{positional, seven_bits, groups, is_last, up_to_last, var_rest}
-use Rattle.ion_scalar.specs.Positional.{positional_push, positional_mono}
+use Rattle.ion_scalar.specs.Names.{Incomplete, TooLarge, groups, is_last, positional, positional_mono, positional_push, seven_bits, up_to_last, var_rest}
 
 -- an octet without its highest bit is its remainder by 128
 pub seven_bits_octet : (b : ℕ) → b < 256 → seven_bits b ≡ b % 128

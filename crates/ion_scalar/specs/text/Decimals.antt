@@ -1,8 +1,8 @@
 -- Decimals as tokens, behind the sign (Ion 1.0, "Ion Text Encoding" and its grammar, decimals). Floats have the same forms, with `e` in place of `d`.
 -- Octets stand as numbers: 43 is `+`, 45 `-`, 46 `.`, 68 and 100 `D` and `d`, 69 and 101 `E` and `e`.
 use Rattle.std.specs.Prelude.{ℕ, ℤ, ◌≡◌, ◌^◌, ◌<◌, ◌⊎◌, Bool, true, false, List, [], ◌∷◌, ◌++◌, length, min, pos, neg_ℤ, ◌-ℤ◌, ◌≤ℤ◌, ◌<ℤ◌}
-use Rattle.ion_scalar.specs.text.Ints.{IsDigits, digits_in, number, continued, IsWholePart}
-use Rattle.ion_scalar.specs.declared.decimals.Tail.{Tail}
+use Rattle.ion_scalar.specs.Names.Below.{Tail}
+use Rattle.ion_scalar.specs.text.Ints.{IsDigits, IsWholePart, continued, digits_in, number}
 
 -- the int of a sign and a magnitude
 abbrev pub signed : Bool → ℕ → ℤ

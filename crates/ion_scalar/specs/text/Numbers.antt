@@ -1,21 +1,15 @@
 -- Number tokens: which octets spell which number, and what each answer of reading one says.
 use Rattle.std.specs.Prelude.{ℕ, ℤ, ◌≡◌, Bool, true, false, List, ◌++◌, pos, ◌-ℤ◌, Result, Ok, Err}
-use Rattle.ion_atoms.specs.declared.refusal.Reason.{Reason}
-use Rattle.ion_atoms.specs.declared.refusal.Reason.TheVariants.{TooLarge, Malformed, Float}
-use Rattle.ion_atoms.specs.Ranges.{IsWhole}
-use Rattle.ion_atoms.specs.Decimals.{IsDecimal}
-use Rattle.ion_scalar.specs.declared.number.Number.{Number}
-use Rattle.ion_scalar.specs.declared.number.Number.TheVariants as numbers
-use Rattle.ion_scalar.specs.text.Ints.{IsMagnitude, minus}
-use Rattle.ion_atoms.specs.Timestamps.{TimestampParts, IsTimestamp}
-use Rattle.ion_scalar.specs.text.Timestamps.{IsTimestampToken, IsShort}
+use Rattle.ion_scalar.specs.Names.Below.{Float, IsDecimal, IsTimestamp, IsWhole, Malformed, Number, Reason, TimestampParts, TooLarge, minus}
 use Rattle.ion_scalar.specs.text.Decimals.{IsDecimalBody, signed}
+use Rattle.ion_scalar.specs.text.Ints.{IsMagnitude}
+use Rattle.ion_scalar.specs.text.Timestamps.{IsShort, IsTimestampToken}
 
 -- what the octets behind a sign are with it: the int `-0` is 0, and a decimal keeps the sign of a zero
 abbrev pub IsBehind : Bool → List ℕ → Number → Type 0
-IsBehind negative body (numbers.Int z) = (n : ℕ) × IsMagnitude body n × (z ≡ signed negative n)
-IsBehind negative body (numbers.Timestamp t) = ⊥
-IsBehind negative body (numbers.Decimal d) = (d.negative ≡ negative) × IsDecimalBody false body d.magnitude d.exponent
+IsBehind negative body (Number.Int z) = (n : ℕ) × IsMagnitude body n × (z ≡ signed negative n)
+IsBehind negative body (Number.Timestamp t) = ⊥
+IsBehind negative body (Number.Decimal d) = (d.negative ≡ negative) × IsDecimalBody false body d.magnitude d.exponent
 
 -- a float with an exponent, behind the sign
 pub record IsFloatBody (body : List ℕ) : Type 0 where
@@ -25,13 +19,13 @@ pub record IsFloatBody (body : List ℕ) : Type 0 where
 
 -- the numbers that are kept
 abbrev pub Fits : Number → Type 0
-Fits (numbers.Int z) = IsWhole z
-Fits (numbers.Decimal d) = IsDecimal d
-Fits (numbers.Timestamp t) = IsShort t.precision
+Fits (Number.Int z) = IsWhole z
+Fits (Number.Decimal d) = IsDecimal d
+Fits (Number.Timestamp t) = IsShort t.precision
 
 -- the decimal of a coefficient and a written exponent, with so many fraction digits
 abbrev pub decimal_read : Bool → ℕ → Bool → ℕ → ℕ → Number
-decimal_read negative magnitude below written count = numbers.Decimal
+decimal_read negative magnitude below written count = Number.Decimal
     (record { negative = negative; magnitude = magnitude; exponent = signed below written -ℤ pos count })
 
 -- what an answer says of the octets behind a sign: a number, one that is too large, a float, or neither
@@ -66,12 +60,12 @@ ReadsNumeral token (Err _) = ⊥
 
 -- a whole token and the number that it spells, however large, and whether or not there is such a day and time
 abbrev pub IsNumber : List ℕ → Number → Type 0
-IsNumber token (numbers.Timestamp t) = IsTimestampToken token t
+IsNumber token (Number.Timestamp t) = IsTimestampToken token t
 IsNumber token x = IsNumeral token x
 
 -- there is such a day and time
 abbrev pub IsThere : Number → Type 0
-IsThere (numbers.Timestamp t) = IsTimestamp t
+IsThere (Number.Timestamp t) = IsTimestamp t
 IsThere _ = Unit {0}
 
 -- what each answer of reading a token says: the number; `TooLarge` for one that is too large, whether or not it is there; `Float` for the
@@ -85,7 +79,7 @@ ReadsNumber token (Err _) = ⊥
 
 -- the same of the forms of a timestamp alone
 abbrev pub ReadsTimestamp : List ℕ → Result Number Reason → Type 0
-ReadsTimestamp token (Ok (numbers.Timestamp t)) = IsTimestampToken token t × IsTimestamp t
+ReadsTimestamp token (Ok (Number.Timestamp t)) = IsTimestampToken token t × IsTimestamp t
 ReadsTimestamp token (Ok _) = ⊥
 ReadsTimestamp token (Err TooLarge) = (t : TimestampParts) × IsTimestampToken token t × (IsShort t.precision → ⊥)
 ReadsTimestamp token (Err Malformed) = (t : TimestampParts) → IsTimestampToken token t → IsShort t.precision × (IsTimestamp t → ⊥)

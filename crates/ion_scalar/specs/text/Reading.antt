@@ -2,17 +2,11 @@
 use Rattle.std.proofs.Common.{◌≡◌, ℕ, List, ◌^◌, ◌+◌, ℤ, pos, neg_ℤ, negsuc, inl, inr, ◌⊎◌, Result, Ok, Err, sym, subst}
 use Rattle.std.specs.Prelude.{◌↔◌}
 use Rattle.std.proofs.Math.Decide.{map_dec, dec_lt}
-use Rattle.ion_atoms.specs.declared.refusal.Reason.{Reason}
-use Rattle.ion_atoms.specs.declared.refusal.Reason.TheVariants.{TooLarge, Malformed, Float}
-use Rattle.ion_atoms.specs.Decimals.{DecimalParts, IsDecimal}
-use Rattle.ion_atoms.specs.Ranges.{IsWhole}
-use Rattle.ion_scalar.specs.declared.number.Number.{Number}
-use Rattle.ion_scalar.specs.declared.number.Number.TheVariants as numbers
-use Rattle.ion_scalar.specs.text.Numbers.{IsNumber, IsNumeral, IsFloat, Fits, IsThere, ReadsNumber}
-use Rattle.ion_scalar.specs.text.laws.OneNumber.{one_number, number_no_float, one_answer}
-use Rattle.ion_scalar.specs.text.laws.Deciding.{three, either, below, at_most}
-use Rattle.ion_scalar.specs.text.laws.DecidedNumbers.{SomeNumeral, numeral, float}
-use Rattle.ion_scalar.specs.text.laws.DecidedTimestamps.{SomeTimestamp, timestamp, there, short}
+use Rattle.ion_scalar.specs.Names.{DecimalParts, Fits, Float, IsDecimal, IsFloat, IsNumber, IsNumeral, IsThere, IsWhole, Malformed, Number, ReadsNumber, Reason, TooLarge}
+use Rattle.ion_scalar.specs.text.laws.DecidedNumbers.{SomeNumeral, float, numeral}
+use Rattle.ion_scalar.specs.text.laws.DecidedTimestamps.{SomeTimestamp, short, there, timestamp}
+use Rattle.ion_scalar.specs.text.laws.Deciding.{at_most, below, either, three}
+use Rattle.ion_scalar.specs.text.laws.OneNumber.{number_no_float, one_answer, one_number}
 
 abbrev pub SomeNumber : List ℕ → Type 0
 SomeNumber token = (x : Number) × IsNumber token x
@@ -20,15 +14,15 @@ SomeNumber token = (x : Number) × IsNumber token x
 form_number : (token : List ℕ) → SomeNumeral token ⊎ SomeTimestamp token → SomeNumber token
 form_number token (inl h) = numeral_number h.0 h.1 where
   numeral_number : (x : Number) → IsNumeral token x → SomeNumber token
-  numeral_number (numbers.Int z) i = (numbers.Int z, i)
-  numeral_number (numbers.Decimal d) i = (numbers.Decimal d, i)
-  numeral_number (numbers.Timestamp t) i = absurd i.is
-form_number token (inr h) = (numbers.Timestamp h.0, h.1)
+  numeral_number (Number.Int z) i = (Number.Int z, i)
+  numeral_number (Number.Decimal d) i = (Number.Decimal d, i)
+  numeral_number (Number.Timestamp t) i = absurd i.is
+form_number token (inr h) = (Number.Timestamp h.0, h.1)
 
 number_form : (token : List ℕ) (x : Number) → IsNumber token x → SomeNumeral token ⊎ SomeTimestamp token
-number_form token (numbers.Int z) i = inl (numbers.Int z, i)
-number_form token (numbers.Decimal d) i = inl (numbers.Decimal d, i)
-number_form token (numbers.Timestamp t) i = inr (t, i)
+number_form token (Number.Int z) i = inl (Number.Int z, i)
+number_form token (Number.Decimal d) i = inl (Number.Decimal d, i)
+number_form token (Number.Timestamp t) i = inr (t, i)
 
 pub some_number : (token : List ℕ) → Dec (SomeNumber token)
 some_number token = map_dec (form_number token) (λ h. number_form token h.0 h.1) (either (numeral token) (timestamp token))
@@ -41,14 +35,14 @@ is_decimal : (d : DecimalParts) → Dec (IsDecimal d)
 is_decimal d = three (dec_lt d.magnitude (2 ^ 127)) (at_most (neg_ℤ (pos (2 ^ 31))) d.exponent) (below d.exponent (pos (2 ^ 31)))
 
 fits : (x : Number) → Dec (Fits x)
-fits (numbers.Int z) = is_whole z
-fits (numbers.Decimal d) = is_decimal d
-fits (numbers.Timestamp t) = short t.precision
+fits (Number.Int z) = is_whole z
+fits (Number.Decimal d) = is_decimal d
+fits (Number.Timestamp t) = short t.precision
 
 is_there : (x : Number) → Dec (IsThere x)
-is_there (numbers.Int z) = yes tt
-is_there (numbers.Decimal d) = yes tt
-is_there (numbers.Timestamp t) = there t
+is_there (Number.Int z) = yes tt
+is_there (Number.Decimal d) = yes tt
+is_there (Number.Timestamp t) = there t
 
 -- an answer, and that it is the right one
 pub record Read (token : List ℕ) : Type 0 where

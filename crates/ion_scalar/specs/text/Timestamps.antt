@@ -1,14 +1,9 @@
 -- Timestamps as tokens, by their places (Ion 1.0, "Timestamps").
 -- Octets stand as numbers: 43 is `+`, 45 `-`, 46 `.`, 48 to 57 the digits, 58 `:`, 84 `T`, 90 `Z`.
 use Rattle.std.specs.Prelude.{ℕ, ℤ, ◌≡◌, ◌+◌, ◌-◌, ◌*◌, ◌^◌, ◌<◌, ◌≤◌, ◌⊎◌, ◌==◌, if◌then◌else◌, List, ◌++◌, length, min, drop, slice_index, pos, neg_ℤ, Option, Some, None}
-use Rattle.ion_atoms.specs.declared.timestamp.Local.{Local}
-use Rattle.ion_atoms.specs.declared.timestamp.Precision.{Precision}
-use Rattle.ion_atoms.specs.declared.timestamp.Precision.TheVariants as precisions
-use Rattle.ion_atoms.specs.TimestampBounds.{last_hour, last_minute, most_digits}
-use Rattle.ion_atoms.specs.Timestamps.{TimestampParts}
-use Rattle.ion_scalar.specs.declared.timestamps.Stamp.{Stamp}
-use Rattle.ion_scalar.specs.text.Ints.{number}
+use Rattle.ion_scalar.specs.Names.Below.{Local, Precision, Stamp, TimestampParts, last_hour, last_minute, most_digits}
 use Rattle.ion_scalar.specs.text.Decimals.{IsPlain}
+use Rattle.ion_scalar.specs.text.Ints.{number}
 
 -- at a place stands this octet
 abbrev pub IsAt : List ℕ → ℕ → ℕ → Type 0
@@ -102,17 +97,17 @@ pub record IsFractionEnd (os digits rest : List ℕ) : Type 0 where
 
 -- a token and the parts that it spells, whether or not there is such a day and time
 pub data IsTimestampToken (os : List ℕ) : TimestampParts → Type 0 where
-  year : IsYear os → IsTimestampToken os (dated precisions.Year (four os 0) 1 1)
-  month : IsMonth os → IsTimestampToken os (dated precisions.Month (four os 0) (two os 5) 1)
-  day : IsDay os → IsTimestampToken os (dated precisions.Day (four os 0) (two os 5) (two os 8))
-  minute : BeginsWithMinute os → IsOffsetToken (drop 16 os) → IsTimestampToken os (timed os precisions.Minute 0 0 (drop 16 os))
-  second : BeginsWithSecond os → IsOffsetToken (drop 19 os) → IsTimestampToken os (timed os precisions.Second (two os 17) 0 (drop 19 os))
+  year : IsYear os → IsTimestampToken os (dated Precision.Year (four os 0) 1 1)
+  month : IsMonth os → IsTimestampToken os (dated Precision.Month (four os 0) (two os 5) 1)
+  day : IsDay os → IsTimestampToken os (dated Precision.Day (four os 0) (two os 5) (two os 8))
+  minute : BeginsWithMinute os → IsOffsetToken (drop 16 os) → IsTimestampToken os (timed os Precision.Minute 0 0 (drop 16 os))
+  second : BeginsWithSecond os → IsOffsetToken (drop 19 os) → IsTimestampToken os (timed os Precision.Second (two os 17) 0 (drop 19 os))
   fraction : BeginsWithSecond os → IsAt os 19 46 → (digits rest : List ℕ) → IsFractionEnd (drop 20 os) digits rest
-      → IsTimestampToken os (timed os (precisions.Fraction (length digits)) (two os 17) (number 10 digits) rest)
+      → IsTimestampToken os (timed os (Precision.Fraction (length digits)) (two os 17) (number 10 digits) rest)
 
 -- parts as they are read: 39 fraction digits stand for all more, and 2^127 for a fraction of that or more
 abbrev pub read_precision : Precision → Precision
-read_precision (precisions.Fraction digits) = precisions.Fraction (min digits (most_digits + 1))
+read_precision (Precision.Fraction digits) = Precision.Fraction (min digits (most_digits + 1))
 read_precision p = p
 
 abbrev pub read_local : Local → Local
@@ -124,5 +119,5 @@ stamp t = record { local = read_local t.local; precision = read_precision t.prec
 
 -- at most 38 fraction digits
 abbrev pub IsShort : Precision → Type 0
-IsShort (precisions.Fraction digits) = digits ≤ most_digits
+IsShort (Precision.Fraction digits) = digits ≤ most_digits
 IsShort _ = Unit {0}

@@ -1,17 +1,7 @@
 -- How two streams compare, as far as they were read.
 use Rattle.std.specs.Prelude.{◌≡◌, ℕ, ◌+◌, [], true, false, Option, Some, None}
-use Rattle.ion_model.specs.declared.value.Value.{Value}
-use Rattle.ion_model.specs.Same.{same}
-use Rattle.ion_model.specs.Parting.{IsPath}
-use Rattle.ion_visiting.specs.declared.tape.Tape.{Tape}
-use Rattle.ion_visiting.specs.Tapes.{Holds}
-use Rattle.ion_streams.specs.declared.source.Standing.{Standing}
-use Rattle.ion_streams.specs.declared.source.Standing.TheVariants as TheStanding
-use Rattle.ion_streams.specs.declared.comparison.Verdict.{Verdict}
-use Rattle.ion_streams.specs.declared.comparison.Verdict.TheVariants.{Equivalent, Different, Refused}
-use Rattle.ion_streams.specs.declared.comparison.Side.TheVariants.{Right}
-use Rattle.ion_streams.specs.declared.comparison.Course.{Course}
-use Rattle.ion_streams.specs.declared.comparison.Course.TheVariants.{Alike, Parted}
+use Rattle.ion_streams.specs.Names.Below.{Alike, Course, Holds, IsPath, Parted, Right, Standing, Tape, Value, Verdict, same}
+use Rattle.ion_streams.specs.declared.comparison.Verdict.TheVariants.{Different, Equivalent, Refused}
 
 -- so of the values that were the same, where the streams didn't part so far
 abbrev pub IfAlike : Course → (ℕ → Type 0) → Type 0
@@ -48,6 +38,6 @@ verdict_on (Parted index path) = Different index path
 
 -- the verdict where the left is a document
 abbrev pub verdict_of : {Y : Type 0} → Standing Y → Course → Verdict
-verdict_of (TheStanding.Refused refusal) course = Refused Right refusal
-verdict_of (TheStanding.Open source) course = verdict_on course
-verdict_of TheStanding.Ended course = verdict_on course
+verdict_of (Standing.Refused refusal) course = Refused Right refusal
+verdict_of (Standing.Open source) course = verdict_on course
+verdict_of Standing.Ended course = verdict_on course

@@ -1,16 +1,7 @@
 -- What is reached in a document that is read on.
 use Rattle.std.specs.Prelude.{◌≡◌, ℕ, List, [], ◌∷◌, ◌++◌, true, IsNone}
-use Rattle.ion_model.specs.declared.value.Value.{Value}
-use Rattle.ion_symtab.specs.declared.catalog.Catalog.{Catalog}
-use Rattle.ion_symtab.specs.declared.limits.Limits.{Limits}
-use Rattle.ion_symtab.specs.declared.inlet.Inlet.{Ghosts as Inlet}
-use Rattle.ion_symtab.specs.declared.items.Items.{Ghosts as Items}
-use Rattle.ion_streams.specs.Formats.{format_of}
-use Rattle.ion_streams.specs.reading.Read.{left_of, GaveEach, ReadsEach}
-use Rattle.ion_streams.specs.Outcomes.{ToldRefusedEach}
-use Rattle.ion_streams.specs.declared.source.Source.{Source}
-use Rattle.ion_streams.specs.declared.source.Reached.{Reached}
-use Rattle.ion_streams.specs.declared.source.Reached.TheVariants.{Value as AValue, End, Refused}
+use Rattle.ion_streams.specs.Names.{AValue, Catalog, End, GaveEach, Inlet, Items, Limits, Reached, ReadsEach, Source, ToldRefusedEach, Value, format_of, left_of}
+use Rattle.ion_streams.specs.declared.source.Reached.TheVariants.{Refused}
 
 -- so where a value is reached
 abbrev pub IfValue : {A : Type 0} → Reached A → Type 0 → Type 0

@@ -1,16 +1,8 @@
 -- How far a document has been read from a device.
 use Rattle.std.specs.Prelude.{◌≡◌, ℕ, ◌+◌, ◌-◌, ◌*◌, ◌<◌, ◌≤◌, ◌^◌, ◌⊎◌, List, [], ◌∷◌, ◌++◌, length, take, drop, Bool, false, Option, None, IfSome}
-use Rattle.ion_model.specs.declared.value.Value.{Value}
-use Rattle.ion_symtab.specs.declared.catalog.Catalog.{Catalog}
-use Rattle.ion_symtab.specs.declared.limits.Limits.{Limits}
-use Rattle.ion_symtab.specs.Trace.{plain, given_at}
-use Rattle.ion_symtab.specs.Heard.{Heard}
-use Rattle.ion_symtab.specs.Cause.{WereMade}
-use Rattle.ion_symtab.specs.declared.inlet.Inlet.{Ghosts as Inlet}
-use Rattle.ion_symtab.specs.declared.items.Items.{Ghosts as Items}
+use Rattle.ion_streams.specs.Names.Below.{Catalog, Heard, Inlet, Items, Limits, Source, Value, WereMade, given_at, plain}
 use Rattle.ion_streams.specs.Formats.{Format}
 use Rattle.ion_streams.specs.InTurn.{LastAskedFor}
-use Rattle.ion_streams.specs.declared.source.Source.{Source}
 
 -- the octets of a piece between two places
 abbrev pub between : List ℕ → ℕ → ℕ → List ℕ

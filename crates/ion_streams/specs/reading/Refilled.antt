@@ -1,9 +1,7 @@
 -- Pieces that are read where those before are used up.
 use Rattle.std.specs.Prelude.{◌≡◌, ◌⊎◌, ℕ, List, ◌++◌, false}
-use Rattle.ion_symtab.specs.Heard.{Heard}
-use Rattle.ion_symtab.specs.declared.inlet.Inlet.{Ghosts as Inlet}
+use Rattle.ion_streams.specs.Names.Below.{Heard, Inlet, Source}
 use Rattle.ion_streams.specs.reading.Read.{left_of}
-use Rattle.ion_streams.specs.declared.source.Source.{Source}
 
 -- The device handed over more octets, which stand behind those that were left, or answered its end; what takes them up stays as it was.
 pub record Fills {S X : Type 0} (R : Inlet S) (old now : S) (before after : Source X) : Type 0 where

@@ -1,17 +1,9 @@
 -- Where a document stands.
 use Rattle.std.specs.Prelude.{◌≡◌, ℕ, ◌+◌, List, [], ◌∷◌, ◌++◌, Option, Some, None, Result, Ok, Err}
-use Rattle.ion_model.specs.declared.value.Value.{Value}
-use Rattle.ion_atoms.specs.declared.refusal.Refusal.{Refusal}
-use Rattle.ion_symtab.specs.declared.catalog.Catalog.{Catalog}
-use Rattle.ion_symtab.specs.declared.limits.Limits.{Limits}
-use Rattle.ion_symtab.specs.declared.inlet.Inlet.{Ghosts as Inlet}
-use Rattle.ion_symtab.specs.declared.items.Items.{Ghosts as Items}
+use Rattle.ion_streams.specs.Names.Below.{Catalog, Ended, Inlet, Items, Limits, Open, Refusal, Refused, Source, Standing, Value}
 use Rattle.ion_streams.specs.Formats.{format_of}
-use Rattle.ion_streams.specs.reading.Read.{HasToAsk, work, Reads, ReadsEach}
-use Rattle.ion_streams.specs.Outcomes.{ToldDocument, ToldRefused, ToldEach, ToldRefusedEach}
-use Rattle.ion_streams.specs.declared.source.Source.{Source}
-use Rattle.ion_streams.specs.declared.source.Standing.{Standing}
-use Rattle.ion_streams.specs.declared.source.Standing.TheVariants.{Open, Ended, Refused}
+use Rattle.ion_streams.specs.Outcomes.{ToldDocument, ToldEach, ToldRefused, ToldRefusedEach}
+use Rattle.ion_streams.specs.reading.Read.{HasToAsk, Reads, ReadsEach, work}
 
 -- so of what is read, where the document is still being read
 abbrev pub IfOpen : {X : Type 0} → Standing X → (Source X → Type 0) → Type 0

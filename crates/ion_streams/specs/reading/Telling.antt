@@ -1,22 +1,11 @@
 -- Documents that are read by walks, which tell a visitor their values.
 use Rattle.std.specs.Prelude.{◌≡◌, ℕ, List, [], ◌∷◌, ◌++◌, Bool, true, false, Option, Some, None}
-use Rattle.ion_model.specs.declared.value.Value.{Value}
-use Rattle.ion_visiting.specs.Events.{Event, Led, events_of}
-use Rattle.ion_visiting.specs.Tables.{Hears}
-use Rattle.ion_visiting.specs.Tapes.{Holds}
-use Rattle.ion_visiting.specs.declared.tape.Tape.{Tape}
-use Rattle.ion_symtab.specs.declared.catalog.Catalog.{Catalog}
-use Rattle.ion_symtab.specs.declared.limits.Limits.{Limits}
-use Rattle.ion_symtab.specs.declared.inlet.Inlet.{Ghosts as Inlet}
-use Rattle.ion_symtab.specs.declared.items.Items.{Ghosts as Items}
+use Rattle.ion_streams.specs.Names.Below.{AValue, Catalog, End, Event, Hears, Holds, Inlet, Items, Led, Limits, Reached, Source, Standing, Tape, Value, events_of}
 use Rattle.ion_streams.specs.Formats.{Format, format_of}
-use Rattle.ion_streams.specs.reading.Read.{left_of, Went, GaveEach, ReadsEach}
+use Rattle.ion_streams.specs.Outcomes.{EndsRefused, EndsWell, ToldRefusedEach}
+use Rattle.ion_streams.specs.declared.source.Reached.TheVariants.{Refused}
+use Rattle.ion_streams.specs.reading.Read.{GaveEach, ReadsEach, Went, left_of}
 use Rattle.ion_streams.specs.reading.Standing.{IfEnded, IfRefused, MatchClosed, StoodEach}
-use Rattle.ion_streams.specs.Outcomes.{EndsWell, EndsRefused, ToldRefusedEach}
-use Rattle.ion_streams.specs.declared.source.Source.{Source}
-use Rattle.ion_streams.specs.declared.source.Reached.{Reached}
-use Rattle.ion_streams.specs.declared.source.Reached.TheVariants.{Value as AValue, End, Refused}
-use Rattle.ion_streams.specs.declared.source.Standing.{Standing}
 
 -- What contracts see of a reader that walks: it stands for octets and values where it told these values of them, and these events of the one that is
 -- open.

@@ -1,17 +1,8 @@
 //! Documents that are read by walks, which build no values: a visitor is told them.
 ghost use Rattle.std.specs.Prelude.{◌≡◌, ◌≢◌, ℕ, ◌+◌, ◌*◌, ◌≤◌, ◌<◌, true, false, List, [], ◌++◌, length, IfOk, IfErr, OnOk, OnErr, Option, IsSome, IsNone, Result};
+ghost use Rattle.ion_streams.specs.Names.{Catalog, EndsBy, EndsRefused, Event, GaveSoFar, HandedOn, HasToAsk, IfClosed, IfOpen, IsReadCause, IsReady, IsWithin, Limits, NoReadFailed, NoneFailed, ReachesBy, Reads, ReadsEach, Sought, Stood, StoodEach, ToldNext, Value, WentBy, format_of, left_of, reads_of, telling, work, work_of};
 ghost use Rattle.ion_atoms.specs.declared.refusal.Reason.TheVariants as reasons;
-ghost use Rattle.ion_model.specs.declared.value.Value.{Value};
-ghost use Rattle.ion_visiting.specs.Events.{Event};
-ghost use Rattle.ion_symtab.specs.declared.catalog.Catalog.{Catalog};
-ghost use Rattle.ion_symtab.specs.declared.limits.Limits.{Limits};
-ghost use Rattle.ion_symtab.specs.Cause.{IsReadCause};
-ghost use Rattle.ion_streams.specs.Formats.{format_of};
-ghost use Rattle.ion_streams.specs.reading.Read.{left_of, IsReady, HasToAsk, NoneFailed, NoReadFailed, IsWithin, work, Reads, GaveSoFar, ReadsEach, HandedOn, Sought};
-ghost use Rattle.ion_streams.specs.reading.Reached.{IfValue, IfEnd, IsSpent};
-ghost use Rattle.ion_streams.specs.reading.Standing.{IfOpen, IfClosed, work_of, reads_of, Stood, StoodEach};
-ghost use Rattle.ion_streams.specs.reading.Telling.{telling, WentBy, ReachesBy, ToldNext, EndsBy};
-ghost use Rattle.ion_streams.specs.Outcomes.{EndsRefused};
+ghost use Rattle.ion_streams.specs.reading.Reached.{IfEnd, IfValue, IsSpent};
 
 use super::{Reached, Source, Standing};
 use ion_model::{Reason, Refusal};

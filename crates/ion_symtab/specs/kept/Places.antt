@@ -2,9 +2,8 @@
 use Rattle.std.specs.Prelude.{if◌then◌else◌, ◌≡◌, ℕ, List, Option, None, Some, IsSome, slice_get, nat_le}
 use Rattle.std.specs.BTreeMap.{get, get_by_text}
 use Rattle.std.specs.Ordering.{nat_cmp}
+use Rattle.ion_symtab.specs.Names.Below.{Places, Versions}
 use Rattle.ion_symtab.specs.Tables.{Table, find, newest}
-use Rattle.ion_symtab.specs.declared.catalog_index.Places.{Places}
-use Rattle.ion_symtab.specs.declared.catalog_index.Versions.{Versions}
 
 -- the place of a version among those of a name
 abbrev pub version_kept : Option Versions → ℕ → Option ℕ

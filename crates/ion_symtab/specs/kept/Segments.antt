@@ -1,13 +1,11 @@
 -- The slots that the segments of a context stand for.
-use Rattle.std.specs.Prelude.{◌≡◌, ◌⊎◌, ℕ, ◌≤◌, ◌<◌, List, map, take, drop, length, Option, Result, Ok, Err, MatchResult}
+use Rattle.std.specs.Prelude.{◌≡◌, ◌⊎◌, ℕ, ◌≤◌, ◌<◌, List, map, take, drop, length, Option, Result, Ok, Err, MatchResult, slice_index_or}
 use Rattle.std.specs.List.{flat_map}
-use Rattle.std.specs.Prelude.{slice_index_or}
-use Rattle.ion_atoms.specs.declared.refusal.Reason.{Reason}
-use Rattle.ion_atoms.specs.declared.refusal.Reason.TheVariants as reasons
+use Rattle.ion_symtab.specs.Names.Below.{Reason}
+use Rattle.ion_symtab.specs.Next.{cut_or_filled, local_slot, shared_slot}
 use Rattle.ion_symtab.specs.Slots.{Slot, greatest_id}
-use Rattle.ion_symtab.specs.Next.{local_slot, shared_slot, cut_or_filled}
 use Rattle.ion_symtab.specs.declared.segments.Part.{Part}
-use Rattle.ion_symtab.specs.declared.segments.Part.TheVariants.{System, Import, Local}
+use Rattle.ion_symtab.specs.declared.segments.Part.TheVariants.{Import, Local, System}
 use Rattle.ion_symtab.specs.declared.segments.Segment.{Segment}
 
 -- the slots of the system, of an import, or of one table
@@ -51,4 +49,4 @@ pub record Indexes (slots : List Slot) (from : ℕ) (symbols : List (Option (Lis
 -- the slots that there were, or the reason is its reason, or memory was refused
 pub record Adds (f : List Slot → Result (List Slot) Reason) (old new : List Segment) (result : Result (Unit {0}) Reason) : Type 0 where
   pub kept : take (length old) new ≡ old
-  pub gives : MatchResult result (λ _. f (slots_of old) ≡ Ok (slots_of new)) (λ r. (r ≡ reasons.Memory) ⊎ (f (slots_of old) ≡ Err r))
+  pub gives : MatchResult result (λ _. f (slots_of old) ≡ Ok (slots_of new)) (λ r. (r ≡ Reason.Memory) ⊎ (f (slots_of old) ≡ Err r))

@@ -3,17 +3,12 @@ use Rattle.std.proofs.Common.{◌≡◌, ℕ, ◌+◌, ◌-◌, ◌≤◌, Bool,
 use Rattle.std.proofs.lemmas.Grind.{common_steps}
 use Rattle.std.proofs.lemmas.Option.{same_Some}
 use Rattle.std.proofs.lemmas.List.{length-drop, take-append-drop}
-use Rattle.ion_model.specs.declared.value.Value.{Value}
-use Rattle.ion_atoms.specs.declared.refusal.Refusal.{Refusal}
-use Rattle.ion_symtab.specs.Trace.{Trace, Answers, Grows, IsFront, given_at}
-use Rattle.ion_symtab.specs.Walks.{EndsOn, Telling, WalksOn}
-use Rattle.ion_symtab.specs.declared.items.Walked.{Walked}
+use Rattle.ion_symtab.specs.Names.{Answers, EndsOn, Event, Grows, Hears, IsFront, Led, Refusal, Telling, Trace, Value, WalksOn, events_of, given_at}
 use Rattle.ion_visiting.specs.Building.{Built, builds, fresh, value_in, without_value}
 use Rattle.ion_visiting.specs.declared.building.Open.TheVariants.{Top}
-use Rattle.ion_visiting.specs.Events.{Event, Led, events_of}
-use Rattle.ion_visiting.specs.Tables.{Hears}
 use Rattle.ion_visiting.specs.laws.Built.{value_built}
 use Rattle.ion_visiting.specs.laws.Led.{led_both}
+use Rattle.ion_symtab.specs.declared.items.Walked.{Walked}
 
 -- 1. What a walk told by one relation it told by another that follows from it.
 

@@ -1,9 +1,8 @@
 -- How often a device was asked without an end.
 use Rattle.std.proofs.Common.{◌≡◌, ◌⊎◌, inl, ℕ, ◌+◌, ◌-◌, ◌^◌, ◌<◌, min, List, [], ◌++◌, length, length-append, false, arith}
+use Rattle.ion_symtab.specs.Names.{Ghosts, Heard}
 use Rattle.ion_symtab.specs.Cause.{WereMade}
-use Rattle.ion_symtab.specs.Heard.{Heard}
 use Rattle.ion_symtab.specs.laws.Heard.{Heard-nil, Heard-trans}
-use Rattle.ion_symtab.specs.declared.inlet.Inlet.{Ghosts}
 
 -- a count of calls that stops at its end, after one more
 one_more : (end before after from reads : ℕ) → after ≡ min (before + 1) end → (before ≡ from + reads) ⊎ (before ≡ end)

@@ -3,22 +3,13 @@
 use Rattle.std.proofs.Common.{if◌then◌else◌, ◌≡◌, ℕ, zero, suc, ◌+◌, ◌-◌, ◌==◌, Bool, true, false, List, [], ◌∷◌, ◌++◌, length, map, take, replicate, Option, None, Some, Result, Ok, Err, codes, slice_get, refl, sym, subst}
 use Rattle.std.specs.Prelude.{nat_le}
 use Rattle.std.specs.Str.{IsUtf8, bytes_eq}
-use Rattle.ion_atoms.specs.declared.refusal.Reason.{Reason}
-use Rattle.ion_atoms.specs.declared.refusal.Reason.TheVariants as reasons
-use Rattle.ion_model.specs.declared.value.Value.{Value}
-use Rattle.ion_model.specs.declared.value.Field.{Field}
-use Rattle.ion_model.specs.declared.value.Payload.{Payload}
+use Rattle.ion_symtab.specs.Names.Below.{AreTexts, Field, IsKept, IsText, KeptFields, KeptItems, KeptPayload, Layer, Payload, Payload-F, Reason, Value, a_field, an_item, has_text, kept, kept_blob, kept_clob, kept_decimal, kept_fields, kept_int, kept_list, kept_null, kept_sexp, kept_string, kept_symbol, kept_timestamp, kept_truth, no_fields, no_items, values_of}
 use Rattle.ion_model.specs.declared.value.Payload.TheVariants as payloads
 use Rattle.ion_model.specs.declared.value.Payload.TheViews as views
-use Rattle.ion_model.specs.declared.value.Payload.TheOpen.{Payload-F}
-use Rattle.ion_model.specs.Measures.{Layer}
-use Rattle.ion_model.specs.Kept.{IsText, AreTexts, IsKept, kept, KeptPayload, kept_null, kept_truth, kept_int, kept_decimal, kept_timestamp, kept_symbol, kept_string, kept_clob, kept_blob, kept_list, kept_sexp, kept_fields, KeptItems, no_items, an_item, KeptFields, no_fields, a_field}
-use Rattle.ion_symtab.specs.Slots.{Slot, text, unknown, gap, greatest_id, system_texts, system_slots, symbol_at, resolve}
-use Rattle.ion_model.specs.Holds.{values_of}
-use Rattle.ion_model.specs.Symbols.{has_text}
-use Rattle.ion_symtab.specs.Fields.{at_most_one, only, elements_in, elements, table_name, count_of, version_of, layer_symbol, symbol_of}
-use Rattle.ion_symtab.specs.Tables.{Table, is_named, find, newer, newest}
-use Rattle.ion_symtab.specs.Next.{and_then, joined, appends, base, shared_slot, Import, import_slots, chosen, import_named, import_of, element_import, import_added, element_added, imported, local_slot, local_slots, extended, next_fields, next_layer, next}
+use Rattle.ion_symtab.specs.Fields.{at_most_one, count_of, elements, elements_in, layer_symbol, only, symbol_of, table_name, version_of}
+use Rattle.ion_symtab.specs.Next.{Import, and_then, appends, base, chosen, element_added, element_import, extended, import_added, import_named, import_of, import_slots, imported, joined, local_slot, local_slots, next, next_fields, next_layer, shared_slot}
+use Rattle.ion_symtab.specs.Slots.{Slot, gap, greatest_id, resolve, symbol_at, system_slots, system_texts, text, unknown}
+use Rattle.ion_symtab.specs.Tables.{Table, find, is_named, newer, newest}
 
 -- the texts of a context are UTF-8
 abbrev pub AreTextSlots : List Slot → Type 0
@@ -183,7 +174,7 @@ system_are_texts = (
   ),
 )
 
-joined_if : (b : Bool) (c : List Slot) → AreTextSlots c → TextAnswer (if b then Ok c else Err reasons.TableTooLarge)
+joined_if : (b : Bool) (c : List Slot) → AreTextSlots c → TextAnswer (if b then Ok c else Err Reason.TableTooLarge)
 joined_if true c h = h
 joined_if false c h = tt
 

@@ -2,17 +2,7 @@
 use Rattle.std.proofs.Common.{if◌then◌else◌, ◌≡◌, ◌⊎◌, inl, inr, ℕ, zero, suc, ◌+◌, ◌-◌, ◌≤◌, ◌<◌, ◌==◌, List, [], ◌∷◌, ◌++◌, length, slice_get, Option, Some, None, Result, Ok, Err, Bool, true, false, codes, refl, ap, sym, ◌∙◌, arith, append_assoc, append-nil, length-append}
 use Rattle.std.specs.Prelude.{nat_le}
 use Rattle.std.proofs.lemmas.Bool.{leb-true}
-use Rattle.ion_atoms.specs.declared.refusal.Reason.{Reason}
-use Rattle.ion_atoms.specs.declared.refusal.Reason.TheVariants as reasons
-use Rattle.ion_model.specs.declared.value.Value.{Value}
-use Rattle.ion_model.specs.declared.value.Field.{Field}
-use Rattle.ion_model.specs.declared.value.Payload.TheOpen.{Payload-F}
-use Rattle.ion_model.specs.declared.value.Payload.TheViews.{out-Payload}
-use Rattle.ion_model.specs.Measures.{Layer}
-use Rattle.ion_symtab.specs.Slots.{Slot, greatest_id, system_slots, symbol_at, resolve}
-use Rattle.ion_symtab.specs.Fields.{only, elements}
-use Rattle.ion_symtab.specs.Tables.{Table}
-use Rattle.ion_symtab.specs.Next.{and_then, joined, appends, base, Import, import_slots, import_added, element_import, element_added, imported, local_slots, extended, next_fields, next_layer, next}
+use Rattle.ion_symtab.specs.Names.{Field, Import, Layer, Payload-F, Reason, Slot, Table, Value, and_then, appends, base, element_added, element_import, elements, extended, greatest_id, import_added, import_slots, imported, joined, local_slots, next, next_fields, next_layer, only, out-Payload, resolve, symbol_at, system_slots}
 
 -- the slots begin with others
 abbrev pub Begins : List Slot → List Slot → Type 0
@@ -26,7 +16,7 @@ pub and_then_ok : {A B : Type 0} (r : Result A Reason) (f : A → Result B Reaso
 and_then_ok (Ok x) f y e = (x, refl, e)
 and_then_ok (Err reason) f y e = absurd (cc)
 
-joined_if : (c more d : List Slot) (b : Bool) → nat_le (length c + length more) greatest_id ≡ b → (if b then Ok (c ++ more) else Err reasons.TableTooLarge)
+joined_if : (c more d : List Slot) (b : Bool) → nat_le (length c + length more) greatest_id ≡ b → (if b then Ok (c ++ more) else Err Reason.TableTooLarge)
     ≡ Ok d → Begins c d × (length d ≤ greatest_id)
 joined_if c more d true n e =
     let s : c ++ more ≡ d = cc in

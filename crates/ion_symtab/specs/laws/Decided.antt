@@ -1,15 +1,8 @@
 -- Ids and local symbol tables are refused only for reasons that octets decide.
 use Rattle.std.proofs.Common.{ℕ, List, Result, Ok, Err}
 use Rattle.std.specs.Prelude.{IfErr}
-use Rattle.ion_model.specs.declared.value.Value.{Value}
-use Rattle.ion_atoms.specs.declared.refusal.Reason.{Reason}
-use Rattle.ion_atoms.specs.declared.refusal.Reason.TheVariants.{SymbolRange, ImportGap, NullTable, RepeatedField, MissingImport, TableTooLarge}
-use Rattle.ion_symtab.specs.Slots.{Slot, resolve}
-use Rattle.ion_symtab.specs.Tables.{Table}
-use Rattle.ion_symtab.specs.Next.{next}
-use Rattle.ion_symtab.specs.Reasons.{IsIdReason, IsTableReason}
-use Rattle.ion_symtab.specs.Decided.{IsDecided, Decides}
-use Rattle.ion_symtab.specs.laws.Reasons.{resolve_fails, next_fails}
+use Rattle.ion_symtab.specs.Names.{Decides, ImportGap, IsDecided, IsIdReason, IsTableReason, MissingImport, NullTable, Reason, RepeatedField, Slot, SymbolRange, Table, TableTooLarge, Value, next, resolve}
+use Rattle.ion_symtab.specs.laws.Reasons.{next_fails, resolve_fails}
 
 id_decides : (e : Reason) → IsIdReason e → IsDecided e
 id_decides SymbolRange h = tt

@@ -1,8 +1,7 @@
 -- What was heard of a device, in one call after another.
 use Rattle.std.proofs.Common.{◌≡◌, ℕ, List, [], ◌∷◌, ◌++◌, length, Bool, true, false, refl, ap, ◌∙◌}
-use Rattle.ion_symtab.specs.Heard.{AnsweredEnd, Heard}
-use Rattle.ion_symtab.specs.laws.Told.{Told-nil, Told-trans, Told-end}
-use Rattle.ion_symtab.specs.declared.inlet.Inlet.{Ghosts}
+use Rattle.ion_symtab.specs.Names.{AnsweredEnd, Ghosts, Heard}
+use Rattle.ion_symtab.specs.laws.Told.{Told-end, Told-nil, Told-trans}
 
 module _ {S : Type 0} (R : Ghosts S) where
   -- between a device and itself nothing was heard

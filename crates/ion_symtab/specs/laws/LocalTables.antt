@@ -6,19 +6,8 @@ use Rattle.std.proofs.lemmas.List.{take_all}
 use Rattle.std.proofs.lemmas.Bool.{leb-true, leb-false, le-leb}
 use Rattle.std.proofs.lemmas.List.Concat.{flat_map-cons}
 use Rattle.std.proofs.lemmas.Slice.Eq.{bytes_eq-Decides}
-use Rattle.ion_atoms.specs.declared.refusal.Reason.{Reason}
-use Rattle.ion_atoms.specs.declared.refusal.Reason.TheVariants as reasons
-use Rattle.ion_model.specs.declared.value.Value.{Value}
-use Rattle.ion_model.specs.declared.value.Field.{Field}
-use Rattle.ion_model.specs.declared.value.Payload.TheOpen.{Payload-F}
-use Rattle.ion_model.specs.declared.value.Payload.TheViews.{out-Payload}
-use Rattle.ion_model.specs.Holds.{values_of}
-use Rattle.ion_model.specs.Measures.{Layer}
-use Rattle.ion_symtab.specs.Slots.{Slot, text, unknown, gap, greatest_id, system_slots}
-use Rattle.ion_symtab.specs.Fields.{at_most_one, only, elements, elements_in, table_name, version_of, count_of, symbol_of, layer_symbol}
-use Rattle.ion_symtab.specs.Tables.{Table, find, newest, otherwise}
-use Rattle.ion_symtab.specs.Next.{and_then, joined, appends, appends_in, base, shared_slot, cut_or_filled, Import, import_slots, chosen, import_named, import_of, element_import, import_added, element_added, imported, local_slot, local_slots, extended, next_fields, next_layer, next}
-use Rattle.ion_symtab.specs.LocalTables.{StandsOnce, EachShared, IsBase, HasElements, HasSlots, NamedGives, StructGives, EachGives, EachHasSlot, MakesContext}
+use Rattle.ion_symtab.specs.Names.{Field, Import, Layer, Payload-F, Reason, Slot, Table, Value, and_then, appends, appends_in, at_most_one, base, chosen, count_of, cut_or_filled, element_added, element_import, elements, elements_in, extended, find, gap, greatest_id, import_added, import_named, import_of, import_slots, imported, joined, layer_symbol, local_slot, local_slots, newest, next, next_fields, next_layer, only, otherwise, out-Payload, shared_slot, symbol_of, system_slots, table_name, text, unknown, values_of, version_of}
+use Rattle.ion_symtab.specs.LocalTables.{EachGives, EachHasSlot, EachShared, HasElements, HasSlots, IsBase, MakesContext, NamedGives, StandsOnce, StructGives}
 use Rattle.ion_symtab.specs.laws.Contexts.{and_then_ok}
 
 -- fields that stand once
@@ -292,7 +281,7 @@ slots_in (Err e) o = o
 
 joined_from : (c more d : List Slot) → joined c more ≡ Ok d → (d ≡ c ++ more) × (length d ≤ greatest_id)
 joined_from c more d e = by (nat_le (length c + length more) greatest_id) refl e where
-  by : (b : Bool) → nat_le (length c + length more) greatest_id ≡ b → (if b then Ok (c ++ more) else Err reasons.TableTooLarge) ≡ Ok d → (d ≡ c ++ more)
+  by : (b : Bool) → nat_le (length c + length more) greatest_id ≡ b → (if b then Ok (c ++ more) else Err Reason.TableTooLarge) ≡ Ok d → (d ≡ c ++ more)
       × (length d ≤ greatest_id)
   by true n f =
       let s : c ++ more ≡ d = ap (λ r. slots_in r d) f in
@@ -301,7 +290,7 @@ joined_from c more d e = by (nat_le (length c + length more) greatest_id) refl e
   by false n f = absurd cc
 
 joined_of : (c more : List Slot) → length (c ++ more) ≤ greatest_id → joined c more ≡ Ok (c ++ more)
-joined_of c more few = ap (λ (b : Bool). if b then Ok (c ++ more) else Err reasons.TableTooLarge)
+joined_of c more few = ap (λ (b : Bool). if b then Ok (c ++ more) else Err Reason.TableTooLarge)
     (le-leb (length c + length more) greatest_id (omega (arith, few, length-append c more)))
 
 added_from : (c : List Slot) (i : Option Import) (d : List Slot) → import_added c i ≡ Ok d → d ≡ c ++ given i

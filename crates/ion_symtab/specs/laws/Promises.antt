@@ -2,10 +2,7 @@
 use Rattle.std.proofs.Common.{◌≡◌, ℕ, zero, suc, ◌+◌, ◌<◌, List, [], ◌∷◌, ◌++◌, length, take, drop, Option, Some, None, IsSome, refl, ap, sym, ◌∙◌, subst, arith, length-append}
 use Rattle.std.proofs.Math.Seq.{take-append-add}
 use Rattle.std.proofs.lemmas.List.{take-append-drop}
-use Rattle.ion_model.specs.declared.value.Value.{Value}
-use Rattle.ion_atoms.specs.declared.refusal.Refusal.{Refusal}
-use Rattle.ion_symtab.specs.Trace.{Trace, Grows}
-use Rattle.ion_symtab.specs.Promises.{IsFirst, Shown}
+use Rattle.ion_symtab.specs.Names.{Grows, IsFirst, Refusal, Shown, Trace, Value}
 
 -- two fronts of the same length, and what stands behind them
 pub record SameCut (front other rest more : List ℕ) : Type 0 where

@@ -1,20 +1,7 @@
 -- Ids and symbol tables are refused for no other reasons.
 use Rattle.std.proofs.Common.{ℕ, ◌+◌, ◌-◌, List, [], ◌∷◌, length, Result, Ok, Err, Option, Some, None, Bool, true, false, cond, nat_le, ◌==◌, slice_get, codes, map}
 use Rattle.std.specs.Prelude.{IfErr}
-use Rattle.ion_model.specs.declared.value.Value.{Value}
-use Rattle.ion_model.specs.declared.value.Field.{Field}
-use Rattle.ion_model.specs.declared.value.Payload.TheOpen.{Payload-F}
-use Rattle.ion_model.specs.declared.value.Payload.TheViews.{out-Payload}
-use Rattle.ion_atoms.specs.declared.refusal.Reason.{Reason}
-use Rattle.ion_atoms.specs.declared.refusal.Reason.TheVariants.{RepeatedField}
-use Rattle.ion_model.specs.Measures.{Layer}
-use Rattle.ion_symtab.specs.Reasons.{IsIdReason, IsTableReason, IsSharedReason}
-use Rattle.ion_symtab.specs.Slots.{Slot, text, unknown, gap, resolve, slot_symbol, symbol_at, greatest_id}
-use Rattle.ion_model.specs.Holds.{values_of}
-use Rattle.ion_symtab.specs.Fields.{only, at_most_one, payload_of, table_name, version_of, count_of, symbol_of, elements}
-use Rattle.ion_symtab.specs.Tables.{Table, find, newest, is_usable}
-use Rattle.ion_symtab.specs.Next.{and_then, joined, Import, import_slots, chosen, instead, import_named, import_of, element_import, import_added, element_added, imported, local_slots, base, extended, next_fields, next_layer, next}
-use Rattle.ion_symtab.specs.Shared.{is_shared, imports_any, described, shared_fields, shared_layer, shared_table}
+use Rattle.ion_symtab.specs.Names.{Field, Import, IsIdReason, IsSharedReason, IsTableReason, Layer, Payload-F, Reason, RepeatedField, Slot, Table, Value, and_then, at_most_one, base, chosen, count_of, described, element_added, element_import, elements, extended, find, gap, greatest_id, import_added, import_named, import_of, import_slots, imported, imports_any, instead, is_shared, is_usable, joined, local_slots, newest, next, next_fields, next_layer, only, out-Payload, payload_of, resolve, shared_fields, shared_layer, shared_table, slot_symbol, symbol_at, symbol_of, table_name, text, unknown, values_of, version_of}
 
 -- what holds of two things holds of the one that a test picks
 pub either : {A : Type 0} (P : A → Type 0) (b : Bool) (x y : A) → P x → P y → P (cond b x y)

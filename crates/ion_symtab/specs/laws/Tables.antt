@@ -6,7 +6,7 @@ use Rattle.std.specs.Prelude.{nat_le}
 use Rattle.std.proofs.lemmas.Bool.{and_parts, and_from, eqb-true, eq-eqb}
 use Rattle.std.proofs.lemmas.Slice.Eq.{bytes_eq-Decides}
 use Rattle.std.proofs.lemmas.List.Elements.{Contains-append_right, Contains-append_cases}
-use Rattle.ion_symtab.specs.Tables.{Table, is_named, find, find_best, newer, newest, otherwise, AreApart}
+use Rattle.ion_symtab.specs.Names.{AreApart, Table, find, find_best, is_named, newer, newest, otherwise}
 
 contains_first : (t : Table) (ts : List Table) → Contains (t ∷ ts) t
 contains_first t ts = (0, omega arith, refl)

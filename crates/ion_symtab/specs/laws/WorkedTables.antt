@@ -1,13 +1,8 @@
 -- Worked local symbol tables.
 use Rattle.std.proofs.Common.{ℕ, pos, List, [], ◌∷◌, ◌++◌, Some, None}
 use Rattle.std.specs.Prelude.{codes}
-use Rattle.ion_model.specs.declared.value.Value.{Value}
-use Rattle.ion_model.specs.declared.value.Field.{Field}
-use Rattle.ion_model.specs.declared.value.Payload.{Payload}
+use Rattle.ion_symtab.specs.Names.{Field, Payload, Slot, Table, Value, bare, field_of, gap, system_slots, text, unknown}
 use Rattle.ion_model.specs.declared.value.Payload.TheVariants as payloads
-use Rattle.ion_model.specs.Measures.{bare, field_of}
-use Rattle.ion_symtab.specs.Slots.{Slot, text, unknown, gap, system_slots}
-use Rattle.ion_symtab.specs.Tables.{Table}
 
 -- the catalog: version 1 of the table `t`, of `a`, a slot without a text, and `b`
 abbrev pub worked_catalog : List Table

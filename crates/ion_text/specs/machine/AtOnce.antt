@@ -1,9 +1,6 @@
 -- Octets that are taken up at once, up to one that is yet to be taken up.
 use Rattle.std.specs.Prelude.{◌≡◌, ℕ, ◌+◌, List, take, drop}
-use Rattle.ion_symtab.specs.declared.limits.Limits.{Limits}
-use Rattle.ion_symtab.specs.declared.catalog.Catalog.{Catalog}
-use Rattle.ion_text.specs.declared.state.Now.{Now}
-use Rattle.ion_text.specs.declared.state.Now.TheVariants as nows
+use Rattle.ion_text.specs.Names.Below.{Catalog, Limits, Now}
 use Rattle.ion_text.specs.machine.Pieces.{led}
 use Rattle.ion_text.specs.machine.Run.{State, run}
 
@@ -17,8 +14,8 @@ LeadsTo g l m octets count n = run g l m.scan.used m (take count octets) ≡ led
 
 -- nothing waits
 abbrev pub IsStill : Now → Type 0
-IsStill nows.Ready = Unit {0}
-IsStill nows.Name = Unit {0}
-IsStill nows.After = Unit {0}
-IsStill (nows.Keyed s) = Unit {0}
+IsStill Now.Ready = Unit {0}
+IsStill Now.Name = Unit {0}
+IsStill Now.After = Unit {0}
+IsStill (Now.Keyed s) = Unit {0}
 IsStill _ = ⊥

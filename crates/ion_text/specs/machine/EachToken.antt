@@ -1,32 +1,7 @@
 -- The reader of tokens as a machine: what each token does.
 use Rattle.std.specs.Prelude.{ℕ, ◌+◌, true, false, List, [], ◌∷◌, ◌++◌, length, nat_lt, nat_le, if◌then◌else◌, Result, Ok, Err, Option, Some, None, codes, bytes_eq}
-use Rattle.ion_model.specs.declared.value.Value.{Value}
-use Rattle.ion_model.specs.declared.value.Payload.{Payload}
+use Rattle.ion_text.specs.Names.Below.{Blob, Bracket, Catalog, Clob, Content, Frame, Held, Id, Kind, Limits, Listing, Long, Mark, Mark', Now, Number', Operator, Payload, Place, Quoted, Reason, Short, Slot, TypedNull, Value, Word, annotated, field_of, is_table, next, number_payload, resolve, system_slots}
 use Rattle.ion_model.specs.declared.value.Payload.TheVariants as payloads
-use Rattle.ion_atoms.specs.declared.kind.Kind.TheVariants as values
-use Rattle.ion_atoms.specs.declared.refusal.Reason.{Reason}
-use Rattle.ion_atoms.specs.declared.refusal.Reason.TheVariants as reasons
-use Rattle.ion_model.specs.Measures.{annotated, field_of}
-use Rattle.ion_model.specs.Kinds.{is_table}
-use Rattle.ion_symtab.specs.declared.limits.Limits.{Limits}
-use Rattle.ion_symtab.specs.declared.catalog.Catalog.{Catalog}
-use Rattle.ion_symtab.specs.Slots.{Slot, system_slots, resolve}
-use Rattle.ion_symtab.specs.Next.{next}
-use Rattle.ion_tokens.specs.declared.mode.Place.{Place}
-use Rattle.ion_tokens.specs.declared.mode.Place.TheVariants as places
-use Rattle.ion_tokens.specs.declared.mode.Mark.TheVariants as marks
-use Rattle.ion_tokens.specs.Bodies.{Content, Word, Id, Quoted, Short, Long, Number', TypedNull, Operator, Clob, Blob, Mark'}
-use Rattle.ion_visiting.specs.Parts.{number_payload}
-use Rattle.ion_visiting.specs.declared.bracket.Bracket.{Bracket}
-use Rattle.ion_visiting.specs.declared.bracket.Bracket.TheVariants as brackets
-use Rattle.ion_text.specs.declared.state.Held.{Held}
-use Rattle.ion_text.specs.declared.state.Held.TheVariants as helds
-use Rattle.ion_text.specs.declared.state.Now.{Now}
-use Rattle.ion_text.specs.declared.state.Now.TheVariants as nows
-use Rattle.ion_text.specs.declared.state.Frame.{Frame}
-use Rattle.ion_text.specs.declared.state.Frame.TheVariants as frames
-use Rattle.ion_text.specs.declared.state.Listing.{Listing}
-use Rattle.ion_text.specs.declared.state.Listing.TheVariants as listings
 use Rattle.ion_text.specs.Grammar.{is_keyword, is_version, the_marker}
 
 -- symbols, each a text or unknown
@@ -89,25 +64,25 @@ at start c fs ss now = record { start = start; context = c; frames = fs; notes =
 
 -- no item is open
 abbrev pub fresh : List Slot → Reading
-fresh c = at 0 c [] [] nows.Ready
+fresh c = at 0 c [] [] Now.Ready
 
 -- where the items of a list or an s-expression stand, and what may come behind one
 abbrev pub item_place : Listing → Place
-item_place listings.List = places.List
-item_place listings.Sexp = places.Sexp
+item_place Listing.List = Place.List
+item_place Listing.Sexp = Place.Sexp
 
 -- what may come behind an item: of a list a comma or the close
 abbrev pub behind_item : Listing → Now
-behind_item listings.List = nows.After
-behind_item listings.Sexp = nows.Ready
+behind_item Listing.List = Now.After
+behind_item Listing.Sexp = Now.Ready
 
 -- the place in which the next token is looked for
 abbrev pub place_in : List Frame → Now → Place
-place_in [] now = places.Top
-place_in (frames.Items listing ss vs ∷ fs) now = item_place listing
-place_in (frames.Fields ss ms ∷ fs) nows.After = places.FieldValue
-place_in (frames.Fields ss ms ∷ fs) _ = places.Name
-place_in (frames.Named ss ms name ∷ fs) now = places.FieldValue
+place_in [] now = Place.Top
+place_in (Frame.Items listing ss vs ∷ fs) now = item_place listing
+place_in (Frame.Fields ss ms ∷ fs) Now.After = Place.FieldValue
+place_in (Frame.Fields ss ms ∷ fs) _ = Place.Name
+place_in (Frame.Named ss ms name ∷ fs) now = Place.FieldValue
 
 -- the place in which a reading looks for the next token
 abbrev pub place : Reading → Place
@@ -115,7 +90,7 @@ place r = place_in r.frames r.now
 
 -- an item of the top level that ends here is whole, if it isn't too long
 abbrev pub within : ℕ → ℕ → ℕ → Turn → Turn
-within item start end t = if nat_le end (start + item) then t else refuses reasons.ItemTooLong
+within item start end t = if nat_le end (start + item) then t else refuses Reason.ItemTooLong
 
 -- behind a local symbol table
 abbrev pub turned : ℕ → ℕ → ℕ → Result (List Slot) Reason → Turn
@@ -127,35 +102,35 @@ abbrev pub ended : Setting → Spot → List Frame → Value → Turn
 ended setting spot [] v =
     if is_table v then turned setting.limits.item spot.start spot.end (next spot.context v setting.catalog)
     else within setting.limits.item spot.start spot.end (gives v (fresh spot.context))
-ended setting spot (frames.Items listing ss vs ∷ fs) v =
-    goes (at spot.start spot.context (frames.Items listing ss (vs ++ v ∷ []) ∷ fs) [] (behind_item listing))
-ended setting spot (frames.Named ss ms name ∷ fs) v =
-    goes (at spot.start spot.context (frames.Fields ss (ms ++ field_of name v ∷ []) ∷ fs) [] nows.After)
-ended setting spot (frames.Fields ss ms ∷ fs) v = refuses reasons.Unexpected
+ended setting spot (Frame.Items listing ss vs ∷ fs) v =
+    goes (at spot.start spot.context (Frame.Items listing ss (vs ++ v ∷ []) ∷ fs) [] (behind_item listing))
+ended setting spot (Frame.Named ss ms name ∷ fs) v =
+    goes (at spot.start spot.context (Frame.Fields ss (ms ++ field_of name v ∷ []) ∷ fs) [] Now.After)
+ended setting spot (Frame.Fields ss ms ∷ fs) v = refuses Reason.Unexpected
 
 -- what a word is as a value, or as an annotation
 abbrev pub held_word : List ℕ → Held
 held_word w =
-    if bytes_eq w (codes "null") then helds.Null values.Null
-    else (if bytes_eq w (codes "true") then helds.Truth true
-    else (if bytes_eq w (codes "false") then helds.Truth false
-    else (if bytes_eq w (codes "nan") then helds.Nan
-    else (if is_version w then helds.Version (bytes_eq w the_marker) (Some w)
-    else helds.Symbol (Some w)))))
+    if bytes_eq w (codes "null") then Held.Null Kind.Null
+    else (if bytes_eq w (codes "true") then Held.Truth true
+    else (if bytes_eq w (codes "false") then Held.Truth false
+    else (if bytes_eq w (codes "nan") then Held.Nan
+    else (if is_version w then Held.Version (bytes_eq w the_marker) (Some w)
+    else Held.Symbol (Some w)))))
 
 -- what was held, as a value; `nan` is none, and is refused as a float
 abbrev pub held_payload : Held → Result Payload Reason
-held_payload (helds.Symbol s) = Ok (payloads.Symbol s)
-held_payload (helds.Version ours s) = Ok (payloads.Symbol s)
-held_payload (helds.Null k) = Ok (payloads.Null k)
-held_payload (helds.Truth b) = Ok (payloads.Truth b)
-held_payload helds.Nan = Err reasons.Float
+held_payload (Held.Symbol s) = Ok (payloads.Symbol s)
+held_payload (Held.Version ours s) = Ok (payloads.Symbol s)
+held_payload (Held.Null k) = Ok (payloads.Null k)
+held_payload (Held.Truth b) = Ok (payloads.Truth b)
+held_payload Held.Nan = Err Reason.Float
 
 -- what was held, as an annotation; a keyword is none
 abbrev pub held_symbol : Held → Result (Option (List ℕ)) Reason
-held_symbol (helds.Symbol s) = Ok s
-held_symbol (helds.Version ours s) = Ok s
-held_symbol _ = Err reasons.KeywordAsName
+held_symbol (Held.Symbol s) = Ok s
+held_symbol (Held.Version ours s) = Ok s
+held_symbol _ = Err Reason.KeywordAsName
 
 -- the value of what was held is whole, or it is refused
 abbrev pub paid : Setting → Spot → List Frame → Symbols → Result Payload Reason → Turn
@@ -164,15 +139,15 @@ paid setting spot fs ss (Err e) = refuses e
 
 -- no `::` follows what was held; an unannotated version marker at the top level is no value
 abbrev pub released : Setting → Spot → List Frame → Symbols → Held → Turn
-released setting spot [] [] (helds.Version true s) = within setting.limits.item spot.start spot.end (goes (fresh system_slots))
-released setting spot [] [] (helds.Version false s) = late reasons.Version (fresh spot.context)
+released setting spot [] [] (Held.Version true s) = within setting.limits.item spot.start spot.end (goes (fresh system_slots))
+released setting spot [] [] (Held.Version false s) = late Reason.Version (fresh spot.context)
 released setting spot fs ss h = paid setting spot fs ss (held_payload h)
 
 -- what waited for more is whole
 abbrev pub settled : Setting → ℕ → List Slot → List Frame → Symbols → Now → Turn
-settled setting start c fs ss (nows.Pending h end) = released setting (spot_at end start c) fs ss h
-settled setting start c fs ss (nows.Long w end) = ended setting (spot_at end start c) fs (annotated ss (payloads.Str w))
-settled setting start c fs ss (nows.LongName w) = goes (at start c fs ss (nows.Keyed (Some w)))
+settled setting start c fs ss (Now.Pending h end) = released setting (spot_at end start c) fs ss h
+settled setting start c fs ss (Now.Long w end) = ended setting (spot_at end start c) fs (annotated ss (payloads.Str w))
+settled setting start c fs ss (Now.LongName w) = goes (at start c fs ss (Now.Keyed (Some w)))
 settled setting start c fs ss now = goes (at start c fs ss now)
 
 -- what waits in a reading is whole
@@ -190,23 +165,23 @@ resolved (Err e) f = refuses e
 
 -- a token that may not stand there is refused
 abbrev pub unexpected : Turn
-unexpected = refuses reasons.Unexpected
+unexpected = refuses Reason.Unexpected
 
 -- a container behind its open, and what may come there
 abbrev pub opened : Bracket → Symbols → Frame
-opened brackets.List ss = frames.Items listings.List ss []
-opened brackets.Sexp ss = frames.Items listings.Sexp ss []
-opened brackets.Fields ss = frames.Fields ss []
+opened Bracket.List ss = Frame.Items Listing.List ss []
+opened Bracket.Sexp ss = Frame.Items Listing.Sexp ss []
+opened Bracket.Fields ss = Frame.Fields ss []
 
 -- what may come behind an open: in a struct a name, else a value
 abbrev pub first_now : Bracket → Now
-first_now brackets.Fields = nows.Name
-first_now _ = nows.Ready
+first_now Bracket.Fields = Now.Name
+first_now _ = Now.Ready
 
 -- a container beyond the limit on depth; the octet behind `{` shows that it is no `{{`, and may be refused for a smaller reason
 abbrev pub beyond_depth : Bracket → Reading → Turn
-beyond_depth brackets.Fields r = late reasons.Depth r
-beyond_depth _ r = refuses reasons.Depth
+beyond_depth Bracket.Fields r = late Reason.Depth r
+beyond_depth _ r = refuses Reason.Depth
 
 -- an open
 abbrev pub opening : Bracket → ℕ → ℕ → List Slot → List Frame → Symbols → Turn
@@ -215,9 +190,9 @@ opening bracket depth start c fs ss = deeper depth fs (goes (at start c (opened 
 
 -- a close, where no annotation stands before it
 abbrev pub closed : Bracket → Setting → Spot → List Frame → Turn
-closed brackets.List setting spot (frames.Items listings.List ss vs ∷ fs) = ended setting spot fs (annotated ss (payloads.List vs))
-closed brackets.Sexp setting spot (frames.Items listings.Sexp ss vs ∷ fs) = ended setting spot fs (annotated ss (payloads.Sexp vs))
-closed brackets.Fields setting spot (frames.Fields ss ms ∷ fs) = ended setting spot fs (annotated ss (payloads.Fields ms))
+closed Bracket.List setting spot (Frame.Items Listing.List ss vs ∷ fs) = ended setting spot fs (annotated ss (payloads.List vs))
+closed Bracket.Sexp setting spot (Frame.Items Listing.Sexp ss vs ∷ fs) = ended setting spot fs (annotated ss (payloads.Sexp vs))
+closed Bracket.Fields setting spot (Frame.Fields ss ms ∷ fs) = ended setting spot fs (annotated ss (payloads.Fields ms))
 closed _ setting spot _ = unexpected
 
 -- a close is unexpected behind an annotation
@@ -227,82 +202,82 @@ bare_close (s ∷ ss) t = unexpected
 
 -- a value or an annotation may come, of an item that begins where the spot says
 abbrev pub on_ready : Setting → Spot → List Frame → Symbols → Content → Turn
-on_ready setting spot fs ss (Word w) = goes (at spot.start spot.context fs ss (nows.Pending (held_word w) spot.end))
+on_ready setting spot fs ss (Word w) = goes (at spot.start spot.context fs ss (Now.Pending (held_word w) spot.end))
 on_ready setting spot fs ss (Id id) =
-    resolved (resolve spot.context id) (λ s. goes (at spot.start spot.context fs ss (nows.Pending (helds.Symbol s) spot.end)))
-on_ready setting spot fs ss (Quoted w) = goes (at spot.start spot.context fs ss (nows.Pending (helds.Symbol (Some w)) spot.end))
-on_ready setting spot fs ss (TypedNull k) = goes (at spot.start spot.context fs ss (nows.Pending (helds.Null k) spot.end))
-on_ready setting spot fs ss (Long w) = goes (at spot.start spot.context fs ss (nows.Long w spot.end))
+    resolved (resolve spot.context id) (λ s. goes (at spot.start spot.context fs ss (Now.Pending (Held.Symbol s) spot.end)))
+on_ready setting spot fs ss (Quoted w) = goes (at spot.start spot.context fs ss (Now.Pending (Held.Symbol (Some w)) spot.end))
+on_ready setting spot fs ss (TypedNull k) = goes (at spot.start spot.context fs ss (Now.Pending (Held.Null k) spot.end))
+on_ready setting spot fs ss (Long w) = goes (at spot.start spot.context fs ss (Now.Long w spot.end))
 on_ready setting spot fs ss (Short w) = ended setting spot fs (annotated ss (payloads.Str w))
 on_ready setting spot fs ss (Number' n) = ended setting spot fs (annotated ss (number_payload n))
 on_ready setting spot fs ss (Operator w) = ended setting spot fs (annotated ss (payloads.Symbol (Some w)))
 on_ready setting spot fs ss (Clob w) = ended setting spot fs (annotated ss (payloads.Clob w))
 on_ready setting spot fs ss (Blob w) = ended setting spot fs (annotated ss (payloads.Blob w))
-on_ready setting spot fs ss (Mark' marks.ListOpen) = opening brackets.List setting.limits.depth spot.start spot.context fs ss
-on_ready setting spot fs ss (Mark' marks.SexpOpen) = opening brackets.Sexp setting.limits.depth spot.start spot.context fs ss
-on_ready setting spot fs ss (Mark' marks.FieldsOpen) = opening brackets.Fields setting.limits.depth spot.start spot.context fs ss
-on_ready setting spot fs ss (Mark' marks.ListClose) = bare_close ss (closed brackets.List setting spot fs)
-on_ready setting spot fs ss (Mark' marks.SexpClose) = bare_close ss (closed brackets.Sexp setting spot fs)
+on_ready setting spot fs ss (Mark' Mark.ListOpen) = opening Bracket.List setting.limits.depth spot.start spot.context fs ss
+on_ready setting spot fs ss (Mark' Mark.SexpOpen) = opening Bracket.Sexp setting.limits.depth spot.start spot.context fs ss
+on_ready setting spot fs ss (Mark' Mark.FieldsOpen) = opening Bracket.Fields setting.limits.depth spot.start spot.context fs ss
+on_ready setting spot fs ss (Mark' Mark.ListClose) = bare_close ss (closed Bracket.List setting spot fs)
+on_ready setting spot fs ss (Mark' Mark.SexpClose) = bare_close ss (closed Bracket.Sexp setting spot fs)
 on_ready setting spot fs ss (Mark' _) = unexpected
 
 -- behind what may be an annotation
 abbrev pub noted : ℕ → List Slot → List Frame → Symbols → Result (Option (List ℕ)) Reason → Turn
-noted start c fs ss (Ok s) = goes (at start c fs (ss ++ s ∷ []) nows.Ready)
-noted start c fs ss (Err e) = late e (at start c fs (ss ++ None ∷ []) nows.Ready)
+noted start c fs ss (Ok s) = goes (at start c fs (ss ++ s ∷ []) Now.Ready)
+noted start c fs ss (Err e) = late e (at start c fs (ss ++ None ∷ []) Now.Ready)
 
 -- `::` makes an annotation of what was held, and no other token may come
 abbrev pub on_pending : ℕ → List Slot → List Frame → Symbols → Held → Content → Turn
-on_pending start c fs ss h (Mark' marks.Colons) = noted start c fs ss (held_symbol h)
+on_pending start c fs ss h (Mark' Mark.Colons) = noted start c fs ss (held_symbol h)
 on_pending start c fs ss h _ = unexpected
 
 -- a further segment goes on with a long string, and no other token may come
 abbrev pub on_long : Spot → List Frame → Symbols → List ℕ → Content → Turn
-on_long spot fs ss v (Long w) = goes (at spot.start spot.context fs ss (nows.Long (v ++ w) spot.end))
+on_long spot fs ss v (Long w) = goes (at spot.start spot.context fs ss (Now.Long (v ++ w) spot.end))
 on_long spot fs ss v _ = unexpected
 
 -- behind a comma the next element may come, or the next field's name
 abbrev pub on_comma : ℕ → List Slot → List Frame → Turn
-on_comma start c (frames.Items listings.List ss vs ∷ fs) = goes (at start c (frames.Items listings.List ss vs ∷ fs) [] nows.Ready)
-on_comma start c (frames.Fields ss ms ∷ fs) = goes (at start c (frames.Fields ss ms ∷ fs) [] nows.Name)
+on_comma start c (Frame.Items Listing.List ss vs ∷ fs) = goes (at start c (Frame.Items Listing.List ss vs ∷ fs) [] Now.Ready)
+on_comma start c (Frame.Fields ss ms ∷ fs) = goes (at start c (Frame.Fields ss ms ∷ fs) [] Now.Name)
 on_comma start c _ = unexpected
 
 -- behind an element or a field a comma or the close may come
 abbrev pub on_after : Setting → Spot → List Frame → Content → Turn
-on_after setting spot fs (Mark' marks.Comma) = on_comma spot.start spot.context fs
-on_after setting spot fs (Mark' marks.ListClose) = closed brackets.List setting spot fs
-on_after setting spot fs (Mark' marks.FieldsClose) = closed brackets.Fields setting spot fs
+on_after setting spot fs (Mark' Mark.Comma) = on_comma spot.start spot.context fs
+on_after setting spot fs (Mark' Mark.ListClose) = closed Bracket.List setting spot fs
+on_after setting spot fs (Mark' Mark.FieldsClose) = closed Bracket.Fields setting spot fs
 on_after setting spot fs _ = unexpected
 
 -- a field's name was read, behind which its colon may come
 abbrev pub keyed : ℕ → List Slot → List Frame → Option (List ℕ) → Reading
-keyed start c fs s = at start c fs [] (nows.Keyed s)
+keyed start c fs s = at start c fs [] (Now.Keyed s)
 
 -- a field's name may come, or the close of the struct
 abbrev pub on_name : Setting → Spot → List Frame → Content → Turn
 on_name setting spot fs (Word w) =
-    if is_keyword w then late reasons.KeywordAsName (keyed spot.start spot.context fs (Some w))
+    if is_keyword w then late Reason.KeywordAsName (keyed spot.start spot.context fs (Some w))
     else goes (keyed spot.start spot.context fs (Some w))
-on_name setting spot fs (TypedNull k) = late reasons.KeywordAsName (keyed spot.start spot.context fs None)
+on_name setting spot fs (TypedNull k) = late Reason.KeywordAsName (keyed spot.start spot.context fs None)
 on_name setting spot fs (Id id) = resolved (resolve spot.context id) (λ s. goes (keyed spot.start spot.context fs s))
 on_name setting spot fs (Quoted w) = goes (keyed spot.start spot.context fs (Some w))
 on_name setting spot fs (Short w) = goes (keyed spot.start spot.context fs (Some w))
-on_name setting spot fs (Long w) = goes (at spot.start spot.context fs [] (nows.LongName w))
-on_name setting spot fs (Mark' marks.FieldsClose) = closed brackets.Fields setting spot fs
+on_name setting spot fs (Long w) = goes (at spot.start spot.context fs [] (Now.LongName w))
+on_name setting spot fs (Mark' Mark.FieldsClose) = closed Bracket.Fields setting spot fs
 on_name setting spot fs _ = unexpected
 
 -- a further segment goes on with a long name, and no other token may come
 abbrev pub on_long_name : ℕ → List Slot → List Frame → List ℕ → Content → Turn
-on_long_name start c fs v (Long w) = goes (at start c fs [] (nows.LongName (v ++ w)))
+on_long_name start c fs v (Long w) = goes (at start c fs [] (Now.LongName (v ++ w)))
 on_long_name start c fs v _ = unexpected
 
 -- behind a field's name and its colon the value may come
 abbrev pub named : ℕ → List Slot → List Frame → Option (List ℕ) → Turn
-named start c (frames.Fields ss ms ∷ fs) s = goes (at start c (frames.Named ss ms s ∷ fs) [] nows.Ready)
+named start c (Frame.Fields ss ms ∷ fs) s = goes (at start c (Frame.Named ss ms s ∷ fs) [] Now.Ready)
 named start c _ s = unexpected
 
 -- behind a field's name its colon may come
 abbrev pub on_keyed : ℕ → List Slot → List Frame → Option (List ℕ) → Content → Turn
-on_keyed start c fs s (Mark' marks.Colon) = named start c fs s
+on_keyed start c fs s (Mark' Mark.Colon) = named start c fs s
 on_keyed start c fs s _ = unexpected
 
 -- where the item of a token begins
@@ -312,14 +287,14 @@ begun_at start begin _ _ = start
 
 -- what a token does where this is expected; where nothing waits, an item may begin with it
 abbrev pub turn_now : Setting → Reading → Token → Now → Turn
-turn_now setting r t nows.Ready =
+turn_now setting r t Now.Ready =
     on_ready setting (spot_at t.end (begun_at r.start t.start r.frames r.notes) r.context) r.frames r.notes t.said
-turn_now setting r t (nows.Pending h _) = on_pending r.start r.context r.frames r.notes h t.said
-turn_now setting r t (nows.Long w _) = on_long (spot_in r t.end) r.frames r.notes w t.said
-turn_now setting r t nows.After = on_after setting (spot_in r t.end) r.frames t.said
-turn_now setting r t nows.Name = on_name setting (spot_in r t.end) r.frames t.said
-turn_now setting r t (nows.LongName w) = on_long_name r.start r.context r.frames w t.said
-turn_now setting r t (nows.Keyed s) = on_keyed r.start r.context r.frames s t.said
+turn_now setting r t (Now.Pending h _) = on_pending r.start r.context r.frames r.notes h t.said
+turn_now setting r t (Now.Long w _) = on_long (spot_in r t.end) r.frames r.notes w t.said
+turn_now setting r t Now.After = on_after setting (spot_in r t.end) r.frames t.said
+turn_now setting r t Now.Name = on_name setting (spot_in r t.end) r.frames t.said
+turn_now setting r t (Now.LongName w) = on_long_name r.start r.context r.frames w t.said
+turn_now setting r t (Now.Keyed s) = on_keyed r.start r.context r.frames s t.said
 
 -- what a token does
 abbrev pub turn : Catalog → Limits → Reading → Token → Turn

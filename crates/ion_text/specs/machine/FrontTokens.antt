@@ -1,18 +1,8 @@
 -- Tokens at the front of octets where a container is open: as values, and as names of fields.
 use Rattle.std.specs.Prelude.{◌≡◌, ℕ, ◌==◌, ◌&&◌, ◌||◌, Bool, true, false, not, nat_lt, List, Option, Some, None, Ok}
-use Rattle.ion_model.specs.declared.value.Payload.{Payload}
-use Rattle.ion_model.specs.Measures.{annotated}
-use Rattle.ion_tokens.specs.declared.token_reader.FoundToken.{FoundToken}
-use Rattle.ion_tokens.specs.declared.mode.Place.{Place}
-use Rattle.ion_tokens.specs.declared.plain_tokens.Rest.{Rest}
-use Rattle.ion_tokens.specs.Bodies.{Content, Word, Quoted, Short, TypedNull}
-use Rattle.ion_tokens.specs.machine.Rests.{IsFound}
-use Rattle.ion_tokens.specs.machine.Said.{said}
+use Rattle.ion_text.specs.Names.Below.{Content, FoundToken, Frame, Held, IsFound, Payload, Place, Quoted, Rest, Short, TypedNull, Word, annotated, said}
 use Rattle.ion_text.specs.Grammar.{is_keyword}
-use Rattle.ion_text.specs.declared.state.Frame.{Frame}
-use Rattle.ion_text.specs.machine.EachToken.{Setting, Spot, Symbols, ended, held_word, held_payload, on_ready}
-use Rattle.ion_text.specs.declared.state.Held.{Held}
-use Rattle.ion_text.specs.declared.state.Held.TheVariants as helds
+use Rattle.ion_text.specs.machine.EachToken.{Setting, Spot, Symbols, ended, held_payload, held_word, on_ready}
 
 -- the octet shows that no `::` follows a symbol: it is no blank, and begins no colon and no comment
 abbrev pub ends_symbol : ℕ → Bool
@@ -21,13 +11,13 @@ ends_symbol o = nat_lt 32 o && not ((o == 58) || (o == 47))
 -- what may be an annotation
 abbrev pub held_of : Content → Option Held
 held_of (Word w) = Some (held_word w)
-held_of (Quoted w) = Some (helds.Symbol (Some w))
-held_of (TypedNull k) = Some (helds.Null k)
+held_of (Quoted w) = Some (Held.Symbol (Some w))
+held_of (TypedNull k) = Some (Held.Null k)
 held_of _ = None
 
 -- a word of the form of a version marker
 abbrev pub is_marker : Held → Bool
-is_marker (helds.Version ours s) = true
+is_marker (Held.Version ours s) = true
 is_marker _ = false
 
 -- what is held is this value, unless `::` follows

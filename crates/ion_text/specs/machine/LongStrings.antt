@@ -1,20 +1,6 @@
 -- Long strings at the front of octets: segments, each with a blank behind it.
 use Rattle.std.specs.Prelude.{◌≡◌, ℕ, ◌+◌, ◌==◌, ◌&&◌, ◌<◌, ◌≤◌, Bool, true, false, not, List, ◌++◌, length, drop, get_or, Ok}
-use Rattle.ion_symtab.specs.declared.catalog.Catalog.{Catalog}
-use Rattle.ion_symtab.specs.declared.limits.Limits.{Limits}
-use Rattle.ion_symtab.specs.Slots.{Slot}
-use Rattle.ion_tokens.specs.declared.mode.Place.{Place}
-use Rattle.ion_tokens.specs.declared.mode.TokenKind.TheVariants as tokens
-use Rattle.ion_tokens.specs.declared.plain_tokens.Rest.{Rest}
-use Rattle.ion_tokens.specs.Bodies.{Long}
-use Rattle.ion_tokens.specs.machine.Rests.{past_blank, past_token, IsFound, IsPassed}
-use Rattle.ion_tokens.specs.machine.Said.{said}
-use Rattle.ion_text.specs.declared.state.Frame.{Frame}
-use Rattle.ion_text.specs.declared.state.Now.TheVariants as nows
-use Rattle.ion_text.specs.machine.AtOnce.{LeadsTo}
-use Rattle.ion_text.specs.machine.EachToken.{Symbols, begun_at, place_in}
-use Rattle.ion_text.specs.machine.FrontTokens.{ends_symbol}
-use Rattle.ion_text.specs.machine.Walked.{rested}
+use Rattle.ion_text.specs.Names.{Catalog, Frame, IsFound, IsPassed, LeadsTo, Limits, Long, Now, Place, Rest, Slot, Symbols, TokenKind, begun_at, ends_symbol, past_blank, past_token, place_in, rested, said}
 
 -- the octet shows that no segment of a long string follows: it is no blank and no quote, and begins no colon and no comment
 abbrev pub ends_long : ℕ → Bool
@@ -24,8 +10,8 @@ ends_long o = ends_symbol o && not (o == 39)
 pub record JoinedSegment (p : Place) (r : Rest) (octets : List ℕ) (size : ℕ) (old new : List ℕ) : Type 0 where
   pub kept : List ℕ
   pub more : List ℕ
-  pub found : IsFound p r octets tokens.LongString kept size false
-  pub says : said tokens.LongString kept ≡ Ok (Long more)
+  pub found : IsFound p r octets TokenKind.LongString kept size false
+  pub says : said TokenKind.LongString kept ≡ Ok (Long more)
   pub joined : new ≡ old ++ more
 
 -- the same with a blank behind it, so many octets together, behind which the scanner rests there
@@ -36,14 +22,14 @@ pub record PassedSegment (p : Place) (before : Rest) (octets : List ℕ) (count 
   pub passed : IsPassed (drop size octets) blank
   pub within : count ≤ length octets
   pub total : count ≡ size + blank
-  pub rests : after ≡ past_blank (past_token p before tokens.LongString size) blank
+  pub rests : after ≡ past_blank (past_token p before TokenKind.LongString size) blank
 
 -- where a value may come in such a place, so many octets lead to where a long string of this text waits for more
 pub record LongSoFar (p : Place) (before : Rest) (octets : List ℕ) (count : ℕ) (after : Rest) (text : List ℕ) : Type 0 where
-  pub leads : (g : Catalog) (l : Limits) (start : ℕ) (c : List Slot) (ss : Symbols) (fs : List Frame) → place_in fs nows.Ready ≡ p
+  pub leads : (g : Catalog) (l : Limits) (start : ℕ) (c : List Slot) (ss : Symbols) (fs : List Frame) → place_in fs Now.Ready ≡ p
       → before.used + length octets ≤ l.item + begun_at start before.used fs ss
-      → (end : ℕ) × (end ≤ after.used) × LeadsTo g l (rested before start c fs ss nows.Ready) octets count
-      (rested after (begun_at start before.used fs ss) c fs ss (nows.Long text end))
+      → (end : ℕ) × (end ≤ after.used) × LeadsTo g l (rested before start c fs ss Now.Ready) octets count
+      (rested after (begun_at start before.used fs ss) c fs ss (Now.Long text end))
   pub some : 0 < count
   pub within : count ≤ length octets
   pub used : after.used ≡ before.used + count

@@ -1,10 +1,8 @@
 -- What a token says, and that it passes then.
 use Rattle.std.proofs.Common.{◌≡◌, ℕ, List, Ok, subst}
-use Rattle.ion_tokens.specs.declared.mode.TokenKind.{TokenKind}
-use Rattle.ion_tokens.specs.Bodies.{Content, IsBody}
+use Rattle.ion_text.specs.Names.Below.{Content, IsBody, TokenKind, said, says}
 use Rattle.ion_tokens.specs.Lexed.{Passes}
 use Rattle.ion_tokens.specs.laws.Judged.{body_passes}
-use Rattle.ion_tokens.specs.machine.Said.{said, says}
 
 -- what a token is read as is what it says
 pub said_body : (k : TokenKind) (octets : List ℕ) (c : Content) → said k octets ≡ Ok c → IsBody k octets (Ok c)

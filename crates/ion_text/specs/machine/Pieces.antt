@@ -1,16 +1,9 @@
 -- Runs in pieces, and what they have to do with runs of the scanner.
 use Rattle.std.proofs.Common.{◌≡◌, ℕ, ◌+◌, List, [], ◌∷◌, ◌++◌, length, Bool, true, false, Result, Ok, Err, refl, ap, sym, ◌∙◌, subst, arith, append-nil, if◌then◌else◌, ◌⊎◌, inl, inr, ◌||◌}
-use Rattle.ion_model.specs.declared.value.Value.{Value}
-use Rattle.ion_atoms.specs.declared.refusal.Refusal.{Refusal}
-use Rattle.ion_symtab.specs.declared.limits.Limits.{Limits}
-use Rattle.ion_symtab.specs.declared.catalog.Catalog.{Catalog}
-use Rattle.ion_symtab.specs.Trace.{Grows}
-use Rattle.ion_tokens.specs.declared.mode.Place.{Place}
+use Rattle.ion_text.specs.Names.Below.{AtEach, Catalog, Given, Grows, Known, Left, Limits, Next, OnNext, Outcome, Place, Refusal, Refused, Value, feed, follow}
 use Rattle.ion_tokens.specs.machine.Scanning as scanning
-use Rattle.ion_tokens.specs.machine.Scanning.{Known, Outcome, Next, Given, Left, Refused, feed, follow}
-use Rattle.ion_tokens.specs.machine.Ahead.{OnNext, AtEach}
 use Rattle.ion_text.specs.machine.EachToken.{Reading, goes, place, settle}
-use Rattle.ion_text.specs.machine.Run.{State, Effect, uses, tells, leaves, fails, eats, takes, waits, in_segment, unsettled, noticed, on_scan, on_settled, Run, run, run_on, once_more, with_value, with_scan, begun, trace, trace_of}
+use Rattle.ion_text.specs.machine.Run.{Effect, Run, State, begun, eats, fails, in_segment, leaves, noticed, on_scan, on_settled, once_more, run, run_on, takes, tells, trace, trace_of, unsettled, uses, waits, with_scan, with_value}
 
 -- values that were given, and the run from where they led, unless this was refused
 abbrev pub on_now : List (Value × ℕ) → Result State Refusal → (State → Run) → Run

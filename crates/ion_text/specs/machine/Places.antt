@@ -1,72 +1,55 @@
 -- Settling what waits changes no place.
 use Rattle.std.proofs.Common.{◌≡◌, ℕ, ◌+◌, nat_le, List, [], ◌∷◌, Bool, true, false, Result, Ok, Err, Option, Some, refl, if◌then◌else◌}
-use Rattle.ion_model.specs.declared.value.Value.{Value}
-use Rattle.ion_model.specs.declared.value.Payload.{Payload}
-use Rattle.ion_atoms.specs.declared.refusal.Reason.{Reason}
-use Rattle.ion_atoms.specs.declared.refusal.Reason.TheVariants as reasons
-use Rattle.ion_model.specs.Kinds.{is_table}
-use Rattle.ion_symtab.specs.declared.limits.Limits.{Limits}
-use Rattle.ion_symtab.specs.declared.catalog.Catalog.{Catalog}
-use Rattle.ion_symtab.specs.Slots.{Slot, system_slots}
-use Rattle.ion_symtab.specs.Next.{next}
-use Rattle.ion_tokens.specs.declared.mode.Place.{Place}
-use Rattle.ion_tokens.specs.declared.mode.Place.TheVariants as places
-use Rattle.ion_text.specs.declared.state.Held.{Held}
-use Rattle.ion_text.specs.declared.state.Held.TheVariants as helds
-use Rattle.ion_text.specs.declared.state.Now.{Now}
-use Rattle.ion_text.specs.declared.state.Now.TheVariants as nows
-use Rattle.ion_text.specs.declared.state.Frame.{Frame}
-use Rattle.ion_text.specs.declared.state.Frame.TheVariants as frames
-use Rattle.ion_text.specs.declared.state.Listing.TheVariants as listings
-use Rattle.ion_text.specs.machine.EachToken.{Spot, under, spot_at, Reading, Turn, goes, gives, refuses, late, Symbols, at, fresh, place, place_in, settle, turned, within, ended, released, paid, held_payload}
+use Rattle.ion_text.specs.Names.Below.{Catalog, Frame, Held, Limits, Listing, Now, Payload, Place, Reason, Slot, Value, is_table, next, system_slots}
+use Rattle.ion_text.specs.machine.EachToken.{Reading, Spot, Symbols, Turn, at, ended, fresh, gives, goes, held_payload, late, paid, place, place_in, refuses, released, settle, spot_at, turned, under, within}
 use Rattle.ion_text.specs.machine.Run.{is_top}
 
 -- two places are the same
 abbrev pub same_place : Place → Place → Bool
-same_place places.Top places.Top = true
-same_place places.List places.List = true
-same_place places.Sexp places.Sexp = true
-same_place places.Name places.Name = true
-same_place places.FieldValue places.FieldValue = true
+same_place Place.Top Place.Top = true
+same_place Place.List Place.List = true
+same_place Place.Sexp Place.Sexp = true
+same_place Place.Name Place.Name = true
+same_place Place.FieldValue Place.FieldValue = true
 same_place p q = false
 
 -- each place is the same as itself
 pub same_itself : (p : Place) → same_place p p ≡ true
-same_itself places.Top = refl
-same_itself places.List = refl
-same_itself places.Sexp = refl
-same_itself places.Name = refl
-same_itself places.FieldValue = refl
+same_itself Place.Top = refl
+same_itself Place.List = refl
+same_itself Place.Sexp = refl
+same_itself Place.Name = refl
+same_itself Place.FieldValue = refl
 
 -- places that are the same by the test are the same
 pub same_is : (p q : Place) → same_place p q ≡ true → p ≡ q
-same_is places.Top places.Top h = refl
-same_is places.List places.List h = refl
-same_is places.Sexp places.Sexp h = refl
-same_is places.Name places.Name h = refl
-same_is places.FieldValue places.FieldValue h = refl
+same_is Place.Top Place.Top h = refl
+same_is Place.List Place.List h = refl
+same_is Place.Sexp Place.Sexp h = refl
+same_is Place.Name Place.Name h = refl
+same_is Place.FieldValue Place.FieldValue h = refl
 same_is _ _ h = absurd cc
 
 -- while a value waits, the place is that of a value
-pub pending_at : (fs : List Frame) (h : Held) (end : ℕ) → place_in fs (nows.Pending h end) ≡ place_in fs nows.Ready
+pub pending_at : (fs : List Frame) (h : Held) (end : ℕ) → place_in fs (Now.Pending h end) ≡ place_in fs Now.Ready
 pending_at [] h end = refl
-pending_at (frames.Items listing ss vs ∷ fs) h end = refl
-pending_at (frames.Fields ss ms ∷ fs) h end = refl
-pending_at (frames.Named ss ms s ∷ fs) h end = refl
+pending_at (Frame.Items listing ss vs ∷ fs) h end = refl
+pending_at (Frame.Fields ss ms ∷ fs) h end = refl
+pending_at (Frame.Named ss ms s ∷ fs) h end = refl
 
 -- while a long string waits, the place is that of a value
-pub long_at : (fs : List Frame) (w : List ℕ) (end : ℕ) → place_in fs (nows.Long w end) ≡ place_in fs nows.Ready
+pub long_at : (fs : List Frame) (w : List ℕ) (end : ℕ) → place_in fs (Now.Long w end) ≡ place_in fs Now.Ready
 long_at [] w end = refl
-long_at (frames.Items listing ss vs ∷ fs) w end = refl
-long_at (frames.Fields ss ms ∷ fs) w end = refl
-long_at (frames.Named ss ms s ∷ fs) w end = refl
+long_at (Frame.Items listing ss vs ∷ fs) w end = refl
+long_at (Frame.Fields ss ms ∷ fs) w end = refl
+long_at (Frame.Named ss ms s ∷ fs) w end = refl
 
 -- while a long name waits, the place is that of a name
-pub name_at : (fs : List Frame) (w : List ℕ) → place_in fs (nows.LongName w) ≡ place_in fs nows.Name
+pub name_at : (fs : List Frame) (w : List ℕ) → place_in fs (Now.LongName w) ≡ place_in fs Now.Name
 name_at [] w = refl
-name_at (frames.Items listing ss vs ∷ fs) w = refl
-name_at (frames.Fields ss ms ∷ fs) w = refl
-name_at (frames.Named ss ms s ∷ fs) w = refl
+name_at (Frame.Items listing ss vs ∷ fs) w = refl
+name_at (Frame.Fields ss ms ∷ fs) w = refl
+name_at (Frame.Named ss ms s ∷ fs) w = refl
 
 module _ (g : Catalog) (l : Limits) where
   -- a fact of the reading that a turn leads to
@@ -81,10 +64,10 @@ module _ (g : Catalog) (l : Limits) where
   SamePlace fs now t = Leading (λ r. (place r ≡ place_in fs now) × (is_top r.frames ≡ is_top fs)) t
 
   within_same : (item start end : ℕ) (fs : List Frame) (now : Now) (t : Turn) → SamePlace fs now t
-      → SamePlace fs now (if nat_le end (start + item) then t else refuses reasons.ItemTooLong)
+      → SamePlace fs now (if nat_le end (start + item) then t else refuses Reason.ItemTooLong)
   within_same item start end fs now t h = go (nat_le end (start + item))
     where
-      go : (b : Bool) → SamePlace fs now (if b then t else refuses reasons.ItemTooLong)
+      go : (b : Bool) → SamePlace fs now (if b then t else refuses Reason.ItemTooLong)
       go true = h
       go false = tt
 
@@ -96,15 +79,15 @@ module _ (g : Catalog) (l : Limits) where
 
   -- what waits is no name
   abbrev IsValueNow : Now → Type 0
-  IsValueNow (nows.Pending h end) = Unit {0}
-  IsValueNow (nows.Long w end) = Unit {0}
+  IsValueNow (Now.Pending h end) = Unit {0}
+  IsValueNow (Now.Long w end) = Unit {0}
   IsValueNow _ = ⊥
 
   ended_same : (spot : Spot) (fs : List Frame) (now : Now) (v : Value) → IsValueNow now → SamePlace fs now (ended (under g l) spot fs v)
   ended_same spot [] now v h = top_same l.item spot.start spot.end spot.context now v (next spot.context v g) (is_table v)
-  ended_same spot (frames.Items listing ss vs ∷ fs) now v h = (refl, refl)
-  ended_same spot (frames.Named ss ms s ∷ fs) now v h = (refl, refl)
-  ended_same spot (frames.Fields ss ms ∷ fs) now v h = tt
+  ended_same spot (Frame.Items listing ss vs ∷ fs) now v h = (refl, refl)
+  ended_same spot (Frame.Named ss ms s ∷ fs) now v h = (refl, refl)
+  ended_same spot (Frame.Fields ss ms ∷ fs) now v h = tt
 
   paid_same : (spot : Spot) (fs : List Frame) (ss : Symbols) (now : Now) (q : Result Payload Reason) → IsValueNow now
       → SamePlace fs now (paid (under g l) spot fs ss q)
@@ -112,39 +95,39 @@ module _ (g : Catalog) (l : Limits) where
   paid_same spot fs ss now (Err e) h = tt
 
   released_same : (spot : Spot) (fs : List Frame) (ss : Symbols) (now : Now) (h : Held) → IsValueNow now → SamePlace fs now (released (under g l) spot fs ss h)
-  released_same spot [] [] now (helds.Version true s) i = within_same l.item spot.start spot.end [] now (goes (fresh system_slots)) (refl, refl)
-  released_same spot [] [] now (helds.Version false s) i = tt
-  released_same spot [] [] now (helds.Symbol s) i = paid_same spot [] [] now (held_payload (helds.Symbol s)) i
-  released_same spot [] [] now (helds.Null k) i = paid_same spot [] [] now (held_payload (helds.Null k)) i
-  released_same spot [] [] now (helds.Truth b) i = paid_same spot [] [] now (held_payload (helds.Truth b)) i
-  released_same spot [] [] now helds.Nan i = tt
+  released_same spot [] [] now (Held.Version true s) i = within_same l.item spot.start spot.end [] now (goes (fresh system_slots)) (refl, refl)
+  released_same spot [] [] now (Held.Version false s) i = tt
+  released_same spot [] [] now (Held.Symbol s) i = paid_same spot [] [] now (held_payload (Held.Symbol s)) i
+  released_same spot [] [] now (Held.Null k) i = paid_same spot [] [] now (held_payload (Held.Null k)) i
+  released_same spot [] [] now (Held.Truth b) i = paid_same spot [] [] now (held_payload (Held.Truth b)) i
+  released_same spot [] [] now Held.Nan i = tt
   released_same spot [] (s ∷ ss) now h i = paid_same spot [] (s ∷ ss) now (held_payload h) i
   released_same spot (f ∷ fs) ss now h i = paid_same spot (f ∷ fs) ss now (held_payload h) i
 
-  keyed_same : (fs : List Frame) (w : List ℕ) (s : Option (List ℕ)) → place_in fs (nows.Keyed s) ≡ place_in fs (nows.LongName w)
+  keyed_same : (fs : List Frame) (w : List ℕ) (s : Option (List ℕ)) → place_in fs (Now.Keyed s) ≡ place_in fs (Now.LongName w)
   keyed_same [] w s = refl
-  keyed_same (frames.Items listing ss vs ∷ fs) w s = refl
-  keyed_same (frames.Fields ss ms ∷ fs) w s = refl
-  keyed_same (frames.Named ss ms x ∷ fs) w s = refl
+  keyed_same (Frame.Items listing ss vs ∷ fs) w s = refl
+  keyed_same (Frame.Fields ss ms ∷ fs) w s = refl
+  keyed_same (Frame.Named ss ms x ∷ fs) w s = refl
 
   -- What waited is settled where it stands.
   pub settle_same : (start : ℕ) (c : List Slot) (fs : List Frame) (ss : Symbols) (now : Now) → SamePlace fs now (settle g l (at start c fs ss now))
-  settle_same start c fs ss (nows.Pending h end) = released_same (spot_at end start c) fs ss (nows.Pending h end) h tt
-  settle_same start c fs ss (nows.Long w end) = ended_same (spot_at end start c) fs (nows.Long w end) _ tt
-  settle_same start c fs ss (nows.LongName w) = (keyed_same fs w (Some w), refl)
-  settle_same start c fs ss nows.Ready = (refl, refl)
-  settle_same start c fs ss nows.After = (refl, refl)
-  settle_same start c fs ss nows.Name = (refl, refl)
-  settle_same start c fs ss (nows.Keyed s) = (refl, refl)
+  settle_same start c fs ss (Now.Pending h end) = released_same (spot_at end start c) fs ss (Now.Pending h end) h tt
+  settle_same start c fs ss (Now.Long w end) = ended_same (spot_at end start c) fs (Now.Long w end) _ tt
+  settle_same start c fs ss (Now.LongName w) = (keyed_same fs w (Some w), refl)
+  settle_same start c fs ss Now.Ready = (refl, refl)
+  settle_same start c fs ss Now.After = (refl, refl)
+  settle_same start c fs ss Now.Name = (refl, refl)
+  settle_same start c fs ss (Now.Keyed s) = (refl, refl)
 
   -- Behind what was settled nothing waits.
   abbrev pub SettlesStill : Turn → Type 0
   SettlesStill t = Leading (λ r. settle g l r ≡ goes r) t
 
-  within_still : (item start end : ℕ) (t : Turn) → SettlesStill t → SettlesStill (if nat_le end (start + item) then t else refuses reasons.ItemTooLong)
+  within_still : (item start end : ℕ) (t : Turn) → SettlesStill t → SettlesStill (if nat_le end (start + item) then t else refuses Reason.ItemTooLong)
   within_still item start end t h = go (nat_le end (start + item))
     where
-      go : (b : Bool) → SettlesStill (if b then t else refuses reasons.ItemTooLong)
+      go : (b : Bool) → SettlesStill (if b then t else refuses Reason.ItemTooLong)
       go true = h
       go false = tt
 
@@ -156,31 +139,31 @@ module _ (g : Catalog) (l : Limits) where
 
   ended_still : (spot : Spot) (fs : List Frame) (v : Value) → SettlesStill (ended (under g l) spot fs v)
   ended_still spot [] v = top_still l.item spot.start spot.end spot.context v (next spot.context v g) (is_table v)
-  ended_still spot (frames.Items listings.List ss vs ∷ fs) v = refl
-  ended_still spot (frames.Items listings.Sexp ss vs ∷ fs) v = refl
-  ended_still spot (frames.Named ss ms s ∷ fs) v = refl
-  ended_still spot (frames.Fields ss ms ∷ fs) v = tt
+  ended_still spot (Frame.Items Listing.List ss vs ∷ fs) v = refl
+  ended_still spot (Frame.Items Listing.Sexp ss vs ∷ fs) v = refl
+  ended_still spot (Frame.Named ss ms s ∷ fs) v = refl
+  ended_still spot (Frame.Fields ss ms ∷ fs) v = tt
 
   paid_still : (spot : Spot) (fs : List Frame) (ss : Symbols) (q : Result Payload Reason) → SettlesStill (paid (under g l) spot fs ss q)
   paid_still spot fs ss (Ok q) = ended_still spot fs _
   paid_still spot fs ss (Err e) = tt
 
   released_still : (spot : Spot) (fs : List Frame) (ss : Symbols) (h : Held) → SettlesStill (released (under g l) spot fs ss h)
-  released_still spot [] [] (helds.Version true s) = within_still l.item spot.start spot.end (goes (fresh system_slots)) refl
-  released_still spot [] [] (helds.Version false s) = tt
-  released_still spot [] [] (helds.Symbol s) = paid_still spot [] [] (held_payload (helds.Symbol s))
-  released_still spot [] [] (helds.Null k) = paid_still spot [] [] (held_payload (helds.Null k))
-  released_still spot [] [] (helds.Truth b) = paid_still spot [] [] (held_payload (helds.Truth b))
-  released_still spot [] [] helds.Nan = tt
+  released_still spot [] [] (Held.Version true s) = within_still l.item spot.start spot.end (goes (fresh system_slots)) refl
+  released_still spot [] [] (Held.Version false s) = tt
+  released_still spot [] [] (Held.Symbol s) = paid_still spot [] [] (held_payload (Held.Symbol s))
+  released_still spot [] [] (Held.Null k) = paid_still spot [] [] (held_payload (Held.Null k))
+  released_still spot [] [] (Held.Truth b) = paid_still spot [] [] (held_payload (Held.Truth b))
+  released_still spot [] [] Held.Nan = tt
   released_still spot [] (s ∷ ss) h = paid_still spot [] (s ∷ ss) (held_payload h)
   released_still spot (f ∷ fs) ss h = paid_still spot (f ∷ fs) ss (held_payload h)
 
   -- behind what was settled nothing waits, whatever waited
   pub settle_still : (start : ℕ) (c : List Slot) (fs : List Frame) (ss : Symbols) (now : Now) → SettlesStill (settle g l (at start c fs ss now))
-  settle_still start c fs ss (nows.Pending h end) = released_still (spot_at end start c) fs ss h
-  settle_still start c fs ss (nows.Long w end) = ended_still (spot_at end start c) fs _
-  settle_still start c fs ss (nows.LongName w) = refl
-  settle_still start c fs ss nows.Ready = refl
-  settle_still start c fs ss nows.After = refl
-  settle_still start c fs ss nows.Name = refl
-  settle_still start c fs ss (nows.Keyed s) = refl
+  settle_still start c fs ss (Now.Pending h end) = released_still (spot_at end start c) fs ss h
+  settle_still start c fs ss (Now.Long w end) = ended_still (spot_at end start c) fs _
+  settle_still start c fs ss (Now.LongName w) = refl
+  settle_still start c fs ss Now.Ready = refl
+  settle_still start c fs ss Now.After = refl
+  settle_still start c fs ss Now.Name = refl
+  settle_still start c fs ss (Now.Keyed s) = refl

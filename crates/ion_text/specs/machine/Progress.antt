@@ -1,18 +1,8 @@
 -- Runs over pieces: what a walk over one does, and what is so behind it.
 use Rattle.std.specs.Prelude.{◌≡◌, ◌≢◌, ◌<◌, ◌≤◌, ℕ, ◌+◌, Bool, true, false, List, [], ◌∷◌, ◌++◌, length, take, drop, get_or, Option, Some, None, Result, Ok, Err, IfSome}
-use Rattle.ion_model.specs.declared.value.Value.{Value}
-use Rattle.ion_atoms.specs.declared.refusal.Reason.{Reason}
-use Rattle.ion_atoms.specs.declared.refusal.Reason.TheVariants.{Memory}
-use Rattle.ion_atoms.specs.declared.refusal.Refusal.{Refusal}
-use Rattle.ion_symtab.specs.declared.items.Step.{Step}
-use Rattle.ion_symtab.specs.declared.limits.Limits.{Limits}
-use Rattle.ion_symtab.specs.declared.catalog.Catalog.{Catalog}
-use Rattle.ion_tokens.specs.declared.mode.Mode.{Mode}
-use Rattle.ion_tokens.specs.declared.mode.Mode.TheVariants as modes
-use Rattle.ion_text.specs.declared.state.Now.{Now}
-use Rattle.ion_text.specs.declared.state.Now.TheVariants as nows
-use Rattle.ion_text.specs.machine.Run.{State, leaves, Run, run, eats, once_more, begun}
+use Rattle.ion_text.specs.Names.Below.{Catalog, Limits, Memory, Mode, Now, Reason, Refusal, Step, Value}
 use Rattle.ion_text.specs.machine.Pieces.{led}
+use Rattle.ion_text.specs.machine.Run.{Run, State, begun, eats, leaves, once_more, run}
 use Rattle.ion_text.specs.machine.Views.{Told}
 
 -- a run over octets gave nothing more than the value that is held, with their last
@@ -67,7 +57,7 @@ or_first (Some refusal) later = Some refusal
 
 -- no value and no token has begun, so that no octet shows the end of one
 abbrev pub is_quiet : Now → Mode → Bool
-is_quiet nows.Ready modes.Blank = true
+is_quiet Now.Ready Mode.Blank = true
 is_quiet _ _ = false
 
 -- how many values may come: none if an octet is awaited or nothing has begun, else one

@@ -1,28 +1,7 @@
 -- The reader of octets: the scanner, and behind it the reader of tokens; and whole runs of it.
 use Rattle.std.specs.Prelude.{ℕ, zero, suc, ◌+◌, ◌-◌, ◌==◌, Bool, true, false, ◌&&◌, ◌||◌, not, List, [], ◌∷◌, nat_lt, nat_le, if◌then◌else◌, Result, Ok, Err, Option, Some, None}
-use Rattle.ion_model.specs.declared.value.Value.{Value}
-use Rattle.ion_atoms.specs.declared.refusal.Reason.{Reason}
-use Rattle.ion_atoms.specs.declared.refusal.Refusal.{Refusal}
-use Rattle.ion_atoms.specs.declared.refusal.Reason.TheVariants as reasons
-use Rattle.ion_atoms.specs.Reasons.{reason_number}
-use Rattle.ion_symtab.specs.declared.limits.Limits.{Limits}
-use Rattle.ion_symtab.specs.declared.catalog.Catalog.{Catalog}
-use Rattle.ion_symtab.specs.Slots.{system_slots}
-use Rattle.ion_symtab.specs.Trace.{Trace}
-use Rattle.ion_tokens.specs.declared.token.Begun.{Begun}
-use Rattle.ion_tokens.specs.declared.token.Form.{Form}
-use Rattle.ion_tokens.specs.declared.token.Form.TheVariants as forms
-use Rattle.ion_tokens.specs.machine.Bounds.{is_idle}
-use Rattle.ion_tokens.specs.machine.Ahead.{is_long_form, symbol_waits, long_waits}
-use Rattle.ion_tokens.specs.machine.Views.{begun_in}
-use Rattle.ion_tokens.specs.Bodies.{Content}
-use Rattle.ion_tokens.specs.machine.Scanning.{Known, Outcome, Next, Given, Left, Refused, feed, at_end, initial}
-use Rattle.ion_tokens.specs.Lexemes.{Lexeme}
-use Rattle.ion_text.specs.declared.state.Now.{Now}
-use Rattle.ion_text.specs.declared.state.Now.TheVariants as nows
-use Rattle.ion_text.specs.declared.state.Frame.{Frame}
-use Rattle.ion_tokens.specs.machine.Said.{said}
-use Rattle.ion_text.specs.machine.EachToken.{Reading, Turn, goes, gives, refuses, late, Token, Symbols, fresh, place, settle, turn}
+use Rattle.ion_text.specs.Names.Below.{Begun, Catalog, Content, Form, Frame, Given, Known, Left, Lexeme, Limits, Next, Now, Outcome, Reason, Refusal, Refused, Trace, Value, at_end, begun_in, feed, initial, is_idle, is_long_form, long_waits, reason_number, said, symbol_waits, system_slots}
+use Rattle.ion_text.specs.machine.EachToken.{Reading, Symbols, Token, Turn, fresh, gives, goes, late, place, refuses, settle, turn}
 
 -- what the scanner knows, and what the reader of tokens holds
 pub record State : Type 0 where
@@ -53,14 +32,14 @@ abbrev pub has_segment : Option Begun → Bool
 has_segment None = false
 has_segment (Some b) = of_form b.form where
   of_form : Form → Bool
-  of_form forms.Long = true
+  of_form Form.Long = true
   of_form _ = false
 
 -- what waits goes on to wait at the octet of which this comes; the Bool says whether at the top level
 abbrev pub waits_now : Bool → Now → Outcome → Bool
-waits_now top (nows.Pending h end) x = symbol_waits x
-waits_now top (nows.Long w end) x = long_waits top x
-waits_now top (nows.LongName w) x = long_waits false x
+waits_now top (Now.Pending h end) x = symbol_waits x
+waits_now top (Now.Long w end) x = long_waits top x
+waits_now top (Now.LongName w) x = long_waits false x
 waits_now top _ x = false
 
 -- what waits in a reading goes on to wait at the octet of which this comes
@@ -69,7 +48,7 @@ waits r x = waits_now (is_top r.frames) r.now x
 
 -- behind a long string that waits a segment of it has begun, and what is refused is refused in it
 abbrev pub in_segment : Now → Known → Bool
-in_segment (nows.Long w end) s = has_segment (begun_in s)
+in_segment (Now.Long w end) s = has_segment (begun_in s)
 in_segment _ s = false
 
 -- nothing that waits is settled before the octet
@@ -78,20 +57,20 @@ unsettled s r x = waits r x || in_segment r.now s
 
 -- no token may begin but a mark of one octet
 abbrev pub shut : Now → Bool
-shut nows.After = true
-shut (nows.Keyed s) = true
+shut Now.After = true
+shut (Now.Keyed s) = true
 shut _ = false
 
 -- Where a container is open, or an annotation waits for its value, each octet is the item's. Else those of the token that has begun are,
 -- and those of what waits at the top level, up to the last token's end.
 abbrev pub longest_top : ℕ → ℕ → Now → Symbols → Option Begun → ℕ → ℕ
-longest_top start used nows.Ready [] None n = 0
-longest_top start used nows.Ready [] (Some b) n = b.end - b.start
-longest_top start used nows.Ready (s ∷ ss) None n = used - start
-longest_top start used nows.Ready (s ∷ ss) (Some b) n = b.end - start
-longest_top start used (nows.Pending h end) ss b n = end - start
-longest_top start used (nows.Long w end) ss None n = end - start
-longest_top start used (nows.Long w end) ss (Some b) n = if is_long_form b.form && not (n == 0) then b.end - start else end - start
+longest_top start used Now.Ready [] None n = 0
+longest_top start used Now.Ready [] (Some b) n = b.end - b.start
+longest_top start used Now.Ready (s ∷ ss) None n = used - start
+longest_top start used Now.Ready (s ∷ ss) (Some b) n = b.end - start
+longest_top start used (Now.Pending h end) ss b n = end - start
+longest_top start used (Now.Long w end) ss None n = end - start
+longest_top start used (Now.Long w end) ss (Some b) n = if is_long_form b.form && not (n == 0) then b.end - start else end - start
 longest_top start used _ ss b n = 0
 
 -- 1 where a segment of a long string has begun, else 0
@@ -99,7 +78,7 @@ abbrev pub is_long_begun : Option Begun → ℕ
 is_long_begun None = 0
 is_long_begun (Some b) = of_form b.form where
   of_form : Form → ℕ
-  of_form forms.Long = 1
+  of_form Form.Long = 1
   of_form _ = 0
 
 -- how many octets the open item has so far
@@ -110,8 +89,8 @@ reaches (f ∷ fs) r s = s.used - r.start
 -- the octet was used and ended no value
 abbrev pub noticed : Limits → Reading → Known → Effect
 noticed l r s =
-    if shut r.now && not (is_idle s.mode) then fails reasons.Unexpected
-    else (if nat_le (reaches r.frames r s) l.item then uses (record { scan = s; reading = r }) else fails reasons.ItemTooLong)
+    if shut r.now && not (is_idle s.mode) then fails Reason.Unexpected
+    else (if nat_le (reaches r.frames r s) l.item then uses (record { scan = s; reading = r }) else fails Reason.ItemTooLong)
 
 -- of two reasons the one with the smaller number
 abbrev pub lesser : Reason → Reason → Reason
@@ -170,7 +149,7 @@ module _ (g : Catalog) (l : Limits) where
 
   -- the octet, which may end so many tokens before it
   abbrev pub takes : ℕ → State → ℕ → Effect
-  takes zero m o = fails reasons.Unexpected
+  takes zero m o = fails Reason.Unexpected
   takes (suc n) m o = on_octet (λ k. takes n k o) m (feed (place m.reading) m.scan o)
 
   -- one octet ends two tokens at most: an operator and the front of `inf`
@@ -194,7 +173,7 @@ failed_at to e = record { given = []; now = Err (record { offset = to; reason = 
 abbrev pub once_more : ℕ → (State → Run) → Effect → Run
 once_more to rest (uses m) = rest m
 once_more to rest (tells v m) = with_value v (to + 1) (rest m)
-once_more to rest (leaves v m) = failed_at (to + 1) reasons.Unexpected
+once_more to rest (leaves v m) = failed_at (to + 1) Reason.Unexpected
 once_more to rest (fails e) = failed_at (to + 1) e
 
 -- an octet behind `to` others
@@ -216,7 +195,7 @@ module _ (g : Catalog) (l : Limits) where
 abbrev pub is_fresh : Reading → Bool
 is_fresh r = is_top r.frames && (no_notes r.notes && is_ready r.now) where
   is_ready : Now → Bool
-  is_ready nows.Ready = true
+  is_ready Now.Ready = true
   is_ready _ = false
 
   no_notes : Symbols → Bool
@@ -225,14 +204,14 @@ is_fresh r = is_top r.frames && (no_notes r.notes && is_ready r.now) where
 
 -- the octets end in an item
 abbrev pub cut_short : ℕ → Result (Option Value) Refusal
-cut_short used = Err (record { offset = used; reason = reasons.Incomplete })
+cut_short used = Err (record { offset = used; reason = Reason.Incomplete })
 
 abbrev pub end_fails : ℕ → Reason → Result (Option Value) Refusal
 end_fails used e = Err (record { offset = used; reason = e })
 
 -- a struct that would be too deep is no reason at the end, which completes nothing by it
 abbrev pub end_late : ℕ → Reason → Result (Option Value) Refusal
-end_late used reasons.Depth = cut_short used
+end_late used Reason.Depth = cut_short used
 end_late used e = end_fails used e
 
 -- nothing is open at the end but what waited for more
@@ -270,9 +249,9 @@ module _ (g : Catalog) (l : Limits) where
 
   -- the end came where this waits, or nothing
   abbrev pub end_now : ℕ → Reading → Result (Option Lexeme) Reason → Now → Result (Option Value) Refusal
-  end_now used r x (nows.Pending h end) = end_waiting used x (settle g l r)
-  end_now used r x (nows.Long w end) = end_waiting used x (settle g l r)
-  end_now used r x (nows.LongName w) = cut_short used
+  end_now used r x (Now.Pending h end) = end_waiting used x (settle g l r)
+  end_now used r x (Now.Long w end) = end_waiting used x (settle g l r)
+  end_now used r x (Now.LongName w) = cut_short used
   end_now used r x _ = end_ready used r x
 
   -- what the end answers in a state

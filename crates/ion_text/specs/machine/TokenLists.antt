@@ -1,21 +1,11 @@
 -- The reader of tokens over lists of tokens.
 use Rattle.std.proofs.Common.{◌≡◌, ◌+◌, ◌==◌, List, [], ◌∷◌, ◌++◌, Bool, true, false, ◌&&◌, Result, Ok, Err, refl, ap, sym, ◌∙◌, subst, append_assoc, if◌then◌else◌, ◌⊎◌, inl, inr}
-use Rattle.ion_model.specs.declared.value.Value.{Value}
-use Rattle.ion_atoms.specs.declared.refusal.Reason.{Reason}
-use Rattle.ion_symtab.specs.declared.limits.Limits.{Limits}
-use Rattle.ion_symtab.specs.declared.catalog.Catalog.{Catalog}
-use Rattle.ion_tokens.specs.declared.mode.Mark.TheVariants as marks
-use Rattle.ion_tokens.specs.declared.mode.Place.{Place}
-use Rattle.ion_tokens.specs.Bodies.{Content, Long, Quoted, Mark'}
-use Rattle.ion_tokens.specs.Lexed.{Placed}
+use Rattle.ion_text.specs.Names.Below.{Catalog, Content, Limits, Long, Mark, Mark', Now, Place, Placed, Quoted, Reason, Value, said, says}
 use Rattle.ion_tokens.proofs.runs.Cutting.{one_body}
-use Rattle.ion_tokens.specs.machine.Said.{said, says}
-use Rattle.ion_text.specs.declared.state.Now.{Now}
-use Rattle.ion_text.specs.declared.state.Now.TheVariants as nows
 use Rattle.ion_text.specs.Grammar.{Says}
-use Rattle.ion_text.specs.machine.EachToken.{Reading, Turn, goes, gives, refuses, late, Token, place, settle, turn}
-use Rattle.ion_text.specs.machine.Run.{token_of, is_top}
-use Rattle.ion_text.specs.machine.Places.{Leading, settle_same, same_place, same_itself}
+use Rattle.ion_text.specs.machine.EachToken.{Reading, Token, Turn, gives, goes, late, place, refuses, settle, turn}
+use Rattle.ion_text.specs.machine.Places.{Leading, same_itself, same_place, settle_same}
+use Rattle.ion_text.specs.machine.Run.{is_top, token_of}
 
 -- values given, and where it led; or a refusal
 pub data Walk : Type 0 where
@@ -45,18 +35,18 @@ then_walk stopped f = stopped
 
 -- what waits goes on with the token
 abbrev pub continues_now : Bool → Now → Token → Bool
-continues_now top (nows.Pending h end) t = of_said t.said
+continues_now top (Now.Pending h end) t = of_said t.said
   where
     of_said : Content → Bool
-    of_said (Mark' marks.Colons) = true
+    of_said (Mark' Mark.Colons) = true
     of_said _ = false
-continues_now top (nows.Long w end) t = of_said t.said
+continues_now top (Now.Long w end) t = of_said t.said
   where
     of_said : Content → Bool
     of_said (Long v) = true
     of_said (Quoted v) = top && (t.end == t.start + 2)
     of_said _ = false
-continues_now top (nows.LongName w) t = of_said t.said
+continues_now top (Now.LongName w) t = of_said t.said
   where
     of_said : Content → Bool
     of_said (Long v) = true

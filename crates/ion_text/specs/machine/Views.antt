@@ -1,25 +1,10 @@
 -- What methods of a reader do of the machine's work, each said of the part of its state that it sees.
 use Rattle.std.specs.Prelude.{◌≡◌, ◌+◌, ◌≤◌, ◌||◌, ℕ, List, [], Option, Some, None, Result, Ok, Err, Bool, true, false}
-use Rattle.ion_model.specs.declared.value.Value.{Value}
-use Rattle.ion_atoms.specs.declared.refusal.Reason.{Reason}
-use Rattle.ion_text.specs.declared.state.Frame.{Frame}
-use Rattle.ion_text.specs.declared.state.Now.{Now}
-use Rattle.ion_text.specs.declared.state.Now.TheVariants as nows
-use Rattle.ion_text.specs.declared.state.Taken.{Taken}
-use Rattle.ion_text.specs.declared.state.Taken.TheVariants.{Leaves}
-use Rattle.ion_text.specs.declared.state.Met.{Met}
-use Rattle.ion_text.specs.declared.state.Met.TheVariants as met
-use Rattle.ion_tokens.specs.declared.token.Foresight.{Foresight}
-use Rattle.ion_tokens.specs.declared.token.Foresight.TheVariants as foresights
-use Rattle.ion_tokens.specs.declared.mode.Mode.{Mode}
-use Rattle.ion_tokens.specs.machine.Ahead.{is_quoting}
-use Rattle.ion_tokens.specs.machine.Bounds.{is_idle}
-use Rattle.ion_tokens.specs.machine.Scanning.{Known, Outcome, Next, Given, Left, Refused, start_of}
-use Rattle.ion_symtab.specs.declared.limits.Limits.{Limits}
-use Rattle.ion_text.specs.machine.Run.{State, Effect, uses, fails, lesser}
-use Rattle.ion_tokens.specs.declared.token.Token.{Token as Found}
+use Rattle.ion_text.specs.Names.Below.{Foresight, Found, Frame, Given, Known, Left, Limits, Met, Mode, Next, Now, Outcome, Reason, Refused, Taken, Value, is_idle, is_quoting, start_of}
 use Rattle.ion_tokens.specs.Bodies.{content}
+use Rattle.ion_text.specs.declared.state.Taken.TheVariants.{Leaves}
 use Rattle.ion_text.specs.machine.EachToken.{Reading, Symbols, Token, ended}
+use Rattle.ion_text.specs.machine.Run.{Effect, State, fails, lesser, uses}
 
 -- a token of the scanner, as the machine takes it
 abbrev pub token_in : Found → Token
@@ -37,15 +22,15 @@ Told e with_it None m = ⊥
 
 -- what is seen of an octet may go on a symbol
 abbrev pub goes_on_symbol : Foresight → Bool
-goes_on_symbol foresights.Blank = true
-goes_on_symbol foresights.Colons = true
+goes_on_symbol Foresight.Blank = true
+goes_on_symbol Foresight.Colons = true
 goes_on_symbol _ = false
 
 -- or a long string; the Bool says whether `''` counts for a segment
 abbrev pub goes_on_long : Bool → Foresight → Bool
-goes_on_long quotes foresights.Blank = true
-goes_on_long quotes foresights.Long = true
-goes_on_long quotes foresights.Empty = quotes
+goes_on_long quotes Foresight.Blank = true
+goes_on_long quotes Foresight.Long = true
+goes_on_long quotes Foresight.Empty = quotes
 goes_on_long quotes _ = false
 
 -- the scanner is in this state behind what came of octets
@@ -69,8 +54,8 @@ decided (Refused n e) = n
 
 -- the last octet isn't used, or comes again
 abbrev pub comes_again : Met → Bool
-comes_again met.Uses = false
-comes_again met.Tells = false
+comes_again Met.Uses = false
+comes_again Met.Tells = false
 comes_again _ = true
 
 -- how many octets one is that did this
@@ -89,8 +74,8 @@ floor s = start_of s.mode s.start s.used
 
 -- nothing waits, and tokens may begin
 abbrev pub IsCalm : Now → Type 0
-IsCalm nows.Ready = Unit {0}
-IsCalm nows.Name = Unit {0}
+IsCalm Now.Ready = Unit {0}
+IsCalm Now.Name = Unit {0}
 IsCalm _ = ⊥
 
 -- where the octets of the open item are counted from
@@ -101,17 +86,17 @@ base _ _ start floor = start
 -- while octets come with which a mode goes on as it is, this goes on to wait, or for a mark: those of a blank or a comment, and of a
 -- further segment of a long string
 abbrev pub lulls : Now → Mode → Bool
-lulls nows.After m = is_idle m
-lulls (nows.Keyed name) m = is_idle m
-lulls (nows.Pending held end) m = is_idle m
-lulls (nows.Long text end) m = is_idle m || is_quoting m
-lulls (nows.LongName text) m = is_idle m || is_quoting m
+lulls Now.After m = is_idle m
+lulls (Now.Keyed name) m = is_idle m
+lulls (Now.Pending held end) m = is_idle m
+lulls (Now.Long text end) m = is_idle m || is_quoting m
+lulls (Now.LongName text) m = is_idle m || is_quoting m
 lulls _ m = false
 
 -- where what waits ended so far
 abbrev pub ended_so_far : Now → ℕ
-ended_so_far (nows.Pending held end) = end
-ended_so_far (nows.Long text end) = end
+ended_so_far (Now.Pending held end) = end
+ended_so_far (Now.Long text end) = end
 ended_so_far _ = 0
 
 -- it waits over so many such octets, and the item stays within the limit

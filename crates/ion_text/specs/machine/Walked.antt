@@ -1,22 +1,9 @@
 -- What stands at the front of octets: values of one token, and annotations.
 use Rattle.std.specs.Prelude.{◌≡◌, ℕ, true, false, List, Option, Ok}
-use Rattle.ion_model.specs.declared.value.Payload.{Payload}
+use Rattle.ion_text.specs.Names.Below.{Content, FoundToken, Frame, IsFound, Mark, Now, Payload, Place, Rest, Scalar, Slot, TokenKind, names_table, past_blank, past_token, resting, said}
 use Rattle.ion_model.specs.declared.value.Payload.TheVariants as payloads
-use Rattle.ion_model.specs.Kinds.{names_table}
-use Rattle.ion_symtab.specs.Slots.{Slot}
-use Rattle.ion_tokens.specs.declared.token_reader.FoundToken.{FoundToken}
-use Rattle.ion_tokens.specs.declared.mode.Place.{Place}
-use Rattle.ion_tokens.specs.declared.mode.Mark.TheVariants as marks
-use Rattle.ion_tokens.specs.declared.mode.TokenKind.TheVariants as tokens
-use Rattle.ion_tokens.specs.declared.plain_tokens.Rest.{Rest}
-use Rattle.ion_tokens.specs.Bodies.{Content}
-use Rattle.ion_tokens.specs.machine.Rests.{resting, past_blank, past_token, IsFound}
-use Rattle.ion_tokens.specs.machine.Said.{said}
-use Rattle.ion_text.specs.declared.tokens.finders.Scalar.{Scalar}
-use Rattle.ion_text.specs.declared.state.Frame.{Frame}
-use Rattle.ion_text.specs.declared.state.Now.{Now}
-use Rattle.ion_text.specs.machine.FrontTokens.{BeginsValue, IsValue}
 use Rattle.ion_text.specs.machine.EachToken.{Symbols, at}
+use Rattle.ion_text.specs.machine.FrontTokens.{BeginsValue, IsValue}
 use Rattle.ion_text.specs.machine.Run.{State, with_scan}
 
 -- in this place octets begin with this token, which is a value
@@ -40,4 +27,4 @@ pub record FoundNote (octets : List ℕ) (token : FoundToken) : Type 0 where
 
 -- where a scanner rests behind an annotation in such a place, a blank of so many octets, and `::`
 abbrev pub behind_note : Place → Rest → FoundToken → ℕ → Rest
-behind_note p r token blank = past_token p (past_blank (past_token p r token.kind token.count) blank) (tokens.Mark marks.Colons) 2
+behind_note p r token blank = past_token p (past_blank (past_token p r token.kind token.count) blank) (TokenKind.Mark Mark.Colons) 2

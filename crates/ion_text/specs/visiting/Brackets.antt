@@ -1,22 +1,21 @@
 -- What opens and closes lists, s-expressions and structs, and what stands between their items.
 use Rattle.std.specs.Prelude.{ℕ}
-use Rattle.ion_visiting.specs.declared.bracket.Bracket.{Bracket}
-use Rattle.ion_visiting.specs.declared.bracket.Bracket.TheVariants as brackets
+use Rattle.ion_text.specs.Names.Below.{Bracket}
 
 -- what opens a list, an s-expression or a struct
 abbrev pub open_octet : Bracket → ℕ
-open_octet brackets.List = 91
-open_octet brackets.Sexp = 40
-open_octet brackets.Fields = 123
+open_octet Bracket.List = 91
+open_octet Bracket.Sexp = 40
+open_octet Bracket.Fields = 123
 
 -- what closes it
 abbrev pub bracket_close : Bracket → ℕ
-bracket_close brackets.List = 93
-bracket_close brackets.Sexp = 41
-bracket_close brackets.Fields = 125
+bracket_close Bracket.List = 93
+bracket_close Bracket.Sexp = 41
+bracket_close Bracket.Fields = 125
 
 -- what stands between its items
 abbrev pub octet_between : Bracket → ℕ
-octet_between brackets.List = 44
-octet_between brackets.Sexp = 32
-octet_between brackets.Fields = 44
+octet_between Bracket.List = 44
+octet_between Bracket.Sexp = 32
+octet_between Bracket.Fields = 44

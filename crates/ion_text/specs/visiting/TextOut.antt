@@ -1,11 +1,9 @@
 -- The visitor that writes values as text as it is told them, in the writer's spelling.
 use Rattle.std.specs.Prelude.{◌≡◌, ℕ, List, [], ◌∷◌, ◌++◌, length, take, drop, Option, None, Some, codes, option_to_list}
-use Rattle.ion_model.specs.declared.value.Payload.TheViews.{out-Payload}
-use Rattle.ion_visiting.specs.declared.bracket.Bracket.{Bracket}
-use Rattle.ion_visiting.specs.Events.{Event, part, annotation, name, opens, closes, ended}
-use Rattle.ion_visiting.specs.KeptEvents.{KeptEvent}
-use Rattle.ion_text.specs.Output.{symbol_text, layer_text}
-use Rattle.ion_text.specs.visiting.Brackets.{open_octet, bracket_close, octet_between}
+use Rattle.ion_text.specs.Names.Below.{Bracket, Event, KeptEvent, annotation, name, opens, out-Payload, part}
+use Rattle.ion_visiting.specs.Events.{closes, ended}
+use Rattle.ion_text.specs.Output.{layer_text, symbol_text}
+use Rattle.ion_text.specs.visiting.Brackets.{bracket_close, octet_between, open_octet}
 
 -- what is written so far: the lines of the values that ended, and behind them what came of the one that is open; how many octets the lines
 -- are; what is open, the innermost first; and the octet that stands before the next item, if one does

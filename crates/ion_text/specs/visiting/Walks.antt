@@ -1,18 +1,9 @@
 -- The tokens at the front of octets, with what they say: values, numbers and annotations.
 use Rattle.std.specs.Prelude.{true, false, ◌≡◌, ◌+◌, ◌<◌, ℕ, List, length, drop, get_or, Some, Ok}
-use Rattle.ion_model.specs.declared.value.Payload.{Payload}
-use Rattle.ion_tokens.specs.declared.mode.Place.{Place}
-use Rattle.ion_tokens.specs.declared.plain_tokens.Rest.{Rest}
-use Rattle.ion_scalar.specs.declared.number.Number.{Number}
-use Rattle.ion_tokens.specs.declared.token_reader.FoundToken.{FoundToken}
-use Rattle.ion_tokens.specs.Bodies.{Number'}
-use Rattle.ion_tokens.specs.machine.Rests.{IsFound, IsPassed}
-use Rattle.ion_tokens.specs.machine.Said.{said}
-use Rattle.ion_text.specs.declared.state.Held.{Held}
-use Rattle.ion_text.specs.machine.FrontTokens.{held_of, is_marker}
+use Rattle.ion_text.specs.Names.Below.{FoundToken, Held, IsFound, IsPassed, Number, Number', Payload, Place, Rest, Scalar, said}
 use Rattle.ion_text.specs.declared.tokens.annotations.Note.{Note}
-use Rattle.ion_text.specs.declared.tokens.finders.Scalar.{Scalar}
-use Rattle.ion_text.specs.machine.Walked.{FoundScalar, FoundNote}
+use Rattle.ion_text.specs.machine.FrontTokens.{held_of, is_marker}
+use Rattle.ion_text.specs.machine.Walked.{FoundNote, FoundScalar}
 
 -- in this place octets begin with this token, which is this value
 pub record FoundPart (p : Place) (r : Rest) (octets : List ℕ) (s : Scalar) (payload : Payload) : Type 0 where

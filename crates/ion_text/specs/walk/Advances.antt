@@ -1,18 +1,6 @@
 -- Walks over pieces by a reader that holds no values, and what a visitor hears of them.
 use Rattle.std.specs.Prelude.{◌≡◌, ◌≢◌, ℕ, Bool, true, false, List, [], Some, None, Result, Ok, Err}
-use Rattle.ion_model.specs.declared.value.Value.{Value}
-use Rattle.ion_atoms.specs.declared.refusal.Reason.TheVariants.{Memory}
-use Rattle.ion_atoms.specs.declared.refusal.Refusal.{Refusal}
-use Rattle.ion_symtab.specs.declared.limits.Limits.{Limits}
-use Rattle.ion_symtab.specs.declared.catalog.Catalog.{Catalog}
-use Rattle.ion_symtab.specs.declared.items.Walked.{Walked}
-use Rattle.ion_visiting.specs.Events.{Event}
-use Rattle.ion_text.specs.declared.state.Frame.{Frame}
-use Rattle.ion_text.specs.declared.walk.TextWalk.{TextWalk}
-use Rattle.ion_text.specs.machine.EachToken.{Symbols}
-use Rattle.ion_text.specs.machine.Progress.{Advances, resumed}
-use Rattle.ion_text.specs.machine.Run.{State}
-use Rattle.ion_text.specs.walk.Holds.{GaveOut, WentOn, state_of}
+use Rattle.ion_text.specs.Names.{Advances, Catalog, Event, Frame, GaveOut, Limits, Memory, Refusal, State, Symbols, TextWalk, Value, Walked, WentOn, resumed, state_of}
 
 module _ {V : Type 0} (takes : V → Event → V → Type 0) (es : List Event) (g : Catalog) (l : Limits) (again : Bool) (to : ℕ) (m : State) (piece : List ℕ) where
   -- So many octets of a piece are used as a run from here says, and the reader stands where that leads. Where they end a value a visitor

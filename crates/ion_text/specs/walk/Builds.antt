@@ -1,10 +1,7 @@
 -- What a reader stands for that builds the values of which a walk tells.
 use Rattle.std.specs.Prelude.{ℕ, List}
-use Rattle.ion_model.specs.declared.value.Value.{Value}
-use Rattle.ion_visiting.specs.Building.{builds, fresh}
-use Rattle.ion_visiting.specs.Events.{Event, Led}
-use Rattle.ion_text.specs.declared.reader.TextReader.{TextReader}
-use Rattle.ion_text.specs.walk.Runs.{Told}
+use Rattle.ion_text.specs.Names.{Event, Led, TextReader, Told, Value, builds}
+use Rattle.ion_visiting.specs.Building.{fresh}
 
 -- The walk stands for these octets, of which these values ended, and what builds heard all that there is to tell so far of the value that is
 -- open.

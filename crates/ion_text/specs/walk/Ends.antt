@@ -1,13 +1,6 @@
 -- What the end of the octets says to a reader that holds no values, and what a visitor hears there.
 use Rattle.std.specs.Prelude.{◌≡◌, ◌≢◌, ℕ, List, [], Bool, true, false, Option, Some, None, Result, Ok, Err}
-use Rattle.ion_model.specs.declared.value.Value.{Value}
-use Rattle.ion_atoms.specs.declared.refusal.Reason.{Reason}
-use Rattle.ion_atoms.specs.declared.refusal.Reason.TheVariants.{Memory}
-use Rattle.ion_atoms.specs.declared.refusal.Refusal.{Refusal}
-use Rattle.ion_tokens.specs.machine.Views.{scanned, failure}
-use Rattle.ion_visiting.specs.Events.{Event, events_of}
-use Rattle.ion_visiting.specs.Tables.{Hears, heard}
-use Rattle.ion_text.specs.declared.walk.TextWalk.{TextWalk}
+use Rattle.ion_text.specs.Names.Below.{Event, Hears, Memory, Reason, Refusal, TextWalk, Value, events_of, failure, heard, scanned}
 use Rattle.ion_text.specs.machine.Progress.{or_first}
 
 -- the refusal that each call answers, if one came: by the reader or by its scanner

@@ -1,15 +1,6 @@
 -- What octets at the front of a piece do to a reader that holds no values, and what a visitor hears of them.
 use Rattle.std.specs.Prelude.{◌≡◌, ◌≢◌, ℕ, ◌+◌, ◌<◌, ◌≤◌, List, [], ◌∷◌, length, take, get_or, Result, Ok, Err}
-use Rattle.ion_model.specs.declared.value.Value.{Value}
-use Rattle.ion_atoms.specs.declared.refusal.Reason.TheVariants.{Memory}
-use Rattle.ion_atoms.specs.declared.refusal.Refusal.{Refusal}
-use Rattle.ion_symtab.specs.declared.limits.Limits.{Limits}
-use Rattle.ion_symtab.specs.declared.catalog.Catalog.{Catalog}
-use Rattle.ion_visiting.specs.Events.{Event}
-use Rattle.ion_text.specs.declared.state.Frame.{Frame}
-use Rattle.ion_text.specs.declared.state.Taken.{Taken}
-use Rattle.ion_text.specs.declared.state.Taken.TheVariants as taken
-use Rattle.ion_text.specs.declared.walk.TextWalk.{TextWalk}
+use Rattle.ion_text.specs.Names.Below.{Catalog, Event, Frame, Limits, Memory, Refusal, Taken, TextWalk, Value}
 use Rattle.ion_text.specs.machine.EachToken.{Symbols}
 use Rattle.ion_text.specs.machine.Pieces.{led}
 use Rattle.ion_text.specs.machine.Run.{State, eats, leaves, run}
@@ -36,9 +27,9 @@ module _ (g : Catalog) (l : Limits) (to : ℕ) (m : State) (piece : List ℕ) (c
 module _ {V : Type 0} (takes : V → Event → V → Type 0) (es : List Event) (g : Catalog) (l : Limits) (to : ℕ) (m : State) (piece : List ℕ) where
   -- so many octets did this, and a visitor that had heard of these events heard of them
   abbrev pub Reached : ℕ → Taken → TextWalk → V → V → Type 0
-  Reached count taken.Uses r a b = (fs : List Frame) × (ss : Symbols) × LeadsOver g l to m piece count (state_of r fs ss) × WentOn takes es r fs ss a b
-  Reached count taken.Tells r a b = (v : Value) × GivesOver g l to m piece count v (state_of r [] []) × GaveOut takes es r v a b
-  Reached count taken.Leaves r a b = (v : Value) × LeavesBehind g l to m piece count v (state_of r [] []) × GaveOut takes es r v a b
+  Reached count Taken.Uses r a b = (fs : List Frame) × (ss : Symbols) × LeadsOver g l to m piece count (state_of r fs ss) × WentOn takes es r fs ss a b
+  Reached count Taken.Tells r a b = (v : Value) × GivesOver g l to m piece count v (state_of r [] []) × GaveOut takes es r v a b
+  Reached count Taken.Leaves r a b = (v : Value) × LeavesBehind g l to m piece count v (state_of r [] []) × GaveOut takes es r v a b
 
   -- over octets at the front of a piece a method did what a run over them does, unless memory ran out
   abbrev pub TookFront : Result (ℕ × Taken) Refusal → TextWalk → V → V → Type 0
@@ -47,6 +38,6 @@ module _ {V : Type 0} (takes : V → Event → V → Type 0) (es : List Event) (
 
 -- Of so many octets these are used: some, where they only go on; and one more is there that showed the end of a value, if one did.
 abbrev pub IsWithin : ℕ → ℕ → Taken → Type 0
-IsWithin n count taken.Uses = (0 < count) × (count ≤ n)
-IsWithin n count taken.Tells = count ≤ n
-IsWithin n count taken.Leaves = count < n
+IsWithin n count Taken.Uses = (0 < count) × (count ≤ n)
+IsWithin n count Taken.Tells = count ≤ n
+IsWithin n count Taken.Leaves = count < n

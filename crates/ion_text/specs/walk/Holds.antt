@@ -2,36 +2,20 @@
 -- was told.
 use Rattle.std.specs.Prelude.{◌≡◌, ◌≢◌, ℕ, Option, Some, None, List, [], ◌∷◌, ◌++◌, map, reverse, Result, Ok, Err, Bool, true, false}
 use Rattle.std.specs.List.{flat_map}
-use Rattle.ion_model.specs.declared.value.Value.{Value}
-use Rattle.ion_atoms.specs.declared.refusal.Reason.{Reason}
-use Rattle.ion_atoms.specs.declared.refusal.Reason.TheVariants.{Memory}
-use Rattle.ion_tokens.specs.machine.Views.{scanned}
-use Rattle.ion_visiting.specs.declared.bracket.Bracket.{Bracket}
-use Rattle.ion_visiting.specs.declared.bracket.Bracket.TheVariants as brackets
-use Rattle.ion_visiting.specs.Events.{Event, annotation, name, opens, events_of, field_events}
-use Rattle.ion_text.specs.declared.state.Frame.{Frame}
-use Rattle.ion_text.specs.declared.state.Frame.TheVariants as frames
-use Rattle.ion_text.specs.declared.state.Listing.{Listing}
-use Rattle.ion_text.specs.declared.state.Listing.TheVariants as listings
-use Rattle.ion_text.specs.declared.state.Now.{Now}
-use Rattle.ion_text.specs.declared.state.Now.TheVariants as nows
-use Rattle.ion_text.specs.declared.state.Effect.{Effect as Turned}
-use Rattle.ion_text.specs.declared.state.Effect.TheVariants.{Goes, Gives, Late}
-use Rattle.ion_text.specs.declared.walk.TextWalk.{TextWalk}
-use Rattle.ion_text.specs.machine.EachToken.{Setting, Spot, under, spot_at, Reading, Symbols, Turn, goes, gives, refuses, late, at, opened, first_now}
+use Rattle.ion_text.specs.Names.Below.{Bracket, Event, Frame, Gives, Goes, Hears, Late, Listing, Memory, Now, Reason, TextWalk, Turned, Value, WasTold, annotation, events_of, field_events, heard, name, opens, scanned}
+use Rattle.ion_text.specs.machine.EachToken.{Reading, Setting, Spot, Symbols, Turn, at, first_now, gives, goes, late, opened, refuses, spot_at, under}
 use Rattle.ion_text.specs.machine.Run.{State}
-use Rattle.ion_visiting.specs.Tables.{WasTold, Hears, heard}
 
 -- the brackets of containers
 
 abbrev pub bracket_for : Listing → Bracket
-bracket_for listings.List = brackets.List
-bracket_for listings.Sexp = brackets.Sexp
+bracket_for Listing.List = Bracket.List
+bracket_for Listing.Sexp = Bracket.Sexp
 
 abbrev pub bracket_of : Frame → Bracket
-bracket_of (frames.Items listing ss vs) = bracket_for listing
-bracket_of (frames.Fields ss ms) = brackets.Fields
-bracket_of (frames.Named ss ms s) = brackets.Fields
+bracket_of (Frame.Items listing ss vs) = bracket_for listing
+bracket_of (Frame.Fields ss ms) = Bracket.Fields
+bracket_of (Frame.Named ss ms s) = Bracket.Fields
 
 abbrev pub brackets_of : List Frame → List Bracket
 brackets_of fs = map bracket_of fs
@@ -43,35 +27,35 @@ has_notes (s ∷ ss) = true
 
 -- what may come next, where nothing waits any more
 abbrev pub calm : Now → Now
-calm nows.Ready = nows.Ready
-calm (nows.Pending h end) = nows.Ready
-calm (nows.Long w end) = nows.Ready
-calm nows.After = nows.After
-calm nows.Name = nows.Name
-calm (nows.LongName w) = nows.Name
-calm (nows.Keyed s) = nows.Name
+calm Now.Ready = Now.Ready
+calm (Now.Pending h end) = Now.Ready
+calm (Now.Long w end) = Now.Ready
+calm Now.After = Now.After
+calm Now.Name = Now.Name
+calm (Now.LongName w) = Now.Name
+calm (Now.Keyed s) = Now.Name
 
 -- each of these containers is open around a value: of a struct the field's name came
 abbrev pub AreAround : List Frame → Type 0
 AreAround [] = Unit {0}
-AreAround (frames.Items listing ss vs ∷ fs) = AreAround fs
-AreAround (frames.Named ss ms s ∷ fs) = AreAround fs
-AreAround (frames.Fields ss ms ∷ fs) = ⊥
+AreAround (Frame.Items listing ss vs ∷ fs) = AreAround fs
+AreAround (Frame.Named ss ms s ∷ fs) = AreAround fs
+AreAround (Frame.Fields ss ms ∷ fs) = ⊥
 
 -- where this may come next, such containers are open, and such annotations were read
 abbrev pub AreOpen : List Frame → Symbols → Now → Type 0
-AreOpen fs ss nows.Ready = AreAround fs
-AreOpen (frames.Items listings.List _ _ ∷ fs) [] nows.After = AreAround fs
-AreOpen (frames.Fields _ _ ∷ fs) [] nows.After = AreAround fs
-AreOpen (frames.Fields _ _ ∷ fs) [] nows.Name = AreAround fs
+AreOpen fs ss Now.Ready = AreAround fs
+AreOpen (Frame.Items Listing.List _ _ ∷ fs) [] Now.After = AreAround fs
+AreOpen (Frame.Fields _ _ ∷ fs) [] Now.After = AreAround fs
+AreOpen (Frame.Fields _ _ ∷ fs) [] Now.Name = AreAround fs
 AreOpen _ _ _ = ⊥
 
 -- what was told of open containers, the outermost first
 abbrev pub told_in : List Frame → List Event
 told_in [] = []
-told_in (frames.Items listing ss vs ∷ fs) = told_in fs ++ (map annotation ss ++ opens (bracket_for listing) ∷ flat_map events_of vs)
-told_in (frames.Fields ss ms ∷ fs) = told_in fs ++ (map annotation ss ++ opens brackets.Fields ∷ flat_map field_events ms)
-told_in (frames.Named ss ms s ∷ fs) = told_in fs ++ (map annotation ss ++ opens brackets.Fields ∷ (flat_map field_events ms ++ name s ∷ []))
+told_in (Frame.Items listing ss vs ∷ fs) = told_in fs ++ (map annotation ss ++ opens (bracket_for listing) ∷ flat_map events_of vs)
+told_in (Frame.Fields ss ms ∷ fs) = told_in fs ++ (map annotation ss ++ opens Bracket.Fields ∷ flat_map field_events ms)
+told_in (Frame.Named ss ms s ∷ fs) = told_in fs ++ (map annotation ss ++ opens Bracket.Fields ∷ (flat_map field_events ms ++ name s ∷ []))
 
 -- and of the annotations behind them
 abbrev pub told : List Frame → Symbols → List Event
@@ -157,18 +141,18 @@ is_inside (b ∷ bs) = true
 
 -- what may come behind a value in the innermost of these containers
 abbrev pub behind_value : List Bracket → Now
-behind_value (brackets.Sexp ∷ bs) = nows.Ready
-behind_value _ = nows.After
+behind_value (Bracket.Sexp ∷ bs) = Now.Ready
+behind_value _ = Now.After
 
 -- where this may come next, a close of such a container may come, if one is open
 abbrev pub MayClose : Bracket → Now → Type 0
-MayClose brackets.Fields nows.Ready = ⊥
+MayClose Bracket.Fields Now.Ready = ⊥
 MayClose _ _ = Unit {0}
 
 abbrev pub is_same : Bracket → Bracket → Bool
-is_same brackets.List brackets.List = true
-is_same brackets.Sexp brackets.Sexp = true
-is_same brackets.Fields brackets.Fields = true
+is_same Bracket.List Bracket.List = true
+is_same Bracket.Sexp Bracket.Sexp = true
+is_same Bracket.Fields Bracket.Fields = true
 is_same _ _ = false
 
 -- a close of such a container closes the innermost of these
@@ -178,6 +162,6 @@ closes_in b (x ∷ xs) = is_same b x
 
 -- what may come behind a comma, where one may stand behind a value
 abbrev pub behind_comma : List Bracket → Option Now
-behind_comma (brackets.List ∷ bs) = Some nows.Ready
-behind_comma (brackets.Fields ∷ bs) = Some nows.Name
+behind_comma (Bracket.List ∷ bs) = Some Now.Ready
+behind_comma (Bracket.Fields ∷ bs) = Some Now.Name
 behind_comma _ = None

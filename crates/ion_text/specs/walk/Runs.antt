@@ -1,14 +1,6 @@
 -- What a reader that holds no values stands for between two pieces, and what it told of them.
 use Rattle.std.specs.Prelude.{◌≡◌, ℕ, ◌+◌, List, [], length, None}
-use Rattle.ion_model.specs.declared.value.Value.{Value}
-use Rattle.ion_symtab.specs.declared.limits.Limits.{Limits}
-use Rattle.ion_symtab.specs.declared.catalog.Catalog.{Catalog}
-use Rattle.ion_tokens.specs.machine.Bounds.{IsSteady}
-use Rattle.ion_tokens.specs.machine.Views.{scanned, looks, held_in, open_in_reader}
-use Rattle.ion_visiting.specs.Events.{Event}
-use Rattle.ion_visiting.specs.Tables.{heard}
-use Rattle.ion_text.specs.declared.state.Frame.{Frame}
-use Rattle.ion_text.specs.declared.walk.TextWalk.{TextWalk}
+use Rattle.ion_text.specs.Names.Below.{Catalog, Event, Frame, IsSteady, Limits, TextWalk, Value, heard, held_in, looks, open_in_reader, scanned}
 use Rattle.ion_text.specs.machine.EachToken.{Symbols}
 use Rattle.ion_text.specs.machine.Progress.{Ran, is_quiet, pending_by}
 use Rattle.ion_text.specs.walk.Ends.{failed, octets_used}

@@ -1,22 +1,10 @@
 -- Tokens that lie whole at the front of octets, where a scanner rests: a reader that holds no values takes them up at once.
 use Rattle.std.specs.Prelude.{◌≡◌, ◌+◌, ◌-◌, ◌≤◌, ◌<◌, ℕ, List, [], ◌∷◌, length, take, get_or, Result, Ok, IfOk, IfErr}
-use Rattle.ion_atoms.specs.declared.refusal.Reason.{Reason}
-use Rattle.ion_atoms.specs.declared.refusal.Reason.TheVariants.{Memory}
-use Rattle.ion_model.specs.declared.value.Value.{Value}
-use Rattle.ion_tokens.specs.declared.mode.Mode.TheVariants as modes
-use Rattle.ion_tokens.specs.declared.plain_tokens.Rest.{Rest}
-use Rattle.ion_tokens.specs.machine.Rests.{resting}
-use Rattle.ion_tokens.specs.machine.Views.{scanned}
-use Rattle.ion_visiting.specs.Events.{Event}
-use Rattle.ion_text.specs.declared.state.Frame.{Frame}
-use Rattle.ion_text.specs.declared.state.Taken.{Taken}
-use Rattle.ion_text.specs.declared.state.Taken.TheVariants as taken
-use Rattle.ion_text.specs.declared.walk.TextWalk.{TextWalk}
-use Rattle.ion_text.specs.machine.AtOnce.{Passes, IsStill}
+use Rattle.ion_text.specs.Names.Below.{Event, Frame, Hears, Memory, Mode, Reason, Rest, Taken, TextWalk, Value, heard, resting, scanned}
+use Rattle.ion_text.specs.machine.AtOnce.{IsStill, Passes}
 use Rattle.ion_text.specs.machine.EachToken.{Symbols, begun_at}
 use Rattle.ion_text.specs.machine.Pieces.{led}
 use Rattle.ion_text.specs.machine.Run.{State, eats, leaves, run, with_scan}
-use Rattle.ion_visiting.specs.Tables.{Hears, heard}
 use Rattle.ion_text.specs.walk.Holds.{GaveOut, Holds, SameSetting, reading_of, state_of, told}
 
 -- a scanner that rests there, before a reader with these containers and annotations
@@ -61,16 +49,16 @@ module _ {V : Type 0} (takes : V → Event → V → Type 0) where
     pub hears : Hears takes (heard (told fs ss)) (heard (told frames notes)) a b
     -- no token has begun, and nothing waits
     pub still : IsStill new.stage
-    pub rests : (scanned new.scanner).mode ≡ modes.Blank
+    pub rests : (scanned new.scanner).mode ≡ Mode.Blank
 
   -- Over so many octets a run goes on, gives a value with the last of them, or leads to where the next one shows the end of a value; a visitor
   -- heard what there was to hear of them.
   abbrev pub EndsSo : List Frame → Symbols → TextWalk → TextWalk → Rest → Rest → List ℕ → ℕ → V → V → Taken → Type 0
-  EndsSo fs ss old new before after octets count a b taken.Uses = StrodeFrom fs ss old new before after octets count a b
-  EndsSo fs ss old new before after octets count a b taken.Tells = (0 < count)
+  EndsSo fs ss old new before after octets count a b Taken.Uses = StrodeFrom fs ss old new before after octets count a b
+  EndsSo fs ss old new before after octets count a b Taken.Tells = (0 < count)
       × (v : Value) × (run old.catalog.now old.limits before.used (resting_at before old fs ss) (take count octets)
       ≡ record { given = (v, before.used + count) ∷ []; now = Ok (resting_at after new [] []) }) × GaveOut takes (told fs ss) new v a b
-  EndsSo fs ss old new before after octets count a b taken.Leaves = (0 < count)
+  EndsSo fs ss old new before after octets count a b Taken.Leaves = (0 < count)
       × (v : Value) × (m : State) × (run old.catalog.now old.limits before.used (resting_at before old fs ss) (take count octets) ≡ led m)
       × (eats old.catalog.now old.limits m (get_or octets count 0) ≡ leaves v (resting_at after new [] [])) × GaveOut takes (told fs ss) new v a b
 
@@ -89,10 +77,10 @@ module _ {V : Type 0} (takes : V → Event → V → Type 0) where
   -- From where a reader with its scanner stood, over so many octets a run goes on, gives a value with the last of them, or leads to where the
   -- next one shows the end of a value; a visitor heard what there was to hear of them.
   abbrev pub TookSo : List Frame → Symbols → TextWalk → TextWalk → List ℕ → ℕ → V → V → Taken → Type 0
-  TookSo fs ss old new octets count a b taken.Uses = Strides fs ss old new octets count a b
-  TookSo fs ss old new octets count a b taken.Tells = (0 < count)
+  TookSo fs ss old new octets count a b Taken.Uses = Strides fs ss old new octets count a b
+  TookSo fs ss old new octets count a b Taken.Tells = (0 < count)
       × (v : Value) × (run old.catalog.now old.limits (scanned old.scanner).used (state_of old fs ss) (take count octets)
       ≡ record { given = (v, (scanned old.scanner).used + count) ∷ []; now = Ok (state_of new [] []) }) × GaveOut takes (told fs ss) new v a b
-  TookSo fs ss old new octets count a b taken.Leaves = (0 < count)
+  TookSo fs ss old new octets count a b Taken.Leaves = (0 < count)
       × (v : Value) × (m : State) × (run old.catalog.now old.limits (scanned old.scanner).used (state_of old fs ss) (take count octets) ≡ led m)
       × (eats old.catalog.now old.limits m (get_or octets count 0) ≡ leaves v (state_of new [] [])) × GaveOut takes (told fs ss) new v a b

@@ -1,25 +1,11 @@
 -- What octets do to a reader that holds no values, and what a visitor hears of them.
 use Rattle.std.specs.Prelude.{◌≡◌, ◌≢◌, ℕ, List, [], Result, Ok, Err, IsNone}
-use Rattle.ion_model.specs.declared.value.Value.{Value}
-use Rattle.ion_atoms.specs.declared.refusal.Reason.{Reason}
-use Rattle.ion_atoms.specs.declared.refusal.Refusal.{Refusal}
-use Rattle.ion_atoms.specs.declared.refusal.Reason.TheVariants.{Memory}
-use Rattle.ion_symtab.specs.declared.limits.Limits.{Limits}
-use Rattle.ion_symtab.specs.declared.catalog.Catalog.{Catalog}
-use Rattle.ion_tokens.specs.machine.Bounds.{IsSteady}
-use Rattle.ion_tokens.specs.machine.Scanning.{Outcome}
-use Rattle.ion_tokens.specs.machine.Views.{scanned, looks, failure}
-use Rattle.ion_visiting.specs.Events.{Event}
-use Rattle.ion_text.specs.declared.state.Frame.{Frame}
-use Rattle.ion_text.specs.declared.state.Taken.{Taken}
-use Rattle.ion_text.specs.declared.state.Taken.TheVariants.{Uses, Tells, Leaves}
-use Rattle.ion_text.specs.declared.state.Met.{Met}
-use Rattle.ion_text.specs.declared.state.Met.TheVariants as met
-use Rattle.ion_text.specs.declared.walk.TextWalk.{TextWalk}
+use Rattle.ion_text.specs.Names.Below.{Catalog, Event, Frame, IsSteady, Limits, Memory, Met, Outcome, Reason, Refusal, Taken, TextWalk, Value, failure, looks, scanned}
+use Rattle.ion_text.specs.declared.state.Taken.TheVariants.{Leaves, Tells, Uses}
 use Rattle.ion_text.specs.machine.EachToken.{Reading, Symbols}
-use Rattle.ion_text.specs.machine.Run.{State, Effect, uses, tells, leaves, fails, or_worse, on_scan}
-use Rattle.ion_text.specs.machine.Views.{IsBehind, is_left, decided, comes_again}
-use Rattle.ion_text.specs.walk.Holds.{WentOn, GaveOut, state_of}
+use Rattle.ion_text.specs.machine.Run.{Effect, State, fails, leaves, on_scan, or_worse, tells, uses}
+use Rattle.ion_text.specs.machine.Views.{IsBehind, comes_again, decided, is_left}
+use Rattle.ion_text.specs.walk.Holds.{GaveOut, WentOn, state_of}
 
 -- so far the scanner refused nothing
 abbrev pub IsFine : TextWalk → Type 0
@@ -50,13 +36,13 @@ module _ {V : Type 0} (leads : V → Event → V → Type 0) (es : List Event) w
 
   -- the same where the octet may come again
   abbrev pub DidMeet : ((State → Effect) → Effect) → Result Met Reason → TextWalk → V → V → Type 0
-  DidMeet e (Ok met.Uses) r a b = (fs : List Frame) × (ss : Symbols) × ((again : State → Effect) → e again ≡ uses (state_of r fs ss))
+  DidMeet e (Ok Met.Uses) r a b = (fs : List Frame) × (ss : Symbols) × ((again : State → Effect) → e again ≡ uses (state_of r fs ss))
       × WentOn leads es r fs ss a b
-  DidMeet e (Ok met.Tells) r a b = (v : Value) × ((again : State → Effect) → e again ≡ tells v (state_of r [] [])) × GaveOut leads es r v a b
-  DidMeet e (Ok met.Leaves) r a b = (v : Value) × ((again : State → Effect) → e again ≡ leaves v (state_of r [] [])) × GaveOut leads es r v a b
-  DidMeet e (Ok met.Again) r a b = (fs : List Frame) × (ss : Symbols) × ((again : State → Effect) → e again ≡ again (state_of r fs ss))
+  DidMeet e (Ok Met.Tells) r a b = (v : Value) × ((again : State → Effect) → e again ≡ tells v (state_of r [] [])) × GaveOut leads es r v a b
+  DidMeet e (Ok Met.Leaves) r a b = (v : Value) × ((again : State → Effect) → e again ≡ leaves v (state_of r [] [])) × GaveOut leads es r v a b
+  DidMeet e (Ok Met.Again) r a b = (fs : List Frame) × (ss : Symbols) × ((again : State → Effect) → e again ≡ again (state_of r fs ss))
       × WentOn leads es r fs ss a b
-  DidMeet e (Ok (met.Late reason)) r a b = (fs : List Frame) × (ss : Symbols)
+  DidMeet e (Ok (Met.Late reason)) r a b = (fs : List Frame) × (ss : Symbols)
       × ((again : State → Effect) → e again ≡ or_worse reason (again (state_of r fs ss))) × WentOn leads es r fs ss a b
   DidMeet e (Err reason) r a b = reason ≢ Memory → (again : State → Effect) → e again ≡ fails reason
 

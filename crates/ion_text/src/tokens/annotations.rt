@@ -1,7 +1,6 @@
 //! Annotations that lie whole in a piece, wherever a value may come.
 ghost use Rattle.std.specs.Prelude.{◌≡◌, ◌<◌, Some, IfSome};
-ghost use Rattle.ion_text.specs.machine.Walked.{FoundNote};
-ghost use Rattle.ion_text.specs.visiting.Walks.{NoteThere};
+ghost use Rattle.ion_text.specs.Names.{FoundNote, NoteThere};
 
 use super::symbols::behind_annotation;
 use crate::words::is_keyword;

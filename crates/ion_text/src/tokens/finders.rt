@@ -1,15 +1,8 @@
 //! Tokens at the front of octets that are a value or a field's name, with what they say. Of a token
 //! that isn't whole, isn't plain or may be a symbol's id nothing is found.
 ghost use Rattle.std.specs.Prelude.{◌≡◌, ◌<◌, false, true, length, take, IfSome, Ok, Some};
-ghost use Rattle.ion_tokens.specs.Bodies.{content, Number'};
-ghost use Rattle.ion_tokens.specs.machine.Said.{said};
-ghost use Rattle.ion_tokens.specs.Places.{is_name};
-ghost use Rattle.ion_tokens.specs.machine.Rests.{IsFound};
-ghost use Rattle.ion_tokens.specs.declared.plain_tokens.Rest.{Rest};
-ghost use Rattle.ion_text.specs.machine.FrontTokens.{BeginsName, IsValue};
-ghost use Rattle.ion_text.specs.machine.EachToken.{held_word, held_payload};
-ghost use Rattle.ion_visiting.specs.Parts.{payload_of};
-ghost use Rattle.ion_text.specs.visiting.Walks.{FoundPart, FoundNumber, FoundSymbol};
+ghost use Rattle.ion_text.specs.Names.{BeginsName, FoundNumber, FoundPart, FoundSymbol, IsFound, IsValue, Number', Rest, held_payload, held_word, is_name, payload_of, said};
+ghost use Rattle.ion_tokens.specs.Bodies.{content};
 
 use super::symbols::plain_text;
 use crate::words::{is_keyword, may_be_keyword};

@@ -1,6 +1,6 @@
 //! What is seen of an octet before it is taken up.
 ghost use Rattle.std.specs.Prelude.{◌≡◌};
-ghost use Rattle.ion_text.specs.machine.Views.{goes_on_symbol, goes_on_long};
+ghost use Rattle.ion_text.specs.Names.{goes_on_long, goes_on_symbol};
 
 use ion_tokens::Foresight;
 

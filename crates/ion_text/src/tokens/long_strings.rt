@@ -2,10 +2,9 @@
 //! shows that no other follows. One with a comment between or behind its segments is left to the
 //! octets.
 ghost use Rattle.std.specs.Prelude.{◌≡◌, ℕ, ◌+◌, ◌<◌, ◌≤◌, ◌^◌, List, ◌++◌, [], true, length, string_bytes, IfSome, MatchResult};
-ghost use Rattle.ion_tokens.specs.declared.mode.Place.{Place};
-ghost use Rattle.ion_tokens.specs.declared.plain_tokens.Rest.{Rest};
-ghost use Rattle.ion_text.specs.machine.LongStrings.{ends_long, JoinedSegment, PassedSegment, LongThere};
+ghost use Rattle.ion_text.specs.Names.{Place, Rest};
 ghost use Rattle.ion_atoms.specs.declared.refusal.Reason.TheVariants as reasons;
+ghost use Rattle.ion_text.specs.machine.LongStrings.{JoinedSegment, LongThere, PassedSegment, ends_long};
 
 use super::symbols::ends_symbol;
 use ion_model::{Reason, Text};

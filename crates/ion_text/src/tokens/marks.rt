@@ -1,6 +1,6 @@
 //! The marks that open and close containers.
 ghost use Rattle.std.specs.Prelude.{◌≡◌, ◌<◌, length, IfSome};
-ghost use Rattle.ion_text.specs.machine.Nested.{OpensAt, open_mark, close_mark};
+ghost use Rattle.ion_text.specs.Names.{OpensAt, close_mark, open_mark};
 
 use ion_tokens::Mark;
 use ion_visiting::Bracket;

@@ -1,9 +1,6 @@
 //! What stands behind symbols, annotations and names of fields that lie whole in a piece.
 ghost use Rattle.std.specs.Prelude.{◌≡◌, ◌≢◌, ◌+◌, ◌-◌, ◌<◌, ◌^◌, length, get_or, take, drop, true, Some, IfSome, IsUtf8};
-ghost use Rattle.ion_tokens.specs.machine.Rests.{IsPassed, RestsBehind, past_token};
-ghost use Rattle.ion_tokens.specs.declared.mode.Place.{Place};
-ghost use Rattle.ion_tokens.specs.declared.plain_tokens.Rest.{Rest};
-ghost use Rattle.ion_text.specs.machine.FrontTokens.{ends_symbol, BeginsName};
+ghost use Rattle.ion_text.specs.Names.{BeginsName, IsPassed, Place, Rest, RestsBehind, ends_symbol, past_token};
 
 use ion_tokens::{
     FoundToken, Place, Rest, TokenKind, blank_with_comments, blanks, quoted_symbol, short_string,

@@ -1,23 +1,9 @@
 //! Walks over pieces.
 ghost use Rattle.std.specs.Prelude.{◌≡◌, ◌≢◌, ◌+◌, ◌<◌, ◌≤◌, ◌^◌, ℕ, List, [], ◌∷◌, Some, None, Err, false, true, length, drop, IfOk, IfErr, IfSome, IsSome, IsNone};
 ghost use Rattle.std.specs.Option.{is_some};
-ghost use Rattle.ion_atoms.specs.declared.refusal.Reason.TheVariants.{Memory};
-ghost use Rattle.ion_model.specs.declared.value.Value.{Value as AnyValue};
-ghost use Rattle.ion_symtab.specs.Steps.{RefusesBy, StepsOver};
-ghost use Rattle.ion_symtab.specs.Trace.{Answers};
-ghost use Rattle.ion_symtab.specs.Walks.{WalksOn, if_ended};
-ghost use Rattle.ion_tokens.specs.machine.Views.{scanned};
-ghost use Rattle.ion_visiting.specs.Events.{Event};
-ghost use Rattle.ion_text.specs.declared.state.Frame.{Frame};
-ghost use Rattle.ion_text.specs.machine.EachToken.{Symbols};
+ghost use Rattle.ion_text.specs.Names.{Answers, Event, Frame, Holds, IsFine, IsWithin, Memory, RefusesBy, SameReader, StaysSteady, StepsOver, Symbols, Told, TookFront, Value as AnyValue, WalksOn, failed, if_ended, octets_used, pending, scanned, state_of, told, trace};
 ghost use Rattle.ion_text.specs.machine.Progress.{BeginsWith};
-ghost use Rattle.ion_text.specs.machine.Run.{trace};
 ghost use Rattle.ion_text.specs.walk.Advances.{DidAdvance, SameSettings};
-ghost use Rattle.ion_text.specs.walk.Ends.{failed, octets_used};
-ghost use Rattle.ion_text.specs.walk.Fronts.{IsWithin, TookFront};
-ghost use Rattle.ion_text.specs.walk.Holds.{Holds, state_of, told};
-ghost use Rattle.ion_text.specs.walk.Runs.{Told, pending};
-ghost use Rattle.ion_text.specs.walk.Takes.{IsFine, SameReader, StaysSteady};
 
 use super::TextWalk;
 use crate::reasons::with_memory_at;

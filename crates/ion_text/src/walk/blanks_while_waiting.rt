@@ -1,16 +1,7 @@
 //! Octets that are handed to the scanner at once while something waits, or a mark is awaited: those
 //! of a blank or a comment, and of a further segment of a long string.
 ghost use Rattle.std.specs.Prelude.{◌≡◌, ◌+◌, ◌<◌, ◌≤◌, ◌^◌, List, length, take, OnOk, IfErr};
-ghost use Rattle.ion_atoms.specs.declared.refusal.Reason.TheVariants.{Memory};
-ghost use Rattle.ion_tokens.specs.machine.AtOnce.{GoesOver};
-ghost use Rattle.ion_tokens.specs.machine.Views.{scanned};
-ghost use Rattle.ion_text.specs.declared.state.Frame.{Frame};
-ghost use Rattle.ion_text.specs.machine.EachToken.{Symbols};
-ghost use Rattle.ion_text.specs.machine.Pieces.{led};
-ghost use Rattle.ion_text.specs.machine.Run.{run};
-ghost use Rattle.ion_text.specs.machine.Views.{lulls, ended_so_far, IsLull};
-ghost use Rattle.ion_text.specs.walk.Holds.{Holds, reading_of, state_of};
-ghost use Rattle.ion_text.specs.walk.Takes.{IsFine, SameReader, StaysSteady};
+ghost use Rattle.ion_text.specs.Names.{Frame, GoesOver, Holds, IsFine, IsLull, Memory, SameReader, StaysSteady, Symbols, ended_so_far, led, lulls, reading_of, run, scanned, state_of};
 
 use super::TextWalk;
 use crate::state::Now;

@@ -1,10 +1,7 @@
 //! Containers: where they open, where they close, and what stands between their values.
 ghost use Rattle.std.specs.Prelude.{◌≡◌, [], List, OnOk, IfErr};
-ghost use Rattle.ion_atoms.specs.declared.refusal.Reason.TheVariants.{Memory};
-ghost use Rattle.ion_text.specs.declared.state.Frame.{Frame};
+ghost use Rattle.ion_text.specs.Names.{Does, DoesAlone, Enters, Frame, Holds, MayClose, Memory, SameSetting, Symbols, behind_comma, calm, closed, closes_in, first_now, named, on_comma, open_brackets, opening, setting_of, spot_of, told};
 ghost use Rattle.ion_text.specs.declared.state.Now.TheVariants as nows;
-ghost use Rattle.ion_text.specs.machine.EachToken.{Symbols, first_now, opening, closed, on_comma, named};
-ghost use Rattle.ion_text.specs.walk.Holds.{Does, DoesAlone, Enters, Holds, MayClose, SameSetting, behind_comma, calm, closes_in, open_brackets, setting_of, spot_of, told};
 
 use super::{TextWalk, heard};
 use crate::state::{Effect, Now};

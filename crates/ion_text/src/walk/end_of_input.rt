@@ -1,21 +1,9 @@
 //! Before the first octet, and the end of the octets.
 ghost use Rattle.std.specs.Prelude.{◌≡◌, ℕ, List, Result, Option, Ok, Err, IfErr, IfOk, IfSome, IsNone};
-ghost use Rattle.ion_atoms.specs.declared.refusal.Reason.{Reason};
-ghost use Rattle.ion_atoms.specs.declared.refusal.Reason.TheVariants.{Memory};
-ghost use Rattle.ion_model.specs.declared.value.Value.{Value as AnyValue};
-ghost use Rattle.ion_symtab.specs.Walks.{EndsOn};
-ghost use Rattle.ion_tokens.specs.Lexemes.{Lexeme};
-ghost use Rattle.ion_tokens.specs.machine.Views.{scanned};
+ghost use Rattle.ion_text.specs.Names.{Begins, EndedSo, EndsOn, Event, FinishedSo, Frame, Holds, IsFine, Lexeme, Memory, Reason, Symbols, Told, Value as AnyValue, end_ready, end_settled, end_turned, end_waiting, failed, is_fresh, octets_kept, octets_used, reading_of, scanned, settle, state_of, told, trace, turn};
 ghost use Rattle.ion_tokens.specs.machine.Steps.{Ends};
-ghost use Rattle.ion_visiting.specs.Events.{Event};
-ghost use Rattle.ion_text.specs.declared.state.Frame.{Frame};
-ghost use Rattle.ion_text.specs.machine.EachToken.{Symbols, settle, turn};
-ghost use Rattle.ion_text.specs.machine.Run.{is_fresh, end_settled, end_waiting, end_ready, end_turned, ends, trace};
+ghost use Rattle.ion_text.specs.machine.Run.{ends};
 ghost use Rattle.ion_text.specs.machine.Views.{token_in};
-ghost use Rattle.ion_text.specs.walk.Holds.{Holds, reading_of, state_of, told};
-ghost use Rattle.ion_text.specs.walk.Ends.{EndedSo, FinishedSo, failed, octets_used};
-ghost use Rattle.ion_text.specs.walk.Runs.{Begins, Told, octets_kept};
-ghost use Rattle.ion_text.specs.walk.Takes.{IsFine};
 
 use super::TextWalk;
 use crate::reasons::end_late;

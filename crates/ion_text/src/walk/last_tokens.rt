@@ -6,19 +6,10 @@
 #![tactic(auto)]
 
 ghost use Rattle.std.specs.Prelude.{◌≡◌, ◌+◌, ◌<◌, ◌^◌, List, length, get_or, drop, false, true};
-ghost use Rattle.ion_tokens.specs.Bodies.{content, Quoted};
-ghost use Rattle.ion_tokens.specs.machine.Rests.{IsPassed};
+ghost use Rattle.ion_text.specs.Names.{EndsBy, FoundPart, FoundSymbol, Frame, Holds, IsPassed, Quoted, SaysThere, Symbols, ends_symbol, is_top, payload_of};
+ghost use Rattle.ion_tokens.specs.Bodies.{content};
 ghost use Rattle.ion_tokens.specs.declared.mode.Place.TheVariants as places;
-ghost use Rattle.ion_visiting.specs.Parts.{payload_of};
-ghost use Rattle.ion_text.specs.declared.state.Frame.{Frame};
 ghost use Rattle.ion_text.specs.declared.state.Now.TheVariants as nows;
-ghost use Rattle.ion_text.specs.machine.EachToken.{Symbols};
-ghost use Rattle.ion_text.specs.machine.FrontTokens.{ends_symbol};
-ghost use Rattle.ion_text.specs.machine.Run.{is_top};
-ghost use Rattle.ion_text.specs.visiting.Walks.{FoundPart, FoundSymbol};
-ghost use Rattle.ion_text.specs.walk.Holds.{Holds};
-ghost use Rattle.ion_text.specs.walk.Rare.{SaysThere};
-ghost use Rattle.ion_text.specs.walk.Strides.{EndsBy};
 
 use super::TextWalk;
 use super::rare_tokens::{rare_at, value_part};

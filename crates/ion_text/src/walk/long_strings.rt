@@ -3,14 +3,10 @@
 #![tactic(auto)]
 
 ghost use Rattle.std.specs.Prelude.{◌≡◌, ◌+◌, ◌<◌, ◌^◌, List, length, false, true};
+ghost use Rattle.ion_text.specs.Names.{EndsBy, Frame, Holds, StridesBy, Symbols, is_top, place, reading_of};
 ghost use Rattle.ion_tokens.specs.declared.mode.Place.TheVariants as places;
-ghost use Rattle.ion_text.specs.declared.state.Frame.{Frame};
 ghost use Rattle.ion_text.specs.declared.state.Now.TheVariants as nows;
-ghost use Rattle.ion_text.specs.machine.EachToken.{Symbols, place};
 ghost use Rattle.ion_text.specs.machine.LongStrings.{LongThere};
-ghost use Rattle.ion_text.specs.machine.Run.{is_top};
-ghost use Rattle.ion_text.specs.walk.Holds.{Holds, reading_of};
-ghost use Rattle.ion_text.specs.walk.Strides.{EndsBy, StridesBy};
 
 use super::TextWalk;
 use crate::state::{Effect, Taken};

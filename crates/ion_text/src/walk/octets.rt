@@ -1,13 +1,7 @@
 //! What each octet does: the scanner takes it up, and behind it the reader of tokens.
 ghost use Rattle.std.specs.Prelude.{◌≡◌, ◌+◌, ◌<◌, ◌≤◌, ◌^◌, List, length, IfOk, true, false};
-ghost use Rattle.ion_tokens.specs.machine.Views.{begun_in, scanned};
-ghost use Rattle.ion_tokens.specs.machine.Scanning.{run, feed};
-ghost use Rattle.ion_text.specs.declared.state.Frame.{Frame};
-ghost use Rattle.ion_text.specs.machine.EachToken.{Symbols, turn};
-ghost use Rattle.ion_text.specs.machine.Run.{has_segment, reaches, noticed, unsettled, behind_given, behind_left, on_scan, takes};
-ghost use Rattle.ion_text.specs.machine.Views.{comes_again, count_of, token_in, Notices};
-ghost use Rattle.ion_text.specs.walk.Holds.{Holds, SameSetting, reading_of, state_of, told};
-ghost use Rattle.ion_text.specs.walk.Takes.{DidMeet, DidTake, IsFine, IsMet, MeetsWith, SameReader, StaysSteady};
+ghost use Rattle.ion_text.specs.Names.{DidMeet, DidTake, Frame, Holds, IsFine, IsMet, MeetsWith, Notices, SameReader, SameSetting, StaysSteady, Symbols, begun_in, behind_given, behind_left, comes_again, count_of, feed, has_segment, noticed, on_scan, reaches, reading_of, scan as run, scanned, state_of, takes, told, turn, unsettled};
+ghost use Rattle.ion_text.specs.machine.Views.{token_in};
 
 use super::TextWalk;
 use crate::reasons::{lesser, worse};

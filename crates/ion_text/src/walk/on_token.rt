@@ -1,12 +1,10 @@
 //! What each token does (Ion 1.0, "Ion Text Encoding").
 ghost use Rattle.std.specs.Prelude.{◌≡◌, [], ◌∷◌, ◌++◌, List, Some, None};
+ghost use Rattle.ion_text.specs.Names.{Does, DoesAlone, Frame, Holds, Mark', SameSetting, Symbols, Word, at, goes, keyed, late, on_after, on_keyed, on_long, on_long_name, on_name, on_pending, on_ready, reading_of, setting_of, spot_of, told, turn};
 ghost use Rattle.ion_atoms.specs.declared.refusal.Reason.TheVariants as reasons;
-ghost use Rattle.ion_tokens.specs.Bodies.{content, Word, Mark'};
-ghost use Rattle.ion_text.specs.declared.state.Frame.{Frame};
+ghost use Rattle.ion_tokens.specs.Bodies.{content};
 ghost use Rattle.ion_text.specs.declared.state.Now.TheVariants as nows;
-ghost use Rattle.ion_text.specs.machine.EachToken.{Symbols, at, goes, keyed, late, turn, on_ready, on_pending, on_long, on_name, on_long_name, on_after, on_keyed};
 ghost use Rattle.ion_text.specs.machine.Views.{token_in};
-ghost use Rattle.ion_text.specs.walk.Holds.{Does, DoesAlone, Holds, SameSetting, reading_of, setting_of, spot_of, told};
 
 use super::{TextWalk, heard};
 use crate::state::{Effect, Held, Now};

@@ -3,17 +3,10 @@
 #![tactic(auto)]
 
 ghost use Rattle.std.specs.Prelude.{◌≡◌, ◌+◌, ◌<◌, ◌^◌, List, length, false, true, Some, IfSome};
-ghost use Rattle.ion_tokens.specs.Bodies.{content, Word};
+ghost use Rattle.ion_text.specs.Names.{BeginsValue, Frame, Holds, IsValue, Names, SaysThere, StridesBy, Symbols, Word, is_top, payload_of, place, reading_of};
+ghost use Rattle.ion_tokens.specs.Bodies.{content};
 ghost use Rattle.ion_tokens.specs.declared.mode.Place.TheVariants as places;
-ghost use Rattle.ion_visiting.specs.Parts.{payload_of};
-ghost use Rattle.ion_text.specs.declared.state.Frame.{Frame};
 ghost use Rattle.ion_text.specs.declared.state.Now.TheVariants as nows;
-ghost use Rattle.ion_text.specs.machine.EachToken.{Symbols, place};
-ghost use Rattle.ion_text.specs.machine.FrontTokens.{BeginsValue, IsValue, Names};
-ghost use Rattle.ion_text.specs.machine.Run.{is_top};
-ghost use Rattle.ion_text.specs.walk.Holds.{Holds, reading_of};
-ghost use Rattle.ion_text.specs.walk.Rare.{SaysThere};
-ghost use Rattle.ion_text.specs.walk.Strides.{StridesBy};
 
 use super::TextWalk;
 use crate::tokens::finders::{Scalar, rare_part, word_part};

@@ -1,6 +1,6 @@
 //! Memory that ran out behind a walk.
 ghost use Rattle.std.specs.Prelude.{◌≡◌, Some, None};
-ghost use Rattle.ion_atoms.specs.declared.refusal.Reason.TheVariants.{Memory};
+ghost use Rattle.ion_text.specs.Names.{Memory};
 
 use super::TextWalk;
 use ion_model::{Reason, Refusal};

@@ -1,10 +1,8 @@
 //! What waits for more, where nothing goes on.
 ghost use Rattle.std.specs.Prelude.{◌≡◌, ℕ, [], List, Option, Some};
-ghost use Rattle.ion_text.specs.declared.state.Frame.{Frame};
+ghost use Rattle.ion_text.specs.Names.{Does, DoesAlone, Frame, Holds, SameSetting, Symbols, goes, keyed, reading_of, released, setting_of, settle, spot_of, told};
 ghost use Rattle.ion_text.specs.declared.state.Held.TheVariants as helds;
 ghost use Rattle.ion_text.specs.declared.state.Now.TheVariants as nows;
-ghost use Rattle.ion_text.specs.machine.EachToken.{Symbols, goes, keyed, released, settle};
-ghost use Rattle.ion_text.specs.walk.Holds.{Does, DoesAlone, Holds, SameSetting, reading_of, setting_of, spot_of, told};
 
 use super::TextWalk;
 use crate::state::{Effect, Held, Now};

@@ -7,26 +7,9 @@
 #![tactic(auto)]
 
 ghost use Rattle.std.specs.Prelude.{◌≡◌, ℕ, ◌+◌, ◌-◌, ◌<◌, ◌≤◌, ◌^◌, List, [], ◌∷◌, ◌++◌, length, get_or, take, drop, false, true, nat_lt, Some, IfOk, IfErr, IfSome, OnOk};
-ghost use Rattle.ion_atoms.specs.declared.refusal.Reason.TheVariants.{Memory};
-ghost use Rattle.ion_scalar.specs.declared.number.Number.{Number as AnyNumber};
-ghost use Rattle.ion_model.specs.Kinds.{names_table};
-ghost use Rattle.ion_tokens.specs.declared.mode.Place.{Place as AnyPlace};
+ghost use Rattle.ion_text.specs.Names.{BeginsName, Does, EndsBy, FoundPart, FoundSymbol, Frame, Holds, IsFine, IsStill, MayClose, Memory, NoteThere, Number as AnyNumber, OpensAt, Place as AnyPlace, Rest as AnyRest, RestsBehind, SamePlace, SameReader, SameSetting, StaysSteady, StridesBy, Symbols, TookSo, WentOn, begun_at, calm, close_octet, closes, ends_symbol, is_top, named, names_table, past_blank, past_token, payload_of, place, reading_of, resting, scanned, told};
 ghost use Rattle.ion_tokens.specs.declared.mode.Place.TheVariants as places;
-ghost use Rattle.ion_tokens.specs.declared.plain_tokens.Rest.{Rest as AnyRest};
-ghost use Rattle.ion_tokens.specs.machine.Rests.{RestsBehind, past_blank, past_token, resting};
-ghost use Rattle.ion_tokens.specs.machine.Views.{scanned};
-ghost use Rattle.ion_visiting.specs.Parts.{payload_of};
-ghost use Rattle.ion_text.specs.declared.state.Frame.{Frame};
 ghost use Rattle.ion_text.specs.declared.state.Now.TheVariants as nows;
-ghost use Rattle.ion_text.specs.machine.AtOnce.{IsStill};
-ghost use Rattle.ion_text.specs.machine.EachToken.{Symbols, begun_at, named, place};
-ghost use Rattle.ion_text.specs.machine.FrontTokens.{BeginsName, ends_symbol};
-ghost use Rattle.ion_text.specs.machine.Nested.{OpensAt, close_octet, closes};
-ghost use Rattle.ion_text.specs.machine.Run.{is_top};
-ghost use Rattle.ion_text.specs.visiting.Walks.{FoundPart, FoundSymbol, NoteThere};
-ghost use Rattle.ion_text.specs.walk.Holds.{Does, Holds, calm, MayClose, SamePlace, SameSetting, WentOn, reading_of, told};
-ghost use Rattle.ion_text.specs.walk.Strides.{EndsBy, StridesBy, TookSo};
-ghost use Rattle.ion_text.specs.walk.Takes.{IsFine, SameReader, StaysSteady};
 
 use super::untold::untold_number;
 use super::{TextWalk, heard};

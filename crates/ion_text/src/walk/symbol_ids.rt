@@ -3,17 +3,9 @@
 #![tactic(auto)]
 
 ghost use Rattle.std.specs.Prelude.{◌≡◌, ◌+◌, ◌<◌, ◌^◌, List, false, length, IfSome};
-ghost use Rattle.ion_tokens.specs.Bodies.{Id};
-ghost use Rattle.ion_tokens.specs.declared.mode.Place.{Place as AnyPlace};
+ghost use Rattle.ion_text.specs.Names.{Frame, Holds, Id, Place as AnyPlace, Rest as AnyRest, SaysThere, StridesBy, SymbolThere, Symbols, is_top, place, reading_of};
 ghost use Rattle.ion_tokens.specs.declared.mode.TokenKind.TheVariants as kinds;
-ghost use Rattle.ion_tokens.specs.declared.plain_tokens.Rest.{Rest as AnyRest};
-ghost use Rattle.ion_text.specs.declared.state.Frame.{Frame};
 ghost use Rattle.ion_text.specs.declared.state.Now.TheVariants as nows;
-ghost use Rattle.ion_text.specs.machine.EachToken.{Symbols, place};
-ghost use Rattle.ion_text.specs.machine.Run.{is_top};
-ghost use Rattle.ion_text.specs.walk.Holds.{Holds, reading_of};
-ghost use Rattle.ion_text.specs.walk.Rare.{SaysThere, SymbolThere};
-ghost use Rattle.ion_text.specs.walk.Strides.{StridesBy};
 
 use super::{TextWalk, heard};
 use crate::state::{Effect, Now};

@@ -1,13 +1,7 @@
 //! Octets that are handed to the scanner at once: up to the next token, where nothing has to be
 //! looked at before it.
 ghost use Rattle.std.specs.Prelude.{◌≡◌, ◌+◌, ◌<◌, ◌≤◌, ◌^◌, List, length, IfOk};
-ghost use Rattle.ion_tokens.specs.machine.Views.{scanned};
-ghost use Rattle.ion_text.specs.declared.state.Frame.{Frame};
-ghost use Rattle.ion_text.specs.machine.EachToken.{Symbols};
-ghost use Rattle.ion_text.specs.machine.Views.{base, floor, IsCalm};
-ghost use Rattle.ion_text.specs.walk.Fronts.{IsWithin, TookFront};
-ghost use Rattle.ion_text.specs.walk.Holds.{Holds, state_of, told};
-ghost use Rattle.ion_text.specs.walk.Takes.{IsFine, SameReader, StaysSteady};
+ghost use Rattle.ion_text.specs.Names.{Frame, Holds, IsCalm, IsFine, IsWithin, SameReader, StaysSteady, Symbols, TookFront, base, floor, scanned, state_of, told};
 
 use super::TextWalk;
 use crate::reasons::worse;

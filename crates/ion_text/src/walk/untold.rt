@@ -1,13 +1,7 @@
 //! Tokens that lie whole in a piece and are values of which a visitor heeds nothing: that they are such
 //! is enough, and no value is built.
 ghost use Rattle.std.specs.Prelude.{◌≡◌, ◌<◌, Ok, false, true, length, take, IfSome};
-ghost use Rattle.ion_scalar.specs.declared.number.Number.{Number};
-ghost use Rattle.ion_scalar.specs.text.Numbers.{ReadsNumber};
-ghost use Rattle.ion_tokens.specs.Places.{is_name};
-ghost use Rattle.ion_tokens.specs.machine.Rests.{IsFound};
-ghost use Rattle.ion_tokens.specs.declared.mode.Place.{Place};
-ghost use Rattle.ion_tokens.specs.declared.plain_tokens.Rest.{Rest};
-ghost use Rattle.ion_text.specs.visiting.Walks.{FoundNumber};
+ghost use Rattle.ion_text.specs.Names.{FoundNumber, IsFound, Number, Place, ReadsNumber, Rest, is_name};
 
 use ion_scalar::number_of;
 use ion_tokens::{FoundToken, TokenKind, number, plain_numeral};

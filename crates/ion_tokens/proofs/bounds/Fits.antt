@@ -3,61 +3,49 @@ use Rattle.std.proofs.Common.{◌≡◌, ℕ, suc, ◌+◌, ◌-◌, ◌≤◌, 
 use Rattle.std.specs.Prelude.{◌&&◌, ◌||◌, not, nat_le, nat_lt}
 use Rattle.std.specs.List.{list_all}
 use Rattle.std.proofs.lemmas.Bool.Decides.{nat_tests}
-use Rattle.ion_atoms.specs.declared.refusal.Reason.{Reason}
-use Rattle.ion_atoms.specs.declared.refusal.Reason.TheVariants as reasons
-use Rattle.ion_tokens.specs.declared.mode.Place.{Place}
-use Rattle.ion_tokens.specs.declared.mode.Style.{Style}
-use Rattle.ion_tokens.specs.declared.mode.Within.TheVariants as within
-use Rattle.ion_tokens.specs.declared.mode.Digits.{Digits}
-use Rattle.ion_tokens.specs.declared.mode.Mode.{Mode}
-use Rattle.ion_tokens.specs.declared.mode.Mode.TheVariants as modes
-use Rattle.ion_tokens.specs.declared.mode.Keep.{Keep}
-use Rattle.ion_tokens.specs.declared.mode.Keep.TheVariants as keeps
-use Rattle.ion_tokens.specs.declared.mode.Action.{Action}
-use Rattle.ion_tokens.specs.declared.mode.Action.TheVariants as actions
-use Rattle.ion_tokens.specs.machine.Table.{next, is_sexp}
-use Rattle.ion_tokens.specs.machine.Bounds.{is_idle, unkept, debt}
+use Rattle.ion_tokens.specs.Names.{Action, Digits, Keep, Mode, Place, Reason, Style, Within, debt, is_idle, is_sexp, unkept}
 use Rattle.ion_tokens.specs.machine.Rows.{Taken, digit_rows, infinity_rows}
+use Rattle.ion_tokens.specs.machine.Table.{next}
 use Rattle.ion_tokens.specs.laws.ByRows.{by_mode, by_rows_where}
 
 -- nothing is added to what is kept, and nothing is dropped
 abbrev pub is_nothing : Keep → Bool
-is_nothing keeps.Nothing = true
+is_nothing Keep.Nothing = true
 is_nothing _ = false
 
 -- at most so many octets are added
 abbrev pub added : Keep → ℕ
-added (keeps.One _) = 1
-added (keeps.Two _ _) = 2
-added (keeps.Character _) = 4
+added (Keep.One _) = 1
+added (Keep.Two _ _) = 2
+added (Keep.Character _) = 4
 added _ = 0
 
 -- what is left to a token that follows
 abbrev pub is_fresh : Mode → Bool
-is_fresh modes.Blank = true
-is_fresh modes.Slash = true
+is_fresh Mode.Blank = true
+is_fresh Mode.Slash = true
 is_fresh _ = false
 
 -- the reasons that an octet alone may give
 abbrev pub is_octet_reason : Reason → Bool
-is_octet_reason reasons.Float = true
-is_octet_reason reasons.BadEscape = true
-is_octet_reason reasons.BadUtf8 = true
-is_octet_reason reasons.BadBase64 = true
-is_octet_reason reasons.Ambiguous = true
-is_octet_reason reasons.Unexpected = true
+is_octet_reason Reason.Float = true
+is_octet_reason Reason.BadEscape = true
+is_octet_reason Reason.BadUtf8 = true
+is_octet_reason Reason.BadBase64 = true
+is_octet_reason Reason.Ambiguous = true
+is_octet_reason Reason.Unexpected = true
 is_octet_reason _ = false
 
 -- an action in a mode with so many octets unkept and in debt
 abbrev pub fits : ℕ → ℕ → Bool → Action → Bool
-fits unkept_now debt_now idle_now (actions.Go m k) =
+fits unkept_now debt_now idle_now (Action.Go m k) =
     nat_le (added k + unkept m) (unkept_now + 1) && nat_le (debt m) (debt_now + 1) && (not (is_idle m) || (idle_now && is_nothing k))
-fits unkept_now debt_now idle_now (actions.Give _ _) = true
-fits unkept_now debt_now idle_now (actions.Before _ _ m) = nat_lt (debt m) debt_now && nat_le (unkept m) unkept_now && is_fresh m
-fits unkept_now debt_now idle_now actions.EndWord = nat_le 1 debt_now
-fits unkept_now debt_now idle_now (actions.Split n) = nat_le n unkept_now && nat_le 2 debt_now
-fits unkept_now debt_now idle_now actions.EndBlob = nat_le 2 unkept_now
-fits unkept_now debt_now idle_now (actions.Refuse e) = is_octet_reason e
+fits unkept_now debt_now idle_now (Action.Give _ _) = true
+fits unkept_now debt_now idle_now (Action.Before _ _ m) = nat_lt (debt m) debt_now && nat_le (unkept m) unkept_now && is_fresh m
+fits unkept_now debt_now idle_now Action.EndWord = nat_le 1 debt_now
+fits unkept_now debt_now idle_now (Action.Split n) = nat_le n unkept_now && nat_le 2 debt_now
+fits unkept_now debt_now idle_now Action.EndBlob = nat_le 2 unkept_now
+fits unkept_now debt_now idle_now (Action.Refuse e) = is_octet_reason e
 
 -- an action stays within what the mode leaves unkept and in debt, and refuses for an octet alone
 pub record Fits (u d : ℕ) (i : Bool) (a : Action) : Type 0 where
@@ -65,8 +53,8 @@ pub record Fits (u d : ℕ) (i : Bool) (a : Action) : Type 0 where
 
 -- the modes that count octets
 abbrev is_counted : Mode → Bool
-is_counted (modes.Infinity letters) = true
-is_counted (modes.Text s (within.Hexadecimal d left n)) = true
+is_counted (Mode.Infinity letters) = true
+is_counted (Mode.Text s (Within.Hexadecimal d left n)) = true
 is_counted _ = false
 
 rows_fit : (p : Place) (colon : Bool) (m : Mode) (o : ℕ) → not (is_counted m) ≡ true → fits (unkept m) (debt m) (is_idle m) (next p colon m o) ≡ true
@@ -95,9 +83,9 @@ digits_fit s d left t true h = rw (last_digit left 2 h (omega arith), last_digit
 digits_fit s d left t false h = rw (more_digits left h) refl
 
 table_fit : (p : Place) (colon : Bool) (m : Mode) (o : ℕ) → fits (unkept m) (debt m) (is_idle m) (next p colon m o) ≡ true
-table_fit p colon (modes.Infinity letters) o = by_mode (fits letters 2 false) p colon (modes.Infinity letters) o (λ t. infinity_fits letters (is_sexp p))
-table_fit p colon (modes.Text s (within.Hexadecimal d left n)) o =
-    by_mode (fits (1 + (4 - left)) 1 false) p colon (modes.Text s (within.Hexadecimal d left n)) o (λ t. digits_fit s d left t (nat_le left 1) refl)
+table_fit p colon (Mode.Infinity letters) o = by_mode (fits letters 2 false) p colon (Mode.Infinity letters) o (λ t. infinity_fits letters (is_sexp p))
+table_fit p colon (Mode.Text s (Within.Hexadecimal d left n)) o =
+    by_mode (fits (1 + (4 - left)) 1 false) p colon (Mode.Text s (Within.Hexadecimal d left n)) o (λ t. digits_fit s d left t (nat_le left 1) refl)
 table_fit p colon m o = rows_fit p colon m o refl
 
 -- each row of the table stays within what its mode leaves unkept and in debt

@@ -1,22 +1,11 @@
 -- How many octets a run takes up, and how many it leaves to take up again.
 use Rattle.std.proofs.Common.{◌≡◌, ℕ, ◌+◌, ◌-◌, ◌≤◌, ◌<◌, Bool, true, false, cond, List, [], ◌∷◌, length, ap, arith, IfOk, IfSome, Result, Ok, Err, Option, Some, None}
 use Rattle.std.specs.Prelude.{◌==◌, ◌&&◌, ◌||◌, not, bytes_eq, codes}
-use Rattle.ion_atoms.specs.declared.refusal.Refusal.{Refusal}
-use Rattle.ion_tokens.specs.declared.mode.Place.{Place}
-use Rattle.ion_tokens.specs.declared.mode.Mode.TheVariants as modes
-use Rattle.ion_tokens.specs.declared.mode.TokenKind.TheVariants as kinds
-use Rattle.ion_tokens.specs.declared.mode.Action.{Action}
-use Rattle.ion_tokens.specs.declared.mode.Action.TheVariants as actions
-use Rattle.ion_tokens.specs.declared.token.Scan.{Scan}
-use Rattle.ion_tokens.specs.declared.token.Token.{Token}
+use Rattle.ion_tokens.specs.Names.{Action, Answers, Given, Known, Left, Mode, Next, Outcome, Place, Refusal, Refused, Scan, Token, TokenKind, acts, answered, blob_ends, blob_of, cut, debt, feed, follow, go_to, is_idle, past, run, taken_up, unkept}
 use Rattle.ion_tokens.specs.machine.Table.{next}
-use Rattle.ion_tokens.specs.Blobs.{blob_of}
-use Rattle.ion_tokens.specs.machine.Scanning.{Known, Outcome, Next, Given, Left, Refused, go_to, cut, past, blob_ends, acts, feed, follow, run}
-use Rattle.ion_tokens.specs.machine.Bounds.{is_idle, unkept, debt, taken_up}
-use Rattle.ion_tokens.specs.machine.Steps.{answered, Answers}
-use Rattle.ion_tokens.proofs.bounds.Fits.{Fits, added, is_nothing, is_fresh, table_fits}
+use Rattle.ion_tokens.proofs.bounds.Fits.{Fits, added, is_fresh, is_nothing, table_fits}
+use Rattle.ion_tokens.proofs.bounds.Steady.{ended_well, le_of, les_of, went_well}
 use Rattle.ion_tokens.proofs.runs.Runs.{Between, acts_between, run_between}
-use Rattle.ion_tokens.proofs.bounds.Steady.{went_well, ended_well, le_of, les_of}
 
 -- Behind octets that were all used one is taken up, whatever comes of it.
 pub took_one : (x : Outcome) (before n used : ℕ) → Between x used 1 → used ≡ before + n → taken_up before x ≡ n + 1
@@ -41,21 +30,21 @@ blob_owes s (Some b) = omega arith
 
 acts_owes : (p : Place) (s : Known) (o : ℕ) (a : Action) → Fits (unkept s.mode) (debt s.mode) (is_idle s.mode) a → Owes (debt s.mode) s.used (acts p s o a)
 unfolding Owes
-acts_owes p s o (actions.Go m k) f =
+acts_owes p s o (Action.Go m k) f =
     let t = went_well (added k + unkept m) (unkept s.mode + 1) (debt m) (debt s.mode + 1) (not (is_idle m) || (is_idle s.mode && is_nothing k)) f.is in
     omega arith
-acts_owes p s o (actions.Give kind k) f = omega arith
-acts_owes p s o (actions.Before kind k m) f =
+acts_owes p s o (Action.Give kind k) f = omega arith
+acts_owes p s o (Action.Before kind k m) f =
     let t = ended_well (debt m) (debt s.mode) (unkept m) (unkept s.mode) (is_fresh m) f.is in
     omega arith
-acts_owes p s o actions.EndWord f = one ((o == 46) && bytes_eq s.kept (codes "null")) where
-  one : (b : Bool) → Owes (debt s.mode) s.used (cond b (Next (go_to s modes.KindName []))
-      (Left (cut s kinds.Word s.kept s.used) (past p kinds.Word modes.Blank [] s.used s.used)))
+acts_owes p s o Action.EndWord f = one ((o == 46) && bytes_eq s.kept (codes "null")) where
+  one : (b : Bool) → Owes (debt s.mode) s.used (cond b (Next (go_to s Mode.KindName []))
+      (Left (cut s TokenKind.Word s.kept s.used) (past p TokenKind.Word Mode.Blank [] s.used s.used)))
   one true = omega arith
   one false = let t = le_of 1 (debt s.mode) f.is in omega arith
-acts_owes p s o (actions.Split letters) f = let t = les_of letters (unkept s.mode) 2 (debt s.mode) f.is in omega arith
-acts_owes p s o actions.EndBlob f = blob_owes s (blob_of s.kept)
-acts_owes p s o (actions.Refuse e) f = tt
+acts_owes p s o (Action.Split letters) f = let t = les_of letters (unkept s.mode) 2 (debt s.mode) f.is in omega arith
+acts_owes p s o Action.EndBlob f = blob_owes s (blob_of s.kept)
+acts_owes p s o (Action.Refuse e) f = tt
 
 -- behind one octet more
 owes_next : (x : Outcome) (owed before now used n : ℕ) → used ≡ before + 1 → now ≤ owed + (used - before) → Between x used n → Owes now used x

@@ -11,60 +11,49 @@ use Rattle.base64.specs.Engines.{standard}
 use Rattle.base64.specs.Decode.{decode_outcome, groups_bytes, groups_before_last, scan_bytes, scan_last}
 use Rattle.base64.specs.GeneralPurpose.{decoded_of}
 use Rattle.base64.proofs.Decoding.{length-groups_bytes}
-use Rattle.ion_tokens.specs.declared.mode.Place.{Place}
-use Rattle.ion_tokens.specs.declared.mode.Mode.{Mode}
-use Rattle.ion_tokens.specs.declared.mode.Mode.TheVariants as modes
-use Rattle.ion_tokens.specs.declared.mode.TokenKind.{TokenKind}
-use Rattle.ion_tokens.specs.declared.mode.TokenKind.TheVariants as kinds
-use Rattle.ion_tokens.specs.declared.mode.Keep.{Keep}
-use Rattle.ion_tokens.specs.declared.mode.Keep.TheVariants as keeps
-use Rattle.ion_tokens.specs.declared.mode.Action.{Action}
-use Rattle.ion_tokens.specs.declared.mode.Action.TheVariants as actions
+use Rattle.ion_tokens.specs.Names.{Action, IsSteady, Keep, Known, Left, Mode, Next, Outcome, Place, StaysSteady, TokenKind, acts, blob_ends, blob_of, cut, debt, feed, go_to, is_idle, kept_after, left_of, past, start_of, unkept}
 use Rattle.ion_tokens.specs.machine.Table.{next}
-use Rattle.ion_tokens.specs.Blobs.{blob_of}
-use Rattle.ion_tokens.specs.machine.Scanning.{Known, Outcome, Next, Left, kept_after, start_of, left_of, go_to, cut, past, blob_ends, acts, feed}
-use Rattle.ion_tokens.specs.machine.Bounds.{is_idle, unkept, debt, IsSteady, StaysSteady}
-use Rattle.ion_tokens.proofs.bounds.Fits.{Fits, is_nothing, added, is_fresh, table_fits}
+use Rattle.ion_tokens.proofs.bounds.Fits.{Fits, added, is_fresh, is_nothing, table_fits}
 
 length_encoded : (c : ℕ) → length (encode_utf8 c) ≤ 4
 length_encoded c = let e : length (encode_utf8 c) ≡ len_utf8 c = length-encode c in let b = len_utf8_bounds c in omega arith
 
 -- no more is added than the table counts
 length_kept : (k : Keep) (kept : List ℕ) → length (kept_after k kept) ≤ length kept + added k
-length_kept keeps.Nothing kept = omega arith
-length_kept (keeps.One o) kept = simp length-append (omega arith)
-length_kept (keeps.Two o p) kept = simp length-append (omega arith)
-length_kept (keeps.Character c) kept = let h = length_encoded c in simp length-append (omega arith)
-length_kept keeps.DropQuotes kept = let h = length-take (length kept - 2) kept in omega arith
+length_kept Keep.Nothing kept = omega arith
+length_kept (Keep.One o) kept = simp length-append (omega arith)
+length_kept (Keep.Two o p) kept = simp length-append (omega arith)
+length_kept (Keep.Character c) kept = let h = length_encoded c in simp length-append (omega arith)
+length_kept Keep.DropQuotes kept = let h = length-take (length kept - 2) kept in omega arith
 
 -- nothing is kept where no token has begun
 idle_go : (k : Keep) (i j : Bool) (kept : List ℕ) → (not j || (i && is_nothing k)) ≡ true → (i ≡ true → kept ≡ []) → j ≡ true → kept_after k kept ≡ []
-idle_go keeps.Nothing true true kept h n e = n refl
-idle_go keeps.Nothing false true kept h n e = cc
-idle_go keeps.Nothing i false kept h n e = cc
-idle_go (keeps.One _) true true kept h n e = cc
-idle_go (keeps.One _) false true kept h n e = cc
-idle_go (keeps.One _) i false kept h n e = cc
-idle_go (keeps.Two _ _) true true kept h n e = cc
-idle_go (keeps.Two _ _) false true kept h n e = cc
-idle_go (keeps.Two _ _) i false kept h n e = cc
-idle_go (keeps.Character _) true true kept h n e = cc
-idle_go (keeps.Character _) false true kept h n e = cc
-idle_go (keeps.Character _) i false kept h n e = cc
-idle_go keeps.DropQuotes true true kept h n e = cc
-idle_go keeps.DropQuotes false true kept h n e = cc
-idle_go keeps.DropQuotes i false kept h n e = cc
+idle_go Keep.Nothing true true kept h n e = n refl
+idle_go Keep.Nothing false true kept h n e = cc
+idle_go Keep.Nothing i false kept h n e = cc
+idle_go (Keep.One _) true true kept h n e = cc
+idle_go (Keep.One _) false true kept h n e = cc
+idle_go (Keep.One _) i false kept h n e = cc
+idle_go (Keep.Two _ _) true true kept h n e = cc
+idle_go (Keep.Two _ _) false true kept h n e = cc
+idle_go (Keep.Two _ _) i false kept h n e = cc
+idle_go (Keep.Character _) true true kept h n e = cc
+idle_go (Keep.Character _) false true kept h n e = cc
+idle_go (Keep.Character _) i false kept h n e = cc
+idle_go Keep.DropQuotes true true kept h n e = cc
+idle_go Keep.DropQuotes false true kept h n e = cc
+idle_go Keep.DropQuotes i false kept h n e = cc
 
 -- the open token's place, behind the next octet
 within_go : (m : Mode) (kept x u : ℕ) → (is_idle m ≡ true → kept ≡ 0) → kept + unkept m + x ≤ u + 1 → kept + unkept m + start_of m x (u + 1) ≤ u + 1
-within_go modes.Blank kept x u idle h = let e = idle refl in omega arith
-within_go modes.Slash kept x u idle h = let e = idle refl in omega arith
+within_go Mode.Blank kept x u idle h = let e = idle refl in omega arith
+within_go Mode.Slash kept x u idle h = let e = idle refl in omega arith
 within_go _ kept x u idle h = h
 
 -- the octet that is left to a token that follows
 within_fresh : (m : Mode) (r u : ℕ) → is_fresh m ≡ true → unkept m ≤ r → r ≤ u → 0 + unkept m + start_of m (u - left_of m) u ≤ u
-within_fresh modes.Blank r u f h k = omega arith
-within_fresh modes.Slash r u f h k = omega arith
+within_fresh Mode.Blank r u f h k = omega arith
+within_fresh Mode.Slash r u f h k = omega arith
 within_fresh _ r u f h k = cc f
 
 -- three tests that hold at once: two bounds, and a third of whatever sort
@@ -86,7 +75,7 @@ pub les_of : (a b c d : ℕ) → (nat_le a b && nat_le c d) ≡ true → (a ≤ 
 les_of a b c d h = (grind (arith, nat_tests), grind (arith, nat_tests))
 
 -- behind a token and nothing else
-past_steady : (p : Place) (kind : TokenKind) (x u n : ℕ) → u ≤ n → n ≤ 2 * u → IsSteady (past p kind modes.Blank [] x u) n
+past_steady : (p : Place) (kind : TokenKind) (x u n : ℕ) → u ≤ n → n ≤ 2 * u → IsSteady (past p kind Mode.Blank [] x u) n
 past_steady p kind x u n h k = record {
   each = h;
   twice = omega arith;
@@ -127,7 +116,7 @@ blob_steady s n (Some octets) e u h k = let l = length_blob s.kept octets e in r
 
 acts_steady : (p : Place) (s : Known) (o : ℕ) (a : Action) (n : ℕ) → Fits (unkept s.mode) (debt s.mode) (is_idle s.mode) a → IsSteady s n
     → s.used < 2 ^ 63 → StaysSteady (acts p s o a) (n + 1)
-acts_steady p s o (actions.Go m k) n f h u =
+acts_steady p s o (Action.Go m k) n f h u =
     let t = went_well (added k + unkept m) (unkept s.mode + 1) (debt m) (debt s.mode + 1) (not (is_idle m) || (is_idle s.mode && is_nothing k)) f.is in
     let l = length_kept k s.kept in
     let none = idle_go k (is_idle s.mode) (is_idle m) s.kept t.2 h.idle in
@@ -139,8 +128,8 @@ acts_steady p s o (actions.Go m k) n f h u =
       idle = none;
       within = within_go m (length (kept_after k s.kept)) (start_of s.mode s.start s.used) s.used (λ i. ap (λ (xs : List ℕ). length xs) (none i)) (omega arith);
     }
-acts_steady p s o (actions.Give kind k) n f h u = past_steady p kind (s.used + 1) (s.used + 1) (n + 1) (omega arith) (let d = h.twice in omega arith)
-acts_steady p s o (actions.Before kind k m) n f h u =
+acts_steady p s o (Action.Give kind k) n f h u = past_steady p kind (s.used + 1) (s.used + 1) (n + 1) (omega arith) (let d = h.twice in omega arith)
+acts_steady p s o (Action.Before kind k m) n f h u =
     let t = ended_well (debt m) (debt s.mode) (unkept m) (unkept s.mode) (is_fresh m) f.is in
     let w = h.within in
     let d = h.twice in
@@ -150,17 +139,17 @@ acts_steady p s o (actions.Before kind k m) n f h u =
       idle = λ _. refl;
       within = within_fresh m (unkept s.mode) s.used t.2 t.1 (omega arith);
     }
-acts_steady p s o actions.EndWord n f h u = one ((o == 46) && bytes_eq s.kept (codes "null")) where
-  one : (b : Bool) → StaysSteady (cond b (Next (go_to s modes.KindName []))
-      (Left (cut s kinds.Word s.kept s.used) (past p kinds.Word modes.Blank [] s.used s.used))) (n + 1)
+acts_steady p s o Action.EndWord n f h u = one ((o == 46) && bytes_eq s.kept (codes "null")) where
+  one : (b : Bool) → StaysSteady (cond b (Next (go_to s Mode.KindName []))
+      (Left (cut s TokenKind.Word s.kept s.used) (past p TokenKind.Word Mode.Blank [] s.used s.used))) (n + 1)
   one true = let d = h.twice in let w = h.within in record {
     each = omega arith;
     twice = omega arith;
     idle = λ i. cc;
     within = omega arith;
   }
-  one false = let d = h.twice in let t = le_of 1 (debt s.mode) f.is in past_steady p kinds.Word s.used s.used (n + 1) (omega arith) (omega arith)
-acts_steady p s o (actions.Split letters) n f h u =
+  one false = let d = h.twice in let t = le_of 1 (debt s.mode) f.is in past_steady p TokenKind.Word s.used s.used (n + 1) (omega arith) (omega arith)
+acts_steady p s o (Action.Split letters) n f h u =
     let t = les_of letters (unkept s.mode) 2 (debt s.mode) f.is in
     let w = h.within in
     let d = h.twice in
@@ -171,8 +160,8 @@ acts_steady p s o (actions.Split letters) n f h u =
       idle = λ i. cc;
       within = omega arith;
     }
-acts_steady p s o actions.EndBlob n f h u = blob_steady s n (blob_of s.kept) refl (le_of 2 (unkept s.mode) f.is) h u
-acts_steady p s o (actions.Refuse e) n f h u = tt
+acts_steady p s o Action.EndBlob n f h u = blob_steady s n (blob_of s.kept) refl (le_of 2 (unkept s.mode) f.is) h u
+acts_steady p s o (Action.Refuse e) n f h u = tt
 
 -- one octet more, below 2^63 of them, keeps a scanner steady
 pub feed_steady : (p : Place) (s : Known) (o n : ℕ) → IsSteady s n → s.used < 2 ^ 63 → StaysSteady (feed p s o) (n + 1)

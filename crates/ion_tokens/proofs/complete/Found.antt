@@ -1,15 +1,10 @@
 -- What the scanner finds in octets.
 use Rattle.std.specs.Prelude.{◌≡◌, ℕ, ◌-◌, Bool, List, [], ◌∷◌, drop, Some, None, Ok, Err}
-use Rattle.ion_atoms.specs.declared.refusal.Reason.TheVariants.{Incomplete}
-use Rattle.ion_tokens.specs.declared.mode.Place.{Place}
-use Rattle.ion_tokens.specs.declared.mode.Mode.TheVariants as modes
-use Rattle.ion_tokens.specs.declared.mode.TokenKind.TheVariants as kinds
-use Rattle.ion_tokens.specs.machine.Scanning.{Known, Next, Given, Left, run, at_end}
-use Rattle.ion_tokens.specs.Lexed.{Placed}
+use Rattle.ion_tokens.specs.Names.{Given, Incomplete, Known, Left, Mode, Next, Place, Placed, TokenKind, at_end, run}
 
 -- in a word that begins at `start`, behind these letters of it
 abbrev pub in_word : List ℕ → Bool → ℕ → ℕ → Known
-in_word letters colon start used = record { mode = modes.Word; kept = letters; colon = colon; start = start; used = used }
+in_word letters colon start used = record { mode = Mode.Word; kept = letters; colon = colon; start = start; used = used }
 
 -- What a scanner that knows this finds in octets: token by token, in the places handed in. `Rests` says what it comes to where no
 -- token is left, and an s-expression that ends behind a sign and the front of `inf` isn't closed: `Bare` says that no token follows there.
@@ -23,7 +18,7 @@ pub data FindsUpTo (Rests : Known → List ℕ → Type 0) (Bare : Type 0) : Kno
       → FindsUpTo Rests Bare s' (drop (s'.used - s.used) octets) ts → FindsUpTo Rests Bare s octets (t ∷ ts)
   Unclosed : (s : Known) (octets : List ℕ) (t : Placed) (ts : List Placed) (s' : Known) (colon : Bool) (letters : List ℕ) → (ts ≡ [] → Bare)
       → run t.place octets s ≡ Next s'
-      → at_end t.place s' ≡ Err Incomplete → t.lexeme.start ≡ s'.start → t.lexeme.kind ≡ kinds.Operator
+      → at_end t.place s' ≡ Err Incomplete → t.lexeme.start ≡ s'.start → t.lexeme.kind ≡ TokenKind.Operator
       → FindsUpTo Rests Bare (in_word letters colon t.lexeme.end s'.used) [] ts
       → FindsUpTo Rests Bare s octets (t ∷ ts)
 

@@ -1,19 +1,8 @@
 -- How the scanner comes from one mode to another over octets that it uses.
 use Rattle.std.proofs.Common.{◌≡◌, ℕ, ◌+◌, ◌-◌, Bool, true, List, [], ◌∷◌, ◌++◌, length, refl, sym, ap, ◌∙◌, subst, arith, append_assoc, append-nil, length-append}
-use Rattle.ion_tokens.specs.declared.mode.Place.{Place}
-use Rattle.ion_tokens.specs.declared.mode.Mode.{Mode}
-use Rattle.ion_tokens.specs.declared.mode.Keep.{Keep}
-use Rattle.ion_tokens.specs.declared.mode.TokenKind.{TokenKind}
-use Rattle.ion_tokens.specs.declared.mode.TokenKind.TheVariants as kinds
-use Rattle.ion_tokens.specs.declared.mode.Mode.TheVariants as modes
-use Rattle.ion_tokens.specs.declared.mode.Action.TheVariants as actions
-use Rattle.ion_tokens.specs.machine.Table.{next, in_blank}
-use Rattle.ion_tokens.specs.machine.Scanning.{Known, Next, Given, Left, acts, follow, run, kept_after, start_of, past, at_end}
-use Rattle.ion_tokens.specs.Lexemes.{Each, begins, Lexeme}
-use Rattle.ion_tokens.specs.Octets.{begins_word}
-use Rattle.ion_tokens.specs.declared.mode.Keep.TheVariants as keeps
-use Rattle.ion_atoms.specs.declared.refusal.Reason.TheVariants as reasons
 use Rattle.std.specs.Prelude.{Some, Ok, Err}
+use Rattle.ion_tokens.specs.Names.{Action, Each, Given, Keep, Known, Left, Lexeme, Mode, Next, Place, Reason, TokenKind, acts, at_end, begins, begins_word, follow, in_blank, kept_after, past, run, start_of}
+use Rattle.ion_tokens.specs.machine.Table.{next}
 
 -- what the scanner knows in this mode, part by part
 abbrev pub at : Mode → List ℕ → Bool → ℕ → ℕ → Known
@@ -33,7 +22,7 @@ abbrev pub Stays : Mode → Type 0
 Stays m = (start used : ℕ) → start_of m start used ≡ start
 
 -- one octet leads from mode to mode as the table says
-pub moves_one : (p : Place) (m : Mode) (o : ℕ) (kept : List ℕ) (m' : Mode) (k : Keep) → Stays m → ((colon : Bool) → next p colon m o ≡ actions.Go m' k)
+pub moves_one : (p : Place) (m : Mode) (o : ℕ) (kept : List ℕ) (m' : Mode) (k : Keep) → Stays m → ((colon : Bool) → next p colon m o ≡ Action.Go m' k)
     → Moves p m kept (o ∷ []) m' (kept_after k kept)
 moves_one p m o kept m' k stays e colon start used r =
     ap (λ a. follow (acts p (at m kept colon start used) o a) (λ t. run p r t)) (e colon)
@@ -53,14 +42,14 @@ moves_to p m n os kept kept' kept'' e f = subst (λ l. Moves p m kept os n l) e 
 
 -- from a blank, where a token may begin
 abbrev pub blank : Bool → ℕ → ℕ → Known
-blank colon start used = at modes.Blank [] colon start used
+blank colon start used = at Mode.Blank [] colon start used
 
 -- from a blank over these octets into an open token, which begins there
 abbrev pub Opens : Place → Bool → List ℕ → Mode → List ℕ → Type 0
 Opens p colon os m kept = (start used : ℕ) (r : List ℕ) → run p (os ++ r) (blank colon start used) ≡ run p r (at m kept colon used (used + length os))
 
 -- one octet opens a token where the table goes on from a blank
-pub opens_one : (p : Place) (colon : Bool) (o : ℕ) (m : Mode) (k : Keep) → in_blank p colon o ≡ actions.Go m k → Opens p colon (o ∷ []) m (kept_after k [])
+pub opens_one : (p : Place) (colon : Bool) (o : ℕ) (m : Mode) (k : Keep) → in_blank p colon o ≡ Action.Go m k → Opens p colon (o ∷ []) m (kept_after k [])
 opens_one p colon o m k e start used r = ap (λ a. follow (acts p (blank colon start used) o a) (λ t. run p r t)) e
 
 -- a token that is open goes on over the octets of a move from there
@@ -73,45 +62,45 @@ opens_then p colon xs ys m n kept kept' f g start used r =
 
 -- the last octet ends the token
 pub gives : (p : Place) (colon : Bool) (o : ℕ) (m : Mode) (kept : List ℕ) (kind : TokenKind) (k : Keep) (start used : ℕ) (r : List ℕ) → Stays m
-    → next p colon m o ≡ actions.Give kind k
+    → next p colon m o ≡ Action.Give kind k
     → run p (o ∷ r) (at m kept colon start used) ≡ Given (record { start = start; end = used + 1; kind = kind; octets = kept_after k kept })
-    (past p kind modes.Blank [] (used + 1) (used + 1))
+    (past p kind Mode.Blank [] (used + 1) (used + 1))
 gives p colon o m kept kind k start used r stays e =
     ap (λ a. follow (acts p (at m kept colon start used) o a) (λ t. run p r t)) e
-    ∙ ap (λ (n : ℕ). Given (record { start = n; end = used + 1; kind = kind; octets = kept_after k kept }) (past p kind modes.Blank [] (used + 1) (used + 1)))
+    ∙ ap (λ (n : ℕ). Given (record { start = n; end = used + 1; kind = kind; octets = kept_after k kept }) (past p kind Mode.Blank [] (used + 1) (used + 1)))
     (stays start used)
 
 -- the octet behind the token ends it
 pub leaves : (p : Place) (colon : Bool) (o : ℕ) (m : Mode) (kept : List ℕ) (kind : TokenKind) (k : Keep) (start used : ℕ) (r : List ℕ) → Stays m
-    → next p colon m o ≡ actions.Before kind k modes.Blank
+    → next p colon m o ≡ Action.Before kind k Mode.Blank
     → run p (o ∷ r) (at m kept colon start used) ≡ Left (record { start = start; end = used; kind = kind; octets = kept_after k kept })
-    (past p kind modes.Blank [] used used)
+    (past p kind Mode.Blank [] used used)
 leaves p colon o m kept kind k start used r stays e =
     let whole : used - 0 ≡ used = omega arith in
     ap (λ a. follow (acts p (at m kept colon start used) o a) (λ t. run p r t)) e
-    ∙ ap (λ (n : ℕ). Left (record { start = n; end = used - 0; kind = kind; octets = kept_after k kept }) (past p kind modes.Blank [] (used - 0) used))
+    ∙ ap (λ (n : ℕ). Left (record { start = n; end = used - 0; kind = kind; octets = kept_after k kept }) (past p kind Mode.Blank [] (used - 0) used))
     (stays start used)
-    ∙ ap (λ (n : ℕ). Left (record { start = start; end = n; kind = kind; octets = kept_after k kept }) (past p kind modes.Blank [] n used)) whole
+    ∙ ap (λ (n : ℕ). Left (record { start = start; end = n; kind = kind; octets = kept_after k kept }) (past p kind Mode.Blank [] n used)) whole
 
 -- over octets of a class, each of which is kept
 pub moves_each : (p : Place) (m : Mode) (class : ℕ → Bool) (os kept : List ℕ) → Stays m
-    → ((o : ℕ) → class o ≡ true → (colon : Bool) → next p colon m o ≡ actions.Go m (keeps.One o)) → Each class os → Moves p m kept os m (kept ++ os)
+    → ((o : ℕ) → class o ≡ true → (colon : Bool) → next p colon m o ≡ Action.Go m (Keep.One o)) → Each class os → Moves p m kept os m (kept ++ os)
 moves_each p m class [] kept stays f h = moves_to p m m [] kept kept (kept ++ []) (sym (append-nil kept)) (moves_none p m kept)
 moves_each p m class (o ∷ os) kept stays f h =
     moves_to p m m (o ∷ os) kept ((kept ++ o ∷ []) ++ os) (kept ++ o ∷ os) (append_assoc kept (o ∷ []) os)
-    (moves_then p m m m (o ∷ []) os kept (kept ++ o ∷ []) ((kept ++ o ∷ []) ++ os) (moves_one p m o kept m (keeps.One o) stays (f o h.0))
+    (moves_then p m m m (o ∷ []) os kept (kept ++ o ∷ []) ((kept ++ o ∷ []) ++ os) (moves_one p m o kept m (Keep.One o) stays (f o h.0))
     (moves_each p m class os (kept ++ o ∷ []) stays f h.1))
 
 -- over octets of a class, none of which is kept
 pub moves_past : (p : Place) (m : Mode) (class : ℕ → Bool) (os kept : List ℕ) → Stays m
-    → ((o : ℕ) → class o ≡ true → (colon : Bool) → next p colon m o ≡ actions.Go m keeps.Nothing) → Each class os → Moves p m kept os m kept
+    → ((o : ℕ) → class o ≡ true → (colon : Bool) → next p colon m o ≡ Action.Go m Keep.Nothing) → Each class os → Moves p m kept os m kept
 moves_past p m class [] kept stays f h = moves_none p m kept
-moves_past p m class (o ∷ os) kept stays f h = moves_then p m m m (o ∷ []) os kept kept kept (moves_one p m o kept m keeps.Nothing stays (f o h.0))
+moves_past p m class (o ∷ os) kept stays f h = moves_then p m m m (o ∷ []) os kept kept kept (moves_one p m o kept m Keep.Nothing stays (f o h.0))
     (moves_past p m class os kept stays f h.1)
 
 -- a token's end shows later: over these octets behind it a blank comes to this mode
 abbrev pub Resumes : List ℕ → Mode → List ℕ → Type 0
-Resumes ahead m kept = (p : Place) (colon : Bool) (end : ℕ) → run p ahead (at modes.Blank [] colon end end) ≡ Next (at m kept colon end (end + length ahead))
+Resumes ahead m kept = (p : Place) (colon : Bool) (end : ℕ) → run p ahead (at Mode.Blank [] colon end end) ≡ Next (at m kept colon end (end + length ahead))
 
 -- a token with these octets that begins at this offset
 abbrev pub lexeme : List ℕ → TokenKind → List ℕ → ℕ → Lexeme
@@ -122,36 +111,36 @@ lexeme w kind kept used = record { start = used; end = used + length w; kind = k
 -- begin a word.
 pub data Takes (p : Place) (colon : Bool) (w r : List ℕ) (kind : TokenKind) (kept : List ℕ) : Type 0 where
   Now : ((start used : ℕ) → run p (w ++ r) (blank colon start used)
-      ≡ Given (lexeme w kind kept used) (past p kind modes.Blank [] (used + length w) (used + length w))) → Takes p colon w r kind kept
+      ≡ Given (lexeme w kind kept used) (past p kind Mode.Blank [] (used + length w) (used + length w))) → Takes p colon w r kind kept
   Later : (ahead : List ℕ) (x : ℕ) (rest : List ℕ) (m : Mode) (k : List ℕ) → r ≡ ahead ++ x ∷ rest → Resumes ahead m k
       → ((start used : ℕ) → run p (w ++ r) (blank colon start used)
       ≡ Left (lexeme w kind kept used) (past p kind m k (used + length w) ((used + length w) + length ahead))) → Takes p colon w r kind kept
   AtEnd : r ≡ [] → ((start used : ℕ) → (s : Known) × (run p (w ++ r) (blank colon start used) ≡ Next s) × (at_end p s ≡ Ok (Some (lexeme w kind kept used))))
       → Takes p colon w r kind kept
-  Open : begins begins_word r ≡ true → kind ≡ kinds.Operator → Resumes r modes.Word r
-      → ((start used : ℕ) → (s : Known) × (s.start ≡ used) × (run p (w ++ r) (blank colon start used) ≡ Next s) × (at_end p s ≡ Err reasons.Incomplete))
+  Open : begins begins_word r ≡ true → kind ≡ TokenKind.Operator → Resumes r Mode.Word r
+      → ((start used : ℕ) → (s : Known) × (s.start ≡ used) × (run p (w ++ r) (blank colon start used) ≡ Next s) × (at_end p s ≡ Err Reason.Incomplete))
       → Takes p colon w r kind kept
 
 -- with no octets ahead the scanner is in a blank
-pub resumes_none : Resumes [] modes.Blank []
-resumes_none p colon end = let none : end ≡ end + length {A = ℕ} [] = omega arith in ap (λ (n : ℕ). Next (at modes.Blank [] colon end n)) none
+pub resumes_none : Resumes [] Mode.Blank []
+resumes_none p colon end = let none : end ≡ end + length {A = ℕ} [] = omega arith in ap (λ (n : ℕ). Next (at Mode.Blank [] colon end n)) none
 
 -- a token that its last octet ends
 pub takes_now : (p : Place) (colon : Bool) (w : List ℕ) (o : ℕ) (r : List ℕ) (kind : TokenKind) (m : Mode) (kept : List ℕ) (k : Keep) → Stays m
-    → Opens p colon w m kept → ((c : Bool) → next p c m o ≡ actions.Give kind k) → Takes p colon (w ++ o ∷ []) r kind (kept_after k kept)
+    → Opens p colon w m kept → ((c : Bool) → next p c m o ≡ Action.Give kind k) → Takes p colon (w ++ o ∷ []) r kind (kept_after k kept)
 takes_now p colon w o r kind m kept k stays f e = Now (λ start used.
     let longer : (used + length w) + 1 ≡ used + length (w ++ o ∷ []) = omega (arith, length-append w (o ∷ [])) in
     ap (λ os. run p os (blank colon start used)) (append_assoc w (o ∷ []) r) ∙ f start used (o ∷ r)
     ∙ gives p colon o m kept kind k used (used + length w) r stays (e colon)
-    ∙ ap (λ (n : ℕ). Given (record { start = used; end = n; kind = kind; octets = kept_after k kept }) (past p kind modes.Blank [] n n)) longer)
+    ∙ ap (λ (n : ℕ). Given (record { start = used; end = n; kind = kind; octets = kept_after k kept }) (past p kind Mode.Blank [] n n)) longer)
 
 -- a token that the octet behind it ends
 pub takes_left : (p : Place) (colon : Bool) (w : List ℕ) (x : ℕ) (r : List ℕ) (kind : TokenKind) (m : Mode) (kept : List ℕ) (k : Keep) → Stays m
-    → Opens p colon w m kept → ((c : Bool) → next p c m x ≡ actions.Before kind k modes.Blank) → Takes p colon w (x ∷ r) kind (kept_after k kept)
-takes_left p colon w x r kind m kept k stays f e = Later [] x r modes.Blank [] refl resumes_none (λ start used.
+    → Opens p colon w m kept → ((c : Bool) → next p c m x ≡ Action.Before kind k Mode.Blank) → Takes p colon w (x ∷ r) kind (kept_after k kept)
+takes_left p colon w x r kind m kept k stays f e = Later [] x r Mode.Blank [] refl resumes_none (λ start used.
     let none : used + length w ≡ (used + length w) + length {A = ℕ} [] = omega arith in
     f start used (x ∷ r) ∙ leaves p colon x m kept kind k used (used + length w) r stays (e colon)
-    ∙ ap (λ (n : ℕ). Left (lexeme w kind (kept_after k kept) used) (past p kind modes.Blank [] (used + length w) n)) none)
+    ∙ ap (λ (n : ℕ). Left (lexeme w kind (kept_after k kept) used) (past p kind Mode.Blank [] (used + length w) n)) none)
 
 -- a token that the end of the input ends
 pub takes_end : (p : Place) (colon : Bool) (w : List ℕ) (kind : TokenKind) (m : Mode) (kept kept' : List ℕ) → Opens p colon w m kept

@@ -4,16 +4,9 @@ use Rattle.std.specs.Prelude.{◌==◌, ◌&&◌, not, codes, None, Ok}
 use Rattle.std.specs.List.{flat_map, AllByRecursion}
 use Rattle.std.proofs.lemmas.Bool.{false≢true, true≢false}
 use Rattle.std.proofs.lemmas.Bool.Decides.{nat_tests}
-use Rattle.ion_tokens.specs.Octets.{is_white, is_line_end}
-use Rattle.ion_tokens.specs.declared.mode.Place.{Place}
-use Rattle.ion_tokens.specs.declared.mode.Mode.{Mode}
-use Rattle.ion_tokens.specs.declared.mode.Mode.TheVariants as modes
-use Rattle.ion_tokens.specs.declared.mode.Keep.TheVariants as keeps
-use Rattle.ion_tokens.specs.declared.mode.Action.TheVariants as actions
-use Rattle.ion_tokens.specs.machine.Table.{next, in_blank, go}
-use Rattle.ion_tokens.specs.machine.Scanning.{Known, Next, acts, follow, run, at_end}
-use Rattle.ion_tokens.specs.Blanks.{BlankPiece, White, LineComment, BlockComment, HasNoClose, HasNoLineEnd, IsBlankPiece, blank_spelling, IsBlank, IsLastBlank}
-use Rattle.ion_tokens.proofs.complete.Moves.{at, Moves, moves_one, moves_then, moves_past, blank, Opens, opens_then}
+use Rattle.ion_tokens.specs.Names.{Action, BlankPiece, BlockComment, HasNoClose, HasNoLineEnd, IsBlank, IsBlankPiece, IsLastBlank, Keep, Known, LineComment, Mode, Next, Place, White, acts, at_end, blank_spelling, follow, go, in_blank, is_line_end, is_white, run}
+use Rattle.ion_tokens.specs.machine.Table.{next}
+use Rattle.ion_tokens.proofs.complete.Moves.{Moves, Opens, at, blank, moves_one, moves_past, moves_then, opens_then}
 use Rattle.ion_tokens.proofs.texts.TextsComplete.{eq_or}
 
 -- over these octets a blank goes on
@@ -33,42 +26,42 @@ passes_then p colon xs ys f g start used =
           ∙ ap (λ (n : ℕ). run p r (blank colon second.0 n)) longer,
     )
 
-passes_opened : (p : Place) (colon : Bool) (os : List ℕ) → Opens p colon os modes.Blank [] → PassesBlank p colon os
+passes_opened : (p : Place) (colon : Bool) (os : List ℕ) → Opens p colon os Mode.Blank [] → PassesBlank p colon os
 passes_opened p colon os f start used = (used, f start used)
 
-white_first : (p : Place) (colon : Bool) (o : ℕ) → is_white o ≡ true → in_blank p colon o ≡ actions.Go modes.Blank keeps.Nothing
+white_first : (p : Place) (colon : Bool) (o : ℕ) → is_white o ≡ true → in_blank p colon o ≡ Action.Go Mode.Blank Keep.Nothing
 white_first p colon o h = rw h
 
 passes_white : (p : Place) (colon : Bool) (o : ℕ) → is_white o ≡ true → PassesBlank p colon (o ∷ [])
 passes_white p colon o h start used = (used, λ r. ap (λ a. follow (acts p (blank colon start used) o a) (λ t. run p r t)) (white_first p colon o h))
 
-opens_line : (p : Place) (colon : Bool) → Opens p colon (codes "//") modes.LineComment []
+opens_line : (p : Place) (colon : Bool) → Opens p colon (codes "//") Mode.LineComment []
 opens_line p colon = λ start used r.
     let two : (used + 1) + 1 ≡ used + 2 = omega arith in
     let one : (used + 1) - 1 ≡ used = omega arith in
-    λ i. run p r (at modes.LineComment [] colon (one i) (two i))
+    λ i. run p r (at Mode.LineComment [] colon (one i) (two i))
 
-opens_block : (p : Place) (colon : Bool) → Opens p colon (codes "/*") modes.BlockComment []
+opens_block : (p : Place) (colon : Bool) → Opens p colon (codes "/*") Mode.BlockComment []
 opens_block p colon = λ start used r.
     let two : (used + 1) + 1 ≡ used + 2 = omega arith in
     let one : (used + 1) - 1 ≡ used = omega arith in
-    λ i. run p r (at modes.BlockComment [] colon (one i) (two i))
+    λ i. run p r (at Mode.BlockComment [] colon (one i) (two i))
 
-line_on : (o : ℕ) → not (is_line_end o) ≡ true → (c : Bool) (p : Place) → next p c modes.LineComment o ≡ actions.Go modes.LineComment keeps.Nothing
+line_on : (o : ℕ) → not (is_line_end o) ≡ true → (c : Bool) (p : Place) → next p c Mode.LineComment o ≡ Action.Go Mode.LineComment Keep.Nothing
 line_on o h c p = by (is_line_end o) h where
-  by : (b : Bool) → not b ≡ true → go (cond b modes.Blank modes.LineComment) ≡ actions.Go modes.LineComment keeps.Nothing
+  by : (b : Bool) → not b ≡ true → go (cond b Mode.Blank Mode.LineComment) ≡ Action.Go Mode.LineComment Keep.Nothing
   by false h = refl
   by true h = absurd (false≢true h)
 
-line_ends : (o : ℕ) → is_line_end o ≡ true → (c : Bool) (p : Place) → next p c modes.LineComment o ≡ actions.Go modes.Blank keeps.Nothing
-line_ends o h c p = ap (λ b. go (cond b modes.Blank modes.LineComment)) h
+line_ends : (o : ℕ) → is_line_end o ≡ true → (c : Bool) (p : Place) → next p c Mode.LineComment o ≡ Action.Go Mode.Blank Keep.Nothing
+line_ends o h c p = ap (λ b. go (cond b Mode.Blank Mode.LineComment)) h
 
 each_not : (os : List ℕ) → HasNoLineEnd os → AllByRecursion (λ o. not (is_line_end o) ≡ true) os
 each_not [] h = tt
 each_not (o ∷ os) h = (ap not h.0, each_not os h.1)
 
-line_moves : (p : Place) (os : List ℕ) → HasNoLineEnd os → Moves p modes.LineComment [] os modes.LineComment []
-line_moves p os h = moves_past p modes.LineComment (λ o. not (is_line_end o)) os [] (λ s u. refl) (λ o g c. line_on o g c p) (each_not os h)
+line_moves : (p : Place) (os : List ℕ) → HasNoLineEnd os → Moves p Mode.LineComment [] os Mode.LineComment []
+line_moves p os h = moves_past p Mode.LineComment (λ o. not (is_line_end o)) os [] (λ s u. refl) (λ o g c. line_on o g c p) (each_not os h)
 
 no_close_behind : (o : ℕ) (os : List ℕ) → HasNoClose (o ∷ os) → HasNoClose os
 no_close_behind o [] h = tt
@@ -76,28 +69,28 @@ no_close_behind o (p ∷ os) h = h.1
 
 -- in a block comment, behind a star or not
 abbrev block_mode : Bool → Mode
-block_mode true = modes.BlockCommentStar
-block_mode false = modes.BlockComment
+block_mode true = Mode.BlockCommentStar
+block_mode false = Mode.BlockComment
 
 abbrev GoesOn : Bool → List ℕ → Type 0
 GoesOn true os = HasNoClose (42 ∷ os)
 GoesOn false os = HasNoClose os
 
-block_one : (p : Place) (star star' : Bool) (o : ℕ) → ((c : Bool) → next p c (block_mode star) o ≡ actions.Go (block_mode star') keeps.Nothing)
+block_one : (p : Place) (star star' : Bool) (o : ℕ) → ((c : Bool) → next p c (block_mode star) o ≡ Action.Go (block_mode star') Keep.Nothing)
     → Moves p (block_mode star) [] (o ∷ []) (block_mode star') []
-block_one p false star' o f = moves_one p modes.BlockComment o [] (block_mode star') keeps.Nothing (λ s u. refl) f
-block_one p true star' o f = moves_one p modes.BlockCommentStar o [] (block_mode star') keeps.Nothing (λ s u. refl) f
+block_one p false star' o f = moves_one p Mode.BlockComment o [] (block_mode star') Keep.Nothing (λ s u. refl) f
+block_one p true star' o f = moves_one p Mode.BlockCommentStar o [] (block_mode star') Keep.Nothing (λ s u. refl) f
 
 not_same : (a b : ℕ) → a ≢ b → (a == b) ≡ false
 not_same a b n = grind (arith, nat_tests)
 
-block_star : (p : Place) (star : Bool) (c : Bool) → next p c (block_mode star) 42 ≡ actions.Go modes.BlockCommentStar keeps.Nothing
+block_star : (p : Place) (star : Bool) (c : Bool) → next p c (block_mode star) 42 ≡ Action.Go Mode.BlockCommentStar Keep.Nothing
 block_star p false c = refl
 block_star p true c = refl
 
 block_other : (p : Place) (star : Bool) (o : ℕ) (c : Bool) → o ≢ 42 → (star ≡ true → o ≢ 47) → next p c (block_mode star) o
-    ≡ actions.Go modes.BlockComment keeps.Nothing
-block_other p false o c n h = ap (λ b. go (cond b modes.BlockCommentStar modes.BlockComment)) (not_same o 42 n)
+    ≡ Action.Go Mode.BlockComment Keep.Nothing
+block_other p false o c n h = ap (λ b. go (cond b Mode.BlockCommentStar Mode.BlockComment)) (not_same o 42 n)
 block_other p true o c n h = rw (not_same o 42 n, not_same o 47 (h refl))
 
 no_slash : (star : Bool) (o : ℕ) (os : List ℕ) → GoesOn star (o ∷ os) → star ≡ true → o ≢ 47
@@ -112,32 +105,32 @@ goes_other : (star : Bool) (o : ℕ) (os : List ℕ) → GoesOn star (o ∷ os) 
 goes_other true o os h = no_close_behind o os h.1
 goes_other false o os h = no_close_behind o os h
 
-block_moves : (p : Place) (os : List ℕ) (star : Bool) → GoesOn star os → Moves p (block_mode star) [] (os ++ codes "*/") modes.Blank []
-block_moves p [] star h = moves_then p (block_mode star) modes.BlockCommentStar modes.Blank (42 ∷ []) (47 ∷ []) [] [] []
+block_moves : (p : Place) (os : List ℕ) (star : Bool) → GoesOn star os → Moves p (block_mode star) [] (os ++ codes "*/") Mode.Blank []
+block_moves p [] star h = moves_then p (block_mode star) Mode.BlockCommentStar Mode.Blank (42 ∷ []) (47 ∷ []) [] [] []
     (block_one p star true 42 (λ c. block_star p star c))
-    (moves_one p modes.BlockCommentStar 47 [] modes.Blank keeps.Nothing (λ s u. refl) (λ c. refl))
+    (moves_one p Mode.BlockCommentStar 47 [] Mode.Blank Keep.Nothing (λ s u. refl) (λ c. refl))
 block_moves p (o ∷ os) star h = ⊎_elim (λ i. starred i (block_moves p os true))
-    (λ n. moves_then p (block_mode star) modes.BlockComment modes.Blank (o ∷ []) (os ++ codes "*/") [] [] []
+    (λ n. moves_then p (block_mode star) Mode.BlockComment Mode.Blank (o ∷ []) (os ++ codes "*/") [] [] []
     (block_one p star false o (λ c. block_other p star o c n (no_slash star o os h)))
     (block_moves p os false (goes_other star o os h))) (eq_or o 42)
   where
-    starred : o ≡ 42 → (HasNoClose (42 ∷ os) → Moves p modes.BlockCommentStar [] (os ++ codes "*/") modes.Blank [])
-        → Moves p (block_mode star) [] (o ∷ os ++ codes "*/") modes.Blank []
-    starred i f = subst (λ (x : ℕ). Moves p (block_mode star) [] (x ∷ os ++ codes "*/") modes.Blank []) (sym i)
-        (moves_then p (block_mode star) modes.BlockCommentStar modes.Blank (42 ∷ []) (os ++ codes "*/") [] [] []
+    starred : o ≡ 42 → (HasNoClose (42 ∷ os) → Moves p Mode.BlockCommentStar [] (os ++ codes "*/") Mode.Blank [])
+        → Moves p (block_mode star) [] (o ∷ os ++ codes "*/") Mode.Blank []
+    starred i f = subst (λ (x : ℕ). Moves p (block_mode star) [] (x ∷ os ++ codes "*/") Mode.Blank []) (sym i)
+        (moves_then p (block_mode star) Mode.BlockCommentStar Mode.Blank (42 ∷ []) (os ++ codes "*/") [] [] []
         (block_one p star true 42 (λ c. block_star p star c))
         (f (goes_star star os (subst (λ (x : ℕ). GoesOn star (x ∷ os)) i h))))
 
 -- a line comment leads from its first slash back to a blank
 pub line_opens : (p : Place) (colon : Bool) (os : List ℕ) (last : ℕ) → HasNoLineEnd os → is_line_end last ≡ true
-    → Opens p colon (codes "//" ++ os ++ last ∷ []) modes.Blank []
-line_opens p colon os last h e = opens_then p colon (codes "//" ++ os) (last ∷ []) modes.LineComment modes.Blank [] []
-    (opens_then p colon (codes "//") os modes.LineComment modes.LineComment [] [] (opens_line p colon) (line_moves p os h))
-    (moves_one p modes.LineComment last [] modes.Blank keeps.Nothing (λ s u. refl) (λ c. line_ends last e c p))
+    → Opens p colon (codes "//" ++ os ++ last ∷ []) Mode.Blank []
+line_opens p colon os last h e = opens_then p colon (codes "//" ++ os) (last ∷ []) Mode.LineComment Mode.Blank [] []
+    (opens_then p colon (codes "//") os Mode.LineComment Mode.LineComment [] [] (opens_line p colon) (line_moves p os h))
+    (moves_one p Mode.LineComment last [] Mode.Blank Keep.Nothing (λ s u. refl) (λ c. line_ends last e c p))
 
 -- a block comment, too
-pub block_opens : (p : Place) (colon : Bool) (os : List ℕ) → HasNoClose os → Opens p colon (codes "/*" ++ os ++ codes "*/") modes.Blank []
-block_opens p colon os h = opens_then p colon (codes "/*") (os ++ codes "*/") modes.BlockComment modes.Blank [] [] (opens_block p colon)
+pub block_opens : (p : Place) (colon : Bool) (os : List ℕ) → HasNoClose os → Opens p colon (codes "/*" ++ os ++ codes "*/") Mode.Blank []
+block_opens p colon os h = opens_then p colon (codes "/*") (os ++ codes "*/") Mode.BlockComment Mode.Blank [] [] (opens_block p colon)
     (block_moves p os false h)
 
 passes_piece : (p : Place) (colon : Bool) (b : BlankPiece) → IsBlankPiece b → PassesBlank p colon (blank_spelling b)
@@ -162,10 +155,10 @@ last_blank p colon w start used (inl b) =
     (blank colon f.0 (used + length w), ap (λ l. run p l (blank colon start used)) (sym (append-nil w)) ∙ f.1 [], refl)
 last_blank p colon w start used (inr c) =
     let f = passes_blank p colon c.front c.blank start used in
-    let line = opens_then p colon (codes "//") c.octets modes.LineComment modes.LineComment [] [] (opens_line p colon) (line_moves p c.octets c.one_line) in
+    let line = opens_then p colon (codes "//") c.octets Mode.LineComment Mode.LineComment [] [] (opens_line p colon) (line_moves p c.octets c.one_line) in
     let rest : List ℕ = codes "//" ++ c.octets in
     let now : ℕ = used + length c.front in (
-      at modes.LineComment [] colon now (now + length rest),
+      at Mode.LineComment [] colon now (now + length rest),
       ap (λ l. run p l (blank colon start used)) (c.cut ∙ append_assoc c.front (codes "//") c.octets) ∙ f.1 rest
           ∙ ap (λ l. run p l (blank colon f.0 now)) (sym (append-nil rest)) ∙ line f.0 now [],
       refl,

@@ -3,163 +3,146 @@ use Rattle.std.proofs.Common.{◌≡◌, ◌≢◌, ℕ, ◌+◌, Bool, true, fa
 use Rattle.std.specs.Prelude.{◌||◌, not, codes, Some}
 use Rattle.std.specs.List.{flat_map, filter, AllByRecursion}
 use Rattle.std.proofs.lemmas.Bool.Decides.{nat_tests}
-use Rattle.ion_tokens.specs.Octets.{is_white, is_base64}
-use Rattle.ion_tokens.specs.declared.mode.Place.{Place}
-use Rattle.ion_tokens.specs.declared.mode.Within.{Within}
-use Rattle.ion_tokens.specs.declared.mode.Mode.{Mode}
-use Rattle.ion_tokens.specs.declared.mode.Lob.{Lob}
-use Rattle.ion_tokens.specs.declared.mode.Style.TheVariants as styles
-use Rattle.ion_tokens.specs.declared.mode.Within.TheVariants as within
-use Rattle.ion_tokens.specs.declared.mode.Mode.TheVariants as modes
-use Rattle.ion_tokens.specs.declared.mode.Lob.TheVariants as lobs
-use Rattle.ion_tokens.specs.declared.mode.TokenKind.TheVariants as kinds
-use Rattle.ion_tokens.specs.declared.mode.Keep.TheVariants as keeps
-use Rattle.ion_tokens.specs.declared.mode.Action.TheVariants as actions
-use Rattle.ion_tokens.specs.machine.Table.{in_text, in_lob, lob_start, after_short, after_long, is_name}
-use Rattle.ion_tokens.specs.Blobs.{IsBase64, blob_of}
-use Rattle.ion_tokens.specs.laws.Blobs.{octet_at}
 use Rattle.base64.specs.Engines.{standard}
 use Rattle.base64.specs.GeneralPurpose.{decode_of, decoded_of}
 use Rattle.std.specs.Result.{result_ok}
 use Rattle.base64.proofs.EngineFacts.{decode_of-encode_of}
-use Rattle.ion_tokens.specs.machine.Scanning.{follow, run, kept_after, blob_ends}
-use Rattle.ion_tokens.specs.machine.Contents.{BeginsSegment}
-use Rattle.ion_tokens.specs.Quoted.{IsQuoted}
-use Rattle.ion_tokens.specs.Lexemes.{Each, IsBlobContent, Segment, IsSegment, segment_spelling, IsClobContent, ShortText, LongTexts}
-use Rattle.ion_tokens.proofs.complete.Moves.{at, Moves, moves_none, moves_one, moves_then, moves_to, moves_past, Opens, opens_then, Takes, takes_now}
+use Rattle.ion_tokens.specs.Names.{Action, BeginsSegment, Each, IsBase64, IsBlobContent, IsClobContent, IsQuoted, IsSegment, Keep, Lob, LongTexts, Mode, Place, Segment, ShortText, Style, TokenKind, Within, after_long, after_short, blob_ends, blob_of, follow, in_lob, in_text, is_base64, is_name, is_white, kept_after, lob_start, run, segment_spelling}
+use Rattle.ion_tokens.specs.laws.Blobs.{octet_at}
+use Rattle.ion_tokens.proofs.complete.Moves.{Moves, Opens, Takes, at, moves_none, moves_one, moves_past, moves_then, moves_to, opens_then, takes_now}
+use Rattle.ion_tokens.proofs.complete.TakesTexts.{drops_two, long_quotes}
 use Rattle.ion_tokens.proofs.complete.TakesWords.{opens_brace}
-use Rattle.ion_tokens.proofs.complete.TakesTexts.{long_quotes, drops_two}
 use Rattle.ion_tokens.proofs.texts.TextsComplete.{Ended, read_content}
 
 abbrev lob : Lob → Mode
-lob l = modes.Lob l
+lob l = Mode.Lob l
 
-pub opens_lob : (p : Place) (colon : Bool) → is_name p ≡ false → Opens p colon (123 ∷ 123 ∷ []) (lob lobs.Start) []
-opens_lob p colon n = opens_then p colon (123 ∷ []) (123 ∷ []) modes.Brace (lob lobs.Start) [] [] (opens_brace p colon n)
-    (moves_one p modes.Brace 123 [] (lob lobs.Start) keeps.Nothing (λ s u. refl) (λ c. refl))
+pub opens_lob : (p : Place) (colon : Bool) → is_name p ≡ false → Opens p colon (123 ∷ 123 ∷ []) (lob Lob.Start) []
+opens_lob p colon n = opens_then p colon (123 ∷ []) (123 ∷ []) Mode.Brace (lob Lob.Start) [] [] (opens_brace p colon n)
+    (moves_one p Mode.Brace 123 [] (lob Lob.Start) Keep.Nothing (λ s u. refl) (λ c. refl))
 
-start_white : (o : ℕ) → is_white o ≡ true → lob_start o ≡ actions.Go (lob lobs.Start) keeps.Nothing
+start_white : (o : ℕ) → is_white o ≡ true → lob_start o ≡ Action.Go (lob Lob.Start) Keep.Nothing
 start_white o h = rw h
 
 -- white space behind the braces is passed
-pub white_moves : (p : Place) (before : List ℕ) → Each is_white before → Moves p (lob lobs.Start) [] before (lob lobs.Start) []
-white_moves p before b = moves_past p (lob lobs.Start) is_white before [] (λ s u. refl) (λ o h c. start_white o h) b
+pub white_moves : (p : Place) (before : List ℕ) → Each is_white before → Moves p (lob Lob.Start) [] before (lob Lob.Start) []
+white_moves p before b = moves_past p (lob Lob.Start) is_white before [] (λ s u. refl) (λ o h c. start_white o h) b
 
-short_white : (o : ℕ) → is_white o ≡ true → after_short o ≡ actions.Go (lob lobs.AfterShort) keeps.Nothing
+short_white : (o : ℕ) → is_white o ≡ true → after_short o ≡ Action.Go (lob Lob.AfterShort) Keep.Nothing
 short_white o h = rw h
 
-long_white : (o : ℕ) → is_white o ≡ true → after_long o ≡ actions.Go (lob lobs.AfterLong) keeps.Nothing
+long_white : (o : ℕ) → is_white o ≡ true → after_long o ≡ Action.Go (lob Lob.AfterLong) Keep.Nothing
 long_white o h = rw h
 
-short_closes : (v : Within) → Ended v → in_text styles.ShortClob v 34 ≡ actions.Go (lob lobs.AfterShort) keeps.Nothing
-short_closes within.Plain h = refl
-short_closes within.AfterReturn h = refl
-short_closes within.OneQuote h = absurd h
-short_closes within.TwoQuotes h = absurd h
-short_closes (within.Utf8 _ _ _) h = absurd h
-short_closes within.Escape h = absurd h
-short_closes (within.Hexadecimal _ _ _) h = absurd h
-short_closes (within.HighSurrogate _) h = absurd h
-short_closes (within.HighSurrogateEscape _) h = absurd h
+short_closes : (v : Within) → Ended v → in_text Style.ShortClob v 34 ≡ Action.Go (lob Lob.AfterShort) Keep.Nothing
+short_closes Within.Plain h = refl
+short_closes Within.AfterReturn h = refl
+short_closes Within.OneQuote h = absurd h
+short_closes Within.TwoQuotes h = absurd h
+short_closes (Within.Utf8 _ _ _) h = absurd h
+short_closes Within.Escape h = absurd h
+short_closes (Within.Hexadecimal _ _ _) h = absurd h
+short_closes (Within.HighSurrogate _) h = absurd h
+short_closes (Within.HighSurrogateEscape _) h = absurd h
 
 -- a short clob's content up to the first brace of its close, where its text leads from between two characters to between two
 pub short_leads : (p : Place) (before text after octets : List ℕ) (v : Within) → Each is_white before → Ended v
-    → Moves p (modes.Text styles.ShortClob within.Plain) [] text (modes.Text styles.ShortClob v) octets → Each is_white after
-    → Moves p (lob lobs.Start) [] ((before ++ (34 ∷ text) ++ 34 ∷ after) ++ 125 ∷ []) (lob lobs.ClobClose) octets
+    → Moves p (Mode.Text Style.ShortClob Within.Plain) [] text (Mode.Text Style.ShortClob v) octets → Each is_white after
+    → Moves p (lob Lob.Start) [] ((before ++ (34 ∷ text) ++ 34 ∷ after) ++ 125 ∷ []) (lob Lob.ClobClose) octets
 short_leads p before text after octets v b ended leads a =
-    moves_then p (lob lobs.Start) (lob lobs.AfterShort) (lob lobs.ClobClose) ((before ++ (34 ∷ text)) ++ 34 ∷ after) (125 ∷ []) [] octets octets
-    (moves_then p (lob lobs.Start) (modes.Text styles.ShortClob v) (lob lobs.AfterShort) (before ++ (34 ∷ text)) (34 ∷ after) [] octets octets
-    (moves_then p (lob lobs.Start) (lob lobs.Start) (modes.Text styles.ShortClob v) before (34 ∷ text) [] [] octets
+    moves_then p (lob Lob.Start) (lob Lob.AfterShort) (lob Lob.ClobClose) ((before ++ (34 ∷ text)) ++ 34 ∷ after) (125 ∷ []) [] octets octets
+    (moves_then p (lob Lob.Start) (Mode.Text Style.ShortClob v) (lob Lob.AfterShort) (before ++ (34 ∷ text)) (34 ∷ after) [] octets octets
+    (moves_then p (lob Lob.Start) (lob Lob.Start) (Mode.Text Style.ShortClob v) before (34 ∷ text) [] [] octets
     (white_moves p before b)
-    (moves_then p (lob lobs.Start) (modes.Text styles.ShortClob within.Plain) (modes.Text styles.ShortClob v) (34 ∷ []) text [] [] octets
-    (moves_one p (lob lobs.Start) 34 [] (modes.Text styles.ShortClob within.Plain) keeps.Nothing (λ s u. refl) (λ c. refl)) leads))
-    (moves_then p (modes.Text styles.ShortClob v) (lob lobs.AfterShort) (lob lobs.AfterShort) (34 ∷ []) after octets octets octets
-    (moves_one p (modes.Text styles.ShortClob v) 34 octets (lob lobs.AfterShort) keeps.Nothing (λ s u. refl) (λ c. short_closes v ended))
-    (moves_past p (lob lobs.AfterShort) is_white after octets (λ s u. refl) (λ o h c. short_white o h) a)))
-    (moves_one p (lob lobs.AfterShort) 125 octets (lob lobs.ClobClose) keeps.Nothing (λ s u. refl) (λ c. refl))
+    (moves_then p (lob Lob.Start) (Mode.Text Style.ShortClob Within.Plain) (Mode.Text Style.ShortClob v) (34 ∷ []) text [] [] octets
+    (moves_one p (lob Lob.Start) 34 [] (Mode.Text Style.ShortClob Within.Plain) Keep.Nothing (λ s u. refl) (λ c. refl)) leads))
+    (moves_then p (Mode.Text Style.ShortClob v) (lob Lob.AfterShort) (lob Lob.AfterShort) (34 ∷ []) after octets octets octets
+    (moves_one p (Mode.Text Style.ShortClob v) 34 octets (lob Lob.AfterShort) Keep.Nothing (λ s u. refl) (λ c. short_closes v ended))
+    (moves_past p (lob Lob.AfterShort) is_white after octets (λ s u. refl) (λ o h c. short_white o h) a)))
+    (moves_one p (lob Lob.AfterShort) 125 octets (lob Lob.ClobClose) Keep.Nothing (λ s u. refl) (λ c. refl))
 
-short_moves : (p : Place) (before text after octets : List ℕ) → Each is_white before → IsQuoted styles.ShortClob text octets → Each is_white after
-    → Moves p (lob lobs.Start) [] ((before ++ (34 ∷ text) ++ 34 ∷ after) ++ 125 ∷ []) (lob lobs.ClobClose) octets
+short_moves : (p : Place) (before text after octets : List ℕ) → Each is_white before → IsQuoted Style.ShortClob text octets → Each is_white after
+    → Moves p (lob Lob.Start) [] ((before ++ (34 ∷ text) ++ 34 ∷ after) ++ 125 ∷ []) (lob Lob.ClobClose) octets
 short_moves p before text after octets b q a =
-    let c = read_content p styles.ShortClob text octets [] q in
+    let c = read_content p Style.ShortClob text octets [] q in
     short_leads p before text after octets c.0 b c.1 c.2 a
 
 -- the quotes that open a segment
-three_quotes : (p : Place) (l : Lob) (kept : List ℕ) → BeginsSegment l → Moves p (lob l) kept (39 ∷ 39 ∷ 39 ∷ []) (modes.Text styles.LongClob within.Plain) kept
-three_quotes p lobs.Start kept b = λ colon start used r. let three : ((used + 1) + 1) + 1 ≡ used + 3 = omega arith in
-    ap (λ (n : ℕ). run p r (at (modes.Text styles.LongClob within.Plain) kept colon start n)) three
-three_quotes p lobs.AfterLong kept b = λ colon start used r. let three : ((used + 1) + 1) + 1 ≡ used + 3 = omega arith in
-    ap (λ (n : ℕ). run p r (at (modes.Text styles.LongClob within.Plain) kept colon start n)) three
-three_quotes p lobs.StartQuote kept b = absurd b
-three_quotes p lobs.StartQuotes kept b = absurd b
-three_quotes p lobs.Base64 kept b = absurd b
-three_quotes p lobs.BlobClose kept b = absurd b
-three_quotes p lobs.AfterShort kept b = absurd b
-three_quotes p lobs.AfterQuote kept b = absurd b
-three_quotes p lobs.AfterQuotes kept b = absurd b
-three_quotes p lobs.ClobClose kept b = absurd b
+three_quotes : (p : Place) (l : Lob) (kept : List ℕ) → BeginsSegment l → Moves p (lob l) kept (39 ∷ 39 ∷ 39 ∷ []) (Mode.Text Style.LongClob Within.Plain) kept
+three_quotes p Lob.Start kept b = λ colon start used r. let three : ((used + 1) + 1) + 1 ≡ used + 3 = omega arith in
+    ap (λ (n : ℕ). run p r (at (Mode.Text Style.LongClob Within.Plain) kept colon start n)) three
+three_quotes p Lob.AfterLong kept b = λ colon start used r. let three : ((used + 1) + 1) + 1 ≡ used + 3 = omega arith in
+    ap (λ (n : ℕ). run p r (at (Mode.Text Style.LongClob Within.Plain) kept colon start n)) three
+three_quotes p Lob.StartQuote kept b = absurd b
+three_quotes p Lob.StartQuotes kept b = absurd b
+three_quotes p Lob.Base64 kept b = absurd b
+three_quotes p Lob.BlobClose kept b = absurd b
+three_quotes p Lob.AfterShort kept b = absurd b
+three_quotes p Lob.AfterQuote kept b = absurd b
+three_quotes p Lob.AfterQuotes kept b = absurd b
+three_quotes p Lob.ClobClose kept b = absurd b
 
 segment_cut : (text white : List ℕ) → (39 ∷ 39 ∷ 39 ∷ []) ++ (((text ++ 39 ∷ 39 ∷ []) ++ 39 ∷ []) ++ white) ≡ codes "'''" ++ text ++ codes "'''" ++ white
 segment_cut text white = ap (λ l. 39 ∷ 39 ∷ 39 ∷ (l ++ white)) (append_assoc text (39 ∷ 39 ∷ []) (39 ∷ []))
 
 -- a segment of a long clob and white space behind it, where its text leads from between two characters to where it may end
 pub segment_leads : (p : Place) (l : Lob) (v : Within) (text white kept kept' : List ℕ) → BeginsSegment l → Ended v
-    → Moves p (modes.Text styles.LongClob within.Plain) kept text (modes.Text styles.LongClob v) kept' → Each is_white white
-    → Moves p (lob l) kept (codes "'''" ++ text ++ codes "'''" ++ white) (lob lobs.AfterLong) kept'
+    → Moves p (Mode.Text Style.LongClob Within.Plain) kept text (Mode.Text Style.LongClob v) kept' → Each is_white white
+    → Moves p (lob l) kept (codes "'''" ++ text ++ codes "'''" ++ white) (lob Lob.AfterLong) kept'
 segment_leads p l v text white kept kept' b ended leads w =
     let open_end : List ℕ = (kept' ++ 39 ∷ []) ++ 39 ∷ [] in
-    subst (λ os. Moves p (lob l) kept os (lob lobs.AfterLong) kept') (segment_cut text white)
-    (moves_then p (lob l) (modes.Text styles.LongClob within.Plain) (lob lobs.AfterLong) (39 ∷ 39 ∷ 39 ∷ [])
+    subst (λ os. Moves p (lob l) kept os (lob Lob.AfterLong) kept') (segment_cut text white)
+    (moves_then p (lob l) (Mode.Text Style.LongClob Within.Plain) (lob Lob.AfterLong) (39 ∷ 39 ∷ 39 ∷ [])
     (((text ++ 39 ∷ 39 ∷ []) ++ 39 ∷ []) ++ white) kept kept kept'
     (three_quotes p l kept b)
-    (moves_then p (modes.Text styles.LongClob within.Plain) (lob lobs.AfterLong) (lob lobs.AfterLong) ((text ++ 39 ∷ 39 ∷ []) ++ 39 ∷ []) white kept kept'
+    (moves_then p (Mode.Text Style.LongClob Within.Plain) (lob Lob.AfterLong) (lob Lob.AfterLong) ((text ++ 39 ∷ 39 ∷ []) ++ 39 ∷ []) white kept kept'
     kept'
-    (moves_then p (modes.Text styles.LongClob within.Plain) (modes.Text styles.LongClob within.TwoQuotes) (lob lobs.AfterLong) (text ++ 39 ∷ 39 ∷ [])
+    (moves_then p (Mode.Text Style.LongClob Within.Plain) (Mode.Text Style.LongClob Within.TwoQuotes) (lob Lob.AfterLong) (text ++ 39 ∷ 39 ∷ [])
     (39 ∷ []) kept open_end kept'
-    (long_quotes p styles.LongClob v text kept kept' refl ended leads)
-    (moves_to p (modes.Text styles.LongClob within.TwoQuotes) (lob lobs.AfterLong) (39 ∷ []) open_end (kept_after keeps.DropQuotes open_end) kept'
+    (long_quotes p Style.LongClob v text kept kept' refl ended leads)
+    (moves_to p (Mode.Text Style.LongClob Within.TwoQuotes) (lob Lob.AfterLong) (39 ∷ []) open_end (kept_after Keep.DropQuotes open_end) kept'
     (drops_two kept' 39 39)
-    (moves_one p (modes.Text styles.LongClob within.TwoQuotes) 39 open_end (lob lobs.AfterLong) keeps.DropQuotes (λ s u. refl) (λ c. refl))))
-    (moves_past p (lob lobs.AfterLong) is_white white kept' (λ s u. refl) (λ o h c. long_white o h) w)))
+    (moves_one p (Mode.Text Style.LongClob Within.TwoQuotes) 39 open_end (lob Lob.AfterLong) Keep.DropQuotes (λ s u. refl) (λ c. refl))))
+    (moves_past p (lob Lob.AfterLong) is_white white kept' (λ s u. refl) (λ o h c. long_white o h) w)))
 
 segment_moves : (p : Place) (l : Lob) (kept : List ℕ) (g : Segment) → BeginsSegment l → IsSegment g
-    → Moves p (lob l) kept (segment_spelling g) (lob lobs.AfterLong) (kept ++ g.octets)
+    → Moves p (lob l) kept (segment_spelling g) (lob Lob.AfterLong) (kept ++ g.octets)
 segment_moves p l kept g b (q, w) =
-    let c = read_content p styles.LongClob g.content g.octets kept q in
+    let c = read_content p Style.LongClob g.content g.octets kept q in
     segment_leads p l c.0 g.content g.white kept (kept ++ g.octets) b c.1 c.2 w
 
 segments_move : (p : Place) (l : Lob) (kept : List ℕ) (g : Segment) (gs : List Segment) → BeginsSegment l → IsSegment g → AllByRecursion IsSegment gs
-    → Moves p (lob l) kept (flat_map segment_spelling (g ∷ gs)) (lob lobs.AfterLong) (kept ++ flat_map (λ (s : Segment). s.octets) (g ∷ gs))
+    → Moves p (lob l) kept (flat_map segment_spelling (g ∷ gs)) (lob Lob.AfterLong) (kept ++ flat_map (λ (s : Segment). s.octets) (g ∷ gs))
 segments_move p l kept g [] b h hs =
-    subst (λ os. Moves p (lob l) kept os (lob lobs.AfterLong) (kept ++ (g.octets ++ []))) (sym (append-nil (segment_spelling g)))
-    (moves_to p (lob l) (lob lobs.AfterLong) (segment_spelling g) kept (kept ++ g.octets) (kept ++ (g.octets ++ []))
+    subst (λ os. Moves p (lob l) kept os (lob Lob.AfterLong) (kept ++ (g.octets ++ []))) (sym (append-nil (segment_spelling g)))
+    (moves_to p (lob l) (lob Lob.AfterLong) (segment_spelling g) kept (kept ++ g.octets) (kept ++ (g.octets ++ []))
     (ap (λ x. kept ++ x) (sym (append-nil g.octets))) (segment_moves p l kept g b h))
 segments_move p l kept g (g' ∷ gs) b h hs =
     let octets : Segment → List ℕ = λ (s : Segment). s.octets in
-    moves_to p (lob l) (lob lobs.AfterLong) (flat_map segment_spelling (g ∷ g' ∷ gs)) kept ((kept ++ g.octets) ++ flat_map octets (g' ∷ gs))
+    moves_to p (lob l) (lob Lob.AfterLong) (flat_map segment_spelling (g ∷ g' ∷ gs)) kept ((kept ++ g.octets) ++ flat_map octets (g' ∷ gs))
     (kept ++ (g.octets ++ flat_map octets (g' ∷ gs))) (append_assoc kept g.octets (flat_map octets (g' ∷ gs)))
-    (moves_then p (lob l) (lob lobs.AfterLong) (lob lobs.AfterLong) (segment_spelling g) (flat_map segment_spelling (g' ∷ gs)) kept (kept ++ g.octets)
+    (moves_then p (lob l) (lob Lob.AfterLong) (lob Lob.AfterLong) (segment_spelling g) (flat_map segment_spelling (g' ∷ gs)) kept (kept ++ g.octets)
     ((kept ++ g.octets) ++ flat_map octets (g' ∷ gs))
-    (segment_moves p l kept g b h) (segments_move p lobs.AfterLong (kept ++ g.octets) g' gs tt hs.0 hs.1))
+    (segment_moves p l kept g b h) (segments_move p Lob.AfterLong (kept ++ g.octets) g' gs tt hs.0 hs.1))
 
 long_moves : (p : Place) (before : List ℕ) (gs : List Segment) → Each is_white before → gs ≢ [] → AllByRecursion IsSegment gs
-    → Moves p (lob lobs.Start) [] ((before ++ flat_map segment_spelling gs) ++ 125 ∷ []) (lob lobs.ClobClose) (flat_map (λ (s : Segment). s.octets) gs)
+    → Moves p (lob Lob.Start) [] ((before ++ flat_map segment_spelling gs) ++ 125 ∷ []) (lob Lob.ClobClose) (flat_map (λ (s : Segment). s.octets) gs)
 long_moves p before [] b some h = absurd (some refl)
 long_moves p before (g ∷ gs) b some h =
     let octets : List ℕ = flat_map (λ (s : Segment). s.octets) (g ∷ gs) in
-    moves_then p (lob lobs.Start) (lob lobs.AfterLong) (lob lobs.ClobClose) (before ++ flat_map segment_spelling (g ∷ gs)) (125 ∷ []) [] octets octets
-    (moves_then p (lob lobs.Start) (lob lobs.Start) (lob lobs.AfterLong) before (flat_map segment_spelling (g ∷ gs)) [] [] octets
+    moves_then p (lob Lob.Start) (lob Lob.AfterLong) (lob Lob.ClobClose) (before ++ flat_map segment_spelling (g ∷ gs)) (125 ∷ []) [] octets octets
+    (moves_then p (lob Lob.Start) (lob Lob.Start) (lob Lob.AfterLong) before (flat_map segment_spelling (g ∷ gs)) [] [] octets
     (white_moves p before b)
-    (segments_move p lobs.Start [] g gs tt h.0 h.1))
-    (moves_one p (lob lobs.AfterLong) 125 octets (lob lobs.ClobClose) keeps.Nothing (λ s u. refl) (λ c. refl))
+    (segments_move p Lob.Start [] g gs tt h.0 h.1))
+    (moves_one p (lob Lob.AfterLong) 125 octets (lob Lob.ClobClose) Keep.Nothing (λ s u. refl) (λ c. refl))
 
 clob_moves : (p : Place) (content octets : List ℕ) → IsClobContent content octets
-    → Moves p (lob lobs.Start) [] (content ++ 125 ∷ []) (lob lobs.ClobClose) octets
+    → Moves p (lob Lob.Start) [] (content ++ 125 ∷ []) (lob Lob.ClobClose) octets
 clob_moves p content octets (ShortText before text after b q a e) =
-    subst (λ l. Moves p (lob lobs.Start) [] (l ++ 125 ∷ []) (lob lobs.ClobClose) octets) (sym e) (short_moves p before text after octets b q a)
+    subst (λ l. Moves p (lob Lob.Start) [] (l ++ 125 ∷ []) (lob Lob.ClobClose) octets) (sym e) (short_moves p before text after octets b q a)
 clob_moves p content octets (LongTexts before gs b some h e m) =
-    subst (λ l. Moves p (lob lobs.Start) [] (l ++ 125 ∷ []) (lob lobs.ClobClose) octets) (sym e)
-    (subst (λ x. Moves p (lob lobs.Start) [] ((before ++ flat_map segment_spelling gs) ++ 125 ∷ []) (lob lobs.ClobClose) x) (sym m)
+    subst (λ l. Moves p (lob Lob.Start) [] (l ++ 125 ∷ []) (lob Lob.ClobClose) octets) (sym e)
+    (subst (λ x. Moves p (lob Lob.Start) [] ((before ++ flat_map segment_spelling gs) ++ 125 ∷ []) (lob Lob.ClobClose) x) (sym m)
     (long_moves p before gs b some h))
 
 lob_cut : (content : List ℕ) → (123 ∷ 123 ∷ (content ++ 125 ∷ [])) ++ 125 ∷ [] ≡ codes "{{" ++ content ++ codes "}}"
@@ -167,11 +150,11 @@ lob_cut content = ap (λ l. 123 ∷ 123 ∷ l) (append_assoc content (125 ∷ []
 
 -- a clob is read as the octets that its content means
 pub takes_clob : (p : Place) (colon : Bool) (content octets r : List ℕ) → is_name p ≡ false → IsClobContent content octets
-    → Takes p colon (codes "{{" ++ content ++ codes "}}") r kinds.Clob octets
+    → Takes p colon (codes "{{" ++ content ++ codes "}}") r TokenKind.Clob octets
 takes_clob p colon content octets r n h =
-    subst (λ l. Takes p colon l r kinds.Clob octets) (lob_cut content)
-    (takes_now p colon (123 ∷ 123 ∷ (content ++ 125 ∷ [])) 125 r kinds.Clob (lob lobs.ClobClose) octets keeps.Nothing (λ s u. refl)
-    (opens_then p colon (123 ∷ 123 ∷ []) (content ++ 125 ∷ []) (lob lobs.Start) (lob lobs.ClobClose) [] octets (opens_lob p colon n)
+    subst (λ l. Takes p colon l r TokenKind.Clob octets) (lob_cut content)
+    (takes_now p colon (123 ∷ 123 ∷ (content ++ 125 ∷ [])) 125 r TokenKind.Clob (lob Lob.ClobClose) octets Keep.Nothing (λ s u. refl)
+    (opens_then p colon (123 ∷ 123 ∷ []) (content ++ 125 ∷ []) (lob Lob.Start) (lob Lob.ClobClose) [] octets (opens_lob p colon n)
     (clob_moves p content octets h))
     (λ c. refl))
 
@@ -182,67 +165,67 @@ AnyBlob o = is_white o || is_base64 o
 solid : List ℕ → List ℕ
 solid os = filter (λ o. not (is_white o)) os
 
-base_first : (o : ℕ) → is_base64 o ≡ true → lob_start o ≡ actions.Go (lob lobs.Base64) (keeps.One o)
+base_first : (o : ℕ) → is_base64 o ≡ true → lob_start o ≡ Action.Go (lob Lob.Base64) (Keep.One o)
 base_first o h = grind (arith, nat_tests)
 
-base_more : (o : ℕ) → is_base64 o ≡ true → in_lob lobs.Base64 o ≡ actions.Go (lob lobs.Base64) (keeps.One o)
+base_more : (o : ℕ) → is_base64 o ≡ true → in_lob Lob.Base64 o ≡ Action.Go (lob Lob.Base64) (Keep.One o)
 base_more o h = grind (arith, nat_tests)
 
-base_white : (o : ℕ) → is_white o ≡ true → in_lob lobs.Base64 o ≡ actions.Go (lob lobs.Base64) keeps.Nothing
+base_white : (o : ℕ) → is_white o ≡ true → in_lob Lob.Base64 o ≡ Action.Go (lob Lob.Base64) Keep.Nothing
 base_white o h = rw h
 
-base_moves : (p : Place) (os kept : List ℕ) → Each AnyBlob os → Moves p (lob lobs.Base64) kept os (lob lobs.Base64) (kept ++ solid os)
+base_moves : (p : Place) (os kept : List ℕ) → Each AnyBlob os → Moves p (lob Lob.Base64) kept os (lob Lob.Base64) (kept ++ solid os)
 unfolding solid
-base_moves p [] kept h = moves_to p (lob lobs.Base64) (lob lobs.Base64) [] kept kept (kept ++ []) (sym (append-nil kept)) (moves_none p (lob lobs.Base64) kept)
+base_moves p [] kept h = moves_to p (lob Lob.Base64) (lob Lob.Base64) [] kept kept (kept ++ []) (sym (append-nil kept)) (moves_none p (lob Lob.Base64) kept)
 base_moves p (o ∷ os) kept h = by (is_white o) refl h.0 (λ k. base_moves p os k h.1) where
-  by : (b : Bool) → is_white o ≡ b → (b || is_base64 o) ≡ true → ((k : List ℕ) → Moves p (lob lobs.Base64) k os (lob lobs.Base64) (k ++ solid os))
-      → Moves p (lob lobs.Base64) kept (o ∷ os) (lob lobs.Base64) (kept ++ cond (not b) (o ∷ solid os) (solid os))
-  by true e g f = moves_then p (lob lobs.Base64) (lob lobs.Base64) (lob lobs.Base64) (o ∷ []) os kept kept (kept ++ solid os)
-      (moves_one p (lob lobs.Base64) o kept (lob lobs.Base64) keeps.Nothing (λ s u. refl) (λ c. base_white o e)) (f kept)
-  by false e g f = moves_to p (lob lobs.Base64) (lob lobs.Base64) (o ∷ os) kept ((kept ++ o ∷ []) ++ solid os) (kept ++ o ∷ solid os)
+  by : (b : Bool) → is_white o ≡ b → (b || is_base64 o) ≡ true → ((k : List ℕ) → Moves p (lob Lob.Base64) k os (lob Lob.Base64) (k ++ solid os))
+      → Moves p (lob Lob.Base64) kept (o ∷ os) (lob Lob.Base64) (kept ++ cond (not b) (o ∷ solid os) (solid os))
+  by true e g f = moves_then p (lob Lob.Base64) (lob Lob.Base64) (lob Lob.Base64) (o ∷ []) os kept kept (kept ++ solid os)
+      (moves_one p (lob Lob.Base64) o kept (lob Lob.Base64) Keep.Nothing (λ s u. refl) (λ c. base_white o e)) (f kept)
+  by false e g f = moves_to p (lob Lob.Base64) (lob Lob.Base64) (o ∷ os) kept ((kept ++ o ∷ []) ++ solid os) (kept ++ o ∷ solid os)
       (append_assoc kept (o ∷ []) (solid os))
-      (moves_then p (lob lobs.Base64) (lob lobs.Base64) (lob lobs.Base64) (o ∷ []) os kept (kept ++ o ∷ []) ((kept ++ o ∷ []) ++ solid os)
-      (moves_one p (lob lobs.Base64) o kept (lob lobs.Base64) (keeps.One o) (λ s u. refl) (λ c. base_more o g)) (f (kept ++ o ∷ [])))
+      (moves_then p (lob Lob.Base64) (lob Lob.Base64) (lob Lob.Base64) (o ∷ []) os kept (kept ++ o ∷ []) ((kept ++ o ∷ []) ++ solid os)
+      (moves_one p (lob Lob.Base64) o kept (lob Lob.Base64) (Keep.One o) (λ s u. refl) (λ c. base_more o g)) (f (kept ++ o ∷ [])))
 
 -- where a blob may end
 abbrev LobEnds : Lob → Type 0
-LobEnds lobs.Start = Unit {0}
-LobEnds lobs.Base64 = Unit {0}
+LobEnds Lob.Start = Unit {0}
+LobEnds Lob.Base64 = Unit {0}
 LobEnds _ = ⊥
 
 abbrev ToEnd : Place → List ℕ → List ℕ → Type 0
-ToEnd p os kept = (l : Lob) × LobEnds l × Moves p (lob lobs.Start) [] os (lob l) kept
+ToEnd p os kept = (l : Lob) × LobEnds l × Moves p (lob Lob.Start) [] os (lob l) kept
 
 start_moves : (p : Place) (os : List ℕ) → Each AnyBlob os → ToEnd p os (solid os)
 unfolding solid
-start_moves p [] h = (lobs.Start, tt, moves_none p (lob lobs.Start) [])
+start_moves p [] h = (Lob.Start, tt, moves_none p (lob Lob.Start) [])
 start_moves p (o ∷ os) h = by (is_white o) refl h.0 (start_moves p os h.1) where
   by : (b : Bool) → is_white o ≡ b → (b || is_base64 o) ≡ true → ToEnd p os (solid os) → ToEnd p (o ∷ os) (cond (not b) (o ∷ solid os) (solid os))
   by true e g m = (
     m.0,
     m.1,
-    moves_then p (lob lobs.Start) (lob lobs.Start) (lob m.0) (o ∷ []) os [] [] (solid os)
-        (moves_one p (lob lobs.Start) o [] (lob lobs.Start) keeps.Nothing (λ s u. refl) (λ c. start_white o e)) m.2,
+    moves_then p (lob Lob.Start) (lob Lob.Start) (lob m.0) (o ∷ []) os [] [] (solid os)
+        (moves_one p (lob Lob.Start) o [] (lob Lob.Start) Keep.Nothing (λ s u. refl) (λ c. start_white o e)) m.2,
   )
   by false e g m = (
-    lobs.Base64,
+    Lob.Base64,
     tt,
-    moves_then p (lob lobs.Start) (lob lobs.Base64) (lob lobs.Base64) (o ∷ []) os [] (o ∷ []) (o ∷ solid os)
-        (moves_one p (lob lobs.Start) o [] (lob lobs.Base64) (keeps.One o) (λ s u. refl) (λ c. base_first o g)) (base_moves p os (o ∷ []) h.1),
+    moves_then p (lob Lob.Start) (lob Lob.Base64) (lob Lob.Base64) (o ∷ []) os [] (o ∷ []) (o ∷ solid os)
+        (moves_one p (lob Lob.Start) o [] (lob Lob.Base64) (Keep.One o) (λ s u. refl) (λ c. base_first o g)) (base_moves p os (o ∷ []) h.1),
   )
 
 blob_closes : (p : Place) (l : Lob) (kept octets : List ℕ) → LobEnds l → blob_of kept ≡ Some octets
-    → Moves p (lob l) kept (125 ∷ []) (lob lobs.BlobClose) octets
-blob_closes p lobs.Start kept octets h e = λ colon start used r. ap (λ x. follow (blob_ends (at (lob lobs.Start) kept colon start used) x) (λ t. run p r t)) e
-blob_closes p lobs.Base64 kept octets h e = λ colon start used r. ap (λ x. follow (blob_ends (at (lob lobs.Base64) kept colon start used) x) (λ t. run p r t)) e
-blob_closes p lobs.StartQuote kept octets h e = absurd h
-blob_closes p lobs.StartQuotes kept octets h e = absurd h
-blob_closes p lobs.BlobClose kept octets h e = absurd h
-blob_closes p lobs.AfterShort kept octets h e = absurd h
-blob_closes p lobs.AfterLong kept octets h e = absurd h
-blob_closes p lobs.AfterQuote kept octets h e = absurd h
-blob_closes p lobs.AfterQuotes kept octets h e = absurd h
-blob_closes p lobs.ClobClose kept octets h e = absurd h
+    → Moves p (lob l) kept (125 ∷ []) (lob Lob.BlobClose) octets
+blob_closes p Lob.Start kept octets h e = λ colon start used r. ap (λ x. follow (blob_ends (at (lob Lob.Start) kept colon start used) x) (λ t. run p r t)) e
+blob_closes p Lob.Base64 kept octets h e = λ colon start used r. ap (λ x. follow (blob_ends (at (lob Lob.Base64) kept colon start used) x) (λ t. run p r t)) e
+blob_closes p Lob.StartQuote kept octets h e = absurd h
+blob_closes p Lob.StartQuotes kept octets h e = absurd h
+blob_closes p Lob.BlobClose kept octets h e = absurd h
+blob_closes p Lob.AfterShort kept octets h e = absurd h
+blob_closes p Lob.AfterLong kept octets h e = absurd h
+blob_closes p Lob.AfterQuote kept octets h e = absurd h
+blob_closes p Lob.AfterQuotes kept octets h e = absurd h
+blob_closes p Lob.ClobClose kept octets h e = absurd h
 
 -- RFC 4648's text of octets decodes to them
 pub blob_known : (text octets : List ℕ) → IsBase64 text octets → blob_of text ≡ Some octets
@@ -251,19 +234,19 @@ blob_known text octets h = ap result_ok (ap (decode_of standard) h.spelled ∙ d
 
 -- two braces and a blob's content, up to the first brace of its close
 pub opens_blob : (p : Place) (colon : Bool) (content octets : List ℕ) → is_name p ≡ false → Each (λ o. is_white o || is_base64 o) content
-    → blob_of (filter (λ o. not (is_white o)) content) ≡ Some octets → Opens p colon (123 ∷ 123 ∷ (content ++ 125 ∷ [])) (lob lobs.BlobClose) octets
+    → blob_of (filter (λ o. not (is_white o)) content) ≡ Some octets → Opens p colon (123 ∷ 123 ∷ (content ++ 125 ∷ [])) (lob Lob.BlobClose) octets
 unfolding solid
 opens_blob p colon content octets n h e =
     let m = start_moves p content h in
-    opens_then p colon (123 ∷ 123 ∷ []) (content ++ 125 ∷ []) (lob lobs.Start) (lob lobs.BlobClose) [] octets (opens_lob p colon n)
-    (moves_then p (lob lobs.Start) (lob m.0) (lob lobs.BlobClose) content (125 ∷ []) [] (solid content) octets m.2
+    opens_then p colon (123 ∷ 123 ∷ []) (content ++ 125 ∷ []) (lob Lob.Start) (lob Lob.BlobClose) [] octets (opens_lob p colon n)
+    (moves_then p (lob Lob.Start) (lob m.0) (lob Lob.BlobClose) content (125 ∷ []) [] (solid content) octets m.2
     (blob_closes p m.0 (solid content) octets m.1 e))
 
 -- a blob is read as the octets for which its base64 stands
 pub takes_blob : (p : Place) (colon : Bool) (content octets r : List ℕ) → is_name p ≡ false → IsBlobContent content octets
-    → Takes p colon (codes "{{" ++ content ++ codes "}}") r kinds.Blob octets
+    → Takes p colon (codes "{{" ++ content ++ codes "}}") r TokenKind.Blob octets
 takes_blob p colon content octets r n h =
-    subst (λ l. Takes p colon l r kinds.Blob octets) (lob_cut content)
-    (takes_now p colon (123 ∷ 123 ∷ (content ++ 125 ∷ [])) 125 r kinds.Blob (lob lobs.BlobClose) octets keeps.Nothing (λ s u. refl)
+    subst (λ l. Takes p colon l r TokenKind.Blob octets) (lob_cut content)
+    (takes_now p colon (123 ∷ 123 ∷ (content ++ 125 ∷ [])) 125 r TokenKind.Blob (lob Lob.BlobClose) octets Keep.Nothing (λ s u. refl)
     (opens_blob p colon content octets n h.0 (blob_known (filter (λ o. not (is_white o)) content) octets h.1))
     (λ c. refl))

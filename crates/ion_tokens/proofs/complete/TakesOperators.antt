@@ -3,29 +3,19 @@ use Rattle.std.proofs.Common.{◌≡◌, ◌≢◌, ℕ, ◌+◌, ◌-◌, ◌<�
 use Rattle.std.specs.Prelude.{◌==◌, ◌&&◌, ◌||◌, not, codes, take, Some, Ok}
 use Rattle.std.proofs.lemmas.Bool.{false≢true, true≢false}
 use Rattle.std.proofs.lemmas.Bool.Decides.{nat_tests}
-use Rattle.ion_tokens.specs.Octets.{is_digit, is_word_octet, is_operator_octet}
-use Rattle.ion_tokens.specs.declared.mode.Place.{Place}
-use Rattle.ion_tokens.specs.declared.mode.Ending.{Ending}
-use Rattle.ion_tokens.specs.declared.mode.Place.TheVariants as places
-use Rattle.ion_tokens.specs.declared.mode.Ending.TheVariants as endings
-use Rattle.ion_tokens.specs.declared.mode.Mode.TheVariants as modes
-use Rattle.ion_tokens.specs.declared.mode.TokenKind.TheVariants as kinds
-use Rattle.ion_tokens.specs.declared.mode.Keep.TheVariants as keeps
-use Rattle.ion_tokens.specs.declared.mode.Action.TheVariants as actions
-use Rattle.ion_tokens.specs.machine.Table.{next, in_blank, in_slash, in_operator, in_operator_slash, in_infinity, is_sexp, run_ending}
-use Rattle.ion_tokens.specs.machine.Scanning.{Next, Left, acts, follow, run, past}
-use Rattle.ion_tokens.specs.machine.AtOnce.{is_plain_operator}
-use Rattle.ion_tokens.specs.Lexemes.{Each, begins, ends, begins_comment, comment_within, begins_infinity, IsOperator}
-use Rattle.ion_tokens.proofs.complete.Moves.{at, Moves, moves_none, moves_one, moves_then, moves_to, blank, Opens, opens_one, opens_then, Takes, Now, Later, AtEnd, Open, Resumes, lexeme, takes_left, takes_end}
+use Rattle.ion_tokens.specs.Names.{Action, Each, Ending, IsOperator, Keep, Left, Mode, Next, Place, TokenKind, acts, begins, begins_comment, begins_infinity, comment_within, follow, in_blank, in_infinity, in_operator, in_operator_slash, in_slash, is_digit, is_operator_octet, is_plain_operator, is_sexp, is_word_octet, past, run, run_ending}
+use Rattle.ion_tokens.specs.Lexemes.{ends}
+use Rattle.ion_tokens.specs.machine.Table.{next}
+use Rattle.ion_tokens.proofs.complete.Moves.{AtEnd, Later, Moves, Now, Open, Opens, Resumes, Takes, at, blank, lexeme, moves_none, moves_one, moves_then, moves_to, opens_one, opens_then, takes_end, takes_left}
 use Rattle.ion_tokens.proofs.complete.TakesWords.{takes_before_slash}
-use Rattle.ion_tokens.proofs.texts.TextsComplete.{eq_or, bool_cases}
+use Rattle.ion_tokens.proofs.texts.TextsComplete.{bool_cases, eq_or}
 
 -- what the ending says of the run
 abbrev EndsAs : Ending → List ℕ → Type 0
-EndsAs endings.LoneMinus w = (ends (λ o. o == 45) w ≡ true) × (ends (λ o. (o == 43) || (o == 45)) w ≡ true)
-EndsAs endings.Minus w = (ends (λ o. o == 45) w ≡ true) × (ends (λ o. (o == 43) || (o == 45)) w ≡ true)
-EndsAs endings.Plus w = ends (λ o. (o == 43) || (o == 45)) w ≡ true
-EndsAs endings.Other w = Unit {0}
+EndsAs Ending.LoneMinus w = (ends (λ o. o == 45) w ≡ true) × (ends (λ o. (o == 43) || (o == 45)) w ≡ true)
+EndsAs Ending.Minus w = (ends (λ o. o == 45) w ≡ true) × (ends (λ o. (o == 43) || (o == 45)) w ≡ true)
+EndsAs Ending.Plus w = ends (λ o. (o == 43) || (o == 45)) w ≡ true
+EndsAs Ending.Other w = Unit {0}
 
 ends_last : (class : ℕ → Bool) (xs : List ℕ) (o : ℕ) → ends class (xs ++ o ∷ []) ≡ class o
 ends_last class [] o = refl
@@ -34,48 +24,48 @@ ends_last class (x ∷ y ∷ xs) o = ends_last class (y ∷ xs) o
 
 run_ends : (xs : List ℕ) (o : ℕ) → EndsAs (run_ending o) (xs ++ o ∷ [])
 run_ends xs o = by (o == 43) (o == 45) refl refl where
-  by : (b c : Bool) → (o == 43) ≡ b → (o == 45) ≡ c → EndsAs (cond b endings.Plus (cond c endings.Minus endings.Other)) (xs ++ o ∷ [])
+  by : (b c : Bool) → (o == 43) ≡ b → (o == 45) ≡ c → EndsAs (cond b Ending.Plus (cond c Ending.Minus Ending.Other)) (xs ++ o ∷ [])
   by true c e f = ends_last (λ o. (o == 43) || (o == 45)) xs o ∙ ap (λ b. b || (o == 45)) e
   by false true e f = (ends_last (λ o. o == 45) xs o ∙ f, ends_last (λ o. (o == 43) || (o == 45)) xs o ∙ (λ i. e i || f i))
   by false false e f = tt
 
-op_step : (e : Ending) (c : ℕ) → is_operator_octet c ≡ true → c ≢ 47 → in_operator places.Sexp e c ≡ actions.Go (modes.Operator (run_ending c)) (keeps.One c)
+op_step : (e : Ending) (c : ℕ) → is_operator_octet c ≡ true → c ≢ 47 → in_operator Place.Sexp e c ≡ Action.Go (Mode.Operator (run_ending c)) (Keep.One c)
 op_step e c h n = grind (arith, nat_tests)
 
-op_after_slash : (c : ℕ) → is_operator_octet c ≡ true → c ≢ 47 → c ≢ 42 → in_operator_slash c ≡ actions.Go (modes.Operator (run_ending c)) (keeps.Two 47 c)
+op_after_slash : (c : ℕ) → is_operator_octet c ≡ true → c ≢ 47 → c ≢ 42 → in_operator_slash c ≡ Action.Go (Mode.Operator (run_ending c)) (Keep.Two 47 c)
 op_after_slash c h n m = grind (arith, nat_tests)
 
 -- how the run goes on over these octets
 data OpTo (front : List ℕ) (e : Ending) (os r : List ℕ) : Type 0 where
-  InRun : (e' : Ending) → EndsAs e' (front ++ os) → Moves places.Sexp (modes.Operator e) front os (modes.Operator e') (front ++ os) → OpTo front e os r
+  InRun : (e' : Ending) → EndsAs e' (front ++ os) → Moves Place.Sexp (Mode.Operator e) front os (Mode.Operator e') (front ++ os) → OpTo front e os r
   InSlash : (kept : List ℕ) → front ++ os ≡ kept ++ 47 ∷ [] → begins_comment (47 ∷ r) ≡ false
-      → Moves places.Sexp (modes.Operator e) front os modes.OperatorSlash kept → OpTo front e os r
+      → Moves Place.Sexp (Mode.Operator e) front os Mode.OperatorSlash kept → OpTo front e os r
 
-op_behind : (front xs ys r : List ℕ) (e e1 : Ending) → Moves places.Sexp (modes.Operator e) front xs (modes.Operator e1) (front ++ xs)
+op_behind : (front xs ys r : List ℕ) (e e1 : Ending) → Moves Place.Sexp (Mode.Operator e) front xs (Mode.Operator e1) (front ++ xs)
     → OpTo (front ++ xs) e1 ys r → OpTo front e (xs ++ ys) r
 op_behind front xs ys r e e1 m (InRun e' h n) = InRun e' (subst (λ l. EndsAs e' l) (append_assoc front xs ys) h)
-    (moves_to places.Sexp (modes.Operator e) (modes.Operator e') (xs ++ ys) front ((front ++ xs) ++ ys) (front ++ (xs ++ ys)) (append_assoc front xs ys)
-    (moves_then places.Sexp (modes.Operator e) (modes.Operator e1) (modes.Operator e') xs ys front (front ++ xs) ((front ++ xs) ++ ys) m n))
+    (moves_to Place.Sexp (Mode.Operator e) (Mode.Operator e') (xs ++ ys) front ((front ++ xs) ++ ys) (front ++ (xs ++ ys)) (append_assoc front xs ys)
+    (moves_then Place.Sexp (Mode.Operator e) (Mode.Operator e1) (Mode.Operator e') xs ys front (front ++ xs) ((front ++ xs) ++ ys) m n))
 op_behind front xs ys r e e1 m (InSlash kept h c n) = InSlash kept (sym (append_assoc front xs ys) ∙ h) c
-    (moves_then places.Sexp (modes.Operator e) (modes.Operator e1) modes.OperatorSlash xs ys front (front ++ xs) kept m n)
+    (moves_then Place.Sexp (Mode.Operator e) (Mode.Operator e1) Mode.OperatorSlash xs ys front (front ++ xs) kept m n)
 
 op_one : (front : List ℕ) (e : Ending) (o : ℕ) → is_operator_octet o ≡ true → o ≢ 47
-    → Moves places.Sexp (modes.Operator e) front (o ∷ []) (modes.Operator (run_ending o)) (front ++ o ∷ [])
-op_one front e o h n = moves_one places.Sexp (modes.Operator e) o front (modes.Operator (run_ending o)) (keeps.One o) (λ s u. refl) (λ c. op_step e o h n)
+    → Moves Place.Sexp (Mode.Operator e) front (o ∷ []) (Mode.Operator (run_ending o)) (front ++ o ∷ [])
+op_one front e o h n = moves_one Place.Sexp (Mode.Operator e) o front (Mode.Operator (run_ending o)) (Keep.One o) (λ s u. refl) (λ c. op_step e o h n)
 
-slash_one : (front : List ℕ) (e : Ending) → Moves places.Sexp (modes.Operator e) front (47 ∷ []) modes.OperatorSlash front
-slash_one front e = moves_one places.Sexp (modes.Operator e) 47 front modes.OperatorSlash keeps.Nothing (λ s u. refl) (λ c. refl)
+slash_one : (front : List ℕ) (e : Ending) → Moves Place.Sexp (Mode.Operator e) front (47 ∷ []) Mode.OperatorSlash front
+slash_one front e = moves_one Place.Sexp (Mode.Operator e) 47 front Mode.OperatorSlash Keep.Nothing (λ s u. refl) (λ c. refl)
 
 two_kept : (front : List ℕ) (a b : ℕ) → (front ++ a ∷ []) ++ b ∷ [] ≡ front ++ a ∷ b ∷ []
 two_kept front a b = append_assoc front (a ∷ []) (b ∷ [])
 
 op_two : (front : List ℕ) (e : Ending) (c : ℕ) → is_operator_octet c ≡ true → c ≢ 47 → c ≢ 42
-    → Moves places.Sexp (modes.Operator e) front (47 ∷ c ∷ []) (modes.Operator (run_ending c)) (front ++ 47 ∷ c ∷ [])
-op_two front e c h n m = moves_to places.Sexp (modes.Operator e) (modes.Operator (run_ending c)) (47 ∷ c ∷ []) front ((front ++ 47 ∷ []) ++ c ∷ [])
+    → Moves Place.Sexp (Mode.Operator e) front (47 ∷ c ∷ []) (Mode.Operator (run_ending c)) (front ++ 47 ∷ c ∷ [])
+op_two front e c h n m = moves_to Place.Sexp (Mode.Operator e) (Mode.Operator (run_ending c)) (47 ∷ c ∷ []) front ((front ++ 47 ∷ []) ++ c ∷ [])
     (front ++ 47 ∷ c ∷ []) (two_kept front 47 c)
-    (moves_then places.Sexp (modes.Operator e) modes.OperatorSlash (modes.Operator (run_ending c)) (47 ∷ []) (c ∷ []) front front ((front ++ 47 ∷ []) ++ c ∷ [])
+    (moves_then Place.Sexp (Mode.Operator e) Mode.OperatorSlash (Mode.Operator (run_ending c)) (47 ∷ []) (c ∷ []) front front ((front ++ 47 ∷ []) ++ c ∷ [])
     (slash_one front e)
-    (moves_one places.Sexp modes.OperatorSlash c front (modes.Operator (run_ending c)) (keeps.Two 47 c) (λ s u. refl) (λ b. op_after_slash c h n m)))
+    (moves_one Place.Sexp Mode.OperatorSlash c front (Mode.Operator (run_ending c)) (Keep.Two 47 c) (λ s u. refl) (λ b. op_after_slash c h n m)))
 
 or_false : (a b : Bool) → (a || b) ≡ false → (a ≡ false) × (b ≡ false)
 or_false false b h = (refl, h)
@@ -87,8 +77,8 @@ no_comment c h = (grind (arith, nat_tests), grind (arith, nat_tests))
 
 op_moves : (os front r : List ℕ) (e : Ending) → EndsAs e front → Each is_operator_octet os → comment_within os r ≡ false → OpTo front e os r
 op_moves [] front r e h each apart = InRun e (subst (λ l. EndsAs e l) (sym (append-nil front)) h)
-    (moves_to places.Sexp (modes.Operator e) (modes.Operator e) [] front front (front ++ []) (sym (append-nil front))
-    (moves_none places.Sexp (modes.Operator e) front))
+    (moves_to Place.Sexp (Mode.Operator e) (Mode.Operator e) [] front front (front ++ []) (sym (append-nil front))
+    (moves_none Place.Sexp (Mode.Operator e) front))
 op_moves (o ∷ []) front r e h each apart = ⊎_elim
     (λ (i : o ≡ 47). subst (λ (x : ℕ). OpTo front e (x ∷ []) r) (sym i)
     (InSlash front refl (or_false (begins_comment (47 ∷ r)) false (subst (λ (x : ℕ). comment_within (x ∷ []) r ≡ false) i apart)).0 (slash_one front e)))
@@ -114,26 +104,26 @@ op_moves (o ∷ c ∷ os) front r e h each apart = ⊎_elim
 
 -- what ends a run
 abbrev Run : Bool → List ℕ → Ending → Type 0
-Run colon w e = Opens places.Sexp colon w (modes.Operator e) w
+Run colon w e = Opens Place.Sexp colon w (Mode.Operator e) w
 
-digit_ends : (e : Ending) (x : ℕ) → is_digit x ≡ true → (e ≡ endings.Plus) ⊎ (e ≡ endings.Other) → in_operator places.Sexp e x
-    ≡ actions.Before kinds.Operator keeps.Nothing modes.Blank
-digit_ends e x d (inl i) = subst (λ e. in_operator places.Sexp e x ≡ actions.Before kinds.Operator keeps.Nothing modes.Blank) (sym i) (rw d)
-digit_ends e x d (inr i) = subst (λ e. in_operator places.Sexp e x ≡ actions.Before kinds.Operator keeps.Nothing modes.Blank) (sym i) (rw d)
+digit_ends : (e : Ending) (x : ℕ) → is_digit x ≡ true → (e ≡ Ending.Plus) ⊎ (e ≡ Ending.Other) → in_operator Place.Sexp e x
+    ≡ Action.Before TokenKind.Operator Keep.Nothing Mode.Blank
+digit_ends e x d (inl i) = subst (λ e. in_operator Place.Sexp e x ≡ Action.Before TokenKind.Operator Keep.Nothing Mode.Blank) (sym i) (rw d)
+digit_ends e x d (inr i) = subst (λ e. in_operator Place.Sexp e x ≡ Action.Before TokenKind.Operator Keep.Nothing Mode.Blank) (sym i) (rw d)
 
 -- an octet of no operator that begins neither a number nor `inf` nor a comment ends one
-pub other_ends : (e : Ending) (x : ℕ) → is_digit x ≡ false → x ≢ 105 → x ≢ 47 → is_operator_octet x ≡ false → in_operator places.Sexp e x
-    ≡ actions.Before kinds.Operator keeps.Nothing modes.Blank
+pub other_ends : (e : Ending) (x : ℕ) → is_digit x ≡ false → x ≢ 105 → x ≢ 47 → is_operator_octet x ≡ false → in_operator Place.Sexp e x
+    ≡ Action.Before TokenKind.Operator Keep.Nothing Mode.Blank
 other_ends e x d i s o = by (is_digit x) (x == 105) (x == 47) (is_operator_octet x) d (not_is x 105 i) (not_is x 47 s) o where
   not_is : (a b : ℕ) → a ≢ b → (a == b) ≡ false
   not_is a b n = grind (arith, nat_tests)
 
   by : (d i s o : Bool) → d ≡ false → i ≡ false → s ≡ false → o ≡ false
-      → cond d (Rattle.ion_tokens.specs.machine.Table.digit_behind places.Sexp e x)
-      (cond (i && not (Rattle.ion_tokens.specs.machine.Table.is_other e)) (Rattle.ion_tokens.specs.machine.Table.go (modes.Infinity 1))
-      (cond s (Rattle.ion_tokens.specs.machine.Table.go modes.OperatorSlash)
-      (cond o (Rattle.ion_tokens.specs.machine.Table.add (modes.Operator (run_ending x)) x) (Rattle.ion_tokens.specs.machine.Table.before kinds.Operator))))
-      ≡ actions.Before kinds.Operator keeps.Nothing modes.Blank
+      → cond d (Rattle.ion_tokens.specs.machine.Table.digit_behind Place.Sexp e x)
+      (cond (i && not (Rattle.ion_tokens.specs.machine.Table.is_other e)) (Rattle.ion_tokens.specs.machine.Table.go (Mode.Infinity 1))
+      (cond s (Rattle.ion_tokens.specs.machine.Table.go Mode.OperatorSlash)
+      (cond o (Rattle.ion_tokens.specs.machine.Table.add (Mode.Operator (run_ending x)) x) (Rattle.ion_tokens.specs.machine.Table.before TokenKind.Operator))))
+      ≡ Action.Before TokenKind.Operator Keep.Nothing Mode.Blank
   by false false false false a b c d = refl
   by true i s o a b c d = absurd (true≢false a)
   by false true s o a b c d = absurd (true≢false b)
@@ -142,67 +132,67 @@ other_ends e x d i s o = by (is_digit x) (x == 105) (x == 47) (is_operator_octet
 
 -- an operator, read from a blank in an s-expression
 abbrev Read : Bool → List ℕ → List ℕ → Type 0
-Read colon w r = Takes places.Sexp colon w r kinds.Operator w
+Read colon w r = Takes Place.Sexp colon w r TokenKind.Operator w
 
 -- behind a sign stands the front of `inf`, which turns out to be a word
-takes_split : (colon : Bool) (w ahead : List ℕ) (n x : ℕ) (rest : List ℕ) → Opens places.Sexp colon (w ++ ahead) (modes.Infinity n) w
-    → in_infinity places.Sexp n x ≡ actions.Split n → n ≡ length ahead
-    → take n (codes "inf") ≡ ahead → Resumes ahead modes.Word ahead → Read colon w (ahead ++ x ∷ rest)
-takes_split colon w ahead n x rest f e size letters resumes = Later ahead x rest modes.Word ahead refl resumes (λ start used.
+takes_split : (colon : Bool) (w ahead : List ℕ) (n x : ℕ) (rest : List ℕ) → Opens Place.Sexp colon (w ++ ahead) (Mode.Infinity n) w
+    → in_infinity Place.Sexp n x ≡ Action.Split n → n ≡ length ahead
+    → take n (codes "inf") ≡ ahead → Resumes ahead Mode.Word ahead → Read colon w (ahead ++ x ∷ rest)
+takes_split colon w ahead n x rest f e size letters resumes = Later ahead x rest Mode.Word ahead refl resumes (λ start used.
     let longer : used + length (w ++ ahead) ≡ (used + length w) + length ahead = omega (arith, length-append w ahead) in
     let back : ((used + length w) + length ahead) - n ≡ used + length w = omega arith in
-    ap (λ os. run places.Sexp os (blank colon start used)) (sym (append_assoc w ahead (x ∷ rest))) ∙ f start used (x ∷ rest)
-    ∙ ap (λ (i : ℕ). run places.Sexp (x ∷ rest) (at (modes.Infinity n) w colon used i)) longer
-    ∙ ap (λ a. follow (acts places.Sexp (at (modes.Infinity n) w colon used ((used + length w) + length ahead)) x a) (λ t. run places.Sexp rest t)) e
-    ∙ (λ i. Left (record { start = used; end = back i; kind = kinds.Operator; octets = w })
-    (past places.Sexp kinds.Operator modes.Word (letters i) (back i) ((used + length w) + length ahead))))
+    ap (λ os. run Place.Sexp os (blank colon start used)) (sym (append_assoc w ahead (x ∷ rest))) ∙ f start used (x ∷ rest)
+    ∙ ap (λ (i : ℕ). run Place.Sexp (x ∷ rest) (at (Mode.Infinity n) w colon used i)) longer
+    ∙ ap (λ a. follow (acts Place.Sexp (at (Mode.Infinity n) w colon used ((used + length w) + length ahead)) x a) (λ t. run Place.Sexp rest t)) e
+    ∙ (λ i. Left (record { start = used; end = back i; kind = TokenKind.Operator; octets = w })
+    (past Place.Sexp TokenKind.Operator Mode.Word (letters i) (back i) ((used + length w) + length ahead))))
 
-resumes_i : Resumes (105 ∷ []) modes.Word (105 ∷ [])
+resumes_i : Resumes (105 ∷ []) Mode.Word (105 ∷ [])
 resumes_i p colon end = refl
 
-resumes_in : Resumes (105 ∷ 110 ∷ []) modes.Word (105 ∷ 110 ∷ [])
-resumes_in p colon end = let two : (end + 1) + 1 ≡ end + 2 = omega arith in ap (λ (n : ℕ). Next (at modes.Word (105 ∷ 110 ∷ []) colon end n)) two
+resumes_in : Resumes (105 ∷ 110 ∷ []) Mode.Word (105 ∷ 110 ∷ [])
+resumes_in p colon end = let two : (end + 1) + 1 ≡ end + 2 = omega arith in ap (λ (n : ℕ). Next (at Mode.Word (105 ∷ 110 ∷ []) colon end n)) two
 
-resumes_inf : Resumes (105 ∷ 110 ∷ 102 ∷ []) modes.Word (105 ∷ 110 ∷ 102 ∷ [])
+resumes_inf : Resumes (105 ∷ 110 ∷ 102 ∷ []) Mode.Word (105 ∷ 110 ∷ 102 ∷ [])
 resumes_inf p colon end = let three : ((end + 1) + 1) + 1 ≡ end + 3 = omega arith in
-    ap (λ (n : ℕ). Next (at modes.Word (105 ∷ 110 ∷ 102 ∷ []) colon end n)) three
+    ap (λ (n : ℕ). Next (at Mode.Word (105 ∷ 110 ∷ 102 ∷ []) colon end n)) three
 
 not_same : (a b : ℕ) → a ≢ b → (a == b) ≡ false
 not_same a b n = grind (arith, nat_tests)
 
-split_one : (x : ℕ) → x ≢ 110 → in_infinity places.Sexp 1 x ≡ actions.Split 1
+split_one : (x : ℕ) → x ≢ 110 → in_infinity Place.Sexp 1 x ≡ Action.Split 1
 split_one x n = rw (not_same x 110 n)
 
-split_two : (x : ℕ) → x ≢ 102 → in_infinity places.Sexp 2 x ≡ actions.Split 2
+split_two : (x : ℕ) → x ≢ 102 → in_infinity Place.Sexp 2 x ≡ Action.Split 2
 split_two x n = rw (not_same x 102 n)
 
-split_three : (x : ℕ) → is_word_octet x ≡ true → in_infinity places.Sexp 3 x ≡ actions.Split 3
+split_three : (x : ℕ) → is_word_octet x ≡ true → in_infinity Place.Sexp 3 x ≡ Action.Split 3
 split_three x h = rw h
 
-i_opens : (e : Ending) → (e ≢ endings.Other) → in_operator places.Sexp e 105 ≡ actions.Go (modes.Infinity 1) keeps.Nothing
-i_opens endings.LoneMinus n = refl
-i_opens endings.Minus n = refl
-i_opens endings.Plus n = refl
-i_opens endings.Other n = absurd (n refl)
+i_opens : (e : Ending) → (e ≢ Ending.Other) → in_operator Place.Sexp e 105 ≡ Action.Go (Mode.Infinity 1) Keep.Nothing
+i_opens Ending.LoneMinus n = refl
+i_opens Ending.Minus n = refl
+i_opens Ending.Plus n = refl
+i_opens Ending.Other n = absurd (n refl)
 
-letter_on : (w : List ℕ) (n m x : ℕ) → in_infinity places.Sexp n x ≡ actions.Go (modes.Infinity m) keeps.Nothing
-    → Moves places.Sexp (modes.Infinity n) w (x ∷ []) (modes.Infinity m) w
-letter_on w n m x e = moves_one places.Sexp (modes.Infinity n) x w (modes.Infinity m) keeps.Nothing (λ s u. refl) (λ c. e)
+letter_on : (w : List ℕ) (n m x : ℕ) → in_infinity Place.Sexp n x ≡ Action.Go (Mode.Infinity m) Keep.Nothing
+    → Moves Place.Sexp (Mode.Infinity n) w (x ∷ []) (Mode.Infinity m) w
+letter_on w n m x e = moves_one Place.Sexp (Mode.Infinity n) x w (Mode.Infinity m) Keep.Nothing (λ s u. refl) (λ c. e)
 
-takes_infinity : (colon : Bool) (w : List ℕ) (e : Ending) (rest : List ℕ) → Run colon w e → e ≢ endings.Other → begins_infinity (105 ∷ rest) ≡ false
+takes_infinity : (colon : Bool) (w : List ℕ) (e : Ending) (rest : List ℕ) → Run colon w e → e ≢ Ending.Other → begins_infinity (105 ∷ rest) ≡ false
     → Read colon w (105 ∷ rest)
 takes_infinity colon w e rest f n h = one rest h where
-  opens1 : Opens places.Sexp colon (w ++ 105 ∷ []) (modes.Infinity 1) w
-  opens1 = opens_then places.Sexp colon w (105 ∷ []) (modes.Operator e) (modes.Infinity 1) w w f
-      (moves_one places.Sexp (modes.Operator e) 105 w (modes.Infinity 1) keeps.Nothing (λ s u. refl) (λ c. i_opens e n))
+  opens1 : Opens Place.Sexp colon (w ++ 105 ∷ []) (Mode.Infinity 1) w
+  opens1 = opens_then Place.Sexp colon w (105 ∷ []) (Mode.Operator e) (Mode.Infinity 1) w w f
+      (moves_one Place.Sexp (Mode.Operator e) 105 w (Mode.Infinity 1) Keep.Nothing (λ s u. refl) (λ c. i_opens e n))
 
-  opens2 : Opens places.Sexp colon (w ++ 105 ∷ 110 ∷ []) (modes.Infinity 2) w
-  opens2 = subst (λ l. Opens places.Sexp colon l (modes.Infinity 2) w) (append_assoc w (105 ∷ []) (110 ∷ []))
-      (opens_then places.Sexp colon (w ++ 105 ∷ []) (110 ∷ []) (modes.Infinity 1) (modes.Infinity 2) w w opens1 (letter_on w 1 2 110 refl))
+  opens2 : Opens Place.Sexp colon (w ++ 105 ∷ 110 ∷ []) (Mode.Infinity 2) w
+  opens2 = subst (λ l. Opens Place.Sexp colon l (Mode.Infinity 2) w) (append_assoc w (105 ∷ []) (110 ∷ []))
+      (opens_then Place.Sexp colon (w ++ 105 ∷ []) (110 ∷ []) (Mode.Infinity 1) (Mode.Infinity 2) w w opens1 (letter_on w 1 2 110 refl))
 
-  opens3 : Opens places.Sexp colon (w ++ 105 ∷ 110 ∷ 102 ∷ []) (modes.Infinity 3) w
-  opens3 = subst (λ l. Opens places.Sexp colon l (modes.Infinity 3) w) (append_assoc w (105 ∷ 110 ∷ []) (102 ∷ []))
-      (opens_then places.Sexp colon (w ++ 105 ∷ 110 ∷ []) (102 ∷ []) (modes.Infinity 2) (modes.Infinity 3) w w opens2 (letter_on w 2 3 102 refl))
+  opens3 : Opens Place.Sexp colon (w ++ 105 ∷ 110 ∷ 102 ∷ []) (Mode.Infinity 3) w
+  opens3 = subst (λ l. Opens Place.Sexp colon l (Mode.Infinity 3) w) (append_assoc w (105 ∷ 110 ∷ []) (102 ∷ []))
+      (opens_then Place.Sexp colon (w ++ 105 ∷ 110 ∷ []) (102 ∷ []) (Mode.Infinity 2) (Mode.Infinity 3) w w opens2 (letter_on w 2 3 102 refl))
 
   three : (rest : List ℕ) → begins_infinity (105 ∷ 110 ∷ 102 ∷ rest) ≡ false → Read colon w (105 ∷ 110 ∷ 102 ∷ rest)
   three [] h = absurd (true≢false h)
@@ -211,9 +201,9 @@ takes_infinity colon w e rest f n h = one rest h where
 
   two : (rest : List ℕ) → begins_infinity (105 ∷ 110 ∷ rest) ≡ false → Read colon w (105 ∷ 110 ∷ rest)
   two [] h = Open refl refl resumes_in (λ start used. (
-    at (modes.Infinity 2) w colon used (used + length (w ++ 105 ∷ 110 ∷ [])),
+    at (Mode.Infinity 2) w colon used (used + length (w ++ 105 ∷ 110 ∷ [])),
     refl,
-    ap (λ l. run places.Sexp l (blank colon start used)) (sym (append-nil (w ++ 105 ∷ 110 ∷ []))) ∙ opens2 start used [],
+    ap (λ l. run Place.Sexp l (blank colon start used)) (sym (append-nil (w ++ 105 ∷ 110 ∷ []))) ∙ opens2 start used [],
     refl,
   ))
   two (x ∷ rest) h = ⊎_elim (λ (i : x ≡ 102). subst (λ (y : ℕ). Read colon w (105 ∷ 110 ∷ y ∷ rest)) (sym i)
@@ -222,23 +212,23 @@ takes_infinity colon w e rest f n h = one rest h where
 
   one : (rest : List ℕ) → begins_infinity (105 ∷ rest) ≡ false → Read colon w (105 ∷ rest)
   one [] h = Open refl refl resumes_i (λ start used. (
-    at (modes.Infinity 1) w colon used (used + length (w ++ 105 ∷ [])),
+    at (Mode.Infinity 1) w colon used (used + length (w ++ 105 ∷ [])),
     refl,
-    ap (λ l. run places.Sexp l (blank colon start used)) (sym (append-nil (w ++ 105 ∷ []))) ∙ opens1 start used [],
+    ap (λ l. run Place.Sexp l (blank colon start used)) (sym (append-nil (w ++ 105 ∷ []))) ∙ opens1 start used [],
     refl,
   ))
   one (x ∷ rest) h = ⊎_elim (λ (i : x ≡ 110). subst (λ (y : ℕ). Read colon w (105 ∷ y ∷ rest)) (sym i)
       (two rest (subst (λ (y : ℕ). begins_infinity (105 ∷ y ∷ rest) ≡ false) i h)))
       (λ n. takes_split colon w (105 ∷ []) 1 x rest opens1 (split_one x n) refl refl resumes_i) (eq_or x 110)
 
-op_slash_ends : (x : ℕ) → ((x == 47) || (x == 42)) ≡ true → in_operator_slash x ≡ actions.Before kinds.Operator keeps.Nothing modes.Slash
+op_slash_ends : (x : ℕ) → ((x == 47) || (x == 42)) ≡ true → in_operator_slash x ≡ Action.Before TokenKind.Operator Keep.Nothing Mode.Slash
 op_slash_ends x h = rw h
 
 -- a comment behind the operator
 comment_ends : (colon : Bool) (w : List ℕ) (e : Ending) (rest : List ℕ) → Run colon w e → begins_comment (47 ∷ rest) ≡ true → Read colon w (47 ∷ rest)
 comment_ends colon w e [] f h = absurd (false≢true h)
-comment_ends colon w e (x ∷ rest) f h = takes_before_slash places.Sexp colon w x rest kinds.Operator modes.OperatorSlash w (λ s u. refl)
-    (opens_then places.Sexp colon w (47 ∷ []) (modes.Operator e) modes.OperatorSlash w w f (slash_one w e)) (λ c. op_slash_ends x h)
+comment_ends colon w e (x ∷ rest) f h = takes_before_slash Place.Sexp colon w x rest TokenKind.Operator Mode.OperatorSlash w (λ s u. refl)
+    (opens_then Place.Sexp colon w (47 ∷ []) (Mode.Operator e) Mode.OperatorSlash w w f (slash_one w e)) (λ c. op_slash_ends x h)
 
 comment_first : (x : ℕ) (rest : List ℕ) → begins_comment (x ∷ rest) ≡ true → x ≡ 47
 comment_first x rest h = by (x == 47) refl h where
@@ -248,7 +238,7 @@ comment_first x rest h = by (x == 47) refl h where
 
 -- a run of which no / is pending
 run_read : (colon : Bool) (w : List ℕ) (e : Ending) (r : List ℕ) → Run colon w e → EndsAs e w → IsOperator w r → Read colon w r
-run_read colon w e [] f h o = takes_end places.Sexp colon w kinds.Operator (modes.Operator e) w w f (λ start used. refl)
+run_read colon w e [] f h o = takes_end Place.Sexp colon w TokenKind.Operator (Mode.Operator e) w w f (λ start used. refl)
 run_read colon w e (x ∷ rest) f h o =
     ⊎_elim (λ d. digit e f h d) (λ d.
     ⊎_elim (λ (i : x ≡ 105). subst (λ (y : ℕ). Read colon w (y ∷ rest)) (sym i)
@@ -257,21 +247,21 @@ run_read colon w e (x ∷ rest) f h o =
     left d i s o.longest)
     (eq_or x 47)) (eq_or x 105)) (bool_cases (is_digit x))
   where
-    left_by : (e : Ending) → Run colon w e → in_operator places.Sexp e x ≡ actions.Before kinds.Operator keeps.Nothing modes.Blank → Read colon w (x ∷ rest)
-    left_by e f g = takes_left places.Sexp colon w x rest kinds.Operator (modes.Operator e) w keeps.Nothing (λ s u. refl) f (λ c. g)
+    left_by : (e : Ending) → Run colon w e → in_operator Place.Sexp e x ≡ Action.Before TokenKind.Operator Keep.Nothing Mode.Blank → Read colon w (x ∷ rest)
+    left_by e f g = takes_left Place.Sexp colon w x rest TokenKind.Operator (Mode.Operator e) w Keep.Nothing (λ s u. refl) f (λ c. g)
 
     digit : (e : Ending) → Run colon w e → EndsAs e w → is_digit x ≡ true → Read colon w (x ∷ rest)
-    digit endings.LoneMinus f h d = absurd (true≢false (sym d ∙ o.no_number h.0))
-    digit endings.Minus f h d = absurd (true≢false (sym d ∙ o.no_number h.0))
-    digit endings.Plus f h d = left_by endings.Plus f (digit_ends endings.Plus x d (inl refl))
-    digit endings.Other f h d = left_by endings.Other f (digit_ends endings.Other x d (inr refl))
+    digit Ending.LoneMinus f h d = absurd (true≢false (sym d ∙ o.no_number h.0))
+    digit Ending.Minus f h d = absurd (true≢false (sym d ∙ o.no_number h.0))
+    digit Ending.Plus f h d = left_by Ending.Plus f (digit_ends Ending.Plus x d (inl refl))
+    digit Ending.Other f h d = left_by Ending.Other f (digit_ends Ending.Other x d (inr refl))
 
     letter : (e : Ending) → Run colon w e → EndsAs e w → (ends (λ o. (o == 43) || (o == 45)) w ≡ true → begins_infinity (105 ∷ rest) ≡ false)
         → Read colon w (105 ∷ rest)
-    letter endings.LoneMinus f h g = takes_infinity colon w endings.LoneMinus rest f (λ i. cc) (g h.1)
-    letter endings.Minus f h g = takes_infinity colon w endings.Minus rest f (λ i. cc) (g h.1)
-    letter endings.Plus f h g = takes_infinity colon w endings.Plus rest f (λ i. cc) (g h)
-    letter endings.Other f h g = takes_left places.Sexp colon w 105 rest kinds.Operator (modes.Operator endings.Other) w keeps.Nothing (λ s u. refl) f
+    letter Ending.LoneMinus f h g = takes_infinity colon w Ending.LoneMinus rest f (λ i. cc) (g h.1)
+    letter Ending.Minus f h g = takes_infinity colon w Ending.Minus rest f (λ i. cc) (g h.1)
+    letter Ending.Plus f h g = takes_infinity colon w Ending.Plus rest f (λ i. cc) (g h)
+    letter Ending.Other f h g = takes_left Place.Sexp colon w 105 rest TokenKind.Operator (Mode.Operator Ending.Other) w Keep.Nothing (λ s u. refl) f
         (λ c. refl)
 
     slash : x ≡ 47 → (is_operator_octet x ≡ false) ⊎ (begins_comment (x ∷ rest) ≡ true) → begins_comment (47 ∷ rest) ≡ true
@@ -283,7 +273,7 @@ run_read colon w e (x ∷ rest) f h o =
     left d i s (inr c) = absurd (s (comment_first x rest c))
 
 -- a run that ends in a / behind other characters
-slash_left : (x : ℕ) → x ≢ 47 → x ≢ 42 → is_operator_octet x ≡ false → in_operator_slash x ≡ actions.Before kinds.Operator (keeps.One 47) modes.Blank
+slash_left : (x : ℕ) → x ≢ 47 → x ≢ 42 → is_operator_octet x ≡ false → in_operator_slash x ≡ Action.Before TokenKind.Operator (Keep.One 47) Mode.Blank
 slash_left x n m o = rw (o, not_same x 47 n, not_same x 42 m)
 
 after_slash : (r : List ℕ) (x : ℕ) (rest : List ℕ) → r ≡ x ∷ rest → begins_comment (47 ∷ r) ≡ false → (begins is_operator_octet r ≡ false)
@@ -297,28 +287,28 @@ after_slash r x rest e c l =
           (λ h. absurd (n.0 (comment_first x rest (subst (λ l. begins_comment l ≡ true) e h)))) l,
     )
 
-slash_read : (colon : Bool) (w kept r : List ℕ) → w ≡ kept ++ 47 ∷ [] → Opens places.Sexp colon w modes.OperatorSlash kept → begins_comment (47 ∷ r) ≡ false
+slash_read : (colon : Bool) (w kept r : List ℕ) → w ≡ kept ++ 47 ∷ [] → Opens Place.Sexp colon w Mode.OperatorSlash kept → begins_comment (47 ∷ r) ≡ false
     → IsOperator w r → Read colon w r
-slash_read colon w kept [] e f c o = subst (λ l. Takes places.Sexp colon w [] kinds.Operator l) (sym e)
-    (takes_end places.Sexp colon w kinds.Operator modes.OperatorSlash kept (kept ++ 47 ∷ []) f (λ start used. refl))
+slash_read colon w kept [] e f c o = subst (λ l. Takes Place.Sexp colon w [] TokenKind.Operator l) (sym e)
+    (takes_end Place.Sexp colon w TokenKind.Operator Mode.OperatorSlash kept (kept ++ 47 ∷ []) f (λ start used. refl))
 slash_read colon w kept (x ∷ r) e f c o =
     let n = after_slash (x ∷ r) x r refl c o.longest in
-    subst (λ l. Takes places.Sexp colon w (x ∷ r) kinds.Operator l) (sym e)
-    (takes_left places.Sexp colon w x r kinds.Operator modes.OperatorSlash kept (keeps.One 47) (λ s u. refl) f (λ b. slash_left x n.0 n.1 n.2))
+    subst (λ l. Takes Place.Sexp colon w (x ∷ r) TokenKind.Operator l) (sym e)
+    (takes_left Place.Sexp colon w x r TokenKind.Operator Mode.OperatorSlash kept (Keep.One 47) (λ s u. refl) f (λ b. slash_left x n.0 n.1 n.2))
 
 -- how a run begins
 first_ending : ℕ → Ending
-first_ending o = cond (o == 45) endings.LoneMinus (cond (o == 43) endings.Plus endings.Other)
+first_ending o = cond (o == 45) Ending.LoneMinus (cond (o == 43) Ending.Plus Ending.Other)
 
-op_first : (colon : Bool) (o : ℕ) → is_operator_octet o ≡ true → o ≢ 47 → in_blank places.Sexp colon o
-    ≡ actions.Go (modes.Operator (first_ending o)) (keeps.One o)
+op_first : (colon : Bool) (o : ℕ) → is_operator_octet o ≡ true → o ≢ 47 → in_blank Place.Sexp colon o
+    ≡ Action.Go (Mode.Operator (first_ending o)) (Keep.One o)
 unfolding first_ending
 op_first colon o h n = grind (arith, nat_tests)
 
 first_ends : (o : ℕ) → EndsAs (first_ending o) (o ∷ [])
 unfolding first_ending
 first_ends o = by (o == 45) (o == 43) refl refl where
-  by : (b c : Bool) → (o == 45) ≡ b → (o == 43) ≡ c → EndsAs (cond b endings.LoneMinus (cond c endings.Plus endings.Other)) (o ∷ [])
+  by : (b c : Bool) → (o == 45) ≡ b → (o == 43) ≡ c → EndsAs (cond b Ending.LoneMinus (cond c Ending.Plus Ending.Other)) (o ∷ [])
   by true c e f = (e, by_or (o == 43) e) where
     by_or : (x : Bool) → (o == 45) ≡ true → (x || (o == 45)) ≡ true
     by_or true e = refl
@@ -326,52 +316,52 @@ first_ends o = by (o == 45) (o == 43) refl refl where
   by false true e f = ap (λ b. b || (o == 45)) f
   by false false e f = tt
 
-slash_first : (c : ℕ) → is_operator_octet c ≡ true → c ≢ 47 → c ≢ 42 → in_slash places.Sexp c ≡ actions.Go (modes.Operator (run_ending c)) (keeps.Two 47 c)
+slash_first : (c : ℕ) → is_operator_octet c ≡ true → c ≢ 47 → c ≢ 42 → in_slash Place.Sexp c ≡ Action.Go (Mode.Operator (run_ending c)) (Keep.Two 47 c)
 slash_first c h n m = grind (arith, nat_tests)
 
 opens_slashed : (colon : Bool) (c : ℕ) → is_operator_octet c ≡ true → c ≢ 47 → c ≢ 42 → Run colon (47 ∷ c ∷ []) (run_ending c)
 opens_slashed colon c h n m = λ start used r.
     let two : (used + 1) + 1 ≡ used + 2 = omega arith in
     let one : (used + 1) - 1 ≡ used = omega arith in
-    ap (λ a. follow (acts places.Sexp (at modes.Slash [] colon used (used + 1)) c a) (λ t. run places.Sexp r t)) (slash_first c h n m)
-    ∙ (λ i. run places.Sexp r (at (modes.Operator (run_ending c)) (47 ∷ c ∷ []) colon (one i) (two i)))
+    ap (λ a. follow (acts Place.Sexp (at Mode.Slash [] colon used (used + 1)) c a) (λ t. run Place.Sexp r t)) (slash_first c h n m)
+    ∙ (λ i. run Place.Sexp r (at (Mode.Operator (run_ending c)) (47 ∷ c ∷ []) colon (one i) (two i)))
 
 run_on : (colon : Bool) (front os r : List ℕ) (e : Ending) → Run colon front e → OpTo front e os r → IsOperator (front ++ os) r → Read colon (front ++ os) r
 run_on colon front os r e f (InRun e' h m) o = run_read colon (front ++ os) e' r
-    (opens_then places.Sexp colon front os (modes.Operator e) (modes.Operator e') front (front ++ os) f m) h o
+    (opens_then Place.Sexp colon front os (Mode.Operator e) (Mode.Operator e') front (front ++ os) f m) h o
 run_on colon front os r e f (InSlash kept h c m) o = slash_read colon (front ++ os) kept r h
-    (opens_then places.Sexp colon front os (modes.Operator e) modes.OperatorSlash front kept f m) c o
+    (opens_then Place.Sexp colon front os (Mode.Operator e) Mode.OperatorSlash front kept f m) c o
 
 lone_slash : (colon : Bool) (r : List ℕ) → IsOperator (47 ∷ []) r → Read colon (47 ∷ []) r
 lone_slash colon [] o = AtEnd refl (λ start used. (
-  at modes.Slash [] colon used (used + 1),
+  at Mode.Slash [] colon used (used + 1),
   refl,
-  let one : (used + 1) - 1 ≡ used = omega arith in ap (λ (n : ℕ). Ok (Some (record { start = n; end = used + 1; kind = kinds.Operator; octets = 47 ∷ [] })))
+  let one : (used + 1) - 1 ≡ used = omega arith in ap (λ (n : ℕ). Ok (Some (record { start = n; end = used + 1; kind = TokenKind.Operator; octets = 47 ∷ [] })))
       one,
 ))
 lone_slash colon (x ∷ r) o =
     let n = after_slash (x ∷ r) x r refl (or_false (begins_comment (47 ∷ x ∷ r)) false o.apart).0 o.longest in
-    Later [] x r modes.Blank [] refl Rattle.ion_tokens.proofs.complete.Moves.resumes_none (λ start used.
+    Later [] x r Mode.Blank [] refl Rattle.ion_tokens.proofs.complete.Moves.resumes_none (λ start used.
     let one : (used + 1) - 1 ≡ used = omega arith in
     let whole : (used + 1) - 0 ≡ used + 1 = omega arith in
     let none : used + 1 ≡ (used + 1) + 0 = omega arith in
-    ap (λ a. follow (acts places.Sexp (at modes.Slash [] colon used (used + 1)) x a) (λ t. run places.Sexp r t)) (slash_lone x n.0 n.1 n.2)
-    ∙ (λ i. Left (record { start = one i; end = whole i; kind = kinds.Operator; octets = 47 ∷ [] })
-    (past places.Sexp kinds.Operator modes.Blank [] (whole i) (none i))))
+    ap (λ a. follow (acts Place.Sexp (at Mode.Slash [] colon used (used + 1)) x a) (λ t. run Place.Sexp r t)) (slash_lone x n.0 n.1 n.2)
+    ∙ (λ i. Left (record { start = one i; end = whole i; kind = TokenKind.Operator; octets = 47 ∷ [] })
+    (past Place.Sexp TokenKind.Operator Mode.Blank [] (whole i) (none i))))
   where
-    slash_lone : (x : ℕ) → x ≢ 47 → x ≢ 42 → is_operator_octet x ≡ false → in_slash places.Sexp x ≡ actions.Before kinds.Operator (keeps.One 47) modes.Blank
+    slash_lone : (x : ℕ) → x ≢ 47 → x ≢ 42 → is_operator_octet x ≡ false → in_slash Place.Sexp x ≡ Action.Before TokenKind.Operator (Keep.One 47) Mode.Blank
     slash_lone x n m o = rw (o, not_same x 47 n, not_same x 42 m)
 
 in_sexp : (colon : Bool) (w r : List ℕ) → IsOperator w r → Read colon w r
 in_sexp colon [] r o = absurd (o.some refl)
 in_sexp colon (x ∷ []) r o = ⊎_elim
     (λ (i : x ≡ 47). subst (λ (y : ℕ). Read colon (y ∷ []) r) (sym i) (lone_slash colon r (subst (λ (y : ℕ). IsOperator (y ∷ []) r) i o)))
-    (λ n. run_read colon (x ∷ []) (first_ending x) r (opens_one places.Sexp colon x (modes.Operator (first_ending x)) (keeps.One x)
+    (λ n. run_read colon (x ∷ []) (first_ending x) r (opens_one Place.Sexp colon x (Mode.Operator (first_ending x)) (Keep.One x)
     (op_first colon x o.each.0 n)) (first_ends x) o) (eq_or x 47)
 in_sexp colon (x ∷ c ∷ os) r o = ⊎_elim
     (λ (i : x ≡ 47). subst (λ (y : ℕ). Read colon (y ∷ c ∷ os) r) (sym i) (slashed (subst (λ (y : ℕ). IsOperator (y ∷ c ∷ os) r) i o)))
     (λ n. run_on colon (x ∷ []) (c ∷ os) r (first_ending x)
-    (opens_one places.Sexp colon x (modes.Operator (first_ending x)) (keeps.One x) (op_first colon x o.each.0 n))
+    (opens_one Place.Sexp colon x (Mode.Operator (first_ending x)) (Keep.One x) (op_first colon x o.each.0 n))
     (op_moves (c ∷ os) (x ∷ []) r (first_ending x) (first_ends x) o.each.1 (or_false (begins_comment (x ∷ c ∷ os ++ r)) (comment_within (c ∷ os) r) o.apart).1)
     o) (eq_or x 47)
   where
@@ -384,16 +374,16 @@ in_sexp colon (x ∷ c ∷ os) r o = ⊎_elim
         (op_moves os (47 ∷ c ∷ []) r (run_ending c) (run_ends (47 ∷ []) c) o.each.1.1 (or_false (begins_comment (c ∷ os ++ r)) (comment_within os r) parts.1).1)
         o
 
-sexp_only : (p : Place) → is_sexp p ≡ true → p ≡ places.Sexp
-sexp_only places.Sexp h = refl
-sexp_only places.Top h = absurd (false≢true h)
-sexp_only places.List h = absurd (false≢true h)
-sexp_only places.Name h = absurd (false≢true h)
-sexp_only places.FieldValue h = absurd (false≢true h)
+sexp_only : (p : Place) → is_sexp p ≡ true → p ≡ Place.Sexp
+sexp_only Place.Sexp h = refl
+sexp_only Place.Top h = absurd (false≢true h)
+sexp_only Place.List h = absurd (false≢true h)
+sexp_only Place.Name h = absurd (false≢true h)
+sexp_only Place.FieldValue h = absurd (false≢true h)
 
 -- in an s-expression an operator is read as it is spelled, before what ends it
-pub takes_operator : (p : Place) (colon : Bool) (w r : List ℕ) → is_sexp p ≡ true → IsOperator w r → Takes p colon w r kinds.Operator w
-takes_operator p colon w r s o = subst (λ q. Takes q colon w r kinds.Operator w) (sym (sexp_only p s)) (in_sexp colon w r o)
+pub takes_operator : (p : Place) (colon : Bool) (w r : List ℕ) → is_sexp p ≡ true → IsOperator w r → Takes p colon w r TokenKind.Operator w
+takes_operator p colon w r s o = subst (λ q. Takes q colon w r TokenKind.Operator w) (sym (sexp_only p s)) (in_sexp colon w r o)
 
 -- octets of operators are ASCII
 pub low_operator : (o : ℕ) → is_operator_octet o ≡ true → o < 128
@@ -412,30 +402,30 @@ plain_is o h = by (is_operator_octet o) (o == 47) refl refl h where
   by true true e f h = absurd cc
 
 plain_moves : (os front : List ℕ) (e : Ending) → Each is_plain_operator os
-    → (e' : Ending) × Moves places.Sexp (modes.Operator e) front os (modes.Operator e') (front ++ os)
+    → (e' : Ending) × Moves Place.Sexp (Mode.Operator e) front os (Mode.Operator e') (front ++ os)
 plain_moves [] front e h = (
   e,
-  moves_to places.Sexp (modes.Operator e) (modes.Operator e) [] front front (front ++ []) (sym (append-nil front))
-      (moves_none places.Sexp (modes.Operator e) front),
+  moves_to Place.Sexp (Mode.Operator e) (Mode.Operator e) [] front front (front ++ []) (sym (append-nil front))
+      (moves_none Place.Sexp (Mode.Operator e) front),
 )
 plain_moves (o ∷ os) front e h =
     let is = plain_is o h.0 in
     let m = plain_moves os (front ++ o ∷ []) (run_ending o) h.1 in (
       m.0,
-      moves_to places.Sexp (modes.Operator e) (modes.Operator m.0) (o ∷ os) front ((front ++ o ∷ []) ++ os) (front ++ o ∷ os)
+      moves_to Place.Sexp (Mode.Operator e) (Mode.Operator m.0) (o ∷ os) front ((front ++ o ∷ []) ++ os) (front ++ o ∷ os)
           (append_assoc front (o ∷ []) os)
-          (moves_then places.Sexp (modes.Operator e) (modes.Operator (run_ending o)) (modes.Operator m.0) (o ∷ []) os front (front ++ o ∷ [])
+          (moves_then Place.Sexp (Mode.Operator e) (Mode.Operator (run_ending o)) (Mode.Operator m.0) (o ∷ []) os front (front ++ o ∷ [])
           ((front ++ o ∷ []) ++ os) (op_one front e o is.0 is.1) m.1),
     )
 
 -- such octets open an operator
 pub plain_opens : (colon : Bool) (w : List ℕ) → 0 < length w → Each is_plain_operator w
-    → (e : Ending) × Opens places.Sexp colon w (modes.Operator e) w
+    → (e : Ending) × Opens Place.Sexp colon w (Mode.Operator e) w
 plain_opens colon [] some h = absurd (omega arith)
 plain_opens colon (o ∷ os) some h =
     let is = plain_is o h.0 in
     let m = plain_moves os (o ∷ []) (first_ending o) h.1 in (
       m.0,
-      opens_then places.Sexp colon (o ∷ []) os (modes.Operator (first_ending o)) (modes.Operator m.0) (o ∷ []) (o ∷ os)
-          (opens_one places.Sexp colon o (modes.Operator (first_ending o)) (keeps.One o) (op_first colon o is.0 is.1)) m.1,
+      opens_then Place.Sexp colon (o ∷ []) os (Mode.Operator (first_ending o)) (Mode.Operator m.0) (o ∷ []) (o ∷ os)
+          (opens_one Place.Sexp colon o (Mode.Operator (first_ending o)) (Keep.One o) (op_first colon o is.0 is.1)) m.1,
     )

@@ -6,63 +6,51 @@ use Rattle.std.proofs.lemmas.Bool.{false≢true}
 use Rattle.std.proofs.lemmas.Bool.Decides.{nat_tests}
 use lib.Utf8.{encode, scalar_cases}
 use Rattle.std.proofs.Math.Seq.{take-append_seam}
-use Rattle.ion_tokens.proofs.texts.Encodings.{Encoding, one_octet, two_octets, three_octets, four_octets, encoding}
-use Rattle.ion_tokens.specs.declared.mode.Place.{Place}
-use Rattle.ion_tokens.specs.declared.mode.Style.{Style}
-use Rattle.ion_tokens.specs.declared.mode.Within.{Within}
-use Rattle.ion_tokens.specs.declared.mode.Style.TheVariants as styles
-use Rattle.ion_tokens.specs.declared.mode.Within.TheVariants as within
-use Rattle.ion_tokens.specs.declared.mode.Mode.TheVariants as modes
-use Rattle.ion_tokens.specs.declared.mode.TokenKind.TheVariants as kinds
-use Rattle.ion_tokens.specs.declared.mode.Keep.TheVariants as keeps
-use Rattle.ion_tokens.specs.declared.mode.Action.TheVariants as actions
-use Rattle.ion_tokens.specs.machine.Table.{next, in_text, raw, is_long, go}
-use Rattle.ion_tokens.specs.declared.mode.Action.{Action}
-use Rattle.ion_tokens.specs.machine.Scanning.{Known, Outcome, acts, follow, run, kept_after}
-use Rattle.ion_tokens.specs.Quoted.{IsQuoted, Element, Raw, RawLine, Simple, Hidden, Hex, Pair, IsElement, spelling, LineEnd, Lf, Cr, CrLf}
-use Rattle.ion_tokens.specs.Lexemes.{begins}
-use Rattle.ion_tokens.proofs.complete.Moves.{at, Moves, moves_one, moves_then, Opens, opens_one, opens_then, Takes, takes_now, takes_left, takes_end}
-use Rattle.ion_tokens.proofs.texts.TextSteps.{raw_quote}
+use Rattle.ion_tokens.specs.Names.{Action, Cr, CrLf, Element, Hex, Hidden, IsElement, IsQuoted, Keep, Known, Lf, LineEnd, Mode, Outcome, Pair, Place, Raw, RawLine, Simple, Style, TokenKind, Within, acts, begins, follow, go, in_text, is_long, kept_after, raw, run, spelling}
+use Rattle.ion_tokens.specs.machine.Table.{next}
+use Rattle.ion_tokens.proofs.complete.Moves.{Moves, Opens, Takes, at, moves_one, moves_then, opens_one, opens_then, takes_end, takes_left, takes_now}
+use Rattle.ion_tokens.proofs.texts.Encodings.{Encoding, encoding, four_octets, one_octet, three_octets, two_octets}
 use Rattle.ion_tokens.proofs.texts.TextElements.{GoesInText}
+use Rattle.ion_tokens.proofs.texts.TextSteps.{raw_quote}
 use Rattle.ion_tokens.proofs.texts.TextsComplete.{Ended, read_content}
 
 -- short strings
-short_close : (v : Within) → Ended v → in_text styles.ShortString v 34 ≡ actions.Give kinds.ShortString keeps.Nothing
-short_close within.Plain h = refl
-short_close within.AfterReturn h = refl
-short_close within.OneQuote h = absurd h
-short_close within.TwoQuotes h = absurd h
-short_close (within.Utf8 _ _ _) h = absurd h
-short_close within.Escape h = absurd h
-short_close (within.Hexadecimal _ _ _) h = absurd h
-short_close (within.HighSurrogate _) h = absurd h
-short_close (within.HighSurrogateEscape _) h = absurd h
+short_close : (v : Within) → Ended v → in_text Style.ShortString v 34 ≡ Action.Give TokenKind.ShortString Keep.Nothing
+short_close Within.Plain h = refl
+short_close Within.AfterReturn h = refl
+short_close Within.OneQuote h = absurd h
+short_close Within.TwoQuotes h = absurd h
+short_close (Within.Utf8 _ _ _) h = absurd h
+short_close Within.Escape h = absurd h
+short_close (Within.Hexadecimal _ _ _) h = absurd h
+short_close (Within.HighSurrogate _) h = absurd h
+short_close (Within.HighSurrogateEscape _) h = absurd h
 
 -- a short string is read as the text that its content means
-pub takes_short : (p : Place) (colon : Bool) (content octets r : List ℕ) → IsQuoted styles.ShortString content octets
-    → Takes p colon ((34 ∷ content) ++ 34 ∷ []) r kinds.ShortString octets
+pub takes_short : (p : Place) (colon : Bool) (content octets r : List ℕ) → IsQuoted Style.ShortString content octets
+    → Takes p colon ((34 ∷ content) ++ 34 ∷ []) r TokenKind.ShortString octets
 takes_short p colon content octets r q =
-    let c = read_content p styles.ShortString content octets [] q in
-    takes_now p colon (34 ∷ content) 34 r kinds.ShortString (modes.Text styles.ShortString c.0) octets keeps.Nothing (λ s u. refl)
-    (opens_then p colon (34 ∷ []) content (modes.Text styles.ShortString within.Plain) (modes.Text styles.ShortString c.0) [] octets
-    (opens_one p colon 34 (modes.Text styles.ShortString within.Plain) keeps.Nothing refl) c.2)
+    let c = read_content p Style.ShortString content octets [] q in
+    takes_now p colon (34 ∷ content) 34 r TokenKind.ShortString (Mode.Text Style.ShortString c.0) octets Keep.Nothing (λ s u. refl)
+    (opens_then p colon (34 ∷ []) content (Mode.Text Style.ShortString Within.Plain) (Mode.Text Style.ShortString c.0) [] octets
+    (opens_one p colon 34 (Mode.Text Style.ShortString Within.Plain) Keep.Nothing refl) c.2)
     (λ b. short_close c.0 c.1)
 
 -- quoted symbols
-symbol_close : (v : Within) → Ended v → in_text styles.QuotedSymbol v 39 ≡ actions.Give kinds.QuotedSymbol keeps.Nothing
-symbol_close within.Plain h = refl
-symbol_close within.AfterReturn h = refl
-symbol_close within.OneQuote h = absurd h
-symbol_close within.TwoQuotes h = absurd h
-symbol_close (within.Utf8 _ _ _) h = absurd h
-symbol_close within.Escape h = absurd h
-symbol_close (within.Hexadecimal _ _ _) h = absurd h
-symbol_close (within.HighSurrogate _) h = absurd h
-symbol_close (within.HighSurrogateEscape _) h = absurd h
+symbol_close : (v : Within) → Ended v → in_text Style.QuotedSymbol v 39 ≡ Action.Give TokenKind.QuotedSymbol Keep.Nothing
+symbol_close Within.Plain h = refl
+symbol_close Within.AfterReturn h = refl
+symbol_close Within.OneQuote h = absurd h
+symbol_close Within.TwoQuotes h = absurd h
+symbol_close (Within.Utf8 _ _ _) h = absurd h
+symbol_close Within.Escape h = absurd h
+symbol_close (Within.Hexadecimal _ _ _) h = absurd h
+symbol_close (Within.HighSurrogate _) h = absurd h
+symbol_close (Within.HighSurrogateEscape _) h = absurd h
 
 -- a `'` opens a quoted symbol or a long string
-pub opens_quote : (p : Place) (colon : Bool) → Opens p colon (39 ∷ []) modes.Quote []
-opens_quote p colon = opens_one p colon 39 modes.Quote keeps.Nothing refl
+pub opens_quote : (p : Place) (colon : Bool) → Opens p colon (39 ∷ []) Mode.Quote []
+opens_quote p colon = opens_one p colon 39 Mode.Quote Keep.Nothing refl
 
 -- the first octet between the quotes isn't a quote
 abbrev pub BeginsOther : List ℕ → Type 0
@@ -79,7 +67,7 @@ raw_other c n (two_octets x y l u f t e) = rw e ((λ f. cc), (λ i. omega arith)
 raw_other c n (three_octets x y z l u f g t e) = rw e ((λ f. cc), (λ i. omega arith))
 raw_other c n (four_octets x y z v l u f g h t e) = rw e ((λ f. cc), (λ i. omega arith))
 
-element_other : (e : Element) → IsElement styles.QuotedSymbol e → (spelling e ≢ []) × BeginsOther (spelling e)
+element_other : (e : Element) → IsElement Style.QuotedSymbol e → (spelling e ≢ []) × BeginsOther (spelling e)
 element_other (Raw c) i = raw_other c (⊎_elim (λ l. absurd (false≢true l)) (λ n. n) i.2) (encoding c (scalar_cases c i.0))
 element_other (RawLine e) i = absurd (false≢true i)
 element_other (Simple letter o) i = ((λ f. cc), (λ i. omega arith))
@@ -89,7 +77,7 @@ element_other (Hidden CrLf) i = ((λ f. cc), (λ i. omega arith))
 element_other (Hex letter os c) i = ((λ f. cc), (λ i. omega arith))
 element_other (Pair first second high low) i = ((λ f. cc), (λ i. omega arith))
 
-elements_other : (es : List Element) → AllByRecursion (IsElement styles.QuotedSymbol) es → BeginsOther (flat_map spelling es)
+elements_other : (es : List Element) → AllByRecursion (IsElement Style.QuotedSymbol) es → BeginsOther (flat_map spelling es)
 elements_other [] h = tt
 elements_other (e ∷ es) h = let o = element_other e h.0 in begins_front (spelling e) (flat_map spelling es) o.0 o.1
 
@@ -97,40 +85,40 @@ elements_other (e ∷ es) h = let o = element_other e h.0 in begins_front (spell
 no_quote : (o : ℕ) → o ≢ 39 → (o == 39) ≡ false
 no_quote o n = grind (arith, nat_tests)
 
-same_quote : (p : Place) (colon : Bool) (start used o : ℕ) (f : Known → Outcome) (a : Action) → follow (acts p (at modes.Quote [] colon start used) o a) f
-    ≡ follow (acts p (at (modes.Text styles.QuotedSymbol within.Plain) [] colon start used) o a) f
-same_quote p colon start used o f (actions.Go m k) = refl
-same_quote p colon start used o f (actions.Give kind k) = refl
-same_quote p colon start used o f (actions.Before kind k m) = refl
-same_quote p colon start used o f actions.EndWord = refl
-same_quote p colon start used o f (actions.Split n) = refl
-same_quote p colon start used o f actions.EndBlob = refl
-same_quote p colon start used o f (actions.Refuse e) = refl
+same_quote : (p : Place) (colon : Bool) (start used o : ℕ) (f : Known → Outcome) (a : Action) → follow (acts p (at Mode.Quote [] colon start used) o a) f
+    ≡ follow (acts p (at (Mode.Text Style.QuotedSymbol Within.Plain) [] colon start used) o a) f
+same_quote p colon start used o f (Action.Go m k) = refl
+same_quote p colon start used o f (Action.Give kind k) = refl
+same_quote p colon start used o f (Action.Before kind k m) = refl
+same_quote p colon start used o f Action.EndWord = refl
+same_quote p colon start used o f (Action.Split n) = refl
+same_quote p colon start used o f Action.EndBlob = refl
+same_quote p colon start used o f (Action.Refuse e) = refl
 
 -- behind the first quote, content that begins with no quote is read as that of a quoted symbol
 pub from_quote : (p : Place) (content octets : List ℕ) (v : Within) → content ≢ [] → BeginsOther content
-    → GoesInText p styles.QuotedSymbol within.Plain [] content v octets → Moves p modes.Quote [] content (modes.Text styles.QuotedSymbol v) octets
+    → GoesInText p Style.QuotedSymbol Within.Plain [] content v octets → Moves p Mode.Quote [] content (Mode.Text Style.QuotedSymbol v) octets
 from_quote p [] octets v some other f = absurd (some refl)
 from_quote p (o ∷ os) octets v some other f = λ colon start used r.
-    ap (λ b. follow (acts p (at modes.Quote [] colon start used) o (cond b (go modes.Quotes) (raw styles.QuotedSymbol o))) (λ t. run p (os ++ r) t))
+    ap (λ b. follow (acts p (at Mode.Quote [] colon start used) o (cond b (go Mode.Quotes) (raw Style.QuotedSymbol o))) (λ t. run p (os ++ r) t))
     (no_quote o other)
-    ∙ same_quote p colon start used o (λ t. run p (os ++ r) t) (raw styles.QuotedSymbol o) ∙ f colon start used r
+    ∙ same_quote p colon start used o (λ t. run p (os ++ r) t) (raw Style.QuotedSymbol o) ∙ f colon start used r
 
 -- behind two single quotes an octet that is none ends the empty symbol
-pub quotes_end : (x : ℕ) → (x == 39) ≡ false → (c : Bool) (p : Place) → next p c modes.Quotes x ≡ actions.Before kinds.QuotedSymbol keeps.Nothing modes.Blank
+pub quotes_end : (x : ℕ) → (x == 39) ≡ false → (c : Bool) (p : Place) → next p c Mode.Quotes x ≡ Action.Before TokenKind.QuotedSymbol Keep.Nothing Mode.Blank
 quotes_end x h c p = rw h
 
 -- two single quotes open the empty symbol or a segment of a long string
-pub opens_quotes : (p : Place) (colon : Bool) → Opens p colon (39 ∷ 39 ∷ []) modes.Quotes []
-opens_quotes p colon = opens_then p colon (39 ∷ []) (39 ∷ []) modes.Quote modes.Quotes [] [] (opens_quote p colon)
-    (moves_one p modes.Quote 39 [] modes.Quotes keeps.Nothing (λ s u. refl) (λ c. refl))
+pub opens_quotes : (p : Place) (colon : Bool) → Opens p colon (39 ∷ 39 ∷ []) Mode.Quotes []
+opens_quotes p colon = opens_then p colon (39 ∷ []) (39 ∷ []) Mode.Quote Mode.Quotes [] [] (opens_quote p colon)
+    (moves_one p Mode.Quote 39 [] Mode.Quotes Keep.Nothing (λ s u. refl) (λ c. refl))
 
-takes_empty : (p : Place) (colon : Bool) (r : List ℕ) → begins (λ o. o == 39) r ≡ false → Takes p colon (39 ∷ 39 ∷ []) r kinds.QuotedSymbol []
-takes_empty p colon [] h = takes_end p colon (39 ∷ 39 ∷ []) kinds.QuotedSymbol modes.Quotes [] [] (opens_quotes p colon) (λ start used. refl)
-takes_empty p colon (x ∷ r) h = takes_left p colon (39 ∷ 39 ∷ []) x r kinds.QuotedSymbol modes.Quotes [] keeps.Nothing (λ s u. refl) (opens_quotes p colon)
+takes_empty : (p : Place) (colon : Bool) (r : List ℕ) → begins (λ o. o == 39) r ≡ false → Takes p colon (39 ∷ 39 ∷ []) r TokenKind.QuotedSymbol []
+takes_empty p colon [] h = takes_end p colon (39 ∷ 39 ∷ []) TokenKind.QuotedSymbol Mode.Quotes [] [] (opens_quotes p colon) (λ start used. refl)
+takes_empty p colon (x ∷ r) h = takes_left p colon (39 ∷ 39 ∷ []) x r TokenKind.QuotedSymbol Mode.Quotes [] Keep.Nothing (λ s u. refl) (opens_quotes p colon)
     (λ c. quotes_end x h c p)
 
-no_octets : (octets : List ℕ) → IsQuoted styles.QuotedSymbol [] octets → octets ≡ []
+no_octets : (octets : List ℕ) → IsQuoted Style.QuotedSymbol [] octets → octets ≡ []
 no_octets octets q = by q.elements q.each q.spelled q.means where
   front : (e : Element) (es : List Element) → spelling e ≢ [] → [] ≡ spelling e ++ flat_map spelling es → ⊥
   front e es n h = at (spelling e) n h where
@@ -138,78 +126,78 @@ no_octets octets q = by q.elements q.each q.spelled q.means where
     at [] n h = n refl
     at (x ∷ xs) n h = cc
 
-  by : (es : List Element) → AllByRecursion (IsElement styles.QuotedSymbol) es → [] ≡ flat_map spelling es
-      → octets ≡ flat_map (Rattle.ion_tokens.specs.Quoted.meaning styles.QuotedSymbol) es → octets ≡ []
+  by : (es : List Element) → AllByRecursion (IsElement Style.QuotedSymbol) es → [] ≡ flat_map spelling es
+      → octets ≡ flat_map (Rattle.ion_tokens.specs.Quoted.meaning Style.QuotedSymbol) es → octets ≡ []
   by [] h s m = m
   by (e ∷ es) h s m = absurd (front e es (element_other e h.0).0 s)
 
 -- a quoted symbol is read as the text that it means, the empty one before no third quote
-pub takes_symbol : (p : Place) (colon : Bool) (content octets r : List ℕ) → IsQuoted styles.QuotedSymbol content octets
-    → (content ≡ [] → begins (λ o. o == 39) r ≡ false) → Takes p colon ((39 ∷ content) ++ 39 ∷ []) r kinds.QuotedSymbol octets
-takes_symbol p colon [] octets r q h = subst (λ l. Takes p colon (39 ∷ 39 ∷ []) r kinds.QuotedSymbol l) (sym (no_octets octets q))
+pub takes_symbol : (p : Place) (colon : Bool) (content octets r : List ℕ) → IsQuoted Style.QuotedSymbol content octets
+    → (content ≡ [] → begins (λ o. o == 39) r ≡ false) → Takes p colon ((39 ∷ content) ++ 39 ∷ []) r TokenKind.QuotedSymbol octets
+takes_symbol p colon [] octets r q h = subst (λ l. Takes p colon (39 ∷ 39 ∷ []) r TokenKind.QuotedSymbol l) (sym (no_octets octets q))
     (takes_empty p colon r (h refl))
 takes_symbol p colon (x ∷ content) octets r q h =
-    let c = read_content p styles.QuotedSymbol (x ∷ content) octets [] q in
+    let c = read_content p Style.QuotedSymbol (x ∷ content) octets [] q in
     let P : List ℕ → Type 0 = BeginsOther in
-    takes_now p colon (39 ∷ x ∷ content) 39 r kinds.QuotedSymbol (modes.Text styles.QuotedSymbol c.0) octets keeps.Nothing (λ s u. refl)
-    (opens_then p colon (39 ∷ []) (x ∷ content) modes.Quote (modes.Text styles.QuotedSymbol c.0) [] octets (opens_quote p colon)
+    takes_now p colon (39 ∷ x ∷ content) 39 r TokenKind.QuotedSymbol (Mode.Text Style.QuotedSymbol c.0) octets Keep.Nothing (λ s u. refl)
+    (opens_then p colon (39 ∷ []) (x ∷ content) Mode.Quote (Mode.Text Style.QuotedSymbol c.0) [] octets (opens_quote p colon)
     (from_quote p (x ∷ content) octets c.0 (λ f. cc) (subst P (sym q.spelled) (elements_other q.elements q.each)) c.2))
     (λ b. symbol_close c.0 c.1)
 
 -- long strings
-ended_quote : (s : Style) (v : Within) → is_long s ≡ true → Ended v → in_text s v 39 ≡ actions.Go (modes.Text s within.OneQuote) (keeps.One 39)
-ended_quote s within.Plain l h = raw_quote s l
-ended_quote s within.AfterReturn l h = raw_quote s l
-ended_quote s within.OneQuote l h = absurd h
-ended_quote s within.TwoQuotes l h = absurd h
-ended_quote s (within.Utf8 _ _ _) l h = absurd h
-ended_quote s within.Escape l h = absurd h
-ended_quote s (within.Hexadecimal _ _ _) l h = absurd h
-ended_quote s (within.HighSurrogate _) l h = absurd h
-ended_quote s (within.HighSurrogateEscape _) l h = absurd h
+ended_quote : (s : Style) (v : Within) → is_long s ≡ true → Ended v → in_text s v 39 ≡ Action.Go (Mode.Text s Within.OneQuote) (Keep.One 39)
+ended_quote s Within.Plain l h = raw_quote s l
+ended_quote s Within.AfterReturn l h = raw_quote s l
+ended_quote s Within.OneQuote l h = absurd h
+ended_quote s Within.TwoQuotes l h = absurd h
+ended_quote s (Within.Utf8 _ _ _) l h = absurd h
+ended_quote s Within.Escape l h = absurd h
+ended_quote s (Within.Hexadecimal _ _ _) l h = absurd h
+ended_quote s (Within.HighSurrogate _) l h = absurd h
+ended_quote s (Within.HighSurrogateEscape _) l h = absurd h
 
 -- the content of a long text, behind which it may end, and two of the quotes that close it
 pub long_quotes : (p : Place) (s : Style) (v : Within) (content kept kept' : List ℕ) → is_long s ≡ true → Ended v
-    → Moves p (modes.Text s within.Plain) kept content (modes.Text s v) kept'
-    → Moves p (modes.Text s within.Plain) kept (content ++ 39 ∷ 39 ∷ []) (modes.Text s within.TwoQuotes) ((kept' ++ 39 ∷ []) ++ 39 ∷ [])
+    → Moves p (Mode.Text s Within.Plain) kept content (Mode.Text s v) kept'
+    → Moves p (Mode.Text s Within.Plain) kept (content ++ 39 ∷ 39 ∷ []) (Mode.Text s Within.TwoQuotes) ((kept' ++ 39 ∷ []) ++ 39 ∷ [])
 long_quotes p s v content kept kept' l ended moves =
-    moves_then p (modes.Text s within.Plain) (modes.Text s v) (modes.Text s within.TwoQuotes) content (39 ∷ 39 ∷ []) kept kept'
+    moves_then p (Mode.Text s Within.Plain) (Mode.Text s v) (Mode.Text s Within.TwoQuotes) content (39 ∷ 39 ∷ []) kept kept'
     ((kept' ++ 39 ∷ []) ++ 39 ∷ []) moves
-    (moves_then p (modes.Text s v) (modes.Text s within.OneQuote) (modes.Text s within.TwoQuotes) (39 ∷ []) (39 ∷ []) kept'
+    (moves_then p (Mode.Text s v) (Mode.Text s Within.OneQuote) (Mode.Text s Within.TwoQuotes) (39 ∷ []) (39 ∷ []) kept'
     (kept' ++ 39 ∷ []) ((kept' ++ 39 ∷ []) ++ 39 ∷ [])
-    (moves_one p (modes.Text s v) 39 kept' (modes.Text s within.OneQuote) (keeps.One 39) (λ a b. refl) (λ b. ended_quote s v l ended))
-    (moves_one p (modes.Text s within.OneQuote) 39 (kept' ++ 39 ∷ []) (modes.Text s within.TwoQuotes) (keeps.One 39) (λ a b. refl) (λ b. refl)))
+    (moves_one p (Mode.Text s v) 39 kept' (Mode.Text s Within.OneQuote) (Keep.One 39) (λ a b. refl) (λ b. ended_quote s v l ended))
+    (moves_one p (Mode.Text s Within.OneQuote) 39 (kept' ++ 39 ∷ []) (Mode.Text s Within.TwoQuotes) (Keep.One 39) (λ a b. refl) (λ b. refl)))
 
 -- the content of a long text and two of the quotes that close it
 pub long_content : (p : Place) (s : Style) (content octets kept : List ℕ) → is_long s ≡ true → IsQuoted s content octets
-    → Moves p (modes.Text s within.Plain) kept (content ++ 39 ∷ 39 ∷ []) (modes.Text s within.TwoQuotes) (((kept ++ octets) ++ 39 ∷ []) ++ 39 ∷ [])
+    → Moves p (Mode.Text s Within.Plain) kept (content ++ 39 ∷ 39 ∷ []) (Mode.Text s Within.TwoQuotes) (((kept ++ octets) ++ 39 ∷ []) ++ 39 ∷ [])
 long_content p s content octets kept l q =
     let c = read_content p s content octets kept q in
     long_quotes p s c.0 content kept (kept ++ octets) l c.1 c.2
 
 -- the last two octets that are kept are dropped, as the quotes of a long text's close
-pub drops_two : (k : List ℕ) (a b : ℕ) → kept_after keeps.DropQuotes ((k ++ a ∷ []) ++ b ∷ []) ≡ k
+pub drops_two : (k : List ℕ) (a b : ℕ) → kept_after Keep.DropQuotes ((k ++ a ∷ []) ++ b ∷ []) ≡ k
 drops_two k a b =
     let size : length ((k ++ a ∷ []) ++ b ∷ []) - 2 ≡ length k = omega (arith, length-append (k ++ a ∷ []) (b ∷ []), length-append k (a ∷ [])) in
     ap (λ (n : ℕ). take n ((k ++ a ∷ []) ++ b ∷ [])) size ∙ ap (take (length k)) (append_assoc k (a ∷ []) (b ∷ [])) ∙ take-append_seam k (a ∷ b ∷ [])
 
 -- three quotes open a segment of a long string
-pub opens_long : (p : Place) (colon : Bool) → Opens p colon (39 ∷ 39 ∷ 39 ∷ []) (modes.Text styles.LongString within.Plain) []
-opens_long p colon = opens_then p colon (39 ∷ 39 ∷ []) (39 ∷ []) modes.Quotes (modes.Text styles.LongString within.Plain) [] [] (opens_quotes p colon)
-    (moves_one p modes.Quotes 39 [] (modes.Text styles.LongString within.Plain) keeps.Nothing (λ s u. refl) (λ c. refl))
+pub opens_long : (p : Place) (colon : Bool) → Opens p colon (39 ∷ 39 ∷ 39 ∷ []) (Mode.Text Style.LongString Within.Plain) []
+opens_long p colon = opens_then p colon (39 ∷ 39 ∷ []) (39 ∷ []) Mode.Quotes (Mode.Text Style.LongString Within.Plain) [] [] (opens_quotes p colon)
+    (moves_one p Mode.Quotes 39 [] (Mode.Text Style.LongString Within.Plain) Keep.Nothing (λ s u. refl) (λ c. refl))
 
 long_cut : (content : List ℕ) → (39 ∷ 39 ∷ 39 ∷ (content ++ 39 ∷ 39 ∷ [])) ++ 39 ∷ [] ≡ codes "'''" ++ content ++ codes "'''"
 long_cut content = ap (λ l. 39 ∷ 39 ∷ 39 ∷ l) (append_assoc content (39 ∷ 39 ∷ []) (39 ∷ []))
 
 -- a segment of a long string is read as the text that its content means
-pub takes_long : (p : Place) (colon : Bool) (content octets r : List ℕ) → IsQuoted styles.LongString content octets
-    → Takes p colon (codes "'''" ++ content ++ codes "'''") r kinds.LongString octets
+pub takes_long : (p : Place) (colon : Bool) (content octets r : List ℕ) → IsQuoted Style.LongString content octets
+    → Takes p colon (codes "'''" ++ content ++ codes "'''") r TokenKind.LongString octets
 takes_long p colon content octets r q =
-    subst (λ l. Takes p colon l r kinds.LongString octets) (long_cut content)
-    (subst (λ l. Takes p colon ((39 ∷ 39 ∷ 39 ∷ (content ++ 39 ∷ 39 ∷ [])) ++ 39 ∷ []) r kinds.LongString l) (drops_two octets 39 39)
-    (takes_now p colon (39 ∷ 39 ∷ 39 ∷ (content ++ 39 ∷ 39 ∷ [])) 39 r kinds.LongString (modes.Text styles.LongString within.TwoQuotes)
-    ((octets ++ 39 ∷ []) ++ 39 ∷ []) keeps.DropQuotes (λ s u. refl)
-    (opens_then p colon (39 ∷ 39 ∷ 39 ∷ []) (content ++ 39 ∷ 39 ∷ []) (modes.Text styles.LongString within.Plain)
-    (modes.Text styles.LongString within.TwoQuotes) [] ((octets ++ 39 ∷ []) ++ 39 ∷ []) (opens_long p colon)
-    (long_content p styles.LongString content octets [] refl q))
+    subst (λ l. Takes p colon l r TokenKind.LongString octets) (long_cut content)
+    (subst (λ l. Takes p colon ((39 ∷ 39 ∷ 39 ∷ (content ++ 39 ∷ 39 ∷ [])) ++ 39 ∷ []) r TokenKind.LongString l) (drops_two octets 39 39)
+    (takes_now p colon (39 ∷ 39 ∷ 39 ∷ (content ++ 39 ∷ 39 ∷ [])) 39 r TokenKind.LongString (Mode.Text Style.LongString Within.TwoQuotes)
+    ((octets ++ 39 ∷ []) ++ 39 ∷ []) Keep.DropQuotes (λ s u. refl)
+    (opens_then p colon (39 ∷ 39 ∷ 39 ∷ []) (content ++ 39 ∷ 39 ∷ []) (Mode.Text Style.LongString Within.Plain)
+    (Mode.Text Style.LongString Within.TwoQuotes) [] ((octets ++ 39 ∷ []) ++ 39 ∷ []) (opens_long p colon)
+    (long_content p Style.LongString content octets [] refl q))
     (λ b. refl)))

@@ -3,25 +3,15 @@ use Rattle.std.proofs.Common.{◌≡◌, ℕ, ◌+◌, ◌-◌, ◌≤◌, inl, 
 use Rattle.std.specs.Prelude.{codes, Some, Ok}
 use Rattle.std.proofs.lemmas.Bool.{false≢true, true≢false}
 use Rattle.std.proofs.Math.Seq.{drop-append_seam, drop-append-add}
-use Rattle.ion_tokens.specs.declared.mode.Place.{Place}
-use Rattle.ion_tokens.specs.declared.mode.Mark.{Mark}
-use Rattle.ion_tokens.specs.declared.mode.TokenKind.{TokenKind}
-use Rattle.ion_tokens.specs.declared.mode.Mark.TheVariants as marks
-use Rattle.ion_tokens.specs.declared.mode.Mode.TheVariants as modes
-use Rattle.ion_tokens.specs.declared.mode.TokenKind.TheVariants as kinds
-use Rattle.ion_tokens.specs.machine.Scanning.{Known, Outcome, Next, Given, Left, follow, run, past}
 use Rattle.std.specs.List.{flat_map, AllByRecursion}
 use Rattle.std.proofs.lemmas.Bool.Decides.{nat_tests}
-use Rattle.ion_tokens.specs.Octets.{is_white, begins_word}
-use Rattle.ion_tokens.specs.Blanks.{BlankPiece, White, LineComment, BlockComment, IsBlankPiece, blank_spelling, IsBlank, IsLastBlank}
-use Rattle.ion_tokens.specs.Lexemes.{IsLexeme, mark_spelling, begins, Lexeme, takes_colon}
-use Rattle.ion_tokens.specs.Lexed.{Placed, BeginsWith, colon_behind, LexesBefore}
-use Rattle.ion_tokens.proofs.complete.Found.{FindsUpTo, in_word, Last, Gives, Leaves, Unclosed}
+use Rattle.ion_tokens.specs.Names.{BeginsWith, BlankPiece, BlockComment, Given, IsBlank, IsBlankPiece, IsLastBlank, IsLexeme, Known, Left, Lexeme, LexesBefore, LineComment, Mark, Mode, Next, Outcome, Place, Placed, TokenKind, White, begins, begins_word, blank_spelling, colon_behind, follow, is_white, mark_spelling, past, run, takes_colon}
+use Rattle.ion_tokens.proofs.complete.Found.{FindsUpTo, Gives, Last, Leaves, Unclosed, in_word}
+use Rattle.ion_tokens.proofs.complete.Moves.{AtEnd, Later, Now, Open, Takes, at, blank, lexeme}
+use Rattle.ion_tokens.proofs.complete.TakesAll.{takes_lexeme}
+use Rattle.ion_tokens.proofs.complete.TakesBlanks.{passes_blank}
 use Rattle.ion_tokens.proofs.runs.Cutting.{run-append}
 use Rattle.ion_tokens.proofs.runs.Runs.{given_used, left_used, next_used}
-use Rattle.ion_tokens.proofs.complete.Moves.{at, blank, lexeme, Takes, Now, Later, AtEnd, Open}
-use Rattle.ion_tokens.proofs.complete.TakesBlanks.{passes_blank}
-use Rattle.ion_tokens.proofs.complete.TakesAll.{takes_lexeme}
 
 -- behind octets that are all used, a run goes on from what the scanner knows there
 pub run_behind : (p : Place) (xs ys : List ℕ) (s t : Known) → run p xs s ≡ Next t → run p (xs ++ ys) s ≡ run p ys t
@@ -29,26 +19,26 @@ run_behind p xs ys s t e = run-append p xs ys s ∙ ap (λ x. follow x (λ t. ru
 
 -- a token has an octet
 pub some_octet : (p : Place) (colon : Bool) (r : List ℕ) (kind : TokenKind) (kept : List ℕ) → IsLexeme p colon [] r kind kept → ⊥
-some_octet p colon r kinds.Word kept h = false≢true h.1.0
-some_octet p colon r kinds.KindName kept h = cc
-some_octet p colon r kinds.Number kept h = false≢true h.2.begun
-some_octet p colon r kinds.Operator kept h = h.2.some refl
-some_octet p colon r kinds.QuotedSymbol kept h = cc
-some_octet p colon r kinds.ShortString kept h = cc
-some_octet p colon r kinds.LongString kept h = cc
-some_octet p colon r kinds.Clob kept h = cc
-some_octet p colon r kinds.Blob kept h = cc
-some_octet p colon r (kinds.Mark m) kept h = by m h.1 where
+some_octet p colon r TokenKind.Word kept h = false≢true h.1.0
+some_octet p colon r TokenKind.KindName kept h = cc
+some_octet p colon r TokenKind.Number kept h = false≢true h.2.begun
+some_octet p colon r TokenKind.Operator kept h = h.2.some refl
+some_octet p colon r TokenKind.QuotedSymbol kept h = cc
+some_octet p colon r TokenKind.ShortString kept h = cc
+some_octet p colon r TokenKind.LongString kept h = cc
+some_octet p colon r TokenKind.Clob kept h = cc
+some_octet p colon r TokenKind.Blob kept h = cc
+some_octet p colon r (TokenKind.Mark m) kept h = by m h.1 where
   by : (m : Mark) → [] ≡ mark_spelling m → ⊥
-  by marks.FieldsOpen e = cc
-  by marks.FieldsClose e = cc
-  by marks.ListOpen e = cc
-  by marks.ListClose e = cc
-  by marks.SexpOpen e = cc
-  by marks.SexpClose e = cc
-  by marks.Comma e = cc
-  by marks.Colon e = cc
-  by marks.Colons e = cc
+  by Mark.FieldsOpen e = cc
+  by Mark.FieldsClose e = cc
+  by Mark.ListOpen e = cc
+  by Mark.ListClose e = cc
+  by Mark.SexpOpen e = cc
+  by Mark.SexpClose e = cc
+  by Mark.Comma e = cc
+  by Mark.Colon e = cc
+  by Mark.Colons e = cc
 
 nothing_left : (xs ys : List ℕ) → xs ++ ys ≡ [] → ys ≡ []
 nothing_left [] ys e = e
@@ -102,19 +92,19 @@ left_over ahead rest front r used now k e f g h =
     let size : length ahead + n ≡ length front = omega arith in
     sym (drop-append-add ahead rest n) ∙ ap (λ (i : ℕ). drop i (ahead ++ rest)) size ∙ ap (drop (length front)) e ∙ drop-append_seam front r
 
-module _ (colon : Bool) (k : ℕ) (ahead rest : List ℕ) (s : Known) (reached : (p : Place) → run p ahead (at modes.Blank [] colon k k) ≡ Next s) where
+module _ (colon : Bool) (k : ℕ) (ahead rest : List ℕ) (s : Known) (reached : (p : Place) → run p ahead (at Mode.Blank [] colon k k) ≡ Next s) where
   pub used_is : (p : Place) → s.used ≡ k + length ahead
-  used_is p = next_used p ahead (at modes.Blank [] colon k k) s (sym (reached p))
+  used_is p = next_used p ahead (at Mode.Blank [] colon k k) s (sym (reached p))
 
   -- the run goes on from where it stands as from the blank
-  pub goes_on : (p : Place) (octets : List ℕ) (x : Outcome) → octets ≡ ahead ++ rest → run p octets (at modes.Blank [] colon k k) ≡ x → run p rest s ≡ x
-  goes_on p octets x e h = sym (run_behind p ahead rest (at modes.Blank [] colon k k) s (reached p)) ∙ ap (λ l. run p l (at modes.Blank [] colon k k)) (sym e)
+  pub goes_on : (p : Place) (octets : List ℕ) (x : Outcome) → octets ≡ ahead ++ rest → run p octets (at Mode.Blank [] colon k k) ≡ x → run p rest s ≡ x
+  goes_on p octets x e h = sym (run_behind p ahead rest (at Mode.Blank [] colon k k) s (reached p)) ∙ ap (λ l. run p l (at Mode.Blank [] colon k k)) (sym e)
       ∙ h
 
 -- the tokens found from a blank with octets ahead
 abbrev pub FindsFrom : (Bool → ℕ → List ℕ → Type 0) → (Known → List ℕ → Type 0) → Type 0 → List Placed → Type 0
 FindsFrom End Rests Bare ts = (colon : Bool) (k : ℕ) (octets ahead rest : List ℕ) (s : Known) → LexesBefore End colon k octets ts → octets ≡ ahead ++ rest
-    → ((p : Place) → run p ahead (at modes.Blank [] colon k k) ≡ Next s) → FindsUpTo Rests Bare s rest ts
+    → ((p : Place) → run p ahead (at Mode.Blank [] colon k k) ≡ Next s) → FindsUpTo Rests Bare s rest ts
 
 module _ (End : Bool → ℕ → List ℕ → Type 0) (Rests : Known → List ℕ → Type 0) (Bare : Type 0) (bare : (colon : Bool) (before : ℕ) (octets : List ℕ)
     → End colon before octets → begins begins_word octets ≡ true → Bare) where
@@ -124,7 +114,7 @@ module _ (End : Bool → ℕ → List ℕ → Type 0) (Rests : Known → List �
       by t.lexeme.kind t.lexeme.octets (same_lexeme t.lexeme b.token (k + length b.blank) b.start b.end)
       (takes_lexeme t.place colon b.token r t.lexeme.kind t.lexeme.octets b.is) refl
     where
-      passed : (now : ℕ) × ((r : List ℕ) → run t.place (b.blank ++ r) (at modes.Blank [] colon k k) ≡ run t.place r (blank colon now (k + length b.blank)))
+      passed : (now : ℕ) × ((r : List ℕ) → run t.place (b.blank ++ r) (at Mode.Blank [] colon k k) ≡ run t.place r (blank colon now (k + length b.blank)))
       passed = passes_blank t.place colon b.blank b.is_blank k k
 
       size : k + length (b.blank ++ b.token) ≡ (k + length b.blank) + length b.token
@@ -135,24 +125,24 @@ module _ (End : Bool → ℕ → List ℕ → Type 0) (Rests : Known → List �
 
       from_blank : (x : Outcome) → ((start : ℕ) → run t.place (b.token ++ r) (blank colon start (k + length b.blank)) ≡ x) → run t.place rest s ≡ x
       from_blank x h = goes_on colon k ahead rest s reached t.place octets x e
-          (ap (λ l. run t.place l (at modes.Blank [] colon k k)) (b.cut ∙ append_assoc b.blank b.token r) ∙ passed.1 (b.token ++ r) ∙ h passed.0)
+          (ap (λ l. run t.place l (at Mode.Blank [] colon k k)) (b.cut ∙ append_assoc b.blank b.token r) ∙ passed.1 (b.token ++ r) ∙ h passed.0)
 
       end_is : (k + length b.blank) + length b.token ≡ t.lexeme.end
       end_is = sym b.end
 
       -- behind the token a blank begins
       behind : (kind : TokenKind) → kind ≡ t.lexeme.kind → (q : Place) (ahead' : List ℕ) (x : Outcome)
-          → run q ahead' (at modes.Blank [] (takes_colon t.place kind) ((k + length b.blank) + length b.token) ((k + length b.blank) + length b.token)) ≡ x
-          → run q ahead' (at modes.Blank [] (colon_behind t) t.lexeme.end t.lexeme.end) ≡ x
-      behind kind f q ahead' x h = ap (λ (i : ℕ). run q ahead' (at modes.Blank [] (colon_behind t) i i)) b.end
-          ∙ ap (λ k'. run q ahead' (at modes.Blank [] (takes_colon t.place k') ((k + length b.blank) + length b.token) ((k + length b.blank) + length b.token)))
+          → run q ahead' (at Mode.Blank [] (takes_colon t.place kind) ((k + length b.blank) + length b.token) ((k + length b.blank) + length b.token)) ≡ x
+          → run q ahead' (at Mode.Blank [] (colon_behind t) t.lexeme.end t.lexeme.end) ≡ x
+      behind kind f q ahead' x h = ap (λ (i : ℕ). run q ahead' (at Mode.Blank [] (colon_behind t) i i)) b.end
+          ∙ ap (λ k'. run q ahead' (at Mode.Blank [] (takes_colon t.place k') ((k + length b.blank) + length b.token) ((k + length b.blank) + length b.token)))
           (sym f) ∙ h
 
       by : (kind : TokenKind) (kept : List ℕ) → t.lexeme ≡ lexeme b.token kind kept (k + length b.blank) → Takes t.place colon b.token r kind kept
           → kind ≡ t.lexeme.kind → FindsUpTo Rests Bare s rest (t ∷ ts)
       by kind kept same (Now f) f' =
           let end : ℕ = (k + length b.blank) + length b.token in
-          let s' : Known = past t.place kind modes.Blank [] end end in
+          let s' : Known = past t.place kind Mode.Blank [] end end in
           let found : run t.place rest s ≡ Given t.lexeme s' = from_blank (Given t.lexeme s')
           (λ start. f start (k + length b.blank) ∙ ap (λ l. Given l s') (sym same)) in
           let less = given_used t.place rest s s' t.lexeme (sym found) in
@@ -179,12 +169,12 @@ module _ (End : Bool → ℕ → List ℕ → Type 0) (Rests : Known → List �
           let ended = f start (k + length b.blank) in
           let last : ts ≡ [] = all_found End (colon_behind t) t.lexeme.end ts (subst (λ l. LexesBefore End (colon_behind t) t.lexeme.end l ts) none lexes) in
           let found : run t.place rest s ≡ Next ended.0 = goes_on colon k ahead rest s reached t.place octets (Next ended.0) e
-          (ap (λ l. run t.place l (at modes.Blank [] colon k k)) (b.cut ∙ append_assoc b.blank b.token r) ∙ passed.1 (b.token ++ r) ∙ ended.1) in
+          (ap (λ l. run t.place l (at Mode.Blank [] colon k k)) (b.cut ∙ append_assoc b.blank b.token r) ∙ passed.1 (b.token ++ r) ∙ ended.1) in
           subst (λ l. FindsUpTo Rests Bare s rest (t ∷ l)) (sym last) (Last s rest t ended.0 found (ended.2 ∙ ap (λ l. Ok (Some l)) (sym same)))
       by kind kept same (Open some operator resumes f) f' =
           let ended = f start (k + length b.blank) in
           let found : run t.place rest s ≡ Next ended.0 = goes_on colon k ahead rest s reached t.place octets (Next ended.0) e
-          (ap (λ l. run t.place l (at modes.Blank [] colon k k)) (b.cut ∙ append_assoc b.blank b.token r) ∙ passed.1 (b.token ++ r) ∙ ended.2) in
+          (ap (λ l. run t.place l (at Mode.Blank [] colon k k)) (b.cut ∙ append_assoc b.blank b.token r) ∙ passed.1 (b.token ++ r) ∙ ended.2) in
           let used = next_used t.place (b.token ++ r) (blank colon start (k + length b.blank)) ended.0 (sym ended.2) in
           let all : t.lexeme.end + length r ≡ ended.0.used = omega (arith, used, b.end, length-append b.token r) in
           let word = more (colon_behind t) t.lexeme.end r r [] (in_word r (colon_behind t) t.lexeme.end (t.lexeme.end + length r)) lexes (sym (append-nil r))

@@ -3,45 +3,21 @@ use Rattle.std.proofs.Common.{◌≡◌, ℕ, ◌+◌, ◌-◌, ◌≤◌, ◌�
 use Rattle.std.specs.Prelude.{◌==◌, ◌&&◌, ◌||◌, not, codes, take, Option, Some, None, Result, Ok}
 use Rattle.std.proofs.lemmas.Bool.{true≢false}
 use Rattle.std.proofs.lemmas.Bool.Decides.{nat_tests}
-use Rattle.ion_atoms.specs.declared.refusal.Reason.{Reason}
-use Rattle.ion_atoms.specs.declared.refusal.Reason.TheVariants as reasons
-use Rattle.ion_tokens.specs.declared.mode.Place.{Place}
-use Rattle.ion_tokens.specs.declared.mode.Place.TheVariants as places
-use Rattle.ion_tokens.specs.declared.mode.Style.TheVariants as styles
-use Rattle.ion_tokens.specs.declared.mode.Mark.TheVariants as marks
-use Rattle.ion_tokens.specs.declared.mode.TokenKind.{TokenKind}
-use Rattle.ion_tokens.specs.declared.mode.TokenKind.TheVariants as kinds
-use Rattle.ion_tokens.specs.declared.mode.Keep.{Keep}
-use Rattle.ion_tokens.specs.declared.mode.Keep.TheVariants as keeps
-use Rattle.ion_tokens.specs.declared.mode.End.{End}
-use Rattle.ion_tokens.specs.declared.mode.End.TheVariants as ends
-use Rattle.ion_tokens.specs.declared.mode.Mode.{Mode}
-use Rattle.ion_tokens.specs.declared.mode.Mode.TheVariants as modes
-use Rattle.ion_tokens.specs.declared.token.Begun.{Begun}
-use Rattle.ion_tokens.specs.declared.token.Form.TheVariants as forms
-use Rattle.ion_tokens.specs.Octets.{is_digit, begins_word, is_operator_octet}
-use Rattle.ion_tokens.specs.machine.Table.{end_of, is_sexp}
-use Rattle.ion_tokens.specs.machine.Bounds.{is_idle}
-use Rattle.ion_tokens.specs.machine.Views.{behind, form_of, begun_in}
-use Rattle.ion_tokens.specs.machine.Scanning.{Known, Outcome, Next, Given, Left, run, ends_at, start_of}
-use Rattle.ion_tokens.specs.Blanks.{LineComment, BlockComment, IsBlank}
-use Rattle.ion_tokens.specs.Lexemes.{begins, begins_number, Lexeme}
-use Rattle.ion_tokens.specs.Lexed.{Placed, Lexes, LexesTo, LooksIn}
-use Rattle.ion_tokens.proofs.complete.Found.{Finds, in_word, Nothing, Last, Gives, Leaves, Unclosed}
-use Rattle.ion_tokens.specs.machine.Scanned.{Scanned, Continues, IsForm, Covers, IsFirstColon, MayComment, HasBegun, BegunSo, ShowsBegun}
-use Rattle.ion_tokens.proofs.sound.Opens.{IsOpen, IsOpenRun}
-use Rattle.ion_tokens.proofs.sound.Holds.{InMode, IsBegun, Holds, blank_more, blank_none}
-use Rattle.ion_tokens.proofs.sound.Sounds.{RunSound, run_sound}
-use Rattle.ion_tokens.proofs.sound.SoundHistories.{stands_tells}
+use Rattle.ion_tokens.specs.Names.{Begun, BegunSo, BlockComment, Continues, Covers, End, Form, Given, HasBegun, IsBlank, IsFirstColon, IsForm, Keep, Known, Left, Lexeme, Lexes, LexesTo, LineComment, LooksIn, Mark, MayComment, Mode, Next, Outcome, Place, Placed, Reason, Scanned, ShowsBegun, Style, TokenKind, begins, begins_number, begins_word, begun_in, behind, end_of, ends_at, form_of, is_digit, is_idle, is_operator_octet, is_sexp, run, start_of}
+use Rattle.ion_tokens.proofs.complete.Found.{Finds, Gives, Last, Leaves, Nothing, Unclosed, in_word}
 use Rattle.ion_tokens.proofs.complete.Wholes.{run_behind}
-use Rattle.ion_tokens.proofs.histories.Histories.{stands_finds, end_token}
-use Rattle.ion_tokens.proofs.sound.Told.{lexes_behind}
-use Rattle.ion_tokens.proofs.histories.Stepped.{all_since}
+use Rattle.ion_tokens.proofs.foreseen.Reaches.{Reaches, begun_stays, run_reaches}
 use Rattle.ion_tokens.proofs.foreseen.Slashes.{EndsBeforeComment, slash_comments}
-use Rattle.ion_tokens.proofs.foreseen.Reaches.{Reaches, run_reaches, begun_stays}
+use Rattle.ion_tokens.proofs.histories.Histories.{end_token, stands_finds}
+use Rattle.ion_tokens.proofs.histories.Stepped.{all_since}
+use Rattle.ion_tokens.proofs.sound.Holds.{Holds, InMode, IsBegun, blank_more, blank_none}
+use Rattle.ion_tokens.proofs.sound.Opens.{IsOpen, IsOpenRun}
+use Rattle.ion_tokens.proofs.sound.SoundHistories.{stands_tells}
+use Rattle.ion_tokens.proofs.sound.Sounds.{RunSound, run_sound}
+use Rattle.ion_tokens.proofs.sound.Told.{lexes_behind}
 
 -- what doesn't begin with a quote
-other_if : (f : List ℕ → Bool) (w : List ℕ) → f w ≡ true → ((x : List ℕ) → f (39 ∷ x) ≡ false) → IsForm forms.Other w
+other_if : (f : List ℕ → Bool) (w : List ℕ) → f w ≡ true → ((x : List ℕ) → f (39 ∷ x) ≡ false) → IsForm Form.Other w
 other_if f w h n = (
   λ e. true≢false (sym h ∙ ap f e ∙ n []),
   λ e. true≢false (sym h ∙ ap f e ∙ n (39 ∷ [])),
@@ -66,7 +42,7 @@ number_begins (o ∷ os) h = first o (begins is_digit os) h where
   first : (o : ℕ) (b : Bool) → (is_digit o || ((o == 45) && b)) ≡ true → not (o == 39) ≡ true
   first o b h = grind (arith, nat_tests)
 
-symbol_form : (part w : List ℕ) → w ≡ 39 ∷ part → begins no_quote part ≡ true → IsForm forms.Other w
+symbol_form : (part w : List ℕ) → w ≡ 39 ∷ part → begins no_quote part ≡ true → IsForm Form.Other w
 unfolding no_quote
 symbol_form part w e n = (
   λ f. true≢false (sym n ∙ ap (begins (λ o. not (o == 39))) (tail [] f)),
@@ -78,78 +54,78 @@ symbol_form part w e n = (
 
 form_is : (p : Place) (colon : Bool) (m : Mode) (w kept : List ℕ) → IsOpen p colon m w kept → is_idle m ≡ false → IsForm (form_of m) w
 unfolding no_quote
-form_is p colon modes.Word w kept (e, h) i = other_if (begins begins_word) w h.0 (λ x. refl)
-form_is p colon modes.KindName w kept (e, h) i = other_if (begins (λ o. o == 110)) w (ap (begins (λ o. o == 110)) e) (λ x. refl)
-form_is p colon modes.Number w kept (e, n) i = other_if begins_number w n.begun (λ x. refl)
-form_is p colon modes.NumberSlash w kept (e, n) i = other_if (begins no_quote) w
+form_is p colon Mode.Word w kept (e, h) i = other_if (begins begins_word) w h.0 (λ x. refl)
+form_is p colon Mode.KindName w kept (e, h) i = other_if (begins (λ o. o == 110)) w (ap (begins (λ o. o == 110)) e) (λ x. refl)
+form_is p colon Mode.Number w kept (e, n) i = other_if begins_number w n.begun (λ x. refl)
+form_is p colon Mode.NumberSlash w kept (e, n) i = other_if (begins no_quote) w
     (ap (begins no_quote) e ∙ begins_longer no_quote kept (47 ∷ []) (number_begins kept n.begun)) (λ x. refl)
-form_is p colon (modes.Operator x) w kept (e, n, h, s) i = other_if (begins is_operator_octet) w (run_begins w h) (λ x. refl)
-form_is p colon modes.OperatorSlash w kept (e, s, h) i =
+form_is p colon (Mode.Operator x) w kept (e, n, h, s) i = other_if (begins is_operator_octet) w (run_begins w h) (λ x. refl)
+form_is p colon Mode.OperatorSlash w kept (e, s, h) i =
     other_if (begins is_operator_octet) w (ap (begins is_operator_octet) e ∙ begins_longer is_operator_octet kept (47 ∷ []) (run_begins kept h)) (λ x. refl)
-form_is p colon (modes.Infinity n) w kept (e, h, a, b) i =
+form_is p colon (Mode.Infinity n) w kept (e, h, a, b) i =
     other_if (begins is_operator_octet) w (ap (begins is_operator_octet) e ∙ begins_longer is_operator_octet kept (take n (codes "inf")) (run_begins kept h))
     (λ x. refl)
-form_is p colon modes.Quote w kept (e, k) i = inl e
-form_is p colon modes.Quotes w kept (e, k) i = inr e
-form_is p colon (modes.Text styles.ShortString v) w kept (part, h, e) i = other_if (begins (λ o. o == 34)) w (ap (begins (λ o. o == 34)) e) (λ x. refl)
-form_is p colon (modes.Text styles.QuotedSymbol v) w kept (part, h, e, n) i = symbol_form part w e n
-form_is p colon (modes.Text styles.LongString v) w kept (part, h, e) i = (part, e)
-form_is p colon (modes.Text styles.ShortClob v) w kept (n, before, part, b, h, e) i =
+form_is p colon Mode.Quote w kept (e, k) i = inl e
+form_is p colon Mode.Quotes w kept (e, k) i = inr e
+form_is p colon (Mode.Text Style.ShortString v) w kept (part, h, e) i = other_if (begins (λ o. o == 34)) w (ap (begins (λ o. o == 34)) e) (λ x. refl)
+form_is p colon (Mode.Text Style.QuotedSymbol v) w kept (part, h, e, n) i = symbol_form part w e n
+form_is p colon (Mode.Text Style.LongString v) w kept (part, h, e) i = (part, e)
+form_is p colon (Mode.Text Style.ShortClob v) w kept (n, before, part, b, h, e) i =
     other_if (begins (λ o. o == 123)) w (ap (begins (λ o. o == 123)) e) (λ x. refl)
-form_is p colon (modes.Text styles.LongClob v) w kept (n, front, kept', part, q, f, h, e, k) i =
+form_is p colon (Mode.Text Style.LongClob v) w kept (n, front, kept', part, q, f, h, e, k) i =
     other_if (begins (λ o. o == 123)) w (ap (begins (λ o. o == 123)) e) (λ x. refl)
-form_is p colon modes.Brace w kept (e, k, n) i = other_if (begins (λ o. o == 123)) w (ap (begins (λ o. o == 123)) e) (λ x. refl)
-form_is p colon (modes.Lob l) w kept (n, inside, e, h) i = other_if (begins (λ o. o == 123)) w (ap (begins (λ o. o == 123)) e) (λ x. refl)
-form_is p colon modes.Colon w kept h i = cc
-form_is p colon modes.Blank w kept h i = absurd h
-form_is p colon modes.Slash w kept h i = absurd h
-form_is p colon modes.LineComment w kept h i = absurd h
-form_is p colon modes.BlockComment w kept h i = absurd h
-form_is p colon modes.BlockCommentStar w kept h i = absurd h
+form_is p colon Mode.Brace w kept (e, k, n) i = other_if (begins (λ o. o == 123)) w (ap (begins (λ o. o == 123)) e) (λ x. refl)
+form_is p colon (Mode.Lob l) w kept (n, inside, e, h) i = other_if (begins (λ o. o == 123)) w (ap (begins (λ o. o == 123)) e) (λ x. refl)
+form_is p colon Mode.Colon w kept h i = cc
+form_is p colon Mode.Blank w kept h i = absurd h
+form_is p colon Mode.Slash w kept h i = absurd h
+form_is p colon Mode.LineComment w kept h i = absurd h
+form_is p colon Mode.BlockComment w kept h i = absurd h
+form_is p colon Mode.BlockCommentStar w kept h i = absurd h
 
 -- a / at the end of the token may open a comment
 slash_behind : (p : Place) (colon : Bool) (m : Mode) (w kept : List ℕ) → IsOpen p colon m w kept → (behind m ≡ 0)
     ⊎ ((behind m ≡ 1) × (front : List ℕ) × (w ≡ front ++ codes "/"))
-slash_behind p colon modes.NumberSlash w kept (e, n) = inr (refl, kept, e)
-slash_behind p colon modes.OperatorSlash w kept (e, s, h) = inr (refl, kept, e)
-slash_behind p colon modes.Word w kept h = inl refl
-slash_behind p colon modes.KindName w kept h = inl refl
-slash_behind p colon modes.Number w kept h = inl refl
-slash_behind p colon (modes.Operator x) w kept h = inl refl
-slash_behind p colon (modes.Infinity n) w kept h = inl refl
-slash_behind p colon modes.Quote w kept h = inl refl
-slash_behind p colon modes.Quotes w kept h = inl refl
-slash_behind p colon (modes.Text s v) w kept h = inl refl
-slash_behind p colon modes.Brace w kept h = inl refl
-slash_behind p colon (modes.Lob l) w kept h = inl refl
-slash_behind p colon modes.Colon w kept h = inl refl
-slash_behind p colon modes.Blank w kept h = inl refl
-slash_behind p colon modes.Slash w kept h = inl refl
-slash_behind p colon modes.LineComment w kept h = inl refl
-slash_behind p colon modes.BlockComment w kept h = inl refl
-slash_behind p colon modes.BlockCommentStar w kept h = inl refl
+slash_behind p colon Mode.NumberSlash w kept (e, n) = inr (refl, kept, e)
+slash_behind p colon Mode.OperatorSlash w kept (e, s, h) = inr (refl, kept, e)
+slash_behind p colon Mode.Word w kept h = inl refl
+slash_behind p colon Mode.KindName w kept h = inl refl
+slash_behind p colon Mode.Number w kept h = inl refl
+slash_behind p colon (Mode.Operator x) w kept h = inl refl
+slash_behind p colon (Mode.Infinity n) w kept h = inl refl
+slash_behind p colon Mode.Quote w kept h = inl refl
+slash_behind p colon Mode.Quotes w kept h = inl refl
+slash_behind p colon (Mode.Text s v) w kept h = inl refl
+slash_behind p colon Mode.Brace w kept h = inl refl
+slash_behind p colon (Mode.Lob l) w kept h = inl refl
+slash_behind p colon Mode.Colon w kept h = inl refl
+slash_behind p colon Mode.Blank w kept h = inl refl
+slash_behind p colon Mode.Slash w kept h = inl refl
+slash_behind p colon Mode.LineComment w kept h = inl refl
+slash_behind p colon Mode.BlockComment w kept h = inl refl
+slash_behind p colon Mode.BlockCommentStar w kept h = inl refl
 
 -- a token has begun
 open_token : (p : Place) (colon : Bool) (k : ℕ) (m : Mode) (kept : List ℕ) (start : ℕ) (since : List ℕ) → is_idle m ≡ false
     → InMode p colon k m kept start since → IsBegun p colon k m kept start since
-open_token p colon k modes.Word kept start since i h = h
-open_token p colon k modes.KindName kept start since i h = h
-open_token p colon k modes.Number kept start since i h = h
-open_token p colon k modes.NumberSlash kept start since i h = h
-open_token p colon k (modes.Operator x) kept start since i h = h
-open_token p colon k modes.OperatorSlash kept start since i h = h
-open_token p colon k (modes.Infinity n) kept start since i h = h
-open_token p colon k modes.Quote kept start since i h = h
-open_token p colon k modes.Quotes kept start since i h = h
-open_token p colon k (modes.Text s v) kept start since i h = h
-open_token p colon k modes.Brace kept start since i h = h
-open_token p colon k (modes.Lob l) kept start since i h = h
-open_token p colon k modes.Colon kept start since i h = cc
-open_token p colon k modes.Blank kept start since i h = cc
-open_token p colon k modes.Slash kept start since i h = cc
-open_token p colon k modes.LineComment kept start since i h = cc
-open_token p colon k modes.BlockComment kept start since i h = cc
-open_token p colon k modes.BlockCommentStar kept start since i h = cc
+open_token p colon k Mode.Word kept start since i h = h
+open_token p colon k Mode.KindName kept start since i h = h
+open_token p colon k Mode.Number kept start since i h = h
+open_token p colon k Mode.NumberSlash kept start since i h = h
+open_token p colon k (Mode.Operator x) kept start since i h = h
+open_token p colon k Mode.OperatorSlash kept start since i h = h
+open_token p colon k (Mode.Infinity n) kept start since i h = h
+open_token p colon k Mode.Quote kept start since i h = h
+open_token p colon k Mode.Quotes kept start since i h = h
+open_token p colon k (Mode.Text s v) kept start since i h = h
+open_token p colon k Mode.Brace kept start since i h = h
+open_token p colon k (Mode.Lob l) kept start since i h = h
+open_token p colon k Mode.Colon kept start since i h = cc
+open_token p colon k Mode.Blank kept start since i h = cc
+open_token p colon k Mode.Slash kept start since i h = cc
+open_token p colon k Mode.LineComment kept start since i h = cc
+open_token p colon k Mode.BlockComment kept start since i h = cc
+open_token p colon k Mode.BlockCommentStar kept start since i h = cc
 
 block_closes : (since front octets : List ℕ) → since ≡ front ++ codes "/*" ++ octets → since ++ codes "*/" ≡ front ++ (codes "/*" ++ octets ++ codes "*/")
 block_closes since front octets e = ap (λ l. l ++ codes "*/") e ∙ append_assoc (front ++ codes "/*") octets (codes "*/")
@@ -158,106 +134,106 @@ block_closes since front octets e = ap (λ l. l ++ codes "*/") e ∙ append_asso
 -- no token has begun
 none_begun : (p : Place) (u : List ℕ) (ts : List Placed) (colon : Bool) (k : ℕ) (m : Mode) (kept : List ℕ) (start : ℕ) (since : List ℕ) → is_idle m ≡ true
     → InMode p colon k m kept start since → BegunSo p u ts colon k since None
-none_begun p u ts colon k modes.Blank kept start since i (e, b) = inl ([], subst IsBlank (sym (append-nil since)) b)
-none_begun p u ts colon k modes.Slash kept start since i (e, front, b, c) =
+none_begun p u ts colon k Mode.Blank kept start since i (e, b) = inl ([], subst IsBlank (sym (append-nil since)) b)
+none_begun p u ts colon k Mode.Slash kept start since i (e, front, b, c) =
     inl (
       47 ∷ 10 ∷ [],
       subst IsBlank (sym (ap (λ l. l ++ 47 ∷ 10 ∷ []) c ∙ append_assoc front (47 ∷ []) (47 ∷ 10 ∷ [])))
           (blank_more front (LineComment [] 10) b (tt, refl)),
     )
-none_begun p u ts colon k modes.LineComment kept start since i (e, c) =
+none_begun p u ts colon k Mode.LineComment kept start since i (e, c) =
     inl (
       10 ∷ [],
       subst IsBlank (sym (ap (λ l. l ++ 10 ∷ []) c.cut ∙ append_assoc (c.front ++ codes "//") c.octets (10 ∷ [])
           ∙ append_assoc c.front (codes "//") (c.octets ++ 10 ∷ []))) (blank_more c.front (LineComment c.octets 10) c.blank (c.one_line, refl)),
     )
-none_begun p u ts colon k modes.BlockComment kept start since i (e, c) =
+none_begun p u ts colon k Mode.BlockComment kept start since i (e, c) =
     inl (codes "*/", subst IsBlank (sym (block_closes since c.front c.octets c.cut)) (blank_more c.front (BlockComment c.octets) c.blank c.no_close))
-none_begun p u ts colon k modes.BlockCommentStar kept start since i (e, c) =
+none_begun p u ts colon k Mode.BlockCommentStar kept start since i (e, c) =
     inl (codes "*/", subst IsBlank (sym (block_closes since c.front c.octets c.cut)) (blank_more c.front (BlockComment c.octets) c.blank c.no_close))
-none_begun p u ts colon k modes.Colon kept start since i h = let (w, kept, flag) = h.is in inr (flag, h.front, h.blank, h.cut ∙ ap (λ l. h.front ++ l) w)
-none_begun p u ts colon k modes.Word kept start since i h = cc
-none_begun p u ts colon k modes.KindName kept start since i h = cc
-none_begun p u ts colon k modes.Number kept start since i h = cc
-none_begun p u ts colon k modes.NumberSlash kept start since i h = cc
-none_begun p u ts colon k (modes.Operator x) kept start since i h = cc
-none_begun p u ts colon k modes.OperatorSlash kept start since i h = cc
-none_begun p u ts colon k (modes.Infinity n) kept start since i h = cc
-none_begun p u ts colon k modes.Quote kept start since i h = cc
-none_begun p u ts colon k modes.Quotes kept start since i h = cc
-none_begun p u ts colon k (modes.Text s v) kept start since i h = cc
-none_begun p u ts colon k modes.Brace kept start since i h = cc
-none_begun p u ts colon k (modes.Lob l) kept start since i h = cc
+none_begun p u ts colon k Mode.Colon kept start since i h = let (w, kept, flag) = h.is in inr (flag, h.front, h.blank, h.cut ∙ ap (λ l. h.front ++ l) w)
+none_begun p u ts colon k Mode.Word kept start since i h = cc
+none_begun p u ts colon k Mode.KindName kept start since i h = cc
+none_begun p u ts colon k Mode.Number kept start since i h = cc
+none_begun p u ts colon k Mode.NumberSlash kept start since i h = cc
+none_begun p u ts colon k (Mode.Operator x) kept start since i h = cc
+none_begun p u ts colon k Mode.OperatorSlash kept start since i h = cc
+none_begun p u ts colon k (Mode.Infinity n) kept start since i h = cc
+none_begun p u ts colon k Mode.Quote kept start since i h = cc
+none_begun p u ts colon k Mode.Quotes kept start since i h = cc
+none_begun p u ts colon k (Mode.Text s v) kept start since i h = cc
+none_begun p u ts colon k Mode.Brace kept start since i h = cc
+none_begun p u ts colon k (Mode.Lob l) kept start since i h = cc
 
 -- where the end shows no token, none has begun
 pub end_idle : (p : Place) (s : Known) (m : Mode) → ends_at s (end_of p m) ≡ Ok None → is_idle m ≡ true
-end_idle p s modes.Blank e = refl
-end_idle p s modes.Slash e = refl
-end_idle p s modes.LineComment e = refl
-end_idle p s modes.BlockComment e = refl
-end_idle p s modes.BlockCommentStar e = refl
-end_idle p s modes.Colon e = refl
-end_idle p s modes.Word e = cc
-end_idle p s modes.KindName e = cc
-end_idle p s modes.Number e = cc
-end_idle p s modes.NumberSlash e = cc
-end_idle p s (modes.Operator x) e = by (is_sexp p) e where
-  by : (b : Bool) → ends_at s (cond b (ends.Token kinds.Operator keeps.Nothing) (ends.Refuse reasons.Incomplete)) ≡ Ok None → false ≡ true
+end_idle p s Mode.Blank e = refl
+end_idle p s Mode.Slash e = refl
+end_idle p s Mode.LineComment e = refl
+end_idle p s Mode.BlockComment e = refl
+end_idle p s Mode.BlockCommentStar e = refl
+end_idle p s Mode.Colon e = refl
+end_idle p s Mode.Word e = cc
+end_idle p s Mode.KindName e = cc
+end_idle p s Mode.Number e = cc
+end_idle p s Mode.NumberSlash e = cc
+end_idle p s (Mode.Operator x) e = by (is_sexp p) e where
+  by : (b : Bool) → ends_at s (cond b (End.Token TokenKind.Operator Keep.Nothing) (End.Refuse Reason.Incomplete)) ≡ Ok None → false ≡ true
   by true f = cc
   by false f = cc
-end_idle p s modes.OperatorSlash e = by (is_sexp p) e where
-  by : (b : Bool) → ends_at s (cond b (ends.Token kinds.Operator (keeps.One 47)) (ends.Refuse reasons.Incomplete)) ≡ Ok None → false ≡ true
+end_idle p s Mode.OperatorSlash e = by (is_sexp p) e where
+  by : (b : Bool) → ends_at s (cond b (End.Token TokenKind.Operator (Keep.One 47)) (End.Refuse Reason.Incomplete)) ≡ Ok None → false ≡ true
   by true f = cc
   by false f = cc
-end_idle p s (modes.Infinity n) e = cc
-end_idle p s modes.Quote e = cc
-end_idle p s modes.Quotes e = cc
-end_idle p s (modes.Text x v) e = cc
-end_idle p s modes.Brace e = cc
-end_idle p s (modes.Lob l) e = cc
+end_idle p s (Mode.Infinity n) e = cc
+end_idle p s Mode.Quote e = cc
+end_idle p s Mode.Quotes e = cc
+end_idle p s (Mode.Text x v) e = cc
+end_idle p s Mode.Brace e = cc
+end_idle p s (Mode.Lob l) e = cc
 
 -- a token at the end of the input
 end_token_is : (s : Known) (e : End) (l : Lexeme) → ends_at s e ≡ Ok (Some l) → (l.start ≡ start_of s.mode s.start s.used) × (l.end ≡ s.used)
-end_token_is s ends.Blank l h = cc
-end_token_is s (ends.Token kind k) l h = (sym (ap (λ x. (lexeme_in x l).start) h), sym (ap (λ x. (lexeme_in x l).end) h)) where
+end_token_is s End.Blank l h = cc
+end_token_is s (End.Token kind k) l h = (sym (ap (λ x. (lexeme_in x l).start) h), sym (ap (λ x. (lexeme_in x l).end) h)) where
   lexeme_in : Result (Option Lexeme) Reason → Lexeme → Lexeme
   lexeme_in (Ok (Some l)) m = l
   lexeme_in _ m = m
-end_token_is s (ends.Refuse e) l h = cc
+end_token_is s (End.Refuse e) l h = cc
 
 -- where the end shows a colon, no token has begun
-colon_idle : (p : Place) (s : Known) (m : Mode) (l : Lexeme) → l.kind ≡ kinds.Mark marks.Colon → ends_at s (end_of p m) ≡ Ok (Some l) → is_idle m ≡ true
+colon_idle : (p : Place) (s : Known) (m : Mode) (l : Lexeme) → l.kind ≡ TokenKind.Mark Mark.Colon → ends_at s (end_of p m) ≡ Ok (Some l) → is_idle m ≡ true
 colon_idle p s m l k e = by m (ends_at s (end_of p m)) refl e where
   kind_in : Result (Option Lexeme) Reason → TokenKind
   kind_in (Ok (Some x)) = x.kind
-  kind_in _ = kinds.Mark marks.Colon
+  kind_in _ = TokenKind.Mark Mark.Colon
 
-  other : (x : End) (kind : TokenKind) (c : Keep) → x ≡ ends.Token kind c → ends_at s x ≡ Ok (Some l) → kind ≡ kinds.Mark marks.Colon
+  other : (x : End) (kind : TokenKind) (c : Keep) → x ≡ End.Token kind c → ends_at s x ≡ Ok (Some l) → kind ≡ TokenKind.Mark Mark.Colon
   other x kind c f g = sym (ap kind_in (ap (λ y. ends_at s y) f)) ∙ ap kind_in g ∙ k
 
-  run : (b : Bool) (c : Keep) → ends_at s (cond b (ends.Token kinds.Operator c) (ends.Refuse reasons.Incomplete)) ≡ Ok (Some l) → false ≡ true
-  run true c f = let h = other (ends.Token kinds.Operator c) kinds.Operator c refl f in cc
+  run : (b : Bool) (c : Keep) → ends_at s (cond b (End.Token TokenKind.Operator c) (End.Refuse Reason.Incomplete)) ≡ Ok (Some l) → false ≡ true
+  run true c f = let h = other (End.Token TokenKind.Operator c) TokenKind.Operator c refl f in cc
   run false c f = cc
 
   by : (m : Mode) (x : Result (Option Lexeme) Reason) → ends_at s (end_of p m) ≡ x → x ≡ Ok (Some l) → is_idle m ≡ true
-  by modes.Blank x f g = refl
-  by modes.Slash x f g = refl
-  by modes.LineComment x f g = refl
-  by modes.BlockComment x f g = refl
-  by modes.BlockCommentStar x f g = refl
-  by modes.Colon x f g = refl
-  by modes.Word x f g = let h = other (end_of p modes.Word) kinds.Word keeps.Nothing refl (f ∙ g) in cc
-  by modes.KindName x f g = let h = other (end_of p modes.KindName) kinds.KindName keeps.Nothing refl (f ∙ g) in cc
-  by modes.Number x f g = let h = other (end_of p modes.Number) kinds.Number keeps.Nothing refl (f ∙ g) in cc
-  by modes.NumberSlash x f g = let h = other (end_of p modes.NumberSlash) kinds.Number (keeps.One 47) refl (f ∙ g) in cc
-  by (modes.Operator e) x f g = run (is_sexp p) keeps.Nothing (f ∙ g)
-  by modes.OperatorSlash x f g = run (is_sexp p) (keeps.One 47) (f ∙ g)
-  by (modes.Infinity n) x f g = let h = f ∙ g in cc
-  by modes.Quote x f g = let h = f ∙ g in cc
-  by modes.Quotes x f g = let h = other (end_of p modes.Quotes) kinds.QuotedSymbol keeps.Nothing refl (f ∙ g) in cc
-  by (modes.Text t v) x f g = let h = f ∙ g in cc
-  by modes.Brace x f g = let h = other (end_of p modes.Brace) (kinds.Mark marks.FieldsOpen) keeps.Nothing refl (f ∙ g) in cc
-  by (modes.Lob t) x f g = let h = f ∙ g in cc
+  by Mode.Blank x f g = refl
+  by Mode.Slash x f g = refl
+  by Mode.LineComment x f g = refl
+  by Mode.BlockComment x f g = refl
+  by Mode.BlockCommentStar x f g = refl
+  by Mode.Colon x f g = refl
+  by Mode.Word x f g = let h = other (end_of p Mode.Word) TokenKind.Word Keep.Nothing refl (f ∙ g) in cc
+  by Mode.KindName x f g = let h = other (end_of p Mode.KindName) TokenKind.KindName Keep.Nothing refl (f ∙ g) in cc
+  by Mode.Number x f g = let h = other (end_of p Mode.Number) TokenKind.Number Keep.Nothing refl (f ∙ g) in cc
+  by Mode.NumberSlash x f g = let h = other (end_of p Mode.NumberSlash) TokenKind.Number (Keep.One 47) refl (f ∙ g) in cc
+  by (Mode.Operator e) x f g = run (is_sexp p) Keep.Nothing (f ∙ g)
+  by Mode.OperatorSlash x f g = run (is_sexp p) (Keep.One 47) (f ∙ g)
+  by (Mode.Infinity n) x f g = let h = f ∙ g in cc
+  by Mode.Quote x f g = let h = f ∙ g in cc
+  by Mode.Quotes x f g = let h = other (end_of p Mode.Quotes) TokenKind.QuotedSymbol Keep.Nothing refl (f ∙ g) in cc
+  by (Mode.Text t v) x f g = let h = f ∙ g in cc
+  by Mode.Brace x f g = let h = other (end_of p Mode.Brace) (TokenKind.Mark Mark.FieldsOpen) Keep.Nothing refl (f ∙ g) in cc
+  by (Mode.Lob t) x f g = let h = f ∙ g in cc
 
 -- what comes of octets behind some that left a token open
 reached : (p : Place) (s0 s : Known) (octets rest : List ℕ) (start end : ℕ) → run p octets s0 ≡ Next s → Reaches start end (Next s) → (q : Place) (x : Outcome)
@@ -268,7 +244,7 @@ reached p s0 s octets rest start end ran reaches q x e f =
 
 -- the place in which the first token is looked for
 looked_in : (ts : List Placed) → (q : Place) × LooksIn q ts
-looked_in [] = (places.Top, tt)
+looked_in [] = (Place.Top, tt)
 looked_in (t ∷ ts) = (t.place, refl)
 
 -- the next token begins there, and tokens follow it up to there
@@ -293,8 +269,8 @@ covers p s0 s octets rest start end ran reaches (t ∷ ts) looks (Leaves _ _ _ _
     (from, by more r)
   where
     by : (Reaches t.lexeme.end end (Next s') → Covers t.lexeme.end end ts)
-        → (end ≤ t.lexeme.end) ⊎ ((t.lexeme.kind ≡ kinds.Operator) × (s'.start ≡ t.lexeme.end) × (is_idle s'.mode ≡ false) × (end + behind s'.mode ≤ s'.used))
-        → (end ≤ t.lexeme.end) ⊎ ((t.lexeme.kind ≡ kinds.Operator) × Covers t.lexeme.end end ts)
+        → (end ≤ t.lexeme.end) ⊎ ((t.lexeme.kind ≡ TokenKind.Operator) × (s'.start ≡ t.lexeme.end) × (is_idle s'.mode ≡ false) × (end + behind s'.mode ≤ s'.used))
+        → (end ≤ t.lexeme.end) ⊎ ((t.lexeme.kind ≡ TokenKind.Operator) × Covers t.lexeme.end end ts)
     by more (inl r) = inl r
     by more (inr (operator, from, begun, r)) = inr (operator, more (from, begun, r))
 covers p s0 s octets rest start end ran reaches (t ∷ ts) looks (Unclosed _ _ _ _ s' colon letters m e f first operator g) =
@@ -366,7 +342,7 @@ begun_right p s u ts h = (there.colon, there.end, there.since, there.lexes, by (
   no_colon : is_idle s.mode ≡ false → IsFirstColon there.colon there.since → ⊥
   no_colon i (flag, blank, is_blank, cut) =
       let start : ℕ = there.end + length blank in
-      let colon : Lexeme = record { start = start; end = start + 1; kind = kinds.Mark marks.Colon; octets = [] } in
+      let colon : Lexeme = record { start = start; end = start + 1; kind = TokenKind.Mark Mark.Colon; octets = [] } in
       let behind = lexes_behind ts (record { place = p; lexeme = colon } ∷ []) false 0 u there.colon there.end there.since there.lexes (
         [],
         record {

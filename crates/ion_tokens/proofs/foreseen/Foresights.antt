@@ -1,33 +1,13 @@
 -- What an octet shows of a token that may go on is so in the words of the grammar.
 use Rattle.std.proofs.Common.{◌≡◌, ℕ, ◌+◌, ◌-◌, inl, inr, Bool, true, false, cond, List, [], ◌∷◌, ◌++◌, length, refl, sym, ap, ◌∙◌, subst, arith, append-nil}
 use Rattle.std.specs.Prelude.{◌==◌, ◌&&◌, bytes_eq, codes, Option, Some, None, if◌then◌else◌}
-use Rattle.ion_tokens.specs.declared.mode.Place.{Place}
-use Rattle.ion_tokens.specs.declared.mode.Mode.{Mode}
-use Rattle.ion_tokens.specs.declared.mode.Mode.TheVariants as modes
-use Rattle.ion_tokens.specs.declared.mode.Mark.TheVariants as marks
-use Rattle.ion_tokens.specs.declared.mode.TokenKind.{TokenKind}
-use Rattle.ion_tokens.specs.declared.mode.TokenKind.TheVariants as kinds
-use Rattle.ion_tokens.specs.declared.mode.Action.{Action}
-use Rattle.ion_tokens.specs.declared.mode.Action.TheVariants as actions
-use Rattle.ion_tokens.specs.declared.token.Begun.{Begun}
-use Rattle.ion_tokens.specs.declared.token.Form.{Form}
-use Rattle.ion_tokens.specs.declared.token.Form.TheVariants as forms
-use Rattle.ion_tokens.specs.declared.token.Foresight.TheVariants as foresights
-use Rattle.ion_tokens.specs.Blobs.{blob_of}
+use Rattle.ion_tokens.specs.Names.{Action, Begun, Continues, ForeseenSo, Foresight, Form, Given, IsBlank, Known, Left, Lexeme, Lexes, LexesTo, Mark, Mode, Next, NextIs, Outcome, Place, Placed, Refused, Scanned, ShowsBegun, TokenKind, acts, behind, blob_ends, blob_of, cut, feed, follow, foresight, foresight_at, foresight_behind, foresight_by, form_of, go_to, is_idle, past, run}
 use Rattle.ion_tokens.specs.machine.Table.{next}
-use Rattle.ion_tokens.specs.machine.Bounds.{is_idle}
-use Rattle.ion_tokens.specs.machine.Scanning.{Known, Outcome, Next, Given, Left, Refused, cut, past, go_to, blob_ends, acts, feed, follow, run}
-use Rattle.ion_tokens.specs.Lexemes.{Lexeme}
-use Rattle.ion_tokens.specs.machine.Views.{behind, form_of, foresight_by, foresight_at, foresight_behind, foresight}
-use Rattle.ion_tokens.specs.Blanks.{IsBlank}
-use Rattle.ion_tokens.specs.Lexed.{Placed, Lexes, LexesTo}
-use Rattle.ion_tokens.specs.machine.Scanned.{Scanned, Continues, ShowsBegun}
-use Rattle.ion_tokens.specs.machine.Foreseen.{NextIs, ForeseenSo}
-use Rattle.ion_tokens.proofs.histories.Histories.{given_next, left_next}
-use Rattle.ion_tokens.proofs.foreseen.Begins.{begun_right, begun_holds}
-use Rattle.ion_tokens.proofs.sound.Holds.{InMode, IsBegun}
+use Rattle.ion_tokens.proofs.foreseen.Begins.{begun_holds, begun_right}
 use Rattle.ion_tokens.proofs.foreseen.LeftSymbols.{leaves_quotes}
-use Rattle.ion_tokens.proofs.histories.Stepped.{from_left, behind_since, there, scanned_used, goes_on}
+use Rattle.ion_tokens.proofs.histories.Histories.{given_next, left_next}
+use Rattle.ion_tokens.proofs.histories.Stepped.{behind_since, from_left, goes_on, scanned_used, there}
+use Rattle.ion_tokens.proofs.sound.Holds.{InMode, IsBegun}
 
 -- where a token ends that an octet ends
 Ends : ℕ → Outcome → Type 0
@@ -36,20 +16,20 @@ Ends used _ = Unit {0}
 
 acts_ends : (p : Place) (s : Known) (o : ℕ) (a : Action) → Ends s.used (acts p s o a)
 unfolding Ends
-acts_ends p s o (actions.Go m k) = tt
-acts_ends p s o (actions.Give kind k) = refl
-acts_ends p s o (actions.Before kind k m) = tt
-acts_ends p s o actions.EndWord = by ((o == 46) && bytes_eq s.kept (codes "null")) where
-  by : (b : Bool) → Ends s.used (cond b (Next (go_to s modes.KindName []))
-      (Left (cut s kinds.Word s.kept s.used) (past p kinds.Word modes.Blank [] s.used s.used)))
+acts_ends p s o (Action.Go m k) = tt
+acts_ends p s o (Action.Give kind k) = refl
+acts_ends p s o (Action.Before kind k m) = tt
+acts_ends p s o Action.EndWord = by ((o == 46) && bytes_eq s.kept (codes "null")) where
+  by : (b : Bool) → Ends s.used (cond b (Next (go_to s Mode.KindName []))
+      (Left (cut s TokenKind.Word s.kept s.used) (past p TokenKind.Word Mode.Blank [] s.used s.used)))
   by true = tt
   by false = tt
-acts_ends p s o (actions.Split n) = tt
-acts_ends p s o actions.EndBlob = by (blob_of s.kept) where
+acts_ends p s o (Action.Split n) = tt
+acts_ends p s o Action.EndBlob = by (blob_of s.kept) where
   by : (b : Option (List ℕ)) → Ends s.used (blob_ends s b)
   by None = tt
   by (Some octets) = tt
-acts_ends p s o (actions.Refuse e) = tt
+acts_ends p s o (Action.Refuse e) = tt
 
 feed_ends : (p : Place) (s : Known) (o : ℕ) (x : Outcome) → feed p s o ≡ x → Ends s.used x
 feed_ends p s o x e = subst (λ y. Ends s.used y) e (acts_ends p s o (next p s.colon s.mode o))
@@ -85,26 +65,26 @@ module _ (p : Place) (s : Known) (u : List ℕ) (ts : List Placed) (h : Scanned 
       (subst (λ v. Lexes false 0 v (ts ++ others)) (there p s u ts [] h (o ∷ []) rest) lexes)
 
   goes : (b : Bool) (f : Form) (begun : Begun) → begun.form ≡ f → ShowsBegun p (u ++ o ∷ []) ts (if b then None else Some begun)
-      → ForeseenSo p u ts o (if b then foresights.Blank else foresight_by f)
+      → ForeseenSo p u ts o (if b then Foresight.Blank else foresight_by f)
   goes true f begun e k = k
-  goes false forms.Other begun e k = tt
-  goes false forms.Quote begun e k = inl (begun, (λ n. cc), k)
-  goes false forms.Long begun e k = inl (begun, (λ n. cc), k)
+  goes false Form.Other begun e k = tt
+  goes false Form.Quote begun e k = inl (begun, (λ n. cc), k)
+  goes false Form.Long begun e k = inl (begun, (λ n. cc), k)
 
   gives : (t : Known) (l : Lexeme) (k : TokenKind) → l.kind ≡ k → feed p s o ≡ Given l t → ForeseenSo p u ts o (foresight_at k)
-  gives t l (kinds.Mark marks.Colons) i e = (l, i, (given_end p s t o l e ∙ ap (λ (n : ℕ). n + 1) used), next_given t l e)
-  gives t l kinds.LongString i e = inr (l, i, (given_end p s t o l e ∙ ap (λ (n : ℕ). n + 1) used), next_given t l e)
+  gives t l (TokenKind.Mark Mark.Colons) i e = (l, i, (given_end p s t o l e ∙ ap (λ (n : ℕ). n + 1) used), next_given t l e)
+  gives t l TokenKind.LongString i e = inr (l, i, (given_end p s t o l e ∙ ap (λ (n : ℕ). n + 1) used), next_given t l e)
   gives t l _ i e = tt
 
   -- what the octets behind the tokens told are behind `''`
-  in_quotes : (colon : Bool) (end : ℕ) (m : Mode) (kept : List ℕ) (start : ℕ) (since : List ℕ) → m ≡ modes.Quotes → InMode p colon end m kept start since
+  in_quotes : (colon : Bool) (end : ℕ) (m : Mode) (kept : List ℕ) (start : ℕ) (since : List ℕ) → m ≡ Mode.Quotes → InMode p colon end m kept start since
       → (blank : List ℕ) × IsBlank blank × (since ≡ blank ++ codes "''") × (kept ≡ [])
   in_quotes colon end m kept start since e k =
-      let b : IsBegun p colon end modes.Quotes kept start since = subst (λ x. InMode p colon end x kept start since) e k in
+      let b : IsBegun p colon end Mode.Quotes kept start since = subst (λ x. InMode p colon end x kept start since) e k in
       (b.front, b.blank, b.cut ∙ ap (λ w. b.front ++ w) b.is.0, b.is.1)
 
   leaves : (t : Known) (l : Lexeme) (k : TokenKind) → l.kind ≡ k → feed p s o ≡ Left l t → ForeseenSo p u ts o (foresight_behind k)
-  leaves t l kinds.QuotedSymbol i e =
+  leaves t l TokenKind.QuotedSymbol i e =
       let q = leaves_quotes p s t o l e i in
       let b = begun_holds p s u ts h in
       let quotes = in_quotes b.colon b.end s.mode s.kept s.start b.since q.mode b.holds.mode in (

@@ -1,29 +1,17 @@
 -- A quoted symbol that an octet ends which isn't part of it is `''`: others end with their last quote.
 use Rattle.std.proofs.Common.{◌≡◌, ℕ, ◌-◌, Bool, true, false, cond, List, [], refl, sym, ap, ◌∙◌, subst, arith, Option, Some, None}
 use Rattle.std.specs.Prelude.{◌==◌, ◌&&◌, not, bytes_eq, codes}
-use Rattle.ion_tokens.specs.declared.mode.Place.{Place}
-use Rattle.ion_tokens.specs.declared.mode.Style.TheVariants as styles
-use Rattle.ion_tokens.specs.declared.mode.Within.TheVariants as within
-use Rattle.ion_tokens.specs.declared.mode.Mode.{Mode}
-use Rattle.ion_tokens.specs.declared.mode.Mode.TheVariants as modes
-use Rattle.ion_tokens.specs.declared.mode.TokenKind.{TokenKind}
-use Rattle.ion_tokens.specs.declared.mode.TokenKind.TheVariants as kinds
-use Rattle.ion_tokens.specs.declared.mode.Keep.{Keep}
-use Rattle.ion_tokens.specs.declared.mode.Action.{Action}
-use Rattle.ion_tokens.specs.declared.mode.Action.TheVariants as actions
-use Rattle.ion_tokens.specs.machine.Table.{next, go, before}
-use Rattle.ion_tokens.specs.Blobs.{blob_of}
+use Rattle.ion_tokens.specs.Names.{Action, Given, Keep, Known, Left, Lexeme, Mode, Next, Outcome, Place, Style, TokenKind, Within, acts, before, blob_ends, blob_of, cut, feed, go, go_to, past}
+use Rattle.ion_tokens.specs.machine.Table.{next}
 use Rattle.ion_tokens.specs.laws.ByRows.{by_rows_where}
-use Rattle.ion_tokens.specs.machine.Scanning.{Known, Outcome, Next, Given, Left, cut, past, go_to, blob_ends, acts, feed}
-use Rattle.ion_tokens.specs.Lexemes.{Lexeme}
 
 -- the action ends no quoted symbol before the octet
 abbrev ends_none : Action → Bool
-ends_none (actions.Before kinds.QuotedSymbol _ _) = false
+ends_none (Action.Before TokenKind.QuotedSymbol _ _) = false
 ends_none _ = true
 
 abbrev is_quotes : Mode → Bool
-is_quotes modes.Quotes = true
+is_quotes Mode.Quotes = true
 is_quotes _ = false
 
 -- The table ends none but where two quotes are open.
@@ -35,35 +23,35 @@ lexeme_or d (Given l s) = l
 lexeme_or d (Left l s) = l
 lexeme_or d _ = d
 
-other_kind : (kind : TokenKind) (k : Keep) (m : Mode) → ends_none (actions.Before kind k m) ≡ true → kind ≡ kinds.QuotedSymbol → ⊥
-other_kind kind k m h e = let never : false ≡ true = subst (λ x. ends_none (actions.Before x k m) ≡ true) e h in cc
+other_kind : (kind : TokenKind) (k : Keep) (m : Mode) → ends_none (Action.Before kind k m) ≡ true → kind ≡ TokenKind.QuotedSymbol → ⊥
+other_kind kind k m h e = let never : false ≡ true = subst (λ x. ends_none (Action.Before x k m) ≡ true) e h in cc
 
-acts_none : (p : Place) (s t : Known) (o : ℕ) (l : Lexeme) (a : Action) → ends_none a ≡ true → acts p s o a ≡ Left l t → l.kind ≡ kinds.QuotedSymbol → ⊥
-acts_none p s t o l (actions.Go m k) h e i = cc
-acts_none p s t o l (actions.Give kind k) h e i = cc
-acts_none p s t o l (actions.Before kind k m) h e i = other_kind kind k m h (ap (λ x. (lexeme_or l x).kind) e ∙ i)
-acts_none p s t o l actions.EndWord h e i = by ((o == 46) && bytes_eq s.kept (codes "null")) e where
-  by : (b : Bool) → cond b (Next (go_to s modes.KindName [])) (Left (cut s kinds.Word s.kept s.used) (past p kinds.Word modes.Blank [] s.used s.used))
+acts_none : (p : Place) (s t : Known) (o : ℕ) (l : Lexeme) (a : Action) → ends_none a ≡ true → acts p s o a ≡ Left l t → l.kind ≡ TokenKind.QuotedSymbol → ⊥
+acts_none p s t o l (Action.Go m k) h e i = cc
+acts_none p s t o l (Action.Give kind k) h e i = cc
+acts_none p s t o l (Action.Before kind k m) h e i = other_kind kind k m h (ap (λ x. (lexeme_or l x).kind) e ∙ i)
+acts_none p s t o l Action.EndWord h e i = by ((o == 46) && bytes_eq s.kept (codes "null")) e where
+  by : (b : Bool) → cond b (Next (go_to s Mode.KindName [])) (Left (cut s TokenKind.Word s.kept s.used) (past p TokenKind.Word Mode.Blank [] s.used s.used))
       ≡ Left l t → ⊥
   by true f = cc
-  by false f = let same : kinds.Word ≡ kinds.QuotedSymbol = ap (λ x. (lexeme_or l x).kind) f ∙ i in cc
-acts_none p s t o l (actions.Split n) h e i = let same : kinds.Operator ≡ kinds.QuotedSymbol = ap (λ x. (lexeme_or l x).kind) e ∙ i in cc
-acts_none p s t o l actions.EndBlob h e i = by (blob_of s.kept) e where
+  by false f = let same : TokenKind.Word ≡ TokenKind.QuotedSymbol = ap (λ x. (lexeme_or l x).kind) f ∙ i in cc
+acts_none p s t o l (Action.Split n) h e i = let same : TokenKind.Operator ≡ TokenKind.QuotedSymbol = ap (λ x. (lexeme_or l x).kind) e ∙ i in cc
+acts_none p s t o l Action.EndBlob h e i = by (blob_of s.kept) e where
   by : (b : Option (List ℕ)) → blob_ends s b ≡ Left l t → ⊥
   by None f = cc
   by (Some octets) f = cc
-acts_none p s t o l (actions.Refuse r) h e i = cc
+acts_none p s t o l (Action.Refuse r) h e i = cc
 
 -- A quoted symbol was left before an octet: behind `''`, and nothing more is kept of it.
 pub record LeavesQuotes (s : Known) (l : Lexeme) : Type 0 where
-  pub mode : s.mode ≡ modes.Quotes
+  pub mode : s.mode ≡ Mode.Quotes
   pub octets : l.octets ≡ s.kept
   pub end : l.end ≡ s.used
 
 -- a quoted symbol that an octet ends which isn't part of it is `''`
-pub leaves_quotes : (p : Place) (s t : Known) (o : ℕ) (l : Lexeme) → feed p s o ≡ Left l t → l.kind ≡ kinds.QuotedSymbol → LeavesQuotes s l
+pub leaves_quotes : (p : Place) (s t : Known) (o : ℕ) (l : Lexeme) → feed p s o ≡ Left l t → l.kind ≡ TokenKind.QuotedSymbol → LeavesQuotes s l
 leaves_quotes p s t o l e i = by s.mode refl where
-  in_quotes_left : s.mode ≡ modes.Quotes → (b : Bool) → acts p s o (cond b (go (modes.Text styles.LongString within.Plain)) (before kinds.QuotedSymbol))
+  in_quotes_left : s.mode ≡ Mode.Quotes → (b : Bool) → acts p s o (cond b (go (Mode.Text Style.LongString Within.Plain)) (before TokenKind.QuotedSymbol))
       ≡ Left l t → LeavesQuotes s l
   in_quotes_left m true f = cc
   in_quotes_left m false f =
@@ -74,5 +62,5 @@ leaves_quotes p s t o l e i = by s.mode refl where
   other h = absurd (acts_none p s t o l (next p s.colon s.mode o) (table_none p s.colon s.mode o h) e i)
 
   by : (m : Mode) → s.mode ≡ m → LeavesQuotes s l
-  by modes.Quotes m = in_quotes_left m (o == 39) (sym (ap (λ x. acts p s o (next p s.colon x o)) m) ∙ e)
+  by Mode.Quotes m = in_quotes_left m (o == 39) (sym (ap (λ x. acts p s o (next p s.colon x o)) m) ∙ e)
   by _ m = other (ap (λ x. not (is_quotes x)) m)

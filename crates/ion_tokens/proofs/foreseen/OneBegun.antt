@@ -2,13 +2,7 @@
 use Rattle.std.proofs.Common.{◌≡◌, ℕ, ◌+◌, ◌≤◌, ◌⊎◌, inl, inr, Bool, false, List, [], ◌∷◌, ◌++◌, length, drop, refl, sym, ap, ◌∙◌, subst, arith, length-append}
 use Rattle.std.specs.Prelude.{codes, Option, Some, None}
 use Rattle.std.proofs.Math.Seq.{drop-append_seam}
-use Rattle.ion_tokens.specs.declared.mode.Place.{Place}
-use Rattle.ion_tokens.specs.declared.mode.TokenKind.TheVariants as kinds
-use Rattle.ion_tokens.specs.declared.token.Begun.{Begun}
-use Rattle.ion_tokens.specs.declared.token.Form.{Form}
-use Rattle.ion_tokens.specs.declared.token.Form.TheVariants as forms
-use Rattle.ion_tokens.specs.Lexed.{Placed, colon_behind, Lexes, LexesTo, LooksIn}
-use Rattle.ion_tokens.specs.machine.Scanned.{IsForm, Covers, MayComment, HasBegun, BegunSo, ShowsBegun}
+use Rattle.ion_tokens.specs.Names.{Begun, BegunSo, Covers, Form, HasBegun, IsForm, Lexes, LexesTo, LooksIn, MayComment, Place, Placed, ShowsBegun, TokenKind, colon_behind}
 
 -- fronts of one length leave the same
 same_rest : (xs ys r q : List ℕ) → xs ++ r ≡ ys ++ q → length xs ≡ length ys → r ≡ q
@@ -30,19 +24,19 @@ lexes_same (t ∷ ts) c c1 c2 k e1 e2 o o1 o2 (r, b, l) (q, b', l') =
     lexes_same ts (colon_behind t) c1 c2 t.lexeme.end e1 e2 q o1 o2 (subst (λ x. LexesTo (colon_behind t) t.lexeme.end x ts c1 e1 o1) same l) l'
 
 same_form : (f g : Form) (w : List ℕ) → IsForm f w → IsForm g w → f ≡ g
-same_form forms.Quote forms.Quote w h k = refl
-same_form forms.Long forms.Long w h k = refl
-same_form forms.Other forms.Other w h k = refl
-same_form forms.Quote forms.Other w (inl e) k = absurd (k.0 e)
-same_form forms.Quote forms.Other w (inr e) k = absurd (k.1 e)
-same_form forms.Other forms.Quote w k (inl e) = absurd (k.0 e)
-same_form forms.Other forms.Quote w k (inr e) = absurd (k.1 e)
-same_form forms.Long forms.Other w (part, e) k = absurd (k.2 part e)
-same_form forms.Other forms.Long w k (part, e) = absurd (k.2 part e)
-same_form forms.Quote forms.Long w (inl e) (part, f) = absurd (omega (arith, ap length e, ap length f, length-append (codes "'''") part))
-same_form forms.Quote forms.Long w (inr e) (part, f) = absurd (omega (arith, ap length e, ap length f, length-append (codes "'''") part))
-same_form forms.Long forms.Quote w (part, f) (inl e) = absurd (omega (arith, ap length e, ap length f, length-append (codes "'''") part))
-same_form forms.Long forms.Quote w (part, f) (inr e) = absurd (omega (arith, ap length e, ap length f, length-append (codes "'''") part))
+same_form Form.Quote Form.Quote w h k = refl
+same_form Form.Long Form.Long w h k = refl
+same_form Form.Other Form.Other w h k = refl
+same_form Form.Quote Form.Other w (inl e) k = absurd (k.0 e)
+same_form Form.Quote Form.Other w (inr e) k = absurd (k.1 e)
+same_form Form.Other Form.Quote w k (inl e) = absurd (k.0 e)
+same_form Form.Other Form.Quote w k (inr e) = absurd (k.1 e)
+same_form Form.Long Form.Other w (part, e) k = absurd (k.2 part e)
+same_form Form.Other Form.Long w k (part, e) = absurd (k.2 part e)
+same_form Form.Quote Form.Long w (inl e) (part, f) = absurd (omega (arith, ap length e, ap length f, length-append (codes "'''") part))
+same_form Form.Quote Form.Long w (inr e) (part, f) = absurd (omega (arith, ap length e, ap length f, length-append (codes "'''") part))
+same_form Form.Long Form.Quote w (part, f) (inl e) = absurd (omega (arith, ap length e, ap length f, length-append (codes "'''") part))
+same_form Form.Long Form.Quote w (part, f) (inr e) = absurd (omega (arith, ap length e, ap length f, length-append (codes "'''") part))
 
 -- some document has these tokens and goes on with the octets
 abbrev GoesOnAs : Place → List ℕ → List Placed → Type 0
@@ -59,7 +53,7 @@ module _ (p : Place) (u : List ℕ) (ts : List Placed) (colon : Bool) (end : ℕ
   not_less : (a b : Begun) → HasBegun p u ts colon end octets a → GoesOnAs p u ts → MayComment p u ts b → b.end + 1 ≤ a.end → ⊥
   not_less a b h goes (inr never) less = let (rest, others, looks, lexes) = goes in never rest others looks lexes
   not_less a b h goes (inl (l, start, stop, lexes)) less = by (h.always (codes "/") (record { place = p; lexeme = l } ∷ []) refl lexes).1 where
-    by : (a.end ≤ l.end) ⊎ ((l.kind ≡ kinds.Operator) × ⊥) → ⊥
+    by : (a.end ≤ l.end) ⊎ ((l.kind ≡ TokenKind.Operator) × ⊥) → ⊥
     by (inl within) = omega (arith, within, stop, less)
     by (inr (operator, none)) = none
 

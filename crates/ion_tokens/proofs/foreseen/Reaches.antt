@@ -2,28 +2,19 @@
 use Rattle.std.proofs.Common.{◌≡◌, ℕ, ◌+◌, ◌≤◌, ◌⊎◌, inl, inr, Bool, true, false, cond, List, [], ◌∷◌, refl, ap, ◌∙◌, arith, Option, Some, None}
 use Rattle.std.specs.Prelude.{◌==◌, ◌&&◌, not, nat_le, bytes_eq, codes}
 use Rattle.std.proofs.lemmas.Bool.Decides.{nat_tests}
-use Rattle.ion_tokens.specs.declared.mode.Place.{Place}
-use Rattle.ion_tokens.specs.declared.mode.Mode.{Mode}
-use Rattle.ion_tokens.specs.declared.mode.Mode.TheVariants as modes
-use Rattle.ion_tokens.specs.declared.mode.TokenKind.TheVariants as kinds
-use Rattle.ion_tokens.specs.declared.mode.Action.{Action}
-use Rattle.ion_tokens.specs.declared.mode.Action.TheVariants as actions
+use Rattle.ion_tokens.specs.Names.{Action, Given, Known, Left, Mode, Next, Outcome, Place, Refused, TokenKind, acts, behind, blob_ends, blob_of, cut, feed, follow, go_to, is_idle, left_of, past, run, start_of}
 use Rattle.ion_tokens.specs.machine.Table.{next}
-use Rattle.ion_tokens.specs.Blobs.{blob_of}
-use Rattle.ion_tokens.specs.machine.Bounds.{is_idle}
-use Rattle.ion_tokens.specs.machine.Views.{behind}
 use Rattle.ion_tokens.specs.laws.ByRows.{by_rows_where}
-use Rattle.ion_tokens.specs.machine.Scanning.{Known, Outcome, Next, Given, Left, Refused, cut, go_to, past, left_of, start_of, acts, blob_ends, feed, follow, run}
 
 -- The token goes on, or ends so late: so many octets at its end may turn out to be part of a comment.
 abbrev late : ℕ → Action → Bool
-late n (actions.Go m k) = nat_le (behind m) (n + 1) && not (is_idle m)
-late n (actions.Give _ _) = true
-late n (actions.Before _ _ m) = nat_le (left_of m) n
-late n actions.EndWord = true
-late n (actions.Split letters) = true
-late n actions.EndBlob = true
-late n (actions.Refuse e) = true
+late n (Action.Go m k) = nat_le (behind m) (n + 1) && not (is_idle m)
+late n (Action.Give _ _) = true
+late n (Action.Before _ _ m) = nat_le (left_of m) n
+late n Action.EndWord = true
+late n (Action.Split letters) = true
+late n Action.EndBlob = true
+late n (Action.Refuse e) = true
 
 table_late : (p : Place) (colon : Bool) (m : Mode) (o : ℕ) → not (is_idle m) ≡ true → late (behind m) (next p colon m o) ≡ true
 table_late = by_rows_where (λ m. not (is_idle m)) (λ sexp m. late (behind m)) (λ c t. refl)
@@ -34,13 +25,13 @@ unfoldable pub Reaches : ℕ → ℕ → Outcome → Type 0
 Reaches start end (Next s) = (s.start ≡ start) × (is_idle s.mode ≡ false) × (end + behind s.mode ≤ s.used)
 Reaches start end (Given l s) = (l.start ≡ start) × (end ≤ l.end)
 Reaches start end (Left l s) = (l.start ≡ start) × ((end ≤ l.end)
-    ⊎ ((l.kind ≡ kinds.Operator) × (s.start ≡ l.end) × (is_idle s.mode ≡ false) × (end + behind s.mode ≤ s.used)))
+    ⊎ ((l.kind ≡ TokenKind.Operator) × (s.start ≡ l.end) × (is_idle s.mode ≡ false) × (end + behind s.mode ≤ s.used)))
 Reaches start end (Refused n e) = Unit {0}
 
 -- where a token has begun, its start stays
 pub begun_stays : (m : Mode) (start used : ℕ) → is_idle m ≡ false → start_of m start used ≡ start
-begun_stays modes.Blank start used h = cc
-begun_stays modes.Slash start used h = cc
+begun_stays Mode.Blank start used h = cc
+begun_stays Mode.Slash start used h = cc
 begun_stays _ start used h = refl
 
 module _ (p : Place) (s : Known) (o : ℕ) (start end : ℕ) (begun : is_idle s.mode ≡ false) (from : s.start ≡ start)
@@ -55,22 +46,22 @@ module _ (p : Place) (s : Known) (o : ℕ) (start end : ℕ) (begun : is_idle s.
 
   acts_reaches : (a : Action) → late (behind s.mode) a ≡ true → Reaches start end (acts p s o a)
   unfolding Reaches
-  acts_reaches (actions.Go m k) h = let parts = goes_parts (behind m) (behind s.mode) (is_idle m) h in
+  acts_reaches (Action.Go m k) h = let parts = goes_parts (behind m) (behind s.mode) (is_idle m) h in
       (same_start, parts.1, omega (arith, reached, parts.0)) where
         goes_parts : (x y : ℕ) (i : Bool) → (nat_le x (y + 1) && not i) ≡ true → (x ≤ y + 1) × (i ≡ false)
         goes_parts x y i h = grind (arith, nat_tests)
-  acts_reaches (actions.Give _ _) h = (same_start, omega (arith, reached))
-  acts_reaches (actions.Before _ _ m) h = let less = left_less (left_of m) (behind s.mode) h in (same_start, inl (omega (arith, reached, less))) where
+  acts_reaches (Action.Give _ _) h = (same_start, omega (arith, reached))
+  acts_reaches (Action.Before _ _ m) h = let less = left_less (left_of m) (behind s.mode) h in (same_start, inl (omega (arith, reached, less))) where
     left_less : (x y : ℕ) → nat_le x y ≡ true → x ≤ y
     left_less x y h = grind (arith, nat_tests)
-  acts_reaches actions.EndWord h = by ((o == 46) && bytes_eq s.kept (codes "null")) where
-    by : (b : Bool) → Reaches start end (cond b (Next (go_to s modes.KindName []))
-        (Left (cut s kinds.Word s.kept s.used) (past p kinds.Word modes.Blank [] s.used s.used)))
+  acts_reaches Action.EndWord h = by ((o == 46) && bytes_eq s.kept (codes "null")) where
+    by : (b : Bool) → Reaches start end (cond b (Next (go_to s Mode.KindName []))
+        (Left (cut s TokenKind.Word s.kept s.used) (past p TokenKind.Word Mode.Blank [] s.used s.used)))
     by true = (same_start, refl, omega (arith, reached))
     by false = (same_start, inl (omega (arith, reached)))
-  acts_reaches (actions.Split n) h = (same_start, inr (refl, refl, refl, omega (arith, reached)))
-  acts_reaches actions.EndBlob h = blob_reaches (blob_of s.kept)
-  acts_reaches (actions.Refuse e) h = tt
+  acts_reaches (Action.Split n) h = (same_start, inr (refl, refl, refl, omega (arith, reached)))
+  acts_reaches Action.EndBlob h = blob_reaches (blob_of s.kept)
+  acts_reaches (Action.Refuse e) h = tt
 
   feed_reaches : Reaches start end (feed p s o)
   feed_reaches = acts_reaches (next p s.colon s.mode o) (table_late p s.colon s.mode o (ap not begun))

@@ -1,24 +1,13 @@
 -- Where a token begins that is open behind the next octet.
 use Rattle.std.proofs.Common.{◌≡◌, ℕ, Bool, true, false, cond, List, [], ◌∷◌, ◌++◌, refl, sym, ap, ◌∙◌, subst}
 use Rattle.std.specs.Prelude.{◌==◌, ◌&&◌, bytes_eq, codes, Option, Some, None}
-use Rattle.ion_tokens.specs.declared.mode.Place.{Place}
-use Rattle.ion_tokens.specs.declared.mode.Mode.TheVariants as modes
-use Rattle.ion_tokens.specs.declared.mode.TokenKind.TheVariants as kinds
-use Rattle.ion_tokens.specs.declared.mode.Action.{Action}
-use Rattle.ion_tokens.specs.declared.mode.Action.TheVariants as actions
-use Rattle.ion_tokens.specs.declared.token.Begun.{Begun}
-use Rattle.ion_tokens.specs.Blobs.{blob_of}
+use Rattle.ion_tokens.specs.Names.{Action, Begun, Covers, Given, IsNext, Known, Left, Lexeme, Lexes, LooksIn, Mode, Next, Outcome, Place, Placed, Refused, Scanned, ShowsBegun, TokenKind, acts, blob_ends, blob_of, cut, feed, go_to, is_idle, past, start_of}
 use Rattle.ion_tokens.specs.machine.Table.{next}
-use Rattle.ion_tokens.specs.machine.Bounds.{is_idle}
-use Rattle.ion_tokens.specs.machine.Scanning.{Known, Outcome, Next, Given, Left, Refused, cut, past, go_to, blob_ends, acts, feed, start_of}
-use Rattle.ion_tokens.specs.Lexemes.{Lexeme}
-use Rattle.ion_tokens.specs.Lexed.{Placed, Lexes, LooksIn, IsNext}
-use Rattle.ion_tokens.specs.machine.Scanned.{Scanned, Covers, ShowsBegun}
 use Rattle.ion_tokens.proofs.foreseen.Begins.{begun_right}
-use Rattle.ion_tokens.proofs.foreseen.Foresights.{ran, from, next_given, next_left}
-use Rattle.ion_tokens.proofs.histories.Histories.{refusal_right}
+use Rattle.ion_tokens.proofs.foreseen.Foresights.{from, next_given, next_left, ran}
 use Rattle.ion_tokens.proofs.foreseen.OneBegun.{one_begun}
-use Rattle.ion_tokens.proofs.histories.Stepped.{behind_since, there, goes_on}
+use Rattle.ion_tokens.proofs.histories.Histories.{refusal_right}
+use Rattle.ion_tokens.proofs.histories.Stepped.{behind_since, goes_on, there}
 
 -- the open token, or the one that ended, begins there
 Starts : ℕ → Outcome → Type 0
@@ -29,20 +18,20 @@ Starts n (Refused k r) = Unit {0}
 
 acts_start : (p : Place) (s : Known) (o : ℕ) (a : Action) → Starts (start_of s.mode s.start s.used) (acts p s o a)
 unfolding Starts
-acts_start p s o (actions.Go m k) = refl
-acts_start p s o (actions.Give kind k) = refl
-acts_start p s o (actions.Before kind k m) = refl
-acts_start p s o actions.EndWord = by ((o == 46) && bytes_eq s.kept (codes "null")) where
-  by : (b : Bool) → Starts (start_of s.mode s.start s.used) (cond b (Next (go_to s modes.KindName []))
-      (Left (cut s kinds.Word s.kept s.used) (past p kinds.Word modes.Blank [] s.used s.used)))
+acts_start p s o (Action.Go m k) = refl
+acts_start p s o (Action.Give kind k) = refl
+acts_start p s o (Action.Before kind k m) = refl
+acts_start p s o Action.EndWord = by ((o == 46) && bytes_eq s.kept (codes "null")) where
+  by : (b : Bool) → Starts (start_of s.mode s.start s.used) (cond b (Next (go_to s Mode.KindName []))
+      (Left (cut s TokenKind.Word s.kept s.used) (past p TokenKind.Word Mode.Blank [] s.used s.used)))
   by true = refl
   by false = refl
-acts_start p s o (actions.Split n) = refl
-acts_start p s o actions.EndBlob = by (blob_of s.kept) where
+acts_start p s o (Action.Split n) = refl
+acts_start p s o Action.EndBlob = by (blob_of s.kept) where
   by : (b : Option (List ℕ)) → Starts (start_of s.mode s.start s.used) (blob_ends s b)
   by None = tt
   by (Some octets) = refl
-acts_start p s o (actions.Refuse e) = tt
+acts_start p s o (Action.Refuse e) = tt
 
 begun_start : (idle : Bool) (a b : Begun) → cond idle None (Some a) ≡ Some b → b.start ≡ a.start
 begun_start true a b e = cc

@@ -3,28 +3,14 @@ use Rattle.std.proofs.Common.{◌≡◌, ℕ, ◌-◌, ◌⊎◌, inl, inr, Bool
 use Rattle.std.specs.Prelude.{◌==◌, ◌||◌, not, codes, Option, Some, None, Result, Ok, Err}
 use Rattle.std.specs.List.{list_any}
 use Rattle.std.proofs.lemmas.Bool.{true≢false, false≢true}
-use Rattle.ion_atoms.specs.declared.refusal.Reason.{Reason}
-use Rattle.ion_tokens.specs.declared.mode.Place.{Place}
-use Rattle.ion_tokens.specs.declared.mode.Mode.{Mode}
-use Rattle.ion_tokens.specs.declared.mode.Mode.TheVariants as modes
-use Rattle.ion_tokens.specs.declared.mode.TokenKind.{TokenKind}
-use Rattle.ion_tokens.specs.declared.mode.TokenKind.TheVariants as kinds
-use Rattle.ion_tokens.specs.declared.mode.Keep.TheVariants as keeps
-use Rattle.ion_tokens.specs.declared.mode.Action.TheVariants as actions
-use Rattle.ion_tokens.specs.Octets.{is_stop}
-use Rattle.ion_tokens.specs.machine.Table.{next, end_of, in_number, in_number_slash, add, go, before}
-use Rattle.ion_tokens.specs.machine.Views.{behind}
-use Rattle.ion_tokens.specs.machine.Scanning.{Known, Outcome, Next, Given, Left, Refused, cut, past, go_to, start_of, acts, feed, follow, run, ends_at}
-use Rattle.ion_tokens.specs.Lexemes.{Each, IsLexeme, Lexeme}
-use Rattle.ion_tokens.specs.Lexed.{Placed, Lexes, LooksIn, Passes}
-use Rattle.ion_tokens.specs.machine.Told.{Stands, Leaved}
-use Rattle.ion_tokens.specs.machine.Scanned.{Scanned}
-use Rattle.ion_tokens.proofs.complete.Found.{Finds, Nothing, Last, Gives, Leaves, Unclosed}
-use Rattle.ion_tokens.proofs.runs.Runs.{next_used}
+use Rattle.ion_tokens.specs.Names.{Action, Each, Given, IsLexeme, Keep, Known, Leaved, Left, Lexeme, Lexes, LooksIn, Mode, Next, Outcome, Passes, Place, Placed, Reason, Refused, Scanned, Stands, TokenKind, acts, add, before, behind, cut, end_of, ends_at, feed, follow, go, go_to, in_number, in_number_slash, is_stop, past, run, start_of}
+use Rattle.ion_tokens.specs.machine.Table.{next}
+use Rattle.ion_tokens.proofs.complete.Found.{Finds, Gives, Last, Leaves, Nothing, Unclosed}
 use Rattle.ion_tokens.proofs.complete.Wholes.{run_behind}
 use Rattle.ion_tokens.proofs.histories.Histories.{stands_finds}
-use Rattle.ion_tokens.proofs.sound.Told.{ends_in_blank}
 use Rattle.ion_tokens.proofs.histories.Stepped.{all_since, pass_more}
+use Rattle.ion_tokens.proofs.runs.Runs.{next_used}
+use Rattle.ion_tokens.proofs.sound.Told.{ends_in_blank}
 
 abbrev has_slash : List ℕ → Bool
 has_slash w = list_any (λ o. o == 47) w
@@ -37,22 +23,22 @@ has_longer (o ∷ w) r h = by (o == 47) h (has_longer w r) where
   by false h f = f h
 
 abbrev in_numeric : Mode → Bool
-in_numeric modes.Number = true
-in_numeric modes.NumberSlash = true
+in_numeric Mode.Number = true
+in_numeric Mode.NumberSlash = true
 in_numeric _ = false
 
 -- a numeric token in which a `/` stands goes on, or has ended
 unfoldable Slashed : Outcome → Type 0
 Slashed (Next s) = (in_numeric s.mode ≡ true) × (has_slash s.kept ≡ true)
 Slashed (Given l s) = ⊥
-Slashed (Left l s) = (l.kind ≡ kinds.Number) × (has_slash l.octets ≡ true)
+Slashed (Left l s) = (l.kind ≡ TokenKind.Number) × (has_slash l.octets ≡ true)
 Slashed (Refused n e) = Unit {0}
 
 module _ (p : Place) (s : Known) (o : ℕ) (has : has_slash s.kept ≡ true) where
   number_slashed : Slashed (acts p s o (in_number o))
   unfolding Slashed
   number_slashed = by (is_stop o) (o == 47) where
-    by : (b c : Bool) → Slashed (acts p s o (cond b (before kinds.Number) (cond c (go modes.NumberSlash) (add modes.Number o))))
+    by : (b c : Bool) → Slashed (acts p s o (cond b (before TokenKind.Number) (cond c (go Mode.NumberSlash) (add Mode.Number o))))
     by true c = (refl, has)
     by false true = (refl, has)
     by false false = (refl, has_longer s.kept (o ∷ []) has)
@@ -60,15 +46,15 @@ module _ (p : Place) (s : Known) (o : ℕ) (has : has_slash s.kept ≡ true) whe
   number_slash_slashed : Slashed (acts p s o (in_number_slash o))
   unfolding Slashed
   number_slash_slashed = by ((o == 47) || (o == 42)) (is_stop o) where
-    by : (b c : Bool) → Slashed (acts p s o (cond b (actions.Before kinds.Number keeps.Nothing modes.Slash)
-        (cond c (actions.Before kinds.Number (keeps.One 47) modes.Blank) (actions.Go modes.Number (keeps.Two 47 o)))))
+    by : (b c : Bool) → Slashed (acts p s o (cond b (Action.Before TokenKind.Number Keep.Nothing Mode.Slash)
+        (cond c (Action.Before TokenKind.Number (Keep.One 47) Mode.Blank) (Action.Go Mode.Number (Keep.Two 47 o)))))
     by true c = (refl, has)
     by false true = (refl, has_longer s.kept (47 ∷ []) has)
     by false false = (refl, has_longer (s.kept ++ 47 ∷ []) (o ∷ []) (has_longer s.kept (47 ∷ []) has))
 
   mode_slashed : (m : Mode) → in_numeric m ≡ true → Slashed (acts p s o (next p s.colon m o))
-  mode_slashed modes.Number h = number_slashed
-  mode_slashed modes.NumberSlash h = number_slash_slashed
+  mode_slashed Mode.Number h = number_slashed
+  mode_slashed Mode.NumberSlash h = number_slash_slashed
   mode_slashed _ h = cc
 
 follow_slashed : (x : Outcome) (f : Known → Outcome) → Slashed x → ((s : Known) → Slashed (Next s) → Slashed (f s)) → Slashed (follow x f)
@@ -85,18 +71,18 @@ run_slashed p (o ∷ os) s h = follow_slashed (feed p s o) (λ t. run p os t) (m
 -- at the end of the input too
 abbrev EndSlashed : Result (Option Lexeme) Reason → Type 0
 EndSlashed (Ok None) = ⊥
-EndSlashed (Ok (Some l)) = (l.kind ≡ kinds.Number) × (has_slash l.octets ≡ true)
+EndSlashed (Ok (Some l)) = (l.kind ≡ TokenKind.Number) × (has_slash l.octets ≡ true)
 EndSlashed (Err e) = ⊥
 
 end_slashed : (s : Known) (p : Place) (m : Mode) → in_numeric m ≡ true → has_slash s.kept ≡ true → EndSlashed (ends_at s (end_of p m))
-end_slashed s p modes.Number h has = (refl, has)
-end_slashed s p modes.NumberSlash h has = (refl, has_longer s.kept (47 ∷ []) has)
+end_slashed s p Mode.Number h has = (refl, has)
+end_slashed s p Mode.NumberSlash h has = (refl, has_longer s.kept (47 ∷ []) has)
 end_slashed s p _ h has = cc
 
 -- the next token is a number in which a `/` stands
 abbrev NextSlashed : List Placed → Type 0
 NextSlashed [] = ⊥
-NextSlashed (t ∷ ts) = (t.lexeme.kind ≡ kinds.Number) × (has_slash t.lexeme.octets ≡ true)
+NextSlashed (t ∷ ts) = (t.lexeme.kind ≡ TokenKind.Number) × (has_slash t.lexeme.octets ≡ true)
 
 finds_slashed : (p : Place) (s0 s : Known) (octets rest : List ℕ) → run p octets s0 ≡ Next s → Slashed (Next s) → (others : List Placed) → LooksIn p others
     → Finds s0 (octets ++ rest) others → NextSlashed others
@@ -132,19 +118,19 @@ without_slash (o ∷ w) h = by (is_stop o) (o == 47) h.0 (without_slash w h.1) w
 not_slashed : (ts others : List Placed) (colon : Bool) (k : ℕ) (octets : List ℕ) → Lexes colon k octets (ts ++ others) → NextSlashed others → ⊥
 not_slashed [] [] colon k octets lexes slashed = slashed
 not_slashed [] (t ∷ others) colon k octets (rest, b, more) (number, has) =
-    let is : IsLexeme t.place colon b.token rest kinds.Number t.lexeme.octets =
+    let is : IsLexeme t.place colon b.token rest TokenKind.Number t.lexeme.octets =
     subst (λ kind. IsLexeme t.place colon b.token rest kind t.lexeme.octets) number b.is in
     true≢false (sym has ∙ ap has_slash is.0 ∙ without_slash b.token is.2.each)
 not_slashed (t ∷ ts) others colon k octets (rest, b, more) slashed = not_slashed ts others _ t.lexeme.end rest more slashed
 
 -- the kind of the token that the `/` is behind
 abbrev kind_behind : Mode → TokenKind
-kind_behind modes.NumberSlash = kinds.Number
-kind_behind _ = kinds.Operator
+kind_behind Mode.NumberSlash = TokenKind.Number
+kind_behind _ = TokenKind.Operator
 
-slash_ends : (p : Place) (colon : Bool) (m : Mode) → behind m ≡ 1 → next p colon m 47 ≡ actions.Before (kind_behind m) keeps.Nothing modes.Slash
-slash_ends p colon modes.NumberSlash h = refl
-slash_ends p colon modes.OperatorSlash h = refl
+slash_ends : (p : Place) (colon : Bool) (m : Mode) → behind m ≡ 1 → next p colon m 47 ≡ Action.Before (kind_behind m) Keep.Nothing Mode.Slash
+slash_ends p colon Mode.NumberSlash h = refl
+slash_ends p colon Mode.OperatorSlash h = refl
 slash_ends p colon _ h = cc
 
 -- the octets but for the last one are a token, and it begins a comment
@@ -162,7 +148,7 @@ module _ (p : Place) (s : Known) (u : List ℕ) (ts : List Placed) (h : Scanned 
   token = record { place = p; lexeme = cut s kind s.kept (s.used - 1) }
 
   abbrev now : Known
-  now = past p kind modes.Slash [] (s.used - 1) s.used
+  now = past p kind Mode.Slash [] (s.used - 1) s.used
 
   left : run p (47 ∷ []) s ≡ Left token.lexeme now
   left = ap (λ a. follow (acts p s 47 a) (λ t. Next t)) (slash_ends p s.colon s.mode one)
@@ -180,7 +166,7 @@ module _ (p : Place) (s : Known) (u : List ℕ) (ts : List Placed) (h : Scanned 
     lexeme = token.lexeme;
     start = refl;
     end = refl;
-    lexes = ends_in_blank now (go_to now modes.LineComment []) u (ts ++ token ∷ []) (47 ∷ []) (47 ∷ []) [] p stands (pass_more ts token h.pass passes) refl refl
+    lexes = ends_in_blank now (go_to now Mode.LineComment []) u (ts ++ token ∷ []) (47 ∷ []) (47 ∷ []) [] p stands (pass_more ts token h.pass passes) refl refl
         refl;
   }
 
@@ -201,7 +187,7 @@ slash_comments p s u ts h one = by s.mode one refl (has_slash s.kept) refl where
 
   by : (m : Mode) → behind m ≡ 1 → s.mode ≡ m → (b : Bool) → has_slash s.kept ≡ b
       → EndsBeforeComment p s u ts ⊎ ((rest : List ℕ) (others : List Placed) → LooksIn p others → Lexes false 0 (u ++ rest) (ts ++ others) → ⊥)
-  by modes.NumberSlash f e true has = inr (never (ap in_numeric e) has)
-  by modes.NumberSlash f e false has = inl (ends_before p s u ts h one (subst (λ m. Passes (kind_behind m) s.kept) (sym e) has))
-  by modes.OperatorSlash f e b has = inl (ends_before p s u ts h one (subst (λ m. Passes (kind_behind m) s.kept) (sym e) tt))
+  by Mode.NumberSlash f e true has = inr (never (ap in_numeric e) has)
+  by Mode.NumberSlash f e false has = inl (ends_before p s u ts h one (subst (λ m. Passes (kind_behind m) s.kept) (sym e) has))
+  by Mode.OperatorSlash f e b has = inl (ends_before p s u ts h one (subst (λ m. Passes (kind_behind m) s.kept) (sym e) tt))
   by _ f e b has = cc

@@ -4,32 +4,13 @@ use Rattle.std.specs.Prelude.{IsUtf8}
 use Rattle.std.specs.Str.{IsAscii}
 use Rattle.std.proofs.lemmas.Str.{IsUtf8-from_ascii}
 use Rattle.std.proofs.lemmas.Bool.Decides.{nat_tests}
-use Rattle.ion_atoms.specs.declared.kind.Kind.{Kind}
-use Rattle.ion_atoms.specs.declared.refusal.Refusal.{Refusal}
-use Rattle.ion_atoms.specs.declared.refusal.Reason.{Reason}
-use Rattle.ion_atoms.specs.declared.refusal.Reason.TheVariants as reasons
-use Rattle.ion_tokens.specs.Octets.{is_word_octet, is_operator_octet}
-use Rattle.ion_tokens.specs.Lexemes.{Each, Lexeme}
-use Rattle.ion_tokens.specs.declared.mode.Place.{Place}
-use Rattle.ion_tokens.specs.declared.mode.Mark.{Mark}
-use Rattle.ion_tokens.specs.declared.mode.Keep.{Keep}
-use Rattle.ion_tokens.specs.declared.mode.Keep.TheVariants as keeps
-use Rattle.ion_tokens.specs.declared.mode.End.TheVariants as ends
-use Rattle.ion_tokens.specs.declared.mode.Mode.{Mode}
-use Rattle.ion_tokens.specs.declared.mode.Mode.TheVariants as modes
-use Rattle.ion_tokens.specs.declared.mode.TokenKind.{TokenKind}
-use Rattle.ion_tokens.specs.declared.mode.TokenKind.TheVariants as kinds
-use Rattle.ion_tokens.specs.machine.Table.{end_of, is_sexp}
-use Rattle.ion_tokens.specs.machine.Scanning.{Known, kept_after, ends_at, at_end}
-use Rattle.ion_tokens.specs.Bodies.{IsWordBody, IsBody, null_of, kind_named, id_of}
-use Rattle.ion_tokens.specs.Lexed.{Placed}
-use Rattle.ion_tokens.specs.machine.Scanned.{Scanned}
-use Rattle.ion_tokens.specs.machine.Steps.{Ends, is_end_reason}
-use Rattle.ion_tokens.proofs.complete.TakesOperators.{low_operator}
-use Rattle.ion_tokens.proofs.sound.Opens.{IsOpen}
-use Rattle.ion_tokens.proofs.sound.Holds.{InMode}
+use Rattle.ion_tokens.specs.Names.{Each, End, IsBody, IsWordBody, Keep, Kind, Known, Lexeme, Mark, Mode, Place, Placed, Reason, Refusal, Scanned, TokenKind, at_end, end_of, ends_at, id_of, is_end_reason, is_operator_octet, is_sexp, is_word_octet, kept_after, kind_named, null_of}
+use Rattle.ion_tokens.specs.machine.Steps.{Ends}
 use Rattle.ion_tokens.specs.laws.Each.{each_last}
+use Rattle.ion_tokens.proofs.complete.TakesOperators.{low_operator}
 use Rattle.ion_tokens.proofs.foreseen.Begins.{begun_holds}
+use Rattle.ion_tokens.proofs.sound.Holds.{InMode}
+use Rattle.ion_tokens.proofs.sound.Opens.{IsOpen}
 
 -- octets of a class of ASCII are UTF-8
 ascii_each : (class : ℕ → Bool) (w : List ℕ) → ((o : ℕ) → class o ≡ true → o < 128) → Each class w → IsAscii w
@@ -44,31 +25,31 @@ low_word o h = grind (arith, nat_tests)
 abbrev IsFairBody : TokenKind → List ℕ → Type 0
 IsFairBody kind octets = (e : Reason) → IsBody kind octets (Err e) → is_end_reason e ≡ true
 
-word_fair : (octets : List ℕ) → Each is_word_octet octets → IsFairBody kinds.Word octets
+word_fair : (octets : List ℕ) → Each is_word_octet octets → IsFairBody TokenKind.Word octets
 word_fair octets h e b = by (id_of octets) b where
   by : (id : Option ℕ) → IsWordBody octets id (Err e) → is_end_reason e ≡ true
   by None k = absurd (k.1 (IsUtf8-from_ascii octets (ascii_each is_word_octet octets low_word h)))
   by (Some id) k = cc
 
-operator_fair : (octets : List ℕ) → Each is_operator_octet octets → IsFairBody kinds.Operator octets
+operator_fair : (octets : List ℕ) → Each is_operator_octet octets → IsFairBody TokenKind.Operator octets
 operator_fair octets h e b = absurd (b.1 (IsUtf8-from_ascii octets (ascii_each is_operator_octet octets low_operator h)))
 
-null_fair : (octets : List ℕ) → IsFairBody kinds.KindName octets
+null_fair : (octets : List ℕ) → IsFairBody TokenKind.KindName octets
 null_fair octets e h = by (kind_named octets) h where
   by : (kind : Option Kind) → Err e ≡ null_of kind → is_end_reason e ≡ true
-  by None k = let same : e ≡ reasons.Malformed = cc in ap is_end_reason same
+  by None k = let same : e ≡ Reason.Malformed = cc in ap is_end_reason same
   by (Some kind) k = cc
 
-number_fair : (octets : List ℕ) → IsFairBody kinds.Number octets
-number_fair octets reasons.TooLarge h = refl
-number_fair octets reasons.Malformed h = refl
-number_fair octets reasons.Float h = refl
+number_fair : (octets : List ℕ) → IsFairBody TokenKind.Number octets
+number_fair octets Reason.TooLarge h = refl
+number_fair octets Reason.Malformed h = refl
+number_fair octets Reason.Float h = refl
 number_fair octets _ h = absurd h
 
-empty_fair : (octets : List ℕ) → octets ≡ [] → IsFairBody kinds.QuotedSymbol octets
+empty_fair : (octets : List ℕ) → octets ≡ [] → IsFairBody TokenKind.QuotedSymbol octets
 empty_fair octets none e h = absurd (h.1 (subst (λ o. IsUtf8 o) (sym none) (IsUtf8-from_ascii [] (λ i. omega arith))))
 
-mark_fair : (m : Mark) (octets : List ℕ) → IsFairBody (kinds.Mark m) octets
+mark_fair : (m : Mark) (octets : List ℕ) → IsFairBody (TokenKind.Mark m) octets
 mark_fair m octets e h = cc
 
 -- what the end shows is refused for its reasons alone
@@ -78,64 +59,64 @@ IsEndFair (Ok (Some l)) = IsFairBody l.kind l.octets
 IsEndFair (Err e) = is_end_reason e ≡ true
 
 run_fair : (p : Place) (s : Known) (k : Keep) → Each is_operator_octet (kept_after k s.kept)
-    → IsEndFair (ends_at s (cond (is_sexp p) (ends.Token kinds.Operator k) (ends.Refuse reasons.Incomplete)))
+    → IsEndFair (ends_at s (cond (is_sexp p) (End.Token TokenKind.Operator k) (End.Refuse Reason.Incomplete)))
 run_fair p s k h = by (is_sexp p) where
-  by : (b : Bool) → IsEndFair (ends_at s (cond b (ends.Token kinds.Operator k) (ends.Refuse reasons.Incomplete)))
+  by : (b : Bool) → IsEndFair (ends_at s (cond b (End.Token TokenKind.Operator k) (End.Refuse Reason.Incomplete)))
   by true = operator_fair (kept_after k s.kept) h
   by false = refl
 
-letters_fair : (b : Bool) → is_end_reason (cond b reasons.Float reasons.Incomplete) ≡ true
+letters_fair : (b : Bool) → is_end_reason (cond b Reason.Float Reason.Incomplete) ≡ true
 letters_fair true = refl
 letters_fair false = refl
 
 open_fair : (p : Place) (colon : Bool) (s : Known) (m : Mode) (w : List ℕ) → IsOpen p colon m w s.kept → IsEndFair (ends_at s (end_of p m))
-open_fair p colon s modes.Colon w h = mark_fair _ s.kept
-open_fair p colon s modes.Word w (e, h) = subst (λ o. IsFairBody kinds.Word o) (sym e) (word_fair w h.1)
-open_fair p colon s modes.KindName w h = null_fair s.kept
-open_fair p colon s modes.Number w h = number_fair s.kept
-open_fair p colon s modes.NumberSlash w h = number_fair (s.kept ++ 47 ∷ [])
-open_fair p colon s (modes.Operator x) w (e, n, h, so) = run_fair p s keeps.Nothing (subst (λ o. Each is_operator_octet o) (sym e) h.each)
-open_fair p colon s modes.OperatorSlash w (e, so, h) = run_fair p s (keeps.One 47) (each_last is_operator_octet s.kept 47 h.each refl)
-open_fair p colon s (modes.Infinity n) w h = letters_fair (Rattle.std.specs.Prelude.nat_eq n 3)
-open_fair p colon s modes.Quote w h = refl
-open_fair p colon s modes.Quotes w (e, none) = empty_fair s.kept none
-open_fair p colon s (modes.Text t v) w h = refl
-open_fair p colon s modes.Brace w h = mark_fair _ s.kept
-open_fair p colon s (modes.Lob l) w h = refl
-open_fair p colon s modes.Blank w h = absurd h
-open_fair p colon s modes.Slash w h = absurd h
-open_fair p colon s modes.LineComment w h = absurd h
-open_fair p colon s modes.BlockComment w h = absurd h
-open_fair p colon s modes.BlockCommentStar w h = absurd h
+open_fair p colon s Mode.Colon w h = mark_fair _ s.kept
+open_fair p colon s Mode.Word w (e, h) = subst (λ o. IsFairBody TokenKind.Word o) (sym e) (word_fair w h.1)
+open_fair p colon s Mode.KindName w h = null_fair s.kept
+open_fair p colon s Mode.Number w h = number_fair s.kept
+open_fair p colon s Mode.NumberSlash w h = number_fair (s.kept ++ 47 ∷ [])
+open_fair p colon s (Mode.Operator x) w (e, n, h, so) = run_fair p s Keep.Nothing (subst (λ o. Each is_operator_octet o) (sym e) h.each)
+open_fair p colon s Mode.OperatorSlash w (e, so, h) = run_fair p s (Keep.One 47) (each_last is_operator_octet s.kept 47 h.each refl)
+open_fair p colon s (Mode.Infinity n) w h = letters_fair (Rattle.std.specs.Prelude.nat_eq n 3)
+open_fair p colon s Mode.Quote w h = refl
+open_fair p colon s Mode.Quotes w (e, none) = empty_fair s.kept none
+open_fair p colon s (Mode.Text t v) w h = refl
+open_fair p colon s Mode.Brace w h = mark_fair _ s.kept
+open_fair p colon s (Mode.Lob l) w h = refl
+open_fair p colon s Mode.Blank w h = absurd h
+open_fair p colon s Mode.Slash w h = absurd h
+open_fair p colon s Mode.LineComment w h = absurd h
+open_fair p colon s Mode.BlockComment w h = absurd h
+open_fair p colon s Mode.BlockCommentStar w h = absurd h
 
 mode_fair : (p : Place) (colon : Bool) (k : ℕ) (s : Known) (m : Mode) (since : List ℕ) → InMode p colon k m s.kept s.start since
     → IsEndFair (ends_at s (end_of p m))
-mode_fair p colon k s modes.Blank since h = tt
-mode_fair p colon k s modes.Slash since (none, front, blank, cut) =
-    run_fair p s (keeps.One 47) (subst (λ o. Each is_operator_octet (o ++ 47 ∷ [])) (sym none) (refl, tt))
-mode_fair p colon k s modes.LineComment since h = tt
-mode_fair p colon k s modes.BlockComment since h = refl
-mode_fair p colon k s modes.BlockCommentStar since h = refl
-mode_fair p colon k s modes.Colon since b = open_fair p colon s modes.Colon b.token b.is
-mode_fair p colon k s modes.Word since b = open_fair p colon s modes.Word b.token b.is
-mode_fair p colon k s modes.KindName since b = open_fair p colon s modes.KindName b.token b.is
-mode_fair p colon k s modes.Number since b = open_fair p colon s modes.Number b.token b.is
-mode_fair p colon k s modes.NumberSlash since b = open_fair p colon s modes.NumberSlash b.token b.is
-mode_fair p colon k s (modes.Operator x) since b = open_fair p colon s (modes.Operator x) b.token b.is
-mode_fair p colon k s modes.OperatorSlash since b = open_fair p colon s modes.OperatorSlash b.token b.is
-mode_fair p colon k s (modes.Infinity n) since b = open_fair p colon s (modes.Infinity n) b.token b.is
-mode_fair p colon k s modes.Quote since b = open_fair p colon s modes.Quote b.token b.is
-mode_fair p colon k s modes.Quotes since b = open_fair p colon s modes.Quotes b.token b.is
-mode_fair p colon k s (modes.Text t v) since b = open_fair p colon s (modes.Text t v) b.token b.is
-mode_fair p colon k s modes.Brace since b = open_fair p colon s modes.Brace b.token b.is
-mode_fair p colon k s (modes.Lob l) since b = open_fair p colon s (modes.Lob l) b.token b.is
+mode_fair p colon k s Mode.Blank since h = tt
+mode_fair p colon k s Mode.Slash since (none, front, blank, cut) =
+    run_fair p s (Keep.One 47) (subst (λ o. Each is_operator_octet (o ++ 47 ∷ [])) (sym none) (refl, tt))
+mode_fair p colon k s Mode.LineComment since h = tt
+mode_fair p colon k s Mode.BlockComment since h = refl
+mode_fair p colon k s Mode.BlockCommentStar since h = refl
+mode_fair p colon k s Mode.Colon since b = open_fair p colon s Mode.Colon b.token b.is
+mode_fair p colon k s Mode.Word since b = open_fair p colon s Mode.Word b.token b.is
+mode_fair p colon k s Mode.KindName since b = open_fair p colon s Mode.KindName b.token b.is
+mode_fair p colon k s Mode.Number since b = open_fair p colon s Mode.Number b.token b.is
+mode_fair p colon k s Mode.NumberSlash since b = open_fair p colon s Mode.NumberSlash b.token b.is
+mode_fair p colon k s (Mode.Operator x) since b = open_fair p colon s (Mode.Operator x) b.token b.is
+mode_fair p colon k s Mode.OperatorSlash since b = open_fair p colon s Mode.OperatorSlash b.token b.is
+mode_fair p colon k s (Mode.Infinity n) since b = open_fair p colon s (Mode.Infinity n) b.token b.is
+mode_fair p colon k s Mode.Quote since b = open_fair p colon s Mode.Quote b.token b.is
+mode_fair p colon k s Mode.Quotes since b = open_fair p colon s Mode.Quotes b.token b.is
+mode_fair p colon k s (Mode.Text t v) since b = open_fair p colon s (Mode.Text t v) b.token b.is
+mode_fair p colon k s Mode.Brace since b = open_fair p colon s Mode.Brace b.token b.is
+mode_fair p colon k s (Mode.Lob l) since b = open_fair p colon s (Mode.Lob l) b.token b.is
 
 -- What the end shows behind octets that a scanner stands for is refused for its reasons alone.
 pub end_fair : (p : Place) (s : Known) (u : List ℕ) (ts : List Placed) → Scanned p s u ts [] → IsEndFair (at_end p s)
 end_fair p s u ts h = let there = begun_holds p s u ts h in mode_fair p there.colon there.end s s.mode there.since there.holds.mode
 
-unless_memory : (e : Reason) → (e ≢ reasons.Memory → is_end_reason e ≡ true) → is_end_reason e ≡ true
-unless_memory reasons.Memory h = refl
+unless_memory : (e : Reason) → (e ≢ Reason.Memory → is_end_reason e ≡ true) → is_end_reason e ≡ true
+unless_memory Reason.Memory h = refl
 unless_memory _ h = h (λ i. cc)
 
 -- an end refuses for one of its reasons

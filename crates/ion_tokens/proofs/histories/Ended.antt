@@ -1,24 +1,16 @@
 -- Where octets show no token, none but those told has ended whatever follows.
 use Rattle.std.proofs.Common.{◌≡◌, ℕ, ◌+◌, ◌≤◌, Bool, false, List, [], ◌∷◌, ◌++◌, length, refl, sym, ap, ◌∙◌, subst, arith, append_assoc, length-append}
 use Rattle.std.specs.Prelude.{Option, Some, Result, Ok}
-use Rattle.ion_atoms.specs.declared.refusal.Reason.{Reason}
-use Rattle.ion_tokens.specs.declared.mode.Place.{Place}
-use Rattle.ion_tokens.specs.declared.mode.End.{End}
-use Rattle.ion_tokens.specs.declared.mode.End.TheVariants as ends
-use Rattle.ion_tokens.specs.machine.Table.{end_of}
-use Rattle.ion_tokens.specs.Blobs.{AreOctets}
-use Rattle.ion_tokens.specs.machine.Scanning.{Known, Outcome, Next, Given, Left, Refused, run, at_end, ends_at}
-use Rattle.ion_tokens.specs.Lexemes.{Lexeme}
-use Rattle.ion_tokens.specs.Lexed.{Placed, LexesBefore, BeginsLexed, AllPass}
-use Rattle.ion_tokens.specs.machine.Told.{Stands, Begun, Gave, Leaved}
-use Rattle.ion_tokens.proofs.complete.Found.{FindsUpTo, Last, Gives, Leaves, Unclosed}
-use Rattle.ion_tokens.proofs.runs.Runs.{next_used}
+use Rattle.ion_tokens.specs.Names.{AllPass, AreOctets, BeginsLexed, End, Gave, Given, Known, Leaved, Left, Lexeme, LexesBefore, Next, Outcome, Place, Placed, Reason, Refused, Stands, at_end, end_of, ends_at, run}
+use Rattle.ion_tokens.specs.machine.Told.{Begun}
+use Rattle.ion_tokens.proofs.complete.Found.{FindsUpTo, Gives, Last, Leaves, Unclosed}
 use Rattle.ion_tokens.proofs.complete.Wholes.{run_behind}
+use Rattle.ion_tokens.proofs.histories.Escapes.{Escape, Escapes, Goes, Grows, Refuses, escape}
 use Rattle.ion_tokens.proofs.histories.Histories.{begins_completes, stands_found}
+use Rattle.ion_tokens.proofs.runs.Runs.{next_used}
+use Rattle.ion_tokens.proofs.sound.Holds.{Holds}
 use Rattle.ion_tokens.proofs.sound.SoundHistories.{HasTold, stands_tells}
 use Rattle.ion_tokens.proofs.sound.Sounds.{RunSound, run_sound}
-use Rattle.ion_tokens.proofs.sound.Holds.{Holds}
-use Rattle.ion_tokens.proofs.histories.Escapes.{Escapes, Refuses, Goes, Grows, Escape, escape}
 
 -- tokens end within the octets
 lexes_end : (End : Bool → ℕ → List ℕ → Type 0) (ts : List Placed) (t : Placed) (colon : Bool) (before : ℕ) (octets : List ℕ)
@@ -43,12 +35,12 @@ stands_used s u ts ahead (Leaved s0 u0 ts0 ahead0 t octets more0 x s' h e f n) =
 
 -- a token at the end of the input ends there
 end_used : (s : Known) (e : End) (l : Lexeme) → ends_at s e ≡ Ok (Some l) → l.end ≡ s.used
-end_used s ends.Blank l h = cc
-end_used s (ends.Token kind k) l h = sym (ap (λ x. end_in x l) h) where
+end_used s End.Blank l h = cc
+end_used s (End.Token kind k) l h = sym (ap (λ x. end_in x l) h) where
   end_in : Result (Option Lexeme) Reason → Lexeme → ℕ
   end_in (Ok (Some l)) m = l.end
   end_in _ m = m.end
-end_used s (ends.Refuse e) l h = cc
+end_used s (End.Refuse e) l h = cc
 
 abbrev lexeme_end : Outcome → ℕ
 lexeme_end (Given l s) = l.end

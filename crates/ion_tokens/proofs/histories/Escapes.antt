@@ -2,32 +2,15 @@
 use Rattle.std.proofs.Common.{◌≡◌, ℕ, ◌+◌, ◌-◌, ◌<◌, ◌≤◌, ⊎_elim, Bool, true, false, cond, List, [], ◌∷◌, ◌++◌, length, refl, sym, subst, arith}
 use Rattle.std.specs.Prelude.{nat_lt, nat_le, ◌||◌, Err}
 use Rattle.std.proofs.lemmas.Bool.Decides.{nat_tests}
-use Rattle.ion_atoms.specs.declared.refusal.Reason.{Reason}
-use Rattle.ion_atoms.specs.declared.refusal.Reason.TheVariants as reasons
-use Rattle.ion_tokens.specs.declared.mode.Place.{Place}
-use Rattle.ion_tokens.specs.declared.mode.Place.TheVariants as places
-use Rattle.ion_tokens.specs.declared.mode.Style.{Style}
-use Rattle.ion_tokens.specs.declared.mode.Style.TheVariants as styles
-use Rattle.ion_tokens.specs.declared.mode.Within.{Within}
-use Rattle.ion_tokens.specs.declared.mode.Within.TheVariants as within
-use Rattle.ion_tokens.specs.declared.mode.Ending.{Ending}
-use Rattle.ion_tokens.specs.declared.mode.Mode.{Mode}
-use Rattle.ion_tokens.specs.declared.mode.Mode.TheVariants as modes
-use Rattle.ion_tokens.specs.declared.mode.Lob.{Lob}
-use Rattle.ion_tokens.specs.declared.mode.Lob.TheVariants as lobs
-use Rattle.ion_tokens.specs.declared.mode.Action.TheVariants as actions
-use Rattle.ion_tokens.specs.machine.Table.{add}
-use Rattle.ion_tokens.specs.Blobs.{AreOctets}
-use Rattle.ion_tokens.specs.Lexemes.{Each, Lexeme}
-use Rattle.ion_tokens.specs.machine.Scanning.{Known, Next, Given, Refused, acts, follow, run, at_end}
+use Rattle.ion_tokens.specs.Names.{Action, AreOctets, Each, Ending, Given, Known, Lexeme, Lob, Mode, Next, Place, Reason, Refused, Style, Within, acts, add, at_end, follow, run}
 use Rattle.ion_tokens.proofs.complete.Moves.{at}
-use Rattle.ion_tokens.proofs.sound.Holds.{InMode, Holds, one_to_three}
+use Rattle.ion_tokens.proofs.sound.Holds.{Holds, InMode, one_to_three}
 
 -- over these octets the scanner refuses; or it goes on to where the end of the input wouldn't say that more must come; or a token ends
 -- behind all that came before
 pub data Escapes (p : Place) (s : Known) (r : List ℕ) : Type 0 where
   Refuses : (n : ℕ) (e : Reason) → run p r s ≡ Refused n e → Escapes p s r
-  Goes : (s' : Known) → run p r s ≡ Next s' → 0 < length r → (at_end p s' ≡ Err reasons.Incomplete → ⊥) → Escapes p s r
+  Goes : (s' : Known) → run p r s ≡ Next s' → 0 < length r → (at_end p s' ≡ Err Reason.Incomplete → ⊥) → Escapes p s r
   Grows : (l : Lexeme) (s' : Known) → run p r s ≡ Given l s' → s.used < l.end → Escapes p s r
 
 -- octets that show that no token has ended where the scanner stands
@@ -53,25 +36,25 @@ three : (o x y : ℕ) → nat_lt o 256 ≡ true → nat_lt x 256 ≡ true → na
 three o x y h k j = are_octets (o ∷ x ∷ y ∷ []) (h, (k, (j, tt)))
 
 module _ (colon : Bool) (start used : ℕ) (kept : List ℕ) where
-  in_operator : (p : Place) (e : Ending) → Escape p (at (modes.Operator e) kept colon start used)
-  in_operator places.Sexp e = record { octets = 43 ∷ []; are = one 43 refl; escapes = Goes _ refl (omega arith) (λ x. cc) }
-  in_operator places.Top e = record { octets = 43 ∷ []; are = one 43 refl; escapes = Refuses _ _ refl }
-  in_operator places.List e = record { octets = 43 ∷ []; are = one 43 refl; escapes = Refuses _ _ refl }
-  in_operator places.Name e = record { octets = 43 ∷ []; are = one 43 refl; escapes = Refuses _ _ refl }
-  in_operator places.FieldValue e = record { octets = 43 ∷ []; are = one 43 refl; escapes = Refuses _ _ refl }
+  in_operator : (p : Place) (e : Ending) → Escape p (at (Mode.Operator e) kept colon start used)
+  in_operator Place.Sexp e = record { octets = 43 ∷ []; are = one 43 refl; escapes = Goes _ refl (omega arith) (λ x. cc) }
+  in_operator Place.Top e = record { octets = 43 ∷ []; are = one 43 refl; escapes = Refuses _ _ refl }
+  in_operator Place.List e = record { octets = 43 ∷ []; are = one 43 refl; escapes = Refuses _ _ refl }
+  in_operator Place.Name e = record { octets = 43 ∷ []; are = one 43 refl; escapes = Refuses _ _ refl }
+  in_operator Place.FieldValue e = record { octets = 43 ∷ []; are = one 43 refl; escapes = Refuses _ _ refl }
 
-  in_operator_slash : (p : Place) → Escape p (at modes.OperatorSlash kept colon start used)
-  in_operator_slash places.Sexp = record { octets = 43 ∷ []; are = one 43 refl; escapes = Goes _ refl (omega arith) (λ x. cc) }
-  in_operator_slash places.Top = record { octets = 43 ∷ 43 ∷ []; are = two 43 43 refl refl; escapes = Refuses _ _ refl }
-  in_operator_slash places.List = record { octets = 43 ∷ 43 ∷ []; are = two 43 43 refl refl; escapes = Refuses _ _ refl }
-  in_operator_slash places.Name = record { octets = 43 ∷ 43 ∷ []; are = two 43 43 refl refl; escapes = Refuses _ _ refl }
-  in_operator_slash places.FieldValue = record { octets = 43 ∷ 43 ∷ []; are = two 43 43 refl refl; escapes = Refuses _ _ refl }
+  in_operator_slash : (p : Place) → Escape p (at Mode.OperatorSlash kept colon start used)
+  in_operator_slash Place.Sexp = record { octets = 43 ∷ []; are = one 43 refl; escapes = Goes _ refl (omega arith) (λ x. cc) }
+  in_operator_slash Place.Top = record { octets = 43 ∷ 43 ∷ []; are = two 43 43 refl refl; escapes = Refuses _ _ refl }
+  in_operator_slash Place.List = record { octets = 43 ∷ 43 ∷ []; are = two 43 43 refl refl; escapes = Refuses _ _ refl }
+  in_operator_slash Place.Name = record { octets = 43 ∷ 43 ∷ []; are = two 43 43 refl refl; escapes = Refuses _ _ refl }
+  in_operator_slash Place.FieldValue = record { octets = 43 ∷ 43 ∷ []; are = two 43 43 refl refl; escapes = Refuses _ _ refl }
 
-  in_infinity : (p : Place) (n : ℕ) → 1 ≤ n → n ≤ 3 → Escape p (at (modes.Infinity n) kept colon start used)
+  in_infinity : (p : Place) (n : ℕ) → 1 ≤ n → n ≤ 3 → Escape p (at (Mode.Infinity n) kept colon start used)
   in_infinity p n a b = ⊎_elim (λ e. subst P (sym e) first) (λ m. ⊎_elim (λ e. subst P (sym e) second) (λ e. subst P (sym e) third) m)
       (one_to_three n a b) where
         P : ℕ → Type 0
-        P n = Escape p (at (modes.Infinity n) kept colon start used)
+        P n = Escape p (at (Mode.Infinity n) kept colon start used)
 
         first : P 1
         first = record { octets = 110 ∷ 102 ∷ 32 ∷ []; are = three 110 102 32 refl refl refl; escapes = Refuses _ _ refl }
@@ -83,81 +66,81 @@ module _ (colon : Bool) (start used : ℕ) (kept : List ℕ) where
         third = record { octets = 32 ∷ []; are = one 32 refl; escapes = Refuses _ _ refl }
 
   -- the second of two NUL is refused, if the first one isn't
-  in_utf8 : (p : Place) (s : Style) (left least most : ℕ) → Escapes p (at (modes.Text s (within.Utf8 left least most)) kept colon start used) (0 ∷ 0 ∷ [])
+  in_utf8 : (p : Place) (s : Style) (left least most : ℕ) → Escapes p (at (Mode.Text s (Within.Utf8 left least most)) kept colon start used) (0 ∷ 0 ∷ [])
   in_utf8 p s left least most = let h = by (nat_lt 0 least || nat_lt most 0) (nat_le left 1) in Refuses h.0 h.1 h.2 where
-    plain : (s : Style) → run p (0 ∷ []) (at (modes.Text s within.Plain) (kept ++ 0 ∷ []) colon start (used + 1)) ≡ Refused (used + 1 + 1) reasons.Unexpected
-    plain styles.ShortString = refl
-    plain styles.QuotedSymbol = refl
-    plain styles.LongString = refl
-    plain styles.ShortClob = refl
-    plain styles.LongClob = refl
+    plain : (s : Style) → run p (0 ∷ []) (at (Mode.Text s Within.Plain) (kept ++ 0 ∷ []) colon start (used + 1)) ≡ Refused (used + 1 + 1) Reason.Unexpected
+    plain Style.ShortString = refl
+    plain Style.QuotedSymbol = refl
+    plain Style.LongString = refl
+    plain Style.ShortClob = refl
+    plain Style.LongClob = refl
 
-    by : (b c : Bool) → (n : ℕ) × (e : Reason) × (follow (acts p (at (modes.Text s (within.Utf8 left least most)) kept colon start used) 0
-        (cond b (actions.Refuse reasons.BadUtf8) (cond c (add (modes.Text s within.Plain) 0) (add (modes.Text s (within.Utf8 (left - 1) 0x80 0xbf)) 0))))
+    by : (b c : Bool) → (n : ℕ) × (e : Reason) × (follow (acts p (at (Mode.Text s (Within.Utf8 left least most)) kept colon start used) 0
+        (cond b (Action.Refuse Reason.BadUtf8) (cond c (add (Mode.Text s Within.Plain) 0) (add (Mode.Text s (Within.Utf8 (left - 1) 0x80 0xbf)) 0))))
         (λ t. run p (0 ∷ []) t) ≡ Refused n e)
-    by true c = (used + 1, reasons.BadUtf8, refl)
-    by false true = (used + 1 + 1, reasons.Unexpected, plain s)
-    by false false = (used + 1 + 1, reasons.BadUtf8, refl)
+    by true c = (used + 1, Reason.BadUtf8, refl)
+    by false true = (used + 1 + 1, Reason.Unexpected, plain s)
+    by false false = (used + 1 + 1, Reason.BadUtf8, refl)
 
-  in_text : (p : Place) (s : Style) (w : Within) → Escape p (at (modes.Text s w) kept colon start used)
-  in_text p styles.ShortString within.Plain = record { octets = 0 ∷ []; are = one 0 refl; escapes = Refuses _ _ refl }
-  in_text p styles.QuotedSymbol within.Plain = record { octets = 0 ∷ []; are = one 0 refl; escapes = Refuses _ _ refl }
-  in_text p styles.LongString within.Plain = record { octets = 0 ∷ []; are = one 0 refl; escapes = Refuses _ _ refl }
-  in_text p styles.ShortClob within.Plain = record { octets = 0 ∷ []; are = one 0 refl; escapes = Refuses _ _ refl }
-  in_text p styles.LongClob within.Plain = record { octets = 0 ∷ []; are = one 0 refl; escapes = Refuses _ _ refl }
-  in_text p styles.ShortString within.AfterReturn = record { octets = 0 ∷ []; are = one 0 refl; escapes = Refuses _ _ refl }
-  in_text p styles.QuotedSymbol within.AfterReturn = record { octets = 0 ∷ []; are = one 0 refl; escapes = Refuses _ _ refl }
-  in_text p styles.LongString within.AfterReturn = record { octets = 0 ∷ []; are = one 0 refl; escapes = Refuses _ _ refl }
-  in_text p styles.ShortClob within.AfterReturn = record { octets = 0 ∷ []; are = one 0 refl; escapes = Refuses _ _ refl }
-  in_text p styles.LongClob within.AfterReturn = record { octets = 0 ∷ []; are = one 0 refl; escapes = Refuses _ _ refl }
-  in_text p styles.ShortString within.OneQuote = record { octets = 0 ∷ []; are = one 0 refl; escapes = Refuses _ _ refl }
-  in_text p styles.QuotedSymbol within.OneQuote = record { octets = 0 ∷ []; are = one 0 refl; escapes = Refuses _ _ refl }
-  in_text p styles.LongString within.OneQuote = record { octets = 0 ∷ []; are = one 0 refl; escapes = Refuses _ _ refl }
-  in_text p styles.ShortClob within.OneQuote = record { octets = 0 ∷ []; are = one 0 refl; escapes = Refuses _ _ refl }
-  in_text p styles.LongClob within.OneQuote = record { octets = 0 ∷ []; are = one 0 refl; escapes = Refuses _ _ refl }
-  in_text p styles.ShortString within.TwoQuotes = record { octets = 0 ∷ []; are = one 0 refl; escapes = Refuses _ _ refl }
-  in_text p styles.QuotedSymbol within.TwoQuotes = record { octets = 0 ∷ []; are = one 0 refl; escapes = Refuses _ _ refl }
-  in_text p styles.LongString within.TwoQuotes = record { octets = 0 ∷ []; are = one 0 refl; escapes = Refuses _ _ refl }
-  in_text p styles.ShortClob within.TwoQuotes = record { octets = 0 ∷ []; are = one 0 refl; escapes = Refuses _ _ refl }
-  in_text p styles.LongClob within.TwoQuotes = record { octets = 0 ∷ []; are = one 0 refl; escapes = Refuses _ _ refl }
-  in_text p s (within.Utf8 left least most) = record { octets = 0 ∷ 0 ∷ []; are = two 0 0 refl refl; escapes = in_utf8 p s left least most }
-  in_text p s within.Escape = record { octets = 0 ∷ []; are = one 0 refl; escapes = Refuses _ _ refl }
-  in_text p s (within.Hexadecimal d left n) = record { octets = 0 ∷ []; are = one 0 refl; escapes = Refuses _ _ refl }
-  in_text p s (within.HighSurrogate h) = record { octets = 0 ∷ []; are = one 0 refl; escapes = Refuses _ _ refl }
-  in_text p s (within.HighSurrogateEscape h) = record { octets = 0 ∷ []; are = one 0 refl; escapes = Refuses _ _ refl }
+  in_text : (p : Place) (s : Style) (w : Within) → Escape p (at (Mode.Text s w) kept colon start used)
+  in_text p Style.ShortString Within.Plain = record { octets = 0 ∷ []; are = one 0 refl; escapes = Refuses _ _ refl }
+  in_text p Style.QuotedSymbol Within.Plain = record { octets = 0 ∷ []; are = one 0 refl; escapes = Refuses _ _ refl }
+  in_text p Style.LongString Within.Plain = record { octets = 0 ∷ []; are = one 0 refl; escapes = Refuses _ _ refl }
+  in_text p Style.ShortClob Within.Plain = record { octets = 0 ∷ []; are = one 0 refl; escapes = Refuses _ _ refl }
+  in_text p Style.LongClob Within.Plain = record { octets = 0 ∷ []; are = one 0 refl; escapes = Refuses _ _ refl }
+  in_text p Style.ShortString Within.AfterReturn = record { octets = 0 ∷ []; are = one 0 refl; escapes = Refuses _ _ refl }
+  in_text p Style.QuotedSymbol Within.AfterReturn = record { octets = 0 ∷ []; are = one 0 refl; escapes = Refuses _ _ refl }
+  in_text p Style.LongString Within.AfterReturn = record { octets = 0 ∷ []; are = one 0 refl; escapes = Refuses _ _ refl }
+  in_text p Style.ShortClob Within.AfterReturn = record { octets = 0 ∷ []; are = one 0 refl; escapes = Refuses _ _ refl }
+  in_text p Style.LongClob Within.AfterReturn = record { octets = 0 ∷ []; are = one 0 refl; escapes = Refuses _ _ refl }
+  in_text p Style.ShortString Within.OneQuote = record { octets = 0 ∷ []; are = one 0 refl; escapes = Refuses _ _ refl }
+  in_text p Style.QuotedSymbol Within.OneQuote = record { octets = 0 ∷ []; are = one 0 refl; escapes = Refuses _ _ refl }
+  in_text p Style.LongString Within.OneQuote = record { octets = 0 ∷ []; are = one 0 refl; escapes = Refuses _ _ refl }
+  in_text p Style.ShortClob Within.OneQuote = record { octets = 0 ∷ []; are = one 0 refl; escapes = Refuses _ _ refl }
+  in_text p Style.LongClob Within.OneQuote = record { octets = 0 ∷ []; are = one 0 refl; escapes = Refuses _ _ refl }
+  in_text p Style.ShortString Within.TwoQuotes = record { octets = 0 ∷ []; are = one 0 refl; escapes = Refuses _ _ refl }
+  in_text p Style.QuotedSymbol Within.TwoQuotes = record { octets = 0 ∷ []; are = one 0 refl; escapes = Refuses _ _ refl }
+  in_text p Style.LongString Within.TwoQuotes = record { octets = 0 ∷ []; are = one 0 refl; escapes = Refuses _ _ refl }
+  in_text p Style.ShortClob Within.TwoQuotes = record { octets = 0 ∷ []; are = one 0 refl; escapes = Refuses _ _ refl }
+  in_text p Style.LongClob Within.TwoQuotes = record { octets = 0 ∷ []; are = one 0 refl; escapes = Refuses _ _ refl }
+  in_text p s (Within.Utf8 left least most) = record { octets = 0 ∷ 0 ∷ []; are = two 0 0 refl refl; escapes = in_utf8 p s left least most }
+  in_text p s Within.Escape = record { octets = 0 ∷ []; are = one 0 refl; escapes = Refuses _ _ refl }
+  in_text p s (Within.Hexadecimal d left n) = record { octets = 0 ∷ []; are = one 0 refl; escapes = Refuses _ _ refl }
+  in_text p s (Within.HighSurrogate h) = record { octets = 0 ∷ []; are = one 0 refl; escapes = Refuses _ _ refl }
+  in_text p s (Within.HighSurrogateEscape h) = record { octets = 0 ∷ []; are = one 0 refl; escapes = Refuses _ _ refl }
 
-  in_lob : (p : Place) (l : Lob) → Escape p (at (modes.Lob l) kept colon start used)
-  in_lob p lobs.Start = record { octets = 0 ∷ []; are = one 0 refl; escapes = Refuses _ _ refl }
-  in_lob p lobs.StartQuote = record { octets = 0 ∷ []; are = one 0 refl; escapes = Refuses _ _ refl }
-  in_lob p lobs.StartQuotes = record { octets = 0 ∷ []; are = one 0 refl; escapes = Refuses _ _ refl }
-  in_lob p lobs.Base64 = record { octets = 0 ∷ []; are = one 0 refl; escapes = Refuses _ _ refl }
-  in_lob p lobs.BlobClose = record { octets = 0 ∷ []; are = one 0 refl; escapes = Refuses _ _ refl }
-  in_lob p lobs.AfterShort = record { octets = 0 ∷ []; are = one 0 refl; escapes = Refuses _ _ refl }
-  in_lob p lobs.AfterLong = record { octets = 0 ∷ []; are = one 0 refl; escapes = Refuses _ _ refl }
-  in_lob p lobs.AfterQuote = record { octets = 0 ∷ []; are = one 0 refl; escapes = Refuses _ _ refl }
-  in_lob p lobs.AfterQuotes = record { octets = 0 ∷ []; are = one 0 refl; escapes = Refuses _ _ refl }
-  in_lob p lobs.ClobClose = record { octets = 0 ∷ []; are = one 0 refl; escapes = Refuses _ _ refl }
+  in_lob : (p : Place) (l : Lob) → Escape p (at (Mode.Lob l) kept colon start used)
+  in_lob p Lob.Start = record { octets = 0 ∷ []; are = one 0 refl; escapes = Refuses _ _ refl }
+  in_lob p Lob.StartQuote = record { octets = 0 ∷ []; are = one 0 refl; escapes = Refuses _ _ refl }
+  in_lob p Lob.StartQuotes = record { octets = 0 ∷ []; are = one 0 refl; escapes = Refuses _ _ refl }
+  in_lob p Lob.Base64 = record { octets = 0 ∷ []; are = one 0 refl; escapes = Refuses _ _ refl }
+  in_lob p Lob.BlobClose = record { octets = 0 ∷ []; are = one 0 refl; escapes = Refuses _ _ refl }
+  in_lob p Lob.AfterShort = record { octets = 0 ∷ []; are = one 0 refl; escapes = Refuses _ _ refl }
+  in_lob p Lob.AfterLong = record { octets = 0 ∷ []; are = one 0 refl; escapes = Refuses _ _ refl }
+  in_lob p Lob.AfterQuote = record { octets = 0 ∷ []; are = one 0 refl; escapes = Refuses _ _ refl }
+  in_lob p Lob.AfterQuotes = record { octets = 0 ∷ []; are = one 0 refl; escapes = Refuses _ _ refl }
+  in_lob p Lob.ClobClose = record { octets = 0 ∷ []; are = one 0 refl; escapes = Refuses _ _ refl }
 
 module _ (p : Place) (colon : Bool) (k : ℕ) (start used : ℕ) (since : List ℕ) where
   in_mode : (m : Mode) (kept : List ℕ) → InMode p colon k m kept start since → Escape p (at m kept colon start used)
-  in_mode modes.Blank kept h = record { octets = 32 ∷ []; are = one 32 refl; escapes = Goes _ refl (omega arith) (λ x. cc) }
-  in_mode modes.Slash kept h = record { octets = 47 ∷ []; are = one 47 refl; escapes = Goes _ refl (omega arith) (λ x. cc) }
-  in_mode modes.LineComment kept h = record { octets = 32 ∷ []; are = one 32 refl; escapes = Goes _ refl (omega arith) (λ x. cc) }
-  in_mode modes.BlockComment kept h = record { octets = 42 ∷ 47 ∷ []; are = two 42 47 refl refl; escapes = Goes _ refl (omega arith) (λ x. cc) }
-  in_mode modes.BlockCommentStar kept h = record { octets = 47 ∷ []; are = one 47 refl; escapes = Goes _ refl (omega arith) (λ x. cc) }
-  in_mode modes.Colon kept h = record { octets = 58 ∷ []; are = one 58 refl; escapes = Grows _ _ refl (omega arith) }
-  in_mode modes.Word kept h = record { octets = 48 ∷ []; are = one 48 refl; escapes = Goes _ refl (omega arith) (λ x. cc) }
-  in_mode modes.KindName kept h = record { octets = 48 ∷ []; are = one 48 refl; escapes = Goes _ refl (omega arith) (λ x. cc) }
-  in_mode modes.Number kept h = record { octets = 48 ∷ []; are = one 48 refl; escapes = Goes _ refl (omega arith) (λ x. cc) }
-  in_mode modes.NumberSlash kept h = record { octets = 48 ∷ []; are = one 48 refl; escapes = Goes _ refl (omega arith) (λ x. cc) }
-  in_mode (modes.Operator e) kept h = in_operator colon start used kept p e
-  in_mode modes.OperatorSlash kept h = in_operator_slash colon start used kept p
-  in_mode (modes.Infinity n) kept h = let (w, run, a, b) = h.is in in_infinity colon start used kept p n a b
-  in_mode modes.Quote kept h = record { octets = 0 ∷ []; are = one 0 refl; escapes = Refuses _ _ refl }
-  in_mode modes.Quotes kept h = record { octets = 39 ∷ 0 ∷ []; are = two 39 0 refl refl; escapes = Refuses _ _ refl }
-  in_mode (modes.Text s w) kept h = in_text colon start used kept p s w
-  in_mode modes.Brace kept h = record { octets = 123 ∷ 0 ∷ []; are = two 123 0 refl refl; escapes = Refuses _ _ refl }
-  in_mode (modes.Lob l) kept h = in_lob colon start used kept p l
+  in_mode Mode.Blank kept h = record { octets = 32 ∷ []; are = one 32 refl; escapes = Goes _ refl (omega arith) (λ x. cc) }
+  in_mode Mode.Slash kept h = record { octets = 47 ∷ []; are = one 47 refl; escapes = Goes _ refl (omega arith) (λ x. cc) }
+  in_mode Mode.LineComment kept h = record { octets = 32 ∷ []; are = one 32 refl; escapes = Goes _ refl (omega arith) (λ x. cc) }
+  in_mode Mode.BlockComment kept h = record { octets = 42 ∷ 47 ∷ []; are = two 42 47 refl refl; escapes = Goes _ refl (omega arith) (λ x. cc) }
+  in_mode Mode.BlockCommentStar kept h = record { octets = 47 ∷ []; are = one 47 refl; escapes = Goes _ refl (omega arith) (λ x. cc) }
+  in_mode Mode.Colon kept h = record { octets = 58 ∷ []; are = one 58 refl; escapes = Grows _ _ refl (omega arith) }
+  in_mode Mode.Word kept h = record { octets = 48 ∷ []; are = one 48 refl; escapes = Goes _ refl (omega arith) (λ x. cc) }
+  in_mode Mode.KindName kept h = record { octets = 48 ∷ []; are = one 48 refl; escapes = Goes _ refl (omega arith) (λ x. cc) }
+  in_mode Mode.Number kept h = record { octets = 48 ∷ []; are = one 48 refl; escapes = Goes _ refl (omega arith) (λ x. cc) }
+  in_mode Mode.NumberSlash kept h = record { octets = 48 ∷ []; are = one 48 refl; escapes = Goes _ refl (omega arith) (λ x. cc) }
+  in_mode (Mode.Operator e) kept h = in_operator colon start used kept p e
+  in_mode Mode.OperatorSlash kept h = in_operator_slash colon start used kept p
+  in_mode (Mode.Infinity n) kept h = let (w, run, a, b) = h.is in in_infinity colon start used kept p n a b
+  in_mode Mode.Quote kept h = record { octets = 0 ∷ []; are = one 0 refl; escapes = Refuses _ _ refl }
+  in_mode Mode.Quotes kept h = record { octets = 39 ∷ 0 ∷ []; are = two 39 0 refl refl; escapes = Refuses _ _ refl }
+  in_mode (Mode.Text s w) kept h = in_text colon start used kept p s w
+  in_mode Mode.Brace kept h = record { octets = 123 ∷ 0 ∷ []; are = two 123 0 refl refl; escapes = Refuses _ _ refl }
+  in_mode (Mode.Lob l) kept h = in_lob colon start used kept p l
 
 -- wherever the scanner stands behind the last token, some octets show that no other has ended
 pub escape : (p : Place) (colon : Bool) (k : ℕ) (s : Known) (since : List ℕ) → Holds p colon k s since → Escape p s

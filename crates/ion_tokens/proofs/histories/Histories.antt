@@ -2,17 +2,12 @@
 use Rattle.std.proofs.Common.{◌≡◌, ℕ, ◌+◌, ◌-◌, Bool, false, List, [], ◌∷◌, ◌++◌, length, drop, refl, sym, ap, ◌∙◌, subst, arith, append_assoc, append-nil}
 use Rattle.std.specs.Prelude.{Some, None, Ok}
 use Rattle.std.proofs.Math.Seq.{drop-append_seam}
-use Rattle.ion_atoms.specs.declared.refusal.Reason.{Reason}
-use Rattle.ion_tokens.specs.declared.mode.Place.{Place}
-use Rattle.ion_tokens.specs.machine.Scanning.{Known, Outcome, Next, Given, Left, Refused, follow, run, at_end, initial}
-use Rattle.ion_tokens.specs.Lexemes.{Lexeme}
-use Rattle.ion_tokens.specs.Lexed.{Placed, LexesBefore, Lexes, LooksIn, IsNext}
-use Rattle.ion_tokens.specs.machine.Told.{Stands, Begun, Gave, Leaved}
-use Rattle.ion_tokens.proofs.complete.Found.{FindsUpTo, Finds, Nothing, Last, Gives, Leaves, Unclosed}
-use Rattle.ion_tokens.specs.Blanks.{IsLastBlank}
+use Rattle.ion_tokens.specs.Names.{Gave, Given, IsLastBlank, IsNext, Known, Leaved, Left, Lexeme, Lexes, LexesBefore, LooksIn, Next, Outcome, Place, Placed, Reason, Refused, Stands, at_end, follow, initial, run}
+use Rattle.ion_tokens.specs.machine.Told.{Begun}
+use Rattle.ion_tokens.proofs.complete.Found.{Finds, FindsUpTo, Gives, Last, Leaves, Nothing, Unclosed}
 use Rattle.ion_tokens.proofs.complete.TakesBlanks.{last_blank}
-use Rattle.ion_tokens.proofs.runs.Cutting.{run-append}
 use Rattle.ion_tokens.proofs.complete.Wholes.{FindsFrom, find_token, goes_on, no_word}
+use Rattle.ion_tokens.proofs.runs.Cutting.{run-append}
 
 -- Over octets up to the end of the input, the scanner finds the tokens that they are, and refuses nothing.
 pub completes : (ts : List Placed) → FindsFrom (λ colon before octets. IsLastBlank octets) (λ s octets. (p : Place) → (s' : Known) × (run p octets s ≡ Next s')

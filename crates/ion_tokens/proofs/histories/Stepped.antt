@@ -3,27 +3,17 @@ use Rattle.std.proofs.Common.{◌≡◌, ◌≢◌, ℕ, ◌+◌, ◌≤◌, inl
 use Rattle.std.specs.Prelude.{Option, Some, None, Result, Ok, Err}
 use Rattle.std.specs.List.{AllByRecursion}
 use Rattle.std.proofs.Math.Seq.{drop-append_seam, take-append_seam}
-use Rattle.ion_atoms.specs.declared.refusal.Refusal.{Refusal}
-use Rattle.ion_atoms.specs.declared.refusal.Reason.{Reason}
-use Rattle.ion_atoms.specs.declared.refusal.Reason.TheVariants as reasons
-use Rattle.ion_tokens.specs.declared.mode.Place.{Place}
-use Rattle.ion_tokens.specs.declared.token.Token.{Token}
-use Rattle.ion_tokens.specs.machine.Scanning.{Known, Outcome, Next, Given, Left, Refused, follow, run, at_end, initial}
-use Rattle.ion_tokens.specs.Lexemes.{Lexeme}
-use Rattle.ion_tokens.specs.Bodies.{IsBody}
-use Rattle.ion_tokens.specs.machine.Steps.{Stepped, Answers, Ends, IsToken, GivesToken, deciding}
-use Rattle.ion_tokens.specs.Lexed.{Placed, Lexes, LexesTo, BeginsLexed, Passes, AllPass, IsNext}
-use Rattle.ion_tokens.specs.machine.Told.{Stands, Begun, Gave, Leaved}
-use Rattle.ion_tokens.specs.machine.Scanned.{Scanned, IsAhead, Continues, AllSay, Tells, GoesWith, NoDocument, EndsSo, NoEnd}
-use Rattle.ion_tokens.proofs.runs.Runs.{next_used}
-use Rattle.ion_tokens.proofs.runs.Cutting.{one_body}
+use Rattle.ion_tokens.specs.Names.{AllPass, AllSay, Answers, AreOctets, BeginsLexed, Continues, EndsSo, Gave, Given, GivesToken, GoesWith, IsAhead, IsBody, IsNext, IsToken, Known, Leaved, Left, Lexeme, Lexes, LexesTo, Next, NoDocument, NoEnd, Outcome, Passes, Place, Placed, Reason, Refusal, Refused, Scanned, Stands, Stepped, Tells, Token, at_end, deciding, follow, initial, run}
+use Rattle.ion_tokens.specs.machine.Steps.{Ends}
+use Rattle.ion_tokens.specs.machine.Told.{Begun}
 use Rattle.ion_tokens.proofs.complete.Wholes.{run_behind}
-use Rattle.ion_tokens.proofs.histories.Histories.{refusal_right, given_next, left_next, end_blank, end_token}
-use Rattle.ion_tokens.proofs.sound.Told.{told_right, ends_in_blank, ends_in_token}
 use Rattle.ion_tokens.proofs.histories.Ended.{stands_used, told_all}
-use Rattle.ion_tokens.specs.Blobs.{AreOctets}
-use Rattle.ion_tokens.proofs.runs.Splits.{GivenSplit, LeftSplit, given_split, left_split, given_some}
+use Rattle.ion_tokens.proofs.histories.Histories.{end_blank, end_token, given_next, left_next, refusal_right}
+use Rattle.ion_tokens.proofs.runs.Cutting.{one_body}
 use Rattle.ion_tokens.proofs.runs.LastOctets.{RefusedSplit, refused_split}
+use Rattle.ion_tokens.proofs.runs.Runs.{next_used}
+use Rattle.ion_tokens.proofs.runs.Splits.{GivenSplit, LeftSplit, given_some, given_split, left_split}
+use Rattle.ion_tokens.proofs.sound.Told.{ends_in_blank, ends_in_token, told_right}
 
 -- at most one octet is left
 pub at_most_one : (s : Known) (u : List ℕ) (ts : List Placed) (ahead : List ℕ) → Stands s u ts ahead → length ahead ≤ 1
@@ -216,7 +206,7 @@ module _ (p : Place) (s : Known) (u : List ℕ) (ts : List Placed) (ahead : List
       ap (λ l. l ++ rest) (front_is (u ++ piece) (u ++ octets) after offset (ap (λ l. u ++ l) cut ∙ sym (append_assoc u octets after)) size) ∙ there octets rest
 
   -- where a step refuses, no document goes on with the octets up to its offset
-  pub step_refuses : (piece : List ℕ) (x : Outcome) (r : Refusal) (now : Known) → r.reason ≢ reasons.Memory → Continues piece ahead → run p piece s ≡ x
+  pub step_refuses : (piece : List ℕ) (x : Outcome) (r : Refusal) (now : Known) → r.reason ≢ Reason.Memory → Continues piece ahead → run p piece s ≡ x
       → Answers s.used x (Err r) now → NoDocument p (take r.offset (u ++ piece)) ts
   step_refuses piece (Next s') r now n c e a = absurd (a n)
   step_refuses piece (Given l s') r now n c e a = by (given_split p piece s s' l e) where
@@ -282,7 +272,7 @@ module _ (p : Place) (s : Known) (u : List ℕ) (ts : List Placed) (h : Scanned 
   at_cut others lexes = subst (λ o. Lexes false 0 o (ts ++ others)) h.cut lexes
 
   -- where an end refuses, the octets are neither the tokens told nor those and one more
-  pub end_refuses : (x : Result (Option Lexeme) Reason) (r : Refusal) → r.reason ≢ reasons.Memory → at_end p s ≡ x → Ends s.used x (Err r) → NoEnd p u ts
+  pub end_refuses : (x : Result (Option Lexeme) Reason) (r : Refusal) → r.reason ≢ Reason.Memory → at_end p s ≡ x → Ends s.used x (Err r) → NoEnd p u ts
   end_refuses x r n e a [] short looks say lexes =
       let c = all_since in
       let none : at_end p s ≡ Ok None = end_blank h.behind s h.front ts h.left h.since c.0 p h.told c.1 h.ran

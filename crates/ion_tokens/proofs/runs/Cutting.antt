@@ -5,17 +5,9 @@ use Rattle.base64.specs.declared.decode.DecodeError.{DecodeError}
 use Rattle.base64.specs.Engines.{standard}
 use Rattle.base64.specs.GeneralPurpose.{decode_of, decoded_of}
 use Rattle.base64.proofs.EngineFacts.{decode_of_iff}
-use Rattle.ion_atoms.specs.declared.refusal.Reason.{Reason}
-use Rattle.ion_scalar.specs.declared.number.Number.{Number}
-use Rattle.ion_scalar.specs.text.Numbers.{ReadsNumber}
+use Rattle.ion_tokens.specs.Names.{AreOctets, Content, Given, IsBody, IsWordBody, Known, Left, Next, Number, Number', Outcome, Place, ReadsNumber, Reason, Refused, SaysNumber, Spells, TokenKind, Word, base64_of, blob_of, feed, follow, id_of, run}
 use Rattle.ion_scalar.specs.text.laws.OneNumber.{one_answer}
-use Rattle.ion_tokens.specs.declared.mode.Place.{Place}
-use Rattle.ion_tokens.specs.declared.mode.TokenKind.{TokenKind}
-use Rattle.ion_tokens.specs.declared.mode.TokenKind.TheVariants as kinds
-use Rattle.ion_tokens.specs.Blobs.{AreOctets, base64_of, blob_of}
 use Rattle.ion_tokens.specs.laws.Blobs.{octet_at}
-use Rattle.ion_tokens.specs.Bodies.{Content, Word, Number', Spells, IsWordBody, SaysNumber, IsBody, id_of}
-use Rattle.ion_tokens.specs.machine.Scanning.{Known, Outcome, Next, Given, Left, Refused, feed, follow, run}
 
 follow_follow : (x : Outcome) (f g : Known → Outcome) → follow (follow x f) g ≡ follow x (λ s. follow (f s) g)
 follow_follow (Next s) f g = refl
@@ -62,7 +54,7 @@ not_both octets _ e h k = h
 one_error : (octets : List ℕ) (e f : Reason) → ReadsNumber octets (Err e) → ReadsNumber octets (Err f) → e ≡ f
 one_error octets e f h k = let g = one_answer octets (Err e) (Err f) h k in cc
 
-one_number : (octets : List ℕ) (a b : Result Content Reason) → IsBody kinds.Number octets a → IsBody kinds.Number octets b → a ≡ b
+one_number : (octets : List ℕ) (a b : Result Content Reason) → IsBody TokenKind.Number octets a → IsBody TokenKind.Number octets b → a ≡ b
 one_number octets (Ok c) (Ok d) h k = ap Ok (says_one octets c d h k)
 one_number octets (Ok c) (Err e) h k = absurd (not_both octets c e h k)
 one_number octets (Err e) (Ok d) h k = absurd (not_both octets d e k h)
@@ -70,16 +62,16 @@ one_number octets (Err e) (Err f) h k = ap Err (one_error octets e f h k)
 
 -- the octets of a token of one kind say one thing alone, or are refused for one reason
 pub one_body : (kind : TokenKind) (octets : List ℕ) (a b : Result Content Reason) → IsBody kind octets a → IsBody kind octets b → a ≡ b
-one_body kinds.Word octets a b h k = one_word octets (id_of octets) a b h k
-one_body kinds.KindName octets a b h k = h ∙ sym k
-one_body kinds.Number octets a b h k = one_number octets a b h k
-one_body kinds.Operator octets a b h k = one_spelled _ octets a b h k
-one_body kinds.QuotedSymbol octets a b h k = one_spelled _ octets a b h k
-one_body kinds.ShortString octets a b h k = one_spelled _ octets a b h k
-one_body kinds.LongString octets a b h k = one_spelled _ octets a b h k
-one_body kinds.Clob octets a b h k = h ∙ sym k
-one_body kinds.Blob octets a b h k = h ∙ sym k
-one_body (kinds.Mark m) octets a b h k = h ∙ sym k
+one_body TokenKind.Word octets a b h k = one_word octets (id_of octets) a b h k
+one_body TokenKind.KindName octets a b h k = h ∙ sym k
+one_body TokenKind.Number octets a b h k = one_number octets a b h k
+one_body TokenKind.Operator octets a b h k = one_spelled _ octets a b h k
+one_body TokenKind.QuotedSymbol octets a b h k = one_spelled _ octets a b h k
+one_body TokenKind.ShortString octets a b h k = one_spelled _ octets a b h k
+one_body TokenKind.LongString octets a b h k = one_spelled _ octets a b h k
+one_body TokenKind.Clob octets a b h k = h ∙ sym k
+one_body TokenKind.Blob octets a b h k = h ∙ sym k
+one_body (TokenKind.Mark m) octets a b h k = h ∙ sym k
 
 ok_of : (r : Result (List ℕ) DecodeError) (b : List ℕ) → result_ok r ≡ Some b → r ≡ Ok b
 ok_of (Ok c) b h = cc

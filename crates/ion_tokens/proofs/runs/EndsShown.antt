@@ -1,16 +1,8 @@
 -- The octet that shows the end of a token, in the octets that a machine ran over.
 use Rattle.std.proofs.Common.{◌≡◌, ℕ, ◌+◌, ◌-◌, ◌<◌, suc, Bool, true, false, List, [], ◌∷◌, length, take, refl, sym, ap, ◌∙◌, subst, arith}
 use Rattle.std.specs.Prelude.{slice_index, Option, Some, None, IfSome}
-use Rattle.ion_tokens.specs.declared.mode.Place.{Place}
-use Rattle.ion_tokens.specs.declared.mode.TokenKind.{TokenKind}
-use Rattle.ion_tokens.specs.declared.plain_tokens.Rest.{Rest}
-use Rattle.ion_tokens.specs.declared.machine.Machine.{Machine}
-use Rattle.ion_tokens.specs.declared.machine.Lexeme.{Lexeme as Ended}
-use Rattle.ion_tokens.specs.declared.token_reader.FoundToken.{FoundToken}
+use Rattle.ion_tokens.specs.Names.{Ended, FoundToken, Given, IsFound, Known, Left, Lexeme, Machine, Next, Outcome, Place, Refused, Rest, TokenKind, ended, feed, follow, lexeme_at, past_token, resting, run}
 use Rattle.ion_tokens.specs.machine.Machines.{known, lexeme_in}
-use Rattle.ion_tokens.specs.machine.Scanning.{Known, Outcome, Next, Given, Left, Refused, feed, follow, run}
-use Rattle.ion_tokens.specs.Lexemes.{Lexeme}
-use Rattle.ion_tokens.specs.machine.Rests.{resting, past_token, lexeme_at, ended, IsFound}
 use Rattle.ion_tokens.proofs.runs.Runs.{feed_used}
 use Rattle.ion_tokens.proofs.runs.Splits.{given_one, left_one}
 

@@ -7,28 +7,13 @@ use Rattle.std.proofs.Math.Seq.{take-add, take-nil}
 use Rattle.std.specs.Char.{IsScalar}
 use Rattle.std.proofs.lemmas.List.{length-take, length-take-le}
 use lib.Utf8.{encode}
-use Rattle.ion_tokens.specs.Octets.{escaped, is_word_octet}
-use Rattle.ion_tokens.specs.Quoted.{Hex, IsElement, IsHexAfter, hex_length}
-use Rattle.ion_tokens.specs.Styles.{is_clob}
-use Rattle.ion_tokens.specs.declared.mode.Place.{Place}
-use Rattle.ion_tokens.specs.declared.mode.Style.{Style}
-use Rattle.ion_tokens.specs.declared.mode.Mode.{Mode}
-use Rattle.ion_tokens.specs.declared.mode.TokenKind.{TokenKind}
-use Rattle.ion_tokens.specs.declared.plain_tokens.Rest.{Rest}
-use Rattle.ion_tokens.specs.declared.token_reader.FoundToken.{FoundToken}
-use Rattle.ion_tokens.specs.declared.mode.Within.TheVariants as within
-use Rattle.ion_tokens.specs.declared.mode.Mode.TheVariants as modes
-use Rattle.ion_tokens.specs.declared.mode.Style.TheVariants as styles
-use Rattle.ion_tokens.specs.declared.mode.TokenKind.TheVariants as kinds
-use Rattle.ion_tokens.specs.declared.mode.Keep.TheVariants as keeps
-use Rattle.ion_tokens.specs.machine.AtOnce.{AreKept}
-use Rattle.ion_tokens.specs.machine.Table.{next, is_high, is_low}
-use Rattle.ion_tokens.specs.machine.Contents.{LeadsOn, StandsWhole}
-use Rattle.ion_tokens.specs.machine.Rests.{IsFound}
+use Rattle.ion_tokens.specs.Names.{AreKept, FoundToken, Hex, IsElement, IsFound, IsHexAfter, Keep, LeadsOn, Mode, Place, Rest, StandsWhole, Style, TokenKind, Within, hex_length, is_clob, is_high, is_low, is_word_octet}
+use Rattle.ion_tokens.specs.Octets.{escaped}
+use Rattle.ion_tokens.specs.machine.Table.{next}
 use Rattle.ion_tokens.proofs.complete.Moves.{Opens, opens_one, opens_then}
-use Rattle.ion_tokens.proofs.complete.TakesTexts.{BeginsOther, opens_quote, opens_quotes, quotes_end, from_quote}
-use Rattle.ion_tokens.proofs.complete.TakesWords.{opens_kind, kind_ends}
-use Rattle.ion_tokens.proofs.runs.WholeTokens.{opened_left, opened_given, front_each, front_stops, long_closes, not_same}
+use Rattle.ion_tokens.proofs.complete.TakesTexts.{BeginsOther, from_quote, opens_quote, opens_quotes, quotes_end}
+use Rattle.ion_tokens.proofs.complete.TakesWords.{kind_ends, opens_kind}
+use Rattle.ion_tokens.proofs.runs.WholeTokens.{front_each, front_stops, long_closes, not_same, opened_given, opened_left}
 use Rattle.ion_tokens.proofs.texts.Characters.{kept_goes}
 use Rattle.ion_tokens.proofs.texts.TextElements.{goes_one, goes_then, read_hex, read_pair}
 use Rattle.ion_tokens.proofs.texts.TextSteps.{in_simple}
@@ -45,9 +30,9 @@ escape_leads s (x ∷ []) kept kept' o more slash means e = absurd (omega arith)
 escape_leads s (x ∷ letter ∷ octets) kept kept' o more slash means e =
     subst (LeadsOn s (x ∷ letter ∷ []) kept) (sym e)
     (subst (λ (y : ℕ). LeadsOn s (y ∷ letter ∷ []) kept (kept ++ o ∷ [])) (sym slash)
-    (λ p. goes_then p s within.Plain within.Escape within.Plain (92 ∷ []) (letter ∷ []) kept kept (kept ++ o ∷ [])
-    (goes_one p s within.Plain 92 kept within.Escape keeps.Nothing refl)
-    (goes_one p s within.Escape letter kept within.Plain (keeps.One o) (in_simple s letter o means))))
+    (λ p. goes_then p s Within.Plain Within.Escape Within.Plain (92 ∷ []) (letter ∷ []) kept kept (kept ++ o ∷ [])
+    (goes_one p s Within.Plain 92 kept Within.Escape Keep.Nothing refl)
+    (goes_one p s Within.Escape letter kept Within.Plain (Keep.One o) (in_simple s letter o means))))
 
 -- a backslash, a letter and digits lead on, and what their number means is kept
 pub digits_lead : (s : Style) (octets digits kept kept' : List ℕ) (n c : ℕ) → slice_index octets 0 ≡ 92 → n + 2 ≤ length octets
@@ -65,7 +50,7 @@ digits_lead s (x ∷ letter ∷ octets) digits kept kept' n c slash fits are siz
     subst (λ l. LeadsOn s (take (n + 2) (x ∷ letter ∷ octets)) kept l) (sym e)
     (subst (λ (i : ℕ). LeadsOn s (take i (x ∷ letter ∷ octets)) kept end) two
     (subst (λ (y : ℕ). LeadsOn s (y ∷ letter ∷ os) kept end) (sym slash)
-    (λ p. read_hex p s within.Plain kept letter os c tt element)))
+    (λ p. read_hex p s Within.Plain kept letter os c tt element)))
 
 pair_leads_on : (s : Style) (first second kept : List ℕ) (h l : ℕ) → is_clob s ≡ false → length first ≡ 4 → length second ≡ 4
     → IsHexAfter 0 first h → IsHexAfter 0 second l → is_high h ≡ true → is_low l ≡ true
@@ -73,7 +58,7 @@ pair_leads_on : (s : Style) (first second kept : List ℕ) (h l : ℕ) → is_cl
 pair_leads_on s first second kept h l text four four' high low is_h is_l =
     let above : h ≡ 0xd800 + (h - 0xd800) = high_is h is_h in
     let above' : l ≡ 0xdc00 + (l - 0xdc00) = low_is l is_l in
-    λ p. read_pair p s within.Plain kept first second (h - 0xd800) (l - 0xdc00) tt (
+    λ p. read_pair p s Within.Plain kept first second (h - 0xd800) (l - 0xdc00) tt (
       text,
       four,
       four',
@@ -115,7 +100,7 @@ pub leads_then : (s : Style) (octets rest kept kept' kept'' : List ℕ) (at n : 
     → LeadsOn s (take n rest) kept' kept'' → LeadsOn s (take (at + n) octets) kept kept''
 leads_then s octets rest kept kept' kept'' at n is f g =
     subst (λ w. LeadsOn s w kept kept'') (ap (λ w. take at octets ++ take n w) is ∙ sym (take-add at n octets))
-    (λ p. goes_then p s within.Plain within.Plain within.Plain (take at octets) (take n rest) kept kept' kept'' (f p) (g p))
+    (λ p. goes_then p s Within.Plain Within.Plain Within.Plain (take at octets) (take n rest) kept kept' kept'' (f p) (g p))
 
 -- a token that was found is known by what it has
 pub found_as : (p : Place) (r : Rest) (octets kept kept' : List ℕ) (found : FoundToken) (kind : TokenKind) (n : ℕ) (left : Bool)
@@ -133,14 +118,14 @@ stands_as octets kept kept' found kind n left is e f p r = found_as p r octets k
 
 -- what leads on up to a quote stands whole behind another as a short string
 pub string_stands : (content kept : List ℕ) (n : ℕ) → n < length content → slice_index content n ≡ 34
-    → LeadsOn styles.ShortString (take n content) [] kept
-    → (p : Place) (r : Rest) → IsFound p r (34 ∷ content) kinds.ShortString kept (n + 2) false
+    → LeadsOn Style.ShortString (take n content) [] kept
+    → (p : Place) (r : Rest) → IsFound p r (34 ∷ content) TokenKind.ShortString kept (n + 2) false
 string_stands content kept n more last leads p r =
-    let m : Mode = modes.Text styles.ShortString within.Plain in
+    let m : Mode = Mode.Text Style.ShortString Within.Plain in
     let size : suc n + 1 ≡ n + 2 = omega arith in
-    subst (λ (i : ℕ). IsFound p r (34 ∷ content) kinds.ShortString kept i false) size
-    (opened_given p r (34 ∷ content) (suc n) kinds.ShortString m kept keeps.Nothing
-    (opens_then p r.colon (34 ∷ []) (take n content) m m [] kept (opens_one p r.colon 34 m keeps.Nothing refl) (leads p))
+    subst (λ (i : ℕ). IsFound p r (34 ∷ content) TokenKind.ShortString kept i false) size
+    (opened_given p r (34 ∷ content) (suc n) TokenKind.ShortString m kept Keep.Nothing
+    (opens_then p r.colon (34 ∷ []) (take n content) m m [] kept (opens_one p r.colon 34 m Keep.Nothing refl) (leads p))
     (λ s u. refl) (omega arith) (ap (λ (x : ℕ). next p r.colon m x) last))
 
 begins_other : (content : List ℕ) (n : ℕ) → slice_index content 0 ≢ 39 → BeginsOther (take n content)
@@ -150,46 +135,46 @@ begins_other (o ∷ os) (suc n) h = h
 
 -- what begins with no quote and leads on up to one stands whole behind another as a quoted symbol
 pub symbol_stands : (content kept : List ℕ) (n : ℕ) → n < length content → slice_index content n ≡ 39 → slice_index content 0 ≢ 39
-    → LeadsOn styles.QuotedSymbol (take n content) [] kept
-    → (p : Place) (r : Rest) → IsFound p r (39 ∷ content) kinds.QuotedSymbol kept (n + 2) false
+    → LeadsOn Style.QuotedSymbol (take n content) [] kept
+    → (p : Place) (r : Rest) → IsFound p r (39 ∷ content) TokenKind.QuotedSymbol kept (n + 2) false
 symbol_stands content kept n more last first leads p r =
-    let m : Mode = modes.Text styles.QuotedSymbol within.Plain in
+    let m : Mode = Mode.Text Style.QuotedSymbol Within.Plain in
     let size : suc n + 1 ≡ n + 2 = omega arith in
     let some : n ≢ 0 = λ e. first (subst (λ (i : ℕ). slice_index content i ≡ 39) e last) in
     let full : take n content ≢ [] = λ e. let none = ap (λ (l : List ℕ). length l) e in let l = length-take n content in some (omega arith) in
-    subst (λ (i : ℕ). IsFound p r (39 ∷ content) kinds.QuotedSymbol kept i false) size
-    (opened_given p r (39 ∷ content) (suc n) kinds.QuotedSymbol m kept keeps.Nothing
-    (opens_then p r.colon (39 ∷ []) (take n content) modes.Quote m [] kept (opens_quote p r.colon)
-    (from_quote p (take n content) kept within.Plain full (begins_other content n first) (leads p)))
+    subst (λ (i : ℕ). IsFound p r (39 ∷ content) TokenKind.QuotedSymbol kept i false) size
+    (opened_given p r (39 ∷ content) (suc n) TokenKind.QuotedSymbol m kept Keep.Nothing
+    (opens_then p r.colon (39 ∷ []) (take n content) Mode.Quote m [] kept (opens_quote p r.colon)
+    (from_quote p (take n content) kept Within.Plain full (begins_other content n first) (leads p)))
     (λ s u. refl) (omega arith) (ap (λ (x : ℕ). next p r.colon m x) last))
 
 -- two single quotes stand whole as the empty symbol before an octet that is none
-pub empty_stands : (x : ℕ) (os : List ℕ) → x ≢ 39 → (p : Place) (r : Rest) → IsFound p r (39 ∷ 39 ∷ x ∷ os) kinds.QuotedSymbol [] 2 true
+pub empty_stands : (x : ℕ) (os : List ℕ) → x ≢ 39 → (p : Place) (r : Rest) → IsFound p r (39 ∷ 39 ∷ x ∷ os) TokenKind.QuotedSymbol [] 2 true
 empty_stands x os other p r =
-    opened_left p r (39 ∷ 39 ∷ x ∷ os) 2 kinds.QuotedSymbol modes.Quotes [] keeps.Nothing (opens_quotes p r.colon) (λ s u. refl) (omega arith) (omega arith)
+    opened_left p r (39 ∷ 39 ∷ x ∷ os) 2 TokenKind.QuotedSymbol Mode.Quotes [] Keep.Nothing (opens_quotes p r.colon) (λ s u. refl) (omega arith) (omega arith)
     (quotes_end x (not_same x 39 other) r.colon p)
 
 -- what leads on up to three quotes stands whole behind three as a segment of a long string
 pub segment_stands : (content kept us : List ℕ) (n : ℕ) → n < length content → drop n content ≡ 39 ∷ 39 ∷ 39 ∷ us
-    → LeadsOn styles.LongString (take n content) [] kept
-    → (p : Place) (r : Rest) → IsFound p r (39 ∷ 39 ∷ 39 ∷ content) kinds.LongString kept (n + 6) false
+    → LeadsOn Style.LongString (take n content) [] kept
+    → (p : Place) (r : Rest) → IsFound p r (39 ∷ 39 ∷ 39 ∷ content) TokenKind.LongString kept (n + 6) false
 segment_stands content kept us n more shuts leads p r =
     let whole : take n content ++ 39 ∷ 39 ∷ 39 ∷ us ≡ content = ap (λ x. take n content ++ x) (sym shuts) ∙ take-append-drop n content in
     let size : length (take n content) ≡ n = length-take-le n content (omega arith) in
-    subst (λ (i : ℕ). IsFound p r (39 ∷ 39 ∷ 39 ∷ content) kinds.LongString kept (i + 6) false) size
-    (subst (λ x. IsFound p r (39 ∷ 39 ∷ 39 ∷ x) kinds.LongString kept (length (take n content) + 6) false) whole
+    subst (λ (i : ℕ). IsFound p r (39 ∷ 39 ∷ 39 ∷ content) TokenKind.LongString kept (i + 6) false) size
+    (subst (λ x. IsFound p r (39 ∷ 39 ∷ 39 ∷ x) TokenKind.LongString kept (length (take n content) + 6) false) whole
     (long_closes (take n content) us kept leads p r))
 
 -- `null.` and the name behind it stand whole before an octet of no word
 pub null_stands : (name : List ℕ) (n : ℕ) → n ≡ length (take_while is_word_octet name) → n < length name
-    → (p : Place) (r : Rest) → IsFound p r (codes "null." ++ name) kinds.KindName (take n name) (n + 5) true
+    → (p : Place) (r : Rest) → IsFound p r (codes "null." ++ name) TokenKind.KindName (take n name) (n + 5) true
 null_stands name n e more p r =
     let octets : List ℕ = codes "null." ++ name in
     let five : n + 5 ≡ suc (suc (suc (suc (suc n)))) = omega arith in
     let front : take (n + 5) octets ≡ codes "null." ++ take n name = ap (λ (i : ℕ). take i octets) five in
     let behind : slice_index octets (n + 5) ≡ slice_index name n = ap (λ (i : ℕ). slice_index octets i) five in
     let size : length octets ≡ length name + 5 = omega (arith, length-append (codes "null.") name) in
-    opened_left p r octets (n + 5) kinds.KindName modes.KindName (take n name) keeps.Nothing
-    (subst (λ w. Opens p r.colon w modes.KindName (take n name)) (sym front) (opens_kind p r.colon (take n name) (front_each is_word_octet name n e)))
+    opened_left p r octets (n + 5) TokenKind.KindName Mode.KindName (take n name) Keep.Nothing
+    (subst (λ w. Opens p r.colon w Mode.KindName (take n name)) (sym front) (opens_kind p r.colon (take n name) (front_each is_word_octet name n e)))
     (λ s u. refl) (omega arith) (omega arith)
-    (ap (λ (x : ℕ). next p r.colon modes.KindName x) behind ∙ kind_ends (slice_index name n) (front_stops is_word_octet name n e more))
+    (ap (λ (x : ℕ). next p r.colon Mode.KindName x) behind ∙ kind_ends (slice_index name n) (front_stops is_word_octet name n e more))

@@ -7,36 +7,22 @@ use Rattle.std.proofs.lemmas.List.Folds.{length-prefix_len}
 use Rattle.std.proofs.lemmas.Grind.{common_steps}
 use Rattle.std.proofs.lemmas.Bool.Decides.{nat_tests}
 use Rattle.std.proofs.lemmas.List.Sums.{take_while-cons}
-use Rattle.ion_tokens.specs.Octets.{is_white, is_line_end, is_word_octet, is_stop, is_base64}
-use Rattle.ion_tokens.specs.declared.mode.Place.{Place}
-use Rattle.ion_tokens.specs.declared.mode.Place.TheVariants as places
-use Rattle.ion_tokens.specs.declared.mode.Mode.{Mode}
-use Rattle.ion_tokens.specs.declared.mode.Keep.{Keep}
-use Rattle.ion_tokens.specs.declared.mode.Action.{Action}
-use Rattle.ion_tokens.specs.declared.mode.Mode.TheVariants as modes
-use Rattle.ion_tokens.specs.declared.mode.Within.TheVariants as within
-use Rattle.ion_tokens.specs.declared.mode.Lob.TheVariants as lobs
-use Rattle.ion_tokens.specs.declared.mode.Keep.TheVariants as keeps
-use Rattle.ion_tokens.specs.declared.mode.Action.TheVariants as actions
-use Rattle.ion_tokens.specs.machine.Table.{next, in_lob, in_blank}
-use Rattle.ion_tokens.specs.machine.Scanning.{Known, Outcome, Next, Given, Left, Refused, kept_after, start_of, go_to, acts, feed, follow, run}
-use Rattle.ion_tokens.specs.Lexemes.{Each}
-use Rattle.ion_tokens.specs.machine.Bounds.{IsSteady, StaysSteady}
-use Rattle.ion_tokens.specs.machine.AtOnce.{goes_on, keeps_them, gone_on, GoesOver}
-use Rattle.ion_tokens.proofs.texts.Characters.{plain_stays, kept_goes}
-use Rattle.ion_tokens.proofs.runs.Runs.{feed_used, next_used}
+use Rattle.ion_tokens.specs.Names.{Action, Each, Given, GoesOver, IsSteady, Keep, Known, Left, Lob, Mode, Next, Outcome, Place, Refused, StaysSteady, Within, acts, feed, follow, go_to, goes_on, gone_on, in_blank, in_lob, is_base64, is_line_end, is_stop, is_white, is_word_octet, keeps_them, kept_after, run, start_of}
+use Rattle.ion_tokens.specs.machine.Table.{next}
 use Rattle.ion_tokens.proofs.bounds.Steady.{feed_steady}
 use Rattle.ion_tokens.proofs.runs.Cutting.{run-append}
+use Rattle.ion_tokens.proofs.runs.Runs.{feed_used, next_used}
+use Rattle.ion_tokens.proofs.texts.Characters.{kept_goes, plain_stays}
 
 -- what is kept of an octet with which the mode goes on
 abbrev keep_of : Mode → ℕ → Keep
-keep_of m o = cond (keeps_them m) (keeps.One o) keeps.Nothing
+keep_of m o = cond (keeps_them m) (Keep.One o) Keep.Nothing
 
 -- what the table says of an octet with which the mode goes on
-white_more : (p : Place) (colon : Bool) (o : ℕ) → is_white o ≡ true → in_blank p colon o ≡ actions.Go modes.Blank keeps.Nothing
+white_more : (p : Place) (colon : Bool) (o : ℕ) → is_white o ≡ true → in_blank p colon o ≡ Action.Go Mode.Blank Keep.Nothing
 white_more p colon o h = grind (arith, nat_tests)
 
-comment_more : (b : Bool) (m n : Mode) → not b ≡ true → actions.Go (cond b m n) keeps.Nothing ≡ actions.Go n keeps.Nothing
+comment_more : (b : Bool) (m n : Mode) → not b ≡ true → Action.Go (cond b m n) Keep.Nothing ≡ Action.Go n Keep.Nothing
 comment_more false m n h = refl
 comment_more true m n h = cc
 
@@ -49,20 +35,20 @@ number_more false false x y z h = refl
 number_more false true x y z h = cc
 number_more true b x y z h = cc
 
-base64_more : (o : ℕ) → is_base64 o ≡ true → in_lob lobs.Base64 o ≡ actions.Go (modes.Lob lobs.Base64) (keeps.One o)
+base64_more : (o : ℕ) → is_base64 o ≡ true → in_lob Lob.Base64 o ≡ Action.Go (Mode.Lob Lob.Base64) (Keep.One o)
 base64_more o h = grind (arith, nat_tests)
 
-pub stays : (p : Place) (colon : Bool) (m : Mode) (o : ℕ) → goes_on m o ≡ true → next p colon m o ≡ actions.Go m (keep_of m o)
-stays p colon modes.Blank o h = white_more p colon o h
-stays p colon modes.LineComment o h = comment_more (is_line_end o) modes.Blank modes.LineComment h
-stays p colon modes.BlockComment o h = comment_more (o == 42) modes.BlockCommentStar modes.BlockComment h
-stays p colon modes.Word o h = word_more (is_word_octet o) _ _ h
-stays p colon modes.Number o h = number_more (is_stop o) (o == 47) _ _ _ h
-stays p colon (modes.Text s within.Plain) o h = plain_stays s o h
-stays p colon (modes.Lob lobs.Base64) o h = base64_more o h
+pub stays : (p : Place) (colon : Bool) (m : Mode) (o : ℕ) → goes_on m o ≡ true → next p colon m o ≡ Action.Go m (keep_of m o)
+stays p colon Mode.Blank o h = white_more p colon o h
+stays p colon Mode.LineComment o h = comment_more (is_line_end o) Mode.Blank Mode.LineComment h
+stays p colon Mode.BlockComment o h = comment_more (o == 42) Mode.BlockCommentStar Mode.BlockComment h
+stays p colon Mode.Word o h = word_more (is_word_octet o) _ _ h
+stays p colon Mode.Number o h = number_more (is_stop o) (o == 47) _ _ _ h
+stays p colon (Mode.Text s Within.Plain) o h = plain_stays s o h
+stays p colon (Mode.Lob Lob.Base64) o h = base64_more o h
 stays p colon _ o h = cc h
 
-kept_one : (b : Bool) (o : ℕ) (k : List ℕ) → kept_after (cond b (keeps.One o) keeps.Nothing) k ≡ cond b (k ++ o ∷ []) k
+kept_one : (b : Bool) (o : ℕ) (k : List ℕ) → kept_after (cond b (Keep.One o) Keep.Nothing) k ≡ cond b (k ++ o ∷ []) k
 kept_one true o k = refl
 kept_one false o k = refl
 
@@ -79,8 +65,8 @@ kept_more true k o os = append_assoc k (o ∷ []) os
 kept_more false k o os = refl
 
 start_later : (m : Mode) (o : ℕ) (start u v w : ℕ) → goes_on m o ≡ true → v ≡ w → start_of m (start_of m start u) v ≡ start_of m start w
-start_later modes.Blank o start u v w h e = e
-start_later modes.Slash o start u v w h e = cc
+start_later Mode.Blank o start u v w h e = e
+start_later Mode.Slash o start u v w h e = cc
 start_later _ o start u v w h e = refl
 
 -- behind one octet and more it is what it is behind all of them
@@ -107,8 +93,8 @@ run_over p s w some h = by s.mode s.kept s.colon s.start s.used h where
   by : (m : Mode) (kept : List ℕ) (colon : Bool) (start used : ℕ) → GoesOver m w
       → run p w (record { mode = m; kept = kept; colon = colon; start = start; used = used })
       ≡ Next (gone_on (record { mode = m; kept = kept; colon = colon; start = start; used = used }) w)
-  by (modes.Text style within.Plain) kept colon start used h =
-      ap (λ l. run p l (record { mode = modes.Text style within.Plain; kept = kept; colon = colon; start = start; used = used })) (sym (append-nil w))
+  by (Mode.Text style Within.Plain) kept colon start used h =
+      ap (λ l. run p l (record { mode = Mode.Text style Within.Plain; kept = kept; colon = colon; start = start; used = used })) (sym (append-nil w))
       ∙ kept_goes p style w kept h colon start used []
   by m kept colon start used h = run_on p (record { mode = m; kept = kept; colon = colon; start = start; used = used }) w some h
 
@@ -235,7 +221,7 @@ looks_on piece at k s t n m h =
 pub going_steady : (w : List ℕ) (s t : Known) (n m : ℕ) → 0 < length w → GoesOver s.mode w → t ≡ gone_on s w → s.used + length w < 2 ^ 63
     → m ≡ min (n + length w) (2 ^ 64 - 1) → IsSteady s n → IsSteady t m
 going_steady w s t n m some over is room looked steady =
-    steady_from places.Top w s t n m (run_over places.Top s w some over ∙ ap Next (sym is)) steady room looked
+    steady_from Place.Top w s t n m (run_over Place.Top s w some over ∙ ap Next (sym is)) steady room looked
 
 -- They lead on.
 pub going_led : (w : List ℕ) (s t : Known) → 0 < length w → GoesOver s.mode w → t ≡ gone_on s w → (p : Place) → run p w s ≡ Next t

@@ -1,9 +1,7 @@
 -- Where something comes of octets: the last one that was looked at, and what the scanner knew before it. Crates above cite these names.
 use Rattle.std.proofs.Common.{◌≡◌, ℕ, ◌+◌, List, [], ◌∷◌, ◌++◌, length, refl, sym, ap, ◌∙◌, subst, arith}
-use Rattle.ion_atoms.specs.declared.refusal.Reason.{Reason}
-use Rattle.ion_tokens.specs.declared.mode.Place.{Place}
+use Rattle.ion_tokens.specs.Names.{Given, Known, Left, Next, Outcome, Place, Reason, Refused, feed, follow, run}
 use Rattle.ion_tokens.specs.machine.Table.{next}
-use Rattle.ion_tokens.specs.machine.Scanning.{Known, Outcome, Next, Given, Left, Refused, feed, follow, run}
 use Rattle.ion_tokens.proofs.runs.Runs.{Between, acts_between, feed_used}
 
 -- the octet at which a run came to this, those before and behind it, and what was known before it

@@ -3,27 +3,15 @@ use Rattle.std.proofs.Common.{◌≡◌, ◌≢◌, ℕ, ◌+◌, ◌-◌, ◌<�
 use Rattle.std.specs.Cow.{cow_str_bytes}
 use Rattle.std.proofs.lemmas.List.{take-append-drop}
 use Rattle.std.proofs.Math.Seq.{drop-append_seam, drop-append-add}
-use Rattle.ion_atoms.specs.declared.kind.Kind.{Kind}
-use Rattle.ion_tokens.specs.declared.mode.Place.{Place}
-use Rattle.ion_tokens.specs.declared.mode.TokenKind.{TokenKind}
-use Rattle.ion_tokens.specs.declared.mode.TokenKind.TheVariants as kinds
-use Rattle.ion_tokens.specs.declared.token.Body.{Body}
-use Rattle.ion_tokens.specs.declared.token.Body.TheVariants as bodies
-use Rattle.ion_tokens.specs.declared.token.Token.{Token}
-use Rattle.ion_tokens.specs.Bodies.{Content, Word, Operator, TypedNull, content, id_of, kind_named, null_of, IsBody, IsWordBody}
-use Rattle.ion_tokens.specs.Lexemes.{IsLexeme, Lexeme}
-use Rattle.ion_tokens.specs.Lexed.{Placed, LexesBefore, BeginsLexed}
-use Rattle.ion_tokens.specs.machine.Scanning.{Known}
-use Rattle.ion_tokens.specs.machine.Steps.{Stepped}
-use Rattle.ion_tokens.specs.machine.Scanned.{Scanned, Tells, EndsSo}
-use Rattle.ion_tokens.specs.machine.Lent.{IsLentBody, IsOwnedBody, StandIn, BorrowsFrom, BorrowsAt}
-use Rattle.ion_tokens.proofs.histories.Stepped.{begins_told, front_is, scanned_used}
+use Rattle.ion_tokens.specs.Names.{BeginsLexed, Body, BorrowsAt, BorrowsFrom, Content, EndsSo, IsBody, IsLentBody, IsLexeme, IsOwnedBody, IsWordBody, Kind, Known, Lexeme, LexesBefore, Operator, Place, Placed, Scanned, StandIn, Stepped, Tells, Token, TokenKind, TypedNull, Word, id_of, kind_named, null_of}
+use Rattle.ion_tokens.specs.Bodies.{content}
 use Rattle.ion_tokens.proofs.complete.Wholes.{some_octet}
+use Rattle.ion_tokens.proofs.histories.Stepped.{begins_told, front_is, scanned_used}
 
 -- the kinds whose octets are kept as they are
 abbrev IsKept : TokenKind → Type 0
-IsKept kinds.Word = Unit {0}
-IsKept kinds.Operator = Unit {0}
+IsKept TokenKind.Word = Unit {0}
+IsKept TokenKind.Operator = Unit {0}
 IsKept _ = ⊥
 
 -- The last of the tokens that octets begin with: what stands before it, and its octets, of which there is one at least.
@@ -38,8 +26,8 @@ pub record LastOf (before : ℕ) (octets : List ℕ) (l : Lexeme) : Type 0 where
   pub kept : IsKept l.kind → l.octets ≡ token
 
 kept_is : (p : Place) (colon : Bool) (w r : List ℕ) (kind : TokenKind) (kept : List ℕ) → IsLexeme p colon w r kind kept → IsKept kind → kept ≡ w
-kept_is p colon w r kinds.Word kept h k = h.0
-kept_is p colon w r kinds.Operator kept h k = h.0
+kept_is p colon w r TokenKind.Word kept h k = h.0
+kept_is p colon w r TokenKind.Operator kept h k = h.0
 kept_is p colon w r _ kept h k = absurd k
 
 last_of : (End : Bool → ℕ → List ℕ → Type 0) (ts : List Placed) (t : Placed) (colon : Bool) (before : ℕ) (octets : List ℕ)
@@ -76,34 +64,34 @@ no_null c (Some kind) n e = n kind cc
 
 -- a word's octets, by what it says, and an operator's
 word_octets : (k : TokenKind) (octets w : List ℕ) → IsBody k octets (Ok (Word w)) → (w ≡ octets) × IsKept k
-word_octets kinds.Word octets w h = by (id_of octets) h where
+word_octets TokenKind.Word octets w h = by (id_of octets) h where
   by : (id : Option ℕ) → IsWordBody octets id (Ok (Word w)) → (w ≡ octets) × Unit {0}
   by None h = (let e = h.0 in cc, tt)
   by (Some id) h = cc
-word_octets kinds.KindName octets w h = absurd (no_null (Word w) (kind_named octets) (λ kind e. cc) h)
-word_octets kinds.Number octets w h = absurd h
-word_octets kinds.Operator octets w h = let e = h.0 in cc
-word_octets kinds.QuotedSymbol octets w h = let e = h.0 in cc
-word_octets kinds.ShortString octets w h = let e = h.0 in cc
-word_octets kinds.LongString octets w h = let e = h.0 in cc
-word_octets kinds.Clob octets w h = cc
-word_octets kinds.Blob octets w h = cc
-word_octets (kinds.Mark m) octets w h = cc
+word_octets TokenKind.KindName octets w h = absurd (no_null (Word w) (kind_named octets) (λ kind e. cc) h)
+word_octets TokenKind.Number octets w h = absurd h
+word_octets TokenKind.Operator octets w h = let e = h.0 in cc
+word_octets TokenKind.QuotedSymbol octets w h = let e = h.0 in cc
+word_octets TokenKind.ShortString octets w h = let e = h.0 in cc
+word_octets TokenKind.LongString octets w h = let e = h.0 in cc
+word_octets TokenKind.Clob octets w h = cc
+word_octets TokenKind.Blob octets w h = cc
+word_octets (TokenKind.Mark m) octets w h = cc
 
 operator_octets : (k : TokenKind) (octets w : List ℕ) → IsBody k octets (Ok (Operator w)) → (w ≡ octets) × IsKept k
-operator_octets kinds.Word octets w h = by (id_of octets) h where
+operator_octets TokenKind.Word octets w h = by (id_of octets) h where
   by : (id : Option ℕ) → IsWordBody octets id (Ok (Operator w)) → (w ≡ octets) × Unit {0}
   by None h = let e = h.0 in cc
   by (Some id) h = cc
-operator_octets kinds.KindName octets w h = absurd (no_null (Operator w) (kind_named octets) (λ kind e. cc) h)
-operator_octets kinds.Number octets w h = absurd h
-operator_octets kinds.Operator octets w h = (let e = h.0 in cc, tt)
-operator_octets kinds.QuotedSymbol octets w h = let e = h.0 in cc
-operator_octets kinds.ShortString octets w h = let e = h.0 in cc
-operator_octets kinds.LongString octets w h = let e = h.0 in cc
-operator_octets kinds.Clob octets w h = cc
-operator_octets kinds.Blob octets w h = cc
-operator_octets (kinds.Mark m) octets w h = cc
+operator_octets TokenKind.KindName octets w h = absurd (no_null (Operator w) (kind_named octets) (λ kind e. cc) h)
+operator_octets TokenKind.Number octets w h = absurd h
+operator_octets TokenKind.Operator octets w h = (let e = h.0 in cc, tt)
+operator_octets TokenKind.QuotedSymbol octets w h = let e = h.0 in cc
+operator_octets TokenKind.ShortString octets w h = let e = h.0 in cc
+operator_octets TokenKind.LongString octets w h = let e = h.0 in cc
+operator_octets TokenKind.Clob octets w h = cc
+operator_octets TokenKind.Blob octets w h = cc
+operator_octets (TokenKind.Mark m) octets w h = cc
 
 module _ (before : ℕ) (u piece : List ℕ) (l : Lexeme) (start end : ℕ) (used : before ≡ length u) (h : LastOf 0 (u ++ piece) l) (first : start ≡ l.start)
     (last : end ≡ l.end) where
@@ -128,23 +116,23 @@ module _ (before : ℕ) (u piece : List ℕ) (l : Lexeme) (start end : ℕ) (use
   lent_not lent w s e lt same = h.some (sym e ∙ same ∙ s.none lt)
 
   pub lends : (b : Body) → IsBody l.kind l.octets (Ok (content b)) → BorrowsAt before start end piece b → IsLentBody before start b
-  lends (bodies.Word w) says (lent, s, from) =
+  lends (Body.Word w) says (lent, s, from) =
       let is = word_octets l.kind l.octets (cow_str_bytes w) says in
       let same : cow_str_bytes w ≡ h.token = is.0 ∙ h.kept is.1 in
       (λ le. from.0 (lent_is lent (cow_str_bytes w) s same le), λ lt. from.1 (lent_not lent (cow_str_bytes w) s same lt))
-  lends (bodies.Operator w) says (lent, s, from) =
+  lends (Body.Operator w) says (lent, s, from) =
       let is = operator_octets l.kind l.octets (cow_str_bytes w) says in
       let same : cow_str_bytes w ≡ h.token = is.0 ∙ h.kept is.1 in
       (λ le. from.0 (lent_is lent (cow_str_bytes w) s same le), λ lt. from.1 (lent_not lent (cow_str_bytes w) s same lt))
-  lends (bodies.Id _) says b = tt
-  lends (bodies.Quoted _) says b = tt
-  lends (bodies.Short _) says b = tt
-  lends (bodies.Long _) says b = tt
-  lends (bodies.Number _) says b = tt
-  lends (bodies.TypedNull _) says b = tt
-  lends (bodies.Clob _) says b = tt
-  lends (bodies.Blob _) says b = tt
-  lends (bodies.Mark _) says b = tt
+  lends (Body.Id _) says b = tt
+  lends (Body.Quoted _) says b = tt
+  lends (Body.Short _) says b = tt
+  lends (Body.Long _) says b = tt
+  lends (Body.Number _) says b = tt
+  lends (Body.TypedNull _) says b = tt
+  lends (Body.Clob _) says b = tt
+  lends (Body.Blob _) says b = tt
+  lends (Body.Mark _) says b = tt
 
 -- What a step's token is lent.
 pub step_lends : (p : Place) (s : Known) (u : List ℕ) (ts : List Placed) (ahead : List ℕ) → Scanned p s u ts ahead
@@ -161,17 +149,17 @@ step_lends p s u ts ahead h piece scan t now tells b =
     lends s.used u piece l t.start t.end (scanned_used p s u ts ahead h) last tells.is.start tells.is.end t.body tells.is.says b
 
 owned : (before start : ℕ) (b : Body) → start < before → IsLentBody before start b → IsOwnedBody b
-owned before start (bodies.Word w) lt h = h.1 lt
-owned before start (bodies.Operator w) lt h = h.1 lt
-owned before start (bodies.Id _) lt h = tt
-owned before start (bodies.Quoted _) lt h = tt
-owned before start (bodies.Short _) lt h = tt
-owned before start (bodies.Long _) lt h = tt
-owned before start (bodies.Number _) lt h = tt
-owned before start (bodies.TypedNull _) lt h = tt
-owned before start (bodies.Clob _) lt h = tt
-owned before start (bodies.Blob _) lt h = tt
-owned before start (bodies.Mark _) lt h = tt
+owned before start (Body.Word w) lt h = h.1 lt
+owned before start (Body.Operator w) lt h = h.1 lt
+owned before start (Body.Id _) lt h = tt
+owned before start (Body.Quoted _) lt h = tt
+owned before start (Body.Short _) lt h = tt
+owned before start (Body.Long _) lt h = tt
+owned before start (Body.Number _) lt h = tt
+owned before start (Body.TypedNull _) lt h = tt
+owned before start (Body.Clob _) lt h = tt
+owned before start (Body.Blob _) lt h = tt
+owned before start (Body.Mark _) lt h = tt
 
 some_long : (w : List ℕ) → w ≢ [] → 1 ≤ length w
 some_long [] n = absurd (n refl)
@@ -201,14 +189,14 @@ end_owns p s u ts h t (l, is, lexes) b =
 -- what is borrowed with octets that stand where the token does
 pub lends_there : (before start end : ℕ) (piece lent : List ℕ) (b : Body) → StandIn before start end piece lent → BorrowsFrom lent b
     → BorrowsAt before start end piece b
-lends_there before start end piece lent (bodies.Word w) s b = (lent, s, b)
-lends_there before start end piece lent (bodies.Operator w) s b = (lent, s, b)
-lends_there before start end piece lent (bodies.Id _) s b = tt
-lends_there before start end piece lent (bodies.Quoted _) s b = tt
-lends_there before start end piece lent (bodies.Short _) s b = tt
-lends_there before start end piece lent (bodies.Long _) s b = tt
-lends_there before start end piece lent (bodies.Number _) s b = tt
-lends_there before start end piece lent (bodies.TypedNull _) s b = tt
-lends_there before start end piece lent (bodies.Clob _) s b = tt
-lends_there before start end piece lent (bodies.Blob _) s b = tt
-lends_there before start end piece lent (bodies.Mark _) s b = tt
+lends_there before start end piece lent (Body.Word w) s b = (lent, s, b)
+lends_there before start end piece lent (Body.Operator w) s b = (lent, s, b)
+lends_there before start end piece lent (Body.Id _) s b = tt
+lends_there before start end piece lent (Body.Quoted _) s b = tt
+lends_there before start end piece lent (Body.Short _) s b = tt
+lends_there before start end piece lent (Body.Long _) s b = tt
+lends_there before start end piece lent (Body.Number _) s b = tt
+lends_there before start end piece lent (Body.TypedNull _) s b = tt
+lends_there before start end piece lent (Body.Clob _) s b = tt
+lends_there before start end piece lent (Body.Blob _) s b = tt
+lends_there before start end piece lent (Body.Mark _) s b = tt

@@ -6,24 +6,12 @@ use Rattle.std.proofs.lemmas.Bool.Decides.{nat_tests}
 use Rattle.std.proofs.Math.Seq.{take-add, take-append_seam}
 use Rattle.std.proofs.lemmas.List.{get_or-drop, length-take-le}
 use Rattle.std.proofs.lemmas.List.Elements.{filter-append}
-use Rattle.ion_tokens.specs.Octets.{is_white, is_base64}
-use Rattle.ion_tokens.specs.Lexemes.{Each}
+use Rattle.ion_tokens.specs.Names.{AddsBase64, AddsSegments, Each, IsFound, Keep, LeadsOn, Lob, Mode, Place, Rest, Style, TokenKind, Within, blob_of, is_base64, is_name, is_white}
+use Rattle.ion_tokens.specs.machine.Table.{next}
 use Rattle.ion_tokens.specs.laws.Each.{each_append}
-use Rattle.ion_tokens.specs.Blobs.{blob_of}
-use Rattle.ion_tokens.specs.declared.mode.Place.{Place}
-use Rattle.ion_tokens.specs.declared.plain_tokens.Rest.{Rest}
-use Rattle.ion_tokens.specs.declared.mode.Lob.TheVariants as lobs
-use Rattle.ion_tokens.specs.declared.mode.Mode.TheVariants as modes
-use Rattle.ion_tokens.specs.declared.mode.Keep.TheVariants as keeps
-use Rattle.ion_tokens.specs.declared.mode.TokenKind.TheVariants as kinds
-use Rattle.ion_tokens.specs.machine.Table.{is_name, next}
-use Rattle.ion_tokens.specs.declared.mode.Style.TheVariants as styles
-use Rattle.ion_tokens.specs.declared.mode.Within.TheVariants as within
-use Rattle.ion_tokens.specs.machine.Contents.{AddsBase64, AddsSegments, LeadsOn}
-use Rattle.ion_tokens.specs.machine.Rests.{IsFound}
-use Rattle.ion_tokens.proofs.complete.Moves.{Opens, opens_then, Moves, moves_one, moves_then}
-use Rattle.ion_tokens.proofs.complete.TakesLobs.{opens_blob, opens_lob, short_leads, segment_leads, white_moves}
-use Rattle.ion_tokens.proofs.runs.WholeTokens.{opened_given, given_behind, front_each, front_within}
+use Rattle.ion_tokens.proofs.complete.Moves.{Moves, Opens, moves_one, moves_then, opens_then}
+use Rattle.ion_tokens.proofs.complete.TakesLobs.{opens_blob, opens_lob, segment_leads, short_leads, white_moves}
+use Rattle.ion_tokens.proofs.runs.WholeTokens.{front_each, front_within, given_behind, opened_given}
 
 abbrev in_content : ℕ → Bool
 in_content o = is_white o || is_base64 o
@@ -80,7 +68,7 @@ adds_then octets rest kept kept' kept'' at n is f g =
 -- content of which the base64 is that of octets stands whole between two braces and two as a blob
 pub blob_stands : (content text octets us : List ℕ) (n : ℕ) → n < length content → drop n content ≡ 125 ∷ 125 ∷ us
     → AddsBase64 (take n content) [] text → blob_of text ≡ Some octets → (p : Place) → is_name p ≡ false
-    → (r : Rest) → IsFound p r (123 ∷ 123 ∷ content) kinds.Blob octets (n + 4) false
+    → (r : Rest) → IsFound p r (123 ∷ 123 ∷ content) TokenKind.Blob octets (n + 4) false
 blob_stands content text octets us n more shuts adds says p name r =
     let all : List ℕ = 123 ∷ 123 ∷ content in
     let three : n + 3 ≡ suc (suc (n + 1)) = omega arith in
@@ -90,16 +78,16 @@ blob_stands content text octets us n more shuts adds says p name r =
     let last : slice_index all (n + 3) ≡ 125 =
     ap (λ (i : ℕ). slice_index all i) three ∙ sym (get_or-drop n content 1 0) ∙ ap (λ w. slice_index w 1) shuts in
     let fits : n + 3 < length all = let k = ap (λ (w : List ℕ). length w) shuts in let l = length-drop n content in omega arith in
-    subst (λ (i : ℕ). IsFound p r all kinds.Blob octets i false) size
-    (opened_given p r all (n + 3) kinds.Blob (modes.Lob lobs.BlobClose) octets keeps.Nothing
-    (subst (λ w. Opens p r.colon w (modes.Lob lobs.BlobClose) octets) (sym front)
+    subst (λ (i : ℕ). IsFound p r all TokenKind.Blob octets i false) size
+    (opened_given p r all (n + 3) TokenKind.Blob (Mode.Lob Lob.BlobClose) octets Keep.Nothing
+    (subst (λ w. Opens p r.colon w (Mode.Lob Lob.BlobClose) octets) (sym front)
     (opens_blob p r.colon (take n content) octets name adds.0 (ap blob_of (sym adds.1) ∙ says)))
-    (λ s u. refl) fits (ap (λ (x : ℕ). next p r.colon (modes.Lob lobs.BlobClose) x) last))
+    (λ s u. refl) fits (ap (λ (x : ℕ). next p r.colon (Mode.Lob Lob.BlobClose) x) last))
 
 -- so does content that is base64 alone
 pub solid_stands : (content octets us : List ℕ) (n : ℕ) → n ≡ length (take_while is_base64 content) → drop n content ≡ 125 ∷ 125 ∷ us
     → blob_of (take n content) ≡ Some octets → (p : Place) → is_name p ≡ false
-    → (r : Rest) → IsFound p r (123 ∷ 123 ∷ content) kinds.Blob octets (n + 4) false
+    → (r : Rest) → IsFound p r (123 ∷ 123 ∷ content) TokenKind.Blob octets (n + 4) false
 solid_stands content octets us n e shuts says =
     let size = ap (λ (w : List ℕ). length w) shuts in
     let fits : n < length content = let l = length-drop n content in omega arith in
@@ -109,21 +97,21 @@ solid_stands content octets us n e shuts says =
 
 -- content that leads from the braces to the first of the close stands whole between them as a clob
 clob_closes : (content us kept : List ℕ) (p : Place) → is_name p ≡ false
-    → Moves p (modes.Lob lobs.Start) [] (content ++ 125 ∷ []) (modes.Lob lobs.ClobClose) kept
-    → (r : Rest) → IsFound p r (123 ∷ 123 ∷ (content ++ 125 ∷ 125 ∷ us)) kinds.Clob kept (length content + 4) false
+    → Moves p (Mode.Lob Lob.Start) [] (content ++ 125 ∷ []) (Mode.Lob Lob.ClobClose) kept
+    → (r : Rest) → IsFound p r (123 ∷ 123 ∷ (content ++ 125 ∷ 125 ∷ us)) TokenKind.Clob kept (length content + 4) false
 clob_closes content us kept p name moves r =
     let front : List ℕ = 123 ∷ 123 ∷ (content ++ 125 ∷ []) in
     let size : length front + 1 ≡ length content + 4 = omega (arith, length-append content (125 ∷ [])) in
     let whole : front ++ 125 ∷ us ≡ 123 ∷ 123 ∷ (content ++ 125 ∷ 125 ∷ us) = ap (λ l. 123 ∷ 123 ∷ l) (append_assoc content (125 ∷ []) (125 ∷ us)) in
-    subst (λ (i : ℕ). IsFound p r (123 ∷ 123 ∷ (content ++ 125 ∷ 125 ∷ us)) kinds.Clob kept i false) size
-    (subst (λ l. IsFound p r l kinds.Clob kept (length front + 1) false) whole
-    (given_behind p r front us 125 kinds.Clob (modes.Lob lobs.ClobClose) kept keeps.Nothing
-    (opens_then p r.colon (123 ∷ 123 ∷ []) (content ++ 125 ∷ []) (modes.Lob lobs.Start) (modes.Lob lobs.ClobClose) [] kept (opens_lob p r.colon name) moves)
+    subst (λ (i : ℕ). IsFound p r (123 ∷ 123 ∷ (content ++ 125 ∷ 125 ∷ us)) TokenKind.Clob kept i false) size
+    (subst (λ l. IsFound p r l TokenKind.Clob kept (length front + 1) false) whole
+    (given_behind p r front us 125 TokenKind.Clob (Mode.Lob Lob.ClobClose) kept Keep.Nothing
+    (opens_then p r.colon (123 ∷ 123 ∷ []) (content ++ 125 ∷ []) (Mode.Lob Lob.Start) (Mode.Lob Lob.ClobClose) [] kept (opens_lob p r.colon name) moves)
     (λ s u. refl) refl))
 
-short_closes : (before text after us kept : List ℕ) → Each is_white before → LeadsOn styles.ShortClob text [] kept → Each is_white after
+short_closes : (before text after us kept : List ℕ) → Each is_white before → LeadsOn Style.ShortClob text [] kept → Each is_white after
     → (p : Place) → is_name p ≡ false
-    → (r : Rest) → IsFound p r (123 ∷ 123 ∷ (before ++ 34 ∷ (text ++ 34 ∷ (after ++ 125 ∷ 125 ∷ us)))) kinds.Clob kept
+    → (r : Rest) → IsFound p r (123 ∷ 123 ∷ (before ++ 34 ∷ (text ++ 34 ∷ (after ++ 125 ∷ 125 ∷ us)))) TokenKind.Clob kept
     (length before + length text + length after + 6) false
 short_closes before text after us kept b leads a p name r =
     let content : List ℕ = before ++ (34 ∷ text) ++ 34 ∷ after in
@@ -131,15 +119,15 @@ short_closes before text after us kept b leads a p name r =
     omega (arith, length-append (before ++ (34 ∷ text)) (34 ∷ after), length-append before (34 ∷ text)) in
     let whole : content ++ 125 ∷ 125 ∷ us ≡ before ++ 34 ∷ (text ++ 34 ∷ (after ++ 125 ∷ 125 ∷ us)) =
     append_assoc (before ++ (34 ∷ text)) (34 ∷ after) (125 ∷ 125 ∷ us) ∙ append_assoc before (34 ∷ text) (34 ∷ (after ++ 125 ∷ 125 ∷ us)) in
-    subst (λ (i : ℕ). IsFound p r (123 ∷ 123 ∷ (before ++ 34 ∷ (text ++ 34 ∷ (after ++ 125 ∷ 125 ∷ us)))) kinds.Clob kept i false) size
-    (subst (λ l. IsFound p r (123 ∷ 123 ∷ l) kinds.Clob kept (length content + 4) false) whole
-    (clob_closes content us kept p name (short_leads p before text after kept within.Plain b tt (leads p) a) r))
+    subst (λ (i : ℕ). IsFound p r (123 ∷ 123 ∷ (before ++ 34 ∷ (text ++ 34 ∷ (after ++ 125 ∷ 125 ∷ us)))) TokenKind.Clob kept i false) size
+    (subst (λ l. IsFound p r (123 ∷ 123 ∷ l) TokenKind.Clob kept (length content + 4) false) whole
+    (clob_closes content us kept p name (short_leads p before text after kept Within.Plain b tt (leads p) a) r))
 
 -- a text that leads on up to its quote, with white space around, stands whole between two braces and two as a clob
 pub clob_stands : (content text rest us kept : List ℕ) (b n a : ℕ) → b ≡ length (take_while is_white content) → drop b content ≡ 34 ∷ text
-    → n < length text → slice_index text n ≡ 34 → LeadsOn styles.ShortClob (take n text) [] kept
+    → n < length text → slice_index text n ≡ 34 → LeadsOn Style.ShortClob (take n text) [] kept
     → rest ≡ drop (n + 1) text → a ≡ length (take_while is_white rest) → drop a rest ≡ 125 ∷ 125 ∷ us → (p : Place) → is_name p ≡ false
-    → (r : Rest) → IsFound p r (123 ∷ 123 ∷ content) kinds.Clob kept (b + n + a + 6) false
+    → (r : Rest) → IsFound p r (123 ∷ 123 ∷ content) TokenKind.Clob kept (b + n + a + 6) false
 clob_stands content text rest us kept b n a before opens more quote leads is after shuts p name r =
     let inner : take n text ++ 34 ∷ rest ≡ text =
     ap (λ l. take n text ++ 34 ∷ l) (is ∙ ap (λ (i : ℕ). drop i text) (add-one n)) ∙ ap (λ (o : ℕ). take n text ++ o ∷ drop (suc n) text) (sym quote)
@@ -155,14 +143,14 @@ clob_stands content text rest us kept b n a before opens more quote leads is aft
       length-take-le n text (omega arith),
       length-take-le a rest (front_within is_white rest a after),
     ) in
-    subst (λ (i : ℕ). IsFound p r (123 ∷ 123 ∷ content) kinds.Clob kept i false) size
-    (subst (λ l. IsFound p r (123 ∷ 123 ∷ l) kinds.Clob kept (length (take b content) + length (take n text) + length (take a rest) + 6) false) whole
+    subst (λ (i : ℕ). IsFound p r (123 ∷ 123 ∷ content) TokenKind.Clob kept i false) size
+    (subst (λ l. IsFound p r (123 ∷ 123 ∷ l) TokenKind.Clob kept (length (take b content) + length (take n text) + length (take a rest) + 6) false) whole
     (short_closes (take b content) (take n text) (take a rest) us kept (front_each is_white content b before) leads
     (front_each is_white rest a after) p name r))
 
 -- a segment, with white space behind it, adds what its text means
 pub segment_adds : (octets text rest kept kept' : List ℕ) (n w : ℕ) → octets ≡ 39 ∷ 39 ∷ 39 ∷ text → n < length text → drop n text ≡ 39 ∷ 39 ∷ 39 ∷ rest
-    → w ≡ length (take_while is_white rest) → LeadsOn styles.LongClob (take n text) kept kept' → AddsSegments (take (n + 6 + w) octets) kept kept'
+    → w ≡ length (take_while is_white rest) → LeadsOn Style.LongClob (take n text) kept kept' → AddsSegments (take (n + 6 + w) octets) kept kept'
 segment_adds octets text rest kept kept' n w opens more shuts white leads =
     let spelled : List ℕ = codes "'''" ++ take n text ++ codes "'''" ++ take w rest in
     let inner : take n text ++ 39 ∷ 39 ∷ 39 ∷ rest ≡ text = ap (λ l. take n text ++ l) (sym shuts) ∙ take-append-drop n text in
@@ -181,20 +169,20 @@ segment_adds octets text rest kept kept' n w opens more shuts white leads =
     let cut : spelled ≡ take (n + 6 + w) octets =
     sym (take-append_seam spelled (drop w rest)) ∙ ap (λ l. take (length spelled) l) whole ∙ ap (λ (i : ℕ). take i octets) size in
     subst (λ l. AddsSegments l kept kept') cut
-    (λ l b p. segment_leads p l within.Plain (take n text) (take w rest) kept kept' b tt (leads p) (front_each is_white rest w white))
+    (λ l b p. segment_leads p l Within.Plain (take n text) (take w rest) kept kept' b tt (leads p) (front_each is_white rest w white))
 
 -- more segments behind some
 pub segments_then : (octets rest kept kept' kept'' : List ℕ) (at n : ℕ) → rest ≡ drop at octets → AddsSegments (take at octets) kept kept'
     → AddsSegments (take n rest) kept' kept'' → AddsSegments (take (at + n) octets) kept kept''
 segments_then octets rest kept kept' kept'' at n is f g =
     subst (λ w. AddsSegments w kept kept'') (ap (λ w. take at octets ++ take n w) is ∙ sym (take-add at n octets))
-    (λ l b p. moves_then p (modes.Lob l) (modes.Lob lobs.AfterLong) (modes.Lob lobs.AfterLong) (take at octets) (take n rest) kept kept' kept'' (f l b p)
-    (g lobs.AfterLong tt p))
+    (λ l b p. moves_then p (Mode.Lob l) (Mode.Lob Lob.AfterLong) (Mode.Lob Lob.AfterLong) (take at octets) (take n rest) kept kept' kept'' (f l b p)
+    (g Lob.AfterLong tt p))
 
 -- segments with white space before them stand whole between two braces and two as a clob
 pub long_clob_stands : (behind content us kept : List ℕ) (b n : ℕ) → b ≡ length (take_while is_white behind) → content ≡ drop b behind
     → n < length content → drop n content ≡ 125 ∷ 125 ∷ us → AddsSegments (take n content) [] kept → (p : Place) → is_name p ≡ false
-    → (r : Rest) → IsFound p r (123 ∷ 123 ∷ behind) kinds.Clob kept (b + n + 4) false
+    → (r : Rest) → IsFound p r (123 ∷ 123 ∷ behind) TokenKind.Clob kept (b + n + 4) false
 long_clob_stands behind content us kept b n before is more shuts adds p name r =
     let front : List ℕ = take b behind ++ take n content in
     let size : length front + 4 ≡ b + n + 4 =
@@ -207,10 +195,10 @@ long_clob_stands behind content us kept b n before is more shuts adds p name r =
     let whole : front ++ 125 ∷ 125 ∷ us ≡ behind =
     append_assoc (take b behind) (take n content) (125 ∷ 125 ∷ us) ∙ ap (λ l. take b behind ++ (take n content ++ l)) (sym shuts)
     ∙ ap (λ l. take b behind ++ l) (take-append-drop n content ∙ is) ∙ take-append-drop b behind in
-    subst (λ (i : ℕ). IsFound p r (123 ∷ 123 ∷ behind) kinds.Clob kept i false) size
-    (subst (λ l. IsFound p r (123 ∷ 123 ∷ l) kinds.Clob kept (length front + 4) false) whole
+    subst (λ (i : ℕ). IsFound p r (123 ∷ 123 ∷ behind) TokenKind.Clob kept i false) size
+    (subst (λ l. IsFound p r (123 ∷ 123 ∷ l) TokenKind.Clob kept (length front + 4) false) whole
     (clob_closes front us kept p name
-    (moves_then p (modes.Lob lobs.Start) (modes.Lob lobs.AfterLong) (modes.Lob lobs.ClobClose) front (125 ∷ []) [] kept kept
-    (moves_then p (modes.Lob lobs.Start) (modes.Lob lobs.Start) (modes.Lob lobs.AfterLong) (take b behind) (take n content) [] [] kept
-    (white_moves p (take b behind) (front_each is_white behind b before)) (adds lobs.Start tt p))
-    (moves_one p (modes.Lob lobs.AfterLong) 125 kept (modes.Lob lobs.ClobClose) keeps.Nothing (λ s u. refl) (λ c. refl))) r))
+    (moves_then p (Mode.Lob Lob.Start) (Mode.Lob Lob.AfterLong) (Mode.Lob Lob.ClobClose) front (125 ∷ []) [] kept kept
+    (moves_then p (Mode.Lob Lob.Start) (Mode.Lob Lob.Start) (Mode.Lob Lob.AfterLong) (take b behind) (take n content) [] [] kept
+    (white_moves p (take b behind) (front_each is_white behind b before)) (adds Lob.Start tt p))
+    (moves_one p (Mode.Lob Lob.AfterLong) 125 kept (Mode.Lob Lob.ClobClose) Keep.Nothing (λ s u. refl) (λ c. refl))) r))

@@ -3,17 +3,7 @@
 use Rattle.std.proofs.Common.{◌≡◌, ℕ, zero, suc, ◌+◌, ◌-◌, ◌≤◌, ◌<◌, Bool, true, false, List, [], ◌∷◌, ◌++◌, length, take, drop, slice_index, inl, inr, refl, sym, ap, ◌∙◌, subst, arith, append_assoc, append-nil}
 use Rattle.std.specs.Prelude.{Ok}
 use Rattle.std.proofs.lemmas.List.{length-take-le, take-append-drop}
-use Rattle.ion_tokens.specs.declared.mode.Place.{Place}
-use Rattle.ion_tokens.specs.declared.mode.TokenKind.{TokenKind}
-use Rattle.ion_tokens.specs.declared.plain_tokens.Rest.{Rest}
-use Rattle.ion_tokens.specs.machine.Scanning.{Known, Outcome, Next, feed, run}
-use Rattle.ion_tokens.specs.machine.Rests.{resting, past_blank, past_token, lexeme_at, before_end, ended, IsPassed, IsFound, left_after}
-use Rattle.ion_tokens.specs.machine.Scanned.{Scanned, IsAhead, Continues}
-use Rattle.ion_tokens.specs.Lexed.{Placed, Passes}
-use Rattle.ion_tokens.specs.Lexemes.{Lexeme}
-use Rattle.ion_tokens.specs.Bodies.{Content}
-use Rattle.ion_tokens.specs.machine.Said.{said}
-use Rattle.ion_tokens.specs.machine.Traces.{Told, Places, Leads, judged, told_there, IsTraced}
+use Rattle.ion_tokens.specs.Names.{Content, Continues, IsAhead, IsFound, IsPassed, IsTraced, Known, Leads, Lexeme, Next, Outcome, Passes, Place, Placed, Places, Rest, Scanned, TokenKind, Told, before_end, ended, feed, judged, left_after, lexeme_at, past_blank, past_token, resting, run, said, told_there}
 use Rattle.ion_tokens.proofs.histories.Stepped.{at_most_one, begins_front, goes_on}
 use Rattle.ion_tokens.proofs.runs.LastOctets.{LastOctet}
 use Rattle.ion_tokens.proofs.runs.Runs.{next_used}

@@ -7,18 +7,8 @@ use Rattle.std.proofs.lemmas.Bool.Decides.{nat_tests}
 use Rattle.std.proofs.lemmas.List.{get_or-drop}
 use Rattle.std.proofs.lemmas.List.Folds.{length-prefix_len}
 use Rattle.std.proofs.lemmas.List.Sums.{prefix_len_passes, prefix_len_is, prefix_len-le-length}
-use Rattle.ion_scalar.specs.declared.number.Number.{Number}
-use Rattle.ion_scalar.specs.text.Ints.{BeginsWithMinus, minus}
-use Rattle.ion_scalar.specs.text.Numbers.{ReadsNumber}
+use Rattle.ion_tokens.specs.Names.{BeginsWithMinus, IsFound, Number, Place, ReadsNumber, Rest, TokenKind, is_digit, is_name, is_numeric, is_stop, minus, slash}
 use Rattle.ion_scalar.specs.text.laws.PlainNumerals.{IsPlainDigit, PlainNumeral, numeral_reads}
-use Rattle.ion_tokens.specs.Ascii.{slash}
-use Rattle.ion_tokens.specs.Octets.{is_digit, is_stop}
-use Rattle.ion_tokens.specs.Places.{is_name}
-use Rattle.ion_tokens.specs.declared.mode.Place.{Place}
-use Rattle.ion_tokens.specs.declared.mode.TokenKind.TheVariants as kinds
-use Rattle.ion_tokens.specs.declared.plain_tokens.Rest.{Rest}
-use Rattle.ion_tokens.specs.machine.AtOnce.{is_numeric}
-use Rattle.ion_tokens.specs.machine.Rests.{IsFound}
 use Rattle.ion_tokens.proofs.runs.WholeTokens.{number_found}
 
 plain_digit : (o : ℕ) → is_digit o ≡ true → IsPlainDigit o
@@ -98,7 +88,7 @@ run_is os count h stop = prefix_len_is is_numeric os count 0 h.within (goes_on o
 pub record WholeNumeral (octets : List ℕ) (n : ℕ) : Type 0 where
   pub within : n < length octets
   pub reads : (x : Number) × ReadsNumber (take n octets) (Ok x)
-  pub found : (p : Place) (r : Rest) → is_name p ≡ false → IsFound p r octets kinds.Number (take n octets) n true
+  pub found : (p : Place) (r : Rest) → is_name p ≡ false → IsFound p r octets TokenKind.Number (take n octets) n true
 
 no_slash : (o : ℕ) → is_stop o ≡ true → o ≢ 47
 no_slash o h e = let f : is_stop 47 ≡ true = subst (λ x. is_stop x ≡ true) e h in cc

@@ -1,15 +1,8 @@
 -- What one octet does to a run.
 use Rattle.std.proofs.Common.{◌≡◌, ℕ, ◌+◌, ◌<◌, ◌≤◌, refl, subst, arith, Bool, true, false, cond, List, [], ◌∷◌, length, drop, get_or, sym, ap, suc, drop-cons, add-one, Option}
 use Rattle.std.specs.Prelude.{◌==◌, ◌&&◌, bytes_eq, codes, Some, None}
-use Rattle.ion_tokens.specs.declared.mode.Place.{Place}
-use Rattle.ion_tokens.specs.declared.mode.Action.{Action}
-use Rattle.ion_tokens.specs.declared.mode.Action.TheVariants as actions
-use Rattle.ion_tokens.specs.declared.mode.TokenKind.TheVariants as kinds
-use Rattle.ion_tokens.specs.declared.mode.Mode.TheVariants as modes
+use Rattle.ion_tokens.specs.Names.{Action, Given, Known, Left, Lexeme, Mode, Next, Outcome, Place, Refused, TokenKind, acts, blob_ends, blob_of, cut, feed, follow, go_to, past, run}
 use Rattle.ion_tokens.specs.machine.Table.{next}
-use Rattle.ion_tokens.specs.Blobs.{blob_of}
-use Rattle.ion_tokens.specs.machine.Scanning.{Known, Outcome, Next, Given, Left, Refused, go_to, cut, past, blob_ends, acts, feed, follow, run}
-use Rattle.ion_tokens.specs.Lexemes.{Lexeme}
 
 -- how many octets were used, where all were
 used_in : Outcome → ℕ → ℕ
@@ -23,17 +16,17 @@ blob_used s s' (Some b) e = sym (ap (λ x. used_in x 0) e)
 
 acts_used : (p : Place) (s s' : Known) (o : ℕ) (a : Action) → acts p s o a ≡ Next s' → s'.used ≡ s.used + 1
 unfolding used_in
-acts_used p s s' o (actions.Go m k) e = sym (ap (λ x. used_in x 0) e)
-acts_used p s s' o (actions.Give _ _) e = cc
-acts_used p s s' o (actions.Before _ _ _) e = cc
-acts_used p s s' o actions.EndWord e = sym (one ((o == 46) && bytes_eq s.kept (codes "null")) e) where
-  one : (b : Bool) → cond b (Next (go_to s modes.KindName [])) (Left (cut s kinds.Word s.kept s.used) (past p kinds.Word modes.Blank [] s.used s.used))
+acts_used p s s' o (Action.Go m k) e = sym (ap (λ x. used_in x 0) e)
+acts_used p s s' o (Action.Give _ _) e = cc
+acts_used p s s' o (Action.Before _ _ _) e = cc
+acts_used p s s' o Action.EndWord e = sym (one ((o == 46) && bytes_eq s.kept (codes "null")) e) where
+  one : (b : Bool) → cond b (Next (go_to s Mode.KindName [])) (Left (cut s TokenKind.Word s.kept s.used) (past p TokenKind.Word Mode.Blank [] s.used s.used))
       ≡ Next s' → s.used + 1 ≡ s'.used
   one true h = ap (λ x. used_in x 0) h
   one false h = cc
-acts_used p s s' o (actions.Split _) e = cc
-acts_used p s s' o actions.EndBlob e = blob_used s s' (blob_of s.kept) e
-acts_used p s s' o (actions.Refuse _) e = cc
+acts_used p s s' o (Action.Split _) e = cc
+acts_used p s s' o Action.EndBlob e = blob_used s s' (blob_of s.kept) e
+acts_used p s s' o (Action.Refuse _) e = cc
 
 -- where an octet was used, it is one more
 pub feed_used : (p : Place) (s s' : Known) (o : ℕ) → feed p s o ≡ Next s' → s'.used ≡ s.used + 1
@@ -59,17 +52,17 @@ blob_between s (Some b) = refl
 -- of one octet, whatever the action: it is used, or left, or it decides a refusal
 pub acts_between : (p : Place) (s : Known) (o : ℕ) (a : Action) → Between (acts p s o a) s.used 1
 unfolding Between
-acts_between p s o (actions.Go m k) = refl
-acts_between p s o (actions.Give _ _) = (omega arith, omega arith)
-acts_between p s o (actions.Before _ _ _) = (omega arith, omega arith)
-acts_between p s o actions.EndWord = one ((o == 46) && bytes_eq s.kept (codes "null")) where
-  one : (b : Bool) → Between (cond b (Next (go_to s modes.KindName []))
-      (Left (cut s kinds.Word s.kept s.used) (past p kinds.Word modes.Blank [] s.used s.used))) s.used 1
+acts_between p s o (Action.Go m k) = refl
+acts_between p s o (Action.Give _ _) = (omega arith, omega arith)
+acts_between p s o (Action.Before _ _ _) = (omega arith, omega arith)
+acts_between p s o Action.EndWord = one ((o == 46) && bytes_eq s.kept (codes "null")) where
+  one : (b : Bool) → Between (cond b (Next (go_to s Mode.KindName []))
+      (Left (cut s TokenKind.Word s.kept s.used) (past p TokenKind.Word Mode.Blank [] s.used s.used))) s.used 1
   one true = refl
   one false = (omega arith, omega arith)
-acts_between p s o (actions.Split _) = (omega arith, omega arith)
-acts_between p s o actions.EndBlob = blob_between s (blob_of s.kept)
-acts_between p s o (actions.Refuse _) = (omega arith, omega arith)
+acts_between p s o (Action.Split _) = (omega arith, omega arith)
+acts_between p s o Action.EndBlob = blob_between s (blob_of s.kept)
+acts_between p s o (Action.Refuse _) = (omega arith, omega arith)
 
 -- behind one octet more
 between_next : (x : Outcome) (before n : ℕ) → Between x (before + 1) n → Between x before (suc n)

@@ -1,15 +1,10 @@
 -- What one octet makes of what a scanner stands for. Crates above cite these names.
 use Rattle.std.proofs.Common.{◌≡◌, ℕ, ◌+◌, List, [], ◌∷◌, ◌++◌, length, refl, sym, ap, ◌∙◌, subst, arith, append_assoc, append-nil, length-append, inl, inr}
-use Rattle.ion_tokens.specs.declared.mode.Place.{Place}
-use Rattle.ion_tokens.specs.machine.Scanning.{Known, Outcome, Next, Given, Left, feed, follow, run}
-use Rattle.ion_tokens.specs.Lexemes.{Lexeme}
-use Rattle.ion_tokens.specs.Lexed.{Placed, Passes, AllPass}
-use Rattle.ion_tokens.specs.machine.Told.{Stands, Gave, Leaved}
-use Rattle.ion_tokens.specs.machine.Scanned.{Scanned, IsAhead, Continues}
-use Rattle.ion_tokens.proofs.runs.Runs.{next_used}
+use Rattle.ion_tokens.specs.Names.{AllPass, Continues, Gave, Given, IsAhead, Known, Leaved, Left, Lexeme, Next, Outcome, Passes, Place, Placed, Scanned, Stands, feed, follow, run}
 use Rattle.ion_tokens.proofs.complete.Wholes.{run_behind}
-use Rattle.ion_tokens.proofs.runs.Splits.{GivenSplit, given_split, LeftSplit, left_split}
 use Rattle.ion_tokens.proofs.histories.Stepped.{goes_on}
+use Rattle.ion_tokens.proofs.runs.Runs.{next_used}
+use Rattle.ion_tokens.proofs.runs.Splits.{GivenSplit, LeftSplit, given_split, left_split}
 
 -- a token, and the place that it was looked for in
 abbrev pub placed : Place → Lexeme → Placed

@@ -4,28 +4,20 @@ use Rattle.std.specs.Prelude.{not, codes, ◌&&◌, ◌==◌, if◌then◌else�
 use Rattle.std.specs.List.{take_while}
 use Rattle.std.proofs.lemmas.Bool.Decides.{nat_tests}
 use Rattle.std.proofs.lemmas.List.{length-take-le, take_more}
-use Rattle.ion_tokens.specs.Blanks.{HasNoClose, HasNoLineEnd}
-use Rattle.ion_tokens.specs.Lexemes.{Each}
-use Rattle.ion_tokens.specs.Octets.{is_line_end}
-use Rattle.ion_tokens.specs.declared.mode.Place.{Place}
-use Rattle.ion_tokens.specs.declared.mode.Mode.TheVariants as modes
-use Rattle.ion_tokens.specs.declared.plain_tokens.Rest.{Rest}
-use Rattle.ion_tokens.specs.machine.AtOnce.{goes_on}
-use Rattle.ion_tokens.specs.machine.Rests.{resting, past_blank, past_comment, IsPassed, RestsBehind}
-use Rattle.ion_tokens.specs.machine.Scanning.{Next, follow, run}
-use Rattle.ion_tokens.proofs.complete.Moves.{at, Opens}
-use Rattle.ion_tokens.proofs.complete.TakesBlanks.{line_opens, block_opens}
+use Rattle.ion_tokens.specs.Names.{Each, HasNoClose, HasNoLineEnd, IsPassed, Mode, Next, Place, Rest, RestsBehind, follow, goes_on, is_line_end, past_blank, past_comment, resting, run}
+use Rattle.ion_tokens.proofs.complete.Moves.{Opens, at}
+use Rattle.ion_tokens.proofs.complete.TakesBlanks.{block_opens, line_opens}
 use Rattle.ion_tokens.proofs.runs.Cutting.{run-append}
 use Rattle.ion_tokens.proofs.runs.WholeTokens.{front_each, front_stops}
 
 -- octets that lead from a slash back to a blank are a comment
-comment_rests : (octets w : List ℕ) (n : ℕ) → take n octets ≡ w → n ≤ length octets → ((p : Place) (colon : Bool) → Opens p colon w modes.Blank []) → (r : Rest)
+comment_rests : (octets w : List ℕ) (n : ℕ) → take n octets ≡ w → n ≤ length octets → ((p : Place) (colon : Bool) → Opens p colon w Mode.Blank []) → (r : Rest)
     → RestsBehind octets n r (past_comment r n)
 comment_rests octets w n is within opens r = record {
   ran =
       λ p.
       ap (λ l. run p l (resting r)) (is ∙ sym (append-nil w)) ∙ opens p r.colon r.start r.used []
-      ∙ ap (λ (i : ℕ). Next (at modes.Blank [] r.colon r.used (r.used + i))) size;
+      ∙ ap (λ (i : ℕ). Next (at Mode.Blank [] r.colon r.used (r.used + i))) size;
   within = within;
   used = refl;
 }
@@ -46,7 +38,7 @@ begun (a ∷ b ∷ os) content second more one two is = record { is = ap (λ x. 
 three_more : (second n : ℕ) (content : List ℕ) → take (n + 3) (47 ∷ second ∷ content) ≡ 47 ∷ second ∷ take (n + 1) content
 three_more second n content = ap (λ k. take k (47 ∷ second ∷ content)) (let k : n + 3 ≡ suc (suc (n + 1)) = omega arith in k)
 
-open_line : (w : List ℕ) → Each (goes_on modes.LineComment) w → HasNoLineEnd w
+open_line : (w : List ℕ) → Each (goes_on Mode.LineComment) w → HasNoLineEnd w
 open_line [] h = tt
 open_line (o ∷ os) h = (not_true (is_line_end o) h.0, open_line os h.1)
   where
@@ -56,15 +48,15 @@ open_line (o ∷ os) h = (not_true (is_line_end o) h.0, open_line os h.1)
 
 -- a line comment, with the end of its line
 pub line_rests : (octets content : List ℕ) (n : ℕ) → 1 < length octets → get_or octets 0 0 ≡ 47 → get_or octets 1 0 ≡ 47 → content ≡ drop 2 octets
-    → n ≡ length (take_while (goes_on modes.LineComment) content) → n < length content → (r : Rest) → RestsBehind octets (n + 3) r (past_comment r (n + 3))
+    → n ≡ length (take_while (goes_on Mode.LineComment) content) → n < length content → (r : Rest) → RestsBehind octets (n + 3) r (past_comment r (n + 3))
 line_rests octets content n more one two is e within r =
     let b = begun octets content 47 more one two is in
     let begins = ap (λ (w : List ℕ). length w) b.is in
     let size : length octets ≡ length content + 2 = omega (arith, begins) in
     comment_rests octets (codes "//" ++ take n content ++ get_or content n 0 ∷ []) (n + 3)
     (ap (take (n + 3)) b.is ∙ (three_more 47 n content ∙ ap (λ w. 47 ∷ 47 ∷ w) (take_more content n 0 within))) (omega arith)
-    (λ p colon. line_opens p colon (take n content) (get_or content n 0) (open_line (take n content) (front_each (goes_on modes.LineComment) content n e))
-    (ends (is_line_end (get_or content n 0)) (front_stops (goes_on modes.LineComment) content n e within))) r
+    (λ p colon. line_opens p colon (take n content) (get_or content n 0) (open_line (take n content) (front_each (goes_on Mode.LineComment) content n e))
+    (ends (is_line_end (get_or content n 0)) (front_stops (goes_on Mode.LineComment) content n e within))) r
   where
     ends : (b : Bool) → not b ≡ false → b ≡ true
     ends true h = refl
@@ -116,7 +108,7 @@ fewer_open (o ∷ []) (suc (suc n)) none = tt
 fewer_open (o ∷ p ∷ os) (suc (suc n)) none = (none.0, fewer_open (p ∷ os) (suc n) none.1)
 
 -- where none of these octets is a star, nothing closes before the one behind them
-front_open : (octets : List ℕ) (n : ℕ) → Each (goes_on modes.BlockComment) (take n octets) → HasNoClose (take (suc n) octets)
+front_open : (octets : List ℕ) (n : ℕ) → Each (goes_on Mode.BlockComment) (take n octets) → HasNoClose (take (suc n) octets)
 front_open [] n stars = tt
 front_open (o ∷ os) zero stars = tt
 front_open (o ∷ []) (suc n) stars = tt
@@ -127,14 +119,14 @@ front_open (o ∷ p ∷ os) (suc n) stars = (no_star (o == 42) stars.0, front_op
     no_star true e = absurd cc
 
 -- nor where nothing closed before them
-pub stars_open : (octets : List ℕ) (at n : ℕ) → HasNoClose (take (at + 1) octets) → Each (goes_on modes.BlockComment) (take n (drop at octets))
+pub stars_open : (octets : List ℕ) (at n : ℕ) → HasNoClose (take (at + 1) octets) → Each (goes_on Mode.BlockComment) (take n (drop at octets))
     → HasNoClose (take (at + n + 1) octets)
 stars_open octets at n none stars =
     let first : at + 1 ≡ suc at = omega arith in
     let last : suc (at + n) ≡ at + n + 1 = omega arith in
     subst (λ k. HasNoClose (take k octets)) last (go octets at (subst (λ k. HasNoClose (take k octets)) first none) stars)
   where
-    go : (octets : List ℕ) (at : ℕ) → HasNoClose (take (suc at) octets) → Each (goes_on modes.BlockComment) (take n (drop at octets))
+    go : (octets : List ℕ) (at : ℕ) → HasNoClose (take (suc at) octets) → Each (goes_on Mode.BlockComment) (take n (drop at octets))
         → HasNoClose (take (suc (at + n)) octets)
     go [] at none stars = tt
     go (o ∷ os) zero none stars = subst (λ k. HasNoClose (take (suc k) (o ∷ os))) (let k : n ≡ 0 + n = omega arith in k) (front_open (o ∷ os) n stars)

@@ -8,35 +8,14 @@ use Rattle.std.proofs.lemmas.List.{length-take, length-take-le}
 use Rattle.std.proofs.lemmas.List.Folds.{length-prefix_len}
 use Rattle.std.proofs.lemmas.List.Sums.{prefix_len_stops, prefix_len-le-length}
 use Rattle.std.proofs.lemmas.Str.{IsUtf8-from_ascii}
-use Rattle.ion_tokens.specs.Octets.{is_white, is_digit, begins_word, is_word_octet, is_operator_octet, is_stop}
-use Rattle.ion_tokens.specs.Places.{is_name}
-use Rattle.ion_tokens.specs.declared.mode.Place.{Place}
-use Rattle.ion_tokens.specs.declared.mode.Style.{Style}
-use Rattle.ion_tokens.specs.declared.mode.Mode.{Mode}
-use Rattle.ion_tokens.specs.declared.mode.TokenKind.{TokenKind}
-use Rattle.ion_tokens.specs.declared.mode.Keep.{Keep}
-use Rattle.ion_tokens.specs.declared.mode.Mark.{Mark}
-use Rattle.ion_tokens.specs.declared.mode.Mark.TheVariants as marks
-use Rattle.ion_tokens.specs.declared.mode.Style.TheVariants as styles
-use Rattle.ion_tokens.specs.declared.mode.Within.TheVariants as within
-use Rattle.ion_tokens.specs.declared.mode.Mode.TheVariants as modes
-use Rattle.ion_tokens.specs.declared.mode.TokenKind.TheVariants as kinds
-use Rattle.ion_tokens.specs.declared.mode.Keep.TheVariants as keeps
-use Rattle.ion_tokens.specs.declared.mode.Action.TheVariants as actions
-use Rattle.ion_tokens.specs.declared.plain_tokens.Rest.{Rest}
-use Rattle.ion_tokens.specs.machine.Table.{next, in_blank}
-use Rattle.ion_tokens.specs.machine.Scanning.{Known, Next, Given, Left, feed, run, acts, past, cut, go_to, kept_after}
-use Rattle.ion_tokens.specs.Lexemes.{Each, begins, begins_number, IsWord}
-use Rattle.ion_tokens.specs.machine.AtOnce.{is_raw, is_numeric, is_plain_operator, AreKept}
-use Rattle.ion_tokens.specs.machine.Contents.{LeadsOn}
-use Rattle.ion_tokens.specs.machine.Rests.{resting, past_blank, IsPassed, IsFound}
-use Rattle.ion_tokens.proofs.complete.Moves.{at, Opens, opens_one, opens_then, Moves, moves_one, moves_then, Stays}
+use Rattle.ion_tokens.specs.Names.{Action, AreKept, Each, Given, IsFound, IsPassed, IsWord, Keep, Known, LeadsOn, Left, Mark, Mode, Next, Place, Rest, Style, TokenKind, Within, acts, begins, begins_number, begins_word, cut, feed, go_to, in_blank, is_digit, is_name, is_numeric, is_operator_octet, is_plain_operator, is_raw, is_stop, is_white, is_word_octet, kept_after, past, past_blank, resting, run}
+use Rattle.ion_tokens.specs.machine.Table.{next}
+use Rattle.ion_tokens.proofs.complete.Moves.{Moves, Opens, Stays, at, moves_one, moves_then, opens_one, opens_then}
+use Rattle.ion_tokens.proofs.complete.TakesOperators.{low_operator, other_ends, plain_is, plain_opens}
+use Rattle.ion_tokens.proofs.complete.TakesTexts.{BeginsOther, drops_two, from_quote, opens_long, opens_quote}
+use Rattle.ion_tokens.proofs.complete.TakesWords.{brace_ends, colon_ends, no_dot, number_stops, opens_brace, opens_colon, opens_number, opens_word, word_ends}
+use Rattle.ion_tokens.proofs.runs.GoesOn.{each_front, front_all, front_on, rest_is}
 use Rattle.ion_tokens.proofs.texts.Characters.{ascii_each, kept_goes}
-use Rattle.ion_tokens.proofs.runs.GoesOn.{front_on, each_front, front_all, rest_is}
-use Rattle.ion_tokens.proofs.complete.TakesWords.{opens_word, opens_number, opens_brace, opens_colon, word_ends, no_dot, number_stops, brace_ends, colon_ends}
-use Rattle.ion_tokens.specs.declared.mode.Place.TheVariants as places
-use Rattle.ion_tokens.proofs.complete.TakesOperators.{low_operator, plain_is, plain_opens, other_ends}
-use Rattle.ion_tokens.proofs.complete.TakesTexts.{BeginsOther, opens_quote, opens_long, from_quote, drops_two}
 
 -- a blank
 
@@ -49,7 +28,7 @@ blank_passed octets n e p r = by n e where
       let size : length (take (suc k) octets) ≡ suc k = ap (λ (l : List ℕ). length l) (front_all is_white octets (suc k) e) ∙ sym e in
       let far : (suc k == 0) ≡ false = grind (arith, nat_tests) in
       front_on p octets (suc k) (resting r) e (omega arith)
-      ∙ ap (λ (n : ℕ). Next (at modes.Blank [] r.colon (r.used + (n - 1)) (r.used + n))) size
+      ∙ ap (λ (n : ℕ). Next (at Mode.Blank [] r.colon (r.used + (n - 1)) (r.used + n))) size
       ∙ sym (ap (λ b. Next (resting (cond b r (record { start = r.used + (suc k - 1); used = r.used + suc k; colon = r.colon })))) far)
 
 -- a token that is open behind these octets
@@ -61,7 +40,7 @@ ran p r w n m kept f e = ap (λ l. run p l (resting r)) (sym (append-nil w)) ∙
 -- the octet behind it ends it
 pub opened_left : (p : Place) (r : Rest) (octets : List ℕ) (n : ℕ) (kind : TokenKind) (m : Mode) (kept : List ℕ) (k : Keep)
     → Opens p r.colon (take n octets) m kept → Stays m → 0 < n → n < length octets
-    → next p r.colon m (slice_index octets n) ≡ actions.Before kind k modes.Blank → IsFound p r octets kind (kept_after k kept) n true
+    → next p r.colon m (slice_index octets n) ≡ Action.Before kind k Mode.Blank → IsFound p r octets kind (kept_after k kept) n true
 opened_left p r octets n kind m kept k f h some more e = record {
   some = some;
   shown = more;
@@ -71,14 +50,14 @@ opened_left p r octets n kind m kept k f h some more e = record {
       let whole : (r.used + n) - 0 ≡ r.used + n = omega arith in
       ap (λ a. acts p (at m kept r.colon r.used (r.used + n)) (slice_index octets n) a) e
       ∙ ap (λ (i : ℕ). Left (record { start = i; end = (r.used + n) - 0; kind = kind; octets = kept_after k kept })
-      (past p kind modes.Blank [] ((r.used + n) - 0) (r.used + n))) (h r.used (r.used + n))
-      ∙ ap (λ (i : ℕ). Left (record { start = r.used; end = i; kind = kind; octets = kept_after k kept }) (past p kind modes.Blank [] i (r.used + n))) whole;
+      (past p kind Mode.Blank [] ((r.used + n) - 0) (r.used + n))) (h r.used (r.used + n))
+      ∙ ap (λ (i : ℕ). Left (record { start = r.used; end = i; kind = kind; octets = kept_after k kept }) (past p kind Mode.Blank [] i (r.used + n))) whole;
 }
 
 -- its last octet ends it
 pub opened_given : (p : Place) (r : Rest) (octets : List ℕ) (n : ℕ) (kind : TokenKind) (m : Mode) (kept : List ℕ) (k : Keep)
     → Opens p r.colon (take n octets) m kept → Stays m → n < length octets
-    → next p r.colon m (slice_index octets n) ≡ actions.Give kind k → IsFound p r octets kind (kept_after k kept) (n + 1) false
+    → next p r.colon m (slice_index octets n) ≡ Action.Give kind k → IsFound p r octets kind (kept_after k kept) (n + 1) false
 opened_given p r octets n kind m kept k f h more e =
     let one : n + 1 - 1 ≡ n = omega arith in
     record {
@@ -91,13 +70,13 @@ opened_given p r octets n kind m kept k f h more e =
           ap (λ (i : ℕ). feed p (at m kept r.colon r.used (r.used + n)) (slice_index octets i)) one
           ∙ ap (λ a. acts p (at m kept r.colon r.used (r.used + n)) (slice_index octets n) a) e
           ∙ ap (λ (i : ℕ). Given (record { start = i; end = (r.used + n) + 1; kind = kind; octets = kept_after k kept })
-          (past p kind modes.Blank [] ((r.used + n) + 1) ((r.used + n) + 1))) (h r.used (r.used + n))
-          ∙ ap (λ (i : ℕ). Given (record { start = r.used; end = i; kind = kind; octets = kept_after k kept }) (past p kind modes.Blank [] i i)) more;
+          (past p kind Mode.Blank [] ((r.used + n) + 1) ((r.used + n) + 1))) (h r.used (r.used + n))
+          ∙ ap (λ (i : ℕ). Given (record { start = r.used; end = i; kind = kind; octets = kept_after k kept }) (past p kind Mode.Blank [] i i)) more;
     }
 
 -- octets that open a token, and its last behind them
 pub given_behind : (p : Place) (r : Rest) (w us : List ℕ) (o : ℕ) (kind : TokenKind) (m : Mode) (kept : List ℕ) (k : Keep)
-    → Opens p r.colon w m kept → Stays m → next p r.colon m o ≡ actions.Give kind k → IsFound p r (w ++ o ∷ us) kind (kept_after k kept) (length w + 1) false
+    → Opens p r.colon w m kept → Stays m → next p r.colon m o ≡ Action.Give kind k → IsFound p r (w ++ o ∷ us) kind (kept_after k kept) (length w + 1) false
 given_behind p r w us o kind m kept k f h e =
     opened_given p r (w ++ o ∷ us) (length w) kind m kept k (subst (λ l. Opens p r.colon l m kept) (sym (take-append_seam w (o ∷ us))) f) h
     (omega (arith, length-append w (o ∷ us))) (ap (λ (x : ℕ). next p r.colon m x) (get_or-append_seam w o us 0) ∙ e)
@@ -161,22 +140,22 @@ not_same a b n = grind (arith, nat_tests)
 -- a word stands whole before an octet of no word that is no dot
 pub word_found : (octets : List ℕ) (n : ℕ) → 0 < length octets → begins_word (slice_index octets 0) ≡ true → n ≡ length (take_while is_word_octet octets)
     → n < length octets → slice_index octets n ≢ 46
-    → (p : Place) (r : Rest) → IsFound p r octets kinds.Word (take n octets) n true
+    → (p : Place) (r : Rest) → IsFound p r octets TokenKind.Word (take n octets) n true
 word_found octets n first begun e more dot p r =
     let w = take n octets in
     let x = slice_index octets n in
     let u = r.used + n in
     let some : 0 < n = front_some is_word_octet octets n first (first_in_word (slice_index octets 0) begun) e in
     let is : IsWord w = (front_begins begins_word octets n some first ∙ begun, front_each is_word_octet octets n e) in
-    let s : Known = at modes.Word w r.colon r.used u in
+    let s : Known = at Mode.Word w r.colon r.used u in
     record {
       some = some;
       shown = more;
       known = s;
-      ran = ran p r w n modes.Word w (opens_word p r.colon w is) (let l = length-take n octets in omega arith);
+      ran = ran p r w n Mode.Word w (opens_word p r.colon w is) (let l = length-take n octets in omega arith);
       ends =
           ap (λ a. acts p s x a) (word_ends x (front_stops is_word_octet octets n e more))
-          ∙ ap (λ b. cond b (Next (go_to s modes.KindName [])) (Left (cut s kinds.Word w u) (past p kinds.Word modes.Blank [] u u)))
+          ∙ ap (λ b. cond b (Next (go_to s Mode.KindName [])) (Left (cut s TokenKind.Word w u) (past p TokenKind.Word Mode.Blank [] u u)))
           (no_dot w x (λ _. not_same x 46 dot));
     }
 
@@ -219,11 +198,11 @@ number_begins (o ∷ d ∷ os) n more (inr h) e = by n size where
 -- a number stands whole before a stop character
 pub number_found : (octets : List ℕ) (n : ℕ) → 1 < length octets → StartsNumber octets → n ≡ length (take_while is_numeric octets) → n < length octets
     → slice_index octets n ≢ 47
-    → (p : Place) (r : Rest) → is_name p ≡ false → IsFound p r octets kinds.Number (take n octets) n true
+    → (p : Place) (r : Rest) → is_name p ≡ false → IsFound p r octets TokenKind.Number (take n octets) n true
 number_found octets n first begun e more slash p r name =
     let b = number_begins octets n first begun e in
     let x = slice_index octets n in
-    opened_left p r octets n kinds.Number modes.Number (take n octets) keeps.Nothing
+    opened_left p r octets n TokenKind.Number Mode.Number (take n octets) Keep.Nothing
     (opens_number p r.colon (take n octets) name b.1 (front_each is_numeric octets n e)) (λ s u. refl) b.0 more
     (number_stops x (stop_is x (front_stops is_numeric octets n e more) slash))
 
@@ -242,12 +221,12 @@ operator_ascii o h = low_operator o (plain_is o h).0
 -- an operator without `/` stands whole in an s-expression before an octet of none that begins neither a number nor `inf`
 pub operator_found : (octets : List ℕ) (n : ℕ) → 0 < n → n ≡ length (take_while is_plain_operator octets) → n < length octets
     → is_digit (slice_index octets n) ≡ false → slice_index octets n ≢ 105 → slice_index octets n ≢ 47
-    → (r : Rest) → IsFound places.Sexp r octets kinds.Operator (take n octets) n true
+    → (r : Rest) → IsFound Place.Sexp r octets TokenKind.Operator (take n octets) n true
 operator_found octets n some e more digit i slash r =
     let x = slice_index octets n in
     let size = length-take n octets in
     let opens = plain_opens r.colon (take n octets) (omega arith) (front_each is_plain_operator octets n e) in
-    opened_left places.Sexp r octets n kinds.Operator (modes.Operator opens.0) (take n octets) keeps.Nothing opens.1 (λ s u. refl) some more
+    opened_left Place.Sexp r octets n TokenKind.Operator (Mode.Operator opens.0) (take n octets) Keep.Nothing opens.1 (λ s u. refl) some more
     (other_ends opens.0 x digit i slash (no_operator x (front_stops is_plain_operator octets n e more) slash))
 
 -- octets of operators are a text
@@ -256,7 +235,7 @@ operator_text octets n e = front_text is_plain_operator octets n operator_ascii 
 
 -- What stands between quotes.
 
-text_moves : (p : Place) (s : Style) (w kept : List ℕ) → AreKept s w → Moves p (modes.Text s within.Plain) kept w (modes.Text s within.Plain) (kept ++ w)
+text_moves : (p : Place) (s : Style) (w kept : List ℕ) → AreKept s w → Moves p (Mode.Text s Within.Plain) kept w (Mode.Text s Within.Plain) (kept ++ w)
 text_moves p s w kept h = kept_goes p s w kept h
 
 same_size : (p : Place) (r : Rest) (octets os : List ℕ) (kind : TokenKind) (n : ℕ) → IsFound p r octets kind (take n os) (suc n + 1) false
@@ -266,29 +245,29 @@ same_size p r octets os kind n h =
     let size : suc n + 1 ≡ n + 2 = omega arith in
     subst (λ (i : ℕ). IsFound p r octets kind (take i os) (n + 2) false) kept (subst (λ (i : ℕ). IsFound p r octets kind (take n os) i false) size h)
 
-short_stands : (octets : List ℕ) (n : ℕ) → 0 < length octets → slice_index octets 0 ≡ 34 → AreKept styles.ShortString (take n (drop 1 octets))
+short_stands : (octets : List ℕ) (n : ℕ) → 0 < length octets → slice_index octets 0 ≡ 34 → AreKept Style.ShortString (take n (drop 1 octets))
     → n < length (drop 1 octets) → slice_index (drop 1 octets) n ≡ 34
-    → (p : Place) (r : Rest) → IsFound p r octets kinds.ShortString (take (n + 2 - 2) (drop 1 octets)) (n + 2) false
+    → (p : Place) (r : Rest) → IsFound p r octets TokenKind.ShortString (take (n + 2 - 2) (drop 1 octets)) (n + 2) false
 short_stands [] n some first kept more last p r = absurd (omega arith)
 short_stands (o ∷ os) n some first kept more last p r =
-    subst (λ (x : ℕ). IsFound p r (x ∷ os) kinds.ShortString (take (n + 2 - 2) os) (n + 2) false) (sym first)
-    (same_size p r (34 ∷ os) os kinds.ShortString n
-    (opened_given p r (34 ∷ os) (suc n) kinds.ShortString (modes.Text styles.ShortString within.Plain) (take n os) keeps.Nothing
-    (opens_then p r.colon (34 ∷ []) (take n os) (modes.Text styles.ShortString within.Plain) (modes.Text styles.ShortString within.Plain) [] (take n os)
-    (opens_one p r.colon 34 (modes.Text styles.ShortString within.Plain) keeps.Nothing refl) (text_moves p styles.ShortString (take n os) [] kept))
-    (λ s u. refl) (omega arith) (ap (λ (x : ℕ). next p r.colon (modes.Text styles.ShortString within.Plain) x) last)))
+    subst (λ (x : ℕ). IsFound p r (x ∷ os) TokenKind.ShortString (take (n + 2 - 2) os) (n + 2) false) (sym first)
+    (same_size p r (34 ∷ os) os TokenKind.ShortString n
+    (opened_given p r (34 ∷ os) (suc n) TokenKind.ShortString (Mode.Text Style.ShortString Within.Plain) (take n os) Keep.Nothing
+    (opens_then p r.colon (34 ∷ []) (take n os) (Mode.Text Style.ShortString Within.Plain) (Mode.Text Style.ShortString Within.Plain) [] (take n os)
+    (opens_one p r.colon 34 (Mode.Text Style.ShortString Within.Plain) Keep.Nothing refl) (text_moves p Style.ShortString (take n os) [] kept))
+    (λ s u. refl) (omega arith) (ap (λ (x : ℕ). next p r.colon (Mode.Text Style.ShortString Within.Plain) x) last)))
 
 -- What stands behind the first quote, as `&octets[1..]` has it.
 abbrev pub behind_first : List ℕ → List ℕ
 behind_first octets = take (length octets - 1) (drop 1 octets)
 
 -- a short string stands whole where it has characters alone that are kept as they are
-pub short_found : (octets : List ℕ) (n : ℕ) → 0 < length octets → slice_index octets 0 ≡ 34 → AreKept styles.ShortString (take n (behind_first octets))
+pub short_found : (octets : List ℕ) (n : ℕ) → 0 < length octets → slice_index octets 0 ≡ 34 → AreKept Style.ShortString (take n (behind_first octets))
     → n < length (behind_first octets) → slice_index (behind_first octets) n ≡ 34
-    → (p : Place) (r : Rest) → IsFound p r octets kinds.ShortString (take (n + 2 - 2) (drop 1 octets)) (n + 2) false
+    → (p : Place) (r : Rest) → IsFound p r octets TokenKind.ShortString (take (n + 2 - 2) (drop 1 octets)) (n + 2) false
 short_found octets n some first kept more last =
     let tail = rest_is octets 1 in
-    short_stands octets n some first (subst (λ w. AreKept styles.ShortString (take n w)) tail kept) (subst (λ (w : List ℕ). n < length w) tail more)
+    short_stands octets n some first (subst (λ w. AreKept Style.ShortString (take n w)) tail kept) (subst (λ (w : List ℕ). n < length w) tail more)
     (subst (λ w. slice_index w n ≡ 34) tail last)
 
 -- characters that are kept as they are, behind the first quote, are a text
@@ -301,53 +280,53 @@ raw_begins : (w : List ℕ) → Each (is_raw false 39) w → BeginsOther w
 raw_begins [] h = tt
 raw_begins (o ∷ os) h = λ e. let never : is_raw false 39 39 ≡ true = subst (λ (x : ℕ). is_raw false 39 x ≡ true) e h.0 in cc
 
-quoted_stands : (octets : List ℕ) (n : ℕ) → 0 < length octets → slice_index octets 0 ≡ 39 → AreKept styles.QuotedSymbol (take n (drop 1 octets)) → 0 < n
+quoted_stands : (octets : List ℕ) (n : ℕ) → 0 < length octets → slice_index octets 0 ≡ 39 → AreKept Style.QuotedSymbol (take n (drop 1 octets)) → 0 < n
     → n < length (drop 1 octets) → slice_index (drop 1 octets) n ≡ 39
-    → (p : Place) (r : Rest) → IsFound p r octets kinds.QuotedSymbol (take (n + 2 - 2) (drop 1 octets)) (n + 2) false
+    → (p : Place) (r : Rest) → IsFound p r octets TokenKind.QuotedSymbol (take (n + 2 - 2) (drop 1 octets)) (n + 2) false
 quoted_stands [] n some first kept one more last p r = absurd (omega arith)
 quoted_stands (o ∷ os) n some first kept one more last p r =
-    subst (λ (x : ℕ). IsFound p r (x ∷ os) kinds.QuotedSymbol (take (n + 2 - 2) os) (n + 2) false) (sym first)
-    (same_size p r (39 ∷ os) os kinds.QuotedSymbol n
-    (opened_given p r (39 ∷ os) (suc n) kinds.QuotedSymbol (modes.Text styles.QuotedSymbol within.Plain) (take n os) keeps.Nothing
-    (opens_then p r.colon (39 ∷ []) (take n os) modes.Quote (modes.Text styles.QuotedSymbol within.Plain) [] (take n os) (opens_quote p r.colon)
-    (from_quote p (take n os) (take n os) within.Plain (λ none. let size = ap (λ (l : List ℕ). length l) none in let l = length-take n os in omega arith)
-    (raw_begins (take n os) kept.0) (text_moves p styles.QuotedSymbol (take n os) [] kept)))
-    (λ s u. refl) (omega arith) (ap (λ (x : ℕ). next p r.colon (modes.Text styles.QuotedSymbol within.Plain) x) last)))
+    subst (λ (x : ℕ). IsFound p r (x ∷ os) TokenKind.QuotedSymbol (take (n + 2 - 2) os) (n + 2) false) (sym first)
+    (same_size p r (39 ∷ os) os TokenKind.QuotedSymbol n
+    (opened_given p r (39 ∷ os) (suc n) TokenKind.QuotedSymbol (Mode.Text Style.QuotedSymbol Within.Plain) (take n os) Keep.Nothing
+    (opens_then p r.colon (39 ∷ []) (take n os) Mode.Quote (Mode.Text Style.QuotedSymbol Within.Plain) [] (take n os) (opens_quote p r.colon)
+    (from_quote p (take n os) (take n os) Within.Plain (λ none. let size = ap (λ (l : List ℕ). length l) none in let l = length-take n os in omega arith)
+    (raw_begins (take n os) kept.0) (text_moves p Style.QuotedSymbol (take n os) [] kept)))
+    (λ s u. refl) (omega arith) (ap (λ (x : ℕ). next p r.colon (Mode.Text Style.QuotedSymbol Within.Plain) x) last)))
 
 -- a quoted symbol that isn't empty stands whole where its characters are kept as they are
-pub quoted_found : (octets : List ℕ) (n : ℕ) → 0 < length octets → slice_index octets 0 ≡ 39 → AreKept styles.QuotedSymbol (take n (behind_first octets))
+pub quoted_found : (octets : List ℕ) (n : ℕ) → 0 < length octets → slice_index octets 0 ≡ 39 → AreKept Style.QuotedSymbol (take n (behind_first octets))
     → n ≢ 0 → n < length (behind_first octets) → slice_index (behind_first octets) n ≡ 39
-    → (p : Place) (r : Rest) → IsFound p r octets kinds.QuotedSymbol (take (n + 2 - 2) (drop 1 octets)) (n + 2) false
+    → (p : Place) (r : Rest) → IsFound p r octets TokenKind.QuotedSymbol (take (n + 2 - 2) (drop 1 octets)) (n + 2) false
 quoted_found octets n some first kept one more last =
     let tail = rest_is octets 1 in
-    quoted_stands octets n some first (subst (λ w. AreKept styles.QuotedSymbol (take n w)) tail kept) (omega arith)
+    quoted_stands octets n some first (subst (λ w. AreKept Style.QuotedSymbol (take n w)) tail kept) (omega arith)
     (subst (λ (w : List ℕ). n < length w) tail more) (subst (λ w. slice_index w n ≡ 39) tail last)
 
 -- three quotes, octets that lead from between two characters to between two, and three quotes stand whole as a segment of a long string
-pub long_closes : (w us kept : List ℕ) → LeadsOn styles.LongString w [] kept
-    → (p : Place) (r : Rest) → IsFound p r (39 ∷ 39 ∷ 39 ∷ (w ++ 39 ∷ 39 ∷ 39 ∷ us)) kinds.LongString kept (length w + 6) false
+pub long_closes : (w us kept : List ℕ) → LeadsOn Style.LongString w [] kept
+    → (p : Place) (r : Rest) → IsFound p r (39 ∷ 39 ∷ 39 ∷ (w ++ 39 ∷ 39 ∷ 39 ∷ us)) TokenKind.LongString kept (length w + 6) false
 long_closes w us kept leads p r =
     let octets : List ℕ = 39 ∷ 39 ∷ 39 ∷ (w ++ 39 ∷ 39 ∷ 39 ∷ us) in
     let n : ℕ = length w + 5 in
     let inside : List ℕ = (kept ++ 39 ∷ []) ++ 39 ∷ [] in
     let size : length octets ≡ length w + 6 + length us = omega (arith, length-append w (39 ∷ 39 ∷ 39 ∷ us)) in
-    let opens : Opens p r.colon (take n octets) (modes.Text styles.LongString within.TwoQuotes) inside =
-    subst (λ x. Opens p r.colon x (modes.Text styles.LongString within.TwoQuotes) inside) (sym (front w us))
-    (opens_then p r.colon (39 ∷ 39 ∷ 39 ∷ []) (w ++ 39 ∷ 39 ∷ []) (modes.Text styles.LongString within.Plain) (modes.Text styles.LongString within.TwoQuotes) []
+    let opens : Opens p r.colon (take n octets) (Mode.Text Style.LongString Within.TwoQuotes) inside =
+    subst (λ x. Opens p r.colon x (Mode.Text Style.LongString Within.TwoQuotes) inside) (sym (front w us))
+    (opens_then p r.colon (39 ∷ 39 ∷ 39 ∷ []) (w ++ 39 ∷ 39 ∷ []) (Mode.Text Style.LongString Within.Plain) (Mode.Text Style.LongString Within.TwoQuotes) []
     inside (opens_long p r.colon)
-    (moves_then p (modes.Text styles.LongString within.Plain) (modes.Text styles.LongString within.Plain) (modes.Text styles.LongString within.TwoQuotes) w
+    (moves_then p (Mode.Text Style.LongString Within.Plain) (Mode.Text Style.LongString Within.Plain) (Mode.Text Style.LongString Within.TwoQuotes) w
     (39 ∷ 39 ∷ []) [] kept inside (leads p)
-    (moves_then p (modes.Text styles.LongString within.Plain) (modes.Text styles.LongString within.OneQuote) (modes.Text styles.LongString within.TwoQuotes)
+    (moves_then p (Mode.Text Style.LongString Within.Plain) (Mode.Text Style.LongString Within.OneQuote) (Mode.Text Style.LongString Within.TwoQuotes)
     (39 ∷ []) (39 ∷ []) kept (kept ++ 39 ∷ []) inside
-    (moves_one p (modes.Text styles.LongString within.Plain) 39 kept (modes.Text styles.LongString within.OneQuote) (keeps.One 39) (λ a b. refl) (λ b. refl))
-    (moves_one p (modes.Text styles.LongString within.OneQuote) 39 (kept ++ 39 ∷ []) (modes.Text styles.LongString within.TwoQuotes) (keeps.One 39)
+    (moves_one p (Mode.Text Style.LongString Within.Plain) 39 kept (Mode.Text Style.LongString Within.OneQuote) (Keep.One 39) (λ a b. refl) (λ b. refl))
+    (moves_one p (Mode.Text Style.LongString Within.OneQuote) 39 (kept ++ 39 ∷ []) (Mode.Text Style.LongString Within.TwoQuotes) (Keep.One 39)
     (λ a b. refl) (λ b. refl))))) in
     let last : slice_index octets n ≡ 39 = third w us in
     let total : n + 1 ≡ length w + 6 = omega arith in
-    subst (λ (k : ℕ). IsFound p r octets kinds.LongString kept k false) total
-    (subst (λ k. IsFound p r octets kinds.LongString k (n + 1) false) (drops_two kept 39 39)
-    (opened_given p r octets n kinds.LongString (modes.Text styles.LongString within.TwoQuotes) inside keeps.DropQuotes opens (λ s u. refl) (omega arith)
-    (ap (λ (x : ℕ). next p r.colon (modes.Text styles.LongString within.TwoQuotes) x) last)))
+    subst (λ (k : ℕ). IsFound p r octets TokenKind.LongString kept k false) total
+    (subst (λ k. IsFound p r octets TokenKind.LongString k (n + 1) false) (drops_two kept 39 39)
+    (opened_given p r octets n TokenKind.LongString (Mode.Text Style.LongString Within.TwoQuotes) inside Keep.DropQuotes opens (λ s u. refl) (omega arith)
+    (ap (λ (x : ℕ). next p r.colon (Mode.Text Style.LongString Within.TwoQuotes) x) last)))
   where
     inner : (w us : List ℕ) (k : ℕ) → k ≡ length w + 2 → take k (w ++ 39 ∷ 39 ∷ 39 ∷ us) ≡ w ++ 39 ∷ 39 ∷ []
     inner [] us k e = let two : k ≡ 2 = omega arith in ap (λ k. take k (39 ∷ 39 ∷ 39 ∷ us)) two
@@ -370,14 +349,14 @@ long_closes w us kept leads p r =
         ap (slice_index (39 ∷ 39 ∷ 39 ∷ (w ++ 39 ∷ 39 ∷ 39 ∷ us))) e ∙ at_third w us (length w + 2) refl
 
 -- so do characters that are kept as they are
-long_stands : (w us : List ℕ) → AreKept styles.LongString w
-    → (p : Place) (r : Rest) → IsFound p r (39 ∷ 39 ∷ 39 ∷ (w ++ 39 ∷ 39 ∷ 39 ∷ us)) kinds.LongString w (length w + 6) false
-long_stands w us kept p r = long_closes w us w (λ p. text_moves p styles.LongString w [] kept) p r
+long_stands : (w us : List ℕ) → AreKept Style.LongString w
+    → (p : Place) (r : Rest) → IsFound p r (39 ∷ 39 ∷ 39 ∷ (w ++ 39 ∷ 39 ∷ 39 ∷ us)) TokenKind.LongString w (length w + 6) false
+long_stands w us kept p r = long_closes w us w (λ p. text_moves p Style.LongString w [] kept) p r
 
 -- a segment of a long string stands whole where its characters are kept as they are
 pub long_found : (octets content behind us : List ℕ) (n : ℕ) → octets ≡ 39 ∷ 39 ∷ 39 ∷ behind → content ≡ drop 3 octets
-    → AreKept styles.LongString (take n content) → n ≤ length content → drop n content ≡ 39 ∷ 39 ∷ 39 ∷ us
-    → (p : Place) (r : Rest) → IsFound p r octets kinds.LongString (take (n + 6 - 6) (drop 3 octets)) (n + 6) false
+    → AreKept Style.LongString (take n content) → n ≤ length content → drop n content ≡ 39 ∷ 39 ∷ 39 ∷ us
+    → (p : Place) (r : Rest) → IsFound p r octets TokenKind.LongString (take (n + 6 - 6) (drop 3 octets)) (n + 6) false
 long_found octets content behind us n opens is kept within shuts p r =
     let there : drop 3 octets ≡ behind = ap (drop 3) opens in
     let whole : behind ≡ take n behind ++ 39 ∷ 39 ∷ 39 ∷ us =
@@ -385,15 +364,15 @@ long_found octets content behind us n opens is kept within shuts p r =
     let k : length (take n behind) ≡ n =
     length-take-le n behind (subst (λ (x : List ℕ). n ≤ length x) (is ∙ there) within) in
     let m : n + 6 - 6 ≡ n = omega arith in
-    let found = long_stands (take n behind) us (subst (λ x. AreKept styles.LongString (take n x)) (is ∙ there) kept) p r in
+    let found = long_stands (take n behind) us (subst (λ x. AreKept Style.LongString (take n x)) (is ∙ there) kept) p r in
     let all : octets ≡ 39 ∷ 39 ∷ 39 ∷ (take n behind ++ 39 ∷ 39 ∷ 39 ∷ us) = opens ∙ ap (λ x. 39 ∷ 39 ∷ 39 ∷ x) whole in
-    subst (λ o. IsFound p r o kinds.LongString (take (n + 6 - 6) (drop 3 octets)) (n + 6) false) (sym all)
-    (subst (λ x. IsFound p r (39 ∷ 39 ∷ 39 ∷ (take n behind ++ 39 ∷ 39 ∷ 39 ∷ us)) kinds.LongString (take (n + 6 - 6) x) (n + 6) false) (sym there)
-    (subst (λ (j : ℕ). IsFound p r (39 ∷ 39 ∷ 39 ∷ (take n behind ++ 39 ∷ 39 ∷ 39 ∷ us)) kinds.LongString (take j behind) (n + 6) false) (sym m)
-    (subst (λ (j : ℕ). IsFound p r (39 ∷ 39 ∷ 39 ∷ (take n behind ++ 39 ∷ 39 ∷ 39 ∷ us)) kinds.LongString (take n behind) (j + 6) false) k found)))
+    subst (λ o. IsFound p r o TokenKind.LongString (take (n + 6 - 6) (drop 3 octets)) (n + 6) false) (sym all)
+    (subst (λ x. IsFound p r (39 ∷ 39 ∷ 39 ∷ (take n behind ++ 39 ∷ 39 ∷ 39 ∷ us)) TokenKind.LongString (take (n + 6 - 6) x) (n + 6) false) (sym there)
+    (subst (λ (j : ℕ). IsFound p r (39 ∷ 39 ∷ 39 ∷ (take n behind ++ 39 ∷ 39 ∷ 39 ∷ us)) TokenKind.LongString (take j behind) (n + 6) false) (sym m)
+    (subst (λ (j : ℕ). IsFound p r (39 ∷ 39 ∷ 39 ∷ (take n behind ++ 39 ∷ 39 ∷ 39 ∷ us)) TokenKind.LongString (take n behind) (j + 6) false) k found)))
 
 -- and says a text
-pub long_text : (octets content : List ℕ) (n : ℕ) → content ≡ drop 3 octets → AreKept styles.LongString (take n content)
+pub long_text : (octets content : List ℕ) (n : ℕ) → content ≡ drop 3 octets → AreKept Style.LongString (take n content)
     → IsUtf8 (take (n + 6 - 6) (drop 3 octets))
 long_text octets content n is kept =
     let m : n ≡ n + 6 - 6 = omega arith in
@@ -402,7 +381,7 @@ long_text octets content n is kept =
 -- Marks.
 
 mark_given : (p : Place) (r : Rest) (octets : List ℕ) (m : Mark) → 0 < length octets → in_blank p r.colon (slice_index octets 0)
-    ≡ actions.Give (kinds.Mark m) keeps.Nothing → IsFound p r octets (kinds.Mark m) [] 1 false
+    ≡ Action.Give (TokenKind.Mark m) Keep.Nothing → IsFound p r octets (TokenKind.Mark m) [] 1 false
 mark_given p r octets m some e = record {
   some = omega arith;
   shown = some;
@@ -414,33 +393,33 @@ mark_given p r octets m some e = record {
 
 -- a `,` stands whole
 pub comma_found : (p : Place) (r : Rest) (octets : List ℕ) → 0 < length octets → slice_index octets 0 ≡ 44
-    → IsFound p r octets (kinds.Mark marks.Comma) [] 1 false
-comma_found p r octets some e = mark_given p r octets marks.Comma some (ap (λ (x : ℕ). in_blank p r.colon x) e)
+    → IsFound p r octets (TokenKind.Mark Mark.Comma) [] 1 false
+comma_found p r octets some e = mark_given p r octets Mark.Comma some (ap (λ (x : ℕ). in_blank p r.colon x) e)
 
 -- a `}` stands whole
 pub fields_close_found : (p : Place) (r : Rest) (octets : List ℕ) → 0 < length octets → slice_index octets 0 ≡ 125
-    → IsFound p r octets (kinds.Mark marks.FieldsClose) [] 1 false
-fields_close_found p r octets some e = mark_given p r octets marks.FieldsClose some (ap (λ (x : ℕ). in_blank p r.colon x) e)
+    → IsFound p r octets (TokenKind.Mark Mark.FieldsClose) [] 1 false
+fields_close_found p r octets some e = mark_given p r octets Mark.FieldsClose some (ap (λ (x : ℕ). in_blank p r.colon x) e)
 
 -- a `[` stands whole, where no field's name stands
 pub list_open_found : (p : Place) (r : Rest) (octets : List ℕ) → is_name p ≡ false → 0 < length octets → slice_index octets 0 ≡ 91
-    → IsFound p r octets (kinds.Mark marks.ListOpen) [] 1 false
-list_open_found p r octets name some e = mark_given p r octets marks.ListOpen some (ap (λ (x : ℕ). in_blank p r.colon x) e ∙ rw name refl)
+    → IsFound p r octets (TokenKind.Mark Mark.ListOpen) [] 1 false
+list_open_found p r octets name some e = mark_given p r octets Mark.ListOpen some (ap (λ (x : ℕ). in_blank p r.colon x) e ∙ rw name refl)
 
 -- a `]` stands whole, where no field's name stands
 pub list_close_found : (p : Place) (r : Rest) (octets : List ℕ) → is_name p ≡ false → 0 < length octets → slice_index octets 0 ≡ 93
-    → IsFound p r octets (kinds.Mark marks.ListClose) [] 1 false
-list_close_found p r octets name some e = mark_given p r octets marks.ListClose some (ap (λ (x : ℕ). in_blank p r.colon x) e ∙ rw name refl)
+    → IsFound p r octets (TokenKind.Mark Mark.ListClose) [] 1 false
+list_close_found p r octets name some e = mark_given p r octets Mark.ListClose some (ap (λ (x : ℕ). in_blank p r.colon x) e ∙ rw name refl)
 
 -- a `(` stands whole, where no field's name stands
 pub sexp_open_found : (p : Place) (r : Rest) (octets : List ℕ) → is_name p ≡ false → 0 < length octets → slice_index octets 0 ≡ 40
-    → IsFound p r octets (kinds.Mark marks.SexpOpen) [] 1 false
-sexp_open_found p r octets name some e = mark_given p r octets marks.SexpOpen some (ap (λ (x : ℕ). in_blank p r.colon x) e ∙ rw name refl)
+    → IsFound p r octets (TokenKind.Mark Mark.SexpOpen) [] 1 false
+sexp_open_found p r octets name some e = mark_given p r octets Mark.SexpOpen some (ap (λ (x : ℕ). in_blank p r.colon x) e ∙ rw name refl)
 
 -- a `)` stands whole, where no field's name stands
 pub sexp_close_found : (p : Place) (r : Rest) (octets : List ℕ) → is_name p ≡ false → 0 < length octets → slice_index octets 0 ≡ 41
-    → IsFound p r octets (kinds.Mark marks.SexpClose) [] 1 false
-sexp_close_found p r octets name some e = mark_given p r octets marks.SexpClose some (ap (λ (x : ℕ). in_blank p r.colon x) e ∙ rw name refl)
+    → IsFound p r octets (TokenKind.Mark Mark.SexpClose) [] 1 false
+sexp_close_found p r octets name some e = mark_given p r octets Mark.SexpClose some (ap (λ (x : ℕ). in_blank p r.colon x) e ∙ rw name refl)
 
 first_of : (octets : List ℕ) (o : ℕ) → 0 < length octets → slice_index octets 0 ≡ o → take 1 octets ≡ o ∷ []
 first_of [] o some e = absurd (omega arith)
@@ -448,26 +427,26 @@ first_of (x ∷ os) o some e = ap (λ (y : ℕ). y ∷ []) e
 
 -- a `{` stands whole before an octet other than `{`, where no field's name stands
 pub fields_open_found : (p : Place) (r : Rest) (octets : List ℕ) → is_name p ≡ false → 1 < length octets → slice_index octets 0 ≡ 123
-    → slice_index octets 1 ≢ 123 → IsFound p r octets (kinds.Mark marks.FieldsOpen) [] 1 true
+    → slice_index octets 1 ≢ 123 → IsFound p r octets (TokenKind.Mark Mark.FieldsOpen) [] 1 true
 fields_open_found p r octets name some e n =
-    opened_left p r octets 1 (kinds.Mark marks.FieldsOpen) modes.Brace [] keeps.Nothing
-    (subst (λ w. Opens p r.colon w modes.Brace []) (sym (first_of octets 123 (omega arith) e)) (opens_brace p r.colon name)) (λ s u. refl) (omega arith)
+    opened_left p r octets 1 (TokenKind.Mark Mark.FieldsOpen) Mode.Brace [] Keep.Nothing
+    (subst (λ w. Opens p r.colon w Mode.Brace []) (sym (first_of octets 123 (omega arith) e)) (opens_brace p r.colon name)) (λ s u. refl) (omega arith)
     some
     (brace_ends (slice_index octets 1) (not_same (slice_index octets 1) 123 n) r.colon p)
 
 -- a single colon stands whole before an octet other than a colon, where one may stand
 pub colon_found : (p : Place) (r : Rest) (octets : List ℕ) → r.colon ≡ true → 1 < length octets → slice_index octets 0 ≡ 58 → slice_index octets 1 ≢ 58
-    → IsFound p r octets (kinds.Mark marks.Colon) [] 1 true
+    → IsFound p r octets (TokenKind.Mark Mark.Colon) [] 1 true
 colon_found p r octets stands some e n =
-    opened_left p r octets 1 (kinds.Mark marks.Colon) modes.Colon [] keeps.Nothing
-    (subst (λ w. Opens p r.colon w modes.Colon []) (sym (first_of octets 58 (omega arith) e)) (opens_colon p r.colon stands)) (λ s u. refl) (omega arith)
+    opened_left p r octets 1 (TokenKind.Mark Mark.Colon) Mode.Colon [] Keep.Nothing
+    (subst (λ w. Opens p r.colon w Mode.Colon []) (sym (first_of octets 58 (omega arith) e)) (opens_colon p r.colon stands)) (λ s u. refl) (omega arith)
     some
     (colon_ends (slice_index octets 1) (not_same (slice_index octets 1) 58 n) r.colon p)
 
 -- two colons stand whole, where one may stand
 pub colons_found : (p : Place) (r : Rest) (octets : List ℕ) → r.colon ≡ true → 1 < length octets → slice_index octets 0 ≡ 58 → slice_index octets 1 ≡ 58
-    → IsFound p r octets (kinds.Mark marks.Colons) [] 2 false
+    → IsFound p r octets (TokenKind.Mark Mark.Colons) [] 2 false
 colons_found p r octets stands some e f =
-    opened_given p r octets 1 (kinds.Mark marks.Colons) modes.Colon [] keeps.Nothing
-    (subst (λ w. Opens p r.colon w modes.Colon []) (sym (first_of octets 58 (omega arith) e)) (opens_colon p r.colon stands)) (λ s u. refl) some
-    (ap (λ (x : ℕ). next p r.colon modes.Colon x) f)
+    opened_given p r octets 1 (TokenKind.Mark Mark.Colons) Mode.Colon [] Keep.Nothing
+    (subst (λ w. Opens p r.colon w Mode.Colon []) (sym (first_of octets 58 (omega arith) e)) (opens_colon p r.colon stands)) (λ s u. refl) some
+    (ap (λ (x : ℕ). next p r.colon Mode.Colon x) f)

@@ -7,17 +7,11 @@ use Rattle.std.proofs.lemmas.Bool.Decides.{nat_tests}
 use Rattle.base64.specs.Engines.{standard}
 use Rattle.base64.specs.GeneralPurpose.{decode_of, decoded_of}
 use Rattle.base64.proofs.EngineFacts.{decode_of_strict}
-use Rattle.ion_tokens.specs.Octets.{is_white, is_base64}
-use Rattle.ion_tokens.specs.declared.mode.Place.{Place}
-use Rattle.ion_tokens.specs.declared.mode.Mode.{Mode}
-use Rattle.ion_tokens.specs.declared.mode.Mode.TheVariants as modes
-use Rattle.ion_tokens.specs.Blobs.{blob_of, AreOctets, base64_of}
-use Rattle.ion_tokens.specs.laws.Blobs.{octet_at, blob_octets}
-use Rattle.ion_tokens.specs.machine.Scanning.{Known, Outcome, Next, Given, Left, Refused, run}
-use Rattle.ion_tokens.specs.Blanks.{BlankPiece, HasNoClose, IsBlankPiece, blank_spelling, IsBlank, IsOpenComment}
-use Rattle.ion_tokens.specs.Lexemes.{Each, ends, IsWord, IsBlobContent, Lexeme, takes_colon}
+use Rattle.ion_tokens.specs.Names.{AreOctets, BlankPiece, Each, Given, HasNoClose, IsBlank, IsBlankPiece, IsBlobContent, IsOpenComment, IsWord, Known, Left, Lexeme, Mode, Next, Outcome, Place, Refused, base64_of, blank_spelling, blob_of, is_base64, is_white, run, takes_colon}
+use Rattle.ion_tokens.specs.Lexemes.{ends}
+use Rattle.ion_tokens.specs.laws.Blobs.{blob_octets, octet_at}
 use Rattle.ion_tokens.proofs.complete.Moves.{at}
-use Rattle.ion_tokens.proofs.sound.Opens.{IsOpen, IsUnjudgedToken, solid, AnyBlob}
+use Rattle.ion_tokens.proofs.sound.Opens.{AnyBlob, IsOpen, IsUnjudgedToken, solid}
 
 -- behind a blank, an open block comment, which ends in a star or not
 pub record IsOpenBlock (since : List ℕ) (star : Bool) : Type 0 where
@@ -39,11 +33,11 @@ pub record IsBegun (p : Place) (colon : Bool) (k : ℕ) (m : Mode) (kept : List 
 
 -- The octets behind the last token, which ended at k, leave the scanner in this mode.
 abbrev pub InMode : Place → Bool → ℕ → Mode → List ℕ → ℕ → List ℕ → Type 0
-InMode p colon k modes.Blank kept start since = (kept ≡ []) × IsBlank since
-InMode p colon k modes.Slash kept start since = (kept ≡ []) × (front : List ℕ) × IsBlank front × (since ≡ front ++ 47 ∷ [])
-InMode p colon k modes.LineComment kept start since = (kept ≡ []) × IsOpenComment since
-InMode p colon k modes.BlockComment kept start since = (kept ≡ []) × IsOpenBlock since false
-InMode p colon k modes.BlockCommentStar kept start since = (kept ≡ []) × IsOpenBlock since true
+InMode p colon k Mode.Blank kept start since = (kept ≡ []) × IsBlank since
+InMode p colon k Mode.Slash kept start since = (kept ≡ []) × (front : List ℕ) × IsBlank front × (since ≡ front ++ 47 ∷ [])
+InMode p colon k Mode.LineComment kept start since = (kept ≡ []) × IsOpenComment since
+InMode p colon k Mode.BlockComment kept start since = (kept ≡ []) × IsOpenBlock since false
+InMode p colon k Mode.BlockCommentStar kept start since = (kept ≡ []) × IsOpenBlock since true
 InMode p colon k m kept start since = IsBegun p colon k m kept start since
 
 -- what the scanner knows is what the octets leave it behind the last token, which ended at k
@@ -63,7 +57,7 @@ pub record IsTold (p : Place) (colon : Bool) (k : ℕ) (octets ahead after : Lis
   pub found : (r : List ℕ) → IsUnjudgedToken p colon token (ahead ++ (after ++ r)) l.kind l.octets
   pub rest : (q : Place) → Holds q (takes_colon p l.kind) l.end s ahead
   -- from a blank behind the token, the octets ahead lead to what the scanner knows
-  pub again : (q : Place) → run q ahead (at modes.Blank [] (takes_colon p l.kind) l.end l.end) ≡ Next s
+  pub again : (q : Place) → run q ahead (at Mode.Blank [] (takes_colon p l.kind) l.end l.end) ≡ Next s
 
 -- what comes of one octet more is so
 abbrev pub Sound : Place → Bool → ℕ → List ℕ → ℕ → Outcome → Type 0
@@ -129,27 +123,27 @@ blob_sound inside octets h e = (
 -- a token goes on
 pub in_mode : (p : Place) (colon : Bool) (k : ℕ) (m : Mode) (kept : List ℕ) (start : ℕ) (front token : List ℕ) → IsBlank front → start ≡ k + length front
     → IsOpen p colon m token kept → InMode p colon k m kept start (front ++ token)
-in_mode p colon k modes.Blank kept start front token b e h = absurd h
-in_mode p colon k modes.Slash kept start front token b e h = absurd h
-in_mode p colon k modes.LineComment kept start front token b e h = absurd h
-in_mode p colon k modes.BlockComment kept start front token b e h = absurd h
-in_mode p colon k modes.BlockCommentStar kept start front token b e h = absurd h
-in_mode p colon k modes.Colon kept start front token b e h = record { front = front; token = token; blank = b; cut = refl; begins = e; is = h }
-in_mode p colon k modes.Word kept start front token b e h = record { front = front; token = token; blank = b; cut = refl; begins = e; is = h }
-in_mode p colon k modes.KindName kept start front token b e h = record { front = front; token = token; blank = b; cut = refl; begins = e; is = h }
-in_mode p colon k modes.Number kept start front token b e h = record { front = front; token = token; blank = b; cut = refl; begins = e; is = h }
-in_mode p colon k modes.NumberSlash kept start front token b e h = record { front = front; token = token; blank = b; cut = refl; begins = e; is = h }
-in_mode p colon k (modes.Operator x) kept start front token b e h = record { front = front; token = token; blank = b; cut = refl; begins = e; is = h }
-in_mode p colon k modes.OperatorSlash kept start front token b e h = record { front = front; token = token; blank = b; cut = refl; begins = e; is = h }
-in_mode p colon k (modes.Infinity x) kept start front token b e h = record { front = front; token = token; blank = b; cut = refl; begins = e; is = h }
-in_mode p colon k modes.Quote kept start front token b e h = record { front = front; token = token; blank = b; cut = refl; begins = e; is = h }
-in_mode p colon k modes.Quotes kept start front token b e h = record { front = front; token = token; blank = b; cut = refl; begins = e; is = h }
-in_mode p colon k (modes.Text s v) kept start front token b e h = record { front = front; token = token; blank = b; cut = refl; begins = e; is = h }
-in_mode p colon k modes.Brace kept start front token b e h = record { front = front; token = token; blank = b; cut = refl; begins = e; is = h }
-in_mode p colon k (modes.Lob l) kept start front token b e h = record { front = front; token = token; blank = b; cut = refl; begins = e; is = h }
+in_mode p colon k Mode.Blank kept start front token b e h = absurd h
+in_mode p colon k Mode.Slash kept start front token b e h = absurd h
+in_mode p colon k Mode.LineComment kept start front token b e h = absurd h
+in_mode p colon k Mode.BlockComment kept start front token b e h = absurd h
+in_mode p colon k Mode.BlockCommentStar kept start front token b e h = absurd h
+in_mode p colon k Mode.Colon kept start front token b e h = record { front = front; token = token; blank = b; cut = refl; begins = e; is = h }
+in_mode p colon k Mode.Word kept start front token b e h = record { front = front; token = token; blank = b; cut = refl; begins = e; is = h }
+in_mode p colon k Mode.KindName kept start front token b e h = record { front = front; token = token; blank = b; cut = refl; begins = e; is = h }
+in_mode p colon k Mode.Number kept start front token b e h = record { front = front; token = token; blank = b; cut = refl; begins = e; is = h }
+in_mode p colon k Mode.NumberSlash kept start front token b e h = record { front = front; token = token; blank = b; cut = refl; begins = e; is = h }
+in_mode p colon k (Mode.Operator x) kept start front token b e h = record { front = front; token = token; blank = b; cut = refl; begins = e; is = h }
+in_mode p colon k Mode.OperatorSlash kept start front token b e h = record { front = front; token = token; blank = b; cut = refl; begins = e; is = h }
+in_mode p colon k (Mode.Infinity x) kept start front token b e h = record { front = front; token = token; blank = b; cut = refl; begins = e; is = h }
+in_mode p colon k Mode.Quote kept start front token b e h = record { front = front; token = token; blank = b; cut = refl; begins = e; is = h }
+in_mode p colon k Mode.Quotes kept start front token b e h = record { front = front; token = token; blank = b; cut = refl; begins = e; is = h }
+in_mode p colon k (Mode.Text s v) kept start front token b e h = record { front = front; token = token; blank = b; cut = refl; begins = e; is = h }
+in_mode p colon k Mode.Brace kept start front token b e h = record { front = front; token = token; blank = b; cut = refl; begins = e; is = h }
+in_mode p colon k (Mode.Lob l) kept start front token b e h = record { front = front; token = token; blank = b; cut = refl; begins = e; is = h }
 
 -- behind a token
-pub blank_behind : (q : Place) (colon : Bool) (end : ℕ) → Holds q colon end (at modes.Blank [] colon end end) []
+pub blank_behind : (q : Place) (colon : Bool) (end : ℕ) → Holds q colon end (at Mode.Blank [] colon end end) []
 blank_behind q colon end = record { flag = refl; used = omega arith; mode = (refl, blank_none) }
 
 -- a number from one to three is one of these
@@ -165,18 +159,18 @@ inf_word n a b = ⊎_elim (λ e. subst P (sym e) ((refl, (refl, tt)), refl))
       P n = IsWord (take n (codes "inf")) × (length (take n (codes "inf")) ≡ n)
 
 -- letters of `inf` behind a token lead into a word
-pub inf_again : (q : Place) (colon : Bool) (end n used : ℕ) → 1 ≤ n → n ≤ 3 → used ≡ end + n → run q (take n (codes "inf")) (at modes.Blank [] colon end end)
-    ≡ Next (at modes.Word (take n (codes "inf")) colon end used)
+pub inf_again : (q : Place) (colon : Bool) (end n used : ℕ) → 1 ≤ n → n ≤ 3 → used ≡ end + n → run q (take n (codes "inf")) (at Mode.Blank [] colon end end)
+    ≡ Next (at Mode.Word (take n (codes "inf")) colon end used)
 inf_again q colon end n used a b e = ⊎_elim (λ f. subst P (sym f) first) (λ m. ⊎_elim (λ f. subst P (sym f) second) (λ f. subst P (sym f) third) m)
-    (one_to_three n a b) ∙ ap (λ (u : ℕ). Next (at modes.Word (take n (codes "inf")) colon end u)) (sym e) where
+    (one_to_three n a b) ∙ ap (λ (u : ℕ). Next (at Mode.Word (take n (codes "inf")) colon end u)) (sym e) where
       P : ℕ → Type 0
-      P n = run q (take n (codes "inf")) (at modes.Blank [] colon end end) ≡ Next (at modes.Word (take n (codes "inf")) colon end (end + n))
+      P n = run q (take n (codes "inf")) (at Mode.Blank [] colon end end) ≡ Next (at Mode.Word (take n (codes "inf")) colon end (end + n))
 
       first : P 1
       first = refl
 
       second : P 2
-      second = let i : end + 1 + 1 ≡ end + 2 = omega arith in ap (λ (u : ℕ). Next (at modes.Word (take 2 (codes "inf")) colon end u)) i
+      second = let i : end + 1 + 1 ≡ end + 2 = omega arith in ap (λ (u : ℕ). Next (at Mode.Word (take 2 (codes "inf")) colon end u)) i
 
       third : P 3
-      third = let i : end + 1 + 1 + 1 ≡ end + 3 = omega arith in ap (λ (u : ℕ). Next (at modes.Word (take 3 (codes "inf")) colon end u)) i
+      third = let i : end + 1 + 1 + 1 ≡ end + 3 = omega arith in ap (λ (u : ℕ). Next (at Mode.Word (take 3 (codes "inf")) colon end u)) i

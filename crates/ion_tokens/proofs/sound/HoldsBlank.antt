@@ -3,17 +3,10 @@ use Rattle.std.proofs.Common.{◌≡◌, ℕ, ◌+◌, ◌-◌, Bool, true, fals
 use Rattle.std.specs.Prelude.{◌==◌, ◌&&◌, codes}
 use Rattle.std.proofs.lemmas.Bool.{false≢true}
 use Rattle.std.proofs.lemmas.Bool.Decides.{nat_tests}
-use Rattle.ion_tokens.specs.Octets.{is_line_end}
-use Rattle.ion_tokens.specs.declared.mode.Place.{Place}
-use Rattle.ion_tokens.specs.declared.mode.Action.{Action}
-use Rattle.ion_tokens.specs.declared.mode.Mode.TheVariants as modes
-use Rattle.ion_tokens.specs.declared.mode.Action.TheVariants as actions
-use Rattle.ion_tokens.specs.machine.Table.{go}
-use Rattle.ion_tokens.specs.machine.Scanning.{Next, acts, feed, kept_after}
-use Rattle.ion_tokens.specs.Blanks.{White, LineComment, BlockComment, HasNoClose, HasNoLineEnd, IsBlank, IsOpenComment}
-use Rattle.ion_tokens.specs.Lexemes.{ends, takes_colon}
+use Rattle.ion_tokens.specs.Names.{Action, BlockComment, HasNoClose, HasNoLineEnd, IsBlank, IsOpenComment, LineComment, Mode, Next, Place, White, acts, feed, go, is_line_end, kept_after, takes_colon}
+use Rattle.ion_tokens.specs.Lexemes.{ends}
 use Rattle.ion_tokens.proofs.complete.Moves.{at}
-use Rattle.ion_tokens.proofs.sound.Holds.{InMode, Sound, IsOpenBlock, in_mode, blank_behind, blank_none, blank_more}
+use Rattle.ion_tokens.proofs.sound.Holds.{InMode, IsOpenBlock, Sound, blank_behind, blank_more, blank_none, in_mode}
 use Rattle.ion_tokens.proofs.sound.TurnsBlanks.{First, Second}
 
 eq_of : (a b : ℕ) → (a == b) ≡ true → a ≡ b
@@ -50,11 +43,11 @@ module _ (p : Place) (colon : Bool) (k : ℕ) (start used : ℕ) (since : List �
   used_more = omega (arith, uses, length-append since (o ∷ []))
 
   -- what an action makes of an octet behind a blank is so, if the action fits the octet
-  pub blank_turned : (a : Action) → IsBlank since → First p colon o a → Sound p colon k since o (acts p (at modes.Blank [] colon start used) o a)
-  blank_turned (actions.Go modes.Blank k') b (w, e) = record { flag = refl; used = used_more; mode = (e, blank_more since (White o) b w) }
-  blank_turned (actions.Go modes.Slash k') b (i, e) = record { flag = refl; used = used_more; mode = (e, since, b, ap (λ (x : ℕ). since ++ x ∷ []) i) }
-  blank_turned (actions.Go m k') b h = record { flag = refl; used = used_more; mode = in_mode p colon k m (kept_after k' []) used since (o ∷ []) b uses h }
-  blank_turned (actions.Give kind k') b h = record {
+  pub blank_turned : (a : Action) → IsBlank since → First p colon o a → Sound p colon k since o (acts p (at Mode.Blank [] colon start used) o a)
+  blank_turned (Action.Go Mode.Blank k') b (w, e) = record { flag = refl; used = used_more; mode = (e, blank_more since (White o) b w) }
+  blank_turned (Action.Go Mode.Slash k') b (i, e) = record { flag = refl; used = used_more; mode = (e, since, b, ap (λ (x : ℕ). since ++ x ∷ []) i) }
+  blank_turned (Action.Go m k') b h = record { flag = refl; used = used_more; mode = in_mode p colon k m (kept_after k' []) used since (o ∷ []) b uses h }
+  blank_turned (Action.Give kind k') b h = record {
     front = since;
     token = o ∷ [];
     blank = b;
@@ -66,13 +59,13 @@ module _ (p : Place) (colon : Bool) (k : ℕ) (start used : ℕ) (since : List �
     rest = λ q. blank_behind q (takes_colon p kind) (used + 1);
     again = λ q. refl;
   }
-  blank_turned (actions.Refuse e) b h = tt
+  blank_turned (Action.Refuse e) b h = tt
   blank_turned a b h = absurd h
 
   -- what an action makes of an octet behind a blank and a `/` is so, if the action fits both
   pub slash_turned : (a : Action) (front : List ℕ) → IsBlank front → since ≡ front ++ 47 ∷ [] → Second p colon o a
-      → Sound p colon k since o (acts p (at modes.Slash [] colon start used) o a)
-  slash_turned (actions.Go modes.LineComment k') front b e (i, n) = record {
+      → Sound p colon k since o (acts p (at Mode.Slash [] colon start used) o a)
+  slash_turned (Action.Go Mode.LineComment k') front b e (i, n) = record {
     flag = refl;
     used = used_more;
     mode = (
@@ -87,7 +80,7 @@ module _ (p : Place) (colon : Bool) (k : ℕ) (start used : ℕ) (since : List �
       },
     );
   }
-  slash_turned (actions.Go modes.BlockComment k') front b e (i, n) = record {
+  slash_turned (Action.Go Mode.BlockComment k') front b e (i, n) = record {
     flag = refl;
     used = used_more;
     mode = (
@@ -103,7 +96,7 @@ module _ (p : Place) (colon : Bool) (k : ℕ) (start used : ℕ) (since : List �
       },
     );
   }
-  slash_turned (actions.Go m k') front b e h =
+  slash_turned (Action.Go m k') front b e h =
       let size : used - 1 ≡ k + length front = omega (arith, uses, ap length e, length-append front (47 ∷ [])) in
       record {
         flag = refl;
@@ -112,7 +105,7 @@ module _ (p : Place) (colon : Bool) (k : ℕ) (start used : ℕ) (since : List �
             (sym (ap (λ l. l ++ o ∷ []) e ∙ append_assoc front (47 ∷ []) (o ∷ [])))
             (in_mode p colon k m (kept_after k' []) (used - 1) front (47 ∷ o ∷ []) b size h);
       }
-  slash_turned (actions.Before kind k' modes.Blank) front b e h =
+  slash_turned (Action.Before kind k' Mode.Blank) front b e h =
       let size : used - 1 ≡ k + length front = omega (arith, uses, ap length e, length-append front (47 ∷ [])) in
       let whole : used - 0 ≡ (k + length front) + 1 = omega (arith, uses, ap length e, length-append front (47 ∷ [])) in (
         [],
@@ -125,20 +118,20 @@ module _ (p : Place) (colon : Bool) (k : ℕ) (start used : ℕ) (since : List �
           end = whole;
           found = h;
           rest = λ q. record { flag = refl; used = omega arith; mode = (refl, blank_none) };
-          again = λ q. let same : used - 0 ≡ used = omega arith in ap (λ (n : ℕ). Next (at modes.Blank [] (takes_colon p kind) (used - 0) n)) same;
+          again = λ q. let same : used - 0 ≡ used = omega arith in ap (λ (n : ℕ). Next (at Mode.Blank [] (takes_colon p kind) (used - 0) n)) same;
         },
       )
-  slash_turned (actions.Refuse r) front b e h = tt
+  slash_turned (Action.Refuse r) front b e h = tt
   slash_turned a front b e h = absurd h
 
   -- what comes of an octet in a line comment is so
-  pub line_turned : IsOpenComment since → Sound p colon k since o (feed p (at modes.LineComment [] colon start used) o)
+  pub line_turned : IsOpenComment since → Sound p colon k since o (feed p (at Mode.LineComment [] colon start used) o)
   line_turned c = by (is_line_end o) refl where
     over : (c.front ++ codes "//" ++ c.octets) ++ o ∷ [] ≡ c.front ++ (codes "//" ++ c.octets ++ o ∷ [])
     over = ap (λ l. l ++ o ∷ []) (append_assoc c.front (codes "//") c.octets) ∙ append_assoc c.front (codes "//" ++ c.octets) (o ∷ [])
 
     by : (b : Bool) → is_line_end o ≡ b → Sound p colon k since o
-        (acts p (at modes.LineComment [] colon start used) o (go (cond b modes.Blank modes.LineComment)))
+        (acts p (at Mode.LineComment [] colon start used) o (go (cond b Mode.Blank Mode.LineComment)))
     by true e = record {
       flag = refl;
       used = used_more;
@@ -172,15 +165,15 @@ module _ (p : Place) (colon : Bool) (k : ℕ) (start used : ℕ) (since : List �
   }
 
   -- what comes of an octet in a block comment, behind no `*`, is so
-  pub block_turned : IsOpenBlock since false → Sound p colon k since o (feed p (at modes.BlockComment [] colon start used) o)
+  pub block_turned : IsOpenBlock since false → Sound p colon k since o (feed p (at Mode.BlockComment [] colon start used) o)
   block_turned c = by (o == 42) refl where
     by : (b : Bool) → (o == 42) ≡ b → Sound p colon k since o
-        (acts p (at modes.BlockComment [] colon start used) o (go (cond b modes.BlockCommentStar modes.BlockComment)))
+        (acts p (at Mode.BlockComment [] colon start used) o (go (cond b Mode.BlockCommentStar Mode.BlockComment)))
     by true e = record { flag = refl; used = used_more; mode = (refl, block_more false true c refl e) }
     by false e = record { flag = refl; used = used_more; mode = (refl, block_more false false c refl e) }
 
   -- what comes of an octet in a block comment, behind a `*`, is so
-  pub star_turned : IsOpenBlock since true → Sound p colon k since o (feed p (at modes.BlockCommentStar [] colon start used) o)
+  pub star_turned : IsOpenBlock since true → Sound p colon k since o (feed p (at Mode.BlockCommentStar [] colon start used) o)
   star_turned c = by (o == 47) refl where
     closed : o ≡ 47 → IsBlank (since ++ o ∷ [])
     closed i =
@@ -194,12 +187,12 @@ module _ (p : Place) (colon : Bool) (k : ℕ) (start used : ℕ) (since : List �
             ∙ append_assoc c.front (codes "/*") (os ++ codes "*/")
 
     star : (b : Bool) → (o == 42) ≡ b → (o == 47) ≡ false → Sound p colon k since o
-        (acts p (at modes.BlockCommentStar [] colon start used) o (cond b (go modes.BlockCommentStar) (go modes.BlockComment)))
+        (acts p (at Mode.BlockCommentStar [] colon start used) o (cond b (go Mode.BlockCommentStar) (go Mode.BlockComment)))
     star true e n = record { flag = refl; used = used_more; mode = (refl, block_more true true c n e) }
     star false e n = record { flag = refl; used = used_more; mode = (refl, block_more true false c n e) }
 
     by : (b : Bool) → (o == 47) ≡ b → Sound p colon k since o
-        (acts p (at modes.BlockCommentStar [] colon start used) o
-        (cond b (go modes.Blank) (cond (o == 42) (go modes.BlockCommentStar) (go modes.BlockComment))))
+        (acts p (at Mode.BlockCommentStar [] colon start used) o
+        (cond b (go Mode.Blank) (cond (o == 42) (go Mode.BlockCommentStar) (go Mode.BlockComment))))
     by true e = record { flag = refl; used = used_more; mode = (refl, closed (eq_of o 47 e)) }
     by false e = star (o == 42) refl e

@@ -5,22 +5,10 @@ use Rattle.std.specs.Str.{bytes_eq}
 use Rattle.std.proofs.lemmas.Bool.{true≢false}
 use Rattle.std.proofs.lemmas.Bool.Decides.{nat_tests}
 use Rattle.std.proofs.lemmas.Slice.Eq.{bytes_eq-Decides}
-use Rattle.ion_tokens.specs.Octets.{is_word_octet}
-use Rattle.ion_tokens.specs.declared.mode.Place.{Place}
-use Rattle.ion_tokens.specs.declared.mode.Mode.{Mode}
-use Rattle.ion_tokens.specs.declared.mode.TokenKind.{TokenKind}
-use Rattle.ion_tokens.specs.declared.mode.Action.{Action}
-use Rattle.ion_tokens.specs.declared.mode.Mode.TheVariants as modes
-use Rattle.ion_tokens.specs.declared.mode.Lob.TheVariants as lobs
-use Rattle.ion_tokens.specs.declared.mode.TokenKind.TheVariants as kinds
-use Rattle.ion_tokens.specs.declared.mode.Action.TheVariants as actions
-use Rattle.ion_tokens.specs.Blobs.{blob_of}
-use Rattle.ion_tokens.specs.machine.Scanning.{Known, Next, Given, Left, acts, kept_after, past, cut, go_to, blob_ends, start_of}
-use Rattle.ion_tokens.specs.Blanks.{IsBlank}
-use Rattle.ion_tokens.specs.Lexemes.{IsWord, takes_colon}
-use Rattle.ion_tokens.proofs.complete.Moves.{at, Stays}
-use Rattle.ion_tokens.proofs.sound.Opens.{IsOpen, Turns, IsUnjudgedToken}
-use Rattle.ion_tokens.proofs.sound.Holds.{InMode, Holds, Sound, in_mode, blank_behind, inf_word, blob_sound, blank_none, inf_again}
+use Rattle.ion_tokens.specs.Names.{Action, Given, IsBlank, IsWord, Known, Left, Lob, Mode, Next, Place, TokenKind, acts, blob_ends, blob_of, cut, go_to, is_word_octet, kept_after, past, start_of, takes_colon}
+use Rattle.ion_tokens.proofs.complete.Moves.{Stays, at}
+use Rattle.ion_tokens.proofs.sound.Holds.{Holds, InMode, Sound, blank_behind, blank_none, blob_sound, in_mode, inf_again, inf_word}
+use Rattle.ion_tokens.proofs.sound.Opens.{IsOpen, IsUnjudgedToken, Turns}
 
 -- an open token behind a blank, where the scanner stands
 module _ (p : Place) (colon : Bool) (k : ℕ) (m : Mode) (kept : List ℕ) (start used : ℕ) (front w : List ℕ) (o : ℕ)
@@ -50,7 +38,7 @@ module _ (p : Place) (colon : Bool) (k : ℕ) (m : Mode) (kept : List ℕ) (star
   }
 
   gives : (kind : TokenKind) (kept' : List ℕ) → ((r : List ℕ) → IsUnjudgedToken p colon (w ++ o ∷ []) r kind kept')
-      → Sound p colon k (front ++ w) o (Given (cut (at m kept colon start used) kind kept' (used + 1)) (past p kind modes.Blank [] (used + 1) (used + 1)))
+      → Sound p colon k (front ++ w) o (Given (cut (at m kept colon start used) kind kept' (used + 1)) (past p kind Mode.Blank [] (used + 1) (used + 1)))
   gives kind kept' h = record {
     front = front;
     token = w ++ o ∷ [];
@@ -64,7 +52,7 @@ module _ (p : Place) (colon : Bool) (k : ℕ) (m : Mode) (kept : List ℕ) (star
   }
 
   leaves_blank : (kind : TokenKind) (kept' : List ℕ) (end : ℕ) → end ≡ used → ((r : List ℕ) → IsUnjudgedToken p colon w (o ∷ r) kind kept')
-      → Sound p colon k (front ++ w) o (Left (cut (at m kept colon start used) kind kept' end) (past p kind modes.Blank [] end used))
+      → Sound p colon k (front ++ w) o (Left (cut (at m kept colon start used) kind kept' end) (past p kind Mode.Blank [] end used))
   leaves_blank kind kept' end e h = (
     [],
     record {
@@ -76,12 +64,12 @@ module _ (p : Place) (colon : Bool) (k : ℕ) (m : Mode) (kept : List ℕ) (star
       end = e ∙ end_is;
       found = h;
       rest = λ q. record { flag = refl; used = omega (arith, e); mode = (refl, blank_none) };
-      again = λ q. ap (λ (n : ℕ). Next (at modes.Blank [] (takes_colon p kind) end n)) e;
+      again = λ q. ap (λ (n : ℕ). Next (at Mode.Blank [] (takes_colon p kind) end n)) e;
     },
   )
 
   leaves_slash : (kind : TokenKind) (kept' token : List ℕ) → w ≡ token ++ 47 ∷ [] → ((r : List ℕ) → IsUnjudgedToken p colon token (47 ∷ o ∷ r) kind kept')
-      → Sound p colon k (front ++ w) o (Left (cut (at m kept colon start used) kind kept' (used - 1)) (past p kind modes.Slash [] (used - 1) used))
+      → Sound p colon k (front ++ w) o (Left (cut (at m kept colon start used) kind kept' (used - 1)) (past p kind Mode.Slash [] (used - 1) used))
   leaves_slash kind kept' token e h =
       let longer : length w ≡ length token + 1 = ap length e ∙ length-append token (47 ∷ []) in
       let size : used - 1 ≡ (k + length front) + length token = omega (arith, end_is, longer) in
@@ -96,14 +84,14 @@ module _ (p : Place) (colon : Bool) (k : ℕ) (m : Mode) (kept : List ℕ) (star
           end = size;
           found = h;
           rest = λ q. record { flag = refl; used = back; mode = (refl, [], blank_none, refl) };
-          again = λ q. ap (λ (n : ℕ). Next (at modes.Slash [] (takes_colon p kind) (used - 1) n)) (sym back);
+          again = λ q. ap (λ (n : ℕ). Next (at Mode.Slash [] (takes_colon p kind) (used - 1) n)) (sym back);
         },
       )
 
   splits : (n : ℕ) (kept' token : List ℕ) → 1 ≤ n → n ≤ 3 → w ≡ token ++ take n (codes "inf")
-      → ((r : List ℕ) → IsUnjudgedToken p colon token (take n (codes "inf") ++ o ∷ r) kinds.Operator kept')
-      → Sound p colon k (front ++ w) o (Left (cut (at m kept colon start used) kinds.Operator kept' (used - n))
-      (past p kinds.Operator modes.Word (take n (codes "inf")) (used - n) used))
+      → ((r : List ℕ) → IsUnjudgedToken p colon token (take n (codes "inf") ++ o ∷ r) TokenKind.Operator kept')
+      → Sound p colon k (front ++ w) o (Left (cut (at m kept colon start used) TokenKind.Operator kept' (used - n))
+      (past p TokenKind.Operator Mode.Word (take n (codes "inf")) (used - n) used))
   splits n kept' token low high e h =
       let word : IsWord (take n (codes "inf")) × (length (take n (codes "inf")) ≡ n) = inf_word n low high in
       let longer : length w ≡ length token + n = ap length e ∙ length-append token (take n (codes "inf")) ∙ ap (λ (i : ℕ). length token + i) word.1 in
@@ -124,12 +112,12 @@ module _ (p : Place) (colon : Bool) (k : ℕ) (m : Mode) (kept : List ℕ) (star
             mode =
                 record { front = []; token = take n (codes "inf"); blank = blank_none; cut = refl; begins = omega arith; is = (refl, word.0) };
           };
-          again = λ q. inf_again q (takes_colon p kinds.Operator) (used - n) n used low high (omega (arith, back, word.1));
+          again = λ q. inf_again q (takes_colon p TokenKind.Operator) (used - n) n used low high (omega (arith, back, word.1));
         },
       )
 
   -- a word ends, unless it is `null` before a dot
-  ends_word : kept ≡ w → IsWord w → is_word_octet o ≡ false → Sound p colon k (front ++ w) o (acts p (at m kept colon start used) o actions.EndWord)
+  ends_word : kept ≡ w → IsWord w → is_word_octet o ≡ false → Sound p colon k (front ++ w) o (acts p (at m kept colon start used) o Action.EndWord)
   ends_word e h n = by (o == 46) (bytes_eq kept (codes "null")) refl refl where
     null_is : bytes_eq kept (codes "null") ≡ true → w ≡ codes "null"
     null_is f = sym e ∙ (bytes_eq-Decides kept (codes "null")).0 f
@@ -140,13 +128,13 @@ module _ (p : Place) (colon : Bool) (k : ℕ) (m : Mode) (kept : List ℕ) (star
     whole true false f g h i = absurd (true≢false (sym ((bytes_eq-Decides kept (codes "null")).1 (e ∙ i)) ∙ g))
 
     word : (b c : Bool) → (o == 46) ≡ b → bytes_eq kept (codes "null") ≡ c → (b && c) ≡ false
-        → Sound p colon k (front ++ w) o (Left (cut (at m kept colon start used) kinds.Word kept used) (past p kinds.Word modes.Blank [] used used))
-    word b c f g i = leaves_blank kinds.Word kept used refl (λ r j. (e, h, n, λ null. whole b c f g i null))
+        → Sound p colon k (front ++ w) o (Left (cut (at m kept colon start used) TokenKind.Word kept used) (past p TokenKind.Word Mode.Blank [] used used))
+    word b c f g i = leaves_blank TokenKind.Word kept used refl (λ r j. (e, h, n, λ null. whole b c f g i null))
 
     by : (b c : Bool) → (o == 46) ≡ b → bytes_eq kept (codes "null") ≡ c
-        → Sound p colon k (front ++ w) o (cond (b && c) (Next (go_to (at m kept colon start used) modes.KindName []))
-        (Left (cut (at m kept colon start used) kinds.Word kept used) (past p kinds.Word modes.Blank [] used used)))
-    by true true f g = goes modes.KindName [] (kind_name (eq_of o 46 f) (null_is g), tt) where
+        → Sound p colon k (front ++ w) o (cond (b && c) (Next (go_to (at m kept colon start used) Mode.KindName []))
+        (Left (cut (at m kept colon start used) TokenKind.Word kept used) (past p TokenKind.Word Mode.Blank [] used used)))
+    by true true f g = goes Mode.KindName [] (kind_name (eq_of o 46 f) (null_is g), tt) where
       eq_of : (a b : ℕ) → (a == b) ≡ true → a ≡ b
       eq_of a b h = grind (arith, nat_tests)
 
@@ -156,21 +144,21 @@ module _ (p : Place) (colon : Bool) (k : ℕ) (m : Mode) (kept : List ℕ) (star
     by false c f g = word false c f g refl
 
   -- the content of a blob is decoded
-  ends_blob : Turns p colon w kept o actions.EndBlob → Sound p colon k (front ++ w) o (blob_ends (at m kept colon start used) (blob_of kept))
+  ends_blob : Turns p colon w kept o Action.EndBlob → Sound p colon k (front ++ w) o (blob_ends (at m kept colon start used) (blob_of kept))
   ends_blob (n, inside, e, h, s, is) = by (blob_of kept) refl where
     by : (b : Option (List ℕ)) → blob_of kept ≡ b → Sound p colon k (front ++ w) o (blob_ends (at m kept colon start used) b)
     by None f = tt
-    by (Some octets) f = goes (modes.Lob lobs.BlobClose) octets
+    by (Some octets) f = goes (Mode.Lob Lob.BlobClose) octets
         (n, inside ++ o ∷ [], ap (λ l. l ++ o ∷ []) e, (inside, blob_sound inside octets h (ap blob_of (sym s) ∙ f), (λ i. inside ++ is i ∷ [])))
 
   -- what an action makes of an octet behind an open token is so, if the action fits the token
   pub turned : (a : Action) → Turns p colon w kept o a → Sound p colon k (front ++ w) o (acts p (at m kept colon start used) o a)
-  turned (actions.Go m' k') h = goes m' (kept_after k' kept) h
-  turned (actions.Give kind k') h = gives kind (kept_after k' kept) h
-  turned (actions.Before kind k' modes.Blank) h = leaves_blank kind (kept_after k' kept) (used - 0) (omega arith) h
-  turned (actions.Before kind k' modes.Slash) (token, e, h) = leaves_slash kind (kept_after k' kept) token e h
-  turned (actions.Before kind k' m') h = absurd h
-  turned actions.EndWord (e, h, n) = ends_word e h n
-  turned (actions.Split n) (low, high, token, e, h) = splits n kept token low high e (λ r j. h r)
-  turned actions.EndBlob h = ends_blob h
-  turned (actions.Refuse e) h = tt
+  turned (Action.Go m' k') h = goes m' (kept_after k' kept) h
+  turned (Action.Give kind k') h = gives kind (kept_after k' kept) h
+  turned (Action.Before kind k' Mode.Blank) h = leaves_blank kind (kept_after k' kept) (used - 0) (omega arith) h
+  turned (Action.Before kind k' Mode.Slash) (token, e, h) = leaves_slash kind (kept_after k' kept) token e h
+  turned (Action.Before kind k' m') h = absurd h
+  turned Action.EndWord (e, h, n) = ends_word e h n
+  turned (Action.Split n) (low, high, token, e, h) = splits n kept token low high e (λ r j. h r)
+  turned Action.EndBlob h = ends_blob h
+  turned (Action.Refuse e) h = tt

@@ -2,25 +2,8 @@
 use Rattle.std.proofs.Common.{◌≡◌, ◌≢◌, ℕ, ◌≤◌, Bool, true, false, List, [], ◌∷◌, ◌++◌}
 use Rattle.std.specs.Prelude.{◌==◌, ◌||◌, not, codes, take}
 use Rattle.std.specs.List.{flat_map, filter, AllByRecursion}
-use Rattle.ion_tokens.specs.Octets.{is_white, is_word_octet, is_operator_octet, is_stop, is_base64}
-use Rattle.ion_tokens.specs.declared.mode.Place.{Place}
-use Rattle.ion_tokens.specs.declared.mode.Style.{Style}
-use Rattle.ion_tokens.specs.declared.mode.Ending.{Ending}
-use Rattle.ion_tokens.specs.declared.mode.Within.{Within}
-use Rattle.ion_tokens.specs.declared.mode.Mode.{Mode}
-use Rattle.ion_tokens.specs.declared.mode.Lob.{Lob}
-use Rattle.ion_tokens.specs.declared.mode.TokenKind.{TokenKind}
-use Rattle.ion_tokens.specs.declared.mode.Action.{Action}
-use Rattle.ion_tokens.specs.declared.mode.Style.TheVariants as styles
-use Rattle.ion_tokens.specs.declared.mode.Ending.TheVariants as endings
-use Rattle.ion_tokens.specs.declared.mode.Mode.TheVariants as modes
-use Rattle.ion_tokens.specs.declared.mode.Lob.TheVariants as lobs
-use Rattle.ion_tokens.specs.declared.mode.TokenKind.TheVariants as kinds
-use Rattle.ion_tokens.specs.declared.mode.Action.TheVariants as actions
-use Rattle.ion_tokens.specs.machine.Table.{is_name, is_sexp}
-use Rattle.ion_tokens.specs.machine.Scanning.{kept_after}
-use Rattle.ion_tokens.specs.Lexemes.{Each, begins, ends, begins_number, comment_within, IsWord, IsLexeme, IsBlobContent, Segment, IsSegment, segment_spelling, IsClobContent}
-use Rattle.ion_tokens.specs.Lexed.{Passes}
+use Rattle.ion_tokens.specs.Names.{Action, Each, Ending, IsBlobContent, IsClobContent, IsLexeme, IsSegment, IsWord, Lob, Mode, Passes, Place, Segment, Style, TokenKind, Within, begins, begins_number, comment_within, is_base64, is_name, is_operator_octet, is_sexp, is_stop, is_white, is_word_octet, kept_after, segment_spelling}
+use Rattle.ion_tokens.specs.Lexemes.{ends}
 use Rattle.ion_tokens.proofs.texts.TextsSound.{Reads}
 
 -- an open number, which may hold what no number holds
@@ -38,10 +21,10 @@ pub record IsOpenRun (w : List ℕ) : Type 0 where
 
 -- what the ending says of the run, and of the place: outside s-expressions a run is a sign
 abbrev pub RunEndsSo : Place → Ending → List ℕ → Type 0
-RunEndsSo p endings.LoneMinus w = w ≡ 45 ∷ []
-RunEndsSo p endings.Minus w = is_sexp p ≡ true
-RunEndsSo p endings.Plus w = ends (λ o. o == 45) w ≡ false
-RunEndsSo p endings.Other w = (is_sexp p ≡ true) × (ends (λ o. o == 45) w ≡ false) × (ends (λ o. (o == 43) || (o == 45)) w ≡ false)
+RunEndsSo p Ending.LoneMinus w = w ≡ 45 ∷ []
+RunEndsSo p Ending.Minus w = is_sexp p ≡ true
+RunEndsSo p Ending.Plus w = ends (λ o. o == 45) w ≡ false
+RunEndsSo p Ending.Other w = (is_sexp p ≡ true) × (ends (λ o. o == 45) w ≡ false) × (ends (λ o. (o == 43) || (o == 45)) w ≡ false)
 
 -- a blob's content so far, without its white space
 abbrev pub solid : List ℕ → List ℕ
@@ -76,43 +59,43 @@ pub record IsLongText (w kept : List ℕ) : Type 0 where
 
 -- behind {{, in a lob
 abbrev pub InLob : Lob → List ℕ → List ℕ → Type 0
-InLob lobs.Start w kept = (kept ≡ []) × Each is_white w
-InLob lobs.StartQuote w kept = (kept ≡ []) × (before : List ℕ) × Each is_white before × (w ≡ before ++ 39 ∷ [])
-InLob lobs.StartQuotes w kept = (kept ≡ []) × (before : List ℕ) × Each is_white before × (w ≡ before ++ 39 ∷ 39 ∷ [])
-InLob lobs.Base64 w kept = Each AnyBlob w × (kept ≡ solid w)
-InLob lobs.BlobClose w kept = (content : List ℕ) × IsBlobContent content kept × (w ≡ content ++ 125 ∷ [])
-InLob lobs.AfterShort w kept = (before text after : List ℕ) × Each is_white before × Rattle.ion_tokens.specs.Quoted.IsQuoted styles.ShortClob text kept
+InLob Lob.Start w kept = (kept ≡ []) × Each is_white w
+InLob Lob.StartQuote w kept = (kept ≡ []) × (before : List ℕ) × Each is_white before × (w ≡ before ++ 39 ∷ [])
+InLob Lob.StartQuotes w kept = (kept ≡ []) × (before : List ℕ) × Each is_white before × (w ≡ before ++ 39 ∷ 39 ∷ [])
+InLob Lob.Base64 w kept = Each AnyBlob w × (kept ≡ solid w)
+InLob Lob.BlobClose w kept = (content : List ℕ) × IsBlobContent content kept × (w ≡ content ++ 125 ∷ [])
+InLob Lob.AfterShort w kept = (before text after : List ℕ) × Each is_white before × Rattle.ion_tokens.specs.Quoted.IsQuoted Style.ShortClob text kept
     × Each is_white after × (w ≡ before ++ (34 ∷ text) ++ 34 ∷ after)
-InLob lobs.AfterLong w kept = IsLongText w kept
-InLob lobs.AfterQuote w kept = (front : List ℕ) × IsLongText front kept × (w ≡ front ++ 39 ∷ [])
-InLob lobs.AfterQuotes w kept = (front : List ℕ) × IsLongText front kept × (w ≡ front ++ 39 ∷ 39 ∷ [])
-InLob lobs.ClobClose w kept = (content : List ℕ) × IsClobContent content kept × (w ≡ content ++ 125 ∷ [])
+InLob Lob.AfterLong w kept = IsLongText w kept
+InLob Lob.AfterQuote w kept = (front : List ℕ) × IsLongText front kept × (w ≡ front ++ 39 ∷ [])
+InLob Lob.AfterQuotes w kept = (front : List ℕ) × IsLongText front kept × (w ≡ front ++ 39 ∷ 39 ∷ [])
+InLob Lob.ClobClose w kept = (content : List ℕ) × IsClobContent content kept × (w ≡ content ++ 125 ∷ [])
 
 -- in a quoted text
 abbrev pub InText : Place → Style → Within → List ℕ → List ℕ → Type 0
-InText p styles.ShortString v w kept = (part : List ℕ) × Reads styles.ShortString v part kept × (w ≡ 34 ∷ part)
-InText p styles.QuotedSymbol v w kept = (part : List ℕ) × Reads styles.QuotedSymbol v part kept × (w ≡ 39 ∷ part) × (begins (λ o. not (o == 39)) part ≡ true)
-InText p styles.LongString v w kept = (part : List ℕ) × Reads styles.LongString v part kept × (w ≡ 39 ∷ 39 ∷ 39 ∷ part)
-InText p styles.ShortClob v w kept = (is_name p ≡ false) × (before part : List ℕ) × Each is_white before × Reads styles.ShortClob v part kept
+InText p Style.ShortString v w kept = (part : List ℕ) × Reads Style.ShortString v part kept × (w ≡ 34 ∷ part)
+InText p Style.QuotedSymbol v w kept = (part : List ℕ) × Reads Style.QuotedSymbol v part kept × (w ≡ 39 ∷ part) × (begins (λ o. not (o == 39)) part ≡ true)
+InText p Style.LongString v w kept = (part : List ℕ) × Reads Style.LongString v part kept × (w ≡ 39 ∷ 39 ∷ 39 ∷ part)
+InText p Style.ShortClob v w kept = (is_name p ≡ false) × (before part : List ℕ) × Each is_white before × Reads Style.ShortClob v part kept
     × (w ≡ 123 ∷ 123 ∷ (before ++ 34 ∷ part))
-InText p styles.LongClob v w kept = (is_name p ≡ false) × (front kept' part q : List ℕ) × IsLongFront front kept' × Reads styles.LongClob v part q
+InText p Style.LongClob v w kept = (is_name p ≡ false) × (front kept' part q : List ℕ) × IsLongFront front kept' × Reads Style.LongClob v part q
     × (w ≡ 123 ∷ 123 ∷ (front ++ 39 ∷ 39 ∷ 39 ∷ part)) × (kept ≡ kept' ++ q)
 
 -- The octets w from a token's first on leave the scanner in this mode, with these kept.
 abbrev pub IsOpen : Place → Bool → Mode → List ℕ → List ℕ → Type 0
-IsOpen p colon modes.Colon w kept = (w ≡ 58 ∷ []) × (kept ≡ []) × (colon ≡ true)
-IsOpen p colon modes.Word w kept = (kept ≡ w) × IsWord w
-IsOpen p colon modes.KindName w kept = (w ≡ codes "null." ++ kept) × Each is_word_octet kept
-IsOpen p colon modes.Number w kept = (kept ≡ w) × IsOpenNumber p w
-IsOpen p colon modes.NumberSlash w kept = (w ≡ kept ++ 47 ∷ []) × IsOpenNumber p kept
-IsOpen p colon (modes.Operator e) w kept = (kept ≡ w) × (is_name p ≡ false) × IsOpenRun w × RunEndsSo p e w
-IsOpen p colon modes.OperatorSlash w kept = (w ≡ kept ++ 47 ∷ []) × (is_sexp p ≡ true) × IsOpenRun kept
-IsOpen p colon (modes.Infinity n) w kept = (w ≡ kept ++ take n (codes "inf")) × IsOpenRun kept × (1 ≤ n) × (n ≤ 3)
-IsOpen p colon modes.Quote w kept = (w ≡ 39 ∷ []) × (kept ≡ [])
-IsOpen p colon modes.Quotes w kept = (w ≡ 39 ∷ 39 ∷ []) × (kept ≡ [])
-IsOpen p colon (modes.Text s v) w kept = InText p s v w kept
-IsOpen p colon modes.Brace w kept = (w ≡ 123 ∷ []) × (kept ≡ []) × (is_name p ≡ false)
-IsOpen p colon (modes.Lob l) w kept = (is_name p ≡ false) × (inside : List ℕ) × (w ≡ 123 ∷ 123 ∷ inside) × InLob l inside kept
+IsOpen p colon Mode.Colon w kept = (w ≡ 58 ∷ []) × (kept ≡ []) × (colon ≡ true)
+IsOpen p colon Mode.Word w kept = (kept ≡ w) × IsWord w
+IsOpen p colon Mode.KindName w kept = (w ≡ codes "null." ++ kept) × Each is_word_octet kept
+IsOpen p colon Mode.Number w kept = (kept ≡ w) × IsOpenNumber p w
+IsOpen p colon Mode.NumberSlash w kept = (w ≡ kept ++ 47 ∷ []) × IsOpenNumber p kept
+IsOpen p colon (Mode.Operator e) w kept = (kept ≡ w) × (is_name p ≡ false) × IsOpenRun w × RunEndsSo p e w
+IsOpen p colon Mode.OperatorSlash w kept = (w ≡ kept ++ 47 ∷ []) × (is_sexp p ≡ true) × IsOpenRun kept
+IsOpen p colon (Mode.Infinity n) w kept = (w ≡ kept ++ take n (codes "inf")) × IsOpenRun kept × (1 ≤ n) × (n ≤ 3)
+IsOpen p colon Mode.Quote w kept = (w ≡ 39 ∷ []) × (kept ≡ [])
+IsOpen p colon Mode.Quotes w kept = (w ≡ 39 ∷ 39 ∷ []) × (kept ≡ [])
+IsOpen p colon (Mode.Text s v) w kept = InText p s v w kept
+IsOpen p colon Mode.Brace w kept = (w ≡ 123 ∷ []) × (kept ≡ []) × (is_name p ≡ false)
+IsOpen p colon (Mode.Lob l) w kept = (is_name p ≡ false) × (inside : List ℕ) × (w ≡ 123 ∷ 123 ∷ inside) × InLob l inside kept
 IsOpen p colon _ w kept = ⊥
 
 -- a token, unless it is refused when it is judged
@@ -121,18 +104,18 @@ IsUnjudgedToken p colon w r kind kept = Passes kind kept → IsLexeme p colon w 
 
 -- a token ended before the octet; where a comment ended it, before the / that was taken up
 abbrev pub EndsBefore : Place → Bool → List ℕ → ℕ → TokenKind → List ℕ → Mode → Type 0
-EndsBefore p colon w o kind kept modes.Blank = (r : List ℕ) → IsUnjudgedToken p colon w (o ∷ r) kind kept
-EndsBefore p colon w o kind kept modes.Slash = (front : List ℕ) × (w ≡ front ++ 47 ∷ []) × ((r : List ℕ) → IsUnjudgedToken p colon front (47 ∷ o ∷ r) kind kept)
+EndsBefore p colon w o kind kept Mode.Blank = (r : List ℕ) → IsUnjudgedToken p colon w (o ∷ r) kind kept
+EndsBefore p colon w o kind kept Mode.Slash = (front : List ℕ) × (w ≡ front ++ 47 ∷ []) × ((r : List ℕ) → IsUnjudgedToken p colon front (47 ∷ o ∷ r) kind kept)
 EndsBefore p colon w o kind kept _ = ⊥
 
 -- what an action at an octet says of an open token
 abbrev pub Turns : Place → Bool → List ℕ → List ℕ → ℕ → Action → Type 0
-Turns p colon w kept o (actions.Go m k) = IsOpen p colon m (w ++ o ∷ []) (kept_after k kept)
-Turns p colon w kept o (actions.Give kind k) = (r : List ℕ) → IsUnjudgedToken p colon (w ++ o ∷ []) r kind (kept_after k kept)
-Turns p colon w kept o (actions.Before kind k m) = EndsBefore p colon w o kind (kept_after k kept) m
-Turns p colon w kept o actions.EndWord = (kept ≡ w) × IsWord w × (is_word_octet o ≡ false)
-Turns p colon w kept o (actions.Split n) = (1 ≤ n) × (n ≤ 3) × (front : List ℕ) × (w ≡ front ++ take n (codes "inf"))
-    × ((r : List ℕ) → IsLexeme p colon front (take n (codes "inf") ++ o ∷ r) kinds.Operator kept)
-Turns p colon w kept o actions.EndBlob = (is_name p ≡ false) × (inside : List ℕ) × (w ≡ 123 ∷ 123 ∷ inside) × Each AnyBlob inside × (kept ≡ solid inside)
+Turns p colon w kept o (Action.Go m k) = IsOpen p colon m (w ++ o ∷ []) (kept_after k kept)
+Turns p colon w kept o (Action.Give kind k) = (r : List ℕ) → IsUnjudgedToken p colon (w ++ o ∷ []) r kind (kept_after k kept)
+Turns p colon w kept o (Action.Before kind k m) = EndsBefore p colon w o kind (kept_after k kept) m
+Turns p colon w kept o Action.EndWord = (kept ≡ w) × IsWord w × (is_word_octet o ≡ false)
+Turns p colon w kept o (Action.Split n) = (1 ≤ n) × (n ≤ 3) × (front : List ℕ) × (w ≡ front ++ take n (codes "inf"))
+    × ((r : List ℕ) → IsLexeme p colon front (take n (codes "inf") ++ o ∷ r) TokenKind.Operator kept)
+Turns p colon w kept o Action.EndBlob = (is_name p ≡ false) × (inside : List ℕ) × (w ≡ 123 ∷ 123 ∷ inside) × Each AnyBlob inside × (kept ≡ solid inside)
     × (o ≡ 125)
-Turns p colon w kept o (actions.Refuse e) = Unit {0}
+Turns p colon w kept o (Action.Refuse e) = Unit {0}

@@ -2,26 +2,13 @@
 use Rattle.std.proofs.Common.{◌≡◌, ℕ, ◌+◌, inl, inr, Bool, true, false, List, [], ◌∷◌, ◌++◌, length, refl, sym, ap, ◌∙◌, subst, arith, length-append, cond}
 use Rattle.std.specs.Prelude.{Option, Some, None, Result, Ok, Err}
 use Rattle.std.proofs.lemmas.Bool.{true≢false}
-use Rattle.ion_atoms.specs.declared.refusal.Reason.{Reason}
-use Rattle.ion_atoms.specs.declared.refusal.Reason.TheVariants as reasons
-use Rattle.ion_tokens.specs.declared.mode.Place.{Place}
-use Rattle.ion_tokens.specs.declared.mode.Mode.{Mode}
-use Rattle.ion_tokens.specs.declared.mode.End.{End}
-use Rattle.ion_tokens.specs.declared.mode.Style.TheVariants as styles
-use Rattle.ion_tokens.specs.declared.mode.Mode.TheVariants as modes
-use Rattle.ion_tokens.specs.declared.mode.TokenKind.TheVariants as kinds
-use Rattle.ion_tokens.specs.declared.mode.Keep.TheVariants as keeps
-use Rattle.ion_tokens.specs.declared.mode.End.TheVariants as ends'
-use Rattle.ion_tokens.specs.machine.Table.{end_of, operator_end, is_sexp}
-use Rattle.ion_tokens.specs.machine.Scanning.{Known, kept_after, ends_at, at_end}
-use Rattle.ion_tokens.specs.Blanks.{IsBlank, IsLastBlank}
-use Rattle.ion_tokens.specs.Lexemes.{IsOperator, comment_within, Lexeme}
-use Rattle.ion_tokens.proofs.complete.Moves.{at, Stays}
-use Rattle.ion_tokens.proofs.sound.Opens.{IsOpen, IsOpenRun, IsUnjudgedToken}
-use Rattle.ion_tokens.proofs.sound.Holds.{InMode, IsBegun, Holds}
+use Rattle.ion_tokens.specs.Names.{End, IsBlank, IsLastBlank, IsOperator, Keep, Known, Lexeme, Mode, Place, Reason, Style, TokenKind, at_end, comment_within, end_of, ends_at, is_sexp, kept_after, operator_end}
 use Rattle.ion_tokens.specs.laws.Each.{each_last}
-use Rattle.ion_tokens.proofs.sound.TurnsWords.{number_found, slash_in, empty_symbol}
-use Rattle.ion_tokens.proofs.sound.TurnsOperators.{found_run, comment_append, both_false, apart_more, not_empty}
+use Rattle.ion_tokens.proofs.complete.Moves.{Stays, at}
+use Rattle.ion_tokens.proofs.sound.Holds.{Holds, InMode, IsBegun}
+use Rattle.ion_tokens.proofs.sound.Opens.{IsOpen, IsOpenRun, IsUnjudgedToken}
+use Rattle.ion_tokens.proofs.sound.TurnsOperators.{apart_more, both_false, comment_append, found_run, not_empty}
+use Rattle.ion_tokens.proofs.sound.TurnsWords.{empty_symbol, number_found, slash_in}
 
 -- behind a blank, a token up to the end of the input
 pub record IsLastToken (p : Place) (colon : Bool) (k : ℕ) (since : List ℕ) (l : Lexeme) : Type 0 where
@@ -41,13 +28,13 @@ EndSound p colon k since (Err r) = Unit {0}
 
 -- what an end says of an open token
 abbrev EndTurns : Place → Bool → List ℕ → List ℕ → End → Type 0
-EndTurns p colon w kept ends'.Blank = ⊥
-EndTurns p colon w kept (ends'.Token kind k) = IsUnjudgedToken p colon w [] kind (kept_after k kept)
-EndTurns p colon w kept (ends'.Refuse r) = Unit {0}
+EndTurns p colon w kept End.Blank = ⊥
+EndTurns p colon w kept (End.Token kind k) = IsUnjudgedToken p colon w [] kind (kept_after k kept)
+EndTurns p colon w kept (End.Refuse r) = Unit {0}
 
-run_ended : (p : Place) (colon : Bool) (w : List ℕ) → IsOpenRun w → EndTurns p colon w w (operator_end p keeps.Nothing)
+run_ended : (p : Place) (colon : Bool) (w : List ℕ) → IsOpenRun w → EndTurns p colon w w (operator_end p Keep.Nothing)
 run_ended p colon w h = by (is_sexp p) refl where
-  by : (b : Bool) → is_sexp p ≡ b → EndTurns p colon w w (cond b (ends'.Token kinds.Operator keeps.Nothing) (ends'.Refuse reasons.Incomplete))
+  by : (b : Bool) → is_sexp p ≡ b → EndTurns p colon w w (cond b (End.Token TokenKind.Operator Keep.Nothing) (End.Refuse Reason.Incomplete))
   by true s = λ j. found_run p colon w [] s h (inl refl) (λ m. refl) (λ m. refl)
   by false s = tt
 
@@ -63,44 +50,44 @@ slash_operator kept h = record {
   no_float = λ m. refl;
 }
 
-slash_ended : (p : Place) (colon : Bool) (w kept : List ℕ) → w ≡ kept ++ 47 ∷ [] → IsOpenRun kept → EndTurns p colon w kept (operator_end p (keeps.One 47))
+slash_ended : (p : Place) (colon : Bool) (w kept : List ℕ) → w ≡ kept ++ 47 ∷ [] → IsOpenRun kept → EndTurns p colon w kept (operator_end p (Keep.One 47))
 slash_ended p colon w kept e h = by (is_sexp p) refl where
-  by : (b : Bool) → is_sexp p ≡ b → EndTurns p colon w kept (cond b (ends'.Token kinds.Operator (keeps.One 47)) (ends'.Refuse reasons.Incomplete))
+  by : (b : Bool) → is_sexp p ≡ b → EndTurns p colon w kept (cond b (End.Token TokenKind.Operator (Keep.One 47)) (End.Refuse Reason.Incomplete))
   by true s = λ j. (sym e, s, subst (λ l. IsOperator l []) (sym e) (slash_operator kept h))
   by false s = tt
 
 token_ends : (p : Place) (colon : Bool) (m : Mode) (w kept : List ℕ) → IsOpen p colon m w kept → EndTurns p colon w kept (end_of p m)
-token_ends p colon modes.Colon w kept (e, k, c) = λ j. (k, e, c, refl)
-token_ends p colon modes.Word w kept (e, h) = λ j. (e, h, refl, λ null. refl)
-token_ends p colon modes.KindName w kept (e, h) = λ j. (e, h, refl)
-token_ends p colon modes.Number w kept (e, n) = subst (λ l. IsUnjudgedToken p colon w [] kinds.Number l) (sym e) (number_found p colon w [] n (inl refl))
-token_ends p colon modes.NumberSlash w kept (e, n) = λ j. absurd (true≢false (sym (slash_in kept) ∙ j))
-token_ends p colon (modes.Operator x) w kept (e, n, h, s) = subst (λ l. EndTurns p colon w l (operator_end p keeps.Nothing)) (sym e) (run_ended p colon w h)
-token_ends p colon modes.OperatorSlash w kept (e, s, h) = slash_ended p colon w kept e h
-token_ends p colon (modes.Infinity n) w kept h = tt
-token_ends p colon modes.Quote w kept h = tt
-token_ends p colon modes.Quotes w kept (e, k) = λ j. (
+token_ends p colon Mode.Colon w kept (e, k, c) = λ j. (k, e, c, refl)
+token_ends p colon Mode.Word w kept (e, h) = λ j. (e, h, refl, λ null. refl)
+token_ends p colon Mode.KindName w kept (e, h) = λ j. (e, h, refl)
+token_ends p colon Mode.Number w kept (e, n) = subst (λ l. IsUnjudgedToken p colon w [] TokenKind.Number l) (sym e) (number_found p colon w [] n (inl refl))
+token_ends p colon Mode.NumberSlash w kept (e, n) = λ j. absurd (true≢false (sym (slash_in kept) ∙ j))
+token_ends p colon (Mode.Operator x) w kept (e, n, h, s) = subst (λ l. EndTurns p colon w l (operator_end p Keep.Nothing)) (sym e) (run_ended p colon w h)
+token_ends p colon Mode.OperatorSlash w kept (e, s, h) = slash_ended p colon w kept e h
+token_ends p colon (Mode.Infinity n) w kept h = tt
+token_ends p colon Mode.Quote w kept h = tt
+token_ends p colon Mode.Quotes w kept (e, k) = λ j. (
   [],
-  subst (λ l. Rattle.ion_tokens.specs.Quoted.IsQuoted styles.QuotedSymbol [] l) (sym k) empty_symbol,
+  subst (λ l. Rattle.ion_tokens.specs.Quoted.IsQuoted Style.QuotedSymbol [] l) (sym k) empty_symbol,
   e,
   λ i. refl,
 )
-token_ends p colon (modes.Text s v) w kept h = tt
-token_ends p colon modes.Brace w kept (e, k, n) = λ j. (k, e, n, refl)
-token_ends p colon (modes.Lob l) w kept h = tt
-token_ends p colon modes.Blank w kept h = absurd h
-token_ends p colon modes.Slash w kept h = absurd h
-token_ends p colon modes.LineComment w kept h = absurd h
-token_ends p colon modes.BlockComment w kept h = absurd h
-token_ends p colon modes.BlockCommentStar w kept h = absurd h
+token_ends p colon (Mode.Text s v) w kept h = tt
+token_ends p colon Mode.Brace w kept (e, k, n) = λ j. (k, e, n, refl)
+token_ends p colon (Mode.Lob l) w kept h = tt
+token_ends p colon Mode.Blank w kept h = absurd h
+token_ends p colon Mode.Slash w kept h = absurd h
+token_ends p colon Mode.LineComment w kept h = absurd h
+token_ends p colon Mode.BlockComment w kept h = absurd h
+token_ends p colon Mode.BlockCommentStar w kept h = absurd h
 
 module _ (p : Place) (colon : Bool) (k : ℕ) (start used : ℕ) (since : List ℕ) (uses : used ≡ k + length since) where
   in_token : (m : Mode) (kept : List ℕ) → Stays m → IsBegun p colon k m kept start since
       → EndSound p colon k since (ends_at (at m kept colon start used) (end_of p m))
   in_token m kept stays b = by (end_of p m) (token_ends p colon m b.token kept b.is) where
     by : (e : End) → EndTurns p colon b.token kept e → EndSound p colon k since (ends_at (at m kept colon start used) e)
-    by ends'.Blank h = absurd h
-    by (ends'.Token kind c) h = record {
+    by End.Blank h = absurd h
+    by (End.Token kind c) h = record {
       front = b.front;
       token = b.token;
       blank = b.blank;
@@ -110,13 +97,13 @@ module _ (p : Place) (colon : Bool) (k : ℕ) (start used : ℕ) (since : List �
           omega (arith, uses, ap length b.cut, length-append b.front b.token);
       found = h;
     }
-    by (ends'.Refuse r) h = tt
+    by (End.Refuse r) h = tt
 
   lone_slash : (kept : List ℕ) (front : List ℕ) → kept ≡ [] → IsBlank front → since ≡ front ++ 47 ∷ []
-      → EndSound p colon k since (ends_at (at modes.Slash kept colon start used) (operator_end p (keeps.One 47)))
+      → EndSound p colon k since (ends_at (at Mode.Slash kept colon start used) (operator_end p (Keep.One 47)))
   lone_slash kept front e b c = by (is_sexp p) refl where
     by : (x : Bool) → is_sexp p ≡ x → EndSound p colon k since
-        (ends_at (at modes.Slash kept colon start used) (cond x (ends'.Token kinds.Operator (keeps.One 47)) (ends'.Refuse reasons.Incomplete)))
+        (ends_at (at Mode.Slash kept colon start used) (cond x (End.Token TokenKind.Operator (Keep.One 47)) (End.Refuse Reason.Incomplete)))
     by true s = record {
       front = front;
       token = 47 ∷ [];
@@ -141,24 +128,24 @@ module _ (p : Place) (colon : Bool) (k : ℕ) (start used : ℕ) (since : List �
     by false s = tt
 
   mode_ends : (m : Mode) (kept : List ℕ) → InMode p colon k m kept start since → EndSound p colon k since (at_end p (at m kept colon start used))
-  mode_ends modes.Blank kept (e, b) = inl b
-  mode_ends modes.Slash kept (e, front, b, c) = lone_slash kept front e b c
-  mode_ends modes.LineComment kept (e, c) = inr c
-  mode_ends modes.BlockComment kept h = tt
-  mode_ends modes.BlockCommentStar kept h = tt
-  mode_ends modes.Colon kept b = in_token modes.Colon kept (λ s u. refl) b
-  mode_ends modes.Word kept b = in_token modes.Word kept (λ s u. refl) b
-  mode_ends modes.KindName kept b = in_token modes.KindName kept (λ s u. refl) b
-  mode_ends modes.Number kept b = in_token modes.Number kept (λ s u. refl) b
-  mode_ends modes.NumberSlash kept b = in_token modes.NumberSlash kept (λ s u. refl) b
-  mode_ends (modes.Operator x) kept b = in_token (modes.Operator x) kept (λ s u. refl) b
-  mode_ends modes.OperatorSlash kept b = in_token modes.OperatorSlash kept (λ s u. refl) b
-  mode_ends (modes.Infinity n) kept b = in_token (modes.Infinity n) kept (λ s u. refl) b
-  mode_ends modes.Quote kept b = tt
-  mode_ends modes.Quotes kept b = in_token modes.Quotes kept (λ s u. refl) b
-  mode_ends (modes.Text s v) kept b = tt
-  mode_ends modes.Brace kept b = in_token modes.Brace kept (λ s u. refl) b
-  mode_ends (modes.Lob l) kept b = tt
+  mode_ends Mode.Blank kept (e, b) = inl b
+  mode_ends Mode.Slash kept (e, front, b, c) = lone_slash kept front e b c
+  mode_ends Mode.LineComment kept (e, c) = inr c
+  mode_ends Mode.BlockComment kept h = tt
+  mode_ends Mode.BlockCommentStar kept h = tt
+  mode_ends Mode.Colon kept b = in_token Mode.Colon kept (λ s u. refl) b
+  mode_ends Mode.Word kept b = in_token Mode.Word kept (λ s u. refl) b
+  mode_ends Mode.KindName kept b = in_token Mode.KindName kept (λ s u. refl) b
+  mode_ends Mode.Number kept b = in_token Mode.Number kept (λ s u. refl) b
+  mode_ends Mode.NumberSlash kept b = in_token Mode.NumberSlash kept (λ s u. refl) b
+  mode_ends (Mode.Operator x) kept b = in_token (Mode.Operator x) kept (λ s u. refl) b
+  mode_ends Mode.OperatorSlash kept b = in_token Mode.OperatorSlash kept (λ s u. refl) b
+  mode_ends (Mode.Infinity n) kept b = in_token (Mode.Infinity n) kept (λ s u. refl) b
+  mode_ends Mode.Quote kept b = tt
+  mode_ends Mode.Quotes kept b = in_token Mode.Quotes kept (λ s u. refl) b
+  mode_ends (Mode.Text s v) kept b = tt
+  mode_ends Mode.Brace kept b = in_token Mode.Brace kept (λ s u. refl) b
+  mode_ends (Mode.Lob l) kept b = tt
 
 -- What the end of the octets shows is so: they are a blank, or a blank and this token.
 pub end_sound : (p : Place) (colon : Bool) (k : ℕ) (s : Known) (since : List ℕ) → Holds p colon k s since → EndSound p colon k since (at_end p s)

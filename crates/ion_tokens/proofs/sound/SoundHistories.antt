@@ -2,12 +2,8 @@
 use Rattle.std.proofs.Common.{◌≡◌, ℕ, ◌+◌, Bool, false, List, [], ◌∷◌, ◌++◌, length, refl, sym, ap, ◌∙◌, subst, arith, append_assoc, append-nil, length-append}
 use Rattle.std.specs.Prelude.{Option, Some, None, Result, Ok, Err}
 use Rattle.std.specs.List.{AllByRecursion}
-use Rattle.ion_tokens.specs.declared.mode.Place.{Place}
-use Rattle.ion_tokens.specs.machine.Scanning.{Known, Next, Given, Left, run}
-use Rattle.ion_tokens.specs.Lexemes.{Lexeme}
-use Rattle.ion_tokens.specs.Lexed.{Placed, BeginsWith, colon_behind, LexesTo, Passes, AllPass}
-use Rattle.ion_tokens.specs.machine.Told.{Stands, Begun, Gave, Leaved}
-use Rattle.ion_tokens.specs.declared.mode.Mode.TheVariants as modes
+use Rattle.ion_tokens.specs.Names.{AllPass, BeginsWith, Gave, Given, Known, Leaved, Left, Lexeme, LexesTo, Mode, Next, Passes, Place, Placed, Stands, colon_behind, run}
+use Rattle.ion_tokens.specs.machine.Told.{Begun}
 use Rattle.ion_tokens.proofs.complete.Moves.{at}
 use Rattle.ion_tokens.proofs.sound.Holds.{Holds, IsTold, blank_behind}
 use Rattle.ion_tokens.proofs.sound.Sounds.{RunSound, run_sound}
@@ -35,7 +31,7 @@ pub record HasTold (s : Known) (u : List ℕ) (ts : List Placed) (ahead : List �
   pub end : ℕ
   pub since : List ℕ
   pub holds : (q : Place) → Holds q colon end s since
-  pub again : (q : Place) → run q since (at modes.Blank [] colon end end) ≡ Next s
+  pub again : (q : Place) → run q since (at Mode.Blank [] colon end end) ≡ Next s
   pub lexes : (r more : List ℕ) → r ≡ ahead ++ more → LexesTo false 0 (u ++ r) ts colon end (since ++ r)
 
 -- how many octets a told token leaves ahead

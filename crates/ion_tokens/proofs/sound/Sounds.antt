@@ -1,20 +1,17 @@
 -- What the scanner tells of octets is so.
 use Rattle.std.proofs.Common.{◌≡◌, ℕ, ◌+◌, Bool, List, [], ◌∷◌, ◌++◌, length, refl, sym, ap, ◌∙◌, subst, append_assoc, append-nil}
-use Rattle.ion_tokens.specs.declared.mode.Place.{Place}
-use Rattle.ion_tokens.specs.declared.mode.Mode.{Mode}
-use Rattle.ion_tokens.specs.declared.mode.Mode.TheVariants as modes
-use Rattle.ion_tokens.specs.machine.Table.{next, in_blank, in_slash}
-use Rattle.ion_tokens.specs.machine.Scanning.{Known, Outcome, Next, Given, Left, Refused, feed, follow, run}
-use Rattle.ion_tokens.proofs.complete.Moves.{at, Stays}
-use Rattle.ion_tokens.proofs.sound.Opens.{IsOpen, Turns}
-use Rattle.ion_tokens.proofs.sound.Holds.{InMode, IsBegun, Holds, IsTold, Sound}
-use Rattle.ion_tokens.proofs.sound.HoldsBlank.{blank_turned, slash_turned, line_turned, block_turned, star_turned}
+use Rattle.ion_tokens.specs.Names.{Given, Known, Left, Mode, Next, Outcome, Place, Refused, feed, follow, in_blank, in_slash, run}
+use Rattle.ion_tokens.specs.machine.Table.{next}
+use Rattle.ion_tokens.proofs.complete.Moves.{Stays, at}
+use Rattle.ion_tokens.proofs.sound.Holds.{Holds, InMode, IsBegun, IsTold, Sound}
+use Rattle.ion_tokens.proofs.sound.HoldsBlank.{blank_turned, block_turned, line_turned, slash_turned, star_turned}
 use Rattle.ion_tokens.proofs.sound.HoldsStep.{turned}
-use Rattle.ion_tokens.proofs.sound.TurnsWords.{word_turns, kind_turns, number_turns, number_slash_turns, colon_turns, brace_turns}
-use Rattle.ion_tokens.proofs.sound.TurnsTexts.{text_turns, quote_turns, quotes_turns}
-use Rattle.ion_tokens.proofs.sound.TurnsLobs.{lob_turns}
-use Rattle.ion_tokens.proofs.sound.TurnsOperators.{operator_turns, operator_slash_turns, infinity_turns}
+use Rattle.ion_tokens.proofs.sound.Opens.{IsOpen, Turns}
 use Rattle.ion_tokens.proofs.sound.TurnsBlanks.{blank_first, slash_second}
+use Rattle.ion_tokens.proofs.sound.TurnsLobs.{lob_turns}
+use Rattle.ion_tokens.proofs.sound.TurnsOperators.{infinity_turns, operator_slash_turns, operator_turns}
+use Rattle.ion_tokens.proofs.sound.TurnsTexts.{quote_turns, quotes_turns, text_turns}
+use Rattle.ion_tokens.proofs.sound.TurnsWords.{brace_turns, colon_turns, kind_turns, number_slash_turns, number_turns, word_turns}
 
 module _ (p : Place) (colon : Bool) (k : ℕ) (start used : ℕ) (since : List ℕ) (o : ℕ) (uses : used ≡ k + length since) where
   in_token : (m : Mode) (kept : List ℕ) → Stays m → IsBegun p colon k m kept start since
@@ -27,26 +24,26 @@ module _ (p : Place) (colon : Bool) (k : ℕ) (start used : ℕ) (since : List �
   none_kept m kept e h = subst (λ l. Sound p colon k since o (feed p (at m l colon start used) o)) (sym e) h
 
   mode_sound : (m : Mode) (kept : List ℕ) → InMode p colon k m kept start since → Sound p colon k since o (feed p (at m kept colon start used) o)
-  mode_sound modes.Blank kept (e, b) = none_kept modes.Blank kept e
+  mode_sound Mode.Blank kept (e, b) = none_kept Mode.Blank kept e
       (blank_turned p colon k start used since o uses (in_blank p colon o) b (blank_first p colon o))
-  mode_sound modes.Slash kept (e, front, b, c) = none_kept modes.Slash kept e
+  mode_sound Mode.Slash kept (e, front, b, c) = none_kept Mode.Slash kept e
       (slash_turned p colon k start used since o uses (in_slash p o) front b c (slash_second p colon o))
-  mode_sound modes.LineComment kept (e, c) = none_kept modes.LineComment kept e (line_turned p colon k start used since o uses c)
-  mode_sound modes.BlockComment kept (e, c) = none_kept modes.BlockComment kept e (block_turned p colon k start used since o uses c)
-  mode_sound modes.BlockCommentStar kept (e, c) = none_kept modes.BlockCommentStar kept e (star_turned p colon k start used since o uses c)
-  mode_sound modes.Colon kept b = in_token modes.Colon kept (λ s u. refl) b (λ w h. colon_turns p colon w kept o h)
-  mode_sound modes.Word kept b = in_token modes.Word kept (λ s u. refl) b (λ w h. word_turns p colon w kept o h)
-  mode_sound modes.KindName kept b = in_token modes.KindName kept (λ s u. refl) b (λ w h. kind_turns p colon w kept o h)
-  mode_sound modes.Number kept b = in_token modes.Number kept (λ s u. refl) b (λ w h. number_turns p colon w kept o h)
-  mode_sound modes.NumberSlash kept b = in_token modes.NumberSlash kept (λ s u. refl) b (λ w h. number_slash_turns p colon w kept o h)
-  mode_sound (modes.Operator e) kept b = in_token (modes.Operator e) kept (λ s u. refl) b (λ w h. operator_turns p colon e w kept o h)
-  mode_sound modes.OperatorSlash kept b = in_token modes.OperatorSlash kept (λ s u. refl) b (λ w h. operator_slash_turns p colon w kept o h)
-  mode_sound (modes.Infinity n) kept b = in_token (modes.Infinity n) kept (λ s u. refl) b (λ w h. infinity_turns p colon n w kept o h)
-  mode_sound modes.Quote kept b = in_token modes.Quote kept (λ s u. refl) b (λ w h. quote_turns p colon w kept o h)
-  mode_sound modes.Quotes kept b = in_token modes.Quotes kept (λ s u. refl) b (λ w h. quotes_turns p colon w kept o h)
-  mode_sound (modes.Text s v) kept b = in_token (modes.Text s v) kept (λ s u. refl) b (λ w h. text_turns p colon s v w kept o h)
-  mode_sound modes.Brace kept b = in_token modes.Brace kept (λ s u. refl) b (λ w h. brace_turns p colon w kept o h)
-  mode_sound (modes.Lob l) kept b = in_token (modes.Lob l) kept (λ s u. refl) b (λ w h. lob_turns p colon l w kept o h)
+  mode_sound Mode.LineComment kept (e, c) = none_kept Mode.LineComment kept e (line_turned p colon k start used since o uses c)
+  mode_sound Mode.BlockComment kept (e, c) = none_kept Mode.BlockComment kept e (block_turned p colon k start used since o uses c)
+  mode_sound Mode.BlockCommentStar kept (e, c) = none_kept Mode.BlockCommentStar kept e (star_turned p colon k start used since o uses c)
+  mode_sound Mode.Colon kept b = in_token Mode.Colon kept (λ s u. refl) b (λ w h. colon_turns p colon w kept o h)
+  mode_sound Mode.Word kept b = in_token Mode.Word kept (λ s u. refl) b (λ w h. word_turns p colon w kept o h)
+  mode_sound Mode.KindName kept b = in_token Mode.KindName kept (λ s u. refl) b (λ w h. kind_turns p colon w kept o h)
+  mode_sound Mode.Number kept b = in_token Mode.Number kept (λ s u. refl) b (λ w h. number_turns p colon w kept o h)
+  mode_sound Mode.NumberSlash kept b = in_token Mode.NumberSlash kept (λ s u. refl) b (λ w h. number_slash_turns p colon w kept o h)
+  mode_sound (Mode.Operator e) kept b = in_token (Mode.Operator e) kept (λ s u. refl) b (λ w h. operator_turns p colon e w kept o h)
+  mode_sound Mode.OperatorSlash kept b = in_token Mode.OperatorSlash kept (λ s u. refl) b (λ w h. operator_slash_turns p colon w kept o h)
+  mode_sound (Mode.Infinity n) kept b = in_token (Mode.Infinity n) kept (λ s u. refl) b (λ w h. infinity_turns p colon n w kept o h)
+  mode_sound Mode.Quote kept b = in_token Mode.Quote kept (λ s u. refl) b (λ w h. quote_turns p colon w kept o h)
+  mode_sound Mode.Quotes kept b = in_token Mode.Quotes kept (λ s u. refl) b (λ w h. quotes_turns p colon w kept o h)
+  mode_sound (Mode.Text s v) kept b = in_token (Mode.Text s v) kept (λ s u. refl) b (λ w h. text_turns p colon s v w kept o h)
+  mode_sound Mode.Brace kept b = in_token Mode.Brace kept (λ s u. refl) b (λ w h. brace_turns p colon w kept o h)
+  mode_sound (Mode.Lob l) kept b = in_token (Mode.Lob l) kept (λ s u. refl) b (λ w h. lob_turns p colon l w kept o h)
 
 -- What comes of one octet is so.
 pub feed_sound : (p : Place) (colon : Bool) (k : ℕ) (s : Known) (since : List ℕ) (o : ℕ) → Holds p colon k s since → Sound p colon k since o (feed p s o)

@@ -1,16 +1,11 @@
 -- What the scanner tells is what the octets are.
 use Rattle.std.proofs.Common.{◌≡◌, ℕ, ◌+◌, Bool, false, List, [], ◌∷◌, ◌++◌, length, refl, sym, ap, ◌∙◌, subst, append_assoc, append-nil}
 use Rattle.std.specs.Prelude.{Some, None, Ok}
-use Rattle.ion_tokens.specs.declared.mode.Place.{Place}
-use Rattle.ion_tokens.specs.machine.Scanning.{Known, Next, run, at_end}
-use Rattle.ion_tokens.specs.Lexemes.{Lexeme}
-use Rattle.ion_tokens.specs.Blanks.{IsLastBlank}
-use Rattle.ion_tokens.specs.Lexed.{Placed, colon_behind, Lexes, LexesTo, Passes, AllPass}
-use Rattle.ion_tokens.specs.machine.Told.{Stands}
+use Rattle.ion_tokens.specs.Names.{AllPass, IsLastBlank, Known, Lexeme, Lexes, LexesTo, Next, Passes, Place, Placed, Stands, at_end, colon_behind, run}
 use Rattle.ion_tokens.proofs.sound.Holds.{blank_none}
-use Rattle.ion_tokens.proofs.sound.Sounds.{RunSound, run_sound}
-use Rattle.ion_tokens.proofs.sound.SoundEnds.{IsLastToken, EndSound, end_sound}
+use Rattle.ion_tokens.proofs.sound.SoundEnds.{EndSound, IsLastToken, end_sound}
 use Rattle.ion_tokens.proofs.sound.SoundHistories.{HasTold, stands_tells}
+use Rattle.ion_tokens.proofs.sound.Sounds.{RunSound, run_sound}
 
 -- tokens up to some octets, and tokens in the others
 pub lexes_behind : (ts others : List Placed) (colon : Bool) (before : ℕ) (octets : List ℕ) (after : Bool) (end : ℕ) (rest : List ℕ)

@@ -3,24 +3,11 @@ use Rattle.std.proofs.Common.{◌≡◌, ◌≢◌, ℕ, Bool, true, false, List
 use Rattle.std.specs.Prelude.{◌==◌, ◌||◌, not, codes}
 use Rattle.std.specs.List.{flat_map, AllByRecursion}
 use Rattle.std.proofs.lemmas.Bool.Decides.{nat_tests}
-use Rattle.ion_atoms.specs.declared.refusal.Reason.TheVariants as reasons
-use Rattle.ion_tokens.specs.Octets.{is_white, is_base64}
-use Rattle.ion_tokens.specs.declared.mode.Place.{Place}
-use Rattle.ion_tokens.specs.declared.mode.Lob.{Lob}
-use Rattle.ion_tokens.specs.declared.mode.Action.{Action}
-use Rattle.ion_tokens.specs.declared.mode.Style.TheVariants as styles
-use Rattle.ion_tokens.specs.declared.mode.Within.TheVariants as within
-use Rattle.ion_tokens.specs.declared.mode.Mode.TheVariants as modes
-use Rattle.ion_tokens.specs.declared.mode.Lob.TheVariants as lobs
-use Rattle.ion_tokens.specs.declared.mode.TokenKind.TheVariants as kinds
-use Rattle.ion_tokens.specs.declared.mode.Keep.TheVariants as keeps
-use Rattle.ion_tokens.specs.declared.mode.Action.TheVariants as actions
-use Rattle.ion_tokens.specs.machine.Table.{in_lob, lob_start, in_blob, after_short, after_long, third_quote, second_brace, refused, go, add, is_name}
-use Rattle.ion_tokens.specs.Lexemes.{Each, Segment, IsSegment, segment_spelling, ShortText, LongTexts}
-use Rattle.ion_tokens.proofs.sound.Opens.{IsOpen, InLob, IsLongText, solid, AnyBlob, Turns}
-use Rattle.ion_tokens.proofs.texts.TextsRead.{reads_none}
+use Rattle.ion_tokens.specs.Names.{Action, Each, IsSegment, Keep, Lob, LongTexts, Mode, Place, Reason, Segment, ShortText, Style, TokenKind, Within, add, after_long, after_short, go, in_blob, in_lob, is_base64, is_name, is_white, lob_start, refused, second_brace, segment_spelling, third_quote}
 use Rattle.ion_tokens.specs.laws.Each.{each_last}
+use Rattle.ion_tokens.proofs.sound.Opens.{AnyBlob, InLob, IsLongText, IsOpen, Turns, solid}
 use Rattle.ion_tokens.proofs.sound.TurnsTexts.{segments_last}
+use Rattle.ion_tokens.proofs.texts.TextsRead.{reads_none}
 
 -- an action behind {{ and more
 abbrev At : Place → Bool → List ℕ → List ℕ → ℕ → Action → Type 0
@@ -62,7 +49,7 @@ any_white o h = ap (λ b. b || is_base64 o) h
 blob_turns : (p : Place) (colon : Bool) (inside kept : List ℕ) (o : ℕ) → is_name p ≡ false → Each AnyBlob inside → kept ≡ solid inside
     → At p colon inside kept o (in_blob o)
 blob_turns p colon inside kept o n h e = by (o == 125) refl where
-  base : (b : Bool) → is_base64 o ≡ b → At p colon inside kept o (cond b (add (modes.Lob lobs.Base64) o) (actions.Refuse reasons.BadBase64))
+  base : (b : Bool) → is_base64 o ≡ b → At p colon inside kept o (cond b (add (Mode.Lob Lob.Base64) o) (Action.Refuse Reason.BadBase64))
   base true f = (
     n,
     inside ++ o ∷ [],
@@ -76,47 +63,47 @@ blob_turns p colon inside kept o n h e = by (o == 125) refl where
   base false f = tt
 
   by : (b : Bool) → (o == 125) ≡ b → At p colon inside kept o
-      (cond b actions.EndBlob (cond (is_base64 o) (add (modes.Lob lobs.Base64) o) (actions.Refuse reasons.BadBase64)))
+      (cond b Action.EndBlob (cond (is_base64 o) (add (Mode.Lob Lob.Base64) o) (Action.Refuse Reason.BadBase64)))
   by true f = (n, inside, refl, h, e, eq_of o 125 f)
   by false f = base (is_base64 o) refl
 
 -- behind {{ and white space
-start_turns : (p : Place) (colon : Bool) (inside kept : List ℕ) (o : ℕ) → is_name p ≡ false → InLob lobs.Start inside kept
+start_turns : (p : Place) (colon : Bool) (inside kept : List ℕ) (o : ℕ) → is_name p ≡ false → InLob Lob.Start inside kept
     → At p colon inside kept o (lob_start o)
 start_turns p colon inside kept o n (k, w) = by (is_white o) refl where
-  third : (b : Bool) → (o == 39) ≡ b → At p colon inside kept o (cond b (go (modes.Lob lobs.StartQuote)) (in_blob o))
+  third : (b : Bool) → (o == 39) ≡ b → At p colon inside kept o (cond b (go (Mode.Lob Lob.StartQuote)) (in_blob o))
   third true f = let is : o ≡ 39 = eq_of o 39 f in (n, inside ++ o ∷ [], refl, (k, inside, w, (λ i. inside ++ is i ∷ [])))
   third false f = blob_turns p colon inside kept o n (white_any inside w) (k ∙ sym (solid_none inside w))
 
   second : (b : Bool) → (o == 34) ≡ b → At p colon inside kept o
-      (cond b (go (modes.Text styles.ShortClob within.Plain)) (cond (o == 39) (go (modes.Lob lobs.StartQuote)) (in_blob o)))
+      (cond b (go (Mode.Text Style.ShortClob Within.Plain)) (cond (o == 39) (go (Mode.Lob Lob.StartQuote)) (in_blob o)))
   second true f = let is : o ≡ 34 = eq_of o 34 f in (
     n,
     inside,
     [],
     w,
-    subst (λ l. Rattle.ion_tokens.proofs.texts.TextsSound.Reads styles.ShortClob within.Plain [] l) (sym k) (reads_none styles.ShortClob),
+    subst (λ l. Rattle.ion_tokens.proofs.texts.TextsSound.Reads Style.ShortClob Within.Plain [] l) (sym k) (reads_none Style.ShortClob),
     (λ i. 123 ∷ 123 ∷ (inside ++ is i ∷ [])),
   )
   second false f = third (o == 39) refl
 
   by : (b : Bool) → is_white o ≡ b → At p colon inside kept o
-      (cond b (go (modes.Lob lobs.Start)) (cond (o == 34) (go (modes.Text styles.ShortClob within.Plain))
-      (cond (o == 39) (go (modes.Lob lobs.StartQuote)) (in_blob o))))
+      (cond b (go (Mode.Lob Lob.Start)) (cond (o == 34) (go (Mode.Text Style.ShortClob Within.Plain))
+      (cond (o == 39) (go (Mode.Lob Lob.StartQuote)) (in_blob o))))
   by true f = (n, inside ++ o ∷ [], refl, (k, each_last is_white inside o w f))
   by false f = second (o == 34) refl
 
-start_quote_turns : (p : Place) (colon : Bool) (inside kept : List ℕ) (o : ℕ) → is_name p ≡ false → InLob lobs.StartQuote inside kept
-    → At p colon inside kept o (third_quote o (modes.Lob lobs.StartQuotes))
+start_quote_turns : (p : Place) (colon : Bool) (inside kept : List ℕ) (o : ℕ) → is_name p ≡ false → InLob Lob.StartQuote inside kept
+    → At p colon inside kept o (third_quote o (Mode.Lob Lob.StartQuotes))
 start_quote_turns p colon inside kept o n (k, b, w, e) = by (o == 39) refl where
-  by : (c : Bool) → (o == 39) ≡ c → At p colon inside kept o (cond c (go (modes.Lob lobs.StartQuotes)) refused)
+  by : (c : Bool) → (o == 39) ≡ c → At p colon inside kept o (cond c (go (Mode.Lob Lob.StartQuotes)) refused)
   by true f = let is : o ≡ 39 = eq_of o 39 f in (n, inside ++ o ∷ [], refl, (k, b, w, (λ i. e i ++ is i ∷ []) ∙ append_assoc b (39 ∷ []) (39 ∷ [])))
   by false f = tt
 
-start_quotes_turns : (p : Place) (colon : Bool) (inside kept : List ℕ) (o : ℕ) → is_name p ≡ false → InLob lobs.StartQuotes inside kept
-    → At p colon inside kept o (third_quote o (modes.Text styles.LongClob within.Plain))
+start_quotes_turns : (p : Place) (colon : Bool) (inside kept : List ℕ) (o : ℕ) → is_name p ≡ false → InLob Lob.StartQuotes inside kept
+    → At p colon inside kept o (third_quote o (Mode.Text Style.LongClob Within.Plain))
 start_quotes_turns p colon inside kept o n (k, b, w, e) = by (o == 39) refl where
-  by : (c : Bool) → (o == 39) ≡ c → At p colon inside kept o (cond c (go (modes.Text styles.LongClob within.Plain)) refused)
+  by : (c : Bool) → (o == 39) ≡ c → At p colon inside kept o (cond c (go (Mode.Text Style.LongClob Within.Plain)) refused)
   by true f = let is : o ≡ 39 = eq_of o 39 f in (
     n,
     b,
@@ -124,45 +111,45 @@ start_quotes_turns p colon inside kept o n (k, b, w, e) = by (o == 39) refl wher
     [],
     [],
     record { before = b; segments = []; white = w; each = tt; spelled = sym (append-nil b); means = refl },
-    reads_none styles.LongClob,
+    reads_none Style.LongClob,
     ap (λ l. 123 ∷ 123 ∷ l) ((λ i. e i ++ is i ∷ []) ∙ append_assoc b (39 ∷ 39 ∷ []) (39 ∷ [])),
     k,
   )
   by false f = tt
 
-base_turns : (p : Place) (colon : Bool) (inside kept : List ℕ) (o : ℕ) → is_name p ≡ false → InLob lobs.Base64 inside kept
-    → At p colon inside kept o (in_lob lobs.Base64 o)
+base_turns : (p : Place) (colon : Bool) (inside kept : List ℕ) (o : ℕ) → is_name p ≡ false → InLob Lob.Base64 inside kept
+    → At p colon inside kept o (in_lob Lob.Base64 o)
 base_turns p colon inside kept o n (h, e) = by (is_white o) refl where
-  by : (b : Bool) → is_white o ≡ b → At p colon inside kept o (cond b (go (modes.Lob lobs.Base64)) (in_blob o))
+  by : (b : Bool) → is_white o ≡ b → At p colon inside kept o (cond b (go (Mode.Lob Lob.Base64)) (in_blob o))
   by true f = (n, inside ++ o ∷ [], refl, (each_last AnyBlob inside o h (any_white o f), e ∙ sym (solid_white inside o f)))
   by false f = blob_turns p colon inside kept o n h e
 
 two_braces : (content inside : List ℕ) (o : ℕ) → inside ≡ content ++ 125 ∷ [] → o ≡ 125 → 123 ∷ 123 ∷ inside ++ o ∷ [] ≡ codes "{{" ++ content ++ codes "}}"
 two_braces content inside o e is = ap (λ l. 123 ∷ 123 ∷ l) ((λ i. e i ++ is i ∷ []) ∙ append_assoc content (125 ∷ []) (125 ∷ []))
 
-blob_close_turns : (p : Place) (colon : Bool) (inside kept : List ℕ) (o : ℕ) → is_name p ≡ false → InLob lobs.BlobClose inside kept
-    → At p colon inside kept o (second_brace o kinds.Blob)
+blob_close_turns : (p : Place) (colon : Bool) (inside kept : List ℕ) (o : ℕ) → is_name p ≡ false → InLob Lob.BlobClose inside kept
+    → At p colon inside kept o (second_brace o TokenKind.Blob)
 blob_close_turns p colon inside kept o n (content, h, e) = by (o == 125) refl where
-  by : (c : Bool) → (o == 125) ≡ c → At p colon inside kept o (cond c (actions.Give kinds.Blob keeps.Nothing) refused)
+  by : (c : Bool) → (o == 125) ≡ c → At p colon inside kept o (cond c (Action.Give TokenKind.Blob Keep.Nothing) refused)
   by true f = λ r j. (n, content, h, two_braces content inside o e (eq_of o 125 f))
   by false f = tt
 
-clob_close_turns : (p : Place) (colon : Bool) (inside kept : List ℕ) (o : ℕ) → is_name p ≡ false → InLob lobs.ClobClose inside kept
-    → At p colon inside kept o (second_brace o kinds.Clob)
+clob_close_turns : (p : Place) (colon : Bool) (inside kept : List ℕ) (o : ℕ) → is_name p ≡ false → InLob Lob.ClobClose inside kept
+    → At p colon inside kept o (second_brace o TokenKind.Clob)
 clob_close_turns p colon inside kept o n (content, h, e) = by (o == 125) refl where
-  by : (c : Bool) → (o == 125) ≡ c → At p colon inside kept o (cond c (actions.Give kinds.Clob keeps.Nothing) refused)
+  by : (c : Bool) → (o == 125) ≡ c → At p colon inside kept o (cond c (Action.Give TokenKind.Clob Keep.Nothing) refused)
   by true f = λ r j. (n, content, h, two_braces content inside o e (eq_of o 125 f))
   by false f = tt
 
-after_short_turns : (p : Place) (colon : Bool) (inside kept : List ℕ) (o : ℕ) → is_name p ≡ false → InLob lobs.AfterShort inside kept
+after_short_turns : (p : Place) (colon : Bool) (inside kept : List ℕ) (o : ℕ) → is_name p ≡ false → InLob Lob.AfterShort inside kept
     → At p colon inside kept o (after_short o)
 after_short_turns p colon inside kept o n (b, t, a, bw, q, aw, e) = by (is_white o) refl where
-  close : (c : Bool) → (o == 125) ≡ c → At p colon inside kept o (cond c (go (modes.Lob lobs.ClobClose)) refused)
+  close : (c : Bool) → (o == 125) ≡ c → At p colon inside kept o (cond c (go (Mode.Lob Lob.ClobClose)) refused)
   close true f = let is : o ≡ 125 = eq_of o 125 f in (n, inside ++ o ∷ [], refl, (inside, ShortText b t a bw q aw e, (λ i. inside ++ is i ∷ [])))
   close false f = tt
 
   by : (c : Bool) → is_white o ≡ c → At p colon inside kept o
-      (cond c (go (modes.Lob lobs.AfterShort)) (cond (o == 125) (go (modes.Lob lobs.ClobClose)) refused))
+      (cond c (go (Mode.Lob Lob.AfterShort)) (cond (o == 125) (go (Mode.Lob Lob.ClobClose)) refused))
   by true f = (
     n,
     inside ++ o ∷ [],
@@ -208,14 +195,14 @@ some_segment : (gs : List Segment) (g : Segment) → gs ++ g ∷ [] ≢ []
 some_segment [] g e = cc
 some_segment (x ∷ gs) g e = cc
 
-after_long_turns : (p : Place) (colon : Bool) (inside kept : List ℕ) (o : ℕ) → is_name p ≡ false → InLob lobs.AfterLong inside kept
+after_long_turns : (p : Place) (colon : Bool) (inside kept : List ℕ) (o : ℕ) → is_name p ≡ false → InLob Lob.AfterLong inside kept
     → At p colon inside kept o (after_long o)
 after_long_turns p colon inside kept o n h = by (is_white o) refl where
-  quote : (c : Bool) → (o == 39) ≡ c → At p colon inside kept o (cond c (go (modes.Lob lobs.AfterQuote)) refused)
+  quote : (c : Bool) → (o == 39) ≡ c → At p colon inside kept o (cond c (go (Mode.Lob Lob.AfterQuote)) refused)
   quote true f = let is : o ≡ 39 = eq_of o 39 f in (n, inside ++ o ∷ [], refl, (inside, h, (λ i. inside ++ is i ∷ [])))
   quote false f = tt
 
-  close : (c : Bool) → (o == 125) ≡ c → At p colon inside kept o (cond c (go (modes.Lob lobs.ClobClose)) (third_quote o (modes.Lob lobs.AfterQuote)))
+  close : (c : Bool) → (o == 125) ≡ c → At p colon inside kept o (cond c (go (Mode.Lob Lob.ClobClose)) (third_quote o (Mode.Lob Lob.AfterQuote)))
   close true f = let is : o ≡ 125 = eq_of o 125 f in (
     n,
     inside ++ o ∷ [],
@@ -230,21 +217,21 @@ after_long_turns p colon inside kept o n h = by (is_white o) refl where
   close false f = quote (o == 39) refl
 
   by : (c : Bool) → is_white o ≡ c → At p colon inside kept o
-      (cond c (go (modes.Lob lobs.AfterLong)) (cond (o == 125) (go (modes.Lob lobs.ClobClose)) (third_quote o (modes.Lob lobs.AfterQuote))))
+      (cond c (go (Mode.Lob Lob.AfterLong)) (cond (o == 125) (go (Mode.Lob Lob.ClobClose)) (third_quote o (Mode.Lob Lob.AfterQuote))))
   by true f = (n, inside ++ o ∷ [], refl, more_white inside kept o h f)
   by false f = close (o == 125) refl
 
-after_quote_turns : (p : Place) (colon : Bool) (inside kept : List ℕ) (o : ℕ) → is_name p ≡ false → InLob lobs.AfterQuote inside kept
-    → At p colon inside kept o (third_quote o (modes.Lob lobs.AfterQuotes))
+after_quote_turns : (p : Place) (colon : Bool) (inside kept : List ℕ) (o : ℕ) → is_name p ≡ false → InLob Lob.AfterQuote inside kept
+    → At p colon inside kept o (third_quote o (Mode.Lob Lob.AfterQuotes))
 after_quote_turns p colon inside kept o n (front, h, e) = by (o == 39) refl where
-  by : (c : Bool) → (o == 39) ≡ c → At p colon inside kept o (cond c (go (modes.Lob lobs.AfterQuotes)) refused)
+  by : (c : Bool) → (o == 39) ≡ c → At p colon inside kept o (cond c (go (Mode.Lob Lob.AfterQuotes)) refused)
   by true f = let is : o ≡ 39 = eq_of o 39 f in (n, inside ++ o ∷ [], refl, (front, h, (λ i. e i ++ is i ∷ []) ∙ append_assoc front (39 ∷ []) (39 ∷ [])))
   by false f = tt
 
-after_quotes_turns : (p : Place) (colon : Bool) (inside kept : List ℕ) (o : ℕ) → is_name p ≡ false → InLob lobs.AfterQuotes inside kept
-    → At p colon inside kept o (third_quote o (modes.Text styles.LongClob within.Plain))
+after_quotes_turns : (p : Place) (colon : Bool) (inside kept : List ℕ) (o : ℕ) → is_name p ≡ false → InLob Lob.AfterQuotes inside kept
+    → At p colon inside kept o (third_quote o (Mode.Text Style.LongClob Within.Plain))
 after_quotes_turns p colon inside kept o n (front, h, e) = by (o == 39) refl where
-  by : (c : Bool) → (o == 39) ≡ c → At p colon inside kept o (cond c (go (modes.Text styles.LongClob within.Plain)) refused)
+  by : (c : Bool) → (o == 39) ≡ c → At p colon inside kept o (cond c (go (Mode.Text Style.LongClob Within.Plain)) refused)
   by true f = let is : o ≡ 39 = eq_of o 39 f in (
     n,
     front,
@@ -260,30 +247,30 @@ after_quotes_turns p colon inside kept o n (front, h, e) = by (o == 39) refl whe
       spelled = h.spelled;
       means = h.means;
     },
-    reads_none styles.LongClob,
+    reads_none Style.LongClob,
     ap (λ l. 123 ∷ 123 ∷ l) ((λ i. e i ++ is i ∷ []) ∙ append_assoc front (39 ∷ 39 ∷ []) (39 ∷ [])),
     sym (append-nil kept),
   )
   by false f = tt
 
 -- what the table does with an octet of an open lob fits the lob
-pub lob_turns : (p : Place) (colon : Bool) (l : Lob) (w kept : List ℕ) (o : ℕ) → IsOpen p colon (modes.Lob l) w kept → Turns p colon w kept o (in_lob l o)
-lob_turns p colon lobs.Start w kept o (n, inside, e, h) = subst (λ x. Turns p colon x kept o (lob_start o)) (sym e) (start_turns p colon inside kept o n h)
-lob_turns p colon lobs.StartQuote w kept o (n, inside, e, h) =
-    subst (λ x. Turns p colon x kept o (in_lob lobs.StartQuote o)) (sym e) (start_quote_turns p colon inside kept o n h)
-lob_turns p colon lobs.StartQuotes w kept o (n, inside, e, h) =
-    subst (λ x. Turns p colon x kept o (in_lob lobs.StartQuotes o)) (sym e) (start_quotes_turns p colon inside kept o n h)
-lob_turns p colon lobs.Base64 w kept o (n, inside, e, h) =
-    subst (λ x. Turns p colon x kept o (in_lob lobs.Base64 o)) (sym e) (base_turns p colon inside kept o n h)
-lob_turns p colon lobs.BlobClose w kept o (n, inside, e, h) =
-    subst (λ x. Turns p colon x kept o (in_lob lobs.BlobClose o)) (sym e) (blob_close_turns p colon inside kept o n h)
-lob_turns p colon lobs.AfterShort w kept o (n, inside, e, h) =
+pub lob_turns : (p : Place) (colon : Bool) (l : Lob) (w kept : List ℕ) (o : ℕ) → IsOpen p colon (Mode.Lob l) w kept → Turns p colon w kept o (in_lob l o)
+lob_turns p colon Lob.Start w kept o (n, inside, e, h) = subst (λ x. Turns p colon x kept o (lob_start o)) (sym e) (start_turns p colon inside kept o n h)
+lob_turns p colon Lob.StartQuote w kept o (n, inside, e, h) =
+    subst (λ x. Turns p colon x kept o (in_lob Lob.StartQuote o)) (sym e) (start_quote_turns p colon inside kept o n h)
+lob_turns p colon Lob.StartQuotes w kept o (n, inside, e, h) =
+    subst (λ x. Turns p colon x kept o (in_lob Lob.StartQuotes o)) (sym e) (start_quotes_turns p colon inside kept o n h)
+lob_turns p colon Lob.Base64 w kept o (n, inside, e, h) =
+    subst (λ x. Turns p colon x kept o (in_lob Lob.Base64 o)) (sym e) (base_turns p colon inside kept o n h)
+lob_turns p colon Lob.BlobClose w kept o (n, inside, e, h) =
+    subst (λ x. Turns p colon x kept o (in_lob Lob.BlobClose o)) (sym e) (blob_close_turns p colon inside kept o n h)
+lob_turns p colon Lob.AfterShort w kept o (n, inside, e, h) =
     subst (λ x. Turns p colon x kept o (after_short o)) (sym e) (after_short_turns p colon inside kept o n h)
-lob_turns p colon lobs.AfterLong w kept o (n, inside, e, h) =
+lob_turns p colon Lob.AfterLong w kept o (n, inside, e, h) =
     subst (λ x. Turns p colon x kept o (after_long o)) (sym e) (after_long_turns p colon inside kept o n h)
-lob_turns p colon lobs.AfterQuote w kept o (n, inside, e, h) =
-    subst (λ x. Turns p colon x kept o (in_lob lobs.AfterQuote o)) (sym e) (after_quote_turns p colon inside kept o n h)
-lob_turns p colon lobs.AfterQuotes w kept o (n, inside, e, h) =
-    subst (λ x. Turns p colon x kept o (in_lob lobs.AfterQuotes o)) (sym e) (after_quotes_turns p colon inside kept o n h)
-lob_turns p colon lobs.ClobClose w kept o (n, inside, e, h) =
-    subst (λ x. Turns p colon x kept o (in_lob lobs.ClobClose o)) (sym e) (clob_close_turns p colon inside kept o n h)
+lob_turns p colon Lob.AfterQuote w kept o (n, inside, e, h) =
+    subst (λ x. Turns p colon x kept o (in_lob Lob.AfterQuote o)) (sym e) (after_quote_turns p colon inside kept o n h)
+lob_turns p colon Lob.AfterQuotes w kept o (n, inside, e, h) =
+    subst (λ x. Turns p colon x kept o (in_lob Lob.AfterQuotes o)) (sym e) (after_quotes_turns p colon inside kept o n h)
+lob_turns p colon Lob.ClobClose w kept o (n, inside, e, h) =
+    subst (λ x. Turns p colon x kept o (in_lob Lob.ClobClose o)) (sym e) (clob_close_turns p colon inside kept o n h)

@@ -3,20 +3,10 @@ use Rattle.std.proofs.Common.{◌≡◌, ◌≢◌, ℕ, ◌≤◌, ◌⊎◌, i
 use Rattle.std.specs.Prelude.{◌==◌, ◌&&◌, ◌||◌, not, codes, take}
 use Rattle.std.proofs.lemmas.Bool.{false≢true, true≢false}
 use Rattle.std.proofs.lemmas.Bool.Decides.{nat_tests}
-use Rattle.ion_atoms.specs.declared.refusal.Reason.TheVariants as reasons
-use Rattle.ion_tokens.specs.Octets.{is_digit, is_word_octet, is_operator_octet, is_stop}
-use Rattle.ion_tokens.specs.declared.mode.Place.{Place}
-use Rattle.ion_tokens.specs.declared.mode.Ending.{Ending}
-use Rattle.ion_tokens.specs.declared.mode.Place.TheVariants as places
-use Rattle.ion_tokens.specs.declared.mode.Ending.TheVariants as endings
-use Rattle.ion_tokens.specs.declared.mode.Mode.TheVariants as modes
-use Rattle.ion_tokens.specs.declared.mode.TokenKind.TheVariants as kinds
-use Rattle.ion_tokens.specs.declared.mode.Keep.TheVariants as keeps
-use Rattle.ion_tokens.specs.declared.mode.Action.TheVariants as actions
-use Rattle.ion_tokens.specs.machine.Table.{in_operator, in_operator_slash, in_infinity, digit_behind, is_other, run_ending, refused, add, go, before, is_name, is_sexp}
-use Rattle.ion_tokens.specs.Lexemes.{begins, ends, begins_comment, comment_within, begins_infinity, IsOperator, IsLexeme}
-use Rattle.ion_tokens.proofs.sound.Opens.{IsOpen, IsOpenNumber, IsOpenRun, RunEndsSo, Turns}
+use Rattle.ion_tokens.specs.Names.{Action, Ending, IsLexeme, IsOperator, Keep, Mode, Place, Reason, TokenKind, add, before, begins, begins_comment, begins_infinity, comment_within, digit_behind, go, in_infinity, in_operator, in_operator_slash, is_digit, is_name, is_operator_octet, is_other, is_sexp, is_stop, is_word_octet, refused, run_ending}
+use Rattle.ion_tokens.specs.Lexemes.{ends}
 use Rattle.ion_tokens.specs.laws.Each.{each_last}
+use Rattle.ion_tokens.proofs.sound.Opens.{IsOpen, IsOpenNumber, IsOpenRun, RunEndsSo, Turns}
 
 eq_of : (a b : ℕ) → (a == b) ≡ true → a ≡ b
 eq_of a b h = grind (arith, nat_tests)
@@ -68,7 +58,7 @@ run_more w o h e n = record {
 -- in an s-expression a run ends as its last octet says
 pub ends_so : (p : Place) (w : List ℕ) (o : ℕ) → is_sexp p ≡ true → RunEndsSo p (run_ending o) (w ++ o ∷ [])
 ends_so p w o s = by (o == 43) (o == 45) refl refl where
-  by : (b c : Bool) → (o == 43) ≡ b → (o == 45) ≡ c → RunEndsSo p (cond b endings.Plus (cond c endings.Minus endings.Other)) (w ++ o ∷ [])
+  by : (b c : Bool) → (o == 43) ≡ b → (o == 45) ≡ c → RunEndsSo p (cond b Ending.Plus (cond c Ending.Minus Ending.Other)) (w ++ o ∷ [])
   by true c e f = let is : o ≡ 43 = eq_of o 43 e in ends_last (λ o. o == 45) w o ∙ ap (λ (x : ℕ). x == 45) is
   by false true e f = s
   by false false e f = (s, ends_last (λ o. o == 45) w o ∙ f, ends_last (λ o. (o == 43) || (o == 45)) w o ∙ both_false (o == 43) (o == 45) e f)
@@ -91,7 +81,7 @@ digit_no_i o r h = no_i o r (λ e. true≢false (sym (subst (λ (x : ℕ). is_di
 -- an open run before what ends it
 pub found_run : (p : Place) (colon : Bool) (w r : List ℕ) → is_sexp p ≡ true → IsOpenRun w → (begins is_operator_octet r ≡ false) ⊎ (begins_comment r ≡ true)
     → (ends (λ o. o == 45) w ≡ true → begins is_digit r ≡ false)
-    → (ends (λ o. (o == 43) || (o == 45)) w ≡ true → begins_infinity r ≡ false) → IsLexeme p colon w r kinds.Operator w
+    → (ends (λ o. (o == 43) || (o == 45)) w ≡ true → begins_infinity r ≡ false) → IsLexeme p colon w r TokenKind.Operator w
 found_run p colon w r s h l n f = (
   refl,
   s,
@@ -112,71 +102,71 @@ infinity_first o (x ∷ y ∷ r) n = ap (λ b. b && ((x == 110) && ((y == 102) &
 
 digit_turns : (p : Place) (colon : Bool) (e : Ending) (w : List ℕ) (o : ℕ) → is_name p ≡ false → IsOpenRun w → RunEndsSo p e w → is_digit o ≡ true
     → Turns p colon w w o (digit_behind p e o)
-digit_turns p colon endings.LoneMinus w o n h s d = (
+digit_turns p colon Ending.LoneMinus w o n h s d = (
   refl,
   subst (λ l. IsOpenNumber p (l ++ o ∷ [])) (sym s) (record { place = n; begun = d; each = (refl, (ap not (digit_no_stop o d), tt)) }),
 )
-digit_turns p colon endings.Minus w o n h s d = tt
-digit_turns p colon endings.Plus w o n h s d = by (is_sexp p) refl where
-  by : (b : Bool) → is_sexp p ≡ b → Turns p colon w w o (cond b (before kinds.Operator) refused)
+digit_turns p colon Ending.Minus w o n h s d = tt
+digit_turns p colon Ending.Plus w o n h s d = by (is_sexp p) refl where
+  by : (b : Bool) → is_sexp p ≡ b → Turns p colon w w o (cond b (before TokenKind.Operator) refused)
   by true f = λ r j. (found_run p colon w (o ∷ r) f h (inl (digit_no_operator o d)) (λ m. absurd (true≢false (sym m ∙ s))) (λ m. digit_no_i o r d))
   by false f = tt
-digit_turns p colon endings.Other w o n h s d = λ r j. (found_run p colon w (o ∷ r) s.0 h (inl (digit_no_operator o d)) (λ m. absurd (true≢false (sym m ∙ s.1)))
+digit_turns p colon Ending.Other w o n h s d = λ r j. (found_run p colon w (o ∷ r) s.0 h (inl (digit_no_operator o d)) (λ m. absurd (true≢false (sym m ∙ s.1)))
     (λ m. digit_no_i o r d))
 
 no_sign : (p : Place) (e : Ending) (w : List ℕ) → RunEndsSo p e w → is_other e ≡ true → ends (λ o. (o == 43) || (o == 45)) w ≡ false
-no_sign p endings.Other w s o = s.2
-no_sign p endings.LoneMinus w s o = absurd (false≢true o)
-no_sign p endings.Minus w s o = absurd (false≢true o)
-no_sign p endings.Plus w s o = absurd (false≢true o)
+no_sign p Ending.Other w s o = s.2
+no_sign p Ending.LoneMinus w s o = absurd (false≢true o)
+no_sign p Ending.Minus w s o = absurd (false≢true o)
+no_sign p Ending.Plus w s o = absurd (false≢true o)
 
 -- what the table does with an octet behind an open operator fits the operator
-pub operator_turns : (p : Place) (colon : Bool) (e : Ending) (w kept : List ℕ) (o : ℕ) → IsOpen p colon (modes.Operator e) w kept
+pub operator_turns : (p : Place) (colon : Bool) (e : Ending) (w kept : List ℕ) (o : ℕ) → IsOpen p colon (Mode.Operator e) w kept
     → Turns p colon w kept o (in_operator p e o)
 operator_turns p colon e w kept o (k, n, h, s) = subst (λ l. Turns p colon w l o (in_operator p e o)) (sym k) (digit (is_digit o) refl) where
   ended : is_sexp p ≡ true → is_digit o ≡ false → is_operator_octet o ≡ false → ((o == 105) ≡ false) ⊎ (is_other e ≡ true)
-      → Turns p colon w w o (before kinds.Operator)
+      → Turns p colon w w o (before TokenKind.Operator)
   ended x d f i = λ r j. (found_run p colon w (o ∷ r) x h (inl f) (λ m. d)
       (λ m. ⊎_elim (λ i. infinity_first o r i) (λ t. absurd (true≢false (sym m ∙ no_sign p e w s t))) i))
 
   more : (b : Bool) → is_operator_octet o ≡ b → is_sexp p ≡ true → is_digit o ≡ false → (o == 47) ≡ false → ((o == 105) ≡ false) ⊎ (is_other e ≡ true)
-      → Turns p colon w w o (cond b (add (modes.Operator (run_ending o)) o) (before kinds.Operator))
+      → Turns p colon w w o (cond b (add (Mode.Operator (run_ending o)) o) (before TokenKind.Operator))
   more true f x d c i = (refl, n, run_more w o h f c, ends_so p w o x)
   more false f x d c i = ended x d f i
 
   slash : (b : Bool) → (o == 47) ≡ b → is_sexp p ≡ true → is_digit o ≡ false → ((o == 105) ≡ false) ⊎ (is_other e ≡ true)
-      → Turns p colon w w o (cond b (go modes.OperatorSlash) (cond (is_operator_octet o) (add (modes.Operator (run_ending o)) o) (before kinds.Operator)))
+      → Turns p colon w w o (cond b (go Mode.OperatorSlash) (cond (is_operator_octet o) (add (Mode.Operator (run_ending o)) o) (before TokenKind.Operator)))
   slash true f x d i = let is : o ≡ 47 = eq_of o 47 f in ((λ j. w ++ is j ∷ []), x, h)
   slash false f x d i = more (is_operator_octet o) refl x d f i
 
   place : (b : Bool) → is_sexp p ≡ b → is_digit o ≡ false → ((o == 105) ≡ false) ⊎ (is_other e ≡ true)
-      → Turns p colon w w o (cond (not b) refused (cond (o == 47) (go modes.OperatorSlash)
-      (cond (is_operator_octet o) (add (modes.Operator (run_ending o)) o) (before kinds.Operator))))
+      → Turns p colon w w o (cond (not b) refused (cond (o == 47) (go Mode.OperatorSlash)
+      (cond (is_operator_octet o) (add (Mode.Operator (run_ending o)) o) (before TokenKind.Operator))))
   place true f d i = slash (o == 47) refl f d i
   place false f d i = tt
 
   letter : (b c : Bool) → (o == 105) ≡ b → is_other e ≡ c → is_digit o ≡ false
-      → Turns p colon w w o (cond (b && not c) (go (modes.Infinity 1))
-      (cond (not (is_sexp p)) refused (cond (o == 47) (go modes.OperatorSlash)
-      (cond (is_operator_octet o) (add (modes.Operator (run_ending o)) o) (before kinds.Operator)))))
+      → Turns p colon w w o (cond (b && not c) (go (Mode.Infinity 1))
+      (cond (not (is_sexp p)) refused (cond (o == 47) (go Mode.OperatorSlash)
+      (cond (is_operator_octet o) (add (Mode.Operator (run_ending o)) o) (before TokenKind.Operator)))))
   letter true false f g d = let is : o ≡ 105 = eq_of o 105 f in ((λ j. w ++ is j ∷ []), h, omega arith, omega arith)
   letter true true f g d = place (is_sexp p) refl d (inr g)
   letter false c f g d = place (is_sexp p) refl d (inl f)
 
   digit : (b : Bool) → is_digit o ≡ b → Turns p colon w w o
-      (cond b (digit_behind p e o) (cond ((o == 105) && not (is_other e)) (go (modes.Infinity 1))
-      (cond (not (is_sexp p)) refused (cond (o == 47) (go modes.OperatorSlash)
-      (cond (is_operator_octet o) (add (modes.Operator (run_ending o)) o) (before kinds.Operator))))))
+      (cond b (digit_behind p e o) (cond ((o == 105) && not (is_other e)) (go (Mode.Infinity 1))
+      (cond (not (is_sexp p)) refused (cond (o == 47) (go Mode.OperatorSlash)
+      (cond (is_operator_octet o) (add (Mode.Operator (run_ending o)) o) (before TokenKind.Operator))))))
   digit true f = digit_turns p colon e w o n h s f
   digit false f = letter (o == 105) (is_other e) refl refl f
 
 -- in an s-expression no field's name stands
 pub sexp_no_name : (p : Place) → is_sexp p ≡ true → is_name p ≡ false
-sexp_no_name places.Sexp h = refl
-sexp_no_name places.Top h = refl
-sexp_no_name places.List h = refl
-sexp_no_name places.Name h = absurd (false≢true h)
-sexp_no_name places.FieldValue h = refl
+sexp_no_name Place.Sexp h = refl
+sexp_no_name Place.Top h = refl
+sexp_no_name Place.List h = refl
+sexp_no_name Place.Name h = absurd (false≢true h)
+sexp_no_name Place.FieldValue h = refl
 
 -- a run, a / and a character behind that begin no comment
 slashed : (w : List ℕ) (o : ℕ) → IsOpenRun w → ((o == 47) || (o == 42)) ≡ false → (r : List ℕ) → comment_within (w ++ 47 ∷ []) (o ∷ r) ≡ false
@@ -197,11 +187,11 @@ slashed_run w o h c e = record {
 }
 
 -- what the table does with an octet behind an operator and a `/` fits them
-pub operator_slash_turns : (p : Place) (colon : Bool) (w kept : List ℕ) (o : ℕ) → IsOpen p colon modes.OperatorSlash w kept
+pub operator_slash_turns : (p : Place) (colon : Bool) (w kept : List ℕ) (o : ℕ) → IsOpen p colon Mode.OperatorSlash w kept
     → Turns p colon w kept o (in_operator_slash o)
 operator_slash_turns p colon w kept o (e, s, h) = by ((o == 47) || (o == 42)) refl where
   more : (b : Bool) → is_operator_octet o ≡ b → ((o == 47) || (o == 42)) ≡ false
-      → Turns p colon w kept o (cond b (actions.Go (modes.Operator (run_ending o)) (keeps.Two 47 o)) (actions.Before kinds.Operator (keeps.One 47) modes.Blank))
+      → Turns p colon w kept o (cond b (Action.Go (Mode.Operator (run_ending o)) (Keep.Two 47 o)) (Action.Before TokenKind.Operator (Keep.One 47) Mode.Blank))
   more true f c = (ap (λ l. l ++ o ∷ []) (sym e), sexp_no_name p s, subst (λ l. IsOpenRun (l ++ o ∷ [])) (sym e) (slashed_run kept o h c f), ends_so p w o s)
   more false f c = λ r j. (
     sym e,
@@ -218,8 +208,8 @@ operator_slash_turns p colon w kept o (e, s, h) = by ((o == 47) || (o == 42)) re
   )
 
   by : (b : Bool) → ((o == 47) || (o == 42)) ≡ b → Turns p colon w kept o
-      (cond b (actions.Before kinds.Operator keeps.Nothing modes.Slash)
-      (cond (is_operator_octet o) (actions.Go (modes.Operator (run_ending o)) (keeps.Two 47 o)) (actions.Before kinds.Operator (keeps.One 47) modes.Blank)))
+      (cond b (Action.Before TokenKind.Operator Keep.Nothing Mode.Slash)
+      (cond (is_operator_octet o) (Action.Go (Mode.Operator (run_ending o)) (Keep.Two 47 o)) (Action.Before TokenKind.Operator (Keep.One 47) Mode.Blank)))
   by true c = (kept, e, λ r j. (found_run p colon kept (47 ∷ o ∷ r) s h (inr c) (λ m. refl) (λ m. infinity_first 47 (o ∷ r) refl)))
   by false c = more (is_operator_octet o) refl c
 
@@ -227,43 +217,43 @@ operator_slash_turns p colon w kept o (e, s, h) = by ((o == 47) || (o == 42)) re
 split_turns : (p : Place) (colon : Bool) (w kept : List ℕ) (n o : ℕ) → w ≡ kept ++ take n (codes "inf") → IsOpenRun kept → 1 ≤ n → n ≤ 3
     → ((r : List ℕ) → (begins is_operator_octet (take n (codes "inf") ++ o ∷ r) ≡ false) × (begins is_digit (take n (codes "inf") ++ o ∷ r) ≡ false)
     × (begins_infinity (take n (codes "inf") ++ o ∷ r) ≡ false))
-    → Turns p colon w kept o (cond (is_sexp p) (actions.Split n) refused)
+    → Turns p colon w kept o (cond (is_sexp p) (Action.Split n) refused)
 split_turns p colon w kept n o e h low high f = by (is_sexp p) refl where
-  by : (b : Bool) → is_sexp p ≡ b → Turns p colon w kept o (cond b (actions.Split n) refused)
+  by : (b : Bool) → is_sexp p ≡ b → Turns p colon w kept o (cond b (Action.Split n) refused)
   by true s = (low, high, kept, e, λ r. found_run p colon kept (take n (codes "inf") ++ o ∷ r) s h (inl (f r).0) (λ m. (f r).1) (λ m. (f r).2))
   by false s = tt
 
-infinity_one : (p : Place) (colon : Bool) (w kept : List ℕ) (o : ℕ) → IsOpen p colon (modes.Infinity 1) w kept → Turns p colon w kept o (in_infinity p 1 o)
+infinity_one : (p : Place) (colon : Bool) (w kept : List ℕ) (o : ℕ) → IsOpen p colon (Mode.Infinity 1) w kept → Turns p colon w kept o (in_infinity p 1 o)
 infinity_one p colon w kept o (e, h, low, high) = by (o == 110) refl where
   no_n : (r : List ℕ) → (o == 110) ≡ false → begins_infinity (105 ∷ o ∷ r) ≡ false
   no_n [] f = refl
   no_n (x ∷ r) f = ap (λ b. b && ((x == 102) && not (begins is_word_octet r))) f
 
-  by : (b : Bool) → (o == 110) ≡ b → Turns p colon w kept o (cond b (go (modes.Infinity 2)) (cond (is_sexp p) (actions.Split 1) refused))
+  by : (b : Bool) → (o == 110) ≡ b → Turns p colon w kept o (cond b (go (Mode.Infinity 2)) (cond (is_sexp p) (Action.Split 1) refused))
   by true f = let is : o ≡ 110 = eq_of o 110 f in ((λ i. e i ++ is i ∷ []) ∙ append_assoc kept (105 ∷ []) (110 ∷ []), h, omega arith, omega arith)
   by false f = split_turns p colon w kept 1 o e h low high (λ r. (refl, refl, no_n r f))
 
-infinity_two : (p : Place) (colon : Bool) (w kept : List ℕ) (o : ℕ) → IsOpen p colon (modes.Infinity 2) w kept → Turns p colon w kept o (in_infinity p 2 o)
+infinity_two : (p : Place) (colon : Bool) (w kept : List ℕ) (o : ℕ) → IsOpen p colon (Mode.Infinity 2) w kept → Turns p colon w kept o (in_infinity p 2 o)
 infinity_two p colon w kept o (e, h, low, high) = by (o == 102) refl where
-  by : (b : Bool) → (o == 102) ≡ b → Turns p colon w kept o (cond b (go (modes.Infinity 3)) (cond (is_sexp p) (actions.Split 2) refused))
+  by : (b : Bool) → (o == 102) ≡ b → Turns p colon w kept o (cond b (go (Mode.Infinity 3)) (cond (is_sexp p) (Action.Split 2) refused))
   by true f = let is : o ≡ 102 = eq_of o 102 f in ((λ i. e i ++ is i ∷ []) ∙ append_assoc kept (105 ∷ 110 ∷ []) (102 ∷ []), h, omega arith, omega arith)
   by false f = split_turns p colon w kept 2 o e h low high (λ r. (refl, refl, ap (λ b. b && not (begins is_word_octet r)) f))
 
-infinity_three : (p : Place) (colon : Bool) (w kept : List ℕ) (o : ℕ) → IsOpen p colon (modes.Infinity 3) w kept → Turns p colon w kept o (in_infinity p 3 o)
+infinity_three : (p : Place) (colon : Bool) (w kept : List ℕ) (o : ℕ) → IsOpen p colon (Mode.Infinity 3) w kept → Turns p colon w kept o (in_infinity p 3 o)
 infinity_three p colon w kept o (e, h, low, high) = by (is_word_octet o) refl where
-  by : (b : Bool) → is_word_octet o ≡ b → Turns p colon w kept o (cond (not b) (actions.Refuse reasons.Float) (cond (is_sexp p) (actions.Split 3) refused))
+  by : (b : Bool) → is_word_octet o ≡ b → Turns p colon w kept o (cond (not b) (Action.Refuse Reason.Float) (cond (is_sexp p) (Action.Split 3) refused))
   by true f = split_turns p colon w kept 3 o e h low high (λ r. (refl, refl, ap not f))
   by false f = tt
 
 -- what the table does with an octet behind a sign and letters of `inf` fits them
-pub infinity_turns : (p : Place) (colon : Bool) (n : ℕ) (w kept : List ℕ) (o : ℕ) → IsOpen p colon (modes.Infinity n) w kept
+pub infinity_turns : (p : Place) (colon : Bool) (n : ℕ) (w kept : List ℕ) (o : ℕ) → IsOpen p colon (Mode.Infinity n) w kept
     → Turns p colon w kept o (in_infinity p n o)
 infinity_turns p colon n w kept o h =
     ⊎_elim (λ e. at 1 e (infinity_one p colon w kept o)) (λ m. ⊎_elim (λ e. at 2 e (infinity_two p colon w kept o))
     (λ l. at 3 l (infinity_three p colon w kept o)) m) (three n h.2 h.3)
   where
-    at : (m : ℕ) → n ≡ m → (IsOpen p colon (modes.Infinity m) w kept → Turns p colon w kept o (in_infinity p m o)) → Turns p colon w kept o (in_infinity p n o)
-    at m e f = subst (λ (x : ℕ). Turns p colon w kept o (in_infinity p x o)) (sym e) (f (subst (λ (x : ℕ). IsOpen p colon (modes.Infinity x) w kept) e h))
+    at : (m : ℕ) → n ≡ m → (IsOpen p colon (Mode.Infinity m) w kept → Turns p colon w kept o (in_infinity p m o)) → Turns p colon w kept o (in_infinity p n o)
+    at m e f = subst (λ (x : ℕ). Turns p colon w kept o (in_infinity p x o)) (sym e) (f (subst (λ (x : ℕ). IsOpen p colon (Mode.Infinity x) w kept) e h))
 
     three : (n : ℕ) → 1 ≤ n → n ≤ 3 → (n ≡ 1) ⊎ ((n ≡ 2) ⊎ (n ≡ 3))
     three n a b = grind (arith, nat_tests)

@@ -4,54 +4,41 @@ use Rattle.std.specs.Prelude.{◌==◌, not}
 use Rattle.std.specs.List.{flat_map}
 use Rattle.std.proofs.lemmas.Bool.{true≢false}
 use Rattle.std.proofs.lemmas.Bool.Decides.{nat_tests}
-use Rattle.ion_tokens.specs.declared.mode.Place.{Place}
-use Rattle.ion_tokens.specs.declared.mode.Style.{Style}
-use Rattle.ion_tokens.specs.declared.mode.Within.{Within}
-use Rattle.ion_tokens.specs.declared.mode.Lob.{Lob}
-use Rattle.ion_tokens.specs.declared.mode.Action.{Action}
-use Rattle.ion_tokens.specs.declared.mode.Style.TheVariants as styles
-use Rattle.ion_tokens.specs.declared.mode.Within.TheVariants as within
-use Rattle.ion_tokens.specs.declared.mode.Mode.TheVariants as modes
-use Rattle.ion_tokens.specs.declared.mode.Lob.TheVariants as lobs
-use Rattle.ion_tokens.specs.declared.mode.TokenKind.TheVariants as kinds
-use Rattle.ion_tokens.specs.declared.mode.Action.TheVariants as actions
-use Rattle.ion_tokens.specs.machine.Table.{in_text, in_quote, in_quotes, raw, go, before, is_name}
-use Rattle.ion_tokens.specs.machine.Scanning.{kept_after}
-use Rattle.ion_tokens.specs.Lexemes.{Each, begins, Segment, segment_spelling}
-use Rattle.ion_tokens.proofs.sound.Opens.{IsOpen, InText, IsLongFront, IsLongText, Turns}
-use Rattle.ion_tokens.proofs.texts.TextsSound.{Closes, EndsText}
-use Rattle.ion_tokens.proofs.texts.TextsRead.{LeadsText, text_step, reads_none, keeps_behind}
+use Rattle.ion_tokens.specs.Names.{Action, Each, Lob, Mode, Place, Segment, Style, TokenKind, Within, before, begins, go, in_quote, in_quotes, in_text, is_name, kept_after, raw, segment_spelling}
+use Rattle.ion_tokens.proofs.sound.Opens.{InText, IsLongFront, IsLongText, IsOpen, Turns}
 use Rattle.ion_tokens.proofs.sound.TurnsWords.{empty_symbol}
+use Rattle.ion_tokens.proofs.texts.TextsRead.{LeadsText, keeps_behind, reads_none, text_step}
+use Rattle.ion_tokens.proofs.texts.TextsSound.{Closes, EndsText}
 
 in_style : (p : Place) (s t : Style) (v : Within) (w kept : List ℕ) → s ≡ t → InText p t v w kept → InText p s v w kept
 in_style p s t v w kept e h = subst (λ x. InText p x v w kept) (sym e) h
 
 -- short strings
-short_turns : (p : Place) (colon : Bool) (part kept : List ℕ) (o : ℕ) (a : Action) → LeadsText styles.ShortString a (part ++ o ∷ []) kept
+short_turns : (p : Place) (colon : Bool) (part kept : List ℕ) (o : ℕ) (a : Action) → LeadsText Style.ShortString a (part ++ o ∷ []) kept
     → Turns p colon (34 ∷ part) kept o a
-short_turns p colon part kept o (actions.Go (modes.Text s v) k) (d, (e, h)) =
-    in_style p s styles.ShortString v (34 ∷ part ++ o ∷ []) (kept_after k kept) e (part ++ o ∷ [], h, refl)
-short_turns p colon part kept o (actions.Go (modes.Lob l) k) (d, (e, h)) = absurd (none l e) where
-  none : (l : Lob) → EndsText styles.ShortString l → ⊥
+short_turns p colon part kept o (Action.Go (Mode.Text s v) k) (d, (e, h)) =
+    in_style p s Style.ShortString v (34 ∷ part ++ o ∷ []) (kept_after k kept) e (part ++ o ∷ [], h, refl)
+short_turns p colon part kept o (Action.Go (Mode.Lob l) k) (d, (e, h)) = absurd (none l e) where
+  none : (l : Lob) → EndsText Style.ShortString l → ⊥
   none l e = e
-short_turns p colon part kept o (actions.Go m k) h = absurd h.1
-short_turns p colon part kept o (actions.Give kinds.ShortString k) (d, g, c) = λ r j. (c.content, c.is, ap (λ l. 34 ∷ l) c.spelled)
-short_turns p colon part kept o (actions.Give kind k) h = absurd h.1
-short_turns p colon part kept o (actions.Refuse e) h = tt
+short_turns p colon part kept o (Action.Go m k) h = absurd h.1
+short_turns p colon part kept o (Action.Give TokenKind.ShortString k) (d, g, c) = λ r j. (c.content, c.is, ap (λ l. 34 ∷ l) c.spelled)
+short_turns p colon part kept o (Action.Give kind k) h = absurd h.1
+short_turns p colon part kept o (Action.Refuse e) h = tt
 short_turns p colon part kept o a h = absurd h
 
 -- long strings
-long_turns : (p : Place) (colon : Bool) (part kept : List ℕ) (o : ℕ) (a : Action) → LeadsText styles.LongString a (part ++ o ∷ []) kept
+long_turns : (p : Place) (colon : Bool) (part kept : List ℕ) (o : ℕ) (a : Action) → LeadsText Style.LongString a (part ++ o ∷ []) kept
     → Turns p colon (39 ∷ 39 ∷ 39 ∷ part) kept o a
-long_turns p colon part kept o (actions.Go (modes.Text s v) k) (d, (e, h)) =
-    in_style p s styles.LongString v (39 ∷ 39 ∷ 39 ∷ part ++ o ∷ []) (kept_after k kept) e (part ++ o ∷ [], h, refl)
-long_turns p colon part kept o (actions.Go (modes.Lob l) k) (d, (e, h)) = absurd (none l e) where
-  none : (l : Lob) → EndsText styles.LongString l → ⊥
+long_turns p colon part kept o (Action.Go (Mode.Text s v) k) (d, (e, h)) =
+    in_style p s Style.LongString v (39 ∷ 39 ∷ 39 ∷ part ++ o ∷ []) (kept_after k kept) e (part ++ o ∷ [], h, refl)
+long_turns p colon part kept o (Action.Go (Mode.Lob l) k) (d, (e, h)) = absurd (none l e) where
+  none : (l : Lob) → EndsText Style.LongString l → ⊥
   none l e = e
-long_turns p colon part kept o (actions.Go m k) h = absurd h.1
-long_turns p colon part kept o (actions.Give kinds.LongString k) (d, g, c) = λ r j. (c.content, c.is, ap (λ l. 39 ∷ 39 ∷ 39 ∷ l) c.spelled)
-long_turns p colon part kept o (actions.Give kind k) h = absurd h.1
-long_turns p colon part kept o (actions.Refuse e) h = tt
+long_turns p colon part kept o (Action.Go m k) h = absurd h.1
+long_turns p colon part kept o (Action.Give TokenKind.LongString k) (d, g, c) = λ r j. (c.content, c.is, ap (λ l. 39 ∷ 39 ∷ 39 ∷ l) c.spelled)
+long_turns p colon part kept o (Action.Give kind k) h = absurd h.1
+long_turns p colon part kept o (Action.Refuse e) h = tt
 long_turns p colon part kept o a h = absurd h
 
 -- a text between two single quotes doesn't begin with a third
@@ -63,27 +50,27 @@ begins_more class [] o h = cc
 begins_more class (x ∷ part) o h = h
 
 symbol_turns : (p : Place) (colon : Bool) (part kept : List ℕ) (o : ℕ) (a : Action) → begins (λ o. not (o == 39)) (part ++ o ∷ []) ≡ true
-    → LeadsText styles.QuotedSymbol a (part ++ o ∷ []) kept → Turns p colon (39 ∷ part) kept o a
-symbol_turns p colon part kept o (actions.Go (modes.Text s v) k) n (d, (e, h)) =
-    in_style p s styles.QuotedSymbol v (39 ∷ part ++ o ∷ []) (kept_after k kept) e (part ++ o ∷ [], h, refl, n)
-symbol_turns p colon part kept o (actions.Go (modes.Lob l) k) n (d, (e, h)) = absurd (none l e) where
-  none : (l : Lob) → EndsText styles.QuotedSymbol l → ⊥
+    → LeadsText Style.QuotedSymbol a (part ++ o ∷ []) kept → Turns p colon (39 ∷ part) kept o a
+symbol_turns p colon part kept o (Action.Go (Mode.Text s v) k) n (d, (e, h)) =
+    in_style p s Style.QuotedSymbol v (39 ∷ part ++ o ∷ []) (kept_after k kept) e (part ++ o ∷ [], h, refl, n)
+symbol_turns p colon part kept o (Action.Go (Mode.Lob l) k) n (d, (e, h)) = absurd (none l e) where
+  none : (l : Lob) → EndsText Style.QuotedSymbol l → ⊥
   none l e = e
-symbol_turns p colon part kept o (actions.Go m k) n h = absurd h.1
-symbol_turns p colon part kept o (actions.Give kinds.QuotedSymbol k) n (d, g, c) =
+symbol_turns p colon part kept o (Action.Go m k) n h = absurd h.1
+symbol_turns p colon part kept o (Action.Give TokenKind.QuotedSymbol k) n (d, g, c) =
     λ r j. (c.content, c.is, ap (λ l. 39 ∷ l) c.spelled, λ e. absurd (some_behind part c.content o c.spelled n e))
-symbol_turns p colon part kept o (actions.Give kind k) n h = absurd h.1
-symbol_turns p colon part kept o (actions.Refuse e) n h = tt
+symbol_turns p colon part kept o (Action.Give kind k) n h = absurd h.1
+symbol_turns p colon part kept o (Action.Refuse e) n h = tt
 symbol_turns p colon part kept o a n h = absurd h
 
 -- short clobs
 short_clob_turns : (p : Place) (colon : Bool) (before part kept : List ℕ) (o : ℕ) (a : Action) → is_name p ≡ false
-    → Each Rattle.ion_tokens.specs.Octets.is_white before → LeadsText styles.ShortClob a (part ++ o ∷ []) kept
+    → Each Rattle.ion_tokens.specs.Octets.is_white before → LeadsText Style.ShortClob a (part ++ o ∷ []) kept
     → Turns p colon (123 ∷ 123 ∷ (before ++ 34 ∷ part)) kept o a
-short_clob_turns p colon before part kept o (actions.Go (modes.Text s v) k) n w (d, (e, h)) =
-    in_style p s styles.ShortClob v (123 ∷ 123 ∷ (before ++ 34 ∷ part) ++ o ∷ []) (kept_after k kept) e
+short_clob_turns p colon before part kept o (Action.Go (Mode.Text s v) k) n w (d, (e, h)) =
+    in_style p s Style.ShortClob v (123 ∷ 123 ∷ (before ++ 34 ∷ part) ++ o ∷ []) (kept_after k kept) e
     (n, before, part ++ o ∷ [], w, h, ap (λ l. 123 ∷ 123 ∷ l) (append_assoc before (34 ∷ part) (o ∷ [])))
-short_clob_turns p colon before part kept o (actions.Go (modes.Lob lobs.AfterShort) k) n w (d, (e, c)) = (
+short_clob_turns p colon before part kept o (Action.Go (Mode.Lob Lob.AfterShort) k) n w (d, (e, c)) = (
   n,
   (before ++ 34 ∷ part) ++ o ∷ [],
   refl,
@@ -97,10 +84,10 @@ short_clob_turns p colon before part kept o (actions.Go (modes.Lob lobs.AfterSho
     append_assoc before (34 ∷ part) (o ∷ []) ∙ ap (λ l. before ++ 34 ∷ l) c.spelled ∙ sym (append_assoc before (34 ∷ c.content) (34 ∷ [])),
   ),
 )
-short_clob_turns p colon before part kept o (actions.Go (modes.Lob l) k) n w (d, (e, h)) = absurd e
-short_clob_turns p colon before part kept o (actions.Go m k) n w h = absurd h.1
-short_clob_turns p colon before part kept o (actions.Give kind k) n w h = absurd h.1
-short_clob_turns p colon before part kept o (actions.Refuse e) n w h = tt
+short_clob_turns p colon before part kept o (Action.Go (Mode.Lob l) k) n w (d, (e, h)) = absurd e
+short_clob_turns p colon before part kept o (Action.Go m k) n w h = absurd h.1
+short_clob_turns p colon before part kept o (Action.Give kind k) n w h = absurd h.1
+short_clob_turns p colon before part kept o (Action.Refuse e) n w h = tt
 short_clob_turns p colon before part kept o a n w h = absurd h
 
 -- segments of long clobs
@@ -108,7 +95,7 @@ pub segments_last : {A : Type 0} (f : Segment → List A) (gs : List Segment) (g
 segments_last f [] g = append-nil (f g)
 segments_last f (x ∷ gs) g = ap (λ l. f x ++ l) (segments_last f gs g) ∙ sym (append_assoc (f x) (flat_map f gs) (f g))
 
-long_ends : (front kept' part q octets : List ℕ) (o : ℕ) → IsLongFront front kept' → (c : Closes styles.LongClob (part ++ o ∷ []) octets)
+long_ends : (front kept' part q octets : List ℕ) (o : ℕ) → IsLongFront front kept' → (c : Closes Style.LongClob (part ++ o ∷ []) octets)
     → IsLongText ((front ++ 39 ∷ 39 ∷ 39 ∷ part) ++ o ∷ []) (kept' ++ octets)
 long_ends front kept' part q octets o f c =
     let g : Segment = record { content = c.content; octets = octets; white = [] } in
@@ -127,9 +114,9 @@ long_ends front kept' part q octets o f c =
     }
 
 long_clob_turns : (p : Place) (colon : Bool) (front kept' part q : List ℕ) (o : ℕ) (a : Action) → is_name p ≡ false → IsLongFront front kept'
-    → LeadsText styles.LongClob a (part ++ o ∷ []) q → Turns p colon (123 ∷ 123 ∷ (front ++ 39 ∷ 39 ∷ 39 ∷ part)) (kept' ++ q) o a
-long_clob_turns p colon front kept' part q o (actions.Go (modes.Text s v) k) n f (d, (e, h)) =
-    in_style p s styles.LongClob v (123 ∷ 123 ∷ (front ++ 39 ∷ 39 ∷ 39 ∷ part) ++ o ∷ []) (kept_after k (kept' ++ q)) e (
+    → LeadsText Style.LongClob a (part ++ o ∷ []) q → Turns p colon (123 ∷ 123 ∷ (front ++ 39 ∷ 39 ∷ 39 ∷ part)) (kept' ++ q) o a
+long_clob_turns p colon front kept' part q o (Action.Go (Mode.Text s v) k) n f (d, (e, h)) =
+    in_style p s Style.LongClob v (123 ∷ 123 ∷ (front ++ 39 ∷ 39 ∷ 39 ∷ part) ++ o ∷ []) (kept_after k (kept' ++ q)) e (
       n,
       front,
       kept',
@@ -140,52 +127,52 @@ long_clob_turns p colon front kept' part q o (actions.Go (modes.Text s v) k) n f
       ap (λ l. 123 ∷ 123 ∷ l) (append_assoc front (39 ∷ 39 ∷ 39 ∷ part) (o ∷ [])),
       keeps_behind kept' q k d,
     )
-long_clob_turns p colon front kept' part q o (actions.Go (modes.Lob lobs.AfterLong) k) n f (d, (e, c)) = (
+long_clob_turns p colon front kept' part q o (Action.Go (Mode.Lob Lob.AfterLong) k) n f (d, (e, c)) = (
   n,
   (front ++ 39 ∷ 39 ∷ 39 ∷ part) ++ o ∷ [],
   refl,
   subst (λ l. IsLongText ((front ++ 39 ∷ 39 ∷ 39 ∷ part) ++ o ∷ []) l) (sym (keeps_behind kept' q k d))
       (long_ends front kept' part q (kept_after k q) o f c),
 )
-long_clob_turns p colon front kept' part q o (actions.Go (modes.Lob l) k) n f (d, (e, h)) = absurd e
-long_clob_turns p colon front kept' part q o (actions.Go m k) n f h = absurd h.1
-long_clob_turns p colon front kept' part q o (actions.Give kind k) n f h = absurd h.1
-long_clob_turns p colon front kept' part q o (actions.Refuse e) n f h = tt
+long_clob_turns p colon front kept' part q o (Action.Go (Mode.Lob l) k) n f (d, (e, h)) = absurd e
+long_clob_turns p colon front kept' part q o (Action.Go m k) n f h = absurd h.1
+long_clob_turns p colon front kept' part q o (Action.Give kind k) n f h = absurd h.1
+long_clob_turns p colon front kept' part q o (Action.Refuse e) n f h = tt
 long_clob_turns p colon front kept' part q o a n f h = absurd h
 
 -- what the table does with an octet of an open quoted text fits the text
 pub text_turns : (p : Place) (colon : Bool) (s : Style) (v : Within) (w kept : List ℕ) (o : ℕ) → InText p s v w kept → Turns p colon w kept o (in_text s v o)
-text_turns p colon styles.ShortString v w kept o (part, h, e) =
-    subst (λ l. Turns p colon l kept o (in_text styles.ShortString v o)) (sym e)
-    (short_turns p colon part kept o (in_text styles.ShortString v o) (text_step styles.ShortString v o part kept h))
-text_turns p colon styles.QuotedSymbol v w kept o (part, h, e, n) =
-    subst (λ l. Turns p colon l kept o (in_text styles.QuotedSymbol v o)) (sym e)
-    (symbol_turns p colon part kept o (in_text styles.QuotedSymbol v o) (begins_more (λ o. not (o == 39)) part o n)
-    (text_step styles.QuotedSymbol v o part kept h))
-text_turns p colon styles.LongString v w kept o (part, h, e) =
-    subst (λ l. Turns p colon l kept o (in_text styles.LongString v o)) (sym e)
-    (long_turns p colon part kept o (in_text styles.LongString v o) (text_step styles.LongString v o part kept h))
-text_turns p colon styles.ShortClob v w kept o (n, before, part, b, h, e) =
-    subst (λ l. Turns p colon l kept o (in_text styles.ShortClob v o)) (sym e)
-    (short_clob_turns p colon before part kept o (in_text styles.ShortClob v o) n b (text_step styles.ShortClob v o part kept h))
-text_turns p colon styles.LongClob v w kept o (n, front, kept', part, q, f, h, e, k) =
-    subst (λ l. Turns p colon l kept o (in_text styles.LongClob v o)) (sym e)
-    (subst (λ l. Turns p colon (123 ∷ 123 ∷ (front ++ 39 ∷ 39 ∷ 39 ∷ part)) l o (in_text styles.LongClob v o)) (sym k)
-    (long_clob_turns p colon front kept' part q o (in_text styles.LongClob v o) n f (text_step styles.LongClob v o part q h)))
+text_turns p colon Style.ShortString v w kept o (part, h, e) =
+    subst (λ l. Turns p colon l kept o (in_text Style.ShortString v o)) (sym e)
+    (short_turns p colon part kept o (in_text Style.ShortString v o) (text_step Style.ShortString v o part kept h))
+text_turns p colon Style.QuotedSymbol v w kept o (part, h, e, n) =
+    subst (λ l. Turns p colon l kept o (in_text Style.QuotedSymbol v o)) (sym e)
+    (symbol_turns p colon part kept o (in_text Style.QuotedSymbol v o) (begins_more (λ o. not (o == 39)) part o n)
+    (text_step Style.QuotedSymbol v o part kept h))
+text_turns p colon Style.LongString v w kept o (part, h, e) =
+    subst (λ l. Turns p colon l kept o (in_text Style.LongString v o)) (sym e)
+    (long_turns p colon part kept o (in_text Style.LongString v o) (text_step Style.LongString v o part kept h))
+text_turns p colon Style.ShortClob v w kept o (n, before, part, b, h, e) =
+    subst (λ l. Turns p colon l kept o (in_text Style.ShortClob v o)) (sym e)
+    (short_clob_turns p colon before part kept o (in_text Style.ShortClob v o) n b (text_step Style.ShortClob v o part kept h))
+text_turns p colon Style.LongClob v w kept o (n, front, kept', part, q, f, h, e, k) =
+    subst (λ l. Turns p colon l kept o (in_text Style.LongClob v o)) (sym e)
+    (subst (λ l. Turns p colon (123 ∷ 123 ∷ (front ++ 39 ∷ 39 ∷ 39 ∷ part)) l o (in_text Style.LongClob v o)) (sym k)
+    (long_clob_turns p colon front kept' part q o (in_text Style.LongClob v o) n f (text_step Style.LongClob v o part q h)))
 
 -- behind one quote, and behind two
-pub quote_turns : (p : Place) (colon : Bool) (w kept : List ℕ) (o : ℕ) → IsOpen p colon modes.Quote w kept → Turns p colon w kept o (in_quote o)
+pub quote_turns : (p : Place) (colon : Bool) (w kept : List ℕ) (o : ℕ) → IsOpen p colon Mode.Quote w kept → Turns p colon w kept o (in_quote o)
 quote_turns p colon w kept o (e, k) = subst (λ l. Turns p colon l kept o (in_quote o)) (sym e)
     (subst (λ l. Turns p colon (39 ∷ []) l o (in_quote o)) (sym k) (by (o == 39) refl)) where
-      by : (b : Bool) → (o == 39) ≡ b → Turns p colon (39 ∷ []) [] o (cond b (go modes.Quotes) (raw styles.QuotedSymbol o))
+      by : (b : Bool) → (o == 39) ≡ b → Turns p colon (39 ∷ []) [] o (cond b (go Mode.Quotes) (raw Style.QuotedSymbol o))
       by true f = let is : o ≡ 39 = grind (arith, nat_tests) in ((λ i. 39 ∷ is i ∷ []), refl)
-      by false f = symbol_turns p colon [] [] o (raw styles.QuotedSymbol o) (ap not f)
-          (text_step styles.QuotedSymbol within.Plain o [] [] (reads_none styles.QuotedSymbol))
+      by false f = symbol_turns p colon [] [] o (raw Style.QuotedSymbol o) (ap not f)
+          (text_step Style.QuotedSymbol Within.Plain o [] [] (reads_none Style.QuotedSymbol))
 
 -- what the table does with an octet behind `''` fits the quotes
-pub quotes_turns : (p : Place) (colon : Bool) (w kept : List ℕ) (o : ℕ) → IsOpen p colon modes.Quotes w kept → Turns p colon w kept o (in_quotes o)
+pub quotes_turns : (p : Place) (colon : Bool) (w kept : List ℕ) (o : ℕ) → IsOpen p colon Mode.Quotes w kept → Turns p colon w kept o (in_quotes o)
 quotes_turns p colon w kept o (e, k) = subst (λ l. Turns p colon l kept o (in_quotes o)) (sym e)
     (subst (λ l. Turns p colon (39 ∷ 39 ∷ []) l o (in_quotes o)) (sym k) (by (o == 39) refl)) where
-      by : (b : Bool) → (o == 39) ≡ b → Turns p colon (39 ∷ 39 ∷ []) [] o (cond b (go (modes.Text styles.LongString within.Plain)) (before kinds.QuotedSymbol))
-      by true f = let is : o ≡ 39 = grind (arith, nat_tests) in ([], reads_none styles.LongString, (λ i. 39 ∷ 39 ∷ is i ∷ []))
+      by : (b : Bool) → (o == 39) ≡ b → Turns p colon (39 ∷ 39 ∷ []) [] o (cond b (go (Mode.Text Style.LongString Within.Plain)) (before TokenKind.QuotedSymbol))
+      by true f = let is : o ≡ 39 = grind (arith, nat_tests) in ([], reads_none Style.LongString, (λ i. 39 ∷ 39 ∷ is i ∷ []))
       by false f = λ r j. ([], empty_symbol, refl, λ i. f)

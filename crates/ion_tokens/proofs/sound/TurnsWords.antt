@@ -4,32 +4,21 @@ use Rattle.std.specs.Prelude.{◌==◌, ◌&&◌, ◌||◌, not}
 use Rattle.std.specs.List.{list_any}
 use Rattle.std.proofs.lemmas.Bool.{false≢true, true≢false}
 use Rattle.std.proofs.lemmas.Bool.Decides.{nat_tests}
-use Rattle.ion_tokens.specs.Octets.{is_digit, begins_word, is_word_octet, is_stop}
-use Rattle.ion_tokens.specs.declared.mode.Place.{Place}
-use Rattle.ion_tokens.specs.declared.mode.Mark.TheVariants as marks
-use Rattle.ion_tokens.specs.declared.mode.Style.TheVariants as styles
-use Rattle.ion_tokens.specs.declared.mode.Mode.TheVariants as modes
-use Rattle.ion_tokens.specs.declared.mode.Lob.TheVariants as lobs
-use Rattle.ion_tokens.specs.declared.mode.TokenKind.TheVariants as kinds
-use Rattle.ion_tokens.specs.declared.mode.Keep.TheVariants as keeps
-use Rattle.ion_tokens.specs.declared.mode.Action.TheVariants as actions
-use Rattle.ion_tokens.specs.machine.Table.{in_word, in_kind_name, in_number, in_number_slash, in_colon, in_brace, add, go, give, before}
-use Rattle.ion_tokens.specs.Quoted.{IsQuoted}
-use Rattle.ion_tokens.specs.Lexemes.{Each, begins, begins_number, begins_comment}
-use Rattle.ion_tokens.specs.laws.Each.{each_last, begins_more}
-use Rattle.ion_tokens.proofs.sound.Opens.{IsOpen, IsOpenNumber, Turns, IsUnjudgedToken}
+use Rattle.ion_tokens.specs.Names.{Action, Each, IsQuoted, Keep, Lob, Mark, Mode, Place, Style, TokenKind, add, before, begins, begins_comment, begins_number, begins_word, give, go, in_brace, in_colon, in_kind_name, in_number, in_number_slash, in_word, is_digit, is_stop, is_word_octet}
+use Rattle.ion_tokens.specs.laws.Each.{begins_more, each_last}
+use Rattle.ion_tokens.proofs.sound.Opens.{IsOpen, IsOpenNumber, IsUnjudgedToken, Turns}
 
 -- words
-pub word_turns : (p : Place) (colon : Bool) (w kept : List ℕ) (o : ℕ) → IsOpen p colon modes.Word w kept → Turns p colon w kept o (in_word o)
+pub word_turns : (p : Place) (colon : Bool) (w kept : List ℕ) (o : ℕ) → IsOpen p colon Mode.Word w kept → Turns p colon w kept o (in_word o)
 word_turns p colon w kept o (e, h) = by (is_word_octet o) refl where
-  by : (b : Bool) → is_word_octet o ≡ b → Turns p colon w kept o (cond b (add modes.Word o) actions.EndWord)
+  by : (b : Bool) → is_word_octet o ≡ b → Turns p colon w kept o (cond b (add Mode.Word o) Action.EndWord)
   by true f = (ap (λ l. l ++ o ∷ []) e, (begins_more begins_word w (o ∷ []) h.0, each_last is_word_octet w o h.1 f))
   by false f = (e, h, f)
 
 -- what the table does with an octet of the name behind `null.` fits the name
-pub kind_turns : (p : Place) (colon : Bool) (w kept : List ℕ) (o : ℕ) → IsOpen p colon modes.KindName w kept → Turns p colon w kept o (in_kind_name o)
+pub kind_turns : (p : Place) (colon : Bool) (w kept : List ℕ) (o : ℕ) → IsOpen p colon Mode.KindName w kept → Turns p colon w kept o (in_kind_name o)
 kind_turns p colon w kept o (e, h) = by (is_word_octet o) refl where
-  by : (b : Bool) → is_word_octet o ≡ b → Turns p colon w kept o (cond b (add modes.KindName o) (before kinds.KindName))
+  by : (b : Bool) → is_word_octet o ≡ b → Turns p colon w kept o (cond b (add Mode.KindName o) (before TokenKind.KindName))
   by true f = (ap (λ l. l ++ o ∷ []) e, each_last is_word_octet kept o h f)
   by false f = λ r j. (e, h, f)
 
@@ -46,7 +35,7 @@ no_slash (o ∷ w) h = by (o == 47) (is_stop o) refl h.0 (no_slash w h.1) where
 
 -- an open number before what ends it
 pub number_found : (p : Place) (colon : Bool) (w r : List ℕ) → IsOpenNumber p w → (r ≡ []) ⊎ ((begins is_stop r ≡ true) ⊎ (begins_comment r ≡ true))
-    → IsUnjudgedToken p colon w r kinds.Number w
+    → IsUnjudgedToken p colon w r TokenKind.Number w
 number_found p colon w r n l j = ⊎_elim (λ s. absurd (true≢false (sym s ∙ j))) (λ e. (refl, n.place, record { begun = n.begun; each = e; longest = l }))
     (no_slash w n.each)
 
@@ -72,45 +61,45 @@ open_more : (p : Place) (w : List ℕ) (o : ℕ) → IsOpenNumber p w → is_sto
 open_more p w o n e = record { place = n.place; begun = number_more w (o ∷ []) n.begun; each = each_last (λ o. not (is_stop o)) w o n.each (ap not e) }
 
 -- what the table does with an octet of an open number fits the number
-pub number_turns : (p : Place) (colon : Bool) (w kept : List ℕ) (o : ℕ) → IsOpen p colon modes.Number w kept → Turns p colon w kept o (in_number o)
+pub number_turns : (p : Place) (colon : Bool) (w kept : List ℕ) (o : ℕ) → IsOpen p colon Mode.Number w kept → Turns p colon w kept o (in_number o)
 number_turns p colon w kept o (e, n) = by (is_stop o) refl where
-  slash : (b : Bool) → (o == 47) ≡ b → is_stop o ≡ false → Turns p colon w kept o (cond b (go modes.NumberSlash) (add modes.Number o))
+  slash : (b : Bool) → (o == 47) ≡ b → is_stop o ≡ false → Turns p colon w kept o (cond b (go Mode.NumberSlash) (add Mode.Number o))
   slash true f g = let is : o ≡ 47 = grind (arith, nat_tests) in ((λ i. sym e i ++ is i ∷ []), subst (λ l. IsOpenNumber p l) (sym e) n)
   slash false f g = (ap (λ l. l ++ o ∷ []) e, open_more p w o n g)
 
-  by : (b : Bool) → is_stop o ≡ b → Turns p colon w kept o (cond b (before kinds.Number) (cond (o == 47) (go modes.NumberSlash) (add modes.Number o)))
-  by true f = λ r. subst (λ l. IsUnjudgedToken p colon w (o ∷ r) kinds.Number l) (sym e) (number_found p colon w (o ∷ r) n (inr (inl f)))
+  by : (b : Bool) → is_stop o ≡ b → Turns p colon w kept o (cond b (before TokenKind.Number) (cond (o == 47) (go Mode.NumberSlash) (add Mode.Number o)))
+  by true f = λ r. subst (λ l. IsUnjudgedToken p colon w (o ∷ r) TokenKind.Number l) (sym e) (number_found p colon w (o ∷ r) n (inr (inl f)))
   by false f = slash (o == 47) refl f
 
 -- what the table does with an octet behind a number and a `/` fits them
-pub number_slash_turns : (p : Place) (colon : Bool) (w kept : List ℕ) (o : ℕ) → IsOpen p colon modes.NumberSlash w kept
+pub number_slash_turns : (p : Place) (colon : Bool) (w kept : List ℕ) (o : ℕ) → IsOpen p colon Mode.NumberSlash w kept
     → Turns p colon w kept o (in_number_slash o)
 number_slash_turns p colon w kept o (e, n) = by ((o == 47) || (o == 42)) refl where
   stop : (b : Bool) → is_stop o ≡ b → Turns p colon w kept o
-      (cond b (actions.Before kinds.Number (keeps.One 47) modes.Blank) (actions.Go modes.Number (keeps.Two 47 o)))
+      (cond b (Action.Before TokenKind.Number (Keep.One 47) Mode.Blank) (Action.Go Mode.Number (Keep.Two 47 o)))
   stop true f = λ r j. absurd (true≢false (sym (slash_in kept) ∙ j))
   stop false f = (ap (λ l. l ++ o ∷ []) (sym e), open_more p w o (subst (λ l. IsOpenNumber p l) (sym e) (open_more p kept 47 n refl)) f)
 
   by : (b : Bool) → ((o == 47) || (o == 42)) ≡ b → Turns p colon w kept o
-      (cond b (actions.Before kinds.Number keeps.Nothing modes.Slash)
-      (cond (is_stop o) (actions.Before kinds.Number (keeps.One 47) modes.Blank) (actions.Go modes.Number (keeps.Two 47 o))))
+      (cond b (Action.Before TokenKind.Number Keep.Nothing Mode.Slash)
+      (cond (is_stop o) (Action.Before TokenKind.Number (Keep.One 47) Mode.Blank) (Action.Go Mode.Number (Keep.Two 47 o))))
   by true f = (kept, e, λ r. number_found p colon kept (47 ∷ o ∷ r) n (inr (inr f)))
   by false f = stop (is_stop o) refl
 
 -- marks
-pub colon_turns : (p : Place) (colon : Bool) (w kept : List ℕ) (o : ℕ) → IsOpen p colon modes.Colon w kept → Turns p colon w kept o (in_colon o)
+pub colon_turns : (p : Place) (colon : Bool) (w kept : List ℕ) (o : ℕ) → IsOpen p colon Mode.Colon w kept → Turns p colon w kept o (in_colon o)
 colon_turns p colon w kept o (e, k, c) = by (o == 58) refl where
-  by : (b : Bool) → (o == 58) ≡ b → Turns p colon w kept o (cond b (give marks.Colons) (before (kinds.Mark marks.Colon)))
+  by : (b : Bool) → (o == 58) ≡ b → Turns p colon w kept o (cond b (give Mark.Colons) (before (TokenKind.Mark Mark.Colon)))
   by true f = let is : o ≡ 58 = grind (arith, nat_tests) in λ r j. (k, (λ i. e i ++ is i ∷ []), c, tt)
   by false f = λ r j. (k, e, c, f)
 
 -- what the table does with an octet behind one `{` fits the brace
-pub brace_turns : (p : Place) (colon : Bool) (w kept : List ℕ) (o : ℕ) → IsOpen p colon modes.Brace w kept → Turns p colon w kept o (in_brace o)
+pub brace_turns : (p : Place) (colon : Bool) (w kept : List ℕ) (o : ℕ) → IsOpen p colon Mode.Brace w kept → Turns p colon w kept o (in_brace o)
 brace_turns p colon w kept o (e, k, n) = by (o == 123) refl where
-  by : (b : Bool) → (o == 123) ≡ b → Turns p colon w kept o (cond b (go (modes.Lob lobs.Start)) (before (kinds.Mark marks.FieldsOpen)))
+  by : (b : Bool) → (o == 123) ≡ b → Turns p colon w kept o (cond b (go (Mode.Lob Lob.Start)) (before (TokenKind.Mark Mark.FieldsOpen)))
   by true f = let is : o ≡ 123 = grind (arith, nat_tests) in (n, [], (λ i. e i ++ is i ∷ []), (k, tt))
   by false f = λ r j. (k, e, n, f)
 
 -- the empty symbol, or a long string
-pub empty_symbol : IsQuoted styles.QuotedSymbol [] []
+pub empty_symbol : IsQuoted Style.QuotedSymbol [] []
 empty_symbol = record { elements = []; each = tt; crs = tt; close = λ l. tt; spelled = refl; means = refl }

@@ -7,21 +7,11 @@ use Rattle.std.proofs.lemmas.Bool.{true≢false}
 use Rattle.std.proofs.lemmas.Bool.Decides.{nat_tests}
 use Rattle.std.proofs.lemmas.Str.{IsUtf8-from_ascii, IsUtf8-append}
 use lib.Utf8.{encode, encodes, scalar, scalars, scalar_cases}
-use Rattle.ion_tokens.specs.declared.mode.Place.{Place}
-use Rattle.ion_tokens.specs.declared.mode.Style.{Style}
-use Rattle.ion_tokens.specs.declared.mode.Within.TheVariants as within
-use Rattle.ion_tokens.specs.declared.mode.Mode.{Mode}
-use Rattle.ion_tokens.specs.declared.mode.Mode.TheVariants as modes
-use Rattle.ion_tokens.specs.declared.mode.Keep.TheVariants as keeps
-use Rattle.ion_tokens.specs.declared.mode.Action.{Action}
-use Rattle.ion_tokens.specs.declared.mode.Action.TheVariants as actions
-use Rattle.ion_tokens.specs.Lexemes.{Each}
+use Rattle.ion_tokens.specs.Names.{Action, AreKept, Each, GoesOver, Keep, Mode, Place, Style, Within, goes_on, in_text, is_clob, is_long, is_plain, is_raw, quote_of, stands}
 use Rattle.ion_tokens.specs.laws.Each.{each_append, each_split}
-use Rattle.ion_tokens.specs.machine.Table.{in_text, stands, is_long, is_clob, quote_of}
-use Rattle.ion_tokens.specs.machine.AtOnce.{is_plain, is_raw, goes_on, AreKept, GoesOver}
-use Rattle.ion_tokens.proofs.texts.Encodings.{encoding, order, one}
-use Rattle.ion_tokens.proofs.texts.TextSteps.{quote_small}
+use Rattle.ion_tokens.proofs.texts.Encodings.{encoding, one, order}
 use Rattle.ion_tokens.proofs.texts.TextElements.{GoesInText, goes_none, goes_one, goes_then, goes_to, read_raw}
+use Rattle.ion_tokens.proofs.texts.TextSteps.{quote_small}
 
 -- octets of a class of ASCII
 pub ascii_each : (class : ℕ → Bool) (w : List ℕ) → ((o : ℕ) → class o ≡ true → o < 128) → Each class w → IsAscii w
@@ -58,7 +48,7 @@ plain_kept s w h = (plain_raw s w h, IsUtf8-from_ascii w (ascii_each (is_plain s
 
 -- octets with which the mode goes on are some over which it does
 pub each_over : (m : Mode) (w : List ℕ) → Each (goes_on m) w → GoesOver m w
-each_over (modes.Text s within.Plain) w h = plain_kept s w h
+each_over (Mode.Text s Within.Plain) w h = plain_kept s w h
 each_over _ w h = h
 
 -- behind ASCII characters others are kept, where the text is no clob
@@ -91,7 +81,7 @@ text_more true b c true x y z w v h f = cc
 text_more a b c false x y z w v h f = cc
 
 -- an ASCII character that a text keeps as it is leaves it between two characters
-pub plain_stays : (s : Style) (o : ℕ) → is_plain s o ≡ true → in_text s within.Plain o ≡ actions.Go (modes.Text s within.Plain) (keeps.One o)
+pub plain_stays : (s : Style) (o : ℕ) → is_plain s o ≡ true → in_text s Within.Plain o ≡ Action.Go (Mode.Text s Within.Plain) (Keep.One o)
 plain_stays s o h = text_more (o == 92) (o == quote_of s) (is_long s && (o == 13)) (stands o || (is_long s && (o == 10))) _ _ _ _ _ h (no_return (is_long s) o)
 
 raw_low : (a b c d : Bool) → c ≡ false → ((a || b || c) && d) ≡ true → ((a || b) && d) ≡ true
@@ -108,47 +98,47 @@ text_no_clob : (s : Style) (c : ℕ) → is_clob s ≡ false → IsTrue (is_clob
 text_no_clob s c text clob = absurd (true≢false (sym clob ∙ text))
 
 one_kept : (p : Place) (s : Style) (c : ℕ) (kept : List ℕ) → is_clob s ≡ false → scalar c ≡ true → Each (is_raw (is_long s) (quote_of s)) (encode c)
-    → GoesInText p s within.Plain kept (encode c) within.Plain (kept ++ encode c)
+    → GoesInText p s Within.Plain kept (encode c) Within.Plain (kept ++ encode c)
 one_kept p s c kept text u h = by (order c 128) where
-  by : (c < 128) ⊎ (128 ≤ c) → GoesInText p s within.Plain kept (encode c) within.Plain (kept ++ encode c)
+  by : (c < 128) ⊎ (128 ≤ c) → GoesInText p s Within.Plain kept (encode c) Within.Plain (kept ++ encode c)
   by (inl low) =
       let is = one c low in
-      subst (λ l. GoesInText p s within.Plain kept l within.Plain (kept ++ l)) (sym is)
-      (goes_one p s within.Plain c kept within.Plain (keeps.One c)
+      subst (λ l. GoesInText p s Within.Plain kept l Within.Plain (kept ++ l)) (sym is)
+      (goes_one p s Within.Plain c kept Within.Plain (Keep.One c)
       (plain_stays s c (low_plain s c low (subst (Each (is_raw (is_long s) (quote_of s))) is h).0)))
   by (inr high) =
       let quote = quote_small s in
-      read_raw p s c within.Plain kept (λ o is. tt) u (λ e. omega arith) (λ e. omega arith) (inr (inr (inr (omega arith)))) (text_no_clob s c text)
+      read_raw p s c Within.Plain kept (λ o is. tt) u (λ e. omega arith) (λ e. omega arith) (inr (inr (inr (omega arith)))) (text_no_clob s c text)
       (encoding c (scalar_cases c u))
 
 chars_kept : (p : Place) (s : Style) (cs kept : List ℕ) → is_clob s ≡ false → scalars cs ≡ true → Each (is_raw (is_long s) (quote_of s)) (encodes cs)
-    → GoesInText p s within.Plain kept (encodes cs) within.Plain (kept ++ encodes cs)
-chars_kept p s [] kept text u h = goes_to p s within.Plain within.Plain [] kept kept (kept ++ []) (sym (append-nil kept)) (goes_none p s within.Plain kept)
+    → GoesInText p s Within.Plain kept (encodes cs) Within.Plain (kept ++ encodes cs)
+chars_kept p s [] kept text u h = goes_to p s Within.Plain Within.Plain [] kept kept (kept ++ []) (sym (append-nil kept)) (goes_none p s Within.Plain kept)
 chars_kept p s (c ∷ cs) kept text u h =
     let parts = each_split (is_raw (is_long s) (quote_of s)) (encode c) (encodes cs) h in
     let each = both (scalar c) (scalars cs) u in
-    goes_to p s within.Plain within.Plain (encode c ++ encodes cs) kept ((kept ++ encode c) ++ encodes cs) (kept ++ (encode c ++ encodes cs))
+    goes_to p s Within.Plain Within.Plain (encode c ++ encodes cs) kept ((kept ++ encode c) ++ encodes cs) (kept ++ (encode c ++ encodes cs))
     (append_assoc kept (encode c) (encodes cs))
-    (goes_then p s within.Plain within.Plain within.Plain (encode c) (encodes cs) kept (kept ++ encode c) ((kept ++ encode c) ++ encodes cs)
+    (goes_then p s Within.Plain Within.Plain Within.Plain (encode c) (encodes cs) kept (kept ++ encode c) ((kept ++ encode c) ++ encodes cs)
     (one_kept p s c kept text each.0 parts.0) (chars_kept p s cs (kept ++ encode c) text each.1 parts.1))
   where
     both : (a b : Bool) → (a && b) ≡ true → (a ≡ true) × (b ≡ true)
     both true b e = (refl, e)
     both false b e = cc
 
-each_kept : (p : Place) (s : Style) (w kept : List ℕ) → Each (is_plain s) w → GoesInText p s within.Plain kept w within.Plain (kept ++ w)
-each_kept p s [] kept h = goes_to p s within.Plain within.Plain [] kept kept (kept ++ []) (sym (append-nil kept)) (goes_none p s within.Plain kept)
+each_kept : (p : Place) (s : Style) (w kept : List ℕ) → Each (is_plain s) w → GoesInText p s Within.Plain kept w Within.Plain (kept ++ w)
+each_kept p s [] kept h = goes_to p s Within.Plain Within.Plain [] kept kept (kept ++ []) (sym (append-nil kept)) (goes_none p s Within.Plain kept)
 each_kept p s (o ∷ os) kept h =
-    goes_to p s within.Plain within.Plain (o ∷ os) kept ((kept ++ o ∷ []) ++ os) (kept ++ o ∷ os) (append_assoc kept (o ∷ []) os)
-    (goes_then p s within.Plain within.Plain within.Plain (o ∷ []) os kept (kept ++ o ∷ []) ((kept ++ o ∷ []) ++ os)
-    (goes_one p s within.Plain o kept within.Plain (keeps.One o) (plain_stays s o h.0)) (each_kept p s os (kept ++ o ∷ []) h.1))
+    goes_to p s Within.Plain Within.Plain (o ∷ os) kept ((kept ++ o ∷ []) ++ os) (kept ++ o ∷ os) (append_assoc kept (o ∷ []) os)
+    (goes_then p s Within.Plain Within.Plain Within.Plain (o ∷ []) os kept (kept ++ o ∷ []) ((kept ++ o ∷ []) ++ os)
+    (goes_one p s Within.Plain o kept Within.Plain (Keep.One o) (plain_stays s o h.0)) (each_kept p s os (kept ++ o ∷ []) h.1))
 
 -- octets that a text keeps as they are lead from between two characters to between two, and are kept
-pub kept_goes : (p : Place) (s : Style) (w kept : List ℕ) → AreKept s w → GoesInText p s within.Plain kept w within.Plain (kept ++ w)
+pub kept_goes : (p : Place) (s : Style) (w kept : List ℕ) → AreKept s w → GoesInText p s Within.Plain kept w Within.Plain (kept ++ w)
 kept_goes p s w kept h = by (is_clob s) refl where
-  by : (clob : Bool) → is_clob s ≡ clob → GoesInText p s within.Plain kept w within.Plain (kept ++ w)
+  by : (clob : Bool) → is_clob s ≡ clob → GoesInText p s Within.Plain kept w Within.Plain (kept ++ w)
   by true e = each_kept p s w kept (h.2 e)
   by false e =
       let is = h.1.1.1 in
-      subst (λ l. GoesInText p s within.Plain kept l within.Plain (kept ++ l)) is
+      subst (λ l. GoesInText p s Within.Plain kept l Within.Plain (kept ++ l)) is
       (chars_kept p s h.1.0 kept e h.1.1.0 (subst (Each (is_raw (is_long s) (quote_of s))) (sym is) h.0))

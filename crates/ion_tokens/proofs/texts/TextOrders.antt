@@ -1,9 +1,7 @@
 -- Elements one behind the other: where a CR or raw quotes stand last.
 use Rattle.std.proofs.Common.{◌≡◌, ℕ, ◌+◌, ◌<◌, Bool, true, false, List, [], ◌∷◌, ◌++◌, refl, sym, ap, ◌∙◌, subst, arith, append_assoc, append-nil, cond}
 use Rattle.std.specs.List.{flat_map, AllByRecursion}
-use Rattle.ion_tokens.specs.declared.mode.Style.{Style}
-use Rattle.ion_tokens.specs.machine.Table.{is_long}
-use Rattle.ion_tokens.specs.Quoted.{Element, IsElement, spelling, meaning, ends_in_cr, is_raw_lf, is_raw_quote, quotes, CrTakesLf, ClosesFirst, IsQuoted}
+use Rattle.ion_tokens.specs.Names.{ClosesFirst, CrTakesLf, Element, IsElement, IsQuoted, Style, ends_in_cr, is_long, is_raw_lf, is_raw_quote, meaning, quotes, spelling}
 
 -- the last element is there, and is so
 abbrev pub last_is : (Element → Bool) → List Element → Bool

@@ -3,31 +3,21 @@ use Rattle.std.proofs.Common.{◌≡◌, ◌≢◌, ℕ, ◌+◌, ◌-◌, ◌*�
 use Rattle.std.specs.Prelude.{Option, Some, None}
 use Rattle.std.proofs.lemmas.Bool.Decides.{nat_tests}
 use lib.Utf8.{scalar}
-use Rattle.ion_tokens.specs.Octets.{hexadecimal_digit, escaped}
-use Rattle.ion_tokens.specs.declared.mode.Style.{Style}
-use Rattle.ion_tokens.specs.declared.mode.Within.{Within}
-use Rattle.ion_tokens.specs.declared.mode.Digits.{Digits}
-use Rattle.ion_atoms.specs.declared.refusal.Reason.TheVariants as reasons
-use Rattle.ion_tokens.specs.declared.mode.Style.TheVariants as styles
-use Rattle.ion_tokens.specs.declared.mode.Digits.TheVariants as digits
-use Rattle.ion_tokens.specs.declared.mode.Within.TheVariants as within
-use Rattle.ion_tokens.specs.declared.mode.Mode.TheVariants as modes
-use Rattle.ion_tokens.specs.declared.mode.Keep.TheVariants as keeps
-use Rattle.ion_tokens.specs.declared.mode.Action.TheVariants as actions
 use native.Mathlib.Decide.{dec_lt}
-use Rattle.ion_tokens.specs.machine.Table.{in_text, raw, in_utf8, in_escape, with_digit, meant, character, after_digits, grow, is_long, is_clob, quote_of}
+use Rattle.ion_tokens.specs.Names.{Action, Digits, Keep, Mode, Reason, Style, Within, after_digits, character, grow, hexadecimal_digit, in_escape, in_text, in_utf8, is_clob, is_long, meant, quote_of, raw, with_digit}
+use Rattle.ion_tokens.specs.Octets.{escaped}
 
 -- an ASCII character that stands for itself
 abbrev pub StandsRaw : ℕ → Type 0
 StandsRaw o = (o ≡ 9) ⊎ (o ≡ 11) ⊎ (o ≡ 12) ⊎ (32 ≤ o)
 
 -- an ASCII character that stands for itself is kept
-pub raw_one : (s : Style) (o : ℕ) → o < 128 → o ≢ 92 → o ≢ quote_of s → StandsRaw o → raw s o ≡ actions.Go (modes.Text s within.Plain) (keeps.One o)
+pub raw_one : (s : Style) (o : ℕ) → o < 128 → o ≢ 92 → o ≢ quote_of s → StandsRaw o → raw s o ≡ Action.Go (Mode.Text s Within.Plain) (Keep.One o)
 raw_one s o low slash quote stands = grind (arith, nat_tests)
 
 -- the first octet of a character of two is kept, and one more must come
 pub raw_two : (s : Style) (o : ℕ) → is_clob s ≡ false → quote_of s < 128 → 194 ≤ o → o < 224
-    → raw s o ≡ actions.Go (modes.Text s (within.Utf8 1 128 191)) (keeps.One o)
+    → raw s o ≡ Action.Go (Mode.Text s (Within.Utf8 1 128 191)) (Keep.One o)
 raw_two s o text quote low high = grind (arith, nat_tests)
 
 -- which octet may be the second
@@ -48,59 +38,59 @@ most_four x = cond (nat_eq x 0xf4) 0x8f 0xbf
 
 -- the first octet of a character of three is kept, and says which second one may come
 pub raw_three : (s : Style) (x : ℕ) → is_clob s ≡ false → quote_of s < 128 → 224 ≤ x → x < 240
-    → raw s x ≡ actions.Go (modes.Text s (within.Utf8 2 (least_three x) (most_three x))) (keeps.One x)
+    → raw s x ≡ Action.Go (Mode.Text s (Within.Utf8 2 (least_three x) (most_three x))) (Keep.One x)
 raw_three s x text quote low high = grind (arith, nat_tests)
 
 -- the first octet of a character of four is kept, and says which second one may come
 pub raw_four : (s : Style) (x : ℕ) → is_clob s ≡ false → quote_of s < 128 → 240 ≤ x → x ≤ 244
-    → raw s x ≡ actions.Go (modes.Text s (within.Utf8 3 (least_four x) (most_four x))) (keeps.One x)
+    → raw s x ≡ Action.Go (Mode.Text s (Within.Utf8 3 (least_four x) (most_four x))) (Keep.One x)
 raw_four s x text quote low high = grind (arith, nat_tests)
 
 -- the last octet of a character, in its range, is kept and completes it
-pub utf8_last : (s : Style) (least most o : ℕ) → least ≤ o → o ≤ most → in_utf8 s 1 least most o ≡ actions.Go (modes.Text s within.Plain) (keeps.One o)
+pub utf8_last : (s : Style) (least most o : ℕ) → least ≤ o → o ≤ most → in_utf8 s 1 least most o ≡ Action.Go (Mode.Text s Within.Plain) (Keep.One o)
 utf8_last s least most o l h = grind (arith, nat_tests)
 
 -- an octet within a character, in its range, is kept, and the next may be any later one
 pub utf8_more : (s : Style) (left least most o : ℕ) → 1 < left → least ≤ o → o ≤ most → in_utf8 s left least most o
-    ≡ actions.Go (modes.Text s (within.Utf8 (left - 1) 128 191)) (keeps.One o)
+    ≡ Action.Go (Mode.Text s (Within.Utf8 (left - 1) 128 191)) (Keep.One o)
 utf8_more s left least most o m l h = grind (arith, nat_tests)
 
 -- an octet of a character out of its range is refused as no UTF-8
-pub utf8_wrong : (s : Style) (left least most o : ℕ) → (o < least) ⊎ (most < o) → in_utf8 s left least most o ≡ actions.Refuse reasons.BadUtf8
+pub utf8_wrong : (s : Style) (left least most o : ℕ) → (o < least) ⊎ (most < o) → in_utf8 s left least most o ≡ Action.Refuse Reason.BadUtf8
 utf8_wrong s left least most o (inl h) = grind (arith, nat_tests)
 utf8_wrong s left least most o (inr h) = grind (arith, nat_tests)
 
 -- a quote in a long text is kept, and may be the first of its close
-pub raw_quote : (s : Style) → is_long s ≡ true → raw s 39 ≡ actions.Go (modes.Text s within.OneQuote) (keeps.One 39)
-raw_quote styles.LongString h = refl
-raw_quote styles.LongClob h = refl
-raw_quote styles.ShortString h = cc
-raw_quote styles.ShortClob h = cc
-raw_quote styles.QuotedSymbol h = cc
+pub raw_quote : (s : Style) → is_long s ≡ true → raw s 39 ≡ Action.Go (Mode.Text s Within.OneQuote) (Keep.One 39)
+raw_quote Style.LongString h = refl
+raw_quote Style.LongClob h = refl
+raw_quote Style.ShortString h = cc
+raw_quote Style.ShortClob h = cc
+raw_quote Style.QuotedSymbol h = cc
 
 -- an LF in a long text is kept
-pub raw_lf : (s : Style) → is_long s ≡ true → raw s 10 ≡ actions.Go (modes.Text s within.Plain) (keeps.One 10)
-raw_lf styles.LongString h = refl
-raw_lf styles.LongClob h = refl
-raw_lf styles.ShortString h = cc
-raw_lf styles.ShortClob h = cc
-raw_lf styles.QuotedSymbol h = cc
+pub raw_lf : (s : Style) → is_long s ≡ true → raw s 10 ≡ Action.Go (Mode.Text s Within.Plain) (Keep.One 10)
+raw_lf Style.LongString h = refl
+raw_lf Style.LongClob h = refl
+raw_lf Style.ShortString h = cc
+raw_lf Style.ShortClob h = cc
+raw_lf Style.QuotedSymbol h = cc
 
 -- a CR in a long text is kept as LF, and takes an LF behind it
-pub raw_cr : (s : Style) → is_long s ≡ true → raw s 13 ≡ actions.Go (modes.Text s within.AfterReturn) (keeps.One 10)
-raw_cr styles.LongString h = refl
-raw_cr styles.LongClob h = refl
-raw_cr styles.ShortString h = cc
-raw_cr styles.ShortClob h = cc
-raw_cr styles.QuotedSymbol h = cc
+pub raw_cr : (s : Style) → is_long s ≡ true → raw s 13 ≡ Action.Go (Mode.Text s Within.AfterReturn) (Keep.One 10)
+raw_cr Style.LongString h = refl
+raw_cr Style.LongClob h = refl
+raw_cr Style.ShortString h = cc
+raw_cr Style.ShortClob h = cc
+raw_cr Style.QuotedSymbol h = cc
 
 -- the quote of each style is `"` or `'`
 pub quote_low : (s : Style) → (quote_of s ≡ 34) ⊎ (quote_of s ≡ 39)
-quote_low styles.ShortString = inl refl
-quote_low styles.ShortClob = inl refl
-quote_low styles.QuotedSymbol = inr refl
-quote_low styles.LongString = inr refl
-quote_low styles.LongClob = inr refl
+quote_low Style.ShortString = inl refl
+quote_low Style.ShortClob = inl refl
+quote_low Style.QuotedSymbol = inr refl
+quote_low Style.LongString = inr refl
+quote_low Style.LongClob = inr refl
 
 -- the quote of each style is ASCII
 pub quote_small : (s : Style) → quote_of s < 128
@@ -108,31 +98,31 @@ quote_small s = ⊎_elim (λ e. omega arith) (λ e. omega arith) (quote_low s)
 
 -- an octet that the state between two elements takes as it stands
 abbrev pub Admits : Within → ℕ → Type 0
-Admits within.Plain o = Unit {0}
-Admits within.AfterReturn o = o ≢ 10
-Admits within.OneQuote o = o ≢ 39
-Admits within.TwoQuotes o = o ≢ 39
+Admits Within.Plain o = Unit {0}
+Admits Within.AfterReturn o = o ≢ 10
+Admits Within.OneQuote o = o ≢ 39
+Admits Within.TwoQuotes o = o ≢ 39
 Admits _ o = ⊥
 
 -- between two elements
 abbrev pub Between : Within → Type 0
-Between within.Plain = Unit {0}
-Between within.AfterReturn = Unit {0}
-Between within.OneQuote = Unit {0}
-Between within.TwoQuotes = Unit {0}
+Between Within.Plain = Unit {0}
+Between Within.AfterReturn = Unit {0}
+Between Within.OneQuote = Unit {0}
+Between Within.TwoQuotes = Unit {0}
 Between _ = ⊥
 
 -- an octet that the state takes as it stands does there what it does between two characters
 pub as_raw : (s : Style) (w : Within) (o : ℕ) → Admits w o → in_text s w o ≡ raw s o
-as_raw s within.Plain o a = refl
-as_raw s within.AfterReturn o a = grind (arith, nat_tests)
-as_raw s within.OneQuote o a = grind (arith, nat_tests)
-as_raw s within.TwoQuotes o a = grind (arith, nat_tests)
-as_raw s (within.Utf8 _ _ _) o a = absurd a
-as_raw s within.Escape o a = absurd a
-as_raw s (within.Hexadecimal _ _ _) o a = absurd a
-as_raw s (within.HighSurrogate _) o a = absurd a
-as_raw s (within.HighSurrogateEscape _) o a = absurd a
+as_raw s Within.Plain o a = refl
+as_raw s Within.AfterReturn o a = grind (arith, nat_tests)
+as_raw s Within.OneQuote o a = grind (arith, nat_tests)
+as_raw s Within.TwoQuotes o a = grind (arith, nat_tests)
+as_raw s (Within.Utf8 _ _ _) o a = absurd a
+as_raw s Within.Escape o a = absurd a
+as_raw s (Within.Hexadecimal _ _ _) o a = absurd a
+as_raw s (Within.HighSurrogate _) o a = absurd a
+as_raw s (Within.HighSurrogateEscape _) o a = absurd a
 
 -- the number so far is right, or both are too great
 abbrev pub Caps : ℕ → ℕ → Type 0
@@ -157,12 +147,12 @@ pub letter_only : (s : Style) (o : ℕ) (r : Option ℕ) → o ≢ 10 → o ≢ 
 letter_only s o r a b c d f e = grind (arith, nat_tests)
 
 -- behind a backslash, a letter that means an octet is kept as that octet
-pub in_simple : (s : Style) (o m : ℕ) → escaped o ≡ Some m → in_escape s o ≡ actions.Go (modes.Text s within.Plain) (keeps.One m)
+pub in_simple : (s : Style) (o m : ℕ) → escaped o ≡ Some m → in_escape s o ≡ Action.Go (Mode.Text s Within.Plain) (Keep.One m)
 in_simple s o m e = letter_only s o (Some m) (no_letter o m 10 e refl) (no_letter o m 13 e refl) (no_letter o m 120 e refl) (no_letter o m 117 e refl)
     (no_letter o m 85 e refl) e
 
 -- the digits of an escape, and what their number says
-pub in_digit : (s : Style) (d : Digits) (left m o v : ℕ) → hexadecimal_digit o ≡ Some v → in_text s (within.Hexadecimal d left m) o
+pub in_digit : (s : Style) (d : Digits) (left m o v : ℕ) → hexadecimal_digit o ≡ Some v → in_text s (Within.Hexadecimal d left m) o
     ≡ with_digit s d left m (Some v)
 in_digit s d left m o v e = ap (with_digit s d left m) e
 
@@ -172,35 +162,35 @@ last_digit s d m v = refl
 
 -- a digit that isn't the last of an escape goes into its number
 pub more_digits : (s : Style) (d : Digits) (left m v : ℕ) → 1 < left → with_digit s d left m (Some v)
-    ≡ actions.Go (modes.Text s (within.Hexadecimal d (left - 1) (grow m v))) keeps.Nothing
+    ≡ Action.Go (Mode.Text s (Within.Hexadecimal d (left - 1) (grow m v))) Keep.Nothing
 more_digits s d left m v h = grind (arith, nat_tests)
 
 -- the number of a character is kept as that character
-pub char_is : (s : Style) (c : ℕ) → scalar c ≡ true → character s c ≡ actions.Go (modes.Text s within.Plain) (keeps.Character c)
-char_is s c e = ap (λ b. cond b (actions.Go (modes.Text s within.Plain) (keeps.Character c)) (actions.Refuse reasons.BadEscape)) e
+pub char_is : (s : Style) (c : ℕ) → scalar c ≡ true → character s c ≡ Action.Go (Mode.Text s Within.Plain) (Keep.Character c)
+char_is s c e = ap (λ b. cond b (Action.Go (Mode.Text s Within.Plain) (Keep.Character c)) (Action.Refuse Reason.BadEscape)) e
 
 -- four digits of a character that is no surrogate are kept as that character
-pub after_unit : (s : Style) (c : ℕ) → scalar c ≡ true → ((c < 55296) ⊎ ((57344 ≤ c) × (c < 1114112))) → after_digits s digits.Unit c
-    ≡ actions.Go (modes.Text s within.Plain) (keeps.Character c)
+pub after_unit : (s : Style) (c : ℕ) → scalar c ≡ true → ((c < 55296) ⊎ ((57344 ≤ c) × (c < 1114112))) → after_digits s Digits.Unit c
+    ≡ Action.Go (Mode.Text s Within.Plain) (Keep.Character c)
 after_unit s c e k = no_high s c k ∙ char_is s c e where
-  no_high : (s : Style) (c : ℕ) → ((c < 55296) ⊎ ((57344 ≤ c) × (c < 1114112))) → after_digits s digits.Unit c ≡ character s c
+  no_high : (s : Style) (c : ℕ) → ((c < 55296) ⊎ ((57344 ≤ c) × (c < 1114112))) → after_digits s Digits.Unit c ≡ character s c
   no_high s c k = grind (arith, nat_tests)
 
 -- four digits of a high surrogate leave a low one to come
-pub after_high : (s : Style) (h : ℕ) → h < 1024 → after_digits s digits.Unit (0xd800 + h) ≡ actions.Go (modes.Text s (within.HighSurrogate (0xd800 + h)))
-    keeps.Nothing
+pub after_high : (s : Style) (h : ℕ) → h < 1024 → after_digits s Digits.Unit (0xd800 + h) ≡ Action.Go (Mode.Text s (Within.HighSurrogate (0xd800 + h)))
+    Keep.Nothing
 after_high s h l = grind (arith, nat_tests)
 
 pair_scalar : (h l : ℕ) → h < 1024 → l < 1024 → scalar (0x10000 + h * 1024 + l) ≡ true
 pair_scalar h l a b = grind (arith, nat_tests)
 
 -- the digits of a low surrogate behind a high one are kept as the pair's character
-pub after_low : (s : Style) (h l : ℕ) → h < 1024 → l < 1024 → after_digits s (digits.LowSurrogate (0xd800 + h)) (0xdc00 + l)
-    ≡ actions.Go (modes.Text s within.Plain) (keeps.Character (0x10000 + h * 1024 + l))
+pub after_low : (s : Style) (h l : ℕ) → h < 1024 → l < 1024 → after_digits s (Digits.LowSurrogate (0xd800 + h)) (0xdc00 + l)
+    ≡ Action.Go (Mode.Text s Within.Plain) (Keep.Character (0x10000 + h * 1024 + l))
 after_low s h l a b = let high : (0xd800 + h) - 0xd800 ≡ h = omega arith in let low : (0xdc00 + l) - 0xdc00 ≡ l = omega arith in
     after_pair (0xd800 + h) (0xdc00 + l) (omega arith) (omega arith) (omega arith) (omega arith) ∙ ap (character s) ((λ i. 0x10000 + high i * 1024 + low i))
     ∙ char_is s (0x10000 + h * 1024 + l) (pair_scalar h l a b)
   where
-    after_pair : (x y : ℕ) → 0xd800 ≤ x → x ≤ 0xdbff → 0xdc00 ≤ y → y ≤ 0xdfff → after_digits s (digits.LowSurrogate x) y
+    after_pair : (x y : ℕ) → 0xd800 ≤ x → x ≤ 0xdbff → 0xdc00 ≤ y → y ≤ 0xdfff → after_digits s (Digits.LowSurrogate x) y
         ≡ character s (0x10000 + (x - 0xd800) * 1024 + (y - 0xdc00))
     after_pair x y a b c d = grind (arith, nat_tests)

@@ -4,17 +4,10 @@ use Rattle.std.specs.List.{flat_map, AllByRecursion}
 use Rattle.std.proofs.lemmas.Bool.Decides.{nat_tests}
 use Rattle.std.proofs.lemmas.Bool.{true≢false}
 use lib.Utf8.{encode, scalar_cases}
+use Rattle.ion_tokens.specs.Names.{ClosesFirst, Cr, CrLf, CrTakesLf, Element, Hex, Hidden, IsElement, IsQuoted, IsRaw, Keep, Lf, LineEnd, Pair, Place, Raw, RawLine, Simple, Style, Within, ends_in_cr, is_long, is_raw_lf, meaning, quote_of, quotes, spelling}
 use Rattle.ion_tokens.proofs.texts.Encodings.{encoding, order}
-use Rattle.ion_tokens.specs.declared.mode.Place.{Place}
-use Rattle.ion_tokens.specs.declared.mode.Style.{Style}
-use Rattle.ion_tokens.specs.declared.mode.Within.{Within}
-use Rattle.ion_tokens.specs.declared.mode.Style.TheVariants as styles
-use Rattle.ion_tokens.specs.declared.mode.Within.TheVariants as within
-use Rattle.ion_tokens.specs.declared.mode.Keep.TheVariants as keeps
-use Rattle.ion_tokens.specs.machine.Table.{is_long, quote_of}
-use Rattle.ion_tokens.specs.Quoted.{Element, Raw, RawLine, Simple, Hidden, Hex, Pair, IsElement, spelling, meaning, ends_in_cr, is_raw_lf, quotes, CrTakesLf, ClosesFirst, IsQuoted, IsRaw, LineEnd, Lf, Cr, CrLf}
-use Rattle.ion_tokens.proofs.texts.TextSteps.{raw_quote, raw_lf, raw_cr, Admits, as_raw, in_simple}
-use Rattle.ion_tokens.proofs.texts.TextElements.{GoesInText, goes_none, goes_one, goes_then, goes_to, goes_slash, read_raw, read_hex, read_pair}
+use Rattle.ion_tokens.proofs.texts.TextElements.{GoesInText, goes_none, goes_one, goes_slash, goes_then, goes_to, read_hex, read_pair, read_raw}
+use Rattle.ion_tokens.proofs.texts.TextSteps.{Admits, as_raw, in_simple, raw_cr, raw_lf, raw_quote}
 
 -- the first is no raw LF
 abbrev pub NoLf : List Element → Type 0
@@ -23,19 +16,19 @@ NoLf (e ∷ es) = is_raw_lf e ≡ false
 
 -- these elements may follow
 abbrev pub Ready : Style → Within → List Element → Type 0
-Ready s within.Plain es = Unit {0}
-Ready s within.AfterReturn es = NoLf es
-Ready s within.OneQuote es = (is_long s ≡ true) × (1 + quotes es < 3)
-Ready s within.TwoQuotes es = (is_long s ≡ true) × (2 + quotes es < 3)
+Ready s Within.Plain es = Unit {0}
+Ready s Within.AfterReturn es = NoLf es
+Ready s Within.OneQuote es = (is_long s ≡ true) × (1 + quotes es < 3)
+Ready s Within.TwoQuotes es = (is_long s ≡ true) × (2 + quotes es < 3)
 Ready s _ es = ⊥
 
 -- the quote of a long text is `'`
 pub long_quote : (s : Style) → is_long s ≡ true → quote_of s ≡ 39
-long_quote styles.LongString h = refl
-long_quote styles.LongClob h = refl
-long_quote styles.ShortString h = cc
-long_quote styles.ShortClob h = cc
-long_quote styles.QuotedSymbol h = cc
+long_quote Style.LongString h = refl
+long_quote Style.LongClob h = refl
+long_quote Style.ShortString h = cc
+long_quote Style.ShortClob h = cc
+long_quote Style.QuotedSymbol h = cc
 
 -- a test holds or fails
 pub bool_cases : (b : Bool) → (b ≡ true) ⊎ (b ≡ false)
@@ -48,39 +41,39 @@ eq_or a b = ⊎_elim (λ l. inr (λ e. omega arith)) (λ l. ⊎_elim (λ m. inr 
 
 -- a backslash may always follow
 ready_slash : (s : Style) (w : Within) (es : List Element) → Ready s w es → Admits w 92
-ready_slash s within.Plain es h = tt
-ready_slash s within.AfterReturn es h = λ e. omega arith
-ready_slash s within.OneQuote es h = λ e. omega arith
-ready_slash s within.TwoQuotes es h = λ e. omega arith
-ready_slash s (within.Utf8 _ _ _) es h = h
-ready_slash s within.Escape es h = h
-ready_slash s (within.Hexadecimal _ _ _) es h = h
-ready_slash s (within.HighSurrogate _) es h = h
-ready_slash s (within.HighSurrogateEscape _) es h = h
+ready_slash s Within.Plain es h = tt
+ready_slash s Within.AfterReturn es h = λ e. omega arith
+ready_slash s Within.OneQuote es h = λ e. omega arith
+ready_slash s Within.TwoQuotes es h = λ e. omega arith
+ready_slash s (Within.Utf8 _ _ _) es h = h
+ready_slash s Within.Escape es h = h
+ready_slash s (Within.Hexadecimal _ _ _) es h = h
+ready_slash s (Within.HighSurrogate _) es h = h
+ready_slash s (Within.HighSurrogateEscape _) es h = h
 
 ready_octet : (s : Style) (w : Within) (es : List Element) (o : ℕ) → Ready s w es → o ≢ 10 → (is_long s ≡ true → o ≢ 39) → Admits w o
-ready_octet s within.Plain es o h n q = tt
-ready_octet s within.AfterReturn es o h n q = n
-ready_octet s within.OneQuote es o h n q = q h.0
-ready_octet s within.TwoQuotes es o h n q = q h.0
-ready_octet s (within.Utf8 _ _ _) es o h n q = h
-ready_octet s within.Escape es o h n q = h
-ready_octet s (within.Hexadecimal _ _ _) es o h n q = h
-ready_octet s (within.HighSurrogate _) es o h n q = h
-ready_octet s (within.HighSurrogateEscape _) es o h n q = h
+ready_octet s Within.Plain es o h n q = tt
+ready_octet s Within.AfterReturn es o h n q = n
+ready_octet s Within.OneQuote es o h n q = q h.0
+ready_octet s Within.TwoQuotes es o h n q = q h.0
+ready_octet s (Within.Utf8 _ _ _) es o h n q = h
+ready_octet s Within.Escape es o h n q = h
+ready_octet s (Within.Hexadecimal _ _ _) es o h n q = h
+ready_octet s (Within.HighSurrogate _) es o h n q = h
+ready_octet s (Within.HighSurrogateEscape _) es o h n q = h
 
 -- a raw line end may follow
 ready_line : (s : Style) (w : Within) (e : LineEnd) (es : List Element) (o : ℕ) → Ready s w (RawLine e ∷ es) → (is_raw_lf (RawLine e) ≡ false → o ≢ 10) → o ≢ 39
     → Admits w o
-ready_line s within.Plain e es o h n q = tt
-ready_line s within.AfterReturn e es o h n q = n h
-ready_line s within.OneQuote e es o h n q = q
-ready_line s within.TwoQuotes e es o h n q = q
-ready_line s (within.Utf8 _ _ _) e es o h n q = h
-ready_line s within.Escape e es o h n q = h
-ready_line s (within.Hexadecimal _ _ _) e es o h n q = h
-ready_line s (within.HighSurrogate _) e es o h n q = h
-ready_line s (within.HighSurrogateEscape _) e es o h n q = h
+ready_line s Within.Plain e es o h n q = tt
+ready_line s Within.AfterReturn e es o h n q = n h
+ready_line s Within.OneQuote e es o h n q = q
+ready_line s Within.TwoQuotes e es o h n q = q
+ready_line s (Within.Utf8 _ _ _) e es o h n q = h
+ready_line s Within.Escape e es o h n q = h
+ready_line s (Within.Hexadecimal _ _ _) e es o h n q = h
+ready_line s (Within.HighSurrogate _) e es o h n q = h
+ready_line s (Within.HighSurrogateEscape _) e es o h n q = h
 
 behind_cr : (e : Element) (es : List Element) → IsTrue (ends_in_cr e) → CrTakesLf (e ∷ es) → NoLf es
 behind_cr e [] h c = tt
@@ -94,35 +87,35 @@ ReadsElement p s w kept e es = (v : Within) × Ready s v es × GoesInText p s w 
 read_quote : (p : Place) (s : Style) (w : Within) (kept : List ℕ) (es : List Element) → is_long s ≡ true → Ready s w (Raw 39 ∷ es) → 1 + quotes es < 3
     → ReadsElement p s w kept (Raw 39) es
 unfolding encode
-read_quote p s within.Plain kept es long h room = (
-  within.OneQuote,
+read_quote p s Within.Plain kept es long h room = (
+  Within.OneQuote,
   (long, room),
-  goes_one p s within.Plain 39 kept within.OneQuote (keeps.One 39) (raw_quote s long),
+  goes_one p s Within.Plain 39 kept Within.OneQuote (Keep.One 39) (raw_quote s long),
 )
-read_quote p s within.AfterReturn kept es long h room = (
-  within.OneQuote,
+read_quote p s Within.AfterReturn kept es long h room = (
+  Within.OneQuote,
   (long, room),
-  goes_one p s within.AfterReturn 39 kept within.OneQuote (keeps.One 39)
+  goes_one p s Within.AfterReturn 39 kept Within.OneQuote (Keep.One 39)
       (raw_quote s long),
 )
-read_quote p s within.OneQuote kept es long h room = (
-  within.TwoQuotes,
+read_quote p s Within.OneQuote kept es long h room = (
+  Within.TwoQuotes,
   (long, omega (arith, h.1)),
-  goes_one p s within.OneQuote 39 kept within.TwoQuotes (keeps.One 39) refl,
+  goes_one p s Within.OneQuote 39 kept Within.TwoQuotes (Keep.One 39) refl,
 )
-read_quote p s within.TwoQuotes kept es long h room = absurd (omega (arith, h.1))
-read_quote p s (within.Utf8 _ _ _) kept es long h room = absurd h
-read_quote p s within.Escape kept es long h room = absurd h
-read_quote p s (within.Hexadecimal _ _ _) kept es long h room = absurd h
-read_quote p s (within.HighSurrogate _) kept es long h room = absurd h
-read_quote p s (within.HighSurrogateEscape _) kept es long h room = absurd h
+read_quote p s Within.TwoQuotes kept es long h room = absurd (omega (arith, h.1))
+read_quote p s (Within.Utf8 _ _ _) kept es long h room = absurd h
+read_quote p s Within.Escape kept es long h room = absurd h
+read_quote p s (Within.Hexadecimal _ _ _) kept es long h room = absurd h
+read_quote p s (Within.HighSurrogate _) kept es long h room = absurd h
+read_quote p s (Within.HighSurrogateEscape _) kept es long h room = absurd h
 
 read_plain : (p : Place) (s : Style) (w : Within) (kept : List ℕ) (c : ℕ) (es : List Element) → (is_long s ≡ true → c ≢ 39) → Ready s w (Raw c ∷ es) → IsRaw s c
     → ReadsElement p s w kept (Raw c) es
 read_plain p s w kept c es q h i =
     let no_quote : c ≢ quote_of s = ⊎_elim (λ l. ⊎_elim (λ long e. q long (e ∙ long_quote s long)) (λ short. absurd (true≢false (sym l ∙ short)))
     (bool_cases (is_long s))) (λ n. n) i.2 in (
-      within.Plain,
+      Within.Plain,
       tt,
       read_raw p s c w kept
           (λ o is. ready_octet s w (Raw c ∷ es) o h (⊎_elim (λ e. grind (arith, nat_tests)) (λ l e. omega arith) is)
@@ -144,48 +137,48 @@ read_character p s w kept c es h i closes =
 read_line : (p : Place) (s : Style) (w : Within) (kept : List ℕ) (e : LineEnd) (es : List Element) → Ready s w (RawLine e ∷ es) → is_long s ≡ true
     → CrTakesLf (RawLine e ∷ es) → ReadsElement p s w kept (RawLine e) es
 read_line p s w kept Lf es h long crs = (
-  within.Plain,
+  Within.Plain,
   tt,
-  goes_one p s w 10 kept within.Plain (keeps.One 10) (as_raw s w 10 (ready_line s w Lf es 10 h (λ f. absurd (true≢false f)) (λ e. omega arith))
+  goes_one p s w 10 kept Within.Plain (Keep.One 10) (as_raw s w 10 (ready_line s w Lf es 10 h (λ f. absurd (true≢false f)) (λ e. omega arith))
       ∙ raw_lf s long),
 )
 read_line p s w kept Cr es h long crs = (
-  within.AfterReturn,
+  Within.AfterReturn,
   behind_cr (RawLine Cr) es refl crs,
-  goes_one p s w 13 kept within.AfterReturn (keeps.One 10) (as_raw s w 13 (ready_line s w Cr es 13 h (λ f e. omega arith) (λ e. omega arith))
+  goes_one p s w 13 kept Within.AfterReturn (Keep.One 10) (as_raw s w 13 (ready_line s w Cr es 13 h (λ f e. omega arith) (λ e. omega arith))
       ∙ raw_cr s long),
 )
 read_line p s w kept CrLf es h long crs = (
-  within.Plain,
+  Within.Plain,
   tt,
-  goes_then p s w within.AfterReturn within.Plain (13 ∷ []) (10 ∷ []) kept (kept ++ 10 ∷ []) (kept ++ 10 ∷ [])
-      (goes_one p s w 13 kept within.AfterReturn (keeps.One 10) (as_raw s w 13 (ready_line s w CrLf es 13 h (λ f e. omega arith) (λ e. omega arith))
+  goes_then p s w Within.AfterReturn Within.Plain (13 ∷ []) (10 ∷ []) kept (kept ++ 10 ∷ []) (kept ++ 10 ∷ [])
+      (goes_one p s w 13 kept Within.AfterReturn (Keep.One 10) (as_raw s w 13 (ready_line s w CrLf es 13 h (λ f e. omega arith) (λ e. omega arith))
       ∙ raw_cr s long))
-      (goes_one p s within.AfterReturn 10 (kept ++ 10 ∷ []) within.Plain keeps.Nothing refl),
+      (goes_one p s Within.AfterReturn 10 (kept ++ 10 ∷ []) Within.Plain Keep.Nothing refl),
 )
 
 read_hidden : (p : Place) (s : Style) (w : Within) (kept : List ℕ) (e : LineEnd) (es : List Element) → Ready s w (Hidden e ∷ es) → CrTakesLf (Hidden e ∷ es)
     → ReadsElement p s w kept (Hidden e) es
 read_hidden p s w kept Lf es h crs = (
-  within.Plain,
+  Within.Plain,
   tt,
-  goes_to p s w within.Plain (92 ∷ 10 ∷ []) kept kept (kept ++ []) (sym (append-nil kept))
-      (goes_slash p s w within.Plain (10 ∷ []) kept kept (ready_slash s w _ h) (goes_one p s within.Escape 10 kept within.Plain keeps.Nothing refl)),
+  goes_to p s w Within.Plain (92 ∷ 10 ∷ []) kept kept (kept ++ []) (sym (append-nil kept))
+      (goes_slash p s w Within.Plain (10 ∷ []) kept kept (ready_slash s w _ h) (goes_one p s Within.Escape 10 kept Within.Plain Keep.Nothing refl)),
 )
 read_hidden p s w kept Cr es h crs = (
-  within.AfterReturn,
+  Within.AfterReturn,
   behind_cr (Hidden Cr) es refl crs,
-  goes_to p s w within.AfterReturn (92 ∷ 13 ∷ []) kept kept (kept ++ []) (sym (append-nil kept))
-      (goes_slash p s w within.AfterReturn (13 ∷ []) kept kept (ready_slash s w _ h)
-      (goes_one p s within.Escape 13 kept within.AfterReturn keeps.Nothing refl)),
+  goes_to p s w Within.AfterReturn (92 ∷ 13 ∷ []) kept kept (kept ++ []) (sym (append-nil kept))
+      (goes_slash p s w Within.AfterReturn (13 ∷ []) kept kept (ready_slash s w _ h)
+      (goes_one p s Within.Escape 13 kept Within.AfterReturn Keep.Nothing refl)),
 )
 read_hidden p s w kept CrLf es h crs = (
-  within.Plain,
+  Within.Plain,
   tt,
-  goes_to p s w within.Plain (92 ∷ 13 ∷ 10 ∷ []) kept kept (kept ++ []) (sym (append-nil kept))
-      (goes_slash p s w within.Plain (13 ∷ 10 ∷ []) kept kept (ready_slash s w _ h)
-      (goes_then p s within.Escape within.AfterReturn within.Plain (13 ∷ []) (10 ∷ []) kept kept kept
-      (goes_one p s within.Escape 13 kept within.AfterReturn keeps.Nothing refl) (goes_one p s within.AfterReturn 10 kept within.Plain keeps.Nothing refl))),
+  goes_to p s w Within.Plain (92 ∷ 13 ∷ 10 ∷ []) kept kept (kept ++ []) (sym (append-nil kept))
+      (goes_slash p s w Within.Plain (13 ∷ 10 ∷ []) kept kept (ready_slash s w _ h)
+      (goes_then p s Within.Escape Within.AfterReturn Within.Plain (13 ∷ []) (10 ∷ []) kept kept kept
+      (goes_one p s Within.Escape 13 kept Within.AfterReturn Keep.Nothing refl) (goes_one p s Within.AfterReturn 10 kept Within.Plain Keep.Nothing refl))),
 )
 
 read_element : (p : Place) (s : Style) (w : Within) (kept : List ℕ) (e : Element) (es : List Element) → Ready s w (e ∷ es) → IsElement s e → CrTakesLf (e ∷ es)
@@ -193,31 +186,31 @@ read_element : (p : Place) (s : Style) (w : Within) (kept : List ℕ) (e : Eleme
 read_element p s w kept (Raw c) es h i crs closes = read_character p s w kept c es h i closes
 read_element p s w kept (RawLine e) es h i crs closes = read_line p s w kept e es h i crs
 read_element p s w kept (Simple letter o) es h i crs closes = (
-  within.Plain,
+  Within.Plain,
   tt,
-  goes_slash p s w within.Plain (letter ∷ []) kept (kept ++ o ∷ []) (ready_slash s w _ h)
-      (goes_one p s within.Escape letter kept within.Plain (keeps.One o) (in_simple s letter o i)),
+  goes_slash p s w Within.Plain (letter ∷ []) kept (kept ++ o ∷ []) (ready_slash s w _ h)
+      (goes_one p s Within.Escape letter kept Within.Plain (Keep.One o) (in_simple s letter o i)),
 )
 read_element p s w kept (Hidden e) es h i crs closes = read_hidden p s w kept e es h crs
-read_element p s w kept (Hex letter os c) es h i crs closes = (within.Plain, tt, read_hex p s w kept letter os c (ready_slash s w _ h) i)
-read_element p s w kept (Pair first second high low) es h i crs closes = (within.Plain, tt, read_pair p s w kept first second high low (ready_slash s w _ h) i)
+read_element p s w kept (Hex letter os c) es h i crs closes = (Within.Plain, tt, read_hex p s w kept letter os c (ready_slash s w _ h) i)
+read_element p s w kept (Pair first second high low) es h i crs closes = (Within.Plain, tt, read_pair p s w kept first second high low (ready_slash s w _ h) i)
 
 -- before the quotes that close
 abbrev pub Ended : Within → Type 0
-Ended within.Plain = Unit {0}
-Ended within.AfterReturn = Unit {0}
+Ended Within.Plain = Unit {0}
+Ended Within.AfterReturn = Unit {0}
 Ended _ = ⊥
 
 ended : (s : Style) (w : Within) → Ready s w [] → Ended w
-ended s within.Plain h = tt
-ended s within.AfterReturn h = tt
-ended s within.OneQuote h = omega (arith, h.1)
-ended s within.TwoQuotes h = omega (arith, h.1)
-ended s (within.Utf8 _ _ _) h = h
-ended s within.Escape h = h
-ended s (within.Hexadecimal _ _ _) h = h
-ended s (within.HighSurrogate _) h = h
-ended s (within.HighSurrogateEscape _) h = h
+ended s Within.Plain h = tt
+ended s Within.AfterReturn h = tt
+ended s Within.OneQuote h = omega (arith, h.1)
+ended s Within.TwoQuotes h = omega (arith, h.1)
+ended s (Within.Utf8 _ _ _) h = h
+ended s Within.Escape h = h
+ended s (Within.Hexadecimal _ _ _) h = h
+ended s (Within.HighSurrogate _) h = h
+ended s (Within.HighSurrogateEscape _) h = h
 
 more_crs : (e : Element) (es : List Element) → CrTakesLf (e ∷ es) → CrTakesLf es
 more_crs e [] h = tt
@@ -240,12 +233,12 @@ read_elements p s (e ∷ es) w kept h each crs closes =
 
 -- What stands between the quotes is read, up to them.
 pub read_content : (p : Place) (s : Style) (content octets kept : List ℕ) → IsQuoted s content octets → (v : Within) × Ended v
-    × GoesInText p s within.Plain kept content v (kept ++ octets)
+    × GoesInText p s Within.Plain kept content v (kept ++ octets)
 read_content p s content octets kept q =
-    let r = read_elements p s q.elements within.Plain kept tt q.each q.crs q.close in (
+    let r = read_elements p s q.elements Within.Plain kept tt q.each q.crs q.close in (
       r.0,
       r.1,
-      subst (λ l. GoesInText p s within.Plain kept l r.0 (kept ++ octets)) (sym q.spelled)
-          (goes_to p s within.Plain r.0 (flat_map spelling q.elements) kept (kept ++ flat_map (meaning s) q.elements) (kept ++ octets)
+      subst (λ l. GoesInText p s Within.Plain kept l r.0 (kept ++ octets)) (sym q.spelled)
+          (goes_to p s Within.Plain r.0 (flat_map spelling q.elements) kept (kept ++ flat_map (meaning s) q.elements) (kept ++ octets)
           (ap (λ l. kept ++ l) (sym q.means)) r.2),
     )

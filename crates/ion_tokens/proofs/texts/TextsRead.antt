@@ -5,29 +5,16 @@ use Rattle.std.specs.List.{flat_map, AllByRecursion}
 use Rattle.std.specs.Char.{IsScalar}
 use Rattle.std.proofs.lemmas.Bool.{false≢true, true≢false}
 use Rattle.std.proofs.lemmas.Bool.Decides.{nat_tests}
-use Rattle.ion_tokens.proofs.texts.Encodings.{order}
 use lib.Utf8.{encode, scalar, scalar_cases}
-use Rattle.ion_tokens.specs.Octets.{hexadecimal_digit, escaped}
-use Rattle.ion_atoms.specs.declared.refusal.Reason.TheVariants as reasons
-use Rattle.ion_tokens.specs.declared.mode.Style.{Style}
-use Rattle.ion_tokens.specs.declared.mode.Within.{Within}
-use Rattle.ion_tokens.specs.declared.mode.Digits.{Digits}
-use Rattle.ion_tokens.specs.declared.mode.Action.{Action}
-use Rattle.ion_tokens.specs.declared.mode.Style.TheVariants as styles
-use Rattle.ion_tokens.specs.declared.mode.Digits.TheVariants as digits
-use Rattle.ion_tokens.specs.declared.mode.Within.TheVariants as within
-use Rattle.ion_tokens.specs.declared.mode.Mode.TheVariants as modes
-use Rattle.ion_tokens.specs.declared.mode.Keep.TheVariants as keeps
-use Rattle.ion_tokens.specs.declared.mode.Action.TheVariants as actions
-use Rattle.ion_tokens.specs.Quoted.{Element, Raw, RawLine, Simple, Hidden, Hex, Pair, Lf, Cr, CrLf, IsElement, spelling, meaning, IsHexAfter, IsQuoted, hex_length, is_raw_lf, is_raw_quote, ends_in_cr}
-use Rattle.ion_tokens.specs.machine.Table.{in_text, raw, close_long, in_utf8, in_escape, with_digit, meant, character, after_digits, grow, is_long, is_clob, quote_of}
-use Rattle.ion_tokens.specs.machine.Scanning.{kept_after}
-use Rattle.ion_tokens.proofs.texts.TextSteps.{utf8_last, utf8_more, utf8_wrong, Caps, caps_grow, exact, as_raw, letter_only, more_digits, after_low, after_high, quote_low}
-use Rattle.ion_tokens.proofs.texts.TextElements.{below_max, digit_small}
-use Rattle.ion_tokens.proofs.texts.TextsComplete.{eq_or}
+use Rattle.ion_tokens.specs.Names.{Action, Cr, CrLf, Digits, Element, Hex, Hidden, IsElement, IsHexAfter, IsQuoted, Keep, Lf, Mode, Pair, Raw, RawLine, Reason, Simple, Style, Within, after_digits, character, close_long, ends_in_cr, grow, hex_length, hexadecimal_digit, in_escape, in_text, in_utf8, is_clob, is_long, is_raw_lf, is_raw_quote, kept_after, meaning, meant, quote_of, raw, spelling, with_digit}
+use Rattle.ion_tokens.specs.Octets.{escaped}
 use Rattle.ion_tokens.proofs.complete.TakesTexts.{drops_two}
-use Rattle.ion_tokens.proofs.texts.TextOrders.{last_is, last_is_last, Base, base_none, base_more, base_quote, base_quotes, quoted}
-use Rattle.ion_tokens.proofs.texts.TextsSound.{Whole, EndsAfter, SoFar, IsHigh, HexPart, TextOnly, Part, After, Reads, Closes, GivesText, LeadsTo, Keeps, Leads, by_action, part_only, FitsBehind, one_element, raw_leads, fits_raw, rebase, rebase_kept, leads_no_drop}
+use Rattle.ion_tokens.proofs.texts.Encodings.{order}
+use Rattle.ion_tokens.proofs.texts.TextElements.{below_max, digit_small}
+use Rattle.ion_tokens.proofs.texts.TextOrders.{Base, base_more, base_none, base_quote, base_quotes, last_is, last_is_last, quoted}
+use Rattle.ion_tokens.proofs.texts.TextSteps.{Caps, after_high, after_low, as_raw, caps_grow, exact, letter_only, more_digits, quote_low, utf8_last, utf8_more, utf8_wrong}
+use Rattle.ion_tokens.proofs.texts.TextsComplete.{eq_or}
+use Rattle.ion_tokens.proofs.texts.TextsSound.{After, Closes, EndsAfter, FitsBehind, GivesText, HexPart, IsHigh, Keeps, Leads, LeadsTo, Part, Reads, SoFar, TextOnly, Whole, by_action, fits_raw, leads_no_drop, one_element, part_only, raw_leads, rebase, rebase_kept}
 
 -- inside a character
 utf8_leads : (s : Style) (es : List Element) (left lo hi o : ℕ) (p : List ℕ) → Base s es → is_clob s ≡ false → 0 < left → EndsAfter left lo hi p
@@ -54,7 +41,7 @@ utf8_leads s es (suc (suc n)) lo hi o p b t l h =
     let e : suc (suc n) - 1 ≡ suc n = omega arith in
     by_action s es (p ++ o ∷ []) p (utf8_more s (suc (suc n)) lo hi o (omega arith) m k) (
       tt,
-      part_only s es (within.Utf8 (suc (suc n) - 1) 128 191) (p ++ o ∷ []) (p ++ o ∷ []) b tt
+      part_only s es (Within.Utf8 (suc (suc n) - 1) 128 191) (p ++ o ∷ []) (p ++ o ∷ []) b tt
           (t, refl, omega arith, subst (λ (i : ℕ). EndsAfter i 128 191 (p ++ o ∷ [])) (sym e) (h o m k)),
     ))
     (order hi o)) (order o lo)
@@ -71,24 +58,24 @@ simple_leads s es o (Some m) b e = (tt, one_element s es (Simple o m) (92 ∷ o 
 unit_opens : (s : Style) (es : List Element) → Base s es → Leads s es (in_escape s 117) (92 ∷ 117 ∷ []) []
 unit_opens s es b = by (is_clob s) refl where
   by : (c : Bool) → is_clob s ≡ c → Leads s es (cond (Rattle.std.specs.Prelude.not c)
-      (actions.Go (modes.Text s (within.Hexadecimal digits.Unit 4 0)) keeps.Nothing) (meant s (escaped 117))) (92 ∷ 117 ∷ []) []
+      (Action.Go (Mode.Text s (Within.Hexadecimal Digits.Unit 4 0)) Keep.Nothing) (meant s (escaped 117))) (92 ∷ 117 ∷ []) []
   by true e = tt
-  by false e = (tt, part_only s es (within.Hexadecimal digits.Unit 4 0) (92 ∷ 117 ∷ []) [] b tt (refl, e, ([], refl, (0, refl, omega arith, refl, inl refl))))
+  by false e = (tt, part_only s es (Within.Hexadecimal Digits.Unit 4 0) (92 ∷ 117 ∷ []) [] b tt (refl, e, ([], refl, (0, refl, omega arith, refl, inl refl))))
 
 scalar_opens : (s : Style) (es : List Element) → Base s es → Leads s es (in_escape s 85) (92 ∷ 85 ∷ []) []
 scalar_opens s es b = by (is_clob s) refl where
   by : (c : Bool) → is_clob s ≡ c → Leads s es (cond (Rattle.std.specs.Prelude.not c)
-      (actions.Go (modes.Text s (within.Hexadecimal digits.Scalar 8 0)) keeps.Nothing) (meant s (escaped 85))) (92 ∷ 85 ∷ []) []
+      (Action.Go (Mode.Text s (Within.Hexadecimal Digits.Scalar 8 0)) Keep.Nothing) (meant s (escaped 85))) (92 ∷ 85 ∷ []) []
   by true e = tt
-  by false e = (tt, part_only s es (within.Hexadecimal digits.Scalar 8 0) (92 ∷ 85 ∷ []) [] b tt (refl, e, ([], refl, (0, refl, omega arith, refl, inl refl))))
+  by false e = (tt, part_only s es (Within.Hexadecimal Digits.Scalar 8 0) (92 ∷ 85 ∷ []) [] b tt (refl, e, ([], refl, (0, refl, omega arith, refl, inl refl))))
 
 escape_leads : (s : Style) (es : List Element) (o : ℕ) → Base s es → Leads s es (in_escape s o) (92 ∷ o ∷ []) []
 escape_leads s es o b =
     ⊎_elim (λ i. at o 10 i (tt, one_element s es (Hidden Lf) (92 ∷ 10 ∷ []) [] b (fits s es (Hidden Lf) tt refl refl refl) refl refl)) (λ a.
-    ⊎_elim (λ i. at o 13 i (tt, part_only s es within.AfterReturn (92 ∷ 13 ∷ []) [] b tt (inl (refl, refl)))) (λ c.
+    ⊎_elim (λ i. at o 13 i (tt, part_only s es Within.AfterReturn (92 ∷ 13 ∷ []) [] b tt (inl (refl, refl)))) (λ c.
     ⊎_elim (λ i. at o 120 i (
       tt,
-      part_only s es (within.Hexadecimal digits.Octet 2 0) (92 ∷ 120 ∷ []) [] b tt
+      part_only s es (Within.Hexadecimal Digits.Octet 2 0) (92 ∷ 120 ∷ []) [] b tt
           (refl, tt, ([], refl, (0, refl, omega arith, refl, inl refl))),
     )) (λ d.
     ⊎_elim (λ i. at o 117 i (unit_opens s es b)) (λ e.
@@ -116,10 +103,10 @@ so_far_more total left m d o os l (n, e, p, h, c) f = (
 
 part_more : (d : Digits) (p : List ℕ) (left m v o : ℕ) → 1 < left → HexPart d p left m → hexadecimal_digit o ≡ Some v
     → HexPart d (p ++ o ∷ []) (left - 1) (grow m v)
-part_more digits.Octet p left m v o l (os, e, h) f = (os ++ o ∷ [], ap (λ l. l ++ o ∷ []) e, so_far_more 2 left m v o os l h f)
-part_more digits.Unit p left m v o l (os, e, h) f = (os ++ o ∷ [], ap (λ l. l ++ o ∷ []) e, so_far_more 4 left m v o os l h f)
-part_more digits.Scalar p left m v o l (os, e, h) f = (os ++ o ∷ [], ap (λ l. l ++ o ∷ []) e, so_far_more 8 left m v o os l h f)
-part_more (digits.LowSurrogate x) p left m v o l (first, os, e, h, g) f =
+part_more Digits.Octet p left m v o l (os, e, h) f = (os ++ o ∷ [], ap (λ l. l ++ o ∷ []) e, so_far_more 2 left m v o os l h f)
+part_more Digits.Unit p left m v o l (os, e, h) f = (os ++ o ∷ [], ap (λ l. l ++ o ∷ []) e, so_far_more 4 left m v o os l h f)
+part_more Digits.Scalar p left m v o l (os, e, h) f = (os ++ o ∷ [], ap (λ l. l ++ o ∷ []) e, so_far_more 8 left m v o os l h f)
+part_more (Digits.LowSurrogate x) p left m v o l (first, os, e, h, g) f =
     (first, os ++ o ∷ [], ap (λ l. l ++ o ∷ []) e ∙ ap (λ l. 92 ∷ 117 ∷ l) (append_assoc first (92 ∷ 117 ∷ os) (o ∷ [])), h, so_far_more 4 left m v o os l g f)
 
 -- all the digits are there
@@ -135,7 +122,7 @@ hex_is s letter m os t = ap (λ b. cond b (m ∷ []) (encode m)) (sym t)
 char_leads : (s : Style) (es : List Element) (letter total m : ℕ) (os : List ℕ) → Base s es → is_clob s ≡ false → hex_length letter ≡ Some total
     → Full total m os → Leads s es (character s m) (92 ∷ letter ∷ os) []
 char_leads s es letter total m os b t k (n, e, h, c) = by (scalar m) refl where
-  by : (x : Bool) → scalar m ≡ x → Leads s es (cond x (actions.Go (modes.Text s within.Plain) (keeps.Character m)) (actions.Refuse reasons.BadEscape))
+  by : (x : Bool) → scalar m ≡ x → Leads s es (cond x (Action.Go (Mode.Text s Within.Plain) (Keep.Character m)) (Action.Refuse Reason.BadEscape))
       (92 ∷ letter ∷ os) []
   by false z = tt
   by true z =
@@ -157,9 +144,9 @@ octet_scalar : (n : ℕ) → n < 256 → scalar n ≡ true
 octet_scalar n h = grind (arith, nat_tests)
 
 -- \x: in a clob an octet
-octet_leads : (s : Style) (es : List Element) (m : ℕ) (os : List ℕ) → Base s es → Full 2 m os → Leads s es (after_digits s digits.Octet m) (92 ∷ 120 ∷ os) []
+octet_leads : (s : Style) (es : List Element) (m : ℕ) (os : List ℕ) → Base s es → Full 2 m os → Leads s es (after_digits s Digits.Octet m) (92 ∷ 120 ∷ os) []
 octet_leads s es m os b f = by (is_clob s) refl where
-  by : (x : Bool) → is_clob s ≡ x → Leads s es (cond x (actions.Go (modes.Text s within.Plain) (keeps.One (m % 256))) (character s m)) (92 ∷ 120 ∷ os) []
+  by : (x : Bool) → is_clob s ≡ x → Leads s es (cond x (Action.Go (Mode.Text s Within.Plain) (Keep.One (m % 256))) (character s m)) (92 ∷ 120 ∷ os) []
   by false t = char_leads s es 120 2 m os b t refl f
   by true t =
       let small : f.0 < 256 = two_small os f.0 f.1 f.2 in
@@ -171,45 +158,45 @@ octet_leads s es m os b f = by (is_clob s) refl where
             (ap (λ (n : ℕ). n ∷ []) rest ∙ ap (λ c. cond c (f.0 ∷ []) (encode f.0)) (sym t)),
       )
 
-no_high : (s : Style) (m : ℕ) → (m < 0xd800) ⊎ (0xdc00 ≤ m) → after_digits s digits.Unit m ≡ character s m
+no_high : (s : Style) (m : ℕ) → (m < 0xd800) ⊎ (0xdc00 ≤ m) → after_digits s Digits.Unit m ≡ character s m
 no_high s m (inl h) = grind (arith, nat_tests)
 no_high s m (inr h) = grind (arith, nat_tests)
 
 unit_leads : (s : Style) (es : List Element) (m : ℕ) (os : List ℕ) → Base s es → is_clob s ≡ false → Full 4 m os
-    → Leads s es (after_digits s digits.Unit m) (92 ∷ 117 ∷ os) []
+    → Leads s es (after_digits s Digits.Unit m) (92 ∷ 117 ∷ os) []
 unit_leads s es m os b t f =
     ⊎_elim (λ l. by_action s es (92 ∷ 117 ∷ os) [] (no_high s m (inl l)) (char_leads s es 117 4 m os b t refl f)) (λ l.
     ⊎_elim (λ h. high l h f) (λ h. by_action s es (92 ∷ 117 ∷ os) [] (no_high s m (inr h)) (char_leads s es 117 4 m os b t refl f))
     (order m 0xdc00)) (order m 0xd800)
   where
-    high : 0xd800 ≤ m → m < 0xdc00 → Full 4 m os → Leads s es (after_digits s digits.Unit m) (92 ∷ 117 ∷ os) []
+    high : 0xd800 ≤ m → m < 0xdc00 → Full 4 m os → Leads s es (after_digits s Digits.Unit m) (92 ∷ 117 ∷ os) []
     high l h (n, e, g, c) =
         let x : ℕ = m - 0xd800 in
         let is : m ≡ 0xd800 + x = omega arith in
         let same : n ≡ 0xd800 + x = ⊎_elim (λ (i : m ≡ n). omega arith) (λ i. absurd (omega arith)) c in
-        by_action s es (92 ∷ 117 ∷ os) [] (ap (after_digits s digits.Unit) is ∙ after_high s x (omega arith)) (
+        by_action s es (92 ∷ 117 ∷ os) [] (ap (after_digits s Digits.Unit) is ∙ after_high s x (omega arith)) (
           tt,
-          part_only s es (within.HighSurrogate (0xd800 + x)) (92 ∷ 117 ∷ os) [] b tt
+          part_only s es (Within.HighSurrogate (0xd800 + x)) (92 ∷ 117 ∷ os) [] b tt
               (refl, t, os, refl, (e, x, subst (IsHexAfter 0 os) same g, refl, omega arith)),
         )
 
-no_low : (s : Style) (h m : ℕ) → (m < 0xdc00) ⊎ (0xdfff < m) → after_digits s (digits.LowSurrogate h) m ≡ actions.Refuse reasons.BadEscape
+no_low : (s : Style) (h m : ℕ) → (m < 0xdc00) ⊎ (0xdfff < m) → after_digits s (Digits.LowSurrogate h) m ≡ Action.Refuse Reason.BadEscape
 no_low s h m (inl e) = grind (arith, nat_tests)
 no_low s h m (inr e) = grind (arith, nat_tests)
 
 second_leads : (s : Style) (es : List Element) (h m : ℕ) (first os : List ℕ) → Base s es → is_clob s ≡ false → IsHigh h first → Full 4 m os
-    → Leads s es (after_digits s (digits.LowSurrogate h) m) (92 ∷ 117 ∷ first ++ 92 ∷ 117 ∷ os) []
+    → Leads s es (after_digits s (Digits.LowSurrogate h) m) (92 ∷ 117 ∷ first ++ 92 ∷ 117 ∷ os) []
 second_leads s es h m first os b t i f =
     ⊎_elim (λ l. by_action s es (92 ∷ 117 ∷ first ++ 92 ∷ 117 ∷ os) [] (no_low s h m (inl l)) tt) (λ l.
     ⊎_elim (λ k. by_action s es (92 ∷ 117 ∷ first ++ 92 ∷ 117 ∷ os) [] (no_low s h m (inr k)) tt) (λ k. low l k i f)
     (order 0xdfff m)) (order m 0xdc00)
   where
-    low : 0xdc00 ≤ m → m ≤ 0xdfff → IsHigh h first → Full 4 m os → Leads s es (after_digits s (digits.LowSurrogate h) m) (92 ∷ 117 ∷ first ++ 92 ∷ 117 ∷ os) []
+    low : 0xdc00 ≤ m → m ≤ 0xdfff → IsHigh h first → Full 4 m os → Leads s es (after_digits s (Digits.LowSurrogate h) m) (92 ∷ 117 ∷ first ++ 92 ∷ 117 ∷ os) []
     low l k (fl, high, fh, he, hs) (n, e, g, c) =
         let x : ℕ = m - 0xdc00 in
         let is : m ≡ 0xdc00 + x = omega arith in
         let same : n ≡ 0xdc00 + x = ⊎_elim (λ (i : m ≡ n). omega arith) (λ i. absurd (omega arith)) c in
-        by_action s es (92 ∷ 117 ∷ first ++ 92 ∷ 117 ∷ os) [] ((λ i. after_digits s (digits.LowSurrogate (he i)) (is i)) ∙ after_low s high x hs (omega arith)) (
+        by_action s es (92 ∷ 117 ∷ first ++ 92 ∷ 117 ∷ os) [] ((λ i. after_digits s (Digits.LowSurrogate (he i)) (is i)) ∙ after_low s high x hs (omega arith)) (
           tt,
           one_element s es (Pair first os high x) (92 ∷ 117 ∷ first ++ 92 ∷ 117 ∷ os) (encode (0x10000 + high * 1024 + x)) b
               (fits s es (Pair first os high x) (t, fl, e, fh, hs, subst (IsHexAfter 0 os) same g, omega arith) refl refl refl) refl refl,
@@ -217,15 +204,15 @@ second_leads s es h m first os b t i f =
 
 last_leads : (s : Style) (es : List Element) (d : Digits) (m v o : ℕ) (p : List ℕ) → Base s es → TextOnly s d → HexPart d p 1 m → hexadecimal_digit o ≡ Some v
     → Leads s es (after_digits s d (grow m v)) (p ++ o ∷ []) []
-last_leads s es digits.Octet m v o p b t (os, e, f) h = subst (λ l. Leads s es (after_digits s digits.Octet (grow m v)) (l ++ o ∷ []) []) (sym e)
+last_leads s es Digits.Octet m v o p b t (os, e, f) h = subst (λ l. Leads s es (after_digits s Digits.Octet (grow m v)) (l ++ o ∷ []) []) (sym e)
     (octet_leads s es (grow m v) (os ++ o ∷ []) b (full 2 m v o os f h))
-last_leads s es digits.Unit m v o p b t (os, e, f) h = subst (λ l. Leads s es (after_digits s digits.Unit (grow m v)) (l ++ o ∷ []) []) (sym e)
+last_leads s es Digits.Unit m v o p b t (os, e, f) h = subst (λ l. Leads s es (after_digits s Digits.Unit (grow m v)) (l ++ o ∷ []) []) (sym e)
     (unit_leads s es (grow m v) (os ++ o ∷ []) b t (full 4 m v o os f h))
-last_leads s es digits.Scalar m v o p b t (os, e, f) h =
-    subst (λ l. Leads s es (after_digits s digits.Scalar (grow m v)) (l ++ o ∷ []) []) (sym e)
+last_leads s es Digits.Scalar m v o p b t (os, e, f) h =
+    subst (λ l. Leads s es (after_digits s Digits.Scalar (grow m v)) (l ++ o ∷ []) []) (sym e)
     (char_leads s es 85 8 (grow m v) (os ++ o ∷ []) b t refl (full 8 m v o os f h))
-last_leads s es (digits.LowSurrogate x) m v o p b t (first, os, e, i, f) h =
-    subst (λ l. Leads s es (after_digits s (digits.LowSurrogate x) (grow m v)) l [])
+last_leads s es (Digits.LowSurrogate x) m v o p b t (first, os, e, i, f) h =
+    subst (λ l. Leads s es (after_digits s (Digits.LowSurrogate x) (grow m v)) l [])
     (sym (ap (λ l. l ++ o ∷ []) e ∙ ap (λ l. 92 ∷ 117 ∷ l) (append_assoc first (92 ∷ 117 ∷ os) (o ∷ []))))
     (second_leads s es x (grow m v) first (os ++ o ∷ []) b t i (full 4 m v o os f h))
 
@@ -236,14 +223,14 @@ digit_leads s es d left m o p (Some v) b t l h e =
     ⊎_elim (λ (i : left ≡ 1). subst (λ (x : ℕ). Leads s es (with_digit s d x m (Some v)) (p ++ o ∷ []) []) (sym i)
     (last_leads s es d m v o p b t (subst (λ (x : ℕ). HexPart d p x m) i h) e))
     (λ n. by_action s es (p ++ o ∷ []) [] (more_digits s d left m v (omega arith))
-    (tt, part_only s es (within.Hexadecimal d (left - 1) (grow m v)) (p ++ o ∷ []) [] b tt (refl, t, part_more d p left m v o (omega arith) h e)))
+    (tt, part_only s es (Within.Hexadecimal d (left - 1) (grow m v)) (p ++ o ∷ []) [] b tt (refl, t, part_more d p left m v o (omega arith) h e)))
     (eq_or left 1)
 
 some_left : (d : Digits) (p : List ℕ) (left m : ℕ) → HexPart d p left m → 0 < left
-some_left digits.Octet p left m h = h.2.2
-some_left digits.Unit p left m h = h.2.2
-some_left digits.Scalar p left m h = h.2.2
-some_left (digits.LowSurrogate x) p left m h = h.4.2
+some_left Digits.Octet p left m h = h.2.2
+some_left Digits.Unit p left m h = h.2.2
+some_left Digits.Scalar p left m h = h.2.2
+some_left (Digits.LowSurrogate x) p left m h = h.4.2
 
 -- behind a CR that takes no LF
 return_over : (s : Style) (es : List Element) (f : Element) (o : ℕ) → Base s es → IsElement s f → ends_in_cr f ≡ true → is_raw_lf f ≡ false
@@ -251,18 +238,18 @@ return_over : (s : Style) (es : List Element) (f : Element) (o : ℕ) → Base s
 return_over s es f o b i c l q n = rebase s es f (raw s o) (o ∷ []) (raw_leads s (es ++ f ∷ []) o
     (record { base = base_more s es f b i (λ h. l) (λ h. q); lf = λ e. absurd (n e); quote = λ h e. last_is_last is_raw_quote es f ∙ q }))
 
-return_leads : (s : Style) (es : List Element) (o : ℕ) (p q : List ℕ) → Base s es → Part s within.AfterReturn p q
-    → Leads s es (in_text s within.AfterReturn o) (p ++ o ∷ []) q
-return_leads s es o p q b (inl (e, f)) = subst (λ l. Leads s es (in_text s within.AfterReturn o) (l ++ o ∷ []) q) (sym e)
-    (subst (λ l. Leads s es (in_text s within.AfterReturn o) (92 ∷ 13 ∷ o ∷ []) l) (sym f)
-    (⊎_elim (λ (i : o ≡ 10). subst (λ (x : ℕ). Leads s es (in_text s within.AfterReturn x) (92 ∷ 13 ∷ x ∷ []) []) (sym i)
+return_leads : (s : Style) (es : List Element) (o : ℕ) (p q : List ℕ) → Base s es → Part s Within.AfterReturn p q
+    → Leads s es (in_text s Within.AfterReturn o) (p ++ o ∷ []) q
+return_leads s es o p q b (inl (e, f)) = subst (λ l. Leads s es (in_text s Within.AfterReturn o) (l ++ o ∷ []) q) (sym e)
+    (subst (λ l. Leads s es (in_text s Within.AfterReturn o) (92 ∷ 13 ∷ o ∷ []) l) (sym f)
+    (⊎_elim (λ (i : o ≡ 10). subst (λ (x : ℕ). Leads s es (in_text s Within.AfterReturn x) (92 ∷ 13 ∷ x ∷ []) []) (sym i)
     (tt, one_element s es (Hidden CrLf) (92 ∷ 13 ∷ 10 ∷ []) [] b (fits s es (Hidden CrLf) tt refl refl refl) refl refl))
-    (λ n. by_action s es (92 ∷ 13 ∷ o ∷ []) [] (as_raw s within.AfterReturn o n) (return_over s es (Hidden Cr) o b tt refl refl refl n)) (eq_or o 10)))
-return_leads s es o p q b (inr (l, e, f)) = subst (λ x. Leads s es (in_text s within.AfterReturn o) (x ++ o ∷ []) q) (sym e)
-    (subst (λ x. Leads s es (in_text s within.AfterReturn o) (13 ∷ o ∷ []) x) (sym f)
-    (⊎_elim (λ (i : o ≡ 10). subst (λ (x : ℕ). Leads s es (in_text s within.AfterReturn x) (13 ∷ x ∷ []) (10 ∷ [])) (sym i)
+    (λ n. by_action s es (92 ∷ 13 ∷ o ∷ []) [] (as_raw s Within.AfterReturn o n) (return_over s es (Hidden Cr) o b tt refl refl refl n)) (eq_or o 10)))
+return_leads s es o p q b (inr (l, e, f)) = subst (λ x. Leads s es (in_text s Within.AfterReturn o) (x ++ o ∷ []) q) (sym e)
+    (subst (λ x. Leads s es (in_text s Within.AfterReturn o) (13 ∷ o ∷ []) x) (sym f)
+    (⊎_elim (λ (i : o ≡ 10). subst (λ (x : ℕ). Leads s es (in_text s Within.AfterReturn x) (13 ∷ x ∷ []) (10 ∷ [])) (sym i)
     (tt, one_element s es (RawLine CrLf) (13 ∷ 10 ∷ []) (10 ∷ []) b (fits s es (RawLine CrLf) l refl refl refl) refl refl))
-    (λ n. by_action s es (13 ∷ o ∷ []) (10 ∷ []) (as_raw s within.AfterReturn o n) (return_over s es (RawLine Cr) o b l refl refl refl n)) (eq_or o 10)))
+    (λ n. by_action s es (13 ∷ o ∷ []) (10 ∷ []) (as_raw s Within.AfterReturn o n) (return_over s es (RawLine Cr) o b l refl refl refl n)) (eq_or o 10)))
 
 raw_39 : (s : Style) → is_long s ≡ true → IsElement s (Raw 39)
 raw_39 s l = (refl, (λ e. omega arith), inl l, inr (inr (inr (omega arith))), (λ c. omega arith))
@@ -287,13 +274,13 @@ two_quotes_over s es o b l h n =
     rebase_kept s es (Raw 39) (raw s o) (39 ∷ o ∷ []) (39 ∷ []) (leads_no_drop s es2 (raw s o) (o ∷ []) over)
     (rebase s (es ++ Raw 39 ∷ []) (Raw 39) (raw s o) (o ∷ []) over)
 
-quote_pending : (s : Style) (es : List Element) (o : ℕ) (p q : List ℕ) → Base s es → last_is is_raw_quote es ≡ false → Part s within.OneQuote p q
-    → Leads s es (in_text s within.OneQuote o) (p ++ o ∷ []) q
-quote_pending s es o p q b h (l, e, f) = subst (λ x. Leads s es (in_text s within.OneQuote o) (x ++ o ∷ []) q) (sym e)
-    (subst (λ x. Leads s es (in_text s within.OneQuote o) (39 ∷ o ∷ []) x) (sym f)
-    (⊎_elim (λ (i : o ≡ 39). subst (λ (x : ℕ). Leads s es (in_text s within.OneQuote x) (39 ∷ x ∷ []) (39 ∷ [])) (sym i)
-    (tt, part_only s es within.TwoQuotes (39 ∷ 39 ∷ []) (39 ∷ 39 ∷ []) b h (l, refl, refl)))
-    (λ n. by_action s es (39 ∷ o ∷ []) (39 ∷ []) (as_raw s within.OneQuote o n) (one_quote_over s es o b l h n)) (eq_or o 39)))
+quote_pending : (s : Style) (es : List Element) (o : ℕ) (p q : List ℕ) → Base s es → last_is is_raw_quote es ≡ false → Part s Within.OneQuote p q
+    → Leads s es (in_text s Within.OneQuote o) (p ++ o ∷ []) q
+quote_pending s es o p q b h (l, e, f) = subst (λ x. Leads s es (in_text s Within.OneQuote o) (x ++ o ∷ []) q) (sym e)
+    (subst (λ x. Leads s es (in_text s Within.OneQuote o) (39 ∷ o ∷ []) x) (sym f)
+    (⊎_elim (λ (i : o ≡ 39). subst (λ (x : ℕ). Leads s es (in_text s Within.OneQuote x) (39 ∷ x ∷ []) (39 ∷ [])) (sym i)
+    (tt, part_only s es Within.TwoQuotes (39 ∷ 39 ∷ []) (39 ∷ 39 ∷ []) b h (l, refl, refl)))
+    (λ n. by_action s es (39 ∷ o ∷ []) (39 ∷ []) (as_raw s Within.OneQuote o n) (one_quote_over s es o b l h n)) (eq_or o 39)))
 
 closed_long : (s : Style) (es : List Element) → Base s es → is_long s ≡ true → last_is is_raw_quote es ≡ false
     → Closes s (flat_map spelling es ++ 39 ∷ 39 ∷ 39 ∷ []) (flat_map (meaning s) es ++ [])
@@ -305,18 +292,18 @@ closed_long s es b l h = record {
 
 long_closes : (s : Style) (es : List Element) → Base s es → is_long s ≡ true → last_is is_raw_quote es ≡ false
     → Leads s es (close_long s) (39 ∷ 39 ∷ 39 ∷ []) (39 ∷ 39 ∷ [])
-long_closes styles.LongString es b l h = (([], refl), tt, closed_long styles.LongString es b refl h)
-long_closes styles.LongClob es b l h = (([], refl), (tt, closed_long styles.LongClob es b refl h))
-long_closes styles.ShortString es b l h = absurd (false≢true l)
-long_closes styles.QuotedSymbol es b l h = absurd (false≢true l)
-long_closes styles.ShortClob es b l h = absurd (false≢true l)
+long_closes Style.LongString es b l h = (([], refl), tt, closed_long Style.LongString es b refl h)
+long_closes Style.LongClob es b l h = (([], refl), (tt, closed_long Style.LongClob es b refl h))
+long_closes Style.ShortString es b l h = absurd (false≢true l)
+long_closes Style.QuotedSymbol es b l h = absurd (false≢true l)
+long_closes Style.ShortClob es b l h = absurd (false≢true l)
 
-quotes_pending : (s : Style) (es : List Element) (o : ℕ) (p q : List ℕ) → Base s es → last_is is_raw_quote es ≡ false → Part s within.TwoQuotes p q
-    → Leads s es (in_text s within.TwoQuotes o) (p ++ o ∷ []) q
-quotes_pending s es o p q b h (l, e, f) = subst (λ x. Leads s es (in_text s within.TwoQuotes o) (x ++ o ∷ []) q) (sym e)
-    (subst (λ x. Leads s es (in_text s within.TwoQuotes o) (39 ∷ 39 ∷ o ∷ []) x) (sym f)
-    (⊎_elim (λ (i : o ≡ 39). subst (λ (x : ℕ). Leads s es (in_text s within.TwoQuotes x) (39 ∷ 39 ∷ x ∷ []) (39 ∷ 39 ∷ [])) (sym i) (long_closes s es b l h))
-    (λ n. by_action s es (39 ∷ 39 ∷ o ∷ []) (39 ∷ 39 ∷ []) (as_raw s within.TwoQuotes o n) (two_quotes_over s es o b l h n)) (eq_or o 39)))
+quotes_pending : (s : Style) (es : List Element) (o : ℕ) (p q : List ℕ) → Base s es → last_is is_raw_quote es ≡ false → Part s Within.TwoQuotes p q
+    → Leads s es (in_text s Within.TwoQuotes o) (p ++ o ∷ []) q
+quotes_pending s es o p q b h (l, e, f) = subst (λ x. Leads s es (in_text s Within.TwoQuotes o) (x ++ o ∷ []) q) (sym e)
+    (subst (λ x. Leads s es (in_text s Within.TwoQuotes o) (39 ∷ 39 ∷ o ∷ []) x) (sym f)
+    (⊎_elim (λ (i : o ≡ 39). subst (λ (x : ℕ). Leads s es (in_text s Within.TwoQuotes x) (39 ∷ 39 ∷ x ∷ []) (39 ∷ 39 ∷ [])) (sym i) (long_closes s es b l h))
+    (λ n. by_action s es (39 ∷ 39 ∷ o ∷ []) (39 ∷ 39 ∷ []) (as_raw s Within.TwoQuotes o n) (two_quotes_over s es o b l h n)) (eq_or o 39)))
 
 not_same : (a b : ℕ) → a ≢ b → (a == b) ≡ false
 not_same a b n = grind (arith, nat_tests)
@@ -324,85 +311,85 @@ not_same a b n = grind (arith, nat_tests)
 -- one octet more, in each state
 step_leads : (s : Style) (v : Within) (es : List Element) (o : ℕ) (p q : List ℕ) → Base s es → After s v es → Part s v p q
     → Leads s es (in_text s v o) (p ++ o ∷ []) q
-step_leads s within.Plain es o p q b a (e, f) = subst (λ l. Leads s es (raw s o) (l ++ o ∷ []) q) (sym e) (subst (λ l. Leads s es (raw s o) (o ∷ []) l) (sym f)
+step_leads s Within.Plain es o p q b a (e, f) = subst (λ l. Leads s es (raw s o) (l ++ o ∷ []) q) (sym e) (subst (λ l. Leads s es (raw s o) (o ∷ []) l) (sym f)
     (raw_leads s es o (record { base = b; lf = λ i. a.0; quote = λ l i. a.1 l })))
-step_leads s within.AfterReturn es o p q b a h = return_leads s es o p q b h
-step_leads s within.OneQuote es o p q b a h = quote_pending s es o p q b a h
-step_leads s within.TwoQuotes es o p q b a h = quotes_pending s es o p q b a h
-step_leads s (within.Utf8 left lo hi) es o p q b a (t, e, l, h) =
+step_leads s Within.AfterReturn es o p q b a h = return_leads s es o p q b h
+step_leads s Within.OneQuote es o p q b a h = quote_pending s es o p q b a h
+step_leads s Within.TwoQuotes es o p q b a h = quotes_pending s es o p q b a h
+step_leads s (Within.Utf8 left lo hi) es o p q b a (t, e, l, h) =
     subst (λ x. Leads s es (in_utf8 s left lo hi o) (p ++ o ∷ []) x) (sym e) (utf8_leads s es left lo hi o p b t l h)
-step_leads s within.Escape es o p q b a (e, f) = subst (λ l. Leads s es (in_escape s o) (l ++ o ∷ []) q) (sym e)
+step_leads s Within.Escape es o p q b a (e, f) = subst (λ l. Leads s es (in_escape s o) (l ++ o ∷ []) q) (sym e)
     (subst (λ l. Leads s es (in_escape s o) (92 ∷ o ∷ []) l) (sym f) (escape_leads s es o b))
-step_leads s (within.Hexadecimal d left m) es o p q b a (e, t, h) =
-    subst (λ l. Leads s es (in_text s (within.Hexadecimal d left m) o) (p ++ o ∷ []) l) (sym e)
+step_leads s (Within.Hexadecimal d left m) es o p q b a (e, t, h) =
+    subst (λ l. Leads s es (in_text s (Within.Hexadecimal d left m) o) (p ++ o ∷ []) l) (sym e)
     (digit_leads s es d left m o p (hexadecimal_digit o) b t (some_left d p left m h) h refl)
-step_leads s (within.HighSurrogate x) es o p q b a (e, t, first, f, h) =
-    subst (λ l. Leads s es (in_text s (within.HighSurrogate x) o) (l ++ o ∷ []) q) (sym f)
-    (subst (λ l. Leads s es (in_text s (within.HighSurrogate x) o) (92 ∷ 117 ∷ first ++ o ∷ []) l) (sym e)
-    (⊎_elim (λ (i : o ≡ 92). subst (λ (o : ℕ). Leads s es (in_text s (within.HighSurrogate x) o) (92 ∷ 117 ∷ first ++ o ∷ []) []) (sym i)
-    (tt, part_only s es (within.HighSurrogateEscape x) (92 ∷ 117 ∷ first ++ 92 ∷ []) [] b tt (refl, t, first, refl, h)))
+step_leads s (Within.HighSurrogate x) es o p q b a (e, t, first, f, h) =
+    subst (λ l. Leads s es (in_text s (Within.HighSurrogate x) o) (l ++ o ∷ []) q) (sym f)
+    (subst (λ l. Leads s es (in_text s (Within.HighSurrogate x) o) (92 ∷ 117 ∷ first ++ o ∷ []) l) (sym e)
+    (⊎_elim (λ (i : o ≡ 92). subst (λ (o : ℕ). Leads s es (in_text s (Within.HighSurrogate x) o) (92 ∷ 117 ∷ first ++ o ∷ []) []) (sym i)
+    (tt, part_only s es (Within.HighSurrogateEscape x) (92 ∷ 117 ∷ first ++ 92 ∷ []) [] b tt (refl, t, first, refl, h)))
     (λ n. by_action s es (92 ∷ 117 ∷ first ++ o ∷ []) [] (wrong o n) tt) (eq_or o 92)))
   where
-    wrong : (o : ℕ) → o ≢ 92 → in_text s (within.HighSurrogate x) o ≡ actions.Refuse reasons.BadEscape
+    wrong : (o : ℕ) → o ≢ 92 → in_text s (Within.HighSurrogate x) o ≡ Action.Refuse Reason.BadEscape
     wrong o n = rw (not_same o 92 n)
-step_leads s (within.HighSurrogateEscape x) es o p q b a (e, t, first, f, h) =
-    subst (λ l. Leads s es (in_text s (within.HighSurrogateEscape x) o) (l ++ o ∷ []) q) (sym f)
-    (subst (λ l. Leads s es (in_text s (within.HighSurrogateEscape x) o) ((92 ∷ 117 ∷ first ++ 92 ∷ []) ++ o ∷ []) l) (sym e)
-    (⊎_elim (λ (i : o ≡ 117). subst (λ (o : ℕ). Leads s es (in_text s (within.HighSurrogateEscape x) o) ((92 ∷ 117 ∷ first ++ 92 ∷ []) ++ o ∷ []) []) (sym i) (
+step_leads s (Within.HighSurrogateEscape x) es o p q b a (e, t, first, f, h) =
+    subst (λ l. Leads s es (in_text s (Within.HighSurrogateEscape x) o) (l ++ o ∷ []) q) (sym f)
+    (subst (λ l. Leads s es (in_text s (Within.HighSurrogateEscape x) o) ((92 ∷ 117 ∷ first ++ 92 ∷ []) ++ o ∷ []) l) (sym e)
+    (⊎_elim (λ (i : o ≡ 117). subst (λ (o : ℕ). Leads s es (in_text s (Within.HighSurrogateEscape x) o) ((92 ∷ 117 ∷ first ++ 92 ∷ []) ++ o ∷ []) []) (sym i) (
       tt,
-      part_only s es (within.Hexadecimal (digits.LowSurrogate x) 4 0) ((92 ∷ 117 ∷ first ++ 92 ∷ []) ++ 117 ∷ []) [] b tt
+      part_only s es (Within.Hexadecimal (Digits.LowSurrogate x) 4 0) ((92 ∷ 117 ∷ first ++ 92 ∷ []) ++ 117 ∷ []) [] b tt
           (refl, t, (first, [], ap (λ l. 92 ∷ 117 ∷ l) (append_assoc first (92 ∷ []) (117 ∷ [])), h, (0, refl, omega arith, refl, inl refl))),
     ))
     (λ n. by_action s es ((92 ∷ 117 ∷ first ++ 92 ∷ []) ++ o ∷ []) [] (wrong o n) tt) (eq_or o 117)))
   where
-    wrong : (o : ℕ) → o ≢ 117 → in_text s (within.HighSurrogateEscape x) o ≡ actions.Refuse reasons.BadEscape
+    wrong : (o : ℕ) → o ≢ 117 → in_text s (Within.HighSurrogateEscape x) o ≡ Action.Refuse Reason.BadEscape
     wrong o n = rw (not_same o 117 n)
 
 -- what an action does to a text that was read so far, of which these octets are kept
 abbrev pub LeadsText : Style → Action → List ℕ → List ℕ → Type 0
-LeadsText s (actions.Go m k) w kept = Keeps k kept × LeadsTo s m w (kept_after k kept)
-LeadsText s (actions.Give kind k) w kept = Keeps k kept × GivesText s kind × Closes s w (kept_after k kept)
-LeadsText s (actions.Refuse e) w kept = Unit {0}
+LeadsText s (Action.Go m k) w kept = Keeps k kept × LeadsTo s m w (kept_after k kept)
+LeadsText s (Action.Give kind k) w kept = Keeps k kept × GivesText s kind × Closes s w (kept_after k kept)
+LeadsText s (Action.Refuse e) w kept = Unit {0}
 LeadsText s _ w kept = ⊥
 
 -- octets kept before a text stay in front of what an action leaves of it
 pub keeps_behind : (front q : List ℕ) (k : _) → Keeps k q → kept_after k (front ++ q) ≡ front ++ kept_after k q
-keeps_behind front q keeps.Nothing h = refl
-keeps_behind front q (keeps.One o) h = append_assoc front q (o ∷ [])
-keeps_behind front q (keeps.Two o x) h = ap (λ l. l ++ x ∷ []) (append_assoc front q (o ∷ [])) ∙ append_assoc front (q ++ o ∷ []) (x ∷ [])
-keeps_behind front q (keeps.Character c) h = append_assoc front q (encode c)
-keeps_behind front q keeps.DropQuotes (rest, e) = subst (λ l. kept_after keeps.DropQuotes (front ++ l) ≡ front ++ kept_after keeps.DropQuotes l) (sym e)
-    (ap (kept_after keeps.DropQuotes) (sym (append_assoc front rest (39 ∷ 39 ∷ []))) ∙ drops (front ++ rest) ∙ ap (λ l. front ++ l) (sym (drops rest)))
+keeps_behind front q Keep.Nothing h = refl
+keeps_behind front q (Keep.One o) h = append_assoc front q (o ∷ [])
+keeps_behind front q (Keep.Two o x) h = ap (λ l. l ++ x ∷ []) (append_assoc front q (o ∷ [])) ∙ append_assoc front (q ++ o ∷ []) (x ∷ [])
+keeps_behind front q (Keep.Character c) h = append_assoc front q (encode c)
+keeps_behind front q Keep.DropQuotes (rest, e) = subst (λ l. kept_after Keep.DropQuotes (front ++ l) ≡ front ++ kept_after Keep.DropQuotes l) (sym e)
+    (ap (kept_after Keep.DropQuotes) (sym (append_assoc front rest (39 ∷ 39 ∷ []))) ∙ drops (front ++ rest) ∙ ap (λ l. front ++ l) (sym (drops rest)))
   where
-    drops : (k : List ℕ) → kept_after keeps.DropQuotes (k ++ 39 ∷ 39 ∷ []) ≡ k
-    drops k = ap (kept_after keeps.DropQuotes) (sym (append_assoc k (39 ∷ []) (39 ∷ []))) ∙ drops_two k 39 39
+    drops : (k : List ℕ) → kept_after Keep.DropQuotes (k ++ 39 ∷ 39 ∷ []) ≡ k
+    drops k = ap (kept_after Keep.DropQuotes) (sym (append_assoc k (39 ∷ []) (39 ∷ []))) ∙ drops_two k 39 39
 
 keeps_more : (front q kept : List ℕ) (k : _) → kept ≡ front ++ q → Keeps k q → Keeps k kept
-keeps_more front q kept keeps.Nothing e h = tt
-keeps_more front q kept (keeps.One o) e h = tt
-keeps_more front q kept (keeps.Two o x) e h = tt
-keeps_more front q kept (keeps.Character c) e h = tt
-keeps_more front q kept keeps.DropQuotes e (rest, f) = (front ++ rest, e ∙ ap (λ l. front ++ l) f ∙ sym (append_assoc front rest (39 ∷ 39 ∷ [])))
+keeps_more front q kept Keep.Nothing e h = tt
+keeps_more front q kept (Keep.One o) e h = tt
+keeps_more front q kept (Keep.Two o x) e h = tt
+keeps_more front q kept (Keep.Character c) e h = tt
+keeps_more front q kept Keep.DropQuotes e (rest, f) = (front ++ rest, e ∙ ap (λ l. front ++ l) f ∙ sym (append_assoc front rest (39 ∷ 39 ∷ [])))
 
 -- behind the elements
 lift : (s : Style) (es : List Element) (a : Action) (w kept p q : List ℕ) → w ≡ flat_map spelling es ++ p → kept ≡ flat_map (meaning s) es ++ q
     → Leads s es a p q → LeadsText s a w kept
-lift s es (actions.Go m k) w kept p q e f (h, l) = (
+lift s es (Action.Go m k) w kept p q e f (h, l) = (
   keeps_more (flat_map (meaning s) es) q kept k f h,
   subst (λ x. LeadsTo s m x (kept_after k kept)) (sym e) (subst (λ x. LeadsTo s m (flat_map spelling es ++ p) x)
       (sym (ap (kept_after k) f ∙ keeps_behind (flat_map (meaning s) es) q k h)) l),
 )
-lift s es (actions.Give kind k) w kept p q e f (h, g, l) = (
+lift s es (Action.Give kind k) w kept p q e f (h, g, l) = (
   keeps_more (flat_map (meaning s) es) q kept k f h,
   g,
   subst (λ x. Closes s x (kept_after k kept)) (sym e)
       (subst (λ x. Closes s (flat_map spelling es ++ p) x) (sym (ap (kept_after k) f ∙ keeps_behind (flat_map (meaning s) es) q k h)) l),
 )
-lift s es (actions.Refuse r) w kept p q e f h = tt
-lift s es (actions.Before _ _ _) w kept p q e f h = h
-lift s es actions.EndWord w kept p q e f h = h
-lift s es (actions.Split _) w kept p q e f h = h
-lift s es actions.EndBlob w kept p q e f h = h
+lift s es (Action.Refuse r) w kept p q e f h = tt
+lift s es (Action.Before _ _ _) w kept p q e f h = h
+lift s es Action.EndWord w kept p q e f h = h
+lift s es (Action.Split _) w kept p q e f h = h
+lift s es Action.EndBlob w kept p q e f h = h
 
 -- One octet more of a text leads to what was read with it: more of the text, or all of it, or a refusal.
 pub text_step : (s : Style) (v : Within) (o : ℕ) (w kept : List ℕ) → Reads s v w kept → LeadsText s (in_text s v o) (w ++ o ∷ []) kept
@@ -411,5 +398,5 @@ text_step s v o w kept h = lift s h.elements (in_text s v o) (w ++ o ∷ []) kep
     (step_leads s v h.elements o h.p h.q h.base h.after h.part)
 
 -- no octets are read as a text of which nothing is kept
-pub reads_none : (s : Style) → Reads s within.Plain [] []
+pub reads_none : (s : Style) → Reads s Within.Plain [] []
 reads_none s = record { elements = []; p = []; q = []; base = base_none s; after = (refl, λ l. refl); part = (refl, refl); spelled = refl; means = refl }

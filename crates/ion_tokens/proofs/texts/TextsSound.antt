@@ -5,32 +5,13 @@ use Rattle.std.specs.List.{flat_map}
 use Rattle.std.specs.Char.{IsScalar}
 use Rattle.std.proofs.lemmas.Bool.{true≢false}
 use Rattle.std.proofs.lemmas.Bool.Decides.{nat_tests}
+use lib.Utf8.{encode}
+use Rattle.ion_tokens.specs.Names.{Action, Digits, Element, IsElement, IsHexAfter, IsQuoted, IsRaw, Keep, Lf, Lob, Mode, Raw, RawLine, Reason, Style, TokenKind, Within, ends_in_cr, is_clob, is_long, is_raw_lf, is_raw_quote, kept_after, meaning, quote_of, raw, spelling}
 use Rattle.ion_tokens.proofs.texts.Encodings as law
 use Rattle.ion_tokens.proofs.texts.Encodings.{order}
-use lib.Utf8.{encode}
-use Rattle.ion_atoms.specs.declared.refusal.Reason.TheVariants as reasons
-use Rattle.ion_tokens.specs.declared.mode.Style.{Style}
-use Rattle.ion_tokens.specs.declared.mode.Within.{Within}
-use Rattle.ion_tokens.specs.declared.mode.Digits.{Digits}
-use Rattle.ion_tokens.specs.declared.mode.Mode.{Mode}
-use Rattle.ion_tokens.specs.declared.mode.Lob.{Lob}
-use Rattle.ion_tokens.specs.declared.mode.TokenKind.{TokenKind}
-use Rattle.ion_tokens.specs.declared.mode.Keep.{Keep}
-use Rattle.ion_tokens.specs.declared.mode.Action.{Action}
-use Rattle.ion_tokens.specs.declared.mode.Style.TheVariants as styles
-use Rattle.ion_tokens.specs.declared.mode.Digits.TheVariants as digits
-use Rattle.ion_tokens.specs.declared.mode.Within.TheVariants as within
-use Rattle.ion_tokens.specs.declared.mode.Mode.TheVariants as modes
-use Rattle.ion_tokens.specs.declared.mode.Lob.TheVariants as lobs
-use Rattle.ion_tokens.specs.declared.mode.TokenKind.TheVariants as kinds
-use Rattle.ion_tokens.specs.declared.mode.Keep.TheVariants as keeps
-use Rattle.ion_tokens.specs.declared.mode.Action.TheVariants as actions
-use Rattle.ion_tokens.specs.Quoted.{Element, Raw, RawLine, Lf, IsElement, IsRaw, spelling, meaning, IsHexAfter, IsQuoted, is_raw_lf, is_raw_quote, ends_in_cr}
-use Rattle.ion_tokens.specs.machine.Table.{raw, is_long, is_clob, quote_of}
-use Rattle.ion_tokens.specs.machine.Scanning.{kept_after}
-use Rattle.ion_tokens.proofs.texts.TextSteps.{StandsRaw, raw_one, raw_two, raw_three, raw_four, least_three, most_three, least_four, most_four, raw_quote, raw_lf, raw_cr, quote_small, Caps}
-use Rattle.ion_tokens.proofs.texts.TextsComplete.{eq_or, bool_cases, long_quote}
-use Rattle.ion_tokens.proofs.texts.TextOrders.{last_is, last_is_last, Base, base_more, flat_last, quoted}
+use Rattle.ion_tokens.proofs.texts.TextOrders.{Base, base_more, flat_last, last_is, last_is_last, quoted}
+use Rattle.ion_tokens.proofs.texts.TextSteps.{Caps, StandsRaw, least_four, least_three, most_four, most_three, quote_small, raw_cr, raw_four, raw_lf, raw_one, raw_quote, raw_three, raw_two}
+use Rattle.ion_tokens.proofs.texts.TextsComplete.{bool_cases, eq_or, long_quote}
 
 -- the octets are a character beyond ASCII
 abbrev pub Whole : List ℕ → Type 0
@@ -51,33 +32,33 @@ IsHigh h first = (length first ≡ 4) × (high : ℕ) × IsHexAfter 0 first (0xd
 
 -- the octets are an escape some digits of which are still to come
 abbrev pub HexPart : Digits → List ℕ → ℕ → ℕ → Type 0
-HexPart digits.Octet p left m = (os : List ℕ) × (p ≡ 92 ∷ 120 ∷ os) × SoFar 2 left m os
-HexPart digits.Unit p left m = (os : List ℕ) × (p ≡ 92 ∷ 117 ∷ os) × SoFar 4 left m os
-HexPart digits.Scalar p left m = (os : List ℕ) × (p ≡ 92 ∷ 85 ∷ os) × SoFar 8 left m os
-HexPart (digits.LowSurrogate h) p left m = (first os : List ℕ) × (p ≡ 92 ∷ 117 ∷ first ++ 92 ∷ 117 ∷ os) × IsHigh h first × SoFar 4 left m os
+HexPart Digits.Octet p left m = (os : List ℕ) × (p ≡ 92 ∷ 120 ∷ os) × SoFar 2 left m os
+HexPart Digits.Unit p left m = (os : List ℕ) × (p ≡ 92 ∷ 117 ∷ os) × SoFar 4 left m os
+HexPart Digits.Scalar p left m = (os : List ℕ) × (p ≡ 92 ∷ 85 ∷ os) × SoFar 8 left m os
+HexPart (Digits.LowSurrogate h) p left m = (first os : List ℕ) × (p ≡ 92 ∷ 117 ∷ first ++ 92 ∷ 117 ∷ os) × IsHigh h first × SoFar 4 left m os
 
 -- `\x` alone may stand in a clob
 abbrev pub TextOnly : Style → Digits → Type 0
-TextOnly s digits.Octet = Unit {0}
+TextOnly s Digits.Octet = Unit {0}
 TextOnly s _ = is_clob s ≡ false
 
 -- what has been read of the next element, and kept of it
 abbrev pub Part : Style → Within → List ℕ → List ℕ → Type 0
-Part s within.Plain p q = (p ≡ []) × (q ≡ [])
-Part s within.AfterReturn p q = ((p ≡ 92 ∷ 13 ∷ []) × (q ≡ [])) ⊎ ((is_long s ≡ true) × (p ≡ 13 ∷ []) × (q ≡ 10 ∷ []))
-Part s within.OneQuote p q = (is_long s ≡ true) × (p ≡ 39 ∷ []) × (q ≡ 39 ∷ [])
-Part s within.TwoQuotes p q = (is_long s ≡ true) × (p ≡ 39 ∷ 39 ∷ []) × (q ≡ 39 ∷ 39 ∷ [])
-Part s (within.Utf8 left lo hi) p q = (is_clob s ≡ false) × (q ≡ p) × (0 < left) × EndsAfter left lo hi p
-Part s within.Escape p q = (p ≡ 92 ∷ []) × (q ≡ [])
-Part s (within.Hexadecimal d left m) p q = (q ≡ []) × TextOnly s d × HexPart d p left m
-Part s (within.HighSurrogate h) p q = (q ≡ []) × (is_clob s ≡ false) × (first : List ℕ) × (p ≡ 92 ∷ 117 ∷ first) × IsHigh h first
-Part s (within.HighSurrogateEscape h) p q = (q ≡ []) × (is_clob s ≡ false) × (first : List ℕ) × (p ≡ 92 ∷ 117 ∷ first ++ 92 ∷ []) × IsHigh h first
+Part s Within.Plain p q = (p ≡ []) × (q ≡ [])
+Part s Within.AfterReturn p q = ((p ≡ 92 ∷ 13 ∷ []) × (q ≡ [])) ⊎ ((is_long s ≡ true) × (p ≡ 13 ∷ []) × (q ≡ 10 ∷ []))
+Part s Within.OneQuote p q = (is_long s ≡ true) × (p ≡ 39 ∷ []) × (q ≡ 39 ∷ [])
+Part s Within.TwoQuotes p q = (is_long s ≡ true) × (p ≡ 39 ∷ 39 ∷ []) × (q ≡ 39 ∷ 39 ∷ [])
+Part s (Within.Utf8 left lo hi) p q = (is_clob s ≡ false) × (q ≡ p) × (0 < left) × EndsAfter left lo hi p
+Part s Within.Escape p q = (p ≡ 92 ∷ []) × (q ≡ [])
+Part s (Within.Hexadecimal d left m) p q = (q ≡ []) × TextOnly s d × HexPart d p left m
+Part s (Within.HighSurrogate h) p q = (q ≡ []) × (is_clob s ≡ false) × (first : List ℕ) × (p ≡ 92 ∷ 117 ∷ first) × IsHigh h first
+Part s (Within.HighSurrogateEscape h) p q = (q ≡ []) × (is_clob s ≡ false) × (first : List ℕ) × (p ≡ 92 ∷ 117 ∷ first ++ 92 ∷ []) × IsHigh h first
 
 -- what the elements before may end in
 abbrev pub After : Style → Within → List Element → Type 0
-After s within.Plain es = (last_is ends_in_cr es ≡ false) × (is_long s ≡ true → last_is is_raw_quote es ≡ false)
-After s within.OneQuote es = last_is is_raw_quote es ≡ false
-After s within.TwoQuotes es = last_is is_raw_quote es ≡ false
+After s Within.Plain es = (last_is ends_in_cr es ≡ false) × (is_long s ≡ true → last_is is_raw_quote es ≡ false)
+After s Within.OneQuote es = last_is is_raw_quote es ≡ false
+After s Within.TwoQuotes es = last_is is_raw_quote es ≡ false
 After s _ es = Unit {0}
 
 -- p is elements and a part, and q what they mean and what is kept of the part
@@ -103,33 +84,33 @@ pub record Closes (s : Style) (w octets : List ℕ) : Type 0 where
 
 -- the token that the close of a text ends
 abbrev pub GivesText : Style → TokenKind → Type 0
-GivesText styles.ShortString kinds.ShortString = Unit {0}
-GivesText styles.QuotedSymbol kinds.QuotedSymbol = Unit {0}
-GivesText styles.LongString kinds.LongString = Unit {0}
+GivesText Style.ShortString TokenKind.ShortString = Unit {0}
+GivesText Style.QuotedSymbol TokenKind.QuotedSymbol = Unit {0}
+GivesText Style.LongString TokenKind.LongString = Unit {0}
 GivesText _ _ = ⊥
 
 -- where a clob stands behind the close of a text or a segment
 abbrev pub EndsText : Style → Lob → Type 0
-EndsText styles.ShortClob lobs.AfterShort = Unit {0}
-EndsText styles.LongClob lobs.AfterLong = Unit {0}
+EndsText Style.ShortClob Lob.AfterShort = Unit {0}
+EndsText Style.LongClob Lob.AfterLong = Unit {0}
 EndsText _ _ = ⊥
 
 -- the mode stands behind what was read: in the text, or behind the close of one in a clob
 abbrev pub LeadsTo : Style → Mode → List ℕ → List ℕ → Type 0
-LeadsTo s (modes.Text s' v) w k = (s' ≡ s) × Reads s v w k
-LeadsTo s (modes.Lob l) w k = EndsText s l × Closes s w k
+LeadsTo s (Mode.Text s' v) w k = (s' ≡ s) × Reads s v w k
+LeadsTo s (Mode.Lob l) w k = EndsText s l × Closes s w k
 LeadsTo s _ w k = ⊥
 
 -- two quotes were kept that are dropped
 abbrev pub Keeps : Keep → List ℕ → Type 0
-Keeps keeps.DropQuotes q = (front : List ℕ) × (q ≡ front ++ 39 ∷ 39 ∷ [])
+Keeps Keep.DropQuotes q = (front : List ℕ) × (q ≡ front ++ 39 ∷ 39 ∷ [])
 Keeps _ q = Unit {0}
 
 -- behind elements, an action leads to what was read
 abbrev pub Leads : Style → List Element → Action → List ℕ → List ℕ → Type 0
-Leads s es (actions.Go m k) p q = Keeps k q × LeadsTo s m (flat_map spelling es ++ p) (flat_map (meaning s) es ++ kept_after k q)
-Leads s es (actions.Give kind k) p q = Keeps k q × GivesText s kind × Closes s (flat_map spelling es ++ p) (flat_map (meaning s) es ++ kept_after k q)
-Leads s es (actions.Refuse e) p q = Unit {0}
+Leads s es (Action.Go m k) p q = Keeps k q × LeadsTo s m (flat_map spelling es ++ p) (flat_map (meaning s) es ++ kept_after k q)
+Leads s es (Action.Give kind k) p q = Keeps k q × GivesText s kind × Closes s (flat_map spelling es ++ p) (flat_map (meaning s) es ++ kept_after k q)
+Leads s es (Action.Refuse e) p q = Unit {0}
 Leads s es _ p q = ⊥
 
 -- what holds of an action holds of it by another name
@@ -150,7 +131,7 @@ pub record FitsBehind (s : Style) (es : List Element) (e : Element) : Type 0 whe
 
 -- elements and one that fits behind them are read, with nothing of the next
 pub one_element : (s : Style) (es : List Element) (e : Element) (p q : List ℕ) → Base s es → FitsBehind s es e → p ≡ spelling e → q ≡ meaning s e → (s ≡ s)
-    × Reads s within.Plain (flat_map spelling es ++ p) (flat_map (meaning s) es ++ q)
+    × Reads s Within.Plain (flat_map spelling es ++ p) (flat_map (meaning s) es ++ q)
 one_element s es e p q b f i m = (
   refl,
   record {
@@ -208,31 +189,31 @@ four_whole x y z v a b d e f g h k =
     let four : 128 + c % 64 ≡ v = omega arith in
     (c, grind (arith, nat_tests), omega arith, law.four c least ∙ (λ i. one i ∷ two i ∷ three i ∷ four i ∷ []))
 
-raw_white : (s : Style) (o : ℕ) → o < 32 → o ≢ 9 → o ≢ 10 → o ≢ 11 → o ≢ 12 → o ≢ 13 → raw s o ≡ actions.Refuse reasons.Unexpected
-raw_white styles.ShortString o l a b c d e = grind (arith, nat_tests)
-raw_white styles.QuotedSymbol o l a b c d e = grind (arith, nat_tests)
-raw_white styles.LongString o l a b c d e = grind (arith, nat_tests)
-raw_white styles.ShortClob o l a b c d e = grind (arith, nat_tests)
-raw_white styles.LongClob o l a b c d e = grind (arith, nat_tests)
+raw_white : (s : Style) (o : ℕ) → o < 32 → o ≢ 9 → o ≢ 10 → o ≢ 11 → o ≢ 12 → o ≢ 13 → raw s o ≡ Action.Refuse Reason.Unexpected
+raw_white Style.ShortString o l a b c d e = grind (arith, nat_tests)
+raw_white Style.QuotedSymbol o l a b c d e = grind (arith, nat_tests)
+raw_white Style.LongString o l a b c d e = grind (arith, nat_tests)
+raw_white Style.ShortClob o l a b c d e = grind (arith, nat_tests)
+raw_white Style.LongClob o l a b c d e = grind (arith, nat_tests)
 
-no_lf : (s : Style) → is_long s ≡ false → raw s 10 ≡ actions.Refuse reasons.Unexpected
-no_lf styles.ShortString h = refl
-no_lf styles.QuotedSymbol h = refl
-no_lf styles.ShortClob h = refl
-no_lf styles.LongString h = cc
-no_lf styles.LongClob h = cc
+no_lf : (s : Style) → is_long s ≡ false → raw s 10 ≡ Action.Refuse Reason.Unexpected
+no_lf Style.ShortString h = refl
+no_lf Style.QuotedSymbol h = refl
+no_lf Style.ShortClob h = refl
+no_lf Style.LongString h = cc
+no_lf Style.LongClob h = cc
 
-no_cr : (s : Style) → is_long s ≡ false → raw s 13 ≡ actions.Refuse reasons.Unexpected
-no_cr styles.ShortString h = refl
-no_cr styles.QuotedSymbol h = refl
-no_cr styles.ShortClob h = refl
-no_cr styles.LongString h = cc
-no_cr styles.LongClob h = cc
+no_cr : (s : Style) → is_long s ≡ false → raw s 13 ≡ Action.Refuse Reason.Unexpected
+no_cr Style.ShortString h = refl
+no_cr Style.QuotedSymbol h = refl
+no_cr Style.ShortClob h = refl
+no_cr Style.LongString h = cc
+no_cr Style.LongClob h = cc
 
-raw_clob : (s : Style) (o : ℕ) → is_clob s ≡ true → quote_of s < 128 → 128 ≤ o → raw s o ≡ actions.Refuse reasons.Unexpected
+raw_clob : (s : Style) (o : ℕ) → is_clob s ≡ true → quote_of s < 128 → 128 ≤ o → raw s o ≡ Action.Refuse Reason.Unexpected
 raw_clob s o c q l = grind (arith, nat_tests)
 
-raw_wrong : (s : Style) (o : ℕ) → is_clob s ≡ false → quote_of s < 128 → 128 ≤ o → (o < 194) ⊎ (244 < o) → raw s o ≡ actions.Refuse reasons.BadUtf8
+raw_wrong : (s : Style) (o : ℕ) → is_clob s ≡ false → quote_of s < 128 → 128 ≤ o → (o < 194) ⊎ (244 < o) → raw s o ≡ Action.Refuse Reason.BadUtf8
 raw_wrong s o c q l (inl h) = grind (arith, nat_tests)
 raw_wrong s o c q l (inr h) = grind (arith, nat_tests)
 
@@ -267,7 +248,7 @@ lf_leads s es b = ⊎_elim
 
 cr_leads : (s : Style) (es : List Element) → Behind s es 13 → Leads s es (raw s 13) (13 ∷ []) []
 cr_leads s es b = ⊎_elim
-    (λ l. by_action s es (13 ∷ []) [] (raw_cr s l) (tt, part_only s es within.AfterReturn (13 ∷ []) (10 ∷ []) b.base tt (inr (l, refl, refl))))
+    (λ l. by_action s es (13 ∷ []) [] (raw_cr s l) (tt, part_only s es Within.AfterReturn (13 ∷ []) (10 ∷ []) b.base tt (inr (l, refl, refl))))
     (λ f. by_action s es (13 ∷ []) [] (no_cr s f) tt) (bool_cases (is_long s))
 
 low_leads : (s : Style) (es : List Element) (o : ℕ) → Behind s es o → o < 32 → o ≢ quote_of s → Leads s es (raw s o) (o ∷ []) []
@@ -290,38 +271,38 @@ closed_short s es b l = record {
 }
 
 short_closes : (s : Style) (es : List Element) → Base s es → is_long s ≡ false → Leads s es (raw s (quote_of s)) (quote_of s ∷ []) []
-short_closes styles.ShortString es b l = (tt, tt, closed_short styles.ShortString es b refl)
-short_closes styles.QuotedSymbol es b l = (tt, tt, closed_short styles.QuotedSymbol es b refl)
-short_closes styles.ShortClob es b l = (tt, (tt, closed_short styles.ShortClob es b refl))
-short_closes styles.LongString es b l = cc
-short_closes styles.LongClob es b l = cc
+short_closes Style.ShortString es b l = (tt, tt, closed_short Style.ShortString es b refl)
+short_closes Style.QuotedSymbol es b l = (tt, tt, closed_short Style.QuotedSymbol es b refl)
+short_closes Style.ShortClob es b l = (tt, (tt, closed_short Style.ShortClob es b refl))
+short_closes Style.LongString es b l = cc
+short_closes Style.LongClob es b l = cc
 
 quote_leads : (s : Style) (es : List Element) (o : ℕ) → Behind s es o → o ≡ quote_of s → Leads s es (raw s o) (o ∷ []) []
 quote_leads s es o b e = ⊎_elim
     (λ l. let i : o ≡ 39 = e ∙ long_quote s l in subst (λ (x : ℕ). Leads s es (raw s x) (x ∷ []) []) (sym i)
-    (by_action s es (39 ∷ []) [] (raw_quote s l) (tt, part_only s es within.OneQuote (39 ∷ []) (39 ∷ []) b.base (b.quote l i) (l, refl, refl))))
+    (by_action s es (39 ∷ []) [] (raw_quote s l) (tt, part_only s es Within.OneQuote (39 ∷ []) (39 ∷ []) b.base (b.quote l i) (l, refl, refl))))
     (λ f. subst (λ (x : ℕ). Leads s es (raw s x) (x ∷ []) []) (sym e) (short_closes s es b.base f)) (bool_cases (is_long s))
 
 high_leads : (s : Style) (es : List Element) (o : ℕ) → Base s es → is_clob s ≡ false → 128 ≤ o → Leads s es (raw s o) (o ∷ []) []
 high_leads s es o b t h =
     ⊎_elim (λ h'. by_action s es (o ∷ []) [] (raw_wrong s o t (quote_small s) h (inl h')) tt) (λ h'.
     ⊎_elim (λ m. by_action s es (o ∷ []) [] (raw_two s o t (quote_small s) h' m)
-    (tt, part_only s es (within.Utf8 1 128 191) (o ∷ []) (o ∷ []) b tt (t, refl, omega arith, λ y e f. two_whole o y h' m e f))) (λ m.
+    (tt, part_only s es (Within.Utf8 1 128 191) (o ∷ []) (o ∷ []) b tt (t, refl, omega arith, λ y e f. two_whole o y h' m e f))) (λ m.
     ⊎_elim (λ n. by_action s es (o ∷ []) [] (raw_three s o t (quote_small s) m n) (
       tt,
-      part_only s es (within.Utf8 2 (least_three o) (most_three o)) (o ∷ []) (o ∷ []) b tt
+      part_only s es (Within.Utf8 2 (least_three o) (most_three o)) (o ∷ []) (o ∷ []) b tt
           (t, refl, omega arith, λ y e f z g k. three_whole o y z m n e f g k),
     )) (λ n.
     ⊎_elim (λ k. by_action s es (o ∷ []) [] (raw_four s o t (quote_small s) n (omega arith)) (
       tt,
-      part_only s es (within.Utf8 3 (least_four o) (most_four o)) (o ∷ []) (o ∷ []) b tt
+      part_only s es (Within.Utf8 3 (least_four o) (most_four o)) (o ∷ []) (o ∷ []) b tt
           (t, refl, omega arith, λ y e f z g i v r x. four_whole o y z v n (omega arith) e f g i r x),
     ))
     (λ k. by_action s es (o ∷ []) [] (raw_wrong s o t (quote_small s) h (inr (omega arith))) tt)
     (order o 245)) (order o 240)) (order o 224)) (order o 194)
 
 backslash : (s : Style) (es : List Element) → Base s es → Leads s es (raw s 92) (92 ∷ []) []
-backslash s es b = (tt, part_only s es within.Escape (92 ∷ []) [] b tt (refl, refl))
+backslash s es b = (tt, part_only s es Within.Escape (92 ∷ []) [] b tt (refl, refl))
 
 -- an octet that may stand behind these elements leads to what was read with it
 pub raw_leads : (s : Style) (es : List Element) (o : ℕ) → Behind s es o → Leads s es (raw s o) (o ∷ []) []
@@ -362,78 +343,78 @@ shift_closes s es f p x y e h =
 -- an action with nothing kept before
 pub rebase : (s : Style) (es : List Element) (f : Element) (a : Action) (p : List ℕ) → Leads s (es ++ f ∷ []) a p []
     → Leads s es a (spelling f ++ p) (meaning s f)
-rebase s es f (actions.Go m keeps.Nothing) p (t, h) = (tt, shift s es f p [] m (meaning s f) (sym (append-nil (meaning s f))) h)
-rebase s es f (actions.Go m (keeps.One o)) p (t, h) = (tt, shift s es f p (o ∷ []) m (meaning s f ++ o ∷ []) refl h)
-rebase s es f (actions.Go m (keeps.Two o x)) p (t, h) = (
+rebase s es f (Action.Go m Keep.Nothing) p (t, h) = (tt, shift s es f p [] m (meaning s f) (sym (append-nil (meaning s f))) h)
+rebase s es f (Action.Go m (Keep.One o)) p (t, h) = (tt, shift s es f p (o ∷ []) m (meaning s f ++ o ∷ []) refl h)
+rebase s es f (Action.Go m (Keep.Two o x)) p (t, h) = (
   tt,
   shift s es f p (o ∷ x ∷ []) m ((meaning s f ++ o ∷ []) ++ x ∷ []) (append_assoc (meaning s f) (o ∷ []) (x ∷ [])) h,
 )
-rebase s es f (actions.Go m (keeps.Character c)) p (t, h) = (tt, shift s es f p (encode c) m (meaning s f ++ encode c) refl h)
-rebase s es f (actions.Go m keeps.DropQuotes) p (t, h) = absurd (no_drop [] t)
-rebase s es f (actions.Give kind keeps.Nothing) p (t, g, h) = (tt, g, shift_closes s es f p [] (meaning s f) (sym (append-nil (meaning s f))) h)
-rebase s es f (actions.Give kind (keeps.One o)) p (t, g, h) = (tt, g, shift_closes s es f p (o ∷ []) (meaning s f ++ o ∷ []) refl h)
-rebase s es f (actions.Give kind (keeps.Two o x)) p (t, g, h) =
+rebase s es f (Action.Go m (Keep.Character c)) p (t, h) = (tt, shift s es f p (encode c) m (meaning s f ++ encode c) refl h)
+rebase s es f (Action.Go m Keep.DropQuotes) p (t, h) = absurd (no_drop [] t)
+rebase s es f (Action.Give kind Keep.Nothing) p (t, g, h) = (tt, g, shift_closes s es f p [] (meaning s f) (sym (append-nil (meaning s f))) h)
+rebase s es f (Action.Give kind (Keep.One o)) p (t, g, h) = (tt, g, shift_closes s es f p (o ∷ []) (meaning s f ++ o ∷ []) refl h)
+rebase s es f (Action.Give kind (Keep.Two o x)) p (t, g, h) =
     (tt, g, shift_closes s es f p (o ∷ x ∷ []) ((meaning s f ++ o ∷ []) ++ x ∷ []) (append_assoc (meaning s f) (o ∷ []) (x ∷ [])) h)
-rebase s es f (actions.Give kind (keeps.Character c)) p (t, g, h) = (tt, g, shift_closes s es f p (encode c) (meaning s f ++ encode c) refl h)
-rebase s es f (actions.Give kind keeps.DropQuotes) p (t, g, h) = absurd (no_drop [] t)
-rebase s es f (actions.Refuse e) p h = tt
-rebase s es f (actions.Before _ _ _) p h = h
-rebase s es f actions.EndWord p h = h
-rebase s es f (actions.Split _) p h = h
-rebase s es f actions.EndBlob p h = h
+rebase s es f (Action.Give kind (Keep.Character c)) p (t, g, h) = (tt, g, shift_closes s es f p (encode c) (meaning s f ++ encode c) refl h)
+rebase s es f (Action.Give kind Keep.DropQuotes) p (t, g, h) = absurd (no_drop [] t)
+rebase s es f (Action.Refuse e) p h = tt
+rebase s es f (Action.Before _ _ _) p h = h
+rebase s es f Action.EndWord p h = h
+rebase s es f (Action.Split _) p h = h
+rebase s es f Action.EndBlob p h = h
 
 -- the same where something was kept that isn't dropped
 abbrev NoDrop : Action → Type 0
-NoDrop (actions.Go m keeps.DropQuotes) = ⊥
-NoDrop (actions.Give kind keeps.DropQuotes) = ⊥
+NoDrop (Action.Go m Keep.DropQuotes) = ⊥
+NoDrop (Action.Give kind Keep.DropQuotes) = ⊥
 NoDrop _ = Unit {0}
 
 -- what an action leads to behind one element more, it does with that one as part of what is read
 pub rebase_kept : (s : Style) (es : List Element) (f : Element) (a : Action) (p q : List ℕ) → NoDrop a → Leads s (es ++ f ∷ []) a p q
     → Leads s es a (spelling f ++ p) (meaning s f ++ q)
-rebase_kept s es f (actions.Go m keeps.Nothing) p q n (t, h) = (tt, shift s es f p q m (meaning s f ++ q) refl h)
-rebase_kept s es f (actions.Go m (keeps.One o)) p q n (t, h) =
+rebase_kept s es f (Action.Go m Keep.Nothing) p q n (t, h) = (tt, shift s es f p q m (meaning s f ++ q) refl h)
+rebase_kept s es f (Action.Go m (Keep.One o)) p q n (t, h) =
     (tt, shift s es f p (q ++ o ∷ []) m ((meaning s f ++ q) ++ o ∷ []) (append_assoc (meaning s f) q (o ∷ [])) h)
-rebase_kept s es f (actions.Go m (keeps.Two o x)) p q n (t, h) = (
+rebase_kept s es f (Action.Go m (Keep.Two o x)) p q n (t, h) = (
   tt,
   shift s es f p ((q ++ o ∷ []) ++ x ∷ []) m (((meaning s f ++ q) ++ o ∷ []) ++ x ∷ []) (ap (λ l. l ++ x ∷ []) (append_assoc (meaning s f) q (o ∷ []))
       ∙ append_assoc (meaning s f) (q ++ o ∷ []) (x ∷ [])) h,
 )
-rebase_kept s es f (actions.Go m (keeps.Character c)) p q n (t, h) =
+rebase_kept s es f (Action.Go m (Keep.Character c)) p q n (t, h) =
     (tt, shift s es f p (q ++ encode c) m ((meaning s f ++ q) ++ encode c) (append_assoc (meaning s f) q (encode c)) h)
-rebase_kept s es f (actions.Go m keeps.DropQuotes) p q n h = absurd n
-rebase_kept s es f (actions.Give kind keeps.Nothing) p q n (t, g, h) = (tt, g, shift_closes s es f p q (meaning s f ++ q) refl h)
-rebase_kept s es f (actions.Give kind (keeps.One o)) p q n (t, g, h) =
+rebase_kept s es f (Action.Go m Keep.DropQuotes) p q n h = absurd n
+rebase_kept s es f (Action.Give kind Keep.Nothing) p q n (t, g, h) = (tt, g, shift_closes s es f p q (meaning s f ++ q) refl h)
+rebase_kept s es f (Action.Give kind (Keep.One o)) p q n (t, g, h) =
     (tt, g, shift_closes s es f p (q ++ o ∷ []) ((meaning s f ++ q) ++ o ∷ []) (append_assoc (meaning s f) q (o ∷ [])) h)
-rebase_kept s es f (actions.Give kind (keeps.Two o x)) p q n (t, g, h) = (
+rebase_kept s es f (Action.Give kind (Keep.Two o x)) p q n (t, g, h) = (
   tt,
   g,
   shift_closes s es f p ((q ++ o ∷ []) ++ x ∷ []) (((meaning s f ++ q) ++ o ∷ []) ++ x ∷ [])
       (ap (λ l. l ++ x ∷ []) (append_assoc (meaning s f) q (o ∷ [])) ∙ append_assoc (meaning s f) (q ++ o ∷ []) (x ∷ [])) h,
 )
-rebase_kept s es f (actions.Give kind (keeps.Character c)) p q n (t, g, h) =
+rebase_kept s es f (Action.Give kind (Keep.Character c)) p q n (t, g, h) =
     (tt, g, shift_closes s es f p (q ++ encode c) ((meaning s f ++ q) ++ encode c) (append_assoc (meaning s f) q (encode c)) h)
-rebase_kept s es f (actions.Give kind keeps.DropQuotes) p q n h = absurd n
-rebase_kept s es f (actions.Refuse e) p q n h = tt
-rebase_kept s es f (actions.Before _ _ _) p q n h = h
-rebase_kept s es f actions.EndWord p q n h = h
-rebase_kept s es f (actions.Split _) p q n h = h
-rebase_kept s es f actions.EndBlob p q n h = h
+rebase_kept s es f (Action.Give kind Keep.DropQuotes) p q n h = absurd n
+rebase_kept s es f (Action.Refuse e) p q n h = tt
+rebase_kept s es f (Action.Before _ _ _) p q n h = h
+rebase_kept s es f Action.EndWord p q n h = h
+rebase_kept s es f (Action.Split _) p q n h = h
+rebase_kept s es f Action.EndBlob p q n h = h
 
 -- an action behind a part of which nothing is kept drops no quotes
 pub leads_no_drop : (s : Style) (es : List Element) (a : Action) (p : List ℕ) → Leads s es a p [] → NoDrop a
-leads_no_drop s es (actions.Go m keeps.Nothing) p h = tt
-leads_no_drop s es (actions.Go m (keeps.One o)) p h = tt
-leads_no_drop s es (actions.Go m (keeps.Two o x)) p h = tt
-leads_no_drop s es (actions.Go m (keeps.Character c)) p h = tt
-leads_no_drop s es (actions.Go m keeps.DropQuotes) p h = no_drop [] h.0
-leads_no_drop s es (actions.Give kind keeps.Nothing) p h = tt
-leads_no_drop s es (actions.Give kind (keeps.One o)) p h = tt
-leads_no_drop s es (actions.Give kind (keeps.Two o x)) p h = tt
-leads_no_drop s es (actions.Give kind (keeps.Character c)) p h = tt
-leads_no_drop s es (actions.Give kind keeps.DropQuotes) p h = no_drop [] h.0
-leads_no_drop s es (actions.Refuse e) p h = tt
-leads_no_drop s es (actions.Before _ _ _) p h = tt
-leads_no_drop s es actions.EndWord p h = tt
-leads_no_drop s es (actions.Split _) p h = tt
-leads_no_drop s es actions.EndBlob p h = tt
+leads_no_drop s es (Action.Go m Keep.Nothing) p h = tt
+leads_no_drop s es (Action.Go m (Keep.One o)) p h = tt
+leads_no_drop s es (Action.Go m (Keep.Two o x)) p h = tt
+leads_no_drop s es (Action.Go m (Keep.Character c)) p h = tt
+leads_no_drop s es (Action.Go m Keep.DropQuotes) p h = no_drop [] h.0
+leads_no_drop s es (Action.Give kind Keep.Nothing) p h = tt
+leads_no_drop s es (Action.Give kind (Keep.One o)) p h = tt
+leads_no_drop s es (Action.Give kind (Keep.Two o x)) p h = tt
+leads_no_drop s es (Action.Give kind (Keep.Character c)) p h = tt
+leads_no_drop s es (Action.Give kind Keep.DropQuotes) p h = no_drop [] h.0
+leads_no_drop s es (Action.Refuse e) p h = tt
+leads_no_drop s es (Action.Before _ _ _) p h = tt
+leads_no_drop s es Action.EndWord p h = tt
+leads_no_drop s es (Action.Split _) p h = tt
+leads_no_drop s es Action.EndBlob p h = tt

@@ -1,26 +1,16 @@
 -- Octets that are tokens have a trace that tells them.
 use Rattle.std.proofs.Common.{◌≡◌, ℕ, ◌+◌, ◌-◌, ◌⊎◌, inl, inr, Bool, false, List, [], ◌∷◌, ◌++◌, length, drop, refl, sym, ap, ◌∙◌, subst, arith, append_assoc, append-nil, length-append}
 use Rattle.std.specs.Prelude.{Option, Some, None, Result, Ok, Err, option_to_list}
-use Rattle.ion_atoms.specs.declared.refusal.Reason.{Reason}
-use Rattle.ion_atoms.specs.declared.refusal.Reason.TheVariants.{Incomplete}
-use Rattle.ion_tokens.specs.declared.mode.Place.{Place}
-use Rattle.ion_tokens.specs.declared.mode.TokenKind.TheVariants as kinds
-use Rattle.ion_tokens.specs.Bodies.{Content, IsBody}
-use Rattle.ion_tokens.specs.Lexed.{Placed, Lexes}
-use Rattle.ion_tokens.specs.machine.Scanning.{Known, Outcome, Next, Given, Left, initial, run, at_end}
-use Rattle.ion_tokens.specs.Lexemes.{Lexeme}
-use Rattle.ion_tokens.specs.machine.Said.{said, says}
-use Rattle.ion_tokens.specs.machine.Scanned.{AllSay}
-use Rattle.ion_tokens.specs.machine.Traces.{Told, Places, Leads, Trace, then_by, judged, takes, over, last_judged, end_judged, traced, trace}
-use Rattle.ion_tokens.specs.laws.Tokens.{TellsLexeme, AreTold}
+use Rattle.ion_tokens.specs.Names.{AllSay, Content, Given, Incomplete, IsBody, Known, Leads, Left, Lexeme, Lexes, Next, Outcome, Place, Placed, Places, Reason, TokenKind, Told, Trace, at_end, end_judged, initial, judged, last_judged, over, run, said, says, takes, then_by, trace, traced}
+use Rattle.ion_tokens.specs.laws.Tokens.{AreTold, TellsLexeme}
 use Rattle.ion_tokens.specs.laws.TokensTraced.{AreSought, EndsInOperand}
+use Rattle.ion_tokens.proofs.complete.Found.{Finds, Gives, Last, Leaves, Nothing, Unclosed, in_word}
+use Rattle.ion_tokens.proofs.histories.Histories.{behind_front, completes}
 use Rattle.ion_tokens.proofs.runs.Cutting.{one_body}
-use Rattle.ion_tokens.proofs.complete.Found.{Finds, in_word, Nothing, Last, Gives, Leaves, Unclosed}
-use Rattle.ion_tokens.proofs.histories.Histories.{completes, behind_front}
 use Rattle.ion_tokens.proofs.runs.LastOctets.{last_octet}
 use Rattle.ion_tokens.proofs.runs.Runs.{next_used}
 use Rattle.ion_tokens.proofs.runs.Splits.{given_one, left_one}
-use Rattle.ion_tokens.proofs.traces.Traced.{over_next, over_end, settles, left_owes, debt_small}
+use Rattle.ion_tokens.proofs.traces.Traced.{debt_small, left_owes, over_end, over_next, settles}
 
 -- a token says something
 abbrev Says : Placed → Type 0
@@ -72,11 +62,11 @@ lexeme_last _ m = m
 
 -- letters up to the end of the octets are one word
 one_word : (letters : List ℕ) (colon : Bool) (start used : ℕ) (ts : List Placed) → (ts ≡ [] → ⊥) → Finds (in_word letters colon start used) [] ts
-    → (w : Placed) × (ts ≡ w ∷ []) × (w.lexeme.kind ≡ kinds.Word) × (w.lexeme.start ≡ start)
+    → (w : Placed) × (ts ≡ w ∷ []) × (w.lexeme.kind ≡ TokenKind.Word) × (w.lexeme.start ≡ start)
 unfolding lexeme_last
 one_word letters colon start used _ some (Nothing _ _ f) = absurd (some refl)
 one_word letters colon start used _ some (Last _ _ t s e f) =
-    let same : Ok (Some (record { start = start; end = used; kind = kinds.Word; octets = letters })) ≡ Ok (Some t.lexeme) = ap (λ x. at_the_end x t) e ∙ f in
+    let same : Ok (Some (record { start = start; end = used; kind = TokenKind.Word; octets = letters })) ≡ Ok (Some t.lexeme) = ap (λ x. at_the_end x t) e ∙ f in
     (t, refl, sym (ap (λ x. (lexeme_last x t.lexeme).kind) same), sym (ap (λ x. (lexeme_last x t.lexeme).start) same))
   where
     at_the_end : Outcome → Placed → Result (Option Lexeme) Reason

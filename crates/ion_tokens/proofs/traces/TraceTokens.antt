@@ -1,24 +1,13 @@
 -- A trace that ends well tells the tokens that the octets are.
 use Rattle.std.proofs.Common.{◌≡◌, ℕ, zero, suc, ◌+◌, ◌<◌, false, List, [], ◌∷◌, ◌++◌, refl, sym, ap, ◌∙◌, subst, arith, append_assoc, append-nil, length-append}
 use Rattle.std.specs.Prelude.{Option, Some, None, Result, Ok, Err, option_to_list}
-use Rattle.ion_atoms.specs.declared.refusal.Refusal.{Refusal}
-use Rattle.ion_atoms.specs.declared.refusal.Reason.{Reason}
-use Rattle.ion_tokens.specs.declared.mode.Place.{Place}
-use Rattle.ion_tokens.specs.Bodies.{Content, IsBody}
-use Rattle.ion_tokens.specs.Lexed.{Placed, Lexes, Passes}
-use Rattle.ion_tokens.specs.machine.Told.{Stands, Gave, Leaved}
-use Rattle.ion_tokens.specs.machine.Bounds.{debt}
-use Rattle.ion_tokens.specs.machine.Scanning.{Known, Outcome, Next, Given, Left, Refused, initial, feed, follow, run, at_end}
-use Rattle.ion_tokens.specs.Lexemes.{Lexeme}
-use Rattle.ion_tokens.specs.machine.Said.{said, says}
-use Rattle.ion_tokens.specs.machine.Scanned.{Scanned, Continues}
-use Rattle.ion_tokens.specs.machine.Traces.{Told, Places, Trail, Leads, Stops, then_by, judged, comes, takes, over, last_judged, end_judged, traced, trace}
+use Rattle.ion_tokens.specs.Names.{Content, Continues, Gave, Given, IsBody, Known, Leads, Leaved, Left, Lexeme, Lexes, Next, Outcome, Passes, Place, Placed, Places, Reason, Refusal, Refused, Scanned, Stands, Stops, Told, Trail, at_end, comes, debt, end_judged, feed, follow, initial, judged, last_judged, over, run, said, says, takes, then_by, trace, traced}
 use Rattle.ion_tokens.specs.laws.Judged.{body_passes}
-use Rattle.ion_tokens.specs.laws.Tokens.{TellsLexeme, AreTold}
+use Rattle.ion_tokens.specs.laws.Tokens.{AreTold, TellsLexeme}
+use Rattle.ion_tokens.proofs.histories.Stepped.{all_since, begun_scanned, behind_since, end_goes, from_left, goes_on, since_used, told_more}
 use Rattle.ion_tokens.proofs.runs.Splits.{given_one, left_one}
-use Rattle.ion_tokens.proofs.histories.Stepped.{begun_scanned, from_left, behind_since, since_used, told_more, goes_on, all_since, end_goes}
 use Rattle.ion_tokens.proofs.sound.Told.{ends_in_token}
-use Rattle.ion_tokens.proofs.traces.Traced.{left_owes, debt_small}
+use Rattle.ion_tokens.proofs.traces.Traced.{debt_small, left_owes}
 
 -- what was told before, and one token more
 told_one : (places : Places) (before : List Told) (ts : List Placed) (xs : List Told) (t : Placed) (x : Told) → AreTold places before ts xs

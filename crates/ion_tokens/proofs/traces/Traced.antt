@@ -4,31 +4,16 @@ use Rattle.std.specs.Prelude.{◌==◌, ◌&&◌, bytes_eq, codes, nat_lt, nat_l
 use Rattle.std.specs.List.{flat_map}
 use Rattle.std.proofs.lemmas.Bool.Decides.{nat_tests}
 use Rattle.std.proofs.Math.Seq.{drop-append_seam}
-use Rattle.ion_atoms.specs.declared.refusal.Refusal.{Refusal}
-use Rattle.ion_atoms.specs.declared.refusal.Reason.{Reason}
-use Rattle.ion_tokens.specs.declared.mode.Place.{Place}
-use Rattle.ion_tokens.specs.declared.mode.Mode.{Mode}
-use Rattle.ion_tokens.specs.declared.mode.Mode.TheVariants as modes
-use Rattle.ion_tokens.specs.declared.mode.TokenKind.TheVariants as kinds
-use Rattle.ion_tokens.specs.declared.mode.Action.{Action}
-use Rattle.ion_tokens.specs.declared.mode.Action.TheVariants as actions
-use Rattle.ion_tokens.specs.declared.token.Token.{Token}
+use Rattle.ion_tokens.specs.Names.{Action, Answers, AnswersTrace, Content, Continues, EndsTrace, Given, GivesToken, IsToken, IsTraced, Known, Leads, Left, Lexeme, Mode, Next, Outcome, Place, Places, Reason, Refusal, Refused, RefusesToken, Stepped, Stops, Token, TokenKind, Told, Trail, acts, at_end, blob_ends, blob_of, comes, cut, debt, deciding, end_judged, feed, follow, go_to, initial, is_idle, judged, last_judged, last_of, left_by, over, over_pieces, past, run, said, says, takes, then_by, told_as, told_by, trace, traced, unkept}
+use Rattle.ion_tokens.specs.Bodies.{content}
+use Rattle.ion_tokens.specs.machine.Steps.{Ends}
 use Rattle.ion_tokens.specs.machine.Table.{next}
-use Rattle.ion_tokens.specs.Blobs.{blob_of}
-use Rattle.ion_tokens.specs.machine.Bounds.{is_idle, unkept, debt}
-use Rattle.ion_tokens.specs.machine.Scanning.{Known, Outcome, Next, Given, Left, Refused, initial, cut, past, go_to, blob_ends, acts, feed, follow, run, at_end}
-use Rattle.ion_tokens.specs.Lexemes.{Lexeme}
-use Rattle.ion_tokens.specs.Bodies.{Content, content}
-use Rattle.ion_tokens.specs.machine.Said.{said, says}
-use Rattle.ion_tokens.specs.machine.Steps.{Stepped, deciding, Answers, Ends, IsToken, GivesToken, RefusesToken}
-use Rattle.ion_tokens.specs.machine.Scanned.{Continues}
-use Rattle.ion_tokens.specs.machine.Traces.{Told, Places, Trail, Leads, Stops, then_by, judged, comes, takes, over, over_pieces, last_judged, end_judged, traced, trace, IsTraced, told_as, told_by, last_of, left_by, AnswersTrace, EndsTrace}
 use Rattle.ion_tokens.proofs.bounds.Fits.{Fits, table_fits}
+use Rattle.ion_tokens.proofs.histories.Stepped.{begins_front, front_is}
+use Rattle.ion_tokens.proofs.runs.Cutting.{one_body}
+use Rattle.ion_tokens.proofs.runs.LastOctets.{LastOctet, last_octet, refused_here}
 use Rattle.ion_tokens.proofs.runs.Runs.{next_used}
 use Rattle.ion_tokens.proofs.runs.Splits.{given_one, left_one}
-use Rattle.ion_tokens.proofs.runs.LastOctets.{LastOctet, last_octet, refused_here}
-use Rattle.ion_tokens.proofs.runs.Cutting.{one_body}
-use Rattle.ion_tokens.proofs.histories.Stepped.{begins_front, front_is}
 
 -- An octet that is left owes less: it is left at most twice.
 unfoldable OwesLess : ℕ → Outcome → Type 0
@@ -46,27 +31,27 @@ last_least a b false h = cc
 
 acts_owe : (p : Place) (s : Known) (o : ℕ) (a : Action) → Fits (unkept s.mode) (debt s.mode) (is_idle s.mode) a → OwesLess (debt s.mode) (acts p s o a)
 unfolding OwesLess
-acts_owe p s o (actions.Go m k) f = tt
-acts_owe p s o (actions.Give _ _) f = tt
-acts_owe p s o (actions.Before _ _ m) f = first_less (debt m) (debt s.mode) _ _ f.is
-acts_owe p s o actions.EndWord f = by ((o == 46) && bytes_eq s.kept (codes "null")) where
-  by : (b : Bool) → OwesLess (debt s.mode) (cond b (Next (go_to s modes.KindName []))
-      (Left (cut s kinds.Word s.kept s.used) (past p kinds.Word modes.Blank [] s.used s.used)))
+acts_owe p s o (Action.Go m k) f = tt
+acts_owe p s o (Action.Give _ _) f = tt
+acts_owe p s o (Action.Before _ _ m) f = first_less (debt m) (debt s.mode) _ _ f.is
+acts_owe p s o Action.EndWord f = by ((o == 46) && bytes_eq s.kept (codes "null")) where
+  by : (b : Bool) → OwesLess (debt s.mode) (cond b (Next (go_to s Mode.KindName []))
+      (Left (cut s TokenKind.Word s.kept s.used) (past p TokenKind.Word Mode.Blank [] s.used s.used)))
   by true = tt
   by false = last_least 1 (debt s.mode) true f.is
-acts_owe p s o (actions.Split n) f = last_least 2 (debt s.mode) _ f.is
-acts_owe p s o actions.EndBlob f = by (blob_of s.kept) where
+acts_owe p s o (Action.Split n) f = last_least 2 (debt s.mode) _ f.is
+acts_owe p s o Action.EndBlob f = by (blob_of s.kept) where
   by : (b : Option (List ℕ)) → OwesLess (debt s.mode) (blob_ends s b)
   by None = tt
   by (Some octets) = tt
-acts_owe p s o (actions.Refuse e) f = tt
+acts_owe p s o (Action.Refuse e) f = tt
 
 -- no more than two octets may be taken up again before another is used
 pub debt_small : (m : Mode) → debt m < 3
-debt_small modes.Blank = omega arith
-debt_small modes.NumberSlash = omega arith
-debt_small modes.OperatorSlash = omega arith
-debt_small (modes.Infinity _) = omega arith
+debt_small Mode.Blank = omega arith
+debt_small Mode.NumberSlash = omega arith
+debt_small Mode.OperatorSlash = omega arith
+debt_small (Mode.Infinity _) = omega arith
 debt_small _ = omega arith
 
 -- an octet that is left leaves fewer to be taken up again

@@ -12,9 +12,7 @@ use Rattle.base64.specs.declared.decode.DecodeError.{DecodeError}
 use Rattle.base64.specs.declared.engine.DecodePaddingMode.{DecodePaddingMode}
 use Rattle.base64.proofs.Tables.{IsDecodeTable_from, are_tables_inverse}
 use Rattle.base64.proofs.Decoding.{IsLeftover, IsLeftover_next}
-use Rattle.ion_tokens.specs.Octets.{is_base64}
-use Rattle.ion_tokens.specs.Blobs.{AreOctets, alphabet, base64_of, blob_of}
-use Rattle.ion_tokens.specs.Lexemes.{Each}
+use Rattle.ion_tokens.specs.Names.{AreOctets, Each, alphabet, base64_of, blob_of, is_base64}
 use Rattle.ion_tokens.specs.laws.Each.{each_append}
 
 -- 1. Octets, by their places and in a row.

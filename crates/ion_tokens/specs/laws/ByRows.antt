@@ -5,24 +5,10 @@ use Rattle.std.specs.List.{list_all}
 use Rattle.std.proofs.lemmas.Bool.{and_parts}
 use Rattle.std.proofs.lemmas.Bool.Decides.{nat_tests}
 use lib.Utf8.{scalar}
-use Rattle.ion_tokens.specs.declared.mode.Place.{Place}
-use Rattle.ion_tokens.specs.declared.mode.Style.{Style}
-use Rattle.ion_tokens.specs.declared.mode.Style.TheVariants as styles
-use Rattle.ion_tokens.specs.declared.mode.Within.{Within}
-use Rattle.ion_tokens.specs.declared.mode.Within.TheVariants as within
-use Rattle.ion_tokens.specs.declared.mode.Digits.{Digits}
-use Rattle.ion_tokens.specs.declared.mode.Digits.TheVariants as digits
-use Rattle.ion_tokens.specs.declared.mode.Ending.{Ending}
-use Rattle.ion_tokens.specs.declared.mode.Ending.TheVariants as endings
-use Rattle.ion_tokens.specs.declared.mode.Lob.{Lob}
-use Rattle.ion_tokens.specs.declared.mode.Lob.TheVariants as lobs
-use Rattle.ion_tokens.specs.declared.mode.Mode.{Mode}
-use Rattle.ion_tokens.specs.declared.mode.Mode.TheVariants as modes
-use Rattle.ion_tokens.specs.declared.mode.Action.{Action}
-use Rattle.ion_tokens.specs.declared.mode.Action.TheVariants as actions
-use Rattle.ion_tokens.specs.Octets.{hexadecimal_digit, escaped, is_digit, is_white, begins_word, is_line_end, is_word_octet, is_operator_octet, is_stop, is_base64}
-use Rattle.ion_tokens.specs.machine.Table.{next, go, add, refused, in_blank, begins_value, in_operator, digit_behind, in_infinity, in_escape, in_text, in_lob, raw, lead, meant, with_digit, after_digits, character, grow, is_long, is_sexp, is_name, is_other, quote_of, stands, is_clob, is_high, is_low}
-use Rattle.ion_tokens.specs.machine.Rows.{Taken, Parts, at_quote, inside, digit_rows, text_rows, lob_rows, blank_rows, operator_rows, infinity_rows, in_sexp, rows, is_last, place_rows, mode_rows, plain_modes, withins, all_styles, all_lobs, all_modes, all_rows}
+use Rattle.ion_tokens.specs.Names.{Action, Digits, Ending, Lob, Mode, Place, Style, Within, add, after_digits, begins_value, begins_word, character, digit_behind, go, grow, hexadecimal_digit, in_blank, in_escape, in_infinity, in_lob, in_operator, in_text, is_base64, is_clob, is_digit, is_high, is_line_end, is_long, is_low, is_name, is_operator_octet, is_other, is_sexp, is_stop, is_white, is_word_octet, lead, meant, quote_of, raw, refused, stands, with_digit}
+use Rattle.ion_tokens.specs.Octets.{escaped}
+use Rattle.ion_tokens.specs.machine.Rows.{Parts, Taken, all_lobs, all_modes, all_rows, all_styles, at_quote, blank_rows, digit_rows, in_sexp, infinity_rows, inside, is_last, lob_rows, mode_rows, operator_rows, place_rows, plain_modes, rows, text_rows, withins}
+use Rattle.ion_tokens.specs.machine.Table.{next}
 
 -- the element at a place passes, where one is
 abbrev PassesAt : {A : Type 0} → (A → Bool) → List A → ℕ → Type 0
@@ -37,75 +23,75 @@ at f (x ∷ xs) h (suc k) = at f xs (and_parts (f x) (list_all f xs) h).1 k
 
 -- the parts of a mode that has these numbers, and of one that has none
 abbrev numbered : ℕ → ℕ → ℕ → Parts
-numbered x y z = record { ending = endings.Other; digits = digits.Octet; first = x; second = y; third = z }
+numbered x y z = record { ending = Ending.Other; digits = Digits.Octet; first = x; second = y; third = z }
 
 module _ (f : Mode → Bool) (h : (c : Parts) → all_modes f c ≡ true) where
   texts : Parts → Style → Bool
-  texts c s = list_all (λ w. f (modes.Text s w)) (withins c)
+  texts c s = list_all (λ w. f (Mode.Text s w)) (withins c)
 
-  parts : (c : Parts) → (list_all f (plain_modes c) ≡ true) × ((list_all (texts c) all_styles && list_all (λ l. f (modes.Lob l)) all_lobs) ≡ true)
+  parts : (c : Parts) → (list_all f (plain_modes c) ≡ true) × ((list_all (texts c) all_styles && list_all (λ l. f (Mode.Lob l)) all_lobs) ≡ true)
   unfolding texts
-  parts c = and_parts (list_all f (plain_modes c)) (list_all (texts c) all_styles && list_all (λ l. f (modes.Lob l)) all_lobs) (h c)
+  parts c = and_parts (list_all f (plain_modes c)) (list_all (texts c) all_styles && list_all (λ l. f (Mode.Lob l)) all_lobs) (h c)
 
   plain : (c : Parts) (k : ℕ) → PassesAt f (plain_modes c) k
   plain c = at f (plain_modes c) (parts c).0
 
   styled : (c : Parts) (k : ℕ) → PassesAt (texts c) all_styles k
-  styled c = at (texts c) all_styles (and_parts (list_all (texts c) all_styles) (list_all (λ l. f (modes.Lob l)) all_lobs) (parts c).1).0
+  styled c = at (texts c) all_styles (and_parts (list_all (texts c) all_styles) (list_all (λ l. f (Mode.Lob l)) all_lobs) (parts c).1).0
 
-  lob : (k : ℕ) → PassesAt (λ l. f (modes.Lob l)) all_lobs k
+  lob : (k : ℕ) → PassesAt (λ l. f (Mode.Lob l)) all_lobs k
   lob =
       let c = numbered 0 0 0 in
-      at (λ l. f (modes.Lob l)) all_lobs (and_parts (list_all (texts c) all_styles) (list_all (λ l. f (modes.Lob l)) all_lobs) (parts c).1).1
+      at (λ l. f (Mode.Lob l)) all_lobs (and_parts (list_all (texts c) all_styles) (list_all (λ l. f (Mode.Lob l)) all_lobs) (parts c).1).1
 
   style : (s : Style) (c : Parts) → texts c s ≡ true
-  style styles.ShortString c = styled c 0
-  style styles.QuotedSymbol c = styled c 1
-  style styles.LongString c = styled c 2
-  style styles.ShortClob c = styled c 3
-  style styles.LongClob c = styled c 4
+  style Style.ShortString c = styled c 0
+  style Style.QuotedSymbol c = styled c 1
+  style Style.LongString c = styled c 2
+  style Style.ShortClob c = styled c 3
+  style Style.LongClob c = styled c 4
 
-  text : (s : Style) (c : Parts) (k : ℕ) → PassesAt (λ w. f (modes.Text s w)) (withins c) k
+  text : (s : Style) (c : Parts) (k : ℕ) → PassesAt (λ w. f (Mode.Text s w)) (withins c) k
   unfolding texts
-  text s c = at (λ w. f (modes.Text s w)) (withins c) (style s c)
+  text s c = at (λ w. f (Mode.Text s w)) (withins c) (style s c)
 
   -- A test that each mode passes is passed by a mode.
   pub by_modes : (m : Mode) → f m ≡ true
-  by_modes modes.Blank = plain (numbered 0 0 0) 0
-  by_modes modes.Slash = plain (numbered 0 0 0) 1
-  by_modes modes.LineComment = plain (numbered 0 0 0) 2
-  by_modes modes.BlockComment = plain (numbered 0 0 0) 3
-  by_modes modes.BlockCommentStar = plain (numbered 0 0 0) 4
-  by_modes modes.Colon = plain (numbered 0 0 0) 5
-  by_modes modes.Word = plain (numbered 0 0 0) 6
-  by_modes modes.KindName = plain (numbered 0 0 0) 7
-  by_modes modes.Number = plain (numbered 0 0 0) 8
-  by_modes modes.NumberSlash = plain (numbered 0 0 0) 9
-  by_modes (modes.Operator e) = plain (record { ending = e; digits = digits.Octet; first = 0; second = 0; third = 0 }) 10
-  by_modes modes.OperatorSlash = plain (numbered 0 0 0) 11
-  by_modes (modes.Infinity letters) = plain (numbered letters 0 0) 12
-  by_modes modes.Quote = plain (numbered 0 0 0) 13
-  by_modes modes.Quotes = plain (numbered 0 0 0) 14
-  by_modes modes.Brace = plain (numbered 0 0 0) 15
-  by_modes (modes.Text s within.Plain) = text s (numbered 0 0 0) 0
-  by_modes (modes.Text s within.AfterReturn) = text s (numbered 0 0 0) 1
-  by_modes (modes.Text s within.OneQuote) = text s (numbered 0 0 0) 2
-  by_modes (modes.Text s within.TwoQuotes) = text s (numbered 0 0 0) 3
-  by_modes (modes.Text s (within.Utf8 left least most)) = text s (numbered left least most) 4
-  by_modes (modes.Text s within.Escape) = text s (numbered 0 0 0) 5
-  by_modes (modes.Text s (within.Hexadecimal d left n)) = text s (record { ending = endings.Other; digits = d; first = left; second = n; third = 0 }) 6
-  by_modes (modes.Text s (within.HighSurrogate h)) = text s (numbered h 0 0) 7
-  by_modes (modes.Text s (within.HighSurrogateEscape h)) = text s (numbered h 0 0) 8
-  by_modes (modes.Lob lobs.Start) = lob 0
-  by_modes (modes.Lob lobs.StartQuote) = lob 1
-  by_modes (modes.Lob lobs.StartQuotes) = lob 2
-  by_modes (modes.Lob lobs.Base64) = lob 3
-  by_modes (modes.Lob lobs.BlobClose) = lob 4
-  by_modes (modes.Lob lobs.AfterShort) = lob 5
-  by_modes (modes.Lob lobs.AfterLong) = lob 6
-  by_modes (modes.Lob lobs.AfterQuote) = lob 7
-  by_modes (modes.Lob lobs.AfterQuotes) = lob 8
-  by_modes (modes.Lob lobs.ClobClose) = lob 9
+  by_modes Mode.Blank = plain (numbered 0 0 0) 0
+  by_modes Mode.Slash = plain (numbered 0 0 0) 1
+  by_modes Mode.LineComment = plain (numbered 0 0 0) 2
+  by_modes Mode.BlockComment = plain (numbered 0 0 0) 3
+  by_modes Mode.BlockCommentStar = plain (numbered 0 0 0) 4
+  by_modes Mode.Colon = plain (numbered 0 0 0) 5
+  by_modes Mode.Word = plain (numbered 0 0 0) 6
+  by_modes Mode.KindName = plain (numbered 0 0 0) 7
+  by_modes Mode.Number = plain (numbered 0 0 0) 8
+  by_modes Mode.NumberSlash = plain (numbered 0 0 0) 9
+  by_modes (Mode.Operator e) = plain (record { ending = e; digits = Digits.Octet; first = 0; second = 0; third = 0 }) 10
+  by_modes Mode.OperatorSlash = plain (numbered 0 0 0) 11
+  by_modes (Mode.Infinity letters) = plain (numbered letters 0 0) 12
+  by_modes Mode.Quote = plain (numbered 0 0 0) 13
+  by_modes Mode.Quotes = plain (numbered 0 0 0) 14
+  by_modes Mode.Brace = plain (numbered 0 0 0) 15
+  by_modes (Mode.Text s Within.Plain) = text s (numbered 0 0 0) 0
+  by_modes (Mode.Text s Within.AfterReturn) = text s (numbered 0 0 0) 1
+  by_modes (Mode.Text s Within.OneQuote) = text s (numbered 0 0 0) 2
+  by_modes (Mode.Text s Within.TwoQuotes) = text s (numbered 0 0 0) 3
+  by_modes (Mode.Text s (Within.Utf8 left least most)) = text s (numbered left least most) 4
+  by_modes (Mode.Text s Within.Escape) = text s (numbered 0 0 0) 5
+  by_modes (Mode.Text s (Within.Hexadecimal d left n)) = text s (record { ending = Ending.Other; digits = d; first = left; second = n; third = 0 }) 6
+  by_modes (Mode.Text s (Within.HighSurrogate h)) = text s (numbered h 0 0) 7
+  by_modes (Mode.Text s (Within.HighSurrogateEscape h)) = text s (numbered h 0 0) 8
+  by_modes (Mode.Lob Lob.Start) = lob 0
+  by_modes (Mode.Lob Lob.StartQuote) = lob 1
+  by_modes (Mode.Lob Lob.StartQuotes) = lob 2
+  by_modes (Mode.Lob Lob.Base64) = lob 3
+  by_modes (Mode.Lob Lob.BlobClose) = lob 4
+  by_modes (Mode.Lob Lob.AfterShort) = lob 5
+  by_modes (Mode.Lob Lob.AfterLong) = lob 6
+  by_modes (Mode.Lob Lob.AfterQuote) = lob 7
+  by_modes (Mode.Lob Lob.AfterQuotes) = lob 8
+  by_modes (Mode.Lob Lob.ClobClose) = lob 9
 
 -- one octet, or one character
 abbrev taken : ℕ → Taken
@@ -134,23 +120,23 @@ module _ (f : Action → Bool) where
       both (is_white o) (g 0) (both (begins_word o) (g 1) (both (o == 47) (g 2) (both (o == 34) (g 3) (both (o == 39) (g 4) (both (o == 44) (g 5)
       (both (o == 125) (g 6) (both (o == 58) (both colon (g 7) (g 8)) (both (is_name p) (g 8) (value p o g)))))))))
 
-  slash : (sexp other : Bool) (x y : Action) → ((k : ℕ) → PassesAt f (go modes.LineComment ∷ go modes.BlockComment ∷ refused ∷ in_sexp sexp (x ∷ y ∷ [])) k)
+  slash : (sexp other : Bool) (x y : Action) → ((k : ℕ) → PassesAt f (go Mode.LineComment ∷ go Mode.BlockComment ∷ refused ∷ in_sexp sexp (x ∷ y ∷ [])) k)
       → f (cond (not sexp) refused (cond other x y)) ≡ true
   slash true other x y g = both other (g 3) (g 4)
   slash false other x y g = g 2
 
   digit : (p : Place) (e : Ending) (o : ℕ) → ((k : ℕ) → PassesAt f (operator_rows (taken o)) k) → f (digit_behind p e o) ≡ true
-  digit p endings.LoneMinus o g = g 0
-  digit p endings.Minus o g = g 1
-  digit p endings.Plus o g = both (is_sexp p) (g 2) (g 3)
-  digit p endings.Other o g = g 2
+  digit p Ending.LoneMinus o g = g 0
+  digit p Ending.Minus o g = g 1
+  digit p Ending.Plus o g = both (is_sexp p) (g 2) (g 3)
+  digit p Ending.Other o g = g 2
 
   operator : (p : Place) (e : Ending) (o : ℕ) → ((k : ℕ) → PassesAt f (operator_rows (taken o)) k) → f (in_operator p e o) ≡ true
   operator p e o g =
       both (is_digit o) (digit p e o g) (both ((o == 105) && not (is_other e)) (g 4)
       (both (not (is_sexp p)) (g 3) (both (o == 47) (g 5) (both (is_operator_octet o) (g 6) (g 2)))))
 
-  split : (sexp : Bool) (letters : ℕ) → ((k : ℕ) → PassesAt f (infinity_rows sexp letters) k) → f (cond sexp (actions.Split letters) refused) ≡ true
+  split : (sexp : Bool) (letters : ℕ) → ((k : ℕ) → PassesAt f (infinity_rows sexp letters) k) → f (cond sexp (Action.Split letters) refused) ≡ true
   split true letters g = g 3
   split false letters g = g 2
 
@@ -163,11 +149,11 @@ module _ (f : Action → Bool) where
       both_when ((letters == 2) && (o == 102)) (λ e. one_more 2 (o == 102) e) (λ _.
       both ((letters == 3) && not (is_word_octet o)) (g 1) (split (is_sexp p) letters g)))
     where
-      one_more : (n : ℕ) (b : Bool) → ((letters == n) && b) ≡ true → f (go (modes.Infinity (suc n))) ≡ true
-      one_more n b e = subst (λ k. f (go (modes.Infinity k)) ≡ true) (letter letters n b e) (g 0)
+      one_more : (n : ℕ) (b : Bool) → ((letters == n) && b) ≡ true → f (go (Mode.Infinity (suc n))) ≡ true
+      one_more n b e = subst (λ k. f (go (Mode.Infinity k)) ≡ true) (letter letters n b e) (g 0)
 
   module _ (s : Style) (g : Pass f (inside s)) where
-    further : (o left least most : ℕ) → f (add (modes.Text s (within.Utf8 left least most)) o) ≡ true
+    further : (o left least most : ℕ) → f (add (Mode.Text s (Within.Utf8 left least most)) o) ≡ true
     further o left least most = g (record { octet = o; left = left; least = least; most = most }) 5
 
     leading : (o : ℕ) → f (lead s o) ≡ true
@@ -186,14 +172,14 @@ module _ (f : Action → Bool) where
     character_of g n = both (scalar n) (g (taken n) 2) (g (taken n) 0)
 
     last_digit : Pass f (digit_rows true s d left) → (e : Digits) (n : ℕ) → f (after_digits s e n) ≡ true
-    last_digit g digits.Octet n = both (is_clob s) (g (taken (n % 256)) 1) (character_of g n)
-    last_digit g digits.Unit n = both (is_high n) (g (taken n) 3) (character_of g n)
-    last_digit g digits.Scalar n = character_of g n
-    last_digit g (digits.LowSurrogate high) n =
+    last_digit g Digits.Octet n = both (is_clob s) (g (taken (n % 256)) 1) (character_of g n)
+    last_digit g Digits.Unit n = both (is_high n) (g (taken n) 3) (character_of g n)
+    last_digit g Digits.Scalar n = character_of g n
+    last_digit g (Digits.LowSurrogate high) n =
         both (is_high high && is_low n) (character_of g (0x10000 + (high - 0xd800) * 1024 + (n - 0xdc00))) (g (taken n) 0)
 
     one_digit : (last : Bool) (n : ℕ) → Pass f (digit_rows last s d left)
-        → f (cond last (after_digits s d n) (go (modes.Text s (within.Hexadecimal d (left - 1) n)))) ≡ true
+        → f (cond last (after_digits s d n) (go (Mode.Text s (Within.Hexadecimal d (left - 1) n)))) ≡ true
     one_digit true n g = last_digit g d n
     one_digit false n g = g (taken n) 1
 
@@ -201,73 +187,73 @@ module _ (f : Action → Bool) where
     hexadecimal n None g = g (taken 0) 0
     hexadecimal n (Some digit) g = one_digit (nat_le left 1) (grow n digit) g
 
-  letter_meant : (s : Style) (m : Option ℕ) → Pass f (text_rows false s within.Escape) → f (meant s m) ≡ true
+  letter_meant : (s : Style) (m : Option ℕ) → Pass f (text_rows false s Within.Escape) → f (meant s m) ≡ true
   letter_meant s None g = g (taken 0) 6
   letter_meant s (Some o) g = g (taken o) 5
 
-  escape : (s : Style) (o : ℕ) → Pass f (text_rows false s within.Escape) → f (in_escape s o) ≡ true
+  escape : (s : Style) (o : ℕ) → Pass f (text_rows false s Within.Escape) → f (in_escape s o) ≡ true
   escape s o g =
       both (o == 10) (g (taken o) 0) (both (o == 13) (g (taken o) 1) (both (o == 120) (g (taken o) 2) (both ((o == 117) && not (is_clob s)) (g (taken o) 3)
       (both ((o == 85) && not (is_clob s)) (g (taken o) 4) (letter_meant s (escaped o) g)))))
 
-  text_octet : (s : Style) (w : Within) (o : ℕ) → Pass f (text_rows (is_last (modes.Text s w)) s w) → f (in_text s w o) ≡ true
-  text_octet s within.Plain o g = raw_octet s (λ t k. g t (suc k)) o (λ _. g (taken o) 0)
-  text_octet s within.AfterReturn o g = both (o == 10) (g (taken o) 1) (raw_octet s (λ t k. g t (suc (suc k))) o (λ _. g (taken o) 0))
-  text_octet s within.OneQuote o g = both (o == 39) (g (taken o) 1) (raw_octet s (λ t k. g t (suc (suc k))) o (λ _. g (taken o) 0))
-  text_octet s within.TwoQuotes o g = both (o == 39) (g (taken o) 1) (raw_octet s (λ t k. g t (suc (suc k))) o (λ _. g (taken o) 0))
-  text_octet s (within.Utf8 left least most) o g =
+  text_octet : (s : Style) (w : Within) (o : ℕ) → Pass f (text_rows (is_last (Mode.Text s w)) s w) → f (in_text s w o) ≡ true
+  text_octet s Within.Plain o g = raw_octet s (λ t k. g t (suc k)) o (λ _. g (taken o) 0)
+  text_octet s Within.AfterReturn o g = both (o == 10) (g (taken o) 1) (raw_octet s (λ t k. g t (suc (suc k))) o (λ _. g (taken o) 0))
+  text_octet s Within.OneQuote o g = both (o == 39) (g (taken o) 1) (raw_octet s (λ t k. g t (suc (suc k))) o (λ _. g (taken o) 0))
+  text_octet s Within.TwoQuotes o g = both (o == 39) (g (taken o) 1) (raw_octet s (λ t k. g t (suc (suc k))) o (λ _. g (taken o) 0))
+  text_octet s (Within.Utf8 left least most) o g =
       both (nat_lt o least || nat_lt most o) (g (taken o) 0)
       (both (nat_le left 1) (g (taken o) 1) (g (record { octet = o; left = left - 1; least = 0x80; most = 0xbf }) 2))
-  text_octet s within.Escape o g = escape s o g
-  text_octet s (within.Hexadecimal d left n) o g = hexadecimal s d left n (hexadecimal_digit o) g
-  text_octet s (within.HighSurrogate high) o g = both (o == 92) (g (taken o) 1) (g (taken o) 0)
-  text_octet s (within.HighSurrogateEscape high) o g = both (o == 117) (g (taken o) 1) (g (taken o) 0)
+  text_octet s Within.Escape o g = escape s o g
+  text_octet s (Within.Hexadecimal d left n) o g = hexadecimal s d left n (hexadecimal_digit o) g
+  text_octet s (Within.HighSurrogate high) o g = both (o == 92) (g (taken o) 1) (g (taken o) 0)
+  text_octet s (Within.HighSurrogateEscape high) o g = both (o == 117) (g (taken o) 1) (g (taken o) 0)
 
   lob_octet : (l : Lob) (o : ℕ) → ((k : ℕ) → PassesAt f (lob_rows l (taken o)) k) → f (in_lob l o) ≡ true
-  lob_octet lobs.Start o g = both (is_white o) (g 3) (both (o == 34) (g 4) (both (o == 39) (g 5) (both (o == 125) (g 0) (both (is_base64 o) (g 1) (g 2)))))
-  lob_octet lobs.StartQuote o g = both (o == 39) (g 1) (g 0)
-  lob_octet lobs.StartQuotes o g = both (o == 39) (g 1) (g 0)
-  lob_octet lobs.Base64 o g = both (is_white o) (g 3) (both (o == 125) (g 0) (both (is_base64 o) (g 1) (g 2)))
-  lob_octet lobs.BlobClose o g = both (o == 125) (g 1) (g 0)
-  lob_octet lobs.AfterShort o g = both (is_white o) (g 1) (both (o == 125) (g 2) (g 0))
-  lob_octet lobs.AfterLong o g = both (is_white o) (g 1) (both (o == 125) (g 2) (both (o == 39) (g 3) (g 0)))
-  lob_octet lobs.AfterQuote o g = both (o == 39) (g 1) (g 0)
-  lob_octet lobs.AfterQuotes o g = both (o == 39) (g 1) (g 0)
-  lob_octet lobs.ClobClose o g = both (o == 125) (g 1) (g 0)
+  lob_octet Lob.Start o g = both (is_white o) (g 3) (both (o == 34) (g 4) (both (o == 39) (g 5) (both (o == 125) (g 0) (both (is_base64 o) (g 1) (g 2)))))
+  lob_octet Lob.StartQuote o g = both (o == 39) (g 1) (g 0)
+  lob_octet Lob.StartQuotes o g = both (o == 39) (g 1) (g 0)
+  lob_octet Lob.Base64 o g = both (is_white o) (g 3) (both (o == 125) (g 0) (both (is_base64 o) (g 1) (g 2)))
+  lob_octet Lob.BlobClose o g = both (o == 125) (g 1) (g 0)
+  lob_octet Lob.AfterShort o g = both (is_white o) (g 1) (both (o == 125) (g 2) (g 0))
+  lob_octet Lob.AfterLong o g = both (is_white o) (g 1) (both (o == 125) (g 2) (both (o == 39) (g 3) (g 0)))
+  lob_octet Lob.AfterQuote o g = both (o == 39) (g 1) (g 0)
+  lob_octet Lob.AfterQuotes o g = both (o == 39) (g 1) (g 0)
+  lob_octet Lob.ClobClose o g = both (o == 125) (g 1) (g 0)
 
   walk : (p : Place) (colon : Bool) (m : Mode) (o : ℕ) → Pass f (rows (is_sexp p) (is_last m) m) → f (next p colon m o) ≡ true
-  walk p colon modes.Blank o g = blank p colon o (g (taken o))
-  walk p colon modes.Slash o g =
+  walk p colon Mode.Blank o g = blank p colon o (g (taken o))
+  walk p colon Mode.Slash o g =
       both (o == 47) (g (taken o) 0) (both (o == 42) (g (taken o) 1) (slash (is_sexp p) (is_operator_octet o) _ _ (g (taken o))))
-  walk p colon modes.LineComment o g = comment (is_line_end o)
+  walk p colon Mode.LineComment o g = comment (is_line_end o)
     where
-      comment : (b : Bool) → f (go (cond b modes.Blank modes.LineComment)) ≡ true
+      comment : (b : Bool) → f (go (cond b Mode.Blank Mode.LineComment)) ≡ true
       comment true = g (taken o) 0
       comment false = g (taken o) 1
-  walk p colon modes.BlockComment o g = comment (o == 42)
+  walk p colon Mode.BlockComment o g = comment (o == 42)
     where
-      comment : (b : Bool) → f (go (cond b modes.BlockCommentStar modes.BlockComment)) ≡ true
+      comment : (b : Bool) → f (go (cond b Mode.BlockCommentStar Mode.BlockComment)) ≡ true
       comment true = g (taken o) 0
       comment false = g (taken o) 1
-  walk p colon modes.BlockCommentStar o g = both (o == 47) (g (taken o) 0) (both (o == 42) (g (taken o) 1) (g (taken o) 2))
-  walk p colon modes.Colon o g = both (o == 58) (g (taken o) 0) (g (taken o) 1)
-  walk p colon modes.Word o g = both (is_word_octet o) (g (taken o) 0) (g (taken o) 1)
-  walk p colon modes.KindName o g = both (is_word_octet o) (g (taken o) 0) (g (taken o) 1)
-  walk p colon modes.Number o g = both (is_stop o) (g (taken o) 0) (both (o == 47) (g (taken o) 1) (g (taken o) 2))
-  walk p colon modes.NumberSlash o g = both ((o == 47) || (o == 42)) (g (taken o) 0) (both (is_stop o) (g (taken o) 1) (g (taken o) 2))
-  walk p colon (modes.Operator e) o g = operator p e o (g (taken o))
-  walk p colon modes.OperatorSlash o g = both ((o == 47) || (o == 42)) (g (taken o) 0) (both (is_operator_octet o) (g (taken o) 1) (g (taken o) 2))
-  walk p colon (modes.Infinity letters) o g = infinity p letters o (g (taken o))
-  walk p colon modes.Quote o g = first (o == 39) refl
+  walk p colon Mode.BlockCommentStar o g = both (o == 47) (g (taken o) 0) (both (o == 42) (g (taken o) 1) (g (taken o) 2))
+  walk p colon Mode.Colon o g = both (o == 58) (g (taken o) 0) (g (taken o) 1)
+  walk p colon Mode.Word o g = both (is_word_octet o) (g (taken o) 0) (g (taken o) 1)
+  walk p colon Mode.KindName o g = both (is_word_octet o) (g (taken o) 0) (g (taken o) 1)
+  walk p colon Mode.Number o g = both (is_stop o) (g (taken o) 0) (both (o == 47) (g (taken o) 1) (g (taken o) 2))
+  walk p colon Mode.NumberSlash o g = both ((o == 47) || (o == 42)) (g (taken o) 0) (both (is_stop o) (g (taken o) 1) (g (taken o) 2))
+  walk p colon (Mode.Operator e) o g = operator p e o (g (taken o))
+  walk p colon Mode.OperatorSlash o g = both ((o == 47) || (o == 42)) (g (taken o) 0) (both (is_operator_octet o) (g (taken o) 1) (g (taken o) 2))
+  walk p colon (Mode.Infinity letters) o g = infinity p letters o (g (taken o))
+  walk p colon Mode.Quote o g = first (o == 39) refl
     where
       -- a second quote isn't taken for the close of the text
-      first : (b : Bool) → (o == 39) ≡ b → f (cond b (go modes.Quotes) (raw styles.QuotedSymbol o)) ≡ true
+      first : (b : Bool) → (o == 39) ≡ b → f (cond b (go Mode.Quotes) (raw Style.QuotedSymbol o)) ≡ true
       first true e = g (taken o) 0
-      first false e = raw_octet styles.QuotedSymbol (λ t k. g t (suc k)) o (λ q. absurd (let n : true ≡ false = sym q ∙ e in cc))
-  walk p colon modes.Quotes o g = both (o == 39) (g (taken o) 0) (g (taken o) 1)
-  walk p colon (modes.Text s w) o g = text_octet s w o g
-  walk p colon modes.Brace o g = both (o == 123) (g (taken o) 0) (g (taken o) 1)
-  walk p colon (modes.Lob l) o g = lob_octet l o (g (taken o))
+      first false e = raw_octet Style.QuotedSymbol (λ t k. g t (suc k)) o (λ q. absurd (let n : true ≡ false = sym q ∙ e in cc))
+  walk p colon Mode.Quotes o g = both (o == 39) (g (taken o) 0) (g (taken o) 1)
+  walk p colon (Mode.Text s w) o g = text_octet s w o g
+  walk p colon Mode.Brace o g = both (o == 123) (g (taken o) 0) (g (taken o) 1)
+  walk p colon (Mode.Lob l) o g = lob_octet l o (g (taken o))
 
   -- What passes in each row of a mode passes for what an octet does there.
   pub by_mode : (p : Place) (colon : Bool) (m : Mode) (o : ℕ) → ((t : Taken) → list_all f (rows (is_sexp p) (is_last m) m t) ≡ true)

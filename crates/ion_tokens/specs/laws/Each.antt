@@ -1,7 +1,7 @@
 -- Octets of one class, in a row. Crates above cite these names.
 use Rattle.std.proofs.Common.{◌≡◌, ℕ, Bool, true, List, [], ◌∷◌, ◌++◌}
 use Rattle.std.proofs.lemmas.Bool.{false≢true}
-use Rattle.ion_tokens.specs.Lexemes.{Each, begins}
+use Rattle.ion_tokens.specs.Names.{Each, begins}
 
 -- octets of a class behind octets of the class are all of the class
 pub each_append : (class : ℕ → Bool) (xs ys : List ℕ) → Each class xs → Each class ys → Each class (xs ++ ys)

@@ -2,35 +2,26 @@
 use Rattle.std.proofs.Common.{◌≡◌, ℕ, Bool, true, false, cond, List, [], refl, sym, ◌∙◌, Option, Some, None}
 use Rattle.std.specs.Prelude.{◌==◌, ◌&&◌, ◌||◌, not, bytes_eq, codes}
 use Rattle.std.proofs.lemmas.Bool.{and_parts}
-use Rattle.ion_tokens.specs.declared.mode.Place.{Place}
-use Rattle.ion_tokens.specs.declared.mode.Mode.{Mode}
-use Rattle.ion_tokens.specs.declared.mode.Mode.TheVariants as modes
-use Rattle.ion_tokens.specs.declared.mode.TokenKind.TheVariants as kinds
-use Rattle.ion_tokens.specs.declared.mode.Action.{Action}
-use Rattle.ion_tokens.specs.declared.mode.Action.TheVariants as actions
-use Rattle.ion_tokens.specs.machine.Table.{next, is_sexp}
-use Rattle.ion_tokens.specs.Blobs.{blob_of}
-use Rattle.ion_tokens.specs.machine.Bounds.{is_idle}
-use Rattle.ion_tokens.specs.machine.Scanning.{Known, Next, Left, acts, blob_ends, go_to, cut, past, feed}
+use Rattle.ion_tokens.specs.Names.{Action, Known, Left, Mode, Next, Place, TokenKind, acts, blob_ends, blob_of, cut, feed, go_to, is_idle, is_segment, is_sexp, past}
+use Rattle.ion_tokens.specs.machine.Ahead.{Follows, is_closing, is_mark, is_quoting, is_sane}
+use Rattle.ion_tokens.specs.machine.Table.{next}
 use Rattle.ion_tokens.specs.laws.ByRows.{by_rows_where, modes_imply}
-use Rattle.ion_tokens.specs.machine.Ahead.{is_quoting, is_mark, is_closing, is_sane, Follows}
-use Rattle.ion_tokens.specs.Lexemes.{is_segment}
 
 -- the mode in which the octet behind a token is taken up again
 abbrev is_left : Mode → Bool
-is_left modes.Blank = true
-is_left modes.Slash = true
+is_left Mode.Blank = true
+is_left Mode.Slash = true
 is_left _ = false
 
 -- in an s-expression or not, from a mode that is idle, or quoting
 abbrev action_follows : Bool → Bool → Bool → Action → Bool
-action_follows sexp idle quoting (actions.Go n k) = is_sane n && (idle || (not (is_idle n) && (not (is_quoting n) || quoting)))
-action_follows sexp idle quoting (actions.Give kind k) = idle || (not (is_mark kind) && (not (is_segment kind) || quoting))
-action_follows sexp idle quoting (actions.Before kind k n) = is_left n && (idle || not (is_closing kind))
-action_follows sexp idle quoting actions.EndWord = not idle
-action_follows sexp idle quoting (actions.Split n) = sexp && not idle
-action_follows sexp idle quoting actions.EndBlob = not idle
-action_follows sexp idle quoting (actions.Refuse e) = true
+action_follows sexp idle quoting (Action.Go n k) = is_sane n && (idle || (not (is_idle n) && (not (is_quoting n) || quoting)))
+action_follows sexp idle quoting (Action.Give kind k) = idle || (not (is_mark kind) && (not (is_segment kind) || quoting))
+action_follows sexp idle quoting (Action.Before kind k n) = is_left n && (idle || not (is_closing kind))
+action_follows sexp idle quoting Action.EndWord = not idle
+action_follows sexp idle quoting (Action.Split n) = sexp && not idle
+action_follows sexp idle quoting Action.EndBlob = not idle
+action_follows sexp idle quoting (Action.Refuse e) = true
 
 -- What the table does follows.
 table_follows : (p : Place) (colon : Bool) (m : Mode) (o : ℕ) → is_sane m ≡ true
@@ -56,27 +47,27 @@ blob_follows p s (Some octets) n = (refl, (λ e. refl), (λ e f. refl))
 
 acts_follow : (p : Place) (s : Known) (o : ℕ) (a : Action) → action_follows (is_sexp p) (is_idle s.mode) (is_quoting s.mode) a ≡ true
     → Follows p s.mode (acts p s o a)
-acts_follow p s o (actions.Go n k) h =
+acts_follow p s o (Action.Go n k) h =
     let x = and_parts _ _ h in
     let w = went (is_idle s.mode) (is_quoting s.mode) (is_idle n) (is_quoting n) x.1 in
     (x.0, w.0, w.1)
-acts_follow p s o (actions.Give kind k) h = went (is_idle s.mode) (is_quoting s.mode) (is_mark kind) (is_segment kind) h
-acts_follow p s o (actions.Before kind k n) h =
+acts_follow p s o (Action.Give kind k) h = went (is_idle s.mode) (is_quoting s.mode) (is_mark kind) (is_segment kind) h
+acts_follow p s o (Action.Before kind k n) h =
     let x = and_parts _ _ h in
     ((λ e. modes_imply is_left is_idle (λ c. refl) n x.0), (λ e. or_not (is_idle s.mode) (is_closing kind) x.1 e))
   where
     or_not : (i c : Bool) → (i || not c) ≡ true → i ≡ false → c ≡ false
     or_not true c h e = absurd cc
     or_not false c h e = not_true c h
-acts_follow p s o actions.EndWord h = word ((o == 46) && bytes_eq s.kept (codes "null"))
+acts_follow p s o Action.EndWord h = word ((o == 46) && bytes_eq s.kept (codes "null"))
   where
-    word : (b : Bool) → Follows p s.mode (cond b (Next (go_to s modes.KindName []))
-        (Left (cut s kinds.Word s.kept s.used) (past p kinds.Word modes.Blank [] s.used s.used)))
+    word : (b : Bool) → Follows p s.mode (cond b (Next (go_to s Mode.KindName []))
+        (Left (cut s TokenKind.Word s.kept s.used) (past p TokenKind.Word Mode.Blank [] s.used s.used)))
     word true = (refl, (λ e. refl), (λ e f. refl))
     word false = ((λ e. refl), (λ e. refl))
-acts_follow p s o (actions.Split n) h = let x = and_parts _ _ h in ((λ e. let never : true ≡ false = sym x.0 ∙ e in absurd cc), (λ e. refl))
-acts_follow p s o actions.EndBlob h = blob_follows p s (blob_of s.kept) (not_true (is_idle s.mode) h)
-acts_follow p s o (actions.Refuse e) h = tt
+acts_follow p s o (Action.Split n) h = let x = and_parts _ _ h in ((λ e. let never : true ≡ false = sym x.0 ∙ e in absurd cc), (λ e. refl))
+acts_follow p s o Action.EndBlob h = blob_follows p s (blob_of s.kept) (not_true (is_idle s.mode) h)
+acts_follow p s o (Action.Refuse e) h = tt
 
 -- What comes of an octet where quotes are kept open in long texts alone.
 pub feed_follows : (p : Place) (s : Known) (o : ℕ) → is_sane s.mode ≡ true → Follows p s.mode (feed p s o)

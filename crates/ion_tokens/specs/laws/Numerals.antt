@@ -7,19 +7,14 @@ use Rattle.std.specs.List.{list_any}
 use Rattle.std.proofs.lemmas.Bool.{false≢true}
 use Rattle.std.proofs.lemmas.Bool.Decides.{nat_tests}
 use Rattle.std.proofs.lemmas.List.{take_all, take_more, take-append-drop}
-use Rattle.ion_scalar.specs.text.Ints.{IsDigits, IsWholePart, IsRadix, IsMagnitude, minus}
-use Rattle.ion_scalar.specs.text.Decimals.{IsSigned, IsLetter, IsExponent, IsEnd, IsFraction, IsTail, IsDecimalBody}
-use Rattle.ion_scalar.specs.text.Timestamps.{IsAt, IsDigitAt, AreTwoAt, BeginsWithMonth, BeginsWithDay, BeginsWithMinute, BeginsWithSecond, IsOffsetToken, IsDay, IsFractionEnd, IsTimestampToken}
-use Rattle.ion_scalar.specs.text.Timestamps.IsTimestampToken.{year, month, day, minute, second, fraction}
-use Rattle.ion_scalar.specs.text.Numbers.{IsBehind, IsNumeral, IsNumber, ReadsNumber}
-use Rattle.ion_scalar.specs.text.laws.OneRun.{first_digit}
-use Rattle.ion_scalar.specs.text.laws.DecimalCuts.{whole_digits}
-use Rattle.ion_scalar.specs.declared.number.Number.{Number}
-use Rattle.ion_scalar.specs.declared.number.Number.TheVariants as numbers
+use Rattle.ion_tokens.specs.Names.{Each, IsBehind, IsDigits, IsMagnitude, IsNumber, IsNumeral, IsRadix, IsWholePart, Number, ReadsNumber, begins, begins_number, is_digit, is_stop, minus}
 use Rattle.ion_atoms.specs.Timestamps.{TimestampParts}
-use Rattle.ion_tokens.specs.Octets.{is_digit, is_stop}
-use Rattle.ion_tokens.specs.Lexemes.{Each, begins, begins_number}
-use Rattle.ion_tokens.specs.laws.Each.{each_append, each_last, begins_more}
+use Rattle.ion_scalar.specs.text.Decimals.{IsDecimalBody, IsEnd, IsExponent, IsFraction, IsLetter, IsSigned, IsTail}
+use Rattle.ion_scalar.specs.text.Timestamps.{AreTwoAt, BeginsWithDay, BeginsWithMinute, BeginsWithMonth, BeginsWithSecond, IsAt, IsDay, IsDigitAt, IsFractionEnd, IsOffsetToken, IsTimestampToken}
+use Rattle.ion_scalar.specs.text.Timestamps.IsTimestampToken.{day, fraction, minute, month, second, year}
+use Rattle.ion_scalar.specs.text.laws.DecimalCuts.{whole_digits}
+use Rattle.ion_scalar.specs.text.laws.OneRun.{first_digit}
+use Rattle.ion_tokens.specs.laws.Each.{begins_more, each_append, each_last}
 
 -- what may stand in a numeric token: no stop character, and no `/`
 abbrev pub is_numeric_octet : ℕ → Bool
@@ -137,10 +132,10 @@ behind_sign false body h k = record { begun = digit_begins body h; each = k }
 numeral_run : (token : List ℕ) (x : Number) → IsNumeral token x → IsNumericRun token
 numeral_run token x h = subst IsNumericRun (sym h.octets) (by x h.is) where
   by : (x : Number) → IsBehind h.negative h.body x → IsNumericRun (minus h.negative ++ h.body)
-  by (numbers.Int z) (n, m, e) = behind_sign h.negative h.body (magnitude_begins h.body n m) (magnitude_numeric h.body n m)
-  by (numbers.Decimal d) (s, b) = behind_sign h.negative h.body (decimal_begins h.body d.magnitude d.exponent b)
+  by (Number.Int z) (n, m, e) = behind_sign h.negative h.body (magnitude_begins h.body n m) (magnitude_numeric h.body n m)
+  by (Number.Decimal d) (s, b) = behind_sign h.negative h.body (decimal_begins h.body d.magnitude d.exponent b)
       (decimal_numeric h.body d.magnitude d.exponent b)
-  by (numbers.Timestamp t) b = absurd b
+  by (Number.Timestamp t) b = absurd b
 
 -- timestamps: octets that may stand in a numeric token up to a place, and from there to the next
 abbrev front : List ℕ → ℕ → Type 0
@@ -214,9 +209,9 @@ timestamp_digit os t (second h k) = h.0.0.0.0.0.0
 timestamp_digit os t (fraction h k digits rest e) = h.0.0.0.0.0.0
 
 number_run : (token : List ℕ) (x : Number) → IsNumber token x → IsNumericRun token
-number_run token (numbers.Int z) h = numeral_run token (numbers.Int z) h
-number_run token (numbers.Decimal d) h = numeral_run token (numbers.Decimal d) h
-number_run token (numbers.Timestamp t) h = record { begun = place_begins token (timestamp_digit token t h); each = timestamp_numeric token t h }
+number_run token (Number.Int z) h = numeral_run token (Number.Int z) h
+number_run token (Number.Decimal d) h = numeral_run token (Number.Decimal d) h
+number_run token (Number.Timestamp t) h = record { begun = place_begins token (timestamp_digit token t h); each = timestamp_numeric token t h }
 
 -- What reads as a number is a numeric token.
 pub numeric_run : (token : List ℕ) (x : Number) → ReadsNumber token (Ok x) → IsNumericRun token

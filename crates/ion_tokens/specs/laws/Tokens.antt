@@ -1,14 +1,6 @@
 -- What the scanner's calls have to do with the grammar of tokens.
 use Rattle.std.specs.Prelude.{◌≡◌, ℕ, false, List, [], ◌∷◌, ◌++◌, Option, Ok, option_to_list}
-use Rattle.ion_tokens.specs.declared.mode.Place.{Place}
-use Rattle.ion_tokens.specs.declared.token.Begun.{Begun}
-use Rattle.ion_tokens.specs.Blobs.{AreOctets}
-use Rattle.ion_tokens.specs.Bodies.{IsBody}
-use Rattle.ion_tokens.specs.machine.Scanning.{Known}
-use Rattle.ion_tokens.specs.Lexemes.{Lexeme}
-use Rattle.ion_tokens.specs.machine.Traces.{Told, Places, trace}
-use Rattle.ion_tokens.specs.Lexed.{Placed, Lexes, BeginsLexed, LooksIn}
-use Rattle.ion_tokens.specs.machine.Scanned.{Scanned, Continues, ShowsBegun}
+use Rattle.ion_tokens.specs.Names.{AreOctets, BeginsLexed, Begun, Continues, IsBody, Known, Lexeme, Lexes, LooksIn, Place, Placed, Places, Scanned, ShowsBegun, Told, trace}
 
 -- The octets used begin with the tokens told, each at its span, with blanks alone between them, however they go on.
 abbrev pub TellsRightly : Type 0

@@ -4,21 +4,8 @@ use Rattle.std.specs.List.{flat_map, AllByRecursion}
 use Rattle.std.proofs.lemmas.Bool.{false≢true}
 use Rattle.std.proofs.lemmas.Bool.Decides.{nat_tests}
 use Rattle.std.proofs.lemmas.Str.{encode_ascii}
-use Rattle.ion_atoms.specs.declared.kind.Kind.{Kind}
-use Rattle.ion_atoms.specs.declared.refusal.Reason.{Reason}
-use Rattle.ion_scalar.specs.text.Numbers.{Fits, IsThere}
-use Rattle.ion_tokens.specs.Octets.{escaped, hexadecimal_digit}
-use Rattle.ion_tokens.specs.Blobs.{AreOctets}
-use Rattle.ion_tokens.specs.declared.mode.Place.{Place}
-use Rattle.ion_tokens.specs.declared.mode.Style.{Style}
-use Rattle.ion_tokens.specs.declared.mode.Style.TheVariants as styles
-use Rattle.ion_tokens.specs.declared.mode.TokenKind.{TokenKind}
-use Rattle.ion_tokens.specs.declared.mode.TokenKind.TheVariants as kinds
-use Rattle.ion_tokens.specs.machine.Table.{is_clob}
-use Rattle.ion_tokens.specs.Quoted.{Element, Raw, RawLine, Simple, Hidden, Hex, Pair, IsElement, IsHexAfter, hex_length, meaning, IsQuoted}
-use Rattle.ion_tokens.specs.Lexed.{Placed, LexesBefore, colon_behind}
-use Rattle.ion_tokens.specs.Lexemes.{IsLexeme, Segment, IsSegment, IsClobContent, ShortText, LongTexts}
-use Rattle.ion_tokens.specs.Bodies.{Content, Word, Id, Quoted, Short, Long, Number', TypedNull, Operator, Clob, Blob, Mark', IsBody, IsWordBody, SaysNumber, null_of, kind_named, id_of}
+use Rattle.ion_tokens.specs.Names.{AreOctets, Blob, Clob, Content, Element, Fits, Hex, Hidden, Id, IsBody, IsClobContent, IsElement, IsHexAfter, IsLexeme, IsQuoted, IsSegment, IsThere, IsWordBody, Kind, LexesBefore, Long, LongTexts, Mark', Number', Operator, Pair, Place, Placed, Quoted, Raw, RawLine, Reason, SaysNumber, Segment, Short, ShortText, Simple, Style, TokenKind, TypedNull, Word, colon_behind, hex_length, hexadecimal_digit, id_of, is_clob, kind_named, meaning, null_of}
+use Rattle.ion_tokens.specs.Octets.{escaped}
 use Rattle.ion_tokens.specs.laws.Blobs.{octets_append}
 
 -- 1. The octets of a lob.
@@ -58,30 +45,30 @@ quoted_octets s w octets k h = subst AreOctets (sym h.means) (elements_octets s 
 
 segments_octets : (gs : List Segment) → AllByRecursion IsSegment gs → AreOctets (flat_map (λ (g : Segment). g.octets) gs)
 segments_octets [] h = tt
-segments_octets (g ∷ gs) h = octets_append g.octets _ (quoted_octets styles.LongClob g.content g.octets refl h.0.0) (segments_octets gs h.1)
+segments_octets (g ∷ gs) h = octets_append g.octets _ (quoted_octets Style.LongClob g.content g.octets refl h.0.0) (segments_octets gs h.1)
 
 clob_octets : (content octets : List ℕ) → IsClobContent content octets → AreOctets octets
-clob_octets content octets (ShortText before text after b q a e) = quoted_octets styles.ShortClob text octets refl q
+clob_octets content octets (ShortText before text after b q a e) = quoted_octets Style.ShortClob text octets refl q
 clob_octets content octets (LongTexts before gs b n h e f) = subst AreOctets (sym f) (segments_octets gs h)
 
 -- what is known of what is kept of a token of that kind: of a clob and a blob, octets
 abbrev pub IsLobKept : TokenKind → List ℕ → Type 0
-IsLobKept kinds.Clob octets = AreOctets octets
-IsLobKept kinds.Blob octets = AreOctets octets
+IsLobKept TokenKind.Clob octets = AreOctets octets
+IsLobKept TokenKind.Blob octets = AreOctets octets
 IsLobKept _ octets = Unit {0}
 
 -- The octets of the lobs of the grammar are octets.
 pub lexeme_kept : (p : Place) (colon : Bool) (w r : List ℕ) (k : TokenKind) (octets : List ℕ) → IsLexeme p colon w r k octets → IsLobKept k octets
-lexeme_kept p colon w r kinds.Clob octets (n, content, h, e) = clob_octets content octets h
-lexeme_kept p colon w r kinds.Blob octets (n, content, h, e) = h.1.octets_are
-lexeme_kept p colon w r kinds.Word octets h = tt
-lexeme_kept p colon w r kinds.KindName octets h = tt
-lexeme_kept p colon w r kinds.Number octets h = tt
-lexeme_kept p colon w r kinds.Operator octets h = tt
-lexeme_kept p colon w r kinds.QuotedSymbol octets h = tt
-lexeme_kept p colon w r kinds.ShortString octets h = tt
-lexeme_kept p colon w r kinds.LongString octets h = tt
-lexeme_kept p colon w r (kinds.Mark m) octets h = tt
+lexeme_kept p colon w r TokenKind.Clob octets (n, content, h, e) = clob_octets content octets h
+lexeme_kept p colon w r TokenKind.Blob octets (n, content, h, e) = h.1.octets_are
+lexeme_kept p colon w r TokenKind.Word octets h = tt
+lexeme_kept p colon w r TokenKind.KindName octets h = tt
+lexeme_kept p colon w r TokenKind.Number octets h = tt
+lexeme_kept p colon w r TokenKind.Operator octets h = tt
+lexeme_kept p colon w r TokenKind.QuotedSymbol octets h = tt
+lexeme_kept p colon w r TokenKind.ShortString octets h = tt
+lexeme_kept p colon w r TokenKind.LongString octets h = tt
+lexeme_kept p colon w r (TokenKind.Mark m) octets h = tt
 
 -- 2. What a token says.
 
@@ -126,16 +113,16 @@ null_kept c (Some k) e = said_by c (TypedNull k) (ok_same c (TypedNull k) e) tt
 
 -- Texts are UTF-8, and numbers are there and in range.
 pub body_kept : (k : TokenKind) (octets : List ℕ) (c : Content) → IsLobKept k octets → IsBody k octets (Ok c) → IsContentKept c
-body_kept kinds.Word octets c l h = word_kept octets c (id_of octets) h
-body_kept kinds.KindName octets c l h = null_kept c (kind_named octets) h
-body_kept kinds.Number octets c l h = number_kept octets c h
-body_kept kinds.Operator octets c l (e, u) = said_by c (Operator octets) e u
-body_kept kinds.QuotedSymbol octets c l (e, u) = said_by c (Quoted octets) e u
-body_kept kinds.ShortString octets c l (e, u) = said_by c (Short octets) e u
-body_kept kinds.LongString octets c l (e, u) = said_by c (Long octets) e u
-body_kept kinds.Clob octets c l e = said_by c (Clob octets) (ok_same c (Clob octets) e) l
-body_kept kinds.Blob octets c l e = said_by c (Blob octets) (ok_same c (Blob octets) e) l
-body_kept (kinds.Mark m) octets c l e = said_by c (Mark' m) (ok_same c (Mark' m) e) tt
+body_kept TokenKind.Word octets c l h = word_kept octets c (id_of octets) h
+body_kept TokenKind.KindName octets c l h = null_kept c (kind_named octets) h
+body_kept TokenKind.Number octets c l h = number_kept octets c h
+body_kept TokenKind.Operator octets c l (e, u) = said_by c (Operator octets) e u
+body_kept TokenKind.QuotedSymbol octets c l (e, u) = said_by c (Quoted octets) e u
+body_kept TokenKind.ShortString octets c l (e, u) = said_by c (Short octets) e u
+body_kept TokenKind.LongString octets c l (e, u) = said_by c (Long octets) e u
+body_kept TokenKind.Clob octets c l e = said_by c (Clob octets) (ok_same c (Clob octets) e) l
+body_kept TokenKind.Blob octets c l e = said_by c (Blob octets) (ok_same c (Blob octets) e) l
+body_kept (TokenKind.Mark m) octets c l e = said_by c (Mark' m) (ok_same c (Mark' m) e) tt
 
 -- 3. The tokens of a document.
 

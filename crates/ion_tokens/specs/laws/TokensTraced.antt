@@ -1,11 +1,7 @@
 -- The trace of octets that are tokens.
 use Rattle.std.specs.Prelude.{◌≡◌, ◌⊎◌, ℕ, false, List, [], ◌∷◌, ◌++◌, length, Option, Ok, Err, option_to_list}
-use Rattle.ion_atoms.specs.declared.refusal.Reason.TheVariants.{Incomplete}
-use Rattle.ion_tokens.specs.declared.mode.TokenKind.TheVariants as kinds
-use Rattle.ion_tokens.specs.machine.Traces.{Told, Places, trace}
-use Rattle.ion_tokens.specs.machine.Scanned.{AllSay}
-use Rattle.ion_tokens.specs.Lexed.{Placed, Lexes}
-use Rattle.ion_tokens.specs.laws.Tokens.{TellsLexeme, AreTold}
+use Rattle.ion_tokens.specs.Names.{AllSay, Incomplete, Lexes, Placed, Places, TokenKind, Told, trace}
+use Rattle.ion_tokens.specs.laws.Tokens.{AreTold, TellsLexeme}
 
 -- Behind tokens told before, each of these tokens is looked for where those before it lead, whatever the totals at which they come.
 abbrev pub AreSought : Places → List Told → List Placed → Type 0
@@ -18,8 +14,8 @@ pub record EndsInOperand (ts : List Placed) : Type 0 where
   pub operator : Placed
   pub word : Placed
   pub are : ts ≡ front ++ operator ∷ word ∷ []
-  pub is_operator : operator.lexeme.kind ≡ kinds.Operator
-  pub is_word : word.lexeme.kind ≡ kinds.Word
+  pub is_operator : operator.lexeme.kind ≡ TokenKind.Operator
+  pub is_word : word.lexeme.kind ≡ TokenKind.Word
   pub directly : word.lexeme.start ≡ operator.lexeme.end
 
 -- Octets that are tokens which say something, with blanks between, and each of which is looked for where those before it lead: their

@@ -1,46 +1,31 @@
 -- What one octet can do to what is open: the words for who looks one octet ahead. Crates above cite these names.
 use Rattle.std.specs.Prelude.{◌≡◌, ℕ, Bool, true, false, ◌==◌, ◌&&◌, ◌||◌, List, [], ◌∷◌}
-use Rattle.ion_tokens.specs.declared.mode.Place.{Place}
-use Rattle.ion_tokens.specs.declared.mode.Within.TheVariants as within
-use Rattle.ion_tokens.specs.declared.mode.Mode.{Mode}
-use Rattle.ion_tokens.specs.declared.mode.Mode.TheVariants as modes
-use Rattle.ion_tokens.specs.declared.mode.Mark.TheVariants as marks
-use Rattle.ion_tokens.specs.declared.mode.TokenKind.{TokenKind}
-use Rattle.ion_tokens.specs.declared.mode.TokenKind.TheVariants as kinds
-use Rattle.ion_tokens.specs.declared.token.Form.{Form}
-use Rattle.ion_tokens.specs.declared.token.Form.TheVariants as forms
-use Rattle.ion_tokens.specs.Ascii.{slash, asterisk}
-use Rattle.ion_tokens.specs.Places.{is_sexp}
-use Rattle.ion_tokens.specs.Styles.{is_long}
-use Rattle.ion_tokens.specs.Lexemes.{is_segment}
-use Rattle.ion_tokens.specs.machine.Bounds.{is_idle}
-use Rattle.ion_tokens.specs.machine.Views.{form_of}
-use Rattle.ion_tokens.specs.machine.Scanning.{Known, Outcome, Next, Given, Left, Refused, feed}
+use Rattle.ion_tokens.specs.Names.{Form, Given, Known, Left, Mark, Mode, Next, Outcome, Place, Refused, TokenKind, Within, asterisk, feed, form_of, is_idle, is_long, is_segment, is_sexp, slash}
 
 -- the token is a quoted symbol
 abbrev pub is_quoted : TokenKind → Bool
-is_quoted kinds.QuotedSymbol = true
+is_quoted TokenKind.QuotedSymbol = true
 is_quoted _ = false
 
 -- the token is a mark
 abbrev pub is_mark : TokenKind → Bool
-is_mark (kinds.Mark m) = true
+is_mark (TokenKind.Mark m) = true
 is_mark _ = false
 
 -- the token is `::`
 abbrev pub is_colons : TokenKind → Bool
-is_colons (kinds.Mark marks.Colons) = true
+is_colons (TokenKind.Mark Mark.Colons) = true
 is_colons _ = false
 
 -- a mark that is whole with its last octet, or a colon
 abbrev pub is_closing : TokenKind → Bool
-is_closing (kinds.Mark marks.FieldsOpen) = false
-is_closing (kinds.Mark m) = true
+is_closing (TokenKind.Mark Mark.FieldsOpen) = false
+is_closing (TokenKind.Mark m) = true
 is_closing _ = false
 
 -- a quote that may be a segment of a long string, or a segment
 abbrev pub is_long_form : Form → Bool
-is_long_form forms.Other = false
+is_long_form Form.Other = false
 is_long_form _ = true
 
 -- a quote is open that may be a segment of a long string, or a segment
@@ -49,8 +34,8 @@ is_quoting m = is_long_form (form_of m)
 
 -- one or two raw quotes are kept open in long texts alone
 abbrev pub is_sane : Mode → Bool
-is_sane (modes.Text s within.OneQuote) = is_long s
-is_sane (modes.Text s within.TwoQuotes) = is_long s
+is_sane (Mode.Text s Within.OneQuote) = is_long s
+is_sane (Mode.Text s Within.TwoQuotes) = is_long s
 is_sane _ = true
 
 -- What comes of an octet: a token that has begun isn't forgotten; a segment of a long string comes of what may be one; marks of one
@@ -69,9 +54,9 @@ IsUsed _ = Unit {0}
 
 -- the mode in which an octet is looked at again: a blank; behind the `/` of a comment that it opens; or behind letters of a word
 abbrev pub LeftIn : ℕ → Mode → Type 0
-LeftIn o modes.Blank = Unit {0}
-LeftIn o modes.Slash = ((o == slash) || (o == asterisk)) ≡ true
-LeftIn o modes.Word = Unit {0}
+LeftIn o Mode.Blank = Unit {0}
+LeftIn o Mode.Slash = ((o == slash) || (o == asterisk)) ≡ true
+LeftIn o Mode.Word = Unit {0}
 LeftIn o _ = ⊥
 
 -- a token that is left before this octet leaves it in such a mode

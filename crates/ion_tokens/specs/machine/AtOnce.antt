@@ -1,15 +1,12 @@
 -- Octets with which a mode goes on as it is, taken up at once.
 use Rattle.std.specs.Prelude.{ℕ, ◌+◌, ◌-◌, ◌==◌, Bool, true, false, ◌&&◌, ◌||◌, not, if◌then◌else◌, nat_le, List, ◌++◌, length, IsTrue, IsUtf8}
-use Rattle.ion_tokens.specs.declared.mode.Style.{Style}
-use Rattle.ion_tokens.specs.declared.mode.Mode.{Mode}
-use Rattle.ion_tokens.specs.declared.mode.Within.TheVariants as within
-use Rattle.ion_tokens.specs.declared.mode.Lob.TheVariants as lobs
-use Rattle.ion_tokens.specs.declared.mode.Mode.TheVariants as modes
-use Rattle.ion_tokens.specs.Ascii.{line_feed, asterisk, slash, backslash}
-use Rattle.ion_tokens.specs.Octets.{is_white, is_line_end, is_word_octet, is_stop, is_base64, is_operator_octet}
+use Rattle.ion_tokens.specs.Names.Below.{Lob, Mode, Style, Within}
+use Rattle.ion_tokens.specs.Ascii.{asterisk, backslash, line_feed, slash}
 use Rattle.ion_tokens.specs.Lexemes.{Each}
-use Rattle.ion_tokens.specs.machine.Table.{is_long, is_clob, quote_of, stands}
+use Rattle.ion_tokens.specs.Octets.{is_base64, is_line_end, is_operator_octet, is_stop, is_white, is_word_octet}
+use Rattle.ion_tokens.specs.Styles.{is_clob, is_long, quote_of}
 use Rattle.ion_tokens.specs.machine.Scanning.{Known, start_of}
+use Rattle.ion_tokens.specs.machine.Table.{stands}
 
 -- an ASCII character that a text in these quotes, long or not, keeps as it is, and no quote
 abbrev pub is_between : Bool → ℕ → ℕ → Bool
@@ -37,25 +34,25 @@ is_plain_operator o = is_operator_octet o && not (o == slash)
 
 -- the mode goes on as it is with this octet; of modes in which few such octets come in a row none is counted
 abbrev pub goes_on : Mode → ℕ → Bool
-goes_on modes.Blank o = is_white o
-goes_on modes.LineComment o = not (is_line_end o)
-goes_on modes.BlockComment o = not (o == asterisk)
-goes_on modes.Word o = is_word_octet o
-goes_on modes.Number o = is_numeric o
-goes_on (modes.Text s within.Plain) o = is_plain s o
-goes_on (modes.Lob lobs.Base64) o = is_base64 o
+goes_on Mode.Blank o = is_white o
+goes_on Mode.LineComment o = not (is_line_end o)
+goes_on Mode.BlockComment o = not (o == asterisk)
+goes_on Mode.Word o = is_word_octet o
+goes_on Mode.Number o = is_numeric o
+goes_on (Mode.Text s Within.Plain) o = is_plain s o
+goes_on (Mode.Lob Lob.Base64) o = is_base64 o
 goes_on _ o = false
 
 -- Over these octets the mode goes on as it is: it does with each of them, or they are characters that a text keeps as they are.
 abbrev pub GoesOver : Mode → List ℕ → Type 0
-GoesOver (modes.Text s within.Plain) w = AreKept s w
+GoesOver (Mode.Text s Within.Plain) w = AreKept s w
 GoesOver m w = Each (goes_on m) w
 
 -- whether the octets with which the mode goes on are kept; those of a blank aren't
 abbrev pub keeps_them : Mode → Bool
-keeps_them modes.Blank = false
-keeps_them modes.LineComment = false
-keeps_them modes.BlockComment = false
+keeps_them Mode.Blank = false
+keeps_them Mode.LineComment = false
+keeps_them Mode.BlockComment = false
 keeps_them _ = true
 
 -- what the scanner knows behind octets with which its mode goes on, of which there is one at least

@@ -1,52 +1,47 @@
 -- How much a scanner keeps, and how often it looks at an octet.
 use Rattle.std.specs.Prelude.{◌≡◌, ℕ, ◌+◌, ◌-◌, ◌*◌, ◌≤◌, Bool, true, false, [], length}
-use Rattle.ion_tokens.specs.declared.mode.Mode.{Mode}
-use Rattle.ion_tokens.specs.declared.mode.Within.{Within}
-use Rattle.ion_tokens.specs.declared.mode.Lob.{Lob}
-use Rattle.ion_tokens.specs.declared.mode.Mode.TheVariants as modes
-use Rattle.ion_tokens.specs.declared.mode.Within.TheVariants as within
-use Rattle.ion_tokens.specs.declared.mode.Lob.TheVariants as lobs
-use Rattle.ion_tokens.specs.machine.Scanning.{Known, Outcome, Next, Given, Left, Refused, start_of}
+use Rattle.ion_tokens.specs.Names.Below.{Lob, Mode, Within}
+use Rattle.ion_tokens.specs.machine.Scanning.{Given, Known, Left, Next, Outcome, Refused, start_of}
 
 -- no token has begun that surely is one
 abbrev pub is_idle : Mode → Bool
-is_idle modes.Blank = true
-is_idle modes.Slash = true
-is_idle modes.LineComment = true
-is_idle modes.BlockComment = true
-is_idle modes.BlockCommentStar = true
-is_idle modes.Colon = true
+is_idle Mode.Blank = true
+is_idle Mode.Slash = true
+is_idle Mode.LineComment = true
+is_idle Mode.BlockComment = true
+is_idle Mode.BlockCommentStar = true
+is_idle Mode.Colon = true
 is_idle _ = false
 
 -- so many octets of an escape surely aren't kept
 abbrev pub unkept_within : Within → ℕ
-unkept_within within.Escape = 1
-unkept_within (within.Hexadecimal _ left _) = 4 - left
+unkept_within Within.Escape = 1
+unkept_within (Within.Hexadecimal _ left _) = 4 - left
 unkept_within _ = 0
 
 abbrev pub unkept_lob : Lob → ℕ
-unkept_lob lobs.BlobClose = 0
+unkept_lob Lob.BlobClose = 0
 unkept_lob _ = 2
 
 -- so many octets of the open token surely aren't kept
 abbrev pub unkept : Mode → ℕ
-unkept modes.Slash = 1
-unkept modes.NumberSlash = 1
-unkept modes.OperatorSlash = 1
-unkept (modes.Infinity letters) = letters
-unkept modes.Quote = 1
-unkept modes.Quotes = 2
-unkept (modes.Text _ w) = 1 + unkept_within w
-unkept modes.Brace = 1
-unkept (modes.Lob l) = unkept_lob l
+unkept Mode.Slash = 1
+unkept Mode.NumberSlash = 1
+unkept Mode.OperatorSlash = 1
+unkept (Mode.Infinity letters) = letters
+unkept Mode.Quote = 1
+unkept Mode.Quotes = 2
+unkept (Mode.Text _ w) = 1 + unkept_within w
+unkept Mode.Brace = 1
+unkept (Mode.Lob l) = unkept_lob l
 unkept _ = 0
 
 -- so many octets may be taken up again before another is used
 abbrev pub debt : Mode → ℕ
-debt modes.Blank = 0
-debt modes.NumberSlash = 2
-debt modes.OperatorSlash = 2
-debt (modes.Infinity _) = 2
+debt Mode.Blank = 0
+debt Mode.NumberSlash = 2
+debt Mode.OperatorSlash = 2
+debt (Mode.Infinity _) = 2
 debt _ = 1
 
 -- what a scanner that began with no octets always knows, with the octets that it took up

@@ -1,22 +1,16 @@
 -- What stands between the quotes of a text or the braces of a lob that lies whole in memory, and the token that it is.
 use Rattle.std.specs.Prelude.{◌≡◌, ℕ, ◌+◌, Bool, List, ◌++◌, length, ◌||◌, not}
 use Rattle.std.specs.List.{filter}
-use Rattle.ion_tokens.specs.Octets.{is_white, is_base64}
+use Rattle.ion_tokens.specs.Names.Below.{Lob, Mode, Place, Rest, Style, Within}
 use Rattle.ion_tokens.specs.Lexemes.{Each}
-use Rattle.ion_tokens.specs.declared.mode.Place.{Place}
-use Rattle.ion_tokens.specs.declared.mode.Style.{Style}
-use Rattle.ion_tokens.specs.declared.mode.Within.TheVariants as within
-use Rattle.ion_tokens.specs.declared.mode.Lob.{Lob}
-use Rattle.ion_tokens.specs.declared.mode.Lob.TheVariants as lobs
-use Rattle.ion_tokens.specs.declared.mode.Mode.TheVariants as modes
-use Rattle.ion_tokens.specs.declared.plain_tokens.Rest.{Rest}
+use Rattle.ion_tokens.specs.Octets.{is_base64, is_white}
 use Rattle.ion_tokens.specs.declared.token_reader.FoundToken.{FoundToken}
-use Rattle.ion_tokens.specs.machine.Scanning.{Known, run}
 use Rattle.ion_tokens.specs.machine.Rests.{IsFound}
+use Rattle.ion_tokens.specs.machine.Scanning.{Known, run}
 
 -- between two characters of a text of this style, of which these octets are kept
 abbrev pub between : Style → List ℕ → Bool → ℕ → ℕ → Known
-between s kept colon start used = record { mode = modes.Text s within.Plain; kept = kept; colon = colon; start = start; used = used }
+between s kept colon start used = record { mode = Mode.Text s Within.Plain; kept = kept; colon = colon; start = start; used = used }
 
 -- Over these octets a text of this style comes from between two characters to between two, whatever follows. The one list was kept
 -- before, and the other is kept then.
@@ -38,16 +32,16 @@ AddsBase64 content kept kept' = Each (λ o. is_white o || is_base64 o) content �
 
 -- where a segment of a long clob may begin
 abbrev pub BeginsSegment : Lob → Type 0
-BeginsSegment lobs.Start = Unit {0}
-BeginsSegment lobs.AfterLong = Unit {0}
+BeginsSegment Lob.Start = Unit {0}
+BeginsSegment Lob.AfterLong = Unit {0}
 BeginsSegment _ = ⊥
 
 -- in a lob, of which these octets are kept
 abbrev pub inside_lob : Lob → List ℕ → Bool → ℕ → ℕ → Known
-inside_lob l kept colon start used = record { mode = modes.Lob l; kept = kept; colon = colon; start = start; used = used }
+inside_lob l kept colon start used = record { mode = Mode.Lob l; kept = kept; colon = colon; start = start; used = used }
 
 -- Over these octets a long clob comes from where a segment may begin to behind one, whatever follows. The one list was kept before, and
 -- the other is kept then.
 abbrev pub AddsSegments : List ℕ → List ℕ → List ℕ → Type 0
 AddsSegments octets kept kept' = (l : Lob) → BeginsSegment l → (p : Place) (colon : Bool) (start used : ℕ) (behind : List ℕ)
-    → run p (octets ++ behind) (inside_lob l kept colon start used) ≡ run p behind (inside_lob lobs.AfterLong kept' colon start (used + length octets))
+    → run p (octets ++ behind) (inside_lob l kept colon start used) ≡ run p behind (inside_lob Lob.AfterLong kept' colon start (used + length octets))

@@ -1,17 +1,11 @@
 -- What an octet shows of a token that may go on, in the words of the grammar.
 use Rattle.std.specs.Prelude.{◌≡◌, ◌≢◌, ℕ, ◌+◌, ◌⊎◌, Bool, false, List, [], ◌∷◌, ◌++◌, length, codes, Some, None}
-use Rattle.ion_tokens.specs.declared.mode.Place.{Place}
-use Rattle.ion_tokens.specs.declared.mode.Mark.TheVariants as marks
-use Rattle.ion_tokens.specs.declared.mode.TokenKind.TheVariants as kinds
-use Rattle.ion_tokens.specs.declared.token.Begun.{Begun}
-use Rattle.ion_tokens.specs.declared.token.Form.TheVariants as forms
-use Rattle.ion_tokens.specs.declared.token.Foresight.{Foresight}
-use Rattle.ion_tokens.specs.declared.token.Foresight.TheVariants as foresights
-use Rattle.ion_tokens.specs.machine.Scanning.{Known}
-use Rattle.ion_tokens.specs.Lexemes.{Lexeme}
+use Rattle.ion_tokens.specs.Names.Below.{Begun, Foresight, Form, Mark, Place, TokenKind}
 use Rattle.ion_tokens.specs.Blanks.{IsBlank}
-use Rattle.ion_tokens.specs.Lexed.{Placed, Lexes, LexesTo, LooksIn, IsNext}
+use Rattle.ion_tokens.specs.Lexed.{IsNext, Lexes, LexesTo, LooksIn, Placed}
+use Rattle.ion_tokens.specs.Lexemes.{Lexeme}
 use Rattle.ion_tokens.specs.machine.Scanned.{Scanned, ShowsBegun}
+use Rattle.ion_tokens.specs.machine.Scanning.{Known}
 
 -- in each document that has the tokens told and begins with these octets, the next token is this one
 abbrev pub NextIs : Place → List ℕ → List Placed → Lexeme → Type 0
@@ -28,15 +22,15 @@ EndsInQuotes u ts = (colon : Bool) × (end : ℕ) × (blank : List ℕ) × IsBla
 -- that the octets behind the tokens told, a blank and `''`, are the empty symbol, which is the next token and ends before it.
 -- Of others nothing is said.
 abbrev pub ForeseenSo : Place → List ℕ → List Placed → ℕ → Foresight → Type 0
-ForeseenSo p u ts o foresights.Blank = ShowsBegun p (u ++ o ∷ []) ts None
-ForeseenSo p u ts o foresights.Colons =
-    (l : Lexeme) × (l.kind ≡ kinds.Mark marks.Colons) × (l.end ≡ length u + 1) × NextIs p (u ++ o ∷ []) ts l
-ForeseenSo p u ts o foresights.Long =
-    ((b : Begun) × (b.form ≢ forms.Other) × ShowsBegun p (u ++ o ∷ []) ts (Some b))
-    ⊎ ((l : Lexeme) × (l.kind ≡ kinds.LongString) × (l.end ≡ length u + 1) × NextIs p (u ++ o ∷ []) ts l)
-ForeseenSo p u ts o foresights.Empty =
-    EndsInQuotes u ts × (l : Lexeme) × (l.kind ≡ kinds.QuotedSymbol) × (l.octets ≡ []) × (l.end ≡ length u) × NextIs p (u ++ o ∷ []) ts l
-ForeseenSo p u ts o foresights.Other = Unit {0}
+ForeseenSo p u ts o Foresight.Blank = ShowsBegun p (u ++ o ∷ []) ts None
+ForeseenSo p u ts o Foresight.Colons =
+    (l : Lexeme) × (l.kind ≡ TokenKind.Mark Mark.Colons) × (l.end ≡ length u + 1) × NextIs p (u ++ o ∷ []) ts l
+ForeseenSo p u ts o Foresight.Long =
+    ((b : Begun) × (b.form ≢ Form.Other) × ShowsBegun p (u ++ o ∷ []) ts (Some b))
+    ⊎ ((l : Lexeme) × (l.kind ≡ TokenKind.LongString) × (l.end ≡ length u + 1) × NextIs p (u ++ o ∷ []) ts l)
+ForeseenSo p u ts o Foresight.Empty =
+    EndsInQuotes u ts × (l : Lexeme) × (l.kind ≡ TokenKind.QuotedSymbol) × (l.octets ≡ []) × (l.end ≡ length u) × NextIs p (u ++ o ∷ []) ts l
+ForeseenSo p u ts o Foresight.Other = Unit {0}
 
 -- so behind all octets and tokens told that led to what the scanner knows
 abbrev pub Foresees : Place → Known → ℕ → Foresight → Type 0

@@ -1,18 +1,15 @@
 -- What is borrowed of a piece.
 use Rattle.std.specs.Prelude.{◌≡◌, ◌≢◌, ℕ, ◌+◌, ◌-◌, ◌<◌, ◌≤◌, List, [], length, take, drop}
 use Rattle.std.specs.Cow.{cow_str_bytes, IsBorrowedStr, IsOwnedStr}
-use Rattle.ion_tokens.specs.declared.mode.Place.{Place}
-use Rattle.ion_tokens.specs.declared.token.Body.{Body}
-use Rattle.ion_tokens.specs.declared.token.Body.TheVariants as bodies
-use Rattle.ion_tokens.specs.declared.token.Token.{Token}
-use Rattle.ion_tokens.specs.machine.Scanning.{Known}
+use Rattle.ion_tokens.specs.Names.Below.{Body, Place, Token}
 use Rattle.ion_tokens.specs.Lexed.{Placed}
-use Rattle.ion_tokens.specs.machine.Scanned.{Scanned, Continues}
+use Rattle.ion_tokens.specs.machine.Scanned.{Continues, Scanned}
+use Rattle.ion_tokens.specs.machine.Scanning.{Known}
 
 -- A word or an operator that begins at `start` is borrowed where it lies whole in the piece behind `before` octets, and else owned.
 abbrev pub IsLentBody : ℕ → ℕ → Body → Type 0
-IsLentBody before start (bodies.Word w) = (before ≤ start → IsBorrowedStr w) × (start < before → IsOwnedStr w)
-IsLentBody before start (bodies.Operator w) = (before ≤ start → IsBorrowedStr w) × (start < before → IsOwnedStr w)
+IsLentBody before start (Body.Word w) = (before ≤ start → IsBorrowedStr w) × (start < before → IsOwnedStr w)
+IsLentBody before start (Body.Operator w) = (before ≤ start → IsBorrowedStr w) × (start < before → IsOwnedStr w)
 IsLentBody before start _ = Unit {0}
 
 -- So of the token that a step over a piece gave, behind all octets and tokens told that led to what the scanner knew.
@@ -22,8 +19,8 @@ LendsWhole p s piece t =
 
 -- a word or an operator is owned
 abbrev pub IsOwnedBody : Body → Type 0
-IsOwnedBody (bodies.Word w) = IsOwnedStr w
-IsOwnedBody (bodies.Operator w) = IsOwnedStr w
+IsOwnedBody (Body.Word w) = IsOwnedStr w
+IsOwnedBody (Body.Operator w) = IsOwnedStr w
 IsOwnedBody _ = Unit {0}
 
 -- so of the token that an end gave
@@ -37,12 +34,12 @@ pub record StandIn (before start end : ℕ) (piece lent : List ℕ) : Type 0 whe
 
 -- a word or an operator with the octets that are lent is borrowed, and with others owned
 abbrev pub BorrowsFrom : List ℕ → Body → Type 0
-BorrowsFrom lent (bodies.Word w) = (cow_str_bytes w ≡ lent → IsBorrowedStr w) × (cow_str_bytes w ≢ lent → IsOwnedStr w)
-BorrowsFrom lent (bodies.Operator w) = (cow_str_bytes w ≡ lent → IsBorrowedStr w) × (cow_str_bytes w ≢ lent → IsOwnedStr w)
+BorrowsFrom lent (Body.Word w) = (cow_str_bytes w ≡ lent → IsBorrowedStr w) × (cow_str_bytes w ≢ lent → IsOwnedStr w)
+BorrowsFrom lent (Body.Operator w) = (cow_str_bytes w ≡ lent → IsBorrowedStr w) × (cow_str_bytes w ≢ lent → IsOwnedStr w)
 BorrowsFrom lent _ = Unit {0}
 
 -- so with the octets that stand in the piece where the token does
 abbrev pub BorrowsAt : ℕ → ℕ → ℕ → List ℕ → Body → Type 0
-BorrowsAt before start end piece (bodies.Word w) = (lent : List ℕ) × StandIn before start end piece lent × BorrowsFrom lent (bodies.Word w)
-BorrowsAt before start end piece (bodies.Operator w) = (lent : List ℕ) × StandIn before start end piece lent × BorrowsFrom lent (bodies.Operator w)
+BorrowsAt before start end piece (Body.Word w) = (lent : List ℕ) × StandIn before start end piece lent × BorrowsFrom lent (Body.Word w)
+BorrowsAt before start end piece (Body.Operator w) = (lent : List ℕ) × StandIn before start end piece lent × BorrowsFrom lent (Body.Operator w)
 BorrowsAt before start end piece _ = Unit {0}

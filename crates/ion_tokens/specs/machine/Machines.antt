@@ -1,11 +1,9 @@
 -- What a machine in memory stands for.
 use Rattle.std.specs.Prelude.{Option, Some, None}
-use Rattle.ion_tokens.specs.declared.machine.Machine.{Machine}
-use Rattle.ion_tokens.specs.declared.machine.Lexeme.{Lexeme as Found}
-use Rattle.ion_tokens.specs.declared.machine.Taken.{Taken}
-use Rattle.ion_tokens.specs.declared.machine.Taken.TheVariants as taken
-use Rattle.ion_tokens.specs.machine.Scanning.{Known, Outcome, Next, Given, Left, Refused}
+use Rattle.ion_tokens.specs.Names.Below.{Ended as Found, Machine}
 use Rattle.ion_tokens.specs.Lexemes.{Lexeme}
+use Rattle.ion_tokens.specs.declared.machine.Taken.{Taken}
+use Rattle.ion_tokens.specs.machine.Scanning.{Given, Known, Left, Next, Outcome, Refused}
 
 -- what it knows between two octets
 abbrev pub known : Machine → Known
@@ -17,10 +15,10 @@ lexeme_in l m = record { start = l.start; end = l.end; kind = l.kind; octets = m
 
 -- what the code answers, with what the machine knows then
 abbrev pub outcome_in : Taken → Machine → Outcome
-outcome_in taken.Next m = Next (known m)
-outcome_in (taken.Given l) m = Given (lexeme_in l m) (known m)
-outcome_in (taken.Left l) m = Left (lexeme_in l m) (known m)
-outcome_in (taken.Refused r) m = Refused r.offset r.reason
+outcome_in Taken.Next m = Next (known m)
+outcome_in (Taken.Given l) m = Given (lexeme_in l m) (known m)
+outcome_in (Taken.Left l) m = Left (lexeme_in l m) (known m)
+outcome_in (Taken.Refused r) m = Refused r.offset r.reason
 
 -- the token that ended last, if one did
 abbrev pub found_in : Option Found → Machine → Option Lexeme

@@ -1,15 +1,12 @@
 -- Blanks and tokens that lie whole in memory, read where a scanner rests.
 use Rattle.std.specs.Prelude.{◌≡◌, ℕ, ◌+◌, ◌-◌, ◌≤◌, ◌<◌, ◌==◌, Bool, true, false, if◌then◌else◌, List, [], ◌∷◌, length, take, slice_index}
-use Rattle.ion_tokens.specs.declared.mode.Place.{Place}
-use Rattle.ion_tokens.specs.declared.mode.Mode.TheVariants as modes
-use Rattle.ion_tokens.specs.declared.mode.TokenKind.{TokenKind}
-use Rattle.ion_tokens.specs.declared.plain_tokens.Rest.{Rest}
-use Rattle.ion_tokens.specs.machine.Scanning.{Known, Outcome, Next, Given, Left, feed, run}
+use Rattle.ion_tokens.specs.Names.Below.{Mode, Place, Rest, TokenKind}
 use Rattle.ion_tokens.specs.Lexemes.{Lexeme, takes_colon}
+use Rattle.ion_tokens.specs.machine.Scanning.{Given, Known, Left, Next, Outcome, feed, run}
 
 -- no token is open, and none keeps octets
 abbrev pub resting : Rest → Known
-resting r = record { mode = modes.Blank; kept = []; colon = r.colon; start = r.start; used = r.used }
+resting r = record { mode = Mode.Blank; kept = []; colon = r.colon; start = r.start; used = r.used }
 
 -- behind so many octets of a blank
 abbrev pub past_blank : Rest → ℕ → Rest

@@ -2,18 +2,13 @@
 use Rattle.std.proofs.Common.{◌≡◌, ℕ, List, Bool, Result, Ok, Err, Option, Some, None, refl, if◌then◌else◌}
 use Rattle.std.specs.Str.{is_utf8}
 use Rattle.std.proofs.lemmas.Str.{IsUtf8-from_is_utf8, is_utf8-from_IsUtf8}
-use Rattle.ion_atoms.specs.declared.refusal.Reason.{Reason}
-use Rattle.ion_atoms.specs.declared.refusal.Reason.TheVariants as reasons
-use Rattle.ion_scalar.specs.declared.number.Number.{Number}
-use Rattle.ion_scalar.specs.text.Numbers.{ReadsNumber}
+use Rattle.ion_tokens.specs.Names.Below.{Number, ReadsNumber, Reason, TokenKind}
 use Rattle.ion_scalar.specs.text.Reading.{number_read, number_reads}
-use Rattle.ion_tokens.specs.declared.mode.TokenKind.{TokenKind}
-use Rattle.ion_tokens.specs.declared.mode.TokenKind.TheVariants as kinds
-use Rattle.ion_tokens.specs.Bodies.{Content, Word, Id, Quoted, Short, Long, Number', Operator, Clob, Blob, Mark', Spells, IsWordBody, IsBody, id_of, null_of, kind_named}
+use Rattle.ion_tokens.specs.Bodies.{Blob, Clob, Content, Id, IsBody, IsWordBody, Long, Mark', Number', Operator, Quoted, Short, Spells, Word, id_of, kind_named, null_of}
 
 -- this, if the octets are a text
 abbrev pub spelled : Content → List ℕ → Result Content Reason
-spelled said octets = if is_utf8 octets then Ok said else Err reasons.BadUtf8
+spelled said octets = if is_utf8 octets then Ok said else Err Reason.BadUtf8
 
 -- a word, if it is no symbol id
 abbrev pub word_said : List ℕ → Option ℕ → Result Content Reason
@@ -27,20 +22,20 @@ number_said (Err e) = Err e
 
 -- what the octets of a token of that kind say, or why they say nothing
 unfoldable pub said : TokenKind → List ℕ → Result Content Reason
-said kinds.Word octets = word_said octets (id_of octets)
-said kinds.KindName octets = null_of (kind_named octets)
-said kinds.Number octets = number_said (number_read octets)
-said kinds.Operator octets = spelled (Operator octets) octets
-said kinds.QuotedSymbol octets = spelled (Quoted octets) octets
-said kinds.ShortString octets = spelled (Short octets) octets
-said kinds.LongString octets = spelled (Long octets) octets
-said kinds.Clob octets = Ok (Clob octets)
-said kinds.Blob octets = Ok (Blob octets)
-said (kinds.Mark m) octets = Ok (Mark' m)
+said TokenKind.Word octets = word_said octets (id_of octets)
+said TokenKind.KindName octets = null_of (kind_named octets)
+said TokenKind.Number octets = number_said (number_read octets)
+said TokenKind.Operator octets = spelled (Operator octets) octets
+said TokenKind.QuotedSymbol octets = spelled (Quoted octets) octets
+said TokenKind.ShortString octets = spelled (Short octets) octets
+said TokenKind.LongString octets = spelled (Long octets) octets
+said TokenKind.Clob octets = Ok (Clob octets)
+said TokenKind.Blob octets = Ok (Blob octets)
+said (TokenKind.Mark m) octets = Ok (Mark' m)
 
 spells : (c : Content) (octets : List ℕ) → Spells c octets (spelled c octets)
 spells c octets = go (is_utf8 octets) refl where
-  go : (b : Bool) → is_utf8 octets ≡ b → Spells c octets (if b then Ok c else Err reasons.BadUtf8)
+  go : (b : Bool) → is_utf8 octets ≡ b → Spells c octets (if b then Ok c else Err Reason.BadUtf8)
   go Bool.true e = (refl, IsUtf8-from_is_utf8 octets e)
   go Bool.false e = (refl, λ h. let i = is_utf8-from_IsUtf8 octets h in absurd cc)
 
@@ -48,20 +43,20 @@ word_says : (octets : List ℕ) (id : Option ℕ) → IsWordBody octets id (word
 word_says octets None = spells (Word octets) octets
 word_says octets (Some id) = refl
 
-number_says : (octets : List ℕ) (r : Result Number Reason) → ReadsNumber octets r → IsBody kinds.Number octets (number_said r)
+number_says : (octets : List ℕ) (r : Result Number Reason) → ReadsNumber octets r → IsBody TokenKind.Number octets (number_said r)
 number_says octets (Ok n) h = h
 number_says octets (Err e) h = h
 
 -- what a token says in the words of IsBody
 pub says : (k : TokenKind) (octets : List ℕ) → IsBody k octets (said k octets)
 unfolding said
-says kinds.Word octets = word_says octets (id_of octets)
-says kinds.KindName octets = refl
-says kinds.Number octets = number_says octets (number_read octets) (number_reads octets)
-says kinds.Operator octets = spells (Operator octets) octets
-says kinds.QuotedSymbol octets = spells (Quoted octets) octets
-says kinds.ShortString octets = spells (Short octets) octets
-says kinds.LongString octets = spells (Long octets) octets
-says kinds.Clob octets = refl
-says kinds.Blob octets = refl
-says (kinds.Mark m) octets = refl
+says TokenKind.Word octets = word_says octets (id_of octets)
+says TokenKind.KindName octets = refl
+says TokenKind.Number octets = number_says octets (number_read octets) (number_reads octets)
+says TokenKind.Operator octets = spells (Operator octets) octets
+says TokenKind.QuotedSymbol octets = spells (Quoted octets) octets
+says TokenKind.ShortString octets = spells (Short octets) octets
+says TokenKind.LongString octets = spells (Long octets) octets
+says TokenKind.Clob octets = refl
+says TokenKind.Blob octets = refl
+says (TokenKind.Mark m) octets = refl

@@ -1,19 +1,13 @@
 -- How a scanner stands to the octets that it used and the tokens that it told, and what its calls say of the octets.
 use Rattle.std.specs.Prelude.{◌≡◌, ◌≢◌, ◌≤◌, ℕ, ◌+◌, Bool, true, false, List, [], ◌∷◌, ◌++◌, ◌⊎◌, length, take, drop, codes, Option, Some, None, Ok}
 use Rattle.std.specs.List.{AllByRecursion}
-use Rattle.ion_atoms.specs.declared.refusal.Reason.{Reason}
-use Rattle.ion_tokens.specs.declared.mode.Place.{Place}
-use Rattle.ion_tokens.specs.declared.mode.TokenKind.TheVariants as kinds
-use Rattle.ion_tokens.specs.declared.token.Begun.{Begun}
-use Rattle.ion_tokens.specs.declared.token.Form.{Form}
-use Rattle.ion_tokens.specs.declared.token.Form.TheVariants as forms
-use Rattle.ion_tokens.specs.declared.token.Token.{Token}
+use Rattle.ion_tokens.specs.Names.Below.{Begun, Form, Place, Reason, Token, TokenKind}
 use Rattle.ion_tokens.specs.Blanks.{IsBlank}
-use Rattle.ion_tokens.specs.machine.Scanning.{Known, Next, run}
-use Rattle.ion_tokens.specs.Lexemes.{Lexeme}
 use Rattle.ion_tokens.specs.Bodies.{Content, IsBody}
-use Rattle.ion_tokens.specs.machine.Steps.{Stepped, IsToken, deciding, is_end_reason}
-use Rattle.ion_tokens.specs.Lexed.{Placed, Lexes, LexesTo, AllPass, LooksIn, IsNext}
+use Rattle.ion_tokens.specs.Lexed.{AllPass, IsNext, Lexes, LexesTo, LooksIn, Placed}
+use Rattle.ion_tokens.specs.Lexemes.{Lexeme}
+use Rattle.ion_tokens.specs.machine.Scanning.{Known, Next, run}
+use Rattle.ion_tokens.specs.machine.Steps.{IsToken, Stepped, deciding, is_end_reason}
 use Rattle.ion_tokens.specs.machine.Told.{Stands}
 
 -- what must come next: what was left, until octets since begin with it
@@ -99,15 +93,15 @@ EndsFor p s reason = (u : List ℕ) (ts : List Placed) → Scanned p s u ts [] �
 
 -- what is known of a token by its octets so far
 abbrev pub IsForm : Form → List ℕ → Type 0
-IsForm forms.Quote w = (w ≡ codes "'") ⊎ (w ≡ codes "''")
-IsForm forms.Long w = (part : List ℕ) × (w ≡ codes "'''" ++ part)
-IsForm forms.Other w = (w ≢ codes "'") × (w ≢ codes "''") × ((part : List ℕ) → w ≢ codes "'''" ++ part)
+IsForm Form.Quote w = (w ≡ codes "'") ⊎ (w ≡ codes "''")
+IsForm Form.Long w = (part : List ℕ) × (w ≡ codes "'''" ++ part)
+IsForm Form.Other w = (w ≢ codes "'") × (w ≢ codes "''") × ((part : List ℕ) → w ≢ codes "'''" ++ part)
 
 -- From `start` to `end` all octets are part of tokens: the next one begins there and reaches so far; or it is an operator, which leaves
 -- letters of `inf` to the word behind it.
 abbrev pub Covers : ℕ → ℕ → List Placed → Type 0
 Covers start end [] = ⊥
-Covers start end (t ∷ ts) = (t.lexeme.start ≡ start) × ((end ≤ t.lexeme.end) ⊎ ((t.lexeme.kind ≡ kinds.Operator) × Covers t.lexeme.end end ts))
+Covers start end (t ∷ ts) = (t.lexeme.start ≡ start) × ((end ≤ t.lexeme.end) ⊎ ((t.lexeme.kind ≡ TokenKind.Operator) × Covers t.lexeme.end end ts))
 
 -- a blank and a first colon, where one may stand
 abbrev pub IsFirstColon : Bool → List ℕ → Type 0

@@ -1,22 +1,9 @@
 -- The scanner as a machine: the table, and what is kept of the open token. Its tokens aren't judged yet.
 use Rattle.std.specs.Prelude.{ℕ, ◌+◌, ◌-◌, ◌==◌, Bool, false, ◌&&◌, if◌then◌else◌, List, [], ◌∷◌, ◌++◌, length, take, codes, encode_utf8, bytes_eq, Option, Some, None, Result, Ok, Err}
-use Rattle.ion_atoms.specs.declared.refusal.Reason.{Reason}
-use Rattle.ion_atoms.specs.declared.refusal.Reason.TheVariants as reasons
-use Rattle.ion_tokens.specs.declared.mode.Place.{Place}
-use Rattle.ion_tokens.specs.declared.mode.Mode.{Mode}
-use Rattle.ion_tokens.specs.declared.mode.TokenKind.{TokenKind}
-use Rattle.ion_tokens.specs.declared.mode.Keep.{Keep}
-use Rattle.ion_tokens.specs.declared.mode.Action.{Action}
-use Rattle.ion_tokens.specs.declared.mode.End.{End}
-use Rattle.ion_tokens.specs.declared.mode.Lob.TheVariants as lobs
-use Rattle.ion_tokens.specs.declared.mode.Mode.TheVariants as modes
-use Rattle.ion_tokens.specs.declared.mode.TokenKind.TheVariants as kinds
-use Rattle.ion_tokens.specs.declared.mode.Keep.TheVariants as keeps
-use Rattle.ion_tokens.specs.declared.mode.Action.TheVariants as actions
-use Rattle.ion_tokens.specs.declared.mode.End.TheVariants as ends
-use Rattle.ion_tokens.specs.machine.Table.{next, end_of}
+use Rattle.ion_tokens.specs.Names.Below.{Action, End, Keep, Lob, Mode, Place, Reason, TokenKind}
 use Rattle.ion_tokens.specs.Blobs.{blob_of}
 use Rattle.ion_tokens.specs.Lexemes.{Lexeme, takes_colon}
+use Rattle.ion_tokens.specs.machine.Table.{end_of, next}
 
 -- what the scanner knows between two octets
 pub record Known : Type 0 where
@@ -32,7 +19,7 @@ pub record Known : Type 0 where
 
 -- before any octet
 abbrev pub initial : Known
-initial = record { mode = modes.Blank; kept = []; colon = false; start = 0; used = 0 }
+initial = record { mode = Mode.Blank; kept = []; colon = false; start = 0; used = 0 }
 
 -- what comes of octets
 pub data Outcome : Type 0 where
@@ -47,21 +34,21 @@ pub data Outcome : Type 0 where
 
 -- the octets that are kept behind one of which this is kept
 abbrev pub kept_after : Keep → List ℕ → List ℕ
-kept_after keeps.Nothing k = k
-kept_after (keeps.One o) k = k ++ o ∷ []
-kept_after (keeps.Two o p) k = (k ++ o ∷ []) ++ p ∷ []
-kept_after (keeps.Character c) k = k ++ encode_utf8 c
-kept_after keeps.DropQuotes k = take (length k - 2) k
+kept_after Keep.Nothing k = k
+kept_after (Keep.One o) k = k ++ o ∷ []
+kept_after (Keep.Two o p) k = (k ++ o ∷ []) ++ p ∷ []
+kept_after (Keep.Character c) k = k ++ encode_utf8 c
+kept_after Keep.DropQuotes k = take (length k - 2) k
 
 -- where a token begins that is open behind the next octet
 abbrev pub start_of : Mode → ℕ → ℕ → ℕ
-start_of modes.Blank start used = used
-start_of modes.Slash start used = used - 1
+start_of Mode.Blank start used = used
+start_of Mode.Slash start used = used - 1
 start_of _ start used = start
 
 -- the used octets that are left to a token that follows
 abbrev pub left_of : Mode → ℕ
-left_of modes.Slash = 1
+left_of Mode.Slash = 1
 left_of _ = 0
 
 -- the octet is used
@@ -78,24 +65,24 @@ past p kind m k start used = record { mode = m; kept = k; colon = takes_colon p 
 
 -- at the first brace of a blob's close
 abbrev pub blob_ends : Known → Option (List ℕ) → Outcome
-blob_ends s None = Refused (s.used + 1) reasons.BadBase64
-blob_ends s (Some octets) = Next (go_to s (modes.Lob lobs.BlobClose) octets)
+blob_ends s None = Refused (s.used + 1) Reason.BadBase64
+blob_ends s (Some octets) = Next (go_to s (Mode.Lob Lob.BlobClose) octets)
 
 -- an operator ended before so many letters of `inf`, which begin a word
 abbrev pub split_at : Place → Known → ℕ → Outcome
-split_at p s n = Left (cut s kinds.Operator s.kept (s.used - n)) (past p kinds.Operator modes.Word (take n (codes "inf")) (s.used - n) s.used)
+split_at p s n = Left (cut s TokenKind.Operator s.kept (s.used - n)) (past p TokenKind.Operator Mode.Word (take n (codes "inf")) (s.used - n) s.used)
 
 -- what comes of an action at an octet
 abbrev pub acts : Place → Known → ℕ → Action → Outcome
-acts p s o (actions.Go m k) = Next (go_to s m (kept_after k s.kept))
-acts p s o (actions.Give kind k) = Given (cut s kind (kept_after k s.kept) (s.used + 1)) (past p kind modes.Blank [] (s.used + 1) (s.used + 1))
-acts p s o (actions.Before kind k m) = Left (cut s kind (kept_after k s.kept) (s.used - left_of m)) (past p kind m [] (s.used - left_of m) s.used)
-acts p s o actions.EndWord =
-    if (o == 46) && bytes_eq s.kept (codes "null") then Next (go_to s modes.KindName [])
-    else Left (cut s kinds.Word s.kept s.used) (past p kinds.Word modes.Blank [] s.used s.used)
-acts p s o (actions.Split n) = split_at p s n
-acts p s o actions.EndBlob = blob_ends s (blob_of s.kept)
-acts p s o (actions.Refuse e) = Refused (s.used + 1) e
+acts p s o (Action.Go m k) = Next (go_to s m (kept_after k s.kept))
+acts p s o (Action.Give kind k) = Given (cut s kind (kept_after k s.kept) (s.used + 1)) (past p kind Mode.Blank [] (s.used + 1) (s.used + 1))
+acts p s o (Action.Before kind k m) = Left (cut s kind (kept_after k s.kept) (s.used - left_of m)) (past p kind m [] (s.used - left_of m) s.used)
+acts p s o Action.EndWord =
+    if (o == 46) && bytes_eq s.kept (codes "null") then Next (go_to s Mode.KindName [])
+    else Left (cut s TokenKind.Word s.kept s.used) (past p TokenKind.Word Mode.Blank [] s.used s.used)
+acts p s o (Action.Split n) = split_at p s n
+acts p s o Action.EndBlob = blob_ends s (blob_of s.kept)
+acts p s o (Action.Refuse e) = Refused (s.used + 1) e
 
 -- one octet
 abbrev pub feed : Place → Known → ℕ → Outcome
@@ -113,9 +100,9 @@ run p (o ∷ os) s = follow (feed p s o) (λ s'. run p os s')
 
 -- what the end of the octets shows: the token that it ends, if one is open, or why they are none
 abbrev pub ends_at : Known → End → Result (Option Lexeme) Reason
-ends_at s ends.Blank = Ok None
-ends_at s (ends.Token kind k) = Ok (Some (cut s kind (kept_after k s.kept) s.used))
-ends_at s (ends.Refuse reason) = Err reason
+ends_at s End.Blank = Ok None
+ends_at s (End.Token kind k) = Ok (Some (cut s kind (kept_after k s.kept) s.used))
+ends_at s (End.Refuse reason) = Err reason
 
 -- what the end of the input shows in the scanner's mode
 abbrev pub at_end : Place → Known → Result (Option Lexeme) Reason

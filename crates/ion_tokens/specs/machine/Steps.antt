@@ -1,14 +1,10 @@
 -- What the calls of the scanner answer.
 use Rattle.std.specs.Prelude.{◌≡◌, ◌≢◌, ℕ, ◌+◌, ◌<◌, ◌≤◌, Option, Some, None, Result, Ok, Err, Bool, true, false, List, length}
-use Rattle.ion_atoms.specs.declared.refusal.Refusal.{Refusal}
-use Rattle.ion_atoms.specs.declared.refusal.Reason.{Reason}
-use Rattle.ion_atoms.specs.declared.refusal.Reason.TheVariants as reasons
-use Rattle.ion_tokens.specs.declared.token.Token.{Token}
-use Rattle.ion_tokens.specs.declared.token.Scan.{Scan}
-use Rattle.ion_tokens.specs.machine.Scanning.{Known, Outcome, Next, Given, Left, Refused}
-use Rattle.ion_tokens.specs.Lexemes.{Lexeme}
-use Rattle.ion_tokens.specs.Bodies.{content, IsBody}
+use Rattle.ion_tokens.specs.Names.Below.{Reason, Refusal, Scan, Token}
+use Rattle.ion_tokens.specs.Bodies.{IsBody, content}
 use Rattle.ion_tokens.specs.Lexed.{Passes}
+use Rattle.ion_tokens.specs.Lexemes.{Lexeme}
+use Rattle.ion_tokens.specs.machine.Scanning.{Given, Known, Left, Next, Outcome, Refused}
 
 -- what a step did: how many octets of its piece it used, which token it gave, and whether the octet behind them ended that token
 -- and was left
@@ -64,10 +60,10 @@ Answers before (Next s) (Ok scan) now = Uses before scan.used s now × (scan.tok
 Answers before (Given l s) (Ok scan) now = Uses before scan.used s now × GivesToken l scan.token × (scan.left ≡ false)
 Answers before (Left l s) (Ok scan) now = Uses before scan.used s now × GivesToken l scan.token × (scan.left ≡ true)
 Answers before (Refused at reason) (Ok scan) now = ⊥
-Answers before (Next s) (Err r) now = r.reason ≢ reasons.Memory → ⊥
-Answers before (Given l s) (Err r) now = r.reason ≢ reasons.Memory → RefusesToken l s.used r
-Answers before (Left l s) (Err r) now = r.reason ≢ reasons.Memory → RefusesToken l (s.used + 1) r
-Answers before (Refused at reason) (Err r) now = r.reason ≢ reasons.Memory → r ≡ record { offset = at; reason = reason }
+Answers before (Next s) (Err r) now = r.reason ≢ Reason.Memory → ⊥
+Answers before (Given l s) (Err r) now = r.reason ≢ Reason.Memory → RefusesToken l s.used r
+Answers before (Left l s) (Err r) now = r.reason ≢ Reason.Memory → RefusesToken l (s.used + 1) r
+Answers before (Refused at reason) (Err r) now = r.reason ≢ Reason.Memory → r ≡ record { offset = at; reason = reason }
 
 -- behind `before` octets, a refusal's offset is that of one of so many that follow
 abbrev pub IsWithin : ℕ → ℕ → Refusal → Type 0
@@ -78,28 +74,28 @@ abbrev pub Ends : ℕ → Result (Option Lexeme) Reason → Result (Option Token
 Ends used (Ok None) (Ok token) = token ≡ None
 Ends used (Ok (Some l)) (Ok token) = GivesToken l token
 Ends used (Err reason) (Ok token) = ⊥
-Ends used (Ok None) (Err r) = r.reason ≢ reasons.Memory → ⊥
-Ends used (Ok (Some l)) (Err r) = r.reason ≢ reasons.Memory → RefusesToken l used r
-Ends used (Err reason) (Err r) = r.reason ≢ reasons.Memory → r ≡ record { offset = used; reason = reason }
+Ends used (Ok None) (Err r) = r.reason ≢ Reason.Memory → ⊥
+Ends used (Ok (Some l)) (Err r) = r.reason ≢ Reason.Memory → RefusesToken l used r
+Ends used (Err reason) (Err r) = r.reason ≢ Reason.Memory → r ≡ record { offset = used; reason = reason }
 
 -- the reasons for which a step refuses; `Incomplete` is none of them
 abbrev pub is_step_reason : Reason → Bool
-is_step_reason reasons.Memory = true
-is_step_reason reasons.TooLarge = true
-is_step_reason reasons.Malformed = true
-is_step_reason reasons.Float = true
-is_step_reason reasons.BadEscape = true
-is_step_reason reasons.BadUtf8 = true
-is_step_reason reasons.BadBase64 = true
-is_step_reason reasons.Ambiguous = true
-is_step_reason reasons.Unexpected = true
+is_step_reason Reason.Memory = true
+is_step_reason Reason.TooLarge = true
+is_step_reason Reason.Malformed = true
+is_step_reason Reason.Float = true
+is_step_reason Reason.BadEscape = true
+is_step_reason Reason.BadUtf8 = true
+is_step_reason Reason.BadBase64 = true
+is_step_reason Reason.Ambiguous = true
+is_step_reason Reason.Unexpected = true
 is_step_reason _ = false
 
 -- the reasons for which the end of octets that a scanner used refuses them
 abbrev pub is_end_reason : Reason → Bool
-is_end_reason reasons.Memory = true
-is_end_reason reasons.Incomplete = true
-is_end_reason reasons.TooLarge = true
-is_end_reason reasons.Malformed = true
-is_end_reason reasons.Float = true
+is_end_reason Reason.Memory = true
+is_end_reason Reason.Incomplete = true
+is_end_reason Reason.TooLarge = true
+is_end_reason Reason.Malformed = true
+is_end_reason Reason.Float = true
 is_end_reason _ = false

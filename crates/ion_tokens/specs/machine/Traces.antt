@@ -1,17 +1,12 @@
 -- What a scanner tells of octets, as one function of them and of the places that their tokens lead to, however the octets are cut.
 use Rattle.std.specs.Prelude.{◌≡◌, ◌≢◌, ◌≤◌, ℕ, zero, suc, ◌+◌, List, [], ◌∷◌, ◌++◌, length, take, drop, Option, Some, None, Result, Ok, Err}
-use Rattle.ion_atoms.specs.declared.refusal.Refusal.{Refusal}
-use Rattle.ion_atoms.specs.declared.refusal.Reason.{Reason}
-use Rattle.ion_atoms.specs.declared.refusal.Reason.TheVariants.{Memory}
-use Rattle.ion_tokens.specs.declared.mode.Place.{Place}
-use Rattle.ion_tokens.specs.declared.plain_tokens.Rest.{Rest}
-use Rattle.ion_tokens.specs.declared.token.Token.{Token}
-use Rattle.ion_tokens.specs.machine.Scanning.{Known, Outcome, Next, Given, Left, Refused, initial, feed, at_end}
-use Rattle.ion_tokens.specs.Lexemes.{Lexeme}
+use Rattle.ion_tokens.specs.Names.Below.{Memory, Place, Reason, Refusal, Rest, Token}
 use Rattle.ion_tokens.specs.Bodies.{Content, content}
+use Rattle.ion_tokens.specs.Lexemes.{Lexeme}
 use Rattle.ion_tokens.specs.machine.Said.{said}
-use Rattle.ion_tokens.specs.machine.Steps.{Stepped, deciding}
 use Rattle.ion_tokens.specs.machine.Scanned.{Continues}
+use Rattle.ion_tokens.specs.machine.Scanning.{Given, Known, Left, Next, Outcome, Refused, at_end, feed, initial}
+use Rattle.ion_tokens.specs.machine.Steps.{Stepped, deciding}
 
 -- a token: its span, what it says, and how many octets were used when it came
 pub record Told : Type 0 where

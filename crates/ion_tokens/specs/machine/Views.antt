@@ -1,22 +1,11 @@
 -- What a scanner in memory stands for.
 use Rattle.std.specs.Prelude.{ℕ, Bool, ◌-◌, length, Option, Some, None, if◌then◌else◌, List}
-use Rattle.ion_atoms.specs.declared.refusal.Refusal.{Refusal}
-use Rattle.ion_tokens.specs.declared.mode.Mode.{Mode}
-use Rattle.ion_tokens.specs.declared.mode.Mode.TheVariants as modes
-use Rattle.ion_tokens.specs.declared.mode.Style.TheVariants as styles
-use Rattle.ion_tokens.specs.declared.token.Begun.{Begun}
-use Rattle.ion_tokens.specs.declared.token.Form.{Form}
-use Rattle.ion_tokens.specs.declared.token.Form.TheVariants as forms
-use Rattle.ion_tokens.specs.declared.token.Foresight.{Foresight}
-use Rattle.ion_tokens.specs.declared.token.Foresight.TheVariants as foresights
-use Rattle.ion_tokens.specs.declared.mode.Mark.TheVariants as marks
-use Rattle.ion_tokens.specs.declared.mode.TokenKind.{TokenKind}
-use Rattle.ion_tokens.specs.declared.mode.TokenKind.TheVariants as kinds
+use Rattle.ion_tokens.specs.Names.Below.{Begun, Foresight, Form, Mark, Mode, Refusal, Style, TokenKind}
 use Rattle.ion_tokens.specs.declared.scanner.Scanner.{Scanner}
 use Rattle.ion_tokens.specs.declared.token_reader.TokenReader.{TokenReader}
 use Rattle.ion_tokens.specs.machine.Bounds.{is_idle}
 use Rattle.ion_tokens.specs.machine.Machines.{known}
-use Rattle.ion_tokens.specs.machine.Scanning.{Known, Outcome, Next, Given, Left, Refused}
+use Rattle.ion_tokens.specs.machine.Scanning.{Given, Known, Left, Next, Outcome, Refused}
 
 -- what a reader beside a scanner keeps of the token that it found last
 abbrev pub octets_in : TokenReader → List ℕ
@@ -44,16 +33,16 @@ looks s = s.machine.looked
 
 -- a / behind the open token, which may open a comment
 abbrev pub behind : Mode → ℕ
-behind modes.NumberSlash = 1
-behind modes.OperatorSlash = 1
+behind Mode.NumberSlash = 1
+behind Mode.OperatorSlash = 1
 behind _ = 0
 
 -- what is known of the open token
 abbrev pub form_of : Mode → Form
-form_of modes.Quote = forms.Quote
-form_of modes.Quotes = forms.Quote
-form_of (modes.Text styles.LongString _) = forms.Long
-form_of _ = forms.Other
+form_of Mode.Quote = Form.Quote
+form_of Mode.Quotes = Form.Quote
+form_of (Mode.Text Style.LongString _) = Form.Long
+form_of _ = Form.Other
 
 -- the token that has begun
 abbrev pub begun_in : Known → Option Begun
@@ -69,23 +58,23 @@ open_in s = if is_idle s.mode then 0 else s.used - s.start
 
 -- what an octet shows that is used and ends no token
 abbrev pub foresight_by : Form → Foresight
-foresight_by forms.Other = foresights.Other
-foresight_by _ = foresights.Long
+foresight_by Form.Other = Foresight.Other
+foresight_by _ = Foresight.Long
 
 -- what one shows that is the last of a token
 abbrev pub foresight_at : TokenKind → Foresight
-foresight_at (kinds.Mark marks.Colons) = foresights.Colons
-foresight_at kinds.LongString = foresights.Long
-foresight_at _ = foresights.Other
+foresight_at (TokenKind.Mark Mark.Colons) = Foresight.Colons
+foresight_at TokenKind.LongString = Foresight.Long
+foresight_at _ = Foresight.Other
 
 -- what one shows before which a token ended
 abbrev pub foresight_behind : TokenKind → Foresight
-foresight_behind kinds.QuotedSymbol = foresights.Empty
-foresight_behind _ = foresights.Other
+foresight_behind TokenKind.QuotedSymbol = Foresight.Empty
+foresight_behind _ = Foresight.Other
 
 -- what an octet of which this comes shows of a token that may go on
 abbrev pub foresight : Outcome → Foresight
-foresight (Next s) = if is_idle s.mode then foresights.Blank else foresight_by (form_of s.mode)
+foresight (Next s) = if is_idle s.mode then Foresight.Blank else foresight_by (form_of s.mode)
 foresight (Given l s) = foresight_at l.kind
 foresight (Left l s) = foresight_behind l.kind
-foresight (Refused at reason) = foresights.Other
+foresight (Refused at reason) = Foresight.Other

@@ -3,22 +3,11 @@ use Rattle.std.proofs.Common.{◌≡◌, ℕ, ◌<◌, zero, suc, List, [], ◌�
 use Rattle.std.specs.List.{flat_map}
 use Rattle.std.specs.Option.{unwrap_or}
 use Rattle.std.proofs.lemmas.List.{append-nil, append_assoc}
-use Rattle.ion_model.specs.declared.value.Value.{Value}
-use Rattle.ion_model.specs.declared.value.Field.{Field}
-use Rattle.ion_model.specs.declared.value.Payload.{Payload}
+use Rattle.ion_visiting.specs.Names.{Bracket, Built, Event, Field, Layer, Led, Open, Outer, Payload, Payload-F, Value, annotated, annotation, builds, built, closed, closes, depth, ended, events_of, field_events, fresh, greatest, layer_depth, layer_events, name, opened, opens, out-Payload, roll-out-Payload, value_in, with_closed, with_value, within}
 use Rattle.ion_model.specs.declared.value.Payload.TheVariants as payloads
-use Rattle.ion_model.specs.declared.value.Payload.TheOpen.{Payload-F}
-use Rattle.ion_model.specs.declared.value.Payload.TheViews.{out-Payload, roll-Payload, roll-out-Payload}
-use Rattle.ion_model.specs.Measures.{Layer, depth, layer_depth, greatest, annotated}
+use Rattle.ion_model.specs.declared.value.Payload.TheViews.{roll-Payload}
 use Rattle.ion_model.specs.laws.Measures.{depth-out}
-use Rattle.ion_visiting.specs.declared.bracket.Bracket.{Bracket}
-use Rattle.ion_visiting.specs.declared.bracket.Bracket.TheVariants as brackets
-use Rattle.ion_visiting.specs.declared.building.Open.{Open}
-use Rattle.ion_visiting.specs.declared.building.Open.TheVariants as places
-use Rattle.ion_visiting.specs.declared.building.Outer.{Outer}
-use Rattle.ion_visiting.specs.Events.{Event, annotation, name, opens, closes, ended, within, events_of, field_events, layer_events, Led}
-use Rattle.ion_visiting.specs.laws.Led.{led_both, events_out}
-use Rattle.ion_visiting.specs.Building.{Built, fresh, with_value, opened, closed, value_in, with_closed, built, builds}
+use Rattle.ion_visiting.specs.laws.Led.{events_out, led_both}
 
 -- whether an event is the end of a value of the top level
 abbrev pub is_end : Event → Bool
@@ -52,20 +41,20 @@ record Puts (n : ℕ) : Type 0 where
       → Led Awaits (events_of v) (at [] place outer) (at [] (with_value place v) outer)
 
 items_built : (n : ℕ) → Puts n → (vs ws : List Value) (outer : List Outer) → greatest (map depth vs) < n
-    → Led Awaits (flat_map events_of vs) (at [] (places.Items ws) outer) (at [] (places.Items (ws ++ vs)) outer)
-items_built n h [] ws outer small = ap (λ w. at [] (places.Items w) outer) (sym (append-nil ws))
-items_built n h (v ∷ vs) ws outer small = led_both Awaits (events_of v) (flat_map events_of vs) _ (at [] (places.Items (ws ++ v ∷ [])) outer) _
-    (h.at_value v (omega (arith, small)) (places.Items ws) outer refl)
-    (subst (λ w. Led Awaits (flat_map events_of vs) (at [] (places.Items (ws ++ v ∷ [])) outer) (at [] (places.Items w) outer))
+    → Led Awaits (flat_map events_of vs) (at [] (Open.Items ws) outer) (at [] (Open.Items (ws ++ vs)) outer)
+items_built n h [] ws outer small = ap (λ w. at [] (Open.Items w) outer) (sym (append-nil ws))
+items_built n h (v ∷ vs) ws outer small = led_both Awaits (events_of v) (flat_map events_of vs) _ (at [] (Open.Items (ws ++ v ∷ [])) outer) _
+    (h.at_value v (omega (arith, small)) (Open.Items ws) outer refl)
+    (subst (λ w. Led Awaits (flat_map events_of vs) (at [] (Open.Items (ws ++ v ∷ [])) outer) (at [] (Open.Items w) outer))
     (append_assoc ws (v ∷ []) vs) (items_built n h vs (ws ++ v ∷ []) outer (omega (arith, small))))
 
 fields_built : (n : ℕ) → Puts n → (ms ns : List Field) (outer : List Outer) → greatest (map (λ f. depth f.value) ms) < n
-    → Led Awaits (flat_map field_events ms) (at [] (places.Fields ns None) outer) (at [] (places.Fields (ns ++ ms) None) outer)
-fields_built n h [] ns outer small = ap (λ w. at [] (places.Fields w None) outer) (sym (append-nil ns))
+    → Led Awaits (flat_map field_events ms) (at [] (Open.Fields ns None) outer) (at [] (Open.Fields (ns ++ ms) None) outer)
+fields_built n h [] ns outer small = ap (λ w. at [] (Open.Fields w None) outer) (sym (append-nil ns))
 fields_built n h (m ∷ ms) ns outer small = then (name m.name) (events_of m.value ++ flat_map field_events ms) _ _ refl refl
-    (led_both Awaits (events_of m.value) (flat_map field_events ms) _ (at [] (places.Fields (ns ++ m ∷ []) None) outer) _
-    (h.at_value m.value (omega (arith, small)) (places.Fields ns (Some m.name)) outer refl)
-    (subst (λ w. Led Awaits (flat_map field_events ms) (at [] (places.Fields (ns ++ m ∷ []) None) outer) (at [] (places.Fields w None) outer))
+    (led_both Awaits (events_of m.value) (flat_map field_events ms) _ (at [] (Open.Fields (ns ++ m ∷ []) None) outer) _
+    (h.at_value m.value (omega (arith, small)) (Open.Fields ns (Some m.name)) outer refl)
+    (subst (λ w. Led Awaits (flat_map field_events ms) (at [] (Open.Fields (ns ++ m ∷ []) None) outer) (at [] (Open.Fields w None) outer))
     (append_assoc ns (m ∷ []) ms) (fields_built n h ms (ns ++ m ∷ []) outer (omega (arith, small)))))
 
 -- what stands between brackets is put as the value of the annotations before it
@@ -93,13 +82,13 @@ layer_built n h (Payload-F.Str w) small ss place outer free = then _ [] _ _ refl
 layer_built n h (Payload-F.Clob w) small ss place outer free = then _ [] _ _ refl free refl
 layer_built n h (Payload-F.Blob w) small ss place outer free = then _ [] _ _ refl free refl
 layer_built n h (Payload-F.List vs) small ss place outer free =
-    within_built brackets.List (flat_map events_of vs) (places.Items vs) (payloads.List vs) ss place outer free refl refl
+    within_built Bracket.List (flat_map events_of vs) (Open.Items vs) (payloads.List vs) ss place outer free refl refl
     (items_built n h vs [] _ (omega (arith, small)))
 layer_built n h (Payload-F.Sexp vs) small ss place outer free =
-    within_built brackets.Sexp (flat_map events_of vs) (places.Items vs) (payloads.Sexp vs) ss place outer free refl refl
+    within_built Bracket.Sexp (flat_map events_of vs) (Open.Items vs) (payloads.Sexp vs) ss place outer free refl refl
     (items_built n h vs [] _ (omega (arith, small)))
 layer_built n h (Payload-F.Fields ms) small ss place outer free =
-    within_built brackets.Fields (flat_map field_events ms) (places.Fields ms None) (payloads.Fields ms) ss place outer free refl refl
+    within_built Bracket.Fields (flat_map field_events ms) (Open.Fields ms None) (payloads.Fields ms) ss place outer free refl refl
     (fields_built n h ms [] _ (omega (arith, small)))
 
 each_built : (n : ℕ) → Puts n
@@ -127,8 +116,8 @@ one_way (e ∷ es) a b c h k =
     let same : h.0 ≡ k.0 = h.1.is ∙ sym k.1 in one_way es h.0 b c h.2 (subst (λ x. Led builds es x c) (sym same) k.2)
 
 -- the visitor that was told a value from nothing has built it
-pub value_built : (v : Value) (b : Built) → Led builds (events_of v) fresh b → b ≡ record { notes = []; place = places.Top (Some v); outer = [] }
-value_built v b h = one_way (events_of v) fresh _ b (value_awaited v (places.Top None) [] refl) h
+pub value_built : (v : Value) (b : Built) → Led builds (events_of v) fresh b → b ≡ record { notes = []; place = Open.Top (Some v); outer = [] }
+value_built v b h = one_way (events_of v) fresh _ b (value_awaited v (Open.Top None) [] refl) h
 
 abbrev first_or : Event → List Event → Event
 first_or e [] = e
@@ -157,5 +146,5 @@ ends_once (e ∷ es) (f ∷ fs) gs hs a b c v w h k is_v is_w p =
 -- events are those of one value, whatever follows
 pub events_one : (v w : Value) (es fs : List Event) → events_of v ++ es ≡ events_of w ++ fs → (v ≡ w) × (es ≡ fs)
 events_one v w es fs e =
-    ends_once (events_of v) (events_of w) es fs fresh _ _ v w (value_awaited v (places.Top None) [] refl) (value_awaited w (places.Top None) [] refl)
+    ends_once (events_of v) (events_of w) es fs fresh _ _ v w (value_awaited v (Open.Top None) [] refl) (value_awaited w (Open.Top None) [] refl)
     refl refl e

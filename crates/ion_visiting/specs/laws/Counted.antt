@@ -1,13 +1,8 @@
 -- The visitor that counts values counts those that ended, and nothing inside of them.
 use Rattle.std.proofs.Common.{◌≡◌, ◌+◌, ◌-◌, ◌^◌, ◌≤◌, min, List, [], ◌∷◌, ◌++◌, length, None, true≢false, false, refl, sym, ap, ◌∙◌, arith}
-use Rattle.ion_model.specs.declared.value.Value.{Value}
-use Rattle.ion_visiting.specs.declared.building.Open.TheVariants as places
-use Rattle.ion_visiting.specs.declared.count.Count.{Count}
-use Rattle.ion_visiting.specs.Events.{Event, part, annotation, name, opens, closes, ended, events_of, stream_events, Led}
+use Rattle.ion_visiting.specs.Names.{Built, Count, Event, Led, Open, Value, annotation, closes, counted, counts, ended, events_of, name, opens, part, stream_events}
+use Rattle.ion_visiting.specs.laws.Built.{Awaits, is_end, value_awaited}
 use Rattle.ion_visiting.specs.laws.Led.{led_split}
-use Rattle.ion_visiting.specs.laws.Built.{is_end, Awaits, value_awaited}
-use Rattle.ion_visiting.specs.Building.{Built}
-use Rattle.ion_visiting.specs.Count.{counted, counts}
 
 not_counted : (a : Count) (e : Event) → is_end e ≡ false → counted a e ≡ a
 not_counted a (part p) h = refl
@@ -23,7 +18,7 @@ none_counted (e ∷ es) x y a b h k = none_counted es h.0 y k.0 b h.2 k.2 ∙ k.
 
 -- told what is inside of a value, it is as before
 pub value_uncounted : (v : Value) (a b : Count) → Led counts (events_of v) a b → b ≡ a
-value_uncounted v a b k = none_counted (events_of v) _ _ a b (value_awaited v (places.Top None) [] refl) k
+value_uncounted v a b k = none_counted (events_of v) _ _ a b (value_awaited v (Open.Top None) [] refl) k
 
 -- told values of the top level and that each ended, it has counted so many more
 pub values_counted : (vs : List Value) (a b : Count) → a.values ≤ 2 ^ 64 - 1 → Led counts (stream_events vs) a b

@@ -3,29 +3,11 @@ use Rattle.std.proofs.Common.{◌≡◌, ℕ, ◌+◌, ◌<◌, length, take, ge
 use Rattle.std.specs.Prelude.{◌&&◌, if◌then◌else◌}
 use Rattle.std.specs.List.{flat_map}
 use Rattle.std.proofs.lemmas.List.{append-nil, append_assoc, map-append, take_more}
-use Rattle.ion_atoms.specs.declared.kind.Kind.{Kind}
-use Rattle.ion_atoms.specs.declared.kind.Kind.TheVariants as kinds
-use Rattle.ion_model.specs.declared.value.Value.{Value}
-use Rattle.ion_model.specs.declared.value.Payload.{Payload}
+use Rattle.ion_visiting.specs.Names.{Bracket, Built, Event, Kind, Layer, Led, Number, Open, Payload, Payload-F, Table, TableFilter, Value, annotation, builds, closes, ended, events_of, field_events, fresh, is_fields, is_table, is_table_of, layer_events, layer_kind, name, names_table, number_payload, opens, out-Payload, part, value_in, within, without_value}
 use Rattle.ion_model.specs.declared.value.Payload.TheVariants as payloads
-use Rattle.ion_model.specs.declared.value.Payload.TheOpen.{Payload-F}
-use Rattle.ion_model.specs.declared.value.Payload.TheViews.{out-Payload}
-use Rattle.ion_model.specs.Measures.{Layer}
-use Rattle.ion_model.specs.Kinds.{names_table, is_fields, layer_kind, is_table_of, is_table}
-use Rattle.ion_scalar.specs.declared.number.Number.{Number}
-use Rattle.ion_scalar.specs.declared.number.Number.TheVariants as numbers
-use Rattle.ion_visiting.specs.declared.bracket.Bracket.{Bracket}
-use Rattle.ion_visiting.specs.declared.bracket.Bracket.TheVariants as brackets
-use Rattle.ion_visiting.specs.declared.building.Open.TheVariants as places
-use Rattle.ion_visiting.specs.Building.{Built, builds, fresh, value_in, without_value}
-use Rattle.ion_visiting.specs.Events.{Event, part, annotation, name, opens, closes, ended, within, events_of, field_events, layer_events, Led}
-use Rattle.ion_visiting.specs.Parts.{number_payload}
-use Rattle.ion_visiting.specs.laws.Led.{led_both, led_more, events_out}
+use Rattle.ion_visiting.specs.Tables.{AreKept, Hears, IsTable, LetsPass, Symbols, WasTold, begins_struct, heard, heard_by, is_null_struct, is_of_table, table_after, table_behind, table_by, table_of}
 use Rattle.ion_visiting.specs.laws.Built.{value_built}
-use Rattle.ion_visiting.specs.declared.table_filter.Table.{Table}
-use Rattle.ion_visiting.specs.declared.table_filter.Table.TheVariants as tables
-use Rattle.ion_visiting.specs.declared.table_filter.TableFilter.{TableFilter}
-use Rattle.ion_visiting.specs.Tables.{Symbols, table_behind, table_after, is_of_table, begins_struct, table_by, heard_by, heard, AreKept, WasTold, Hears, IsTable, LetsPass, is_null_struct, table_of}
+use Rattle.ion_visiting.specs.laws.Led.{events_out, led_both, led_more}
 
 -- 1. What is known behind events.
 
@@ -34,9 +16,9 @@ after_append t [] fs = refl
 after_append t (e ∷ es) fs = after_append (table_behind t e) es fs
 
 pub by_more : (es : List Event) (e : Event) → table_by (es ++ e ∷ []) ≡ table_behind (table_by es) e
-by_more es e = after_append tables.Unknown es (e ∷ [])
+by_more es e = after_append Table.Unknown es (e ∷ [])
 
-behind_no : (e : Event) → table_behind tables.No e ≡ tables.No
+behind_no : (e : Event) → table_behind Table.No e ≡ Table.No
 behind_no (part p) = refl
 behind_no (annotation s) = refl
 behind_no (name s) = refl
@@ -44,7 +26,7 @@ behind_no (opens x) = refl
 behind_no (closes x) = refl
 behind_no ended = refl
 
-behind_yes : (e : Event) → table_behind tables.Yes e ≡ tables.Yes
+behind_yes : (e : Event) → table_behind Table.Yes e ≡ Table.Yes
 behind_yes (part p) = refl
 behind_yes (annotation s) = refl
 behind_yes (name s) = refl
@@ -52,35 +34,35 @@ behind_yes (opens x) = refl
 behind_yes (closes x) = refl
 behind_yes ended = refl
 
-after_no : (es : List Event) → table_after tables.No es ≡ tables.No
+after_no : (es : List Event) → table_after Table.No es ≡ Table.No
 after_no [] = refl
 after_no (e ∷ es) = ap (λ t. table_after t es) (behind_no e) ∙ after_no es
 
-after_yes : (es : List Event) → table_after tables.Yes es ≡ tables.Yes
+after_yes : (es : List Event) → table_after Table.Yes es ≡ Table.Yes
 after_yes [] = refl
 after_yes (e ∷ es) = ap (λ t. table_after t es) (behind_yes e) ∙ after_yes es
 
-after_notes : (ss : Symbols) → table_after tables.Noted (map annotation ss) ≡ tables.Noted
+after_notes : (ss : Symbols) → table_after Table.Noted (map annotation ss) ≡ Table.Noted
 after_notes [] = refl
 after_notes (s ∷ ss) = after_notes ss
 
 -- behind one event of a payload
-if_fields : (k : Kind) → table_behind tables.Noted (part (payloads.Null k)) ≡ (if is_fields k then tables.Yes else tables.No)
-if_fields kinds.Null = refl
-if_fields kinds.Bool = refl
-if_fields kinds.Int = refl
-if_fields kinds.Float = refl
-if_fields kinds.Decimal = refl
-if_fields kinds.Timestamp = refl
-if_fields kinds.Symbol = refl
-if_fields kinds.Str = refl
-if_fields kinds.Clob = refl
-if_fields kinds.Blob = refl
-if_fields kinds.List = refl
-if_fields kinds.Sexp = refl
-if_fields kinds.Fields = refl
+if_fields : (k : Kind) → table_behind Table.Noted (part (payloads.Null k)) ≡ (if is_fields k then Table.Yes else Table.No)
+if_fields Kind.Null = refl
+if_fields Kind.Bool = refl
+if_fields Kind.Int = refl
+if_fields Kind.Float = refl
+if_fields Kind.Decimal = refl
+if_fields Kind.Timestamp = refl
+if_fields Kind.Symbol = refl
+if_fields Kind.Str = refl
+if_fields Kind.Clob = refl
+if_fields Kind.Blob = refl
+if_fields Kind.List = refl
+if_fields Kind.Sexp = refl
+if_fields Kind.Fields = refl
 
-noted_layer : (d : Layer) → table_after tables.Noted (layer_events d) ≡ (if is_fields (layer_kind d) then tables.Yes else tables.No)
+noted_layer : (d : Layer) → table_after Table.Noted (layer_events d) ≡ (if is_fields (layer_kind d) then Table.Yes else Table.No)
 noted_layer (Payload-F.Null k) = if_fields k
 noted_layer (Payload-F.Truth b) = refl
 noted_layer (Payload-F.Int z) = refl
@@ -90,11 +72,11 @@ noted_layer (Payload-F.Symbol s) = refl
 noted_layer (Payload-F.Str w) = refl
 noted_layer (Payload-F.Clob w) = refl
 noted_layer (Payload-F.Blob w) = refl
-noted_layer (Payload-F.List vs) = after_no (flat_map events_of vs ++ closes brackets.List ∷ [])
-noted_layer (Payload-F.Sexp vs) = after_no (flat_map events_of vs ++ closes brackets.Sexp ∷ [])
-noted_layer (Payload-F.Fields fs) = after_yes (flat_map field_events fs ++ closes brackets.Fields ∷ [])
+noted_layer (Payload-F.List vs) = after_no (flat_map events_of vs ++ closes Bracket.List ∷ [])
+noted_layer (Payload-F.Sexp vs) = after_no (flat_map events_of vs ++ closes Bracket.Sexp ∷ [])
+noted_layer (Payload-F.Fields fs) = after_yes (flat_map field_events fs ++ closes Bracket.Fields ∷ [])
 
-unknown_layer : (d : Layer) → table_after tables.Unknown (layer_events d) ≡ tables.No
+unknown_layer : (d : Layer) → table_after Table.Unknown (layer_events d) ≡ Table.No
 unknown_layer (Payload-F.Null k) = refl
 unknown_layer (Payload-F.Truth b) = refl
 unknown_layer (Payload-F.Int z) = refl
@@ -104,57 +86,57 @@ unknown_layer (Payload-F.Symbol s) = refl
 unknown_layer (Payload-F.Str w) = refl
 unknown_layer (Payload-F.Clob w) = refl
 unknown_layer (Payload-F.Blob w) = refl
-unknown_layer (Payload-F.List vs) = after_no (flat_map events_of vs ++ closes brackets.List ∷ [])
-unknown_layer (Payload-F.Sexp vs) = after_no (flat_map events_of vs ++ closes brackets.Sexp ∷ [])
-unknown_layer (Payload-F.Fields fs) = after_no (flat_map field_events fs ++ closes brackets.Fields ∷ [])
+unknown_layer (Payload-F.List vs) = after_no (flat_map events_of vs ++ closes Bracket.List ∷ [])
+unknown_layer (Payload-F.Sexp vs) = after_no (flat_map events_of vs ++ closes Bracket.Sexp ∷ [])
+unknown_layer (Payload-F.Fields fs) = after_no (flat_map field_events fs ++ closes Bracket.Fields ∷ [])
 
 -- a table, or none, by the first annotation
 abbrev by_first : Bool → Bool → Table
-by_first names fields = if names && fields then tables.Yes else tables.No
+by_first names fields = if names && fields then Table.Yes else Table.No
 
 first_told : (names : Bool) (ss : Symbols) (d : Layer)
-    → table_after (if names then tables.Noted else tables.No) (map annotation ss ++ layer_events d) ≡ by_first names (is_fields (layer_kind d))
+    → table_after (if names then Table.Noted else Table.No) (map annotation ss ++ layer_events d) ≡ by_first names (is_fields (layer_kind d))
 first_told true ss d =
-    after_append tables.Noted (map annotation ss) (layer_events d) ∙ (ap (λ t. table_after t (layer_events d)) (after_notes ss) ∙ noted_layer d)
+    after_append Table.Noted (map annotation ss) (layer_events d) ∙ (ap (λ t. table_after t (layer_events d)) (after_notes ss) ∙ noted_layer d)
 first_told false ss d = after_no (map annotation ss ++ layer_events d)
 
 layers_told : (ss : Symbols) (d : Layer)
-    → table_by (map annotation ss ++ layer_events d) ≡ (if is_table_of ss (layer_kind d) then tables.Yes else tables.No)
+    → table_by (map annotation ss ++ layer_events d) ≡ (if is_table_of ss (layer_kind d) then Table.Yes else Table.No)
 layers_told [] d = unknown_layer d
 layers_told (s ∷ ss) d = first_told (names_table s) ss d
 
 -- the events of a value tell whether it is a table
-pub table_told : (v : Value) → table_by (events_of v) ≡ (if is_table v then tables.Yes else tables.No)
+pub table_told : (v : Value) → table_by (events_of v) ≡ (if is_table v then Table.Yes else Table.No)
 table_told v = ap table_by (events_out v) ∙ layers_told v.annotations (out-Payload v.payload)
 
-yes_where : (b : Bool) → tables.Yes ≡ (if b then tables.Yes else tables.No) → b ≡ true
+yes_where : (b : Bool) → Table.Yes ≡ (if b then Table.Yes else Table.No) → b ≡ true
 yes_where true e = refl
 yes_where false e = absurd cc
 
-no_where : (b : Bool) → tables.No ≡ (if b then tables.Yes else tables.No) → b ≡ false
+no_where : (b : Bool) → Table.No ≡ (if b then Table.Yes else Table.No) → b ≡ false
 no_where true e = absurd cc
 no_where false e = refl
 
-unknown_nowhere : (b : Bool) → tables.Unknown ≡ (if b then tables.Yes else tables.No) → ⊥
+unknown_nowhere : (b : Bool) → Table.Unknown ≡ (if b then Table.Yes else Table.No) → ⊥
 unknown_nowhere true e = absurd cc
 unknown_nowhere false e = absurd cc
 
-noted_nowhere : (b : Bool) → tables.Noted ≡ (if b then tables.Yes else tables.No) → ⊥
+noted_nowhere : (b : Bool) → Table.Noted ≡ (if b then Table.Yes else Table.No) → ⊥
 noted_nowhere true e = absurd cc
 noted_nowhere false e = absurd cc
 
 -- a number is no null
 pub number_null : (n : Number) → is_null_struct (number_payload n) ≡ false
-number_null (numbers.Int z) = refl
-number_null (numbers.Decimal d) = refl
-number_null (numbers.Timestamp t) = refl
+number_null (Number.Int z) = refl
+number_null (Number.Decimal d) = refl
+number_null (Number.Timestamp t) = refl
 
 -- an event that is no annotation
 abbrev pub IsOther : Event → Type 0
 IsOther (annotation s) = ⊥
 IsOther _ = Unit {0}
 
-behind_other : (t : Table) (e : Event) → IsOther e → table_behind t e ≡ (if is_of_table t (begins_struct e) then tables.Yes else tables.No)
+behind_other : (t : Table) (e : Event) → IsOther e → table_behind t e ≡ (if is_of_table t (begins_struct e) then Table.Yes else Table.No)
 behind_other t (part p) h = refl
 behind_other t (annotation s) h = absurd h
 behind_other t (name s) h = refl
@@ -182,7 +164,7 @@ module _ {V : Type 0} (takes : V → Event → V → Type 0) where
 
   module _ (es : List Event) (e : Event) where
     -- an event of a table is built
-    table_takes : (f g : TableFilter) (a : V) → IsTable f es → g.table ≡ tables.Yes → g.notes ≡ [] → table_behind (table_by es) e ≡ tables.Yes
+    table_takes : (f g : TableFilter) (a : V) → IsTable f es → g.table ≡ Table.Yes → g.notes ≡ [] → table_behind (table_by es) e ≡ Table.Yes
         → heard es ≡ [] → builds f.tables e g.tables → WasTold g (es ++ e ∷ []) × Hears takes (heard es) (heard (es ++ e ∷ [])) a a
     table_takes f g a h table notes is none k =
         let by = by_more es e ∙ is in (
@@ -194,7 +176,7 @@ module _ {V : Type 0} (takes : V → Event → V → Type 0) where
         )
 
     -- what a visitor heard is told on
-    heard_on : (f : TableFilter) (a b : V) → LetsPass f → table_behind (table_by es) e ≡ tables.No → Hears takes (heard es) (es ++ e ∷ []) a b
+    heard_on : (f : TableFilter) (a b : V) → LetsPass f → table_behind (table_by es) e ≡ Table.No → Hears takes (heard es) (es ++ e ∷ []) a b
         → WasTold f (es ++ e ∷ []) × Hears takes (heard es) (heard (es ++ e ∷ [])) a b
     heard_on f a b h is told =
         let by = by_more es e ∙ is in (
@@ -206,9 +188,9 @@ module _ {V : Type 0} (takes : V → Event → V → Type 0) where
         )
 
     behind_is : (f : TableFilter) (b : Bool) → IsOther e → WasTold f es → is_of_table f.table (begins_struct e) ≡ b
-        → table_behind (table_by es) e ≡ (if b then tables.Yes else tables.No)
+        → table_behind (table_by es) e ≡ (if b then Table.Yes else Table.No)
     behind_is f b other h test =
-        ap (λ t. table_behind t e) (sym h.table) ∙ (behind_other f.table e other ∙ ap (λ x. if x then tables.Yes else tables.No) test)
+        ap (λ t. table_behind t e) (sym h.table) ∙ (behind_other f.table e other ∙ ap (λ x. if x then Table.Yes else Table.No) test)
 
   -- an event of a table, which is begun by it or before it
   pub table_tells : (e : Event) (f mid g : TableFilter) (a : V) → IsOther e → is_of_table f.table (begins_struct e) ≡ true
@@ -230,7 +212,7 @@ module _ {V : Type 0} (takes : V → Event → V → Type 0) where
 
   -- 4. Annotations.
 
-  pub noted_passes : (f g : TableFilter) (ss : Symbols) (a b : V) → f.table ≡ tables.Noted → g.table ≡ tables.No → g.notes ≡ [] → g.tables ≡ f.tables
+  pub noted_passes : (f g : TableFilter) (ss : Symbols) (a b : V) → f.table ≡ Table.Noted → g.table ≡ Table.No → g.notes ≡ [] → g.tables ≡ f.tables
       → ss ≡ f.notes → Led takes (map annotation ss) a b
       → (es : List Event) → WasTold f es → LetsPass g × Hears takes (heard es) es a b
   noted_passes f g ss a b is table notes built same led es h =
@@ -249,7 +231,7 @@ module _ {V : Type 0} (takes : V → Event → V → Type 0) where
       let i = passes es h in
       (i.0, hears_both (heard es) es (es ++ annotation s ∷ []) a m b i.1 (hears_one es (annotation s) m b k))
 
-  no_tells : (s : Option (List ℕ)) (f g : TableFilter) (a b : V) (t : Table) → f.table ≡ t → table_behind t (annotation s) ≡ tables.No
+  no_tells : (s : Option (List ℕ)) (f g : TableFilter) (a b : V) (t : Table) → f.table ≡ t → table_behind t (annotation s) ≡ Table.No
       → ((es : List Event) → WasTold f es → LetsPass g × Hears takes (heard es) (es ++ annotation s ∷ []) a b)
       → (es : List Event) → WasTold f es
       → WasTold g (es ++ annotation s ∷ []) × Hears takes (heard es) (heard (es ++ annotation s ∷ [])) a b
@@ -257,21 +239,21 @@ module _ {V : Type 0} (takes : V → Event → V → Type 0) where
       let i = passes es h in
       heard_on es (annotation s) g a b i.0 (ap (λ t. table_behind t (annotation s)) (sym h.table ∙ is) ∙ behind) i.1
 
-  pub none_noted : (s : Option (List ℕ)) (f g : TableFilter) (a b : V) → f.table ≡ tables.No
+  pub none_noted : (s : Option (List ℕ)) (f g : TableFilter) (a b : V) → f.table ≡ Table.No
       → ((es : List Event) → WasTold f es → LetsPass g × Hears takes (heard es) (es ++ annotation s ∷ []) a b)
       → (es : List Event) → WasTold f es
       → WasTold g (es ++ annotation s ∷ []) × Hears takes (heard es) (heard (es ++ annotation s ∷ [])) a b
-  none_noted s f g a b is = no_tells s f g a b tables.No is refl
+  none_noted s f g a b is = no_tells s f g a b Table.No is refl
 
-  pub unknown_noted : (s : Option (List ℕ)) (f g : TableFilter) (a b : V) → f.table ≡ tables.Unknown → names_table s ≡ false
+  pub unknown_noted : (s : Option (List ℕ)) (f g : TableFilter) (a b : V) → f.table ≡ Table.Unknown → names_table s ≡ false
       → ((es : List Event) → WasTold f es → LetsPass g × Hears takes (heard es) (es ++ annotation s ∷ []) a b)
       → (es : List Event) → WasTold f es
       → WasTold g (es ++ annotation s ∷ []) × Hears takes (heard es) (heard (es ++ annotation s ∷ [])) a b
-  unknown_noted s f g a b is names = no_tells s f g a b tables.Unknown is (ap (λ x. if x then tables.Noted else tables.No) names)
+  unknown_noted s f g a b is names = no_tells s f g a b Table.Unknown is (ap (λ x. if x then Table.Noted else Table.No) names)
 
   -- it is kept
-  kept_tells : (s : Option (List ℕ)) (es : List Event) (g : TableFilter) (a : V) → g.table ≡ tables.Noted
-      → table_by (es ++ annotation s ∷ []) ≡ tables.Noted → heard es ≡ [] → es ++ annotation s ∷ [] ≡ map annotation g.notes → g.tables ≡ fresh
+  kept_tells : (s : Option (List ℕ)) (es : List Event) (g : TableFilter) (a : V) → g.table ≡ Table.Noted
+      → table_by (es ++ annotation s ∷ []) ≡ Table.Noted → heard es ≡ [] → es ++ annotation s ∷ [] ≡ map annotation g.notes → g.tables ≡ fresh
       → WasTold g (es ++ annotation s ∷ []) × Hears takes (heard es) (heard (es ++ annotation s ∷ [])) a a
   kept_tells s es g a table by none notes built = (
     record {
@@ -281,7 +263,7 @@ module _ {V : Type 0} (takes : V → Event → V → Type 0) where
     hears_none (heard es) (heard (es ++ annotation s ∷ [])) a (ap (λ t. heard_by t (es ++ annotation s ∷ [])) by ∙ sym none),
   )
 
-  pub further_kept : (s : Option (List ℕ)) (f g : TableFilter) (a : V) → f.table ≡ tables.Noted → g.table ≡ f.table
+  pub further_kept : (s : Option (List ℕ)) (f g : TableFilter) (a : V) → f.table ≡ Table.Noted → g.table ≡ f.table
       → g.notes ≡ f.notes ++ s ∷ [] → g.tables ≡ f.tables
       → (es : List Event) → WasTold f es
       → WasTold g (es ++ annotation s ∷ []) × Hears takes (heard es) (heard (es ++ annotation s ∷ [])) a a
@@ -292,7 +274,7 @@ module _ {V : Type 0} (takes : V → Event → V → Type 0) where
       (ap (λ x. x ++ annotation s ∷ []) k.0 ∙ (sym (map-append annotation f.notes (s ∷ [])) ∙ ap (map annotation) (sym notes))) (built ∙ k.1)
 
   -- it is built, where a table is told
-  pub yes_noted : (s : Option (List ℕ)) (f g : TableFilter) (a : V) → f.table ≡ tables.Yes → g.table ≡ f.table → g.notes ≡ f.notes
+  pub yes_noted : (s : Option (List ℕ)) (f g : TableFilter) (a : V) → f.table ≡ Table.Yes → g.table ≡ f.table → g.notes ≡ f.notes
       → builds f.tables (annotation s) g.tables
       → (es : List Event) → WasTold f es
       → WasTold g (es ++ annotation s ∷ []) × Hears takes (heard es) (heard (es ++ annotation s ∷ [])) a a
@@ -306,10 +288,10 @@ module _ {V : Type 0} (takes : V → Event → V → Type 0) where
 -- 6. The end of a value.
 
 module _ (v : Value) (f : TableFilter) (h : WasTold f (events_of v)) where
-  known : f.table ≡ (if is_table v then tables.Yes else tables.No)
+  known : f.table ≡ (if is_table v then Table.Yes else Table.No)
   known = h.table ∙ table_told v
 
-  pub yes_ends : (g : TableFilter) (taken : Option Value) → f.table ≡ tables.Yes → taken ≡ value_in f.tables.place → g.table ≡ tables.Unknown
+  pub yes_ends : (g : TableFilter) (taken : Option Value) → f.table ≡ Table.Yes → taken ≡ value_in f.tables.place → g.table ≡ Table.Unknown
       → g.notes ≡ f.notes → g.tables ≡ record { notes = f.tables.notes; place = without_value f.tables.place; outer = f.tables.outer }
       → (taken ≡ table_of v) × WasTold g []
   yes_ends g taken is value table notes left =
@@ -327,7 +309,7 @@ module _ (v : Value) (f : TableFilter) (h : WasTold f (events_of v)) where
         },
       )
 
-  pub no_ends : (g : TableFilter) → f.table ≡ tables.No → g.table ≡ tables.Unknown → g.notes ≡ f.notes → g.tables ≡ f.tables
+  pub no_ends : (g : TableFilter) → f.table ≡ Table.No → g.table ≡ Table.Unknown → g.notes ≡ f.notes → g.tables ≡ f.tables
       → (None ≡ table_of v) × WasTold g []
   no_ends g is table notes built =
       let k = subst (λ t. AreKept t (events_of v) f.notes f.tables) is h.kept in
@@ -339,10 +321,10 @@ module _ (v : Value) (f : TableFilter) (h : WasTold f (events_of v)) where
         },
       )
 
-  pub unknown_ends : f.table ≡ tables.Unknown → ⊥
+  pub unknown_ends : f.table ≡ Table.Unknown → ⊥
   unknown_ends is = unknown_nowhere (is_table v) (sym is ∙ known)
 
-  pub noted_ends : f.table ≡ tables.Noted → ⊥
+  pub noted_ends : f.table ≡ Table.Noted → ⊥
   noted_ends is = noted_nowhere (is_table v) (sym is ∙ known)
 
 -- 7. Annotations that were kept are told one by one.

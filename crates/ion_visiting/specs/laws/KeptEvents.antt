@@ -1,17 +1,11 @@
 -- Values whose events are such as the types keep are kept.
 use Rattle.std.proofs.Common.{◌≡◌, ◌<◌, zero, suc, List, [], ◌∷◌, ◌++◌, map, Option, ℕ, subst, arith}
 use Rattle.std.specs.List.{flat_map}
-use Rattle.ion_model.specs.declared.value.Value.{Value}
-use Rattle.ion_model.specs.declared.value.Field.{Field}
-use Rattle.ion_model.specs.declared.value.Payload.TheOpen.{Payload-F}
-use Rattle.ion_model.specs.declared.value.Payload.TheViews as views
+use Rattle.ion_visiting.specs.Names.{AreKept, AreTexts, Bracket, Event, Field, IsKept, KeptFields, KeptItems, KeptPayload, Layer, Led, Payload-F, Value, annotation, closes, depth, ended, events_of, field_events, greatest, layer_depth, layer_events, stream_events}
 use Rattle.ion_model.specs.Kept as kepts
-use Rattle.ion_model.specs.Kept.{AreTexts, IsKept, KeptPayload, KeptItems, KeptFields, AreKept}
-use Rattle.ion_model.specs.Measures.{Layer, depth, layer_depth, greatest}
+use Rattle.ion_model.specs.declared.value.Payload.TheViews as views
 use Rattle.ion_model.specs.laws.Measures.{depth-out}
-use Rattle.ion_visiting.specs.declared.bracket.Bracket.TheVariants as brackets
-use Rattle.ion_visiting.specs.Events.{Event, annotation, closes, ended, events_of, field_events, layer_events, stream_events, Led}
-use Rattle.ion_visiting.specs.KeptEvents.{KeptEvent, AreKeptEvents}
+use Rattle.ion_visiting.specs.KeptEvents.{AreKeptEvents, KeptEvent}
 use Rattle.ion_visiting.specs.laws.Led.{events_out}
 
 -- where a visitor takes only such events, those that led it on are such
@@ -56,11 +50,11 @@ layer_kept n h (Payload-F.Str w) small t = t.0
 layer_kept n h (Payload-F.Clob w) small t = t.0
 layer_kept n h (Payload-F.Blob w) small t = t.0
 layer_kept n h (Payload-F.List vs) small t =
-    kepts.kept_list vs (items_kept n h vs (omega (arith, small)) (kept_split (flat_map events_of vs) (closes brackets.List ∷ []) t.1).0)
+    kepts.kept_list vs (items_kept n h vs (omega (arith, small)) (kept_split (flat_map events_of vs) (closes Bracket.List ∷ []) t.1).0)
 layer_kept n h (Payload-F.Sexp vs) small t =
-    kepts.kept_sexp vs (items_kept n h vs (omega (arith, small)) (kept_split (flat_map events_of vs) (closes brackets.Sexp ∷ []) t.1).0)
+    kepts.kept_sexp vs (items_kept n h vs (omega (arith, small)) (kept_split (flat_map events_of vs) (closes Bracket.Sexp ∷ []) t.1).0)
 layer_kept n h (Payload-F.Fields ms) small t =
-    kepts.kept_fields ms (fields_kept n h ms (omega (arith, small)) (kept_split (flat_map field_events ms) (closes brackets.Fields ∷ []) t.1).0)
+    kepts.kept_fields ms (fields_kept n h ms (omega (arith, small)) (kept_split (flat_map field_events ms) (closes Bracket.Fields ∷ []) t.1).0)
 
 each_kept : (n : ℕ) → Kept n
 each_kept zero = record { value = λ v small k. absurd (omega (arith, small)) }

@@ -2,15 +2,8 @@
 use Rattle.std.proofs.Common.{◌≡◌, List, [], ◌∷◌, ◌++◌, map, refl, ap, sym, subst, ◌∙◌}
 use Rattle.std.specs.List.{flat_map}
 use Rattle.std.proofs.lemmas.List.Folds.{flat_map-map}
-use Rattle.ion_model.specs.declared.value.Value.{Value}
-use Rattle.ion_model.specs.declared.value.Field.{Field}
-use Rattle.ion_model.specs.declared.value.Payload.{Payload}
+use Rattle.ion_visiting.specs.Names.{Bracket, Event, Field, Layer, Led, Payload, Payload-F, Value, annotation, events_of, events_step, field_events, fold-Field, fold-Payload, fold_out-Field, fold_out-Payload, fold_out-Value, layer_events, map-Payload, name, within}
 use Rattle.ion_model.specs.declared.value.Payload.TheViews as views
-use Rattle.ion_model.specs.declared.value.Payload.TheOpen.{Payload-F}
-use Rattle.ion_model.specs.declared.value.Payload.TheFolds.{fold_out-Payload, fold_out-Value, fold_out-Field, fold-Payload, fold-Field, map-Payload}
-use Rattle.ion_model.specs.Measures.{Layer}
-use Rattle.ion_visiting.specs.declared.bracket.Bracket.TheVariants as brackets
-use Rattle.ion_visiting.specs.Events.{Event, annotation, name, within, events_step, events_of, field_events, layer_events, Led}
 
 -- 1. Of events one behind the other.
 
@@ -48,10 +41,10 @@ fields_fold (f ∷ fs) = rw (
 
 step_layer : (d : Layer) → events_step (map-Payload Payload Field Value (List Event) (List Event) (List Event) payload_fold field_fold events_of d)
     ≡ layer_events d
-step_layer (Payload-F.List vs) = ap (within brackets.List) (flat_map-map (λ e. e) events_of vs)
-step_layer (Payload-F.Sexp vs) = ap (within brackets.Sexp) (flat_map-map (λ e. e) events_of vs)
+step_layer (Payload-F.List vs) = ap (within Bracket.List) (flat_map-map (λ e. e) events_of vs)
+step_layer (Payload-F.Sexp vs) = ap (within Bracket.Sexp) (flat_map-map (λ e. e) events_of vs)
 step_layer (Payload-F.Fields fs) =
-    ap (λ es. within brackets.Fields (flat_map (λ e. e) es)) (fields_fold fs) ∙ ap (within brackets.Fields) (flat_map-map (λ e. e) field_events fs)
+    ap (λ es. within Bracket.Fields (flat_map (λ e. e) es)) (fields_fold fs) ∙ ap (within Bracket.Fields) (flat_map-map (λ e. e) field_events fs)
 step_layer _ = refl
 
 -- what is told of a value: its annotations, and then the level that its payload is

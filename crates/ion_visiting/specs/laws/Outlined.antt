@@ -3,22 +3,11 @@ use Rattle.std.proofs.Common.{◌≡◌, ℕ, ◌<◌, ◌≤◌, ◌+◌, ◌-�
 use Rattle.std.specs.List.{flat_map}
 use Rattle.std.proofs.lemmas.Bool.Decides.{nat_tests}
 use Rattle.std.proofs.lemmas.List.Sums.{sum-map, sum_by-cons}
-use Rattle.ion_atoms.specs.declared.kind.Kind.{Kind}
-use Rattle.ion_model.specs.declared.value.Value.{Value}
-use Rattle.ion_model.specs.declared.value.Field.{Field}
-use Rattle.ion_model.specs.declared.value.Payload.{Payload}
-use Rattle.ion_model.specs.declared.value.Payload.TheOpen.{Payload-F}
+use Rattle.ion_visiting.specs.Names.{Bracket, Event, Field, Kind, Layer, Led, Outlining, Payload, Payload-F, Value, annotation, closes, depth, events_of, field_events, greatest, kind_of, layer_depth, layer_events, layer_kind, layer_nodes, name, nodes, outline_of, part, within}
 use Rattle.ion_model.specs.declared.value.Payload.TheViews as views
-use Rattle.ion_model.specs.Kinds.{kind_of, layer_kind}
-use Rattle.ion_model.specs.Measures.{Layer, depth, nodes, layer_depth, layer_nodes, greatest}
-use Rattle.ion_model.specs.Outlines.{outline_of}
 use Rattle.ion_model.specs.laws.Measures.{depth-out, nodes-out}
-use Rattle.ion_visiting.specs.declared.bracket.Bracket.{Bracket}
-use Rattle.ion_visiting.specs.declared.bracket.Bracket.TheVariants as brackets
-use Rattle.ion_visiting.specs.declared.outlining.Outlining.{Outlining}
-use Rattle.ion_visiting.specs.Events.{Event, part, annotation, name, closes, within, events_of, field_events, layer_events, Led}
-use Rattle.ion_visiting.specs.laws.Led.{led_split, events_out}
-use Rattle.ion_visiting.specs.Outlining.{bracket_kind, no_outline, outline_in, kind_at, outlined, outlines}
+use Rattle.ion_visiting.specs.Outlining.{bracket_kind, kind_at, no_outline, outline_in, outlined, outlines}
+use Rattle.ion_visiting.specs.laws.Led.{events_out, led_split}
 
 -- what is counted stops where it should
 record Sound (a : Outlining) : Type 0 where
@@ -169,11 +158,11 @@ layer_outlined n h (Payload-F.Str w) small a b s x = part_outlined _ _ a b (view
 layer_outlined n h (Payload-F.Clob w) small a b s x = part_outlined _ _ a b (views.outs-Clob w) s x
 layer_outlined n h (Payload-F.Blob w) small a b s x = part_outlined _ _ a b (views.outs-Blob w) s x
 layer_outlined n h (Payload-F.List vs) small a b s x =
-    within_outlined brackets.List _ _ _ a b s (λ m o some sound y. items_outlined n h vs m o (omega (arith, small)) some sound y) x
+    within_outlined Bracket.List _ _ _ a b s (λ m o some sound y. items_outlined n h vs m o (omega (arith, small)) some sound y) x
 layer_outlined n h (Payload-F.Sexp vs) small a b s x =
-    within_outlined brackets.Sexp _ _ _ a b s (λ m o some sound y. items_outlined n h vs m o (omega (arith, small)) some sound y) x
+    within_outlined Bracket.Sexp _ _ _ a b s (λ m o some sound y. items_outlined n h vs m o (omega (arith, small)) some sound y) x
 layer_outlined n h (Payload-F.Fields ms) small a b s x =
-    within_outlined brackets.Fields _ _ _ a b s (λ m o some sound y. fields_outlined n h ms m o (omega (arith, small)) some sound y) x
+    within_outlined Bracket.Fields _ _ _ a b s (λ m o some sound y. fields_outlined n h ms m o (omega (arith, small)) some sound y) x
 
 each_outlined : (n : ℕ) → Outlines n
 each_outlined zero = record { at = λ v small a b s k. absurd (omega (arith, small)) }

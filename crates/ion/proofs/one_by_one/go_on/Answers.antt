@@ -1,7 +1,7 @@
 use Rattle.std.proofs.Common.{ℕ, [], ◌∷◌, ◌++◌, refl, Some, None}
 use Rattle.std.proofs.lemmas.Bool.{false≢true}
-use Rattle.ion_model.specs.declared.value.Value.{Value}
-use Rattle.ion_streams.proofs.Passes.{stood_next, not_refused}
+use Rattle.ion.specs.Names.{Value}
+use Rattle.ion_streams.proofs.Passes.{not_refused, stood_next}
 use Rattle.ion.proofs.Nexts.{front_at, refused_not}
 use Rattle.ion.proofs.one_by_one.go_on.Goals as goal
 

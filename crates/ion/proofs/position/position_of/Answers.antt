@@ -1,12 +1,9 @@
 use Rattle.std.proofs.Common.{inr, ℕ, ◌+◌, ◌≤◌, ◌<◌, ◌≡◌, List, [], ◌++◌, take, drop, length, min, Bool, true, false, ap, sym, ◌∙◌, arith, length-take, length-drop, length-append, append-nil}
 use Rattle.std.proofs.lemmas.Bool.{false≢true}
 use Rattle.std.proofs.lemmas.List.{take-append-le, take_all, length-take-le}
-use Rattle.ion_symtab.specs.declared.inlet.Inlet.{Ghosts as Inlet}
-use Rattle.ion_symtab.specs.Heard.{Heard}
+use Rattle.ion.specs.Names.{Heard, Inlet, IsPosition, Position, position}
 use Rattle.ion_symtab.specs.Told.{Told}
 use Rattle.ion_symtab.specs.laws.Heard.{Heard-trans}
-use Rattle.ion.specs.Lines.{IsPosition, position}
-use Rattle.ion.specs.declared.position.Position.{Position}
 use Rattle.ion.proofs.Snoc.{spot_fits}
 use Rattle.ion.proofs.position.position_of.Goals as goal
 

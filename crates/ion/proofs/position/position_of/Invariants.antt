@@ -1,5 +1,5 @@
 use Rattle.std.proofs.Common.{◌≡◌, ◌⊎◌, ℕ, ◌+◌, ◌≤◌, List, length, false}
-use Rattle.ion_symtab.specs.Heard.{Heard}
+use Rattle.ion.specs.Names.{Heard}
 use Rattle.ion.specs.Spots.{spot_of}
 use Rattle.ion.proofs.position.position_of.Given as goal
 

@@ -1,7 +1,5 @@
 use Rattle.std.proofs.Common.{◌∙◌, ap, sym}
-use Rattle.ion_scalar.specs.declared.descriptor.Size.TheVariants.{Known}
-use Rattle.ion_binary.specs.Grammar.{short, long}
-use Rattle.ion_binary.specs.declared.form.Opening.TheVariants.{Sized}
+use Rattle.ion_binary.specs.Names.{Known, Sized, long, short}
 use Rattle.ion_binary.proofs.lengths.lengths.Goals as goal
 
 pub returns-in-Known-clause-header : goal.returns-in-Known-clause-header

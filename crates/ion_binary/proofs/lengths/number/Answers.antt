@@ -1,5 +1,5 @@
 use Rattle.std.proofs.Common.{◌<◌, length, take, get_or, sym, subst, arith}
-use Rattle.ion_scalar.specs.binary.Fields.{VarUInt}
+use Rattle.ion_binary.specs.Names.{VarUInt}
 use Rattle.ion_binary.proofs.OneDigit.{one_digit}
 use Rattle.ion_binary.proofs.lengths.number.Goals as goal
 

@@ -1,7 +1,6 @@
 use Rattle.std.proofs.Common.{ℕ, List, [], Option, Result, Ok, Err, OnErr, OnOk}
-use Rattle.ion_symtab.specs.Took.{Took, TookFront}
+use Rattle.ion_binary.specs.Names.{Took, TookFront, the_marker}
 use Rattle.ion_symtab.specs.laws.Took.{Front-all, Took-kept}
-use Rattle.ion_binary.specs.Grammar.{the_marker}
 use Rattle.ion_binary.proofs.writer.finish_document.Goals as goal
 
 -- what is so whatever a call answers is so where it answers no fault

@@ -1,27 +1,12 @@
 -- No whole pieces end within a piece. So a value's item lies between any with the values before it and any with one more.
 use Rattle.std.proofs.Common.{◌≡◌, ℕ, zero, suc, ◌+◌, ◌≤◌, ◌<◌, List, [], ◌∷◌, ◌++◌, length, refl, ap, sym, ◌∙◌, subst, arith, append_assoc, append-nil, length-append, inl, inr}
 use Rattle.std.proofs.lemmas.Bool.{cases_lt}
-use Rattle.ion_model.specs.declared.value.Value.{Value}
-use Rattle.ion_model.specs.declared.value.Payload.{Payload}
-use Rattle.ion_model.specs.Measures.{nodes}
-use Rattle.ion_scalar.specs.binary.Descriptor.{descriptor_of}
-use Rattle.ion_scalar.specs.binary.Fields.{VarUInt}
+use Rattle.ion_binary.specs.Names.{Binary, Catalog, Follows, Form, Header, IsPad, Known, Limits, Marker, Null, Opening, Payload, Pieces, Plain, Refused, Sized, Slot, Truth, Value, VarUInt, Whole, begins, descriptor_of, document, holds, is_listing, is_null, is_ordered, is_scalar, is_struct, is_truth, long, marked, no_piece, nodes, opening_of, short, skipped, skips, the_marker, trace, turns, unannotated, wrapped}
 use Rattle.ion_scalar.specs.binary.laws.VarUInt.{one_var_uint}
-use Rattle.ion_scalar.specs.declared.descriptor.Size.TheVariants.{Known, Follows}
-use Rattle.ion_symtab.specs.declared.limits.Limits.{Limits}
-use Rattle.ion_symtab.specs.declared.catalog.Catalog.{Catalog}
-use Rattle.ion_symtab.specs.Slots.{Slot}
 use Rattle.ion_symtab.specs.laws.Promises.{same_cut, same_last}
-use Rattle.ion_binary.specs.declared.form.Form.{Form}
-use Rattle.ion_binary.specs.declared.form.Form.TheVariants as forms
-use Rattle.ion_binary.specs.declared.form.Opening.{Opening}
-use Rattle.ion_binary.specs.declared.form.Opening.TheVariants.{Refused, Marker, Null, Truth, Sized}
-use Rattle.ion_binary.specs.Opening.{opening_of}
-use Rattle.ion_binary.specs.Grammar.{Header, short, long, IsPad, skipped, Plain, is_null, is_truth, is_scalar, is_listing, is_struct, is_ordered, Binary, unannotated, wrapped, Pieces, begins, marked, skips, turns, holds, the_marker, Whole, no_piece, document}
-use Rattle.ion_binary.specs.machine.Run.{trace}
-use Rattle.ion_binary.specs.laws.reading.Small.{binary_nodes}
 use Rattle.ion_binary.specs.laws.reading.Documents.{pieces_run}
 use Rattle.ion_binary.specs.laws.reading.Promises.{front_of, grows, one_whole, plain_long}
+use Rattle.ion_binary.specs.laws.reading.Small.{binary_nodes}
 
 -- 1. The first octets of a piece say how long it is.
 
@@ -91,17 +76,17 @@ headed form n _ body e (long b w o v) = record {
 plain_piece : (c : List Slot) (w : List ℕ) (p : Payload) → Plain c w p → IsPiece w
 plain_piece c _ _ (is_null b k o) = record { descriptor = b; rest = []; whole = refl; sized = subst (λ x. IsSizedBy x []) (sym o) refl }
 plain_piece c _ _ (is_truth b t o) = record { descriptor = b; rest = []; whole = refl; sized = subst (λ x. IsSizedBy x []) (sym o) refl }
-plain_piece c _ _ (is_scalar h body t p d i) = headed (forms.Scalar t) (length body) h body refl d
-plain_piece c _ _ (is_listing h body x vs d q) = headed (forms.Listing x) (length body) h body refl d
-plain_piece c _ _ (is_struct h body ms d q) = headed forms.Struct (length body) h body refl d
-plain_piece c _ _ (is_ordered h body ms d k q) = headed forms.OrderedStruct (length body) h body refl d
+plain_piece c _ _ (is_scalar h body t p d i) = headed (Form.Scalar t) (length body) h body refl d
+plain_piece c _ _ (is_listing h body x vs d q) = headed (Form.Listing x) (length body) h body refl d
+plain_piece c _ _ (is_struct h body ms d q) = headed Form.Struct (length body) h body refl d
+plain_piece c _ _ (is_ordered h body ms d k q) = headed Form.OrderedStruct (length body) h body refl d
 
 value_piece : (c : List Slot) (w : List ℕ) (v : Value) → Binary c w v → IsPiece w
 value_piece c _ _ (unannotated w p b) = plain_piece c w p b
-value_piece c _ _ (wrapped h count ids w ss p d v n i b) = headed forms.Wrapper (length (count ++ (ids ++ w))) h (count ++ (ids ++ w)) refl d
+value_piece c _ _ (wrapped h count ids w ss p d v n i b) = headed Form.Wrapper (length (count ++ (ids ++ w))) h (count ++ (ids ++ w)) refl d
 
 pad_piece : (w : List ℕ) → IsPad w → IsPiece w
-pad_piece _ (skipped h body d) = headed forms.Pad (length body) h body refl d
+pad_piece _ (skipped h body d) = headed Form.Pad (length body) h body refl d
 
 -- 2. Pieces one behind the other.
 

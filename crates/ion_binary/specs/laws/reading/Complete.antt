@@ -1,49 +1,21 @@
 -- What the grammar says, the machine reads.
 use Rattle.std.proofs.Common.{◌≡◌, ℕ, zero, suc, ◌+◌, ◌-◌, ◌*◌, ◌^◌, ◌<◌, ◌≤◌, max, List, [], ◌∷◌, ◌++◌, length, Option, Result, Ok, Err, Some, None, refl, ap, sym, subst, ◌∙◌, arith, length-append, Bool, true, false, ◌||◌, cond, nat_le, append_assoc, le-leb, lt-ltb, le-ltb, eq-eqb, ne_eqb, ◌==◌}
 use Rattle.std.proofs.lemmas.Bool.{cond-true, cond-false}
-use Rattle.ion_model.specs.declared.value.Value.{Value}
-use Rattle.ion_model.specs.declared.value.Field.{Field}
-use Rattle.ion_model.specs.declared.value.Payload.{Payload}
+use Rattle.ion_binary.specs.Names.{Binary, Catalog, Digits128, Field, Fields, Form, Frame, Header, Ids, InNumber, InPad, IsPad, ItemTooLong, Limits, Listing, Outcome, Payload, Plain, Purpose, Ready, Reason, Run, Scalar, Sequence, Slot, Spot, Value, VarUInt, anew, annotated, annotation_came, at, bare, begin, count_came, deliver, depth, depths, descriptor_of, end_of, feed, field_depths, field_of, hollow, in_body, is_listing, is_null, is_ordered, is_pad, is_scalar, is_struct, is_truth, is_wrapper, judge, judged, led, length-one, levels, listed, long, longer, misfits, more, nameless, no_fields, no_ids, none, nothing, number_came, on_descriptor, on_outcome, one_field, one_id, one_more, one_octet, open_struct, opening_of, or_else, outside, padded, padded_field, past, positional, positional_push, proceed, read_offset, resolve, run, run-append, run_after, run_on, run_step, run_via, short, sized, skipped, spot_at, stray, system_slots, the_marker, then_after, then_run, timestamp_of_body, too_long, unannotated, under, unending, unfit, unless, unsized, wrapped}
 use Rattle.ion_model.specs.declared.value.Payload.TheVariants as payloads
-use Rattle.ion_atoms.specs.declared.refusal.Reason.{Reason}
-use Rattle.ion_atoms.specs.declared.refusal.Reason.TheVariants.{ItemTooLong}
-use Rattle.ion_model.specs.Measures.{depth, bare, annotated, field_of}
-use Rattle.ion_model.specs.laws.Measures.{depth-out, depth-at-List, depth-at-Sexp, depth-at-Fields, deepest-more}
-use Rattle.ion_symtab.specs.declared.limits.Limits.{Limits}
-use Rattle.ion_symtab.specs.declared.catalog.Catalog.{Catalog}
-use Rattle.ion_symtab.specs.Slots.{Slot, system_slots, resolve}
-use Rattle.ion_binary.specs.declared.form.Form.{Form}
-use Rattle.ion_binary.specs.declared.form.Form.TheVariants as forms
-use Rattle.ion_binary.specs.declared.form.Listing.{Listing}
-use Rattle.ion_binary.specs.declared.form.Listing.TheVariants as listings
-use Rattle.ion_binary.specs.declared.form.Scalar.{Scalar}
-use Rattle.ion_binary.specs.declared.form.Scalar.TheVariants as scalars
-use Rattle.ion_binary.specs.machine.Frames.{Frame}
-use Rattle.ion_binary.specs.machine.Frames as frames
-use Rattle.ion_binary.specs.declared.state.Purpose.{Purpose}
-use Rattle.ion_binary.specs.declared.state.Purpose.TheVariants as purposes
-use Rattle.ion_binary.specs.declared.state.Phase.TheVariants.{Ready, InNumber, InPad}
-use Rattle.ion_scalar.specs.binary.Fields.{positional, Digits128, none, more, VarUInt}
-use Rattle.ion_scalar.specs.Positional.{positional_push}
-use Rattle.ion_scalar.specs.binary.Descriptor.{descriptor_of}
-use Rattle.ion_binary.specs.Opening.{opening_of, is_pad, is_wrapper}
-use Rattle.ion_binary.specs.Grammar.{Header, short, long, IsPad, skipped, Ids, no_ids, one_id, listed, Plain, is_null, is_truth, is_scalar, is_listing, is_struct, is_ordered, Binary, unannotated, wrapped, Sequence, nothing, one_more, padded, Fields, no_fields, one_field, padded_field, the_marker}
-use Rattle.ion_scalar.specs.binary.Timestamp.{timestamp_of_body, read_offset}
-use Rattle.ion_binary.specs.Judge.{judge}
-use Rattle.ion_binary.specs.laws.reading.Judged.{judge_scalar}
-use Rattle.ion_binary.specs.machine.EachOctet.{Spot, under, spot_at, moved, anew, Outcome, at, in_body, end_of, levels, deliver, proceed, unless, or_else, too_long, misfits, stray, nameless, unending, outside, past, unfit, judged, open_struct, begin, sized, longer, unsized, one_octet, on_descriptor, count_came, annotation_came, number_came, feed, hollow}
-use Rattle.ion_binary.specs.machine.Run.{Run, run, run_on}
-use Rattle.ion_binary.specs.Depths.{depths, field_depths}
-use Rattle.ion_binary.specs.laws.reading.Stands.{TopRoom, HasRoom, BodyMayEnd, InRoom, NumberRoom}
+use Rattle.ion_model.specs.laws.Measures.{deepest-more, depth-at-Fields, depth-at-List, depth-at-Sexp, depth-out}
 use Rattle.ion_binary.specs.machine.AtOnce.{body_more, pad_more}
-use Rattle.ion_binary.specs.machine.Pieces.{run-append, run_via, run_step, then_run, then_after, on_outcome, led, run_after, length-one}
+use Rattle.ion_binary.specs.machine.EachOctet.{moved}
+use Rattle.ion_binary.specs.machine.Frames as frames
+use Rattle.ion_binary.specs.laws.reading.Judged.{judge_scalar}
+use Rattle.ion_binary.specs.laws.reading.Stands.{BodyMayEnd, HasRoom, InRoom, NumberRoom, TopRoom}
 
 -- depths
 
 -- a list or an s-expression is one level deeper than the deepest of its items
 pub depth-listed : (x : Listing) (vs : List Value) → depth (bare (listed x vs)) ≡ suc (depths vs)
-depth-listed listings.List vs = depth-at-List (bare (payloads.List vs)) vs refl
-depth-listed listings.Sexp vs = depth-at-Sexp (bare (payloads.Sexp vs)) vs refl
+depth-listed Listing.List vs = depth-at-List (bare (payloads.List vs)) vs refl
+depth-listed Listing.Sexp vs = depth-at-Sexp (bare (payloads.Sexp vs)) vs refl
 
 -- a struct is one level deeper than the deepest of its fields
 pub depth-fields : (ms : List Field) → depth (bare (payloads.Fields ms)) ≡ suc (field_depths ms)
@@ -100,20 +72,20 @@ outside_none [] used h = absurd h
 outside_none (f ∷ fs) used h = cond-true _ _ _ (lt-ltb used (end_of f) (omega arith))
 
 past_none : (l : Limits) (start : ℕ) (fs : List Frame) (p : Purpose) (used : ℕ) → NumberRoom l start fs p (used + 1) → past l.item start fs p used ≡ None
-past_none l start fs (purposes.Length form) used h = unending_none l start fs form used h
-past_none l start fs purposes.FieldName used h = outside_none fs used h
-past_none l start fs purposes.AnnotationsLength used h = outside_none fs used h
-past_none l start fs (purposes.Annotation stop) used h = cond-true _ _ _ (lt-ltb used stop (omega arith))
+past_none l start fs (Purpose.Length form) used h = unending_none l start fs form used h
+past_none l start fs Purpose.FieldName used h = outside_none fs used h
+past_none l start fs Purpose.AnnotationsLength used h = outside_none fs used h
+past_none l start fs (Purpose.Annotation stop) used h = cond-true _ _ _ (lt-ltb used stop (omega arith))
 
 in_less : (fs : List Frame) (a b : ℕ) → a ≤ b → InRoom fs b → InRoom fs a
 in_less [] a b h r = r
 in_less (f ∷ fs) a b h r = omega arith
 
 number_less : (l : Limits) (start : ℕ) (fs : List Frame) (p : Purpose) (a b : ℕ) → a ≤ b → NumberRoom l start fs p b → NumberRoom l start fs p a
-number_less l start fs (purposes.Length form) a b h r = room_less l start fs form a b h r
-number_less l start fs purposes.FieldName a b h r = in_less fs a b h r
-number_less l start fs purposes.AnnotationsLength a b h r = in_less fs a b h r
-number_less l start fs (purposes.Annotation stop) a b h r = omega arith
+number_less l start fs (Purpose.Length form) a b h r = room_less l start fs form a b h r
+number_less l start fs Purpose.FieldName a b h r = in_less fs a b h r
+number_less l start fs Purpose.AnnotationsLength a b h r = in_less fs a b h r
+number_less l start fs (Purpose.Annotation stop) a b h r = omega arith
 
 -- a form may stand here
 pub record Admits (fs : List Frame) (form : Form) : Type 0 where
@@ -128,7 +100,7 @@ stray_none (frames.Fields end ms ∷ fs) form p w = refl
 stray_none (frames.Named end ms name ∷ fs) form p w = refl
 
 -- what may stand behind this field name doesn't depend on the form
-nameless_none : (fs : List Frame) (form : Form) → nameless fs forms.Struct ≡ None → nameless fs form ≡ None
+nameless_none : (fs : List Frame) (form : Form) → nameless fs Form.Struct ≡ None → nameless fs form ≡ None
 nameless_none [] form h = refl
 nameless_none (frames.Annotated end ss ∷ fs) form h = refl
 nameless_none (frames.Items end x vs ∷ fs) form h = refl
@@ -136,11 +108,11 @@ nameless_none (frames.Fields end ms ∷ fs) form h = refl
 nameless_none (frames.Named end ms (Ok s) ∷ fs) form h = refl
 nameless_none (frames.Named end ms (Err e) ∷ fs) form h = absurd cc
 
-admits_plain : (fs : List Frame) (form : Form) → is_pad form ≡ false → is_wrapper form ≡ false → nameless fs forms.Struct ≡ None → Admits fs form
+admits_plain : (fs : List Frame) (form : Form) → is_pad form ≡ false → is_wrapper form ≡ false → nameless fs Form.Struct ≡ None → Admits fs form
 admits_plain fs form p w h = record { fitting = stray_none fs form p w; named = nameless_none fs form h }
 
 -- all forms but a pad may end at the same places
-ends_as : (l : Limits) (start : ℕ) (fs : List Frame) (form : Form) (to : ℕ) → BodyMayEnd l start fs forms.Struct to → BodyMayEnd l start fs form to
+ends_as : (l : Limits) (start : ℕ) (fs : List Frame) (form : Form) (to : ℕ) → BodyMayEnd l start fs Form.Struct to → BodyMayEnd l start fs form to
 ends_as l start [] form to r = λ p. r refl
 ends_as l start (frames.Annotated end ss ∷ fs) form to r = r
 ends_as l start (frames.Items end x vs ∷ fs) form to r = r
@@ -159,18 +131,18 @@ unfit_none l start fs form to a h =
 -- numbers
 
 -- a scalar's body has the octets that its form asks for
-pub hollow_scalar : (c : List Slot) (t : Scalar) (body : List ℕ) (p : Payload) → judge c t body ≡ Ok p → hollow (forms.Scalar t) (length body) ≡ None
+pub hollow_scalar : (c : List Slot) (t : Scalar) (body : List ℕ) (p : Payload) → judge c t body ≡ Ok p → hollow (Form.Scalar t) (length body) ≡ None
 unfolding judge timestamp_of_body read_offset
-hollow_scalar c scalars.NegativeInt [] p h = absurd cc
-hollow_scalar c scalars.NegativeInt (b ∷ bs) p h = cond-false _ _ _ (ne_eqb (suc (length bs)) 0 (λ e. omega arith))
-hollow_scalar c scalars.Timestamp [] p h = absurd cc
-hollow_scalar c scalars.Timestamp (b ∷ bs) p h = cond-false _ _ _ (ne_eqb (suc (length bs)) 0 (λ e. omega arith))
-hollow_scalar c scalars.Int body p h = refl
-hollow_scalar c scalars.Decimal body p h = refl
-hollow_scalar c scalars.Symbol body p h = refl
-hollow_scalar c scalars.Str body p h = refl
-hollow_scalar c scalars.Clob body p h = refl
-hollow_scalar c scalars.Blob body p h = refl
+hollow_scalar c Scalar.NegativeInt [] p h = absurd cc
+hollow_scalar c Scalar.NegativeInt (b ∷ bs) p h = cond-false _ _ _ (ne_eqb (suc (length bs)) 0 (λ e. omega arith))
+hollow_scalar c Scalar.Timestamp [] p h = absurd cc
+hollow_scalar c Scalar.Timestamp (b ∷ bs) p h = cond-false _ _ _ (ne_eqb (suc (length bs)) 0 (λ e. omega arith))
+hollow_scalar c Scalar.Int body p h = refl
+hollow_scalar c Scalar.Decimal body p h = refl
+hollow_scalar c Scalar.Symbol body p h = refl
+hollow_scalar c Scalar.Str body p h = refl
+hollow_scalar c Scalar.Clob body p h = refl
+hollow_scalar c Scalar.Blob body p h = refl
 
 -- a number with one more digit at its end
 pub digits_more : (ds : List ℕ) (d : ℕ) → positional 128 (ds ++ d ∷ []) ≡ 128 * positional 128 ds + d
@@ -214,13 +186,13 @@ module _ (g : Catalog) (l : Limits) where
       ∙ ap (λ o. unless o (begin (under g l) spot fs form n)) (unfit_none l spot.start fs form (spot.used + n) a r)
 
   unsized_goes : (spot : Spot) (fs : List Frame) (form : Form) → Admits fs form → HasRoom l spot.start fs form (spot.used + 1)
-      → unsized (under g l) spot fs form ≡ Outcome.goes (at spot fs (InNumber (purposes.Length form) 0))
+      → unsized (under g l) spot fs form ≡ Outcome.goes (at spot fs (InNumber (Purpose.Length form) 0))
   unsized_goes spot fs form a r =
       ap (λ o. unless o (unless (unending l.item spot.start fs form spot.used)
-      (unless (nameless fs form) (Outcome.goes (at spot fs (InNumber (purposes.Length form) 0)))))) a.fitting
-      ∙ (ap (λ o. unless o (unless (nameless fs form) (Outcome.goes (at spot fs (InNumber (purposes.Length form) 0)))))
+      (unless (nameless fs form) (Outcome.goes (at spot fs (InNumber (Purpose.Length form) 0)))))) a.fitting
+      ∙ (ap (λ o. unless o (unless (nameless fs form) (Outcome.goes (at spot fs (InNumber (Purpose.Length form) 0)))))
       (unending_none l spot.start fs form spot.used r)
-      ∙ ap (λ o. unless o (Outcome.goes (at spot fs (InNumber (purposes.Length form) 0)))) a.named)
+      ∙ ap (λ o. unless o (Outcome.goes (at spot fs (InNumber (Purpose.Length form) 0)))) a.named)
 
   longer_goes : (spot : Spot) (fs : List Frame) (p : Purpose) (a : ℕ) → NumberRoom l spot.start fs p (spot.used + 1) → longer (under g l) spot fs p a
       ≡ Outcome.goes (at spot fs (InNumber p a))
@@ -279,31 +251,31 @@ module _ (g : Catalog) (l : Limits) where
       ∙ ap (run_after (spot.used + 1)) (sized_begins (moved spot (spot.used + 1)) fs form n hol a (rw e at r)))
   header_run spot fs form _ n to (long b h d v) hol a e r =
       let k = length_VarUInt h n v in
-      run_via g l spot.used (spot.used + 1) (at spot fs Ready) (at (moved spot (spot.used + 1)) fs (InNumber (purposes.Length form) 0)) _ (b ∷ []) h refl
+      run_via g l spot.used (spot.used + 1) (at spot fs Ready) (at (moved spot (spot.used + 1)) fs (InNumber (Purpose.Length form) 0)) _ (b ∷ []) h refl
       (ap (λ x. run_after (spot.used + 1) (on_descriptor (under g l) (moved spot (spot.used + 1)) fs x)) d
       ∙ ap (run_after (spot.used + 1)) (unsized_goes (moved spot (spot.used + 1)) fs form a (ends_room l spot.start fs form _ _ (omega arith) r)))
-      (number_run (moved spot (spot.used + 1)) fs (purposes.Length form) h n to v (omega arith) (ends_room l spot.start fs form _ _ (omega arith) r)
+      (number_run (moved spot (spot.used + 1)) fs (Purpose.Length form) h n to v (omega arith) (ends_room l spot.start fs form _ _ (omega arith) r)
       ∙ ap (run_after to) (sized_begins (moved spot to) fs form n hol a r))
 
   -- bodies
 
   -- behind the header of a scalar that has octets, its body begins
-  pub begin_scalar : (spot : Spot) (fs : List Frame) (t : Scalar) (n : ℕ) → begin (under g l) spot fs (forms.Scalar t) (suc n)
+  pub begin_scalar : (spot : Spot) (fs : List Frame) (t : Scalar) (n : ℕ) → begin (under g l) spot fs (Form.Scalar t) (suc n)
       ≡ Outcome.goes (in_body spot fs t n [])
   begin_scalar spot fs t n = cond-false _ _ _ (ne_eqb (suc n) 0 (λ e. omega arith))
       ∙ ap (λ k. Outcome.goes (in_body spot fs t k [])) (let j : suc n - 1 ≡ n = omega arith in j)
 
   -- behind the header of a pad that has octets, they begin
-  pub begin_pad : (spot : Spot) (fs : List Frame) (n : ℕ) → begin (under g l) spot fs forms.Pad (suc n) ≡ Outcome.goes (at spot fs (InPad n))
+  pub begin_pad : (spot : Spot) (fs : List Frame) (n : ℕ) → begin (under g l) spot fs Form.Pad (suc n) ≡ Outcome.goes (at spot fs (InPad n))
   begin_pad spot fs n = pad_more g l spot fs n
 
   -- a struct whose header announces the order of its fields begins as any struct
-  pub begin_ordered : (spot : Spot) (fs : List Frame) (n : ℕ) → begin (under g l) spot fs forms.OrderedStruct n ≡ open_struct (under g l) spot fs n
+  pub begin_ordered : (spot : Spot) (fs : List Frame) (n : ℕ) → begin (under g l) spot fs Form.OrderedStruct n ≡ open_struct (under g l) spot fs n
   begin_ordered spot fs n = refl
 
   -- behind the header of a wrapper, the number of the octets of its annotations comes
-  pub begin_wrapper : (spot : Spot) (fs : List Frame) (n : ℕ) → begin (under g l) spot fs forms.Wrapper n
-      ≡ Outcome.goes (at spot (frames.Annotated (spot.used + n) [] ∷ fs) (InNumber purposes.AnnotationsLength 0))
+  pub begin_wrapper : (spot : Spot) (fs : List Frame) (n : ℕ) → begin (under g l) spot fs Form.Wrapper n
+      ≡ Outcome.goes (at spot (frames.Annotated (spot.used + n) [] ∷ fs) (InNumber Purpose.AnnotationsLength 0))
   begin_wrapper spot fs n = refl
 
   -- the octets of a body, behind those that have come
@@ -338,7 +310,7 @@ module _ (g : Catalog) (l : Limits) where
       ∙ (then_after mid (begin (under g l) (moved spot mid) fs form (length body)) (λ n. run g l mid n body) ∙ k))
 
   scalar_ends : (spot : Spot) (fs : List Frame) (t : Scalar) (body : List ℕ) (to : ℕ) → to ≡ spot.used + length body
-      → run_on spot.used (λ n. run g l spot.used n body) (begin (under g l) spot fs (forms.Scalar t) (length body))
+      → run_on spot.used (λ n. run g l spot.used n body) (begin (under g l) spot fs (Form.Scalar t) (length body))
       ≡ run_after to (judged (under g l) (moved spot to) fs (judge spot.context t body))
   scalar_ends spot fs t [] to e =
       ap (λ n. run_after n (judged (under g l) (moved spot n) fs (judge spot.context t []))) (let j : spot.used ≡ to = omega arith in j)
@@ -348,36 +320,36 @@ module _ (g : Catalog) (l : Limits) where
 
   scalar_begins : (spot : Spot) (fs : List Frame) (t : Scalar) (body : List ℕ) (p : Payload) (to : ℕ) → judge spot.context t body ≡ Ok p
       → to ≡ spot.used + length body
-      → run_on spot.used (λ n. run g l spot.used n body) (begin (under g l) spot fs (forms.Scalar t) (length body))
+      → run_on spot.used (λ n. run g l spot.used n body) (begin (under g l) spot fs (Form.Scalar t) (length body))
       ≡ run_after to (deliver (under g l) (moved spot to) fs (bare p))
   scalar_begins spot fs t body p to i e = scalar_ends spot fs t body to e ∙ ap (λ x. run_after to (judged (under g l) (moved spot to) fs x)) i
 
   -- over a scalar for which there is room, the machine comes to judge its body
-  pub scalar_run : (spot : Spot) (fs : List Frame) (t : Scalar) (h body : List ℕ) (to : ℕ) → Header (forms.Scalar t) (length body) h
-      → hollow (forms.Scalar t) (length body) ≡ None → Admits fs (forms.Scalar t) → to ≡ spot.used + length (h ++ body)
-      → BodyMayEnd l spot.start fs (forms.Scalar t) to
+  pub scalar_run : (spot : Spot) (fs : List Frame) (t : Scalar) (h body : List ℕ) (to : ℕ) → Header (Form.Scalar t) (length body) h
+      → hollow (Form.Scalar t) (length body) ≡ None → Admits fs (Form.Scalar t) → to ≡ spot.used + length (h ++ body)
+      → BodyMayEnd l spot.start fs (Form.Scalar t) to
       → run g l spot.used (at spot fs Ready) (h ++ body) ≡ run_after to (judged (under g l) (moved spot to) fs (judge spot.context t body))
   scalar_run spot fs t h body to d hol a e r =
       let k = length-append h body in
       let m : to ≡ spot.used + length h + length body = omega arith in
-      from_header spot fs (forms.Scalar t) h body (spot.used + length h) _ d hol a refl (subst (BodyMayEnd l spot.start fs (forms.Scalar t)) m r)
+      from_header spot fs (Form.Scalar t) h body (spot.used + length h) _ d hol a refl (subst (BodyMayEnd l spot.start fs (Form.Scalar t)) m r)
       (scalar_ends (moved spot (spot.used + length h)) fs t body to m)
 
   pad_begins : (spot : Spot) (fs : List Frame) (body : List ℕ) (to : ℕ) → to ≡ spot.used + length body
-      → run_on spot.used (λ n. run g l spot.used n body) (begin (under g l) spot fs forms.Pad (length body))
+      → run_on spot.used (λ n. run g l spot.used n body) (begin (under g l) spot fs Form.Pad (length body))
       ≡ run_after to (proceed (under g l) (moved spot to) fs)
   pad_begins spot fs [] to e = ap (λ n. run_after n (proceed (under g l) (moved spot n) fs)) (let j : spot.used ≡ to = omega arith in j)
   pad_begins spot fs (b ∷ bs) to e = ap (run_on spot.used (λ m. run g l spot.used m (b ∷ bs))) (begin_pad spot fs (length bs))
       ∙ pad_run spot fs (length bs) (b ∷ bs) to refl e
 
   -- over a pad for which there is room, the machine comes to go on without a value
-  pub skip_run : (spot : Spot) (fs : List Frame) (w : List ℕ) (to : ℕ) → IsPad w → Admits fs forms.Pad → to ≡ spot.used + length w
-      → BodyMayEnd l spot.start fs forms.Pad to
+  pub skip_run : (spot : Spot) (fs : List Frame) (w : List ℕ) (to : ℕ) → IsPad w → Admits fs Form.Pad → to ≡ spot.used + length w
+      → BodyMayEnd l spot.start fs Form.Pad to
       → run g l spot.used (at spot fs Ready) w ≡ run_after to (proceed (under g l) (moved spot to) fs)
   skip_run spot fs _ to (skipped h body d) a e r =
       let k = length-append h body in
       let m : to ≡ spot.used + length h + length body = omega arith in
-      from_header spot fs forms.Pad h body (spot.used + length h) _ d refl a refl (subst (BodyMayEnd l spot.start fs forms.Pad) m r)
+      from_header spot fs Form.Pad h body (spot.used + length h) _ d refl a refl (subst (BodyMayEnd l spot.start fs Form.Pad) m r)
       (pad_begins (moved spot (spot.used + length h)) fs body to m)
 
   -- where a container goes on, it waits for what comes next
@@ -387,22 +359,22 @@ module _ (g : Catalog) (l : Limits) where
 
   -- where a struct goes on, the name of a field comes
   pub fields_go : (spot : Spot) (fs : List Frame) (end : ℕ) (ms : List Field) → spot.used < end → proceed (under g l) spot (frames.Fields end ms ∷ fs)
-      ≡ Outcome.goes (at spot (frames.Fields end ms ∷ fs) (InNumber purposes.FieldName 0))
+      ≡ Outcome.goes (at spot (frames.Fields end ms ∷ fs) (InNumber Purpose.FieldName 0))
   fields_go spot fs end ms h = cond-false _ _ _ (ne_eqb spot.used end (λ e. omega arith))
 
   -- a field name, where a value or a pad follows
   pub name_run : (spot : Spot) (fs : List Frame) (end : ℕ) (ms : List Field) (id : List ℕ) (k to : ℕ) (r : Result (Option (List ℕ)) Reason) → VarUInt id k
       → resolve spot.context k ≡ r → to ≡ spot.used + length id → to < end
-      → run g l spot.used (at spot (frames.Fields end ms ∷ fs) (InNumber purposes.FieldName 0)) id ≡ led (at (moved spot to) (frames.Named end ms r ∷ fs) Ready)
+      → run g l spot.used (at spot (frames.Fields end ms ∷ fs) (InNumber Purpose.FieldName 0)) id ≡ led (at (moved spot to) (frames.Named end ms r ∷ fs) Ready)
   name_run spot fs end ms id k to r v i h e =
-      number_run spot (frames.Fields end ms ∷ fs) purposes.FieldName id k to v h (omega arith)
+      number_run spot (frames.Fields end ms ∷ fs) Purpose.FieldName id k to v h (omega arith)
       ∙ (ap (run_after to) (cond-true _ _ _ (lt-ltb to end e)) ∙ ap (λ n. led (at (moved spot to) (frames.Named end ms n ∷ fs) Ready)) i)
 
   -- the annotations
   pub ids_run : (spot : Spot) (fs : List Frame) (end stop : ℕ) (us : List ℕ) (ss : List (Option (List ℕ))) (to : ℕ) → Ids spot.context us ss → spot.used < stop
       → to ≡ spot.used + length us → to ≤ stop
-      → run g l spot.used (at spot (frames.Annotated end [] ∷ fs) (InNumber (purposes.Annotation stop) 0)) us
-      ≡ led (at (moved spot to) (frames.Annotated end ss ∷ fs) (cond (to == stop) Ready (InNumber (purposes.Annotation stop) 0)))
+      → run g l spot.used (at spot (frames.Annotated end [] ∷ fs) (InNumber (Purpose.Annotation stop) 0)) us
+      ≡ led (at (moved spot to) (frames.Annotated end ss ∷ fs) (cond (to == stop) Ready (InNumber (Purpose.Annotation stop) 0)))
   ids_run spot fs end stop _ _ to no_ids h i j =
       let n : to ≡ spot.used = omega arith in
       rw n (ap (λ ph. led (at spot (frames.Annotated end [] ∷ fs) ph)) (sym (cond-false _ _ _ (ne_eqb spot.used stop (λ k. omega arith)))))
@@ -410,23 +382,23 @@ module _ (g : Catalog) (l : Limits) where
       let n = length-append us w in
       let m = length_VarUInt w k v in
       let mid = spot.used + length us in
-      run_via g l spot.used mid _ (at (moved spot mid) (frames.Annotated end ss ∷ fs) (InNumber (purposes.Annotation stop) 0)) _ us w refl
+      run_via g l spot.used mid _ (at (moved spot mid) (frames.Annotated end ss ∷ fs) (InNumber (Purpose.Annotation stop) 0)) _ us w refl
       (ids_run spot fs end stop us ss mid b h refl (omega arith)
       ∙ ap (λ ph. led (at (moved spot mid) (frames.Annotated end ss ∷ fs) ph)) (cond-false _ _ _ (ne_eqb mid stop (λ k. omega arith))))
-      (number_run (moved spot mid) (frames.Annotated end ss ∷ fs) (purposes.Annotation stop) w k to v (omega arith) j
+      (number_run (moved spot mid) (frames.Annotated end ss ∷ fs) (Purpose.Annotation stop) w k to v (omega arith) j
       ∙ ap (λ x. run_after to (annotation_came (moved spot to) (frames.Annotated end ss ∷ fs) stop x)) r)
 
   -- behind the number of annotation octets, if it is good, the first id comes
   pub count_goes : (spot : Spot) (fs : List Frame) (end n : ℕ) (ss : List (Option (List ℕ))) → 0 < n → spot.used + n < end
       → count_came spot (frames.Annotated end ss ∷ fs) n ≡ Outcome.goes
-      (at spot (frames.Annotated end ss ∷ fs) (InNumber (purposes.Annotation (spot.used + n)) 0))
+      (at spot (frames.Annotated end ss ∷ fs) (InNumber (Purpose.Annotation (spot.used + n)) 0))
   count_goes spot fs end n ss h r = cond-false _ _ _ (ne_eqb n 0 (λ k. omega arith)) ∙ cond-true _ _ _ (lt-ltb (spot.used + n) end r)
 
   -- a wrapper up to its value
   wrapper_run : (spot : Spot) (fs : List Frame) (h count ids w : List ℕ) (ss : List (Option (List ℕ))) (end : ℕ)
-      → Header forms.Wrapper (length (count ++ (ids ++ w))) h → VarUInt count (length ids) → 0 < length ids → Ids spot.context ids ss → 0 < length w
-      → Admits fs forms.Wrapper
-      → end ≡ spot.used + length h + (length count + (length ids + length w)) → BodyMayEnd l spot.start fs forms.Wrapper end
+      → Header Form.Wrapper (length (count ++ (ids ++ w))) h → VarUInt count (length ids) → 0 < length ids → Ids spot.context ids ss → 0 < length w
+      → Admits fs Form.Wrapper
+      → end ≡ spot.used + length h + (length count + (length ids + length w)) → BodyMayEnd l spot.start fs Form.Wrapper end
       → (r : Run) → run g l (spot.used + length h + length count + length ids)
       (at (moved spot (spot.used + length h + length count + length ids)) (frames.Annotated end ss ∷ fs) Ready) w ≡ r
       → run g l spot.used (at spot fs Ready) (h ++ (count ++ (ids ++ w))) ≡ r
@@ -437,23 +409,23 @@ module _ (g : Catalog) (l : Limits) where
       let mid2 = mid + length count in
       let mid3 = mid2 + length ids in
       let is_end : end ≡ mid + length (count ++ (ids ++ w)) = omega arith in
-      from_header spot fs forms.Wrapper h (count ++ (ids ++ w)) mid r d (cond-false _ _ _ (ne_eqb (length (count ++ (ids ++ w))) 0 (λ e. omega arith))) a refl
-      (subst (BodyMayEnd l spot.start fs forms.Wrapper) is_end x)
+      from_header spot fs Form.Wrapper h (count ++ (ids ++ w)) mid r d (cond-false _ _ _ (ne_eqb (length (count ++ (ids ++ w))) 0 (λ e. omega arith))) a refl
+      (subst (BodyMayEnd l spot.start fs Form.Wrapper) is_end x)
       (ap (run_on mid (λ n. run g l mid n (count ++ (ids ++ w)))) (begin_wrapper (moved spot mid) fs (length (count ++ (ids ++ w))))
-      ∙ rw (← is_end) (run_via g l mid mid2 (at (moved spot mid) (frames.Annotated end [] ∷ fs) (InNumber purposes.AnnotationsLength 0))
-      (at (moved spot mid2) (frames.Annotated end [] ∷ fs) (InNumber (purposes.Annotation mid3) 0)) r count (ids ++ w) refl
-      (number_run (moved spot mid) (frames.Annotated end [] ∷ fs) purposes.AnnotationsLength count (length ids) mid2 v refl (omega arith)
+      ∙ rw (← is_end) (run_via g l mid mid2 (at (moved spot mid) (frames.Annotated end [] ∷ fs) (InNumber Purpose.AnnotationsLength 0))
+      (at (moved spot mid2) (frames.Annotated end [] ∷ fs) (InNumber (Purpose.Annotation mid3) 0)) r count (ids ++ w) refl
+      (number_run (moved spot mid) (frames.Annotated end [] ∷ fs) Purpose.AnnotationsLength count (length ids) mid2 v refl (omega arith)
       ∙ ap (run_after mid2) (count_goes (moved spot mid2) fs end (length ids) [] n (omega arith)))
       (run_via g l mid2 mid3 _ (at (moved spot mid3) (frames.Annotated end ss ∷ fs) Ready) r ids w refl
       (ids_run (moved spot mid2) fs end mid3 ids ss mid3 i (omega arith) refl (omega arith)
       ∙ ap (λ ph. led (at (moved spot mid3) (frames.Annotated end ss ∷ fs) ph)) (cond-true _ _ _ (eq-eqb mid3 mid3 refl)))
       k)))
 
-  one_run : (spot : Spot) (fs : List Frame) (to : ℕ) (p : Payload) → to ≡ spot.used + 1 → nameless fs forms.Struct ≡ None
-      → BodyMayEnd l spot.start fs forms.Struct to
+  one_run : (spot : Spot) (fs : List Frame) (to : ℕ) (p : Payload) → to ≡ spot.used + 1 → nameless fs Form.Struct ≡ None
+      → BodyMayEnd l spot.start fs Form.Struct to
       → run_after (spot.used + 1) (one_octet (under g l) (moved spot (spot.used + 1)) fs p) ≡ run_after to (deliver (under g l) (moved spot to) fs (bare p))
   one_run spot fs to p e a r = rw (← e) (ap (λ o. run_after to (unless o (deliver (under g l) (moved spot to) fs (bare p))))
-      (unfit_none l spot.start fs forms.Struct to (admits_plain fs forms.Struct refl refl a) r))
+      (unfit_none l spot.start fs Form.Struct to (admits_plain fs Form.Struct refl refl a) r))
 
   -- the body of a struct, where its fields run so
   struct_run : (spot : Spot) (fs : List Frame) (to : ℕ) (body : List ℕ) (ms : List Field) → to ≡ spot.used + length body → levels fs < l.depth
@@ -465,7 +437,7 @@ module _ (g : Catalog) (l : Limits) where
       ap (run_on spot.used (λ n. run g l spot.used n body)) (cond-true _ _ _ (lt-ltb (levels fs) l.depth q))
       ∙ (k ∙ ap (run_after to) (cond-true _ _ _ (eq-eqb to (spot.used + length body) m)))
 
-  wrapper_named : (fs : List Frame) → nameless fs forms.Wrapper ≡ None → nameless fs forms.Struct ≡ None
+  wrapper_named : (fs : List Frame) → nameless fs Form.Wrapper ≡ None → nameless fs Form.Struct ≡ None
   wrapper_named [] h = refl
   wrapper_named (frames.Annotated end ss ∷ fs) h = refl
   wrapper_named (frames.Items end x vs ∷ fs) h = refl
@@ -474,7 +446,7 @@ module _ (g : Catalog) (l : Limits) where
   wrapper_named (frames.Named end ms (Err e) ∷ fs) h = absurd cc
 
   -- an id isn't resolved before a pad
-  pad_named : (end : ℕ) (ms : List Field) (r : Result (Option (List ℕ)) Reason) (fs : List Frame) → nameless (frames.Named end ms r ∷ fs) forms.Pad ≡ None
+  pad_named : (end : ℕ) (ms : List Field) (r : Result (Option (List ℕ)) Reason) (fs : List Frame) → nameless (frames.Named end ms r ∷ fs) Form.Pad ≡ None
   pad_named end ms (Ok s) fs = refl
   pad_named end ms (Err e) fs = refl
 
@@ -482,8 +454,8 @@ module _ (g : Catalog) (l : Limits) where
     -- with the slots as an argument of their own, as the recursion asks
 
     -- a value without annotations, where there is room for it
-    plain_run : (used start : ℕ) (c : List Slot) (fs : List Frame) (to : ℕ) (w : List ℕ) (p : Payload) → Plain c w p → nameless fs forms.Struct ≡ None
-        → to ≡ used + length w → BodyMayEnd l start fs forms.Struct to → depth (bare p) + levels fs ≤ l.depth
+    plain_run : (used start : ℕ) (c : List Slot) (fs : List Frame) (to : ℕ) (w : List ℕ) (p : Payload) → Plain c w p → nameless fs Form.Struct ≡ None
+        → to ≡ used + length w → BodyMayEnd l start fs Form.Struct to → depth (bare p) + levels fs ≤ l.depth
         → run g l used (at (spot_at used start c) fs Ready) w ≡ run_after to (deliver (under g l) (spot_at to start c) fs (bare p))
     plain_run used start c fs to _ _ (is_null b k d) a e r q =
         ap (λ x. run_after (used + 1) (on_descriptor (under g l) (spot_at (used + 1) start c) fs x)) d
@@ -494,16 +466,16 @@ module _ (g : Catalog) (l : Limits) where
     plain_run used start c fs to _ _ (is_scalar h body t p d i) a e r q =
         let k = length-append h body in
         let m : to ≡ used + length h + length body = omega arith in
-        from_header (spot_at used start c) fs (forms.Scalar t) h body (used + length h) _ d (hollow_scalar c t body p (judge_scalar c body t p i))
-        (admits_plain fs (forms.Scalar t) refl refl a) refl (ends_as l start fs (forms.Scalar t) _ (subst (BodyMayEnd l start fs forms.Struct) m r))
+        from_header (spot_at used start c) fs (Form.Scalar t) h body (used + length h) _ d (hollow_scalar c t body p (judge_scalar c body t p i))
+        (admits_plain fs (Form.Scalar t) refl refl a) refl (ends_as l start fs (Form.Scalar t) _ (subst (BodyMayEnd l start fs Form.Struct) m r))
         (scalar_begins (spot_at (used + length h) start c) fs t body p to (judge_scalar c body t p i) m)
     plain_run used start c fs to _ _ (is_listing h body x vs d b) a e r q =
         let k = length-append h body in
         let mid = used + length h in
         let dv = depth-listed x vs in
         let m : to ≡ mid + length body = omega arith in
-        from_header (spot_at used start c) fs (forms.Listing x) h body mid _ d refl (admits_plain fs (forms.Listing x) refl refl a) refl
-        (ends_as l start fs (forms.Listing x) _ (subst (BodyMayEnd l start fs forms.Struct) m r))
+        from_header (spot_at used start c) fs (Form.Listing x) h body mid _ d refl (admits_plain fs (Form.Listing x) refl refl a) refl
+        (ends_as l start fs (Form.Listing x) _ (subst (BodyMayEnd l start fs Form.Struct) m r))
         (ap (run_on mid (λ n. run g l mid n body)) (cond-true _ _ _ (lt-ltb (levels fs) l.depth (omega arith)))
         ∙ (items_run mid start c fs (mid + length body) x to body vs b m (omega arith) (omega arith)
         ∙ ap (run_after to) (cond-true _ _ _ (eq-eqb to (mid + length body) m))))
@@ -512,8 +484,8 @@ module _ (g : Catalog) (l : Limits) where
         let mid = used + length h in
         let dv = depth-fields ms in
         let m : to ≡ mid + length body = omega arith in
-        from_header (spot_at used start c) fs forms.Struct h body mid _ d refl (admits_plain fs forms.Struct refl refl a) refl
-        (subst (BodyMayEnd l start fs forms.Struct) m r)
+        from_header (spot_at used start c) fs Form.Struct h body mid _ d refl (admits_plain fs Form.Struct refl refl a) refl
+        (subst (BodyMayEnd l start fs Form.Struct) m r)
         (struct_run (spot_at mid start c) fs to body ms m (omega arith)
         (fields_run mid start c fs (mid + length body) to body ms b m (omega arith) (omega arith)))
     plain_run used start c fs to _ _ (is_ordered h body ms d n b) a e r q =
@@ -521,15 +493,15 @@ module _ (g : Catalog) (l : Limits) where
         let mid = used + length h in
         let dv = depth-fields ms in
         let m : to ≡ mid + length body = omega arith in
-        from_header (spot_at used start c) fs forms.OrderedStruct h body mid _ d (cond-false _ _ _ (ne_eqb (length body) 0 (λ e. omega arith)))
-        (admits_plain fs forms.OrderedStruct refl refl a) refl (ends_as l start fs forms.OrderedStruct _ (subst (BodyMayEnd l start fs forms.Struct) m r))
+        from_header (spot_at used start c) fs Form.OrderedStruct h body mid _ d (cond-false _ _ _ (ne_eqb (length body) 0 (λ e. omega arith)))
+        (admits_plain fs Form.OrderedStruct refl refl a) refl (ends_as l start fs Form.OrderedStruct _ (subst (BodyMayEnd l start fs Form.Struct) m r))
         (ap (run_on mid (λ n. run g l mid n body)) (begin_ordered (spot_at mid start c) fs (length body))
         ∙ struct_run (spot_at mid start c) fs to body ms m (omega arith)
         (fields_run mid start c fs (mid + length body) to body ms b m (omega arith) (omega arith)))
 
     -- a value, where there is room for it
-    value_run : (used start : ℕ) (c : List Slot) (fs : List Frame) (to : ℕ) (w : List ℕ) (v : Value) → Binary c w v → Admits fs forms.Wrapper
-        → to ≡ used + length w → BodyMayEnd l start fs forms.Struct to → depth v + levels fs ≤ l.depth
+    value_run : (used start : ℕ) (c : List Slot) (fs : List Frame) (to : ℕ) (w : List ℕ) (v : Value) → Binary c w v → Admits fs Form.Wrapper
+        → to ≡ used + length w → BodyMayEnd l start fs Form.Struct to → depth v + levels fs ≤ l.depth
         → run g l used (at (spot_at used start c) fs Ready) w ≡ run_after to (deliver (under g l) (spot_at to start c) fs v)
     value_run used start c fs to _ _ (unannotated w p b) a e r q = plain_run used start c fs to w p b (wrapper_named fs a.named) e r q
     value_run used start c fs to _ _ (wrapped h count ids w ss p d v n i b) a e r q =
@@ -537,7 +509,7 @@ module _ (g : Catalog) (l : Limits) where
         let n1 = length-append count (ids ++ w) in
         let n2 = length-append ids w in
         let dp = depth-annotated ss p in
-        wrapper_run (spot_at used start c) fs h count ids w ss to d v n i (plain_some c w p b) a (omega arith) (ends_as l start fs forms.Wrapper to r) _
+        wrapper_run (spot_at used start c) fs h count ids w ss to d v n i (plain_some c w p b) a (omega arith) (ends_as l start fs Form.Wrapper to r) _
         (plain_run (used + length h + length count + length ids) start c (frames.Annotated to ss ∷ fs) to w p b refl (omega arith) refl (omega arith))
 
     -- the items of a list or s-expression that ends at `end`
@@ -602,8 +574,8 @@ module _ (g : Catalog) (l : Limits) where
         (omega arith) r))
 
   -- a value, where there is room for it
-  pub binary_run : (spot : Spot) (fs : List Frame) (to : ℕ) (w : List ℕ) (v : Value) → Binary spot.context w v → Admits fs forms.Wrapper
-      → to ≡ spot.used + length w → BodyMayEnd l spot.start fs forms.Struct to → depth v + levels fs ≤ l.depth
+  pub binary_run : (spot : Spot) (fs : List Frame) (to : ℕ) (w : List ℕ) (v : Value) → Binary spot.context w v → Admits fs Form.Wrapper
+      → to ≡ spot.used + length w → BodyMayEnd l spot.start fs Form.Struct to → depth v + levels fs ≤ l.depth
       → run g l spot.used (at spot fs Ready) w ≡ run_after to (deliver (under g l) (moved spot to) fs v)
   binary_run spot fs to w v b a e r q = value_run spot.used spot.start spot.context fs to w v b a e r q
 

@@ -1,22 +1,11 @@
 -- A body of a binary document is refused only for reasons that octets decide.
 use Rattle.std.proofs.Common.{ℕ, ◌^◌, List, Result, Ok, Err, Option, Bool, true, false, nat_lt, ◌==◌}
 use Rattle.std.specs.Str.{is_utf8}
-use Rattle.ion_model.specs.declared.value.Payload.{Payload}
-use Rattle.ion_atoms.specs.Decimals.{DecimalParts}
-use Rattle.ion_atoms.specs.Timestamps.{TimestampParts}
-use Rattle.ion_atoms.specs.declared.refusal.Reason.{Reason}
-use Rattle.ion_atoms.specs.declared.refusal.Reason.TheVariants.{TooLarge, Malformed}
-use Rattle.ion_scalar.specs.binary.Fields.{positional, uint_field}
-use Rattle.ion_symtab.specs.Slots.{Slot, resolve}
+use Rattle.ion_binary.specs.Names.{DecimalParts, Malformed, Payload, Reason, Scalar, Slot, TimestampParts, TooLarge, as_decimal, as_symbol, as_timestamp, decimal_of_body, int_of, judge, positional, resolve, symbol_of, timestamp_of_body, uint_field}
+use Rattle.ion_scalar.specs.binary.laws.BodyReasons.{IsBodyReason, JudgesBody, decimal_judges, timestamp_judges}
+use Rattle.ion_symtab.specs.Decided.{Decides, IsDecided}
 use Rattle.ion_symtab.specs.laws.Decided.{resolve_decides}
 use Rattle.ion_symtab.specs.laws.Reasons.{either}
-use Rattle.ion_symtab.specs.Decided.{IsDecided, Decides}
-use Rattle.ion_binary.specs.declared.form.Scalar.{Scalar}
-use Rattle.ion_binary.specs.declared.form.Scalar.TheVariants as scalars
-use Rattle.ion_scalar.specs.binary.Decimal.{decimal_of_body}
-use Rattle.ion_scalar.specs.binary.Timestamp.{timestamp_of_body}
-use Rattle.ion_scalar.specs.binary.laws.BodyReasons.{IsBodyReason, JudgesBody, decimal_judges, timestamp_judges}
-use Rattle.ion_binary.specs.Judge.{judge, int_of, symbol_of, as_symbol, as_decimal, as_timestamp}
 
 body_decides : (e : Reason) → IsBodyReason e → IsDecided e
 body_decides TooLarge h = tt
@@ -54,11 +43,11 @@ as_timestamp_decides (Err e) h = h
 -- a body is refused for reasons alone that octets decide
 pub judge_decides : (c : List Slot) (t : Scalar) (body : List ℕ) → Decides (judge c t body)
 unfolding judge
-judge_decides c scalars.Int body = int_decides false (uint_field body) (uint_decides body)
-judge_decides c scalars.NegativeInt body = int_decides true (uint_field body) (uint_decides body)
-judge_decides c scalars.Decimal body = as_decimal_decides (decimal_of_body body) (judged_decides (decimal_of_body body) (decimal_judges body))
-judge_decides c scalars.Timestamp body = as_timestamp_decides (timestamp_of_body body) (judged_decides (timestamp_of_body body) (timestamp_judges body))
-judge_decides c scalars.Symbol body = symbol_decides c (uint_field body) (uint_decides body)
-judge_decides c scalars.Str body = either (Decides {A = Payload}) (is_utf8 body) _ _ tt tt
-judge_decides c scalars.Clob body = tt
-judge_decides c scalars.Blob body = tt
+judge_decides c Scalar.Int body = int_decides false (uint_field body) (uint_decides body)
+judge_decides c Scalar.NegativeInt body = int_decides true (uint_field body) (uint_decides body)
+judge_decides c Scalar.Decimal body = as_decimal_decides (decimal_of_body body) (judged_decides (decimal_of_body body) (decimal_judges body))
+judge_decides c Scalar.Timestamp body = as_timestamp_decides (timestamp_of_body body) (judged_decides (timestamp_of_body body) (timestamp_judges body))
+judge_decides c Scalar.Symbol body = symbol_decides c (uint_field body) (uint_decides body)
+judge_decides c Scalar.Str body = either (Decides {A = Payload}) (is_utf8 body) _ _ tt tt
+judge_decides c Scalar.Clob body = tt
+judge_decides c Scalar.Blob body = tt

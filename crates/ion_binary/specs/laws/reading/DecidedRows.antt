@@ -1,48 +1,18 @@
 -- Each row of the format's table: where the last octet decides, the machine refuses it, for this reason or one with a smaller number.
 use Rattle.std.proofs.Common.{◌≡◌, ◌≢◌, ◌⊎◌, inl, inr, ℕ, suc, ◌+◌, ◌-◌, ◌*◌, ◌^◌, ◌<◌, ◌≤◌, ◌||◌, ◌&&◌, ◌==◌, nat_lt, nat_le, ltb-true, ltb-false, le-ltb, lt-ltb, ne_eqb, List, [], ◌∷◌, ◌++◌, length, Result, Ok, Err, Option, Some, None, Bool, true, false, cond, refl, ap, sym, ◌∙◌, subst, arith, length-append, append_assoc, eqb-true}
 use Rattle.std.proofs.lemmas.Bool.{cond-true, cond-false, lt-leb, le-leb}
-use Rattle.ion_model.specs.declared.value.Value.{Value}
-use Rattle.ion_model.specs.declared.value.Payload.{Payload}
+use Rattle.ion_binary.specs.Names.{Binary, Catalog, Count, Decides, Depth, EndsHeader, EndsNumber, First, Follows, Form, Fourth, Frame, Headed, Id, InMarker, InNumber, IsContainer, IsFront, ItemTooLong, Known, LastOctet, Length, Limits, Malformed, Marker, Name, Named, Noted, Null, Number, Open, Opening, Outcome, Payload, Pieces, Purpose, Ready, Reason, Refused, Scalar, Second, Size, Sized, Slot, TakesValue, Third, TooLarge, Truth, Value, Version, a_body, a_null, a_truth, annotation_came, annotations_past, at, bad_body, bad_empty_body, bad_table, bare, begin, count_came, deliver, depth, descriptor_of, goes, header_too_long, hollow, in_wrapper, initial, inner_marker, is_pad, is_table, is_wrapper, judge, judged, marks, misfits, name_came, nameless, next, no_annotation, no_annotations, no_count, no_descriptor, no_length, no_marker, no_name, no_value, number_past, of_annotations, of_container, of_struct, of_wrapper, on_descriptor, on_number, one_octet, opening_of, or_else, other_marker, other_version, past, past_container, reason_number, refuses, resolve, run, run-append, run_after, run_on, seven_bits, sized, spot_at, stray, system_slots, then_run, too_deep, too_large, turned, under, unending, unfit, unless, unsized, wrapper_unfilled}
 use Rattle.ion_model.specs.declared.value.Payload.TheVariants as payloads
-use Rattle.ion_model.specs.Measures.{depth, bare}
-use Rattle.ion_model.specs.Kinds.{is_table}
-use Rattle.ion_atoms.specs.declared.refusal.Reason.{Reason}
-use Rattle.ion_atoms.specs.declared.refusal.Reason.TheVariants.{TooLarge, Malformed, Depth, ItemTooLong, Version}
-use Rattle.ion_atoms.specs.Reasons.{reason_number}
-use Rattle.ion_scalar.specs.declared.descriptor.Size.{Size}
-use Rattle.ion_scalar.specs.declared.descriptor.Size.TheVariants.{Known, Follows}
-use Rattle.ion_scalar.specs.binary.Fields.{seven_bits}
-use Rattle.ion_symtab.specs.declared.limits.Limits.{Limits}
-use Rattle.ion_symtab.specs.declared.catalog.Catalog.{Catalog}
-use Rattle.ion_symtab.specs.Slots.{Slot, resolve, system_slots}
-use Rattle.ion_symtab.specs.Next.{next}
-use Rattle.ion_binary.specs.declared.form.Scalar.{Scalar}
-use Rattle.ion_binary.specs.declared.form.Form.{Form}
-use Rattle.ion_binary.specs.declared.form.Form.TheVariants as forms
-use Rattle.ion_binary.specs.declared.form.Opening.{Opening}
-use Rattle.ion_binary.specs.declared.form.Opening.TheVariants.{Refused, Marker, Null, Truth, Sized}
-use Rattle.ion_binary.specs.machine.Frames.{Frame}
-use Rattle.ion_binary.specs.machine.Frames as frames
-use Rattle.ion_binary.specs.declared.state.Phase.TheVariants.{InMarker, Ready, InNumber}
-use Rattle.ion_binary.specs.declared.state.Mark.TheVariants.{First, Second, Third, Fourth}
-use Rattle.ion_scalar.specs.binary.Descriptor.{descriptor_of}
-use Rattle.ion_binary.specs.declared.state.Purpose.{Purpose}
-use Rattle.ion_binary.specs.declared.state.Purpose.TheVariants as purposes
-use Rattle.ion_binary.specs.Opening.{opening_of, is_pad, is_wrapper}
-use Rattle.ion_binary.specs.Grammar.{Pieces, Binary}
-use Rattle.ion_binary.specs.Judge.{judge}
-use Rattle.ion_binary.specs.machine.EachOctet as machine
-use Rattle.ion_binary.specs.machine.EachOctet.{Outcome, marks, goes, refuses, under, spot_at, at, initial, on_descriptor, deliver, turned, unless, or_else, misfits, stray, unending, nameless, past, unfit, hollow, begin, one_octet, judged, sized, unsized, name_came, count_came, annotation_came, on_number}
-use Rattle.ion_binary.specs.machine.Run.{run, run_on}
-use Rattle.ion_binary.specs.machine.Pieces.{run-append, then_run, run_after}
-use Rattle.ion_binary.specs.laws.reading.Complete.{binary_run, body_run, begin_scalar}
-use Rattle.ion_binary.specs.laws.reading.Documents.{pieces_run}
-use Rattle.ion_binary.specs.laws.reading.OpenRuns.{Match, nothing_open, items, names, named, noted, same_levels, open_run, headed_run, takes_phase}
-use Rattle.ion_binary.specs.laws.reading.NumberRuns.{goes_with, purpose_of, InFrames, length_in, name_in, count_in, id_in, Stopped, Holds, stops_with, leads_holds, ready, HoldsIn, number_holds, Least, number_stops, header_stops}
-use Rattle.ion_binary.specs.laws.reading.OnlyReasons.{hollow_only, stray_only, resolve_only, late_name, PlainOpening, opening_plain, plain_small, pad_is, hollow_some, empty_hollow}
-use Rattle.ion_binary.specs.Deciding as deciding
-use Rattle.ion_binary.specs.Deciding.{Container, Names, Named, Noted, TakesValue, Open, Number, Length, Name, Count, Id, EndsNumber, EndsHeader, LastOctet, of_container, of_struct, of_wrapper, of_annotations, IsContainer, IsFront, Headed, Reaches, a_null, a_truth, a_body, Decides, no_marker, other_marker, other_version, no_descriptor, inner_marker, in_wrapper, too_large, past_container, wrapper_unfilled, no_fields, too_deep, too_long, header_too_long, no_annotations, annotations_past, number_past, no_length, no_count, no_value, no_name, no_annotation, bad_body, bad_empty_body, bad_table}
 use Rattle.ion_symtab.specs.laws.Reasons.{either}
+use Rattle.ion_binary.specs.Deciding as deciding
+use Rattle.ion_binary.specs.Deciding.{Container, Names, Reaches, no_fields, too_long}
+use Rattle.ion_binary.specs.machine.EachOctet as machine
+use Rattle.ion_binary.specs.machine.Frames as frames
+use Rattle.ion_binary.specs.laws.reading.Complete.{begin_scalar, binary_run, body_run}
+use Rattle.ion_binary.specs.laws.reading.Documents.{pieces_run}
+use Rattle.ion_binary.specs.laws.reading.NumberRuns.{Holds, HoldsIn, InFrames, Least, Stopped, count_in, goes_with, header_stops, id_in, leads_holds, length_in, name_in, number_holds, number_stops, purpose_of, ready, stops_with}
+use Rattle.ion_binary.specs.laws.reading.OnlyReasons.{PlainOpening, empty_hollow, hollow_only, hollow_some, late_name, opening_plain, pad_is, plain_small, resolve_only, stray_only}
+use Rattle.ion_binary.specs.laws.reading.OpenRuns.{Match, headed_run, items, named, names, noted, nothing_open, open_run, same_levels, takes_phase}
 
 module _ (g : Catalog) (l : Limits) where
   stops_as : (u : List ℕ) (e : Reason) → (run g l 0 initial u).now ≡ Err (record { offset = length u; reason = e }) → Stopped g l u e
@@ -95,13 +65,13 @@ module _ (g : Catalog) (l : Limits) where
         let d = open_run g l c start ks u o in
         stops_with g l c start d.fs Ready u b e e (subst (λ p. Holds g l c start d.fs p u) (ready g l c start ks t) (leads_holds g l c start ks u d))
         (ap (on_descriptor (under g l) (spot_at (length u + 1) start c) d.fs) i
-        ∙ ap (λ x. unless x (deliver (under g l) (spot_at (length u + 1) start c) d.fs (bare (payloads.Null k)))) (h d.fs forms.Struct refl d.match))
+        ∙ ap (λ x. unless x (deliver (under g l) (spot_at (length u + 1) start c) d.fs (bare (payloads.Null k)))) (h d.fs Form.Struct refl d.match))
         (omega arith)
     unfit_reaches ks _ _ _ e (a_truth u b k o t i) big h =
         let d = open_run g l c start ks u o in
         stops_with g l c start d.fs Ready u b e e (subst (λ p. Holds g l c start d.fs p u) (ready g l c start ks t) (leads_holds g l c start ks u d))
         (ap (on_descriptor (under g l) (spot_at (length u + 1) start c) d.fs) i
-        ∙ ap (λ x. unless x (deliver (under g l) (spot_at (length u + 1) start c) d.fs (bare (payloads.Truth k)))) (h d.fs forms.Struct refl d.match))
+        ∙ ap (λ x. unless x (deliver (under g l) (spot_at (length u + 1) start c) d.fs (bare (payloads.Truth k)))) (h d.fs Form.Struct refl d.match))
         (omega arith)
     unfit_reaches ks _ _ _ e (a_body u form n o) big h = header_stops g l c start ks form n u e o
         (λ fs m. sized_unfit (length u) fs form n e e (h fs form refl m) (omega arith) big)
@@ -124,13 +94,13 @@ module _ (g : Catalog) (l : Limits) where
     row_too_long : (to : ℕ) (u : List ℕ) → Reaches g l c start [] false to u → start + l.item < to → Stopped g l u ItemTooLong
     row_too_long to u o h = unfit_reaches [] false to u ItemTooLong o (omega arith) (λ fs form i m. top_unfit fs form to i m h)
 
-    row_no_fields : (ks : List Container) (u : List ℕ) → EndsHeader g l c start ks forms.OrderedStruct 0 u → Stopped g l u Malformed
-    row_no_fields ks u o = header_stops g l c start ks forms.OrderedStruct 0 u Malformed o
-        (λ fs m. (Malformed, sized_hollow (length u) fs forms.OrderedStruct 0 refl, omega arith))
+    row_no_fields : (ks : List Container) (u : List ℕ) → EndsHeader g l c start ks Form.OrderedStruct 0 u → Stopped g l u Malformed
+    row_no_fields ks u o = header_stops g l c start ks Form.OrderedStruct 0 u Malformed o
+        (λ fs m. (Malformed, sized_hollow (length u) fs Form.OrderedStruct 0 refl, omega arith))
 
-    row_no_count : (ks : List Container) (u : List ℕ) → EndsHeader g l c start ks forms.Wrapper 0 u → Stopped g l u Malformed
-    row_no_count ks u o = header_stops g l c start ks forms.Wrapper 0 u Malformed o
-        (λ fs m. (Malformed, sized_hollow (length u) fs forms.Wrapper 0 refl, omega arith))
+    row_no_count : (ks : List Container) (u : List ℕ) → EndsHeader g l c start ks Form.Wrapper 0 u → Stopped g l u Malformed
+    row_no_count ks u o = header_stops g l c start ks Form.Wrapper 0 u Malformed o
+        (λ fs m. (Malformed, sized_hollow (length u) fs Form.Wrapper 0 refl, omega arith))
 
     row_no_annotations : (end : ℕ) (ks : List Container) (u : List ℕ) → EndsNumber g l c start ks (Count end) 0 u → Stopped g l u Malformed
     row_no_annotations end ks u o = number_stops g l c start ks (Count end) 0 u Malformed o (λ fs i. (Malformed, none ks end fs i, omega arith))
@@ -148,7 +118,7 @@ module _ (g : Catalog) (l : Limits) where
         past' _ _ _ (count_in ks end fs m) h = by (n == 0)
           where
             by : (b : Bool) → cond b (refuses Malformed) (cond (nat_lt (length u + n) end)
-                (goes (at (spot_at (length u) start c) (frames.Annotated end [] ∷ fs) (InNumber (purposes.Annotation (length u + n)) 0))) (refuses Malformed))
+                (goes (at (spot_at (length u) start c) (frames.Annotated end [] ∷ fs) (InNumber (Purpose.Annotation (length u + n)) 0))) (refuses Malformed))
                 ≡ refuses Malformed
             by true = refl
             by false = cond-false _ _ _ (le-ltb (length u + n) end h)
@@ -237,7 +207,7 @@ module _ (g : Catalog) (l : Limits) where
     row_header_too_long form a u b o i small h = past_stops [] (Length form) a u b ItemTooLong o small (omega arith) (λ fs j. top [] form fs refl j)
       where
         top : (ks : List Container) (form' : Form) (fs : List Frame) → ks ≡ [] → InFrames c ks (Length form) fs
-            → past l.item start fs (purposes.Length form) (length u + 1) ≡ Some ItemTooLong
+            → past l.item start fs (Purpose.Length form) (length u + 1) ≡ Some ItemTooLong
         top _ _ _ e (length_in _ _ _ nothing_open) = cond-false _ _ _ (ap (λ b. b || nat_le (length u + 1) (start + l.item)) i
             ∙ lt-leb (length u + 1) (start + l.item) h)
         top _ _ _ e (length_in _ _ _ (items end x vs fs ks m)) = absurd cc
@@ -291,7 +261,7 @@ module _ (g : Catalog) (l : Limits) where
         let r = header_least used fs form size Malformed Malformed (λ to. ap (λ x. or_else x (or_else (misfits l.item start fs form to) (nameless fs form))) s) (
           Malformed,
           ap (λ x. unless x (unless (unending l.item start fs form used)
-              (unless (nameless fs form) (goes (at (spot_at used start c) fs (InNumber (purposes.Length form) 0)))))) s,
+              (unless (nameless fs form) (goes (at (spot_at used start c) fs (InNumber (Purpose.Length form) 0)))))) s,
           omega arith,
         ) (omega arith)
         (omega arith) in
@@ -307,25 +277,25 @@ module _ (g : Catalog) (l : Limits) where
     -- why a length may not begin
     unsized_ends : (used : ℕ) (fs : List Frame) (form : Form) (f : Reason) → 4 ≤ reason_number f
         → ((e : Reason) × (unless (unending l.item start fs form used)
-        (unless (nameless fs form) (goes (at (spot_at used start c) fs (InNumber (purposes.Length form) 0)))) ≡ refuses e)
+        (unless (nameless fs form) (goes (at (spot_at used start c) fs (InNumber (Purpose.Length form) 0)))) ≡ refuses e)
         × (reason_number e ≤ reason_number f))
         → Least g l c start f (unsized (under g l) (spot_at used start c) fs form)
     unsized_ends used fs form f big h = by (stray_only fs form)
       where
         rest : Outcome
-        rest = unless (unending l.item start fs form used) (unless (nameless fs form) (goes (at (spot_at used start c) fs (InNumber (purposes.Length form) 0))))
+        rest = unless (unending l.item start fs form used) (unless (nameless fs form) (goes (at (spot_at used start c) fs (InNumber (Purpose.Length form) 0))))
 
         by : (stray fs form ≡ None) ⊎ (stray fs form ≡ Some Malformed) → Least g l c start f (unsized (under g l) (spot_at used start c) fs form)
         by (inl k) = (
           h.0,
           ap (λ x. unless x (unless (unending l.item start fs form used)
-              (unless (nameless fs form) (goes (at (spot_at used start c) fs (InNumber (purposes.Length form) 0)))))) k ∙ h.1,
+              (unless (nameless fs form) (goes (at (spot_at used start c) fs (InNumber (Purpose.Length form) 0)))))) k ∙ h.1,
           h.2,
         )
         by (inr k) = (
           Malformed,
           ap (λ x. unless x (unless (unending l.item start fs form used)
-              (unless (nameless fs form) (goes (at (spot_at used start c) fs (InNumber (purposes.Length form) 0)))))) k,
+              (unless (nameless fs form) (goes (at (spot_at used start c) fs (InNumber (Purpose.Length form) 0)))))) k,
           big,
         )
 
@@ -335,7 +305,7 @@ module _ (g : Catalog) (l : Limits) where
         let used = length u + 1 in
         let r = unsized_ends used fs form Malformed (omega arith) (
           Malformed,
-          ap (λ x. unless x (unless (nameless fs form) (goes (at (spot_at used start c) fs (InNumber (purposes.Length form) 0)))))
+          ap (λ x. unless x (unless (nameless fs form) (goes (at (spot_at used start c) fs (InNumber (Purpose.Length form) 0)))))
               (unending_last k ks fs form used m h),
           omega arith,
         ) in
@@ -385,7 +355,7 @@ module _ (g : Catalog) (l : Limits) where
     unless_least used o r e f big small (inr h) = (e, ap (λ x. unless x r) h, small)
 
     row_no_name : (end id : ℕ) (ks : List Container) (u : List ℕ) (b : ℕ) (e : Reason) → Open g l c start (Named end id ∷ ks) u → resolve c id ≡ Err e
-        → ((size : Size) → opening_of b ≢ Sized forms.Pad size) → Stopped g l (u ++ b ∷ []) e
+        → ((size : Size) → opening_of b ≢ Sized Form.Pad size) → Stopped g l (u ++ b ∷ []) e
     row_no_name end id ks u b e o h n = at_descriptor (Named end id ∷ ks) u b e o tt (λ fs m. by fs m (opening_of b) refl (opening_plain b))
       where
         used : ℕ
@@ -398,8 +368,8 @@ module _ (g : Catalog) (l : Limits) where
         big4 = omega (arith, big)
 
         one : (fs : List Frame) → Match c fs (Named end id ∷ ks) → (p : Payload) → Least g l c start e (one_octet (under g l) (spot_at used start c) fs p)
-        one fs m p = unless_least used (unfit l.item start fs forms.Struct used) (deliver (under g l) (spot_at used start c) fs (bare p)) e e big4 (omega arith)
-            (unfit_inside (Named end id) ks fs forms.Struct used (Some e) m (no_symbol end id ks fs forms.Struct e m h refl))
+        one fs m p = unless_least used (unfit l.item start fs Form.Struct used) (deliver (under g l) (spot_at used start c) fs (bare p)) e e big4 (omega arith)
+            (unfit_inside (Named end id) ks fs Form.Struct used (Some e) m (no_symbol end id ks fs Form.Struct e m h refl))
 
         no_pad : (form : Form) (size : Size) → opening_of b ≡ Sized form size → is_pad form ≡ false
         no_pad form size i = go (is_pad form) refl
@@ -422,20 +392,20 @@ module _ (g : Catalog) (l : Limits) where
         follows fs m form p = unsized_ends used fs form e big4 (go (unending_inside (Named end id) ks fs form used m))
           where
             G : Outcome
-            G = goes (at (spot_at used start c) fs (InNumber (purposes.Length form) 0))
+            G = goes (at (spot_at used start c) fs (InNumber (Purpose.Length form) 0))
 
             go : (unending l.item start fs form used ≡ None) ⊎ (unending l.item start fs form used ≡ Some Malformed) → (x : Reason)
                 × (unless (unending l.item start fs form used) (unless (nameless fs form)
-                (goes (at (spot_at used start c) fs (InNumber (purposes.Length form) 0)))) ≡ refuses x) × (reason_number x ≤ reason_number e)
+                (goes (at (spot_at used start c) fs (InNumber (Purpose.Length form) 0)))) ≡ refuses x) × (reason_number x ≤ reason_number e)
             go (inl k) = (
               e,
-              ap (λ x. unless x (unless (nameless fs form) (goes (at (spot_at used start c) fs (InNumber (purposes.Length form) 0))))) k
-                  ∙ ap (λ x. unless x (goes (at (spot_at used start c) fs (InNumber (purposes.Length form) 0)))) (no_symbol end id ks fs form e m h p),
+              ap (λ x. unless x (unless (nameless fs form) (goes (at (spot_at used start c) fs (InNumber (Purpose.Length form) 0))))) k
+                  ∙ ap (λ x. unless x (goes (at (spot_at used start c) fs (InNumber (Purpose.Length form) 0)))) (no_symbol end id ks fs form e m h p),
               omega arith,
             )
             go (inr k) = (
               Malformed,
-              ap (λ x. unless x (unless (nameless fs form) (goes (at (spot_at used start c) fs (InNumber (purposes.Length form) 0))))) k,
+              ap (λ x. unless x (unless (nameless fs form) (goes (at (spot_at used start c) fs (InNumber (Purpose.Length form) 0))))) k,
               big4,
             )
 
@@ -466,12 +436,12 @@ module _ (g : Catalog) (l : Limits) where
 
     begin_deep : (used : ℕ) (fs : List Frame) (form : Form) (n : ℕ) → IsContainer form → l.depth ≤ machine.levels fs
         → Least g l c start Depth (begin (under g l) (spot_at used start c) fs form n)
-    begin_deep used fs (forms.Listing x) n i h = (Depth, cond-false _ _ _ (le-ltb (machine.levels fs) l.depth h), omega arith)
-    begin_deep used fs forms.Struct n i h = (Depth, cond-false _ _ _ (le-ltb (machine.levels fs) l.depth h), omega arith)
-    begin_deep used fs forms.OrderedStruct n i h = (Depth, cond-false _ _ _ (le-ltb (machine.levels fs) l.depth h), omega arith)
-    begin_deep used fs forms.Pad n i h = absurd i
-    begin_deep used fs (forms.Scalar t) n i h = absurd i
-    begin_deep used fs forms.Wrapper n i h = absurd i
+    begin_deep used fs (Form.Listing x) n i h = (Depth, cond-false _ _ _ (le-ltb (machine.levels fs) l.depth h), omega arith)
+    begin_deep used fs Form.Struct n i h = (Depth, cond-false _ _ _ (le-ltb (machine.levels fs) l.depth h), omega arith)
+    begin_deep used fs Form.OrderedStruct n i h = (Depth, cond-false _ _ _ (le-ltb (machine.levels fs) l.depth h), omega arith)
+    begin_deep used fs Form.Pad n i h = absurd i
+    begin_deep used fs (Form.Scalar t) n i h = absurd i
+    begin_deep used fs Form.Wrapper n i h = absurd i
 
     row_too_deep : (ks : List Container) (form : Form) (n : ℕ) (u : List ℕ) → EndsHeader g l c start ks form n u → IsContainer form
         → l.depth ≤ deciding.container_levels ks → Stopped g l u Depth
@@ -510,15 +480,15 @@ module _ (g : Catalog) (l : Limits) where
 
     -- bodies
 
-    row_bad_empty_body : (ks : List Container) (t : Scalar) (u : List ℕ) (e : Reason) → EndsHeader g l c start ks (forms.Scalar t) 0 u → judge c t [] ≡ Err e
+    row_bad_empty_body : (ks : List Container) (t : Scalar) (u : List ℕ) (e : Reason) → EndsHeader g l c start ks (Form.Scalar t) 0 u → judge c t [] ≡ Err e
         → Stopped g l u e
     row_bad_empty_body ks t u e o h =
         let k = empty_hollow c t e h in
-        subst (Stopped g l u) (sym k.1) (header_stops g l c start ks (forms.Scalar t) 0 u Malformed o
-        (λ fs m. (Malformed, sized_hollow (length u) fs (forms.Scalar t) 0 k.0, omega arith)))
+        subst (Stopped g l u) (sym k.1) (header_stops g l c start ks (Form.Scalar t) 0 u Malformed o
+        (λ fs m. (Malformed, sized_hollow (length u) fs (Form.Scalar t) 0 k.0, omega arith)))
 
     row_bad_body : (end : ℕ) (ks : List Container) (t : Scalar) (front body : List ℕ) (e : Reason)
-        → Headed l c start (Open g l c start ks) ks (forms.Scalar t) end front → end ≡ length front + length body → 0 < length body → judge c t body ≡ Err e
+        → Headed l c start (Open g l c start ks) ks (Form.Scalar t) end front → end ≡ length front + length body → 0 < length body → judge c t body ≡ Err e
         → Stopped g l (front ++ body) e
     row_bad_body end ks t front [] e h i some j = absurd (omega arith)
     row_bad_body end ks t front (b ∷ bs) e h i some j =
@@ -533,11 +503,11 @@ module _ (g : Catalog) (l : Limits) where
         ∙ (ap (λ x. x.now) (run-append g l 0 (length h.before) h.before (h.header ++ body) (omega arith) initial)
         ∙ (ap (λ x. (then_run x (λ n. run g l (length h.before) n (h.header ++ body))).now)
         (d.ran ∙ ap (λ p. record { given = d.given; now = Ok (at (spot_at (length h.before) start c) d.fs p) })
-        (takes_phase g l c start ks (forms.Scalar t) h.begins))
-        ∙ (ap (λ x. x.now) (headed_run g l c start ks d.fs (forms.Scalar t) end front body (Open g l c start ks) h
-        (hollow_some (forms.Scalar t) h.n (omega arith)) d.match)
+        (takes_phase g l c start ks (Form.Scalar t) h.begins))
+        ∙ (ap (λ x. x.now) (headed_run g l c start ks d.fs (Form.Scalar t) end front body (Open g l c start ks) h
+        (hollow_some (Form.Scalar t) h.n (omega arith)) d.match)
         ∙ (ap (λ x. (run_on (length front) (λ n. run g l (length front) n body)
-        (begin (under g l) (spot_at (length front) start c) d.fs (forms.Scalar t) x)).now) n
+        (begin (under g l) (spot_at (length front) start c) d.fs (Form.Scalar t) x)).now) n
         ∙ (ap (λ x. (run_on (length front) (λ n. run g l (length front) n body) x).now) (begin_scalar g l (spot_at (length front) start c) d.fs t (length bs))
         ∙ (ap (λ x. x.now) (body_run g l (spot_at (length front) start c) d.fs t (length bs) [] body to refl k)
         ∙ ap (λ x. (run_after to (judged (under g l) (spot_at to start c) d.fs x)).now) j)))))))

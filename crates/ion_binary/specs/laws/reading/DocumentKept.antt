@@ -1,15 +1,8 @@
 -- The values of a document of octets are kept, where the texts of the catalog are UTF-8; so they may be written.
 use Rattle.std.proofs.Common.{ℕ, List, subst}
-use Rattle.ion_model.specs.declared.value.Value.{Value}
-use Rattle.ion_atoms.specs.Octets.{AreOctets, octets_front, octets_rest}
-use Rattle.ion_model.specs.Kept.{AreKept}
+use Rattle.ion_binary.specs.Names.{AreKept, AreOctets, Document, FitsIn, Limits, Pieces, Slot, Table, Value, begins, bin_of, holds, marked, octets_front, octets_rest, skips, the_marker, turns}
 use Rattle.ion_model.specs.laws.Kept.{kept_last}
-use Rattle.ion_symtab.specs.declared.limits.Limits.{Limits}
-use Rattle.ion_symtab.specs.Slots.{Slot}
-use Rattle.ion_symtab.specs.Tables.{Table}
-use Rattle.ion_symtab.specs.laws.ContextTexts.{AreTextSlots, AreTextTables, TextAnswer, system_are_texts, next_texts}
-use Rattle.ion_binary.specs.Grammar.{the_marker, Pieces, begins, marked, skips, turns, holds, Document}
-use Rattle.ion_binary.specs.Output.{bin_of, FitsIn}
+use Rattle.ion_symtab.specs.laws.ContextTexts.{AreTextSlots, AreTextTables, TextAnswer, next_texts, system_are_texts}
 use Rattle.ion_binary.specs.laws.reading.GivesKept.{binary_kept}
 use Rattle.ion_binary.specs.laws.reading.Promises.{pieces_values}
 use Rattle.ion_binary.specs.laws.writing.RoundTrip.{round_trip}

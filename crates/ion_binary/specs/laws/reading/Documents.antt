@@ -2,20 +2,9 @@
 use Rattle.std.proofs.Common.{◌≡◌, ℕ, List, [], ◌∷◌, ◌++◌, length, Ok, refl, ap, ◌∙◌, arith, length-append, append-nil}
 use Rattle.std.proofs.lemmas.Bool.{cond-true, cond-false}
 use Rattle.std.proofs.lemmas.List.{map-append}
-use Rattle.ion_model.specs.declared.value.Value.{Value}
-use Rattle.ion_symtab.specs.declared.limits.Limits.{Limits}
-use Rattle.ion_symtab.specs.declared.catalog.Catalog.{Catalog}
-use Rattle.ion_symtab.specs.Slots.{Slot, system_slots}
-use Rattle.ion_symtab.specs.Trace.{plain}
-use Rattle.ion_symtab.specs.Promises.{Spaced}
-use Rattle.ion_binary.specs.declared.form.Form.TheVariants as forms
-use Rattle.ion_binary.specs.declared.state.Phase.TheVariants.{Ready}
-use Rattle.ion_binary.specs.Grammar.{Pieces, begins, marked, skips, turns, holds, the_marker}
-use Rattle.ion_binary.specs.machine.EachOctet.{anew, at, initial, turned}
-use Rattle.ion_binary.specs.machine.Run.{run}
-use Rattle.ion_binary.specs.machine.Pieces.{run-append, then_run, run_after}
-use Rattle.ion_binary.specs.laws.reading.Complete.{Admits, binary_run, skip_run, marker_run}
-use Rattle.ion_binary.specs.laws.reading.Small.{binary_nodes, spaced_on, spaced_more}
+use Rattle.ion_binary.specs.Names.{Catalog, Form, Limits, Pieces, Ready, Slot, Spaced, Value, anew, at, begins, holds, initial, marked, plain, run, run-append, run_after, skips, system_slots, the_marker, then_run, turned, turns}
+use Rattle.ion_binary.specs.laws.reading.Complete.{Admits, binary_run, marker_run, skip_run}
+use Rattle.ion_binary.specs.laws.reading.Small.{binary_nodes, spaced_more, spaced_on}
 
 module _ (g : Catalog) (l : Limits) where
   -- what the octets of pieces lead to
@@ -40,7 +29,7 @@ module _ (g : Catalog) (l : Limits) where
     spaced = small;
   }
 
-  top : Admits [] forms.Wrapper
+  top : Admits [] Form.Wrapper
   top = record { fitting = refl; named = refl }
 
   -- a document, from its first octet to its last

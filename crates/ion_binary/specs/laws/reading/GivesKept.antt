@@ -1,19 +1,9 @@
 -- The values of octets are kept where the texts of the context are UTF-8.
 use Rattle.std.proofs.Common.{ℕ, zero, suc, pos, neg_ℤ, ◌^◌, ◌<◌, List, [], ◌++◌, Option, arith}
-use Rattle.ion_atoms.specs.Ranges.{IsWhole}
-use Rattle.ion_atoms.specs.Octets.{AreOctets, octets_front, octets_rest}
-use Rattle.ion_model.specs.declared.value.Value.{Value}
-use Rattle.ion_model.specs.declared.value.Field.{Field}
-use Rattle.ion_model.specs.declared.value.Payload.{Payload}
-use Rattle.ion_model.specs.Kept.{AreTexts, IsKept, kept, KeptPayload, kept_null, kept_truth, kept_int, kept_decimal, kept_timestamp, kept_symbol, kept_string, kept_clob, kept_blob, kept_list, kept_sexp, kept_fields, KeptItems, no_items, KeptFields, no_fields}
-use Rattle.ion_model.specs.laws.Kept.{texts_last, items_last, fields_last}
-use Rattle.ion_scalar.specs.binary.Fields.{positional}
-use Rattle.ion_symtab.specs.Slots.{Slot}
+use Rattle.ion_binary.specs.Names.{AreOctets, AreTexts, Binary, Field, Fields, Ids, IsKept, IsScalar, IsWhole, KeptFields, KeptItems, KeptPayload, Listing, Payload, Plain, Scalar, Sequence, Slot, Value, is_blob, is_clob, is_decimal, is_int, is_listing, is_negative, is_null, is_ordered, is_scalar, is_string, is_struct, is_symbol, is_timestamp, is_truth, kept, kept_blob, kept_clob, kept_decimal, kept_fields, kept_int, kept_list, kept_null, kept_sexp, kept_string, kept_symbol, kept_timestamp, kept_truth, listed, no_ids, no_items, nothing, octets_front, octets_rest, one_field, one_id, one_more, padded, padded_field, positional, unannotated, wrapped}
+use Rattle.ion_model.specs.Kept.{no_fields}
+use Rattle.ion_model.specs.laws.Kept.{fields_last, items_last, texts_last}
 use Rattle.ion_symtab.specs.laws.ContextTexts.{AreTextSlots, resolved_text}
-use Rattle.ion_binary.specs.declared.form.Scalar.{Scalar}
-use Rattle.ion_binary.specs.declared.form.Listing.{Listing}
-use Rattle.ion_binary.specs.declared.form.Listing.TheVariants as listings
-use Rattle.ion_binary.specs.Grammar.{IsScalar, is_int, is_negative, is_decimal, is_timestamp, is_symbol, is_string, is_clob, is_blob, Ids, no_ids, one_id, listed, Plain, is_null, is_truth, is_scalar, is_listing, is_struct, is_ordered, Binary, unannotated, wrapped, Sequence, nothing, one_more, padded, Fields, one_field, padded_field}
 use Rattle.ion_binary.specs.Grammar as grammar
 
 -- minus a number below 2^127 is an int in range
@@ -22,8 +12,8 @@ negative_whole zero h = omega arith
 negative_whole (suc n) h = omega arith
 
 pub kept_listed : (x : Listing) (vs : List Value) → KeptItems vs → KeptPayload (listed x vs)
-kept_listed listings.List vs h = kept_list vs h
-kept_listed listings.Sexp vs h = kept_sexp vs h
+kept_listed Listing.List vs h = kept_list vs h
+kept_listed Listing.Sexp vs h = kept_sexp vs h
 
 module _ (c : List Slot) (h : AreTextSlots c) where
   scalar_kept : (body : List ℕ) (t : Scalar) (p : Payload) → AreOctets body → IsScalar c body t p → KeptPayload p

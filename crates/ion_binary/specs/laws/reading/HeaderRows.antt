@@ -2,24 +2,8 @@
 use Rattle.std.proofs.Common.{◌≡◌, ◌≢◌, ◌↔◌, ℕ, ◌+◌, ◌*◌, ◌/◌, ◌%◌, ◌<◌, ◌≤◌, ◌==◌, Bool, true, false, List, [], ◌∷◌, refl, sym, ap, subst, ◌∙◌, arith, inl, inr, Result, Ok, Err, cond}
 use Rattle.std.specs.Prelude.{◌||◌}
 use Rattle.std.proofs.lemmas.Bool.{cases_lt, cond_both, eqb-true, eqb-false}
-use Rattle.ion_atoms.specs.declared.refusal.Reason.{Reason}
-use Rattle.ion_atoms.specs.declared.refusal.Reason.TheVariants.{Malformed, Float}
-use Rattle.ion_scalar.specs.declared.descriptor.Descriptor.{Descriptor}
-use Rattle.ion_scalar.specs.declared.descriptor.Descriptor.TheVariants as descriptors
-use Rattle.ion_scalar.specs.declared.descriptor.Size.{Size}
-use Rattle.ion_scalar.specs.declared.descriptor.Size.TheVariants.{Known, Follows}
-use Rattle.ion_scalar.specs.binary.Descriptor.{size, typed, descriptor_of}
-use Rattle.ion_binary.specs.declared.form.Scalar.{Scalar}
-use Rattle.ion_binary.specs.declared.form.Scalar.TheVariants as scalars
-use Rattle.ion_binary.specs.declared.form.Listing.TheVariants as listings
-use Rattle.ion_binary.specs.declared.form.Form.{Form}
-use Rattle.ion_binary.specs.declared.form.Form.TheVariants as forms
-use Rattle.ion_binary.specs.declared.form.Opening.{Opening}
-use Rattle.ion_binary.specs.declared.form.Opening.TheVariants.{Sized}
-use Rattle.ion_binary.specs.Opening.{with_octets, body_of, opens, opening_of}
-use Rattle.ion_binary.specs.Grammar.{Header, short, long}
-use Rattle.ion_binary.specs.HeaderRows.{type_code, long_code, IsBodyLength, IsHeader}
-use Rattle.ion_binary.specs.laws.writing.Headers.{below, known, follows}
+use Rattle.ion_binary.specs.Names.{Descriptor, Float, Follows, Form, Header, IsBodyLength, IsHeader, Known, Listing, Malformed, Opening, Reason, Scalar, Size, Sized, body_of, descriptor_of, long, long_code, opening_of, opens, short, size, type_code, typed, with_octets}
+use Rattle.ion_binary.specs.laws.writing.Headers.{below, follows, known}
 
 -- a type code and a length code that open a form of that size
 abbrev Row : Form → Size → ℕ → ℕ → Type 0
@@ -48,31 +32,31 @@ module _ (code length : ℕ) where
       ]
 
   -- a scalar that has at least one octet
-  some_opens : (t : Scalar) → length < 15 → code ≡ type_code (forms.Scalar t) → (0 < length → IsBodyLength (forms.Scalar t) length)
+  some_opens : (t : Scalar) → length < 15 → code ≡ type_code (Form.Scalar t) → (0 < length → IsBodyLength (Form.Scalar t) length)
       → Opens (with_octets t (size length))
   some_opens t low by_code is =
       elim (cases_lt length 14) [
         | inl few ↦ rw (below length 14 few) (cond_both (length == 0) _ _ Opens (λ _ f y e. absurd cc)
-            (λ e. by_form (forms.Scalar t) (Known length) (by_code, refl, few, is (let some = eqb-false length 0 e in omega arith))))
+            (λ e. by_form (Form.Scalar t) (Known length) (by_code, refl, few, is (let some = eqb-false length 0 e in omega arith))))
         | inr many ↦
             let last : length ≡ 14 = omega arith in
-            subst (λ z. Opens (with_octets t z)) (sym (ap size last)) (by_form (forms.Scalar t) Follows (by_code, last))
+            subst (λ z. Opens (with_octets t z)) (sym (ap size last)) (by_form (Form.Scalar t) Follows (by_code, last))
       ]
 
   body_opens : length < 15 → (code ≡ 13 → length ≢ 1) → (code ≡ 14 → 3 ≤ length) → Opens (body_of code (size length))
   body_opens low struct wrapper =
-      cond_both (code == 2) _ _ Opens (λ e. sized_opens (forms.Scalar scalars.Int) low (eqb-true code 2 e) refl (λ _. tt))
-      (λ _. cond_both (code == 3) _ _ Opens (λ e. some_opens scalars.NegativeInt low (eqb-true code 3 e) (λ some. some))
-      (λ _. cond_both (code == 5) _ _ Opens (λ e. sized_opens (forms.Scalar scalars.Decimal) low (eqb-true code 5 e) refl (λ _. tt))
-      (λ _. cond_both (code == 6) _ _ Opens (λ e. some_opens scalars.Timestamp low (eqb-true code 6 e) (λ some. some))
-      (λ _. cond_both (code == 7) _ _ Opens (λ e. sized_opens (forms.Scalar scalars.Symbol) low (eqb-true code 7 e) refl (λ _. tt))
-      (λ _. cond_both (code == 8) _ _ Opens (λ e. sized_opens (forms.Scalar scalars.Str) low (eqb-true code 8 e) refl (λ _. tt))
-      (λ _. cond_both (code == 9) _ _ Opens (λ e. sized_opens (forms.Scalar scalars.Clob) low (eqb-true code 9 e) refl (λ _. tt))
-      (λ _. cond_both (code == 10) _ _ Opens (λ e. sized_opens (forms.Scalar scalars.Blob) low (eqb-true code 10 e) refl (λ _. tt))
-      (λ _. cond_both (code == 11) _ _ Opens (λ e. sized_opens (forms.Listing listings.List) low (eqb-true code 11 e) refl (λ _. tt))
-      (λ _. cond_both (code == 12) _ _ Opens (λ e. sized_opens (forms.Listing listings.Sexp) low (eqb-true code 12 e) refl (λ _. tt))
-      (λ _. cond_both (code == 13) _ _ Opens (λ e. sized_opens forms.Struct low (eqb-true code 13 e) refl (λ _. struct (eqb-true code 13 e)))
-      (λ _. cond_both (code == 14) _ _ Opens (λ e. sized_opens forms.Wrapper low (eqb-true code 14 e) refl (λ _. wrapper (eqb-true code 14 e)))
+      cond_both (code == 2) _ _ Opens (λ e. sized_opens (Form.Scalar Scalar.Int) low (eqb-true code 2 e) refl (λ _. tt))
+      (λ _. cond_both (code == 3) _ _ Opens (λ e. some_opens Scalar.NegativeInt low (eqb-true code 3 e) (λ some. some))
+      (λ _. cond_both (code == 5) _ _ Opens (λ e. sized_opens (Form.Scalar Scalar.Decimal) low (eqb-true code 5 e) refl (λ _. tt))
+      (λ _. cond_both (code == 6) _ _ Opens (λ e. some_opens Scalar.Timestamp low (eqb-true code 6 e) (λ some. some))
+      (λ _. cond_both (code == 7) _ _ Opens (λ e. sized_opens (Form.Scalar Scalar.Symbol) low (eqb-true code 7 e) refl (λ _. tt))
+      (λ _. cond_both (code == 8) _ _ Opens (λ e. sized_opens (Form.Scalar Scalar.Str) low (eqb-true code 8 e) refl (λ _. tt))
+      (λ _. cond_both (code == 9) _ _ Opens (λ e. sized_opens (Form.Scalar Scalar.Clob) low (eqb-true code 9 e) refl (λ _. tt))
+      (λ _. cond_both (code == 10) _ _ Opens (λ e. sized_opens (Form.Scalar Scalar.Blob) low (eqb-true code 10 e) refl (λ _. tt))
+      (λ _. cond_both (code == 11) _ _ Opens (λ e. sized_opens (Form.Listing Listing.List) low (eqb-true code 11 e) refl (λ _. tt))
+      (λ _. cond_both (code == 12) _ _ Opens (λ e. sized_opens (Form.Listing Listing.Sexp) low (eqb-true code 12 e) refl (λ _. tt))
+      (λ _. cond_both (code == 13) _ _ Opens (λ e. sized_opens Form.Struct low (eqb-true code 13 e) refl (λ _. struct (eqb-true code 13 e)))
+      (λ _. cond_both (code == 14) _ _ Opens (λ e. sized_opens Form.Wrapper low (eqb-true code 14 e) refl (λ _. wrapper (eqb-true code 14 e)))
       (λ _ f y e. absurd cc))))))))))))
 
   abbrev TypeOpens : Result Descriptor Reason → Type 0
@@ -82,8 +66,8 @@ module _ (code length : ℕ) where
   refused reason f y e = absurd cc
 
   -- the descriptors of wrappers, and of the version marker
-  wrapper_opens : length < 16 → code ≡ 14 → TypeOpens (cond (length == 0) (Ok descriptors.Marker)
-      (cond ((length == 1) || (length == 2) || (length == 15)) (Err Malformed) (Ok (descriptors.Body code (size length)))))
+  wrapper_opens : length < 16 → code ≡ 14 → TypeOpens (cond (length == 0) (Ok Descriptor.Marker)
+      (cond ((length == 1) || (length == 2) || (length == 15)) (Err Malformed) (Ok (Descriptor.Body code (size length)))))
   wrapper_opens low is =
       cond_both (length == 0) _ _ TypeOpens (λ _ f y e. absurd cc)
       (λ a. cond_both ((length == 1) || (length == 2) || (length == 15)) _ _ TypeOpens (λ _. refused Malformed)
@@ -110,13 +94,13 @@ module _ (code length : ℕ) where
       let null = eqb-false length 15 n in
       let no_wrapper = eqb-false code 14 w in
       let short : length < 15 = omega arith in
-      cond_both (code == 0) _ _ TypeOpens (λ e. sized_opens forms.Pad short (eqb-true code 0 e) refl (λ _. tt))
+      cond_both (code == 0) _ _ TypeOpens (λ e. sized_opens Form.Pad short (eqb-true code 0 e) refl (λ _. tt))
       (λ _. cond_both (code == 1) _ _ TypeOpens (λ _. cond_both (length == 0) _ _ TypeOpens (λ _ f y e. absurd cc)
       (λ _. cond_both (length == 1) _ _ TypeOpens (λ _ f y e. absurd cc) (λ _. refused Malformed)))
       (λ _. cond_both (code == 4) _ _ TypeOpens (λ _. cond_both ((length == 0) || (length == 4) || (length == 8)) _ _ TypeOpens (λ _. refused Float)
       (λ _. refused Malformed))
       (λ _. cond_both (code == 13) _ _ TypeOpens
-      (λ e. cond_both (length == 1) _ _ TypeOpens (λ one. by_form forms.OrderedStruct Follows (eqb-true code 13 e, eqb-true length 1 one))
+      (λ e. cond_both (length == 1) _ _ TypeOpens (λ one. by_form Form.OrderedStruct Follows (eqb-true code 13 e, eqb-true length 1 one))
       (λ o. body_opens short (λ _. eqb-false length 1 o) (λ e. absurd (no_wrapper e))))
       (λ s. body_opens short (λ e. absurd (eqb-false code 13 s e)) (λ e. absurd (no_wrapper e)))))))))
 

@@ -3,26 +3,13 @@ use Rattle.std.proofs.Common.{◌≡◌, ℕ, pos, neg_ℤ, ◌^◌, ◌<◌, Li
 use Rattle.std.proofs.lemmas.Bool.{cond-true, cond-false, eqb-false}
 use Rattle.std.proofs.lemmas.Str.{IsUtf8-from_is_utf8, is_utf8-from_IsUtf8}
 use Rattle.std.specs.Str.{is_utf8}
-use Rattle.ion_model.specs.declared.value.Payload.{Payload}
+use Rattle.ion_binary.specs.Names.{BadUtf8, DecimalParts, IsScalar, Malformed, Payload, Reason, Scalar, Slot, TimestampParts, TooLarge, as_decimal, as_symbol, as_timestamp, bare, decimal_of_body, depth, int_of, is_blob, is_clob, is_decimal, is_int, is_negative, is_string, is_symbol, is_timestamp, judge, layer_depth, positional, resolve, symbol_of, timestamp_of_body, uint_field}
 use Rattle.ion_model.specs.declared.value.Payload.TheVariants as payloads
 use Rattle.ion_model.specs.declared.value.Payload.TheViews as views
-use Rattle.ion_atoms.specs.Decimals.{DecimalParts}
-use Rattle.ion_atoms.specs.Timestamps.{TimestampParts}
-use Rattle.ion_atoms.specs.declared.refusal.Reason.{Reason}
-use Rattle.ion_atoms.specs.declared.refusal.Reason.TheVariants.{TooLarge, Malformed, BadUtf8}
-use Rattle.ion_model.specs.Measures.{depth, bare}
-use Rattle.ion_model.specs.laws.Measures.{depth-out, layer_depth}
-use Rattle.ion_scalar.specs.binary.Fields.{positional, uint_field}
-use Rattle.ion_symtab.specs.Slots.{Slot, resolve}
-use Rattle.ion_binary.specs.declared.form.Scalar.{Scalar}
-use Rattle.ion_binary.specs.declared.form.Scalar.TheVariants as scalars
+use Rattle.ion_model.specs.laws.Measures.{depth-out}
 use Rattle.ion_scalar.specs.binary.Reads.{ReadsDecimalBody}
-use Rattle.ion_scalar.specs.binary.Decimal.{decimal_of_body}
-use Rattle.ion_scalar.specs.binary.laws.Decimal.{decimal_body_read, decimal_answers}
-use Rattle.ion_scalar.specs.binary.Timestamp.{timestamp_of_body}
+use Rattle.ion_scalar.specs.binary.laws.Decimal.{decimal_answers, decimal_body_read}
 use Rattle.ion_scalar.specs.binary.laws.Shown.{timestamp_read, timestamp_told}
-use Rattle.ion_binary.specs.Grammar.{IsScalar, is_int, is_negative, is_decimal, is_timestamp, is_symbol, is_string, is_clob, is_blob}
-use Rattle.ion_binary.specs.Judge.{judge, int_of, symbol_of, as_symbol, as_decimal, as_timestamp}
 
 -- a scalar's body is judged to be it
 pub judge_scalar : (c : List Slot) (body : List ℕ) (t : Scalar) (p : Payload) → IsScalar c body t p → judge c t body ≡ Ok p
@@ -55,46 +42,46 @@ uint_sound n (Err x) k p e f h = let i = f x in absurd cc
 
 -- a body that is read as a decimal is that decimal
 pub decimal_sound : (c : List Slot) (body : List ℕ) (p : Payload) (r : Result DecimalParts Reason) → ReadsDecimalBody body r → as_decimal r ≡ Ok p
-    → IsScalar c body scalars.Decimal p
-decimal_sound c body p (Ok d) e h = let i : payloads.Decimal d ≡ p = cc in subst (IsScalar c body scalars.Decimal) i (is_decimal d e.0 e.1)
+    → IsScalar c body Scalar.Decimal p
+decimal_sound c body p (Ok d) e h = let i : payloads.Decimal d ≡ p = cc in subst (IsScalar c body Scalar.Decimal) i (is_decimal d e.0 e.1)
 decimal_sound c body p (Err x) e h = absurd cc
 
 -- a body that is read as a timestamp is that timestamp
 pub timestamp_sound : (c : List Slot) (body : List ℕ) (p : Payload) (r : Result TimestampParts Reason) → timestamp_of_body body ≡ r → as_timestamp r ≡ Ok p
-    → IsScalar c body scalars.Timestamp p
+    → IsScalar c body Scalar.Timestamp p
 timestamp_sound c body p (Ok t) e h = let i : payloads.Timestamp t ≡ p = cc in
-    subst (IsScalar c body scalars.Timestamp) i (is_timestamp t (timestamp_told body t e))
+    subst (IsScalar c body Scalar.Timestamp) i (is_timestamp t (timestamp_told body t e))
 timestamp_sound c body p (Err x) e h = absurd cc
 
 symbol_sound : (c : List Slot) (body : List ℕ) (p : Payload) (r : Result (Option (List ℕ)) Reason) → positional 256 body < 2 ^ 127
-    → resolve c (positional 256 body) ≡ r → as_symbol r ≡ Ok p → IsScalar c body scalars.Symbol p
-symbol_sound c body p (Ok s) k e h = let i : payloads.Symbol s ≡ p = cc in subst (IsScalar c body scalars.Symbol) i (is_symbol s k e)
+    → resolve c (positional 256 body) ≡ r → as_symbol r ≡ Ok p → IsScalar c body Scalar.Symbol p
+symbol_sound c body p (Ok s) k e h = let i : payloads.Symbol s ≡ p = cc in subst (IsScalar c body Scalar.Symbol) i (is_symbol s k e)
 symbol_sound c body p (Err x) k e h = absurd cc
 
 -- what isn't refused is the scalar
 pub judge_sound : (c : List Slot) (t : Scalar) (body : List ℕ) (p : Payload) → judge c t body ≡ Ok p → IsScalar c body t p
 unfolding judge
-judge_sound c scalars.Int body p h =
+judge_sound c Scalar.Int body p h =
     let q = uint_sound (positional 256 body) (uint_field body) (int_of false) p refl (λ e. refl) h in
     let e : payloads.Int (pos (positional 256 body)) ≡ p = cc q.1 in
-    subst (IsScalar c body scalars.Int) e (is_int q.0)
-judge_sound c scalars.NegativeInt body p h =
+    subst (IsScalar c body Scalar.Int) e (is_int q.0)
+judge_sound c Scalar.NegativeInt body p h =
     let q = uint_sound (positional 256 body) (uint_field body) (int_of true) p refl (λ e. refl) h in
     let r = else_ok (positional 256 body == 0) (Ok (payloads.Int (neg_ℤ (pos (positional 256 body))))) Malformed p q.1 in
     let e : payloads.Int (neg_ℤ (pos (positional 256 body))) ≡ p = cc r.1 in
     let ne = eqb-false (positional 256 body) 0 r.0 in
-    subst (IsScalar c body scalars.NegativeInt) e (is_negative q.0 (omega arith))
-judge_sound c scalars.Decimal body p h = decimal_sound c body p (decimal_of_body body) (decimal_answers body) h
-judge_sound c scalars.Timestamp body p h = timestamp_sound c body p (timestamp_of_body body) refl h
-judge_sound c scalars.Symbol body p h =
+    subst (IsScalar c body Scalar.NegativeInt) e (is_negative q.0 (omega arith))
+judge_sound c Scalar.Decimal body p h = decimal_sound c body p (decimal_of_body body) (decimal_answers body) h
+judge_sound c Scalar.Timestamp body p h = timestamp_sound c body p (timestamp_of_body body) refl h
+judge_sound c Scalar.Symbol body p h =
     let q = uint_sound (positional 256 body) (uint_field body) (symbol_of c) p refl (λ e. refl) h in
     symbol_sound c body p (resolve c (positional 256 body)) q.0 refl q.1
-judge_sound c scalars.Str body p h =
+judge_sound c Scalar.Str body p h =
     let q = then_ok (is_utf8 body) (Ok (payloads.Str body)) BadUtf8 p h in
     let e : payloads.Str body ≡ p = cc q.1 in
-    subst (IsScalar c body scalars.Str) e (is_string (IsUtf8-from_is_utf8 body q.0))
-judge_sound c scalars.Clob body p h = let e : payloads.Clob body ≡ p = cc in subst (IsScalar c body scalars.Clob) e is_clob
-judge_sound c scalars.Blob body p h = let e : payloads.Blob body ≡ p = cc in subst (IsScalar c body scalars.Blob) e is_blob
+    subst (IsScalar c body Scalar.Str) e (is_string (IsUtf8-from_is_utf8 body q.0))
+judge_sound c Scalar.Clob body p h = let e : payloads.Clob body ≡ p = cc in subst (IsScalar c body Scalar.Clob) e is_clob
+judge_sound c Scalar.Blob body p h = let e : payloads.Blob body ≡ p = cc in subst (IsScalar c body Scalar.Blob) e is_blob
 
 -- a scalar has no depth
 pub scalar_flat : (c : List Slot) (body : List ℕ) (t : Scalar) (p : Payload) → IsScalar c body t p → depth (bare p) ≡ 0

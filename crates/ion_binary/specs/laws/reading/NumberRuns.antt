@@ -1,35 +1,19 @@
 -- Where octets end inside of a VarUInt, or end one or a header, the machine has come so far.
 use Rattle.std.proofs.Common.{◌≡◌, ℕ, ◌+◌, ◌*◌, ◌^◌, ◌<◌, ◌≤◌, List, [], ◌∷◌, ◌++◌, length, Ok, Err, Option, None, refl, ap, sym, ◌∙◌, subst, arith, length-append, append-nil, append_assoc, lt-ltb, ne_eqb}
 use Rattle.std.proofs.lemmas.Bool.{cond-true, cond-false}
-use Rattle.ion_model.specs.declared.value.Value.{Value}
-use Rattle.ion_atoms.specs.declared.refusal.Reason.{Reason}
-use Rattle.ion_atoms.specs.Reasons.{reason_number}
-use Rattle.ion_scalar.specs.binary.Fields.{positional, Digits128, none, more}
-use Rattle.ion_symtab.specs.declared.limits.Limits.{Limits}
-use Rattle.ion_symtab.specs.declared.catalog.Catalog.{Catalog}
-use Rattle.ion_symtab.specs.Slots.{Slot}
-use Rattle.ion_binary.specs.declared.form.Form.{Form}
-use Rattle.ion_binary.specs.declared.form.Form.TheVariants as forms
-use Rattle.ion_binary.specs.machine.Frames.{Frame}
-use Rattle.ion_binary.specs.machine.Frames as frames
-use Rattle.ion_binary.specs.declared.state.Purpose.{Purpose}
-use Rattle.ion_binary.specs.declared.state.Purpose.TheVariants as purposes
-use Rattle.ion_binary.specs.declared.state.Phase.{Phase}
-use Rattle.ion_binary.specs.declared.state.Phase.TheVariants.{Ready, InNumber}
-use Rattle.ion_binary.specs.machine.EachOctet.{Outcome, goes, refuses, under, spot_at, at, initial, unless, nameless, unending, past, sized, number_came, on_descriptor, feed}
-use Rattle.ion_binary.specs.machine.Run.{run, run_on}
-use Rattle.ion_binary.specs.machine.Pieces.{run-append, then_run, run_after, led, run_via}
-use Rattle.ion_binary.specs.laws.reading.Complete.{too_long_none, digits_more, number_run, count_goes, ids_run, begin_wrapper, last_step}
-use Rattle.ion_binary.specs.laws.reading.OpenRuns.{Match, nothing_open, items, names, named, noted, may_admit, phase_of, Leads, open_run, headed_run, takes_phase}
+use Rattle.ion_binary.specs.Names.{Before, Catalog, Count, Digits128, EndsHeader, EndsNumber, Form, Frame, Headed, Id, InNumber, Items, LastOctet, Length, Limits, MayGoOn, Name, Named, Noted, Number, Open, Outcome, Phase, Purpose, Ready, Reason, Slot, TakesValue, Value, a_count, a_length, a_name, an_id, at, by_descriptor, by_length, feed, goes, initial, led, more, nameless, none, number_came, of_annotations, of_container, of_struct, of_wrapper, on_descriptor, past, positional, reason_number, refuses, run, run-append, run_after, run_on, run_via, sized, spot_at, then_run, under, unending, unless}
 use Rattle.ion_binary.specs.Deciding as deciding
-use Rattle.ion_binary.specs.Deciding.{Container, Items, Names, Named, Noted, TakesValue, MayBegin, Headed, Open, Number, Length, Name, Count, Id, Before, a_length, a_name, a_count, an_id, LastOctet, of_container, of_struct, of_wrapper, of_annotations, MayGoOn, EndsNumber, EndsHeader, by_descriptor, by_length}
+use Rattle.ion_binary.specs.Deciding.{Container, MayBegin, Names}
+use Rattle.ion_binary.specs.machine.Frames as frames
+use Rattle.ion_binary.specs.laws.reading.Complete.{begin_wrapper, count_goes, digits_more, ids_run, last_step, number_run, too_long_none}
+use Rattle.ion_binary.specs.laws.reading.OpenRuns.{Leads, Match, headed_run, items, may_admit, named, names, noted, nothing_open, open_run, phase_of, takes_phase}
 
 -- the machine's word for a number
 abbrev pub purpose_of : Number → Purpose
-purpose_of (Length form) = purposes.Length form
-purpose_of Name = purposes.FieldName
-purpose_of (Count end) = purposes.AnnotationsLength
-purpose_of (Id stop) = purposes.Annotation stop
+purpose_of (Length form) = Purpose.Length form
+purpose_of Name = Purpose.FieldName
+purpose_of (Count end) = Purpose.AnnotationsLength
+purpose_of (Id stop) = Purpose.Annotation stop
 
 -- the frames in which it stands
 pub data InFrames (c : List Slot) : List Container → Number → List Frame → Type 0 where
@@ -164,7 +148,7 @@ module _ (g : Catalog) (l : Limits) where
         (digits_hold ks p ds u s o (omega arith) (go_less ks p _ _ (omega arith) h)) q k b (sym (append_assoc u ds (d ∷ []))) h
 
     -- the header of a wrapper
-    wrapper_holds : (ks : List Container) (end : ℕ) (u : List ℕ) → Headed l c start (Open g l c start ks) ks forms.Wrapper end u → length u < end
+    wrapper_holds : (ks : List Container) (end : ℕ) (u : List ℕ) → Headed l c start (Open g l c start ks) ks Form.Wrapper end u → length u < end
         → HoldsIn ks (Count end) 0 u
     wrapper_holds ks end u h i =
         let d = open_run g l c start ks h.before h.outer in
@@ -173,13 +157,13 @@ module _ (g : Catalog) (l : Limits) where
         record {
           fs = frames.Annotated end [] ∷ d.fs;
           inside = count_in ks end d.fs d.match;
-          holds = holds_via d.fs (frames.Annotated end [] ∷ d.fs) (phase_of ks) (InNumber purposes.AnnotationsLength 0) h.before (h.header ++ []) u
+          holds = holds_via d.fs (frames.Annotated end [] ∷ d.fs) (phase_of ks) (InNumber Purpose.AnnotationsLength 0) h.before (h.header ++ []) u
               (leads_holds ks h.before d) (h.parts ∙ ap (λ x. h.before ++ x) (sym (append-nil h.header)))
               (ap (λ p. run g l (length h.before) (at (spot_at (length h.before) start c) d.fs p) (h.header ++ []))
-              (takes_phase g l c start ks forms.Wrapper h.begins)
-              ∙ (headed_run g l c start ks d.fs forms.Wrapper end u [] (Open g l c start ks) h (cond-false _ _ _ (ne_eqb h.n 0 (λ x. omega arith))) d.match
+              (takes_phase g l c start ks Form.Wrapper h.begins)
+              ∙ (headed_run g l c start ks d.fs Form.Wrapper end u [] (Open g l c start ks) h (cond-false _ _ _ (ne_eqb h.n 0 (λ x. omega arith))) d.match
               ∙ (ap (run_on (length u) (λ n. run g l (length u) n [])) (begin_wrapper g l (spot_at (length u) start c) d.fs h.n)
-              ∙ ap (λ x. led (at (spot_at (length u) start c) (frames.Annotated x [] ∷ d.fs) (InNumber purposes.AnnotationsLength 0))) here)));
+              ∙ ap (λ x. led (at (spot_at (length u) start c) (frames.Annotated x [] ∷ d.fs) (InNumber Purpose.AnnotationsLength 0))) here)));
         }
 
     count_frames : (ks : List Container) (end : ℕ) (fs : List Frame) → InFrames c ks (Count end) fs → (hs : List Frame) × (fs ≡ frames.Annotated end [] ∷ hs)
@@ -193,12 +177,12 @@ module _ (g : Catalog) (l : Limits) where
         let a = may_admit c d.fs ks form d.match m in
         let k = length-append u (b ∷ []) in
         let j : length (u ++ b ∷ []) ≡ length u + 1 = omega arith in
-        let G = goes (at (spot_at (length u + 1) start c) d.fs (InNumber (purposes.Length form) 0)) in
+        let G = goes (at (spot_at (length u + 1) start c) d.fs (InNumber (Purpose.Length form) 0)) in
         let inside = length_in ks form d.fs d.match in
         record {
           fs = d.fs;
           inside = inside;
-          holds = goes_with d.fs d.fs Ready (InNumber (purposes.Length form) 0) u b
+          holds = goes_with d.fs d.fs Ready (InNumber (Purpose.Length form) 0) u b
               (subst (λ p. Holds d.fs p u) (takes_phase g l c start ks form m) (leads_holds ks u d))
               (ap (on_descriptor (under g l) (spot_at (length u + 1) start c) d.fs) i
               ∙ (ap (λ x. unless x (unless (unending l.item start d.fs form (length u + 1)) (unless (nameless d.fs form) G))) a.fitting
@@ -223,12 +207,12 @@ module _ (g : Catalog) (l : Limits) where
         record {
           fs = frames.Annotated end ss ∷ f.0;
           inside = id_in ks end stop ss f.0 f.2;
-          holds = holds_via w.fs (frames.Annotated end ss ∷ f.0) (InNumber purposes.AnnotationsLength 0) (InNumber (purposes.Annotation stop) 0) front
+          holds = holds_via w.fs (frames.Annotated end ss ∷ f.0) (InNumber Purpose.AnnotationsLength 0) (InNumber (Purpose.Annotation stop) 0) front
               (count ++ ids) u w.holds refl
-              (ap (λ fs. run g l (length front) (at (spot_at (length front) start c) fs (InNumber purposes.AnnotationsLength 0)) (count ++ ids)) f.1
-              ∙ run_via g l (length front) mid (at (spot_at (length front) start c) (frames.Annotated end [] ∷ f.0) (InNumber purposes.AnnotationsLength 0))
-              (at (spot_at mid start c) (frames.Annotated end [] ∷ f.0) (InNumber (purposes.Annotation stop) 0)) _ count ids refl
-              (number_run g l (spot_at (length front) start c) (frames.Annotated end [] ∷ f.0) purposes.AnnotationsLength count n mid v refl (omega arith)
+              (ap (λ fs. run g l (length front) (at (spot_at (length front) start c) fs (InNumber Purpose.AnnotationsLength 0)) (count ++ ids)) f.1
+              ∙ run_via g l (length front) mid (at (spot_at (length front) start c) (frames.Annotated end [] ∷ f.0) (InNumber Purpose.AnnotationsLength 0))
+              (at (spot_at mid start c) (frames.Annotated end [] ∷ f.0) (InNumber (Purpose.Annotation stop) 0)) _ count ids refl
+              (number_run g l (spot_at (length front) start c) (frames.Annotated end [] ∷ f.0) Purpose.AnnotationsLength count n mid v refl (omega arith)
               ∙ ap (run_after mid) (count_goes g l (spot_at mid start c) f.0 end n [] some room))
               (ids_run g l (spot_at mid start c) f.0 end stop ids ss (length u) t (omega arith) there (omega arith)
               ∙ ap (λ ph. led (at (spot_at (length u) start c) (frames.Annotated end ss ∷ f.0) ph))

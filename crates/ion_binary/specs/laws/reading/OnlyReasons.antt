@@ -3,31 +3,10 @@ use Rattle.std.proofs.Common.{◌≡◌, ◌⊎◌, inl, inr, ℕ, ◌-◌, ◌/
 use Rattle.std.specs.Str.{is_utf8}
 use Rattle.std.proofs.lemmas.Str.{is_utf8-from_IsUtf8, IsUtf8-nil}
 use Rattle.std.proofs.lemmas.Bool.{cond-true, cond-false}
-use Rattle.ion_model.specs.declared.value.Payload.{Payload}
+use Rattle.ion_binary.specs.Names.{BadUtf8, Descriptor, Float, Follows, Form, Frame, ImportGap, Known, Malformed, Opening, Payload, Reason, Refused, Scalar, Size, Slot, SymbolRange, body_of, decimal_of_body, descriptor_of, gap, hollow, is_pad, is_wrapper, judge, opening_of, opens, read_offset, reason_number, resolve, stray, symbol_at, text, timestamp_of_body, typed, unknown, with_octets}
 use Rattle.ion_model.specs.declared.value.Payload.TheVariants as payloads
-use Rattle.ion_atoms.specs.declared.refusal.Reason.{Reason}
-use Rattle.ion_atoms.specs.declared.refusal.Reason.TheVariants.{Malformed, Float, SymbolRange, ImportGap, BadUtf8}
-use Rattle.ion_atoms.specs.Reasons.{reason_number}
-use Rattle.ion_scalar.specs.declared.descriptor.Size.{Size}
-use Rattle.ion_scalar.specs.declared.descriptor.Size.TheVariants.{Known, Follows}
-use Rattle.ion_symtab.specs.Slots.{Slot, text, unknown, gap, resolve, symbol_at}
-use Rattle.ion_binary.specs.declared.form.Scalar.{Scalar}
-use Rattle.ion_binary.specs.declared.form.Scalar.TheVariants as scalars
-use Rattle.ion_binary.specs.declared.form.Form.{Form}
-use Rattle.ion_binary.specs.declared.form.Form.TheVariants as forms
-use Rattle.ion_binary.specs.declared.form.Opening.{Opening}
-use Rattle.ion_binary.specs.declared.form.Opening.TheVariants.{Refused}
-use Rattle.ion_binary.specs.machine.Frames.{Frame}
-use Rattle.ion_binary.specs.machine.Frames as frames
-use Rattle.ion_scalar.specs.binary.Descriptor.{descriptor_of, typed}
-use Rattle.ion_scalar.specs.declared.descriptor.Descriptor.{Descriptor}
-use Rattle.ion_scalar.specs.declared.descriptor.Descriptor.TheVariants as descriptors
-use Rattle.ion_scalar.specs.binary.Timestamp.{timestamp_of_body, read_offset}
-use Rattle.ion_scalar.specs.binary.Decimal.{decimal_of_body}
-use Rattle.ion_binary.specs.Opening.{opening_of, opens, body_of, with_octets, is_pad, is_wrapper}
-use Rattle.ion_binary.specs.Judge.{judge}
-use Rattle.ion_binary.specs.machine.EachOctet.{stray, hollow}
 use Rattle.ion_symtab.specs.laws.Reasons.{either}
+use Rattle.ion_binary.specs.machine.Frames as frames
 
 -- what stands in the way of a form is `Malformed` but for the room at the top level and the id of a name
 
@@ -37,19 +16,19 @@ malformed_only false = inl refl
 
 -- a form with no octets in its body is refused as `Malformed`, if at all
 pub hollow_only : (form : Form) (n : ℕ) → (hollow form n ≡ None) ⊎ (hollow form n ≡ Some Malformed)
-hollow_only (forms.Scalar scalars.NegativeInt) n = malformed_only (n == 0)
-hollow_only (forms.Scalar scalars.Timestamp) n = malformed_only (n == 0)
-hollow_only (forms.Scalar scalars.Int) n = inl refl
-hollow_only (forms.Scalar scalars.Decimal) n = inl refl
-hollow_only (forms.Scalar scalars.Symbol) n = inl refl
-hollow_only (forms.Scalar scalars.Str) n = inl refl
-hollow_only (forms.Scalar scalars.Clob) n = inl refl
-hollow_only (forms.Scalar scalars.Blob) n = inl refl
-hollow_only forms.OrderedStruct n = malformed_only (n == 0)
-hollow_only forms.Wrapper n = malformed_only (n == 0)
-hollow_only forms.Pad n = inl refl
-hollow_only (forms.Listing x) n = inl refl
-hollow_only forms.Struct n = inl refl
+hollow_only (Form.Scalar Scalar.NegativeInt) n = malformed_only (n == 0)
+hollow_only (Form.Scalar Scalar.Timestamp) n = malformed_only (n == 0)
+hollow_only (Form.Scalar Scalar.Int) n = inl refl
+hollow_only (Form.Scalar Scalar.Decimal) n = inl refl
+hollow_only (Form.Scalar Scalar.Symbol) n = inl refl
+hollow_only (Form.Scalar Scalar.Str) n = inl refl
+hollow_only (Form.Scalar Scalar.Clob) n = inl refl
+hollow_only (Form.Scalar Scalar.Blob) n = inl refl
+hollow_only Form.OrderedStruct n = malformed_only (n == 0)
+hollow_only Form.Wrapper n = malformed_only (n == 0)
+hollow_only Form.Pad n = inl refl
+hollow_only (Form.Listing x) n = inl refl
+hollow_only Form.Struct n = inl refl
 
 -- a form that may not stand in the innermost container is refused as `Malformed`, if at all
 pub stray_only : (fs : List Frame) (form : Form) → (stray fs form ≡ None) ⊎ (stray fs form ≡ Some Malformed)
@@ -103,8 +82,8 @@ with_plain t Follows = tt
 
 body_plain : (code : ℕ) (z : Size) → PlainOpening (body_of code z)
 body_plain code z =
-    either PlainOpening (code == 2) _ _ tt (either PlainOpening (code == 3) _ _ (with_plain scalars.NegativeInt z)
-    (either PlainOpening (code == 5) _ _ tt (either PlainOpening (code == 6) _ _ (with_plain scalars.Timestamp z)
+    either PlainOpening (code == 2) _ _ tt (either PlainOpening (code == 3) _ _ (with_plain Scalar.NegativeInt z)
+    (either PlainOpening (code == 5) _ _ tt (either PlainOpening (code == 6) _ _ (with_plain Scalar.Timestamp z)
     (either PlainOpening (code == 7) _ _ tt (either PlainOpening (code == 8) _ _ tt
     (either PlainOpening (code == 9) _ _ tt (either PlainOpening (code == 10) _ _ tt
     (either PlainOpening (code == 11) _ _ tt (either PlainOpening (code == 12) _ _ tt
@@ -112,12 +91,12 @@ body_plain code z =
 
 opens_plain : (d : Result Descriptor Reason) → PlainDescriptor d → PlainOpening (opens d)
 opens_plain (Err e) h = h
-opens_plain (Ok descriptors.Marker) h = tt
-opens_plain (Ok (descriptors.Null k)) h = tt
-opens_plain (Ok (descriptors.Truth t)) h = tt
-opens_plain (Ok (descriptors.Pad z)) h = tt
-opens_plain (Ok descriptors.Ordered) h = tt
-opens_plain (Ok (descriptors.Body code z)) h = body_plain code z
+opens_plain (Ok Descriptor.Marker) h = tt
+opens_plain (Ok (Descriptor.Null k)) h = tt
+opens_plain (Ok (Descriptor.Truth t)) h = tt
+opens_plain (Ok (Descriptor.Pad z)) h = tt
+opens_plain (Ok Descriptor.Ordered) h = tt
+opens_plain (Ok (Descriptor.Body code z)) h = body_plain code z
 
 typed_plain : (t n : ℕ) → PlainDescriptor (typed t n)
 typed_plain t n =
@@ -142,42 +121,42 @@ plain_small e (inl h) = subst (λ (x : Reason). reason_number x ≤ 5) (sym h) (
 plain_small e (inr h) = subst (λ (x : Reason). reason_number x ≤ 5) (sym h) (omega arith)
 
 -- what tests as a pad is the form of pads
-pub pad_is : (form : Form) → is_pad form ≡ true → form ≡ forms.Pad
-pad_is forms.Pad h = refl
-pad_is (forms.Scalar t) h = cc
-pad_is (forms.Listing x) h = cc
-pad_is forms.Struct h = cc
-pad_is forms.OrderedStruct h = cc
-pad_is forms.Wrapper h = cc
+pub pad_is : (form : Form) → is_pad form ≡ true → form ≡ Form.Pad
+pad_is Form.Pad h = refl
+pad_is (Form.Scalar t) h = cc
+pad_is (Form.Listing x) h = cc
+pad_is Form.Struct h = cc
+pad_is Form.OrderedStruct h = cc
+pad_is Form.Wrapper h = cc
 
 -- a body of some octets is refused for none of them missing
 pub hollow_some : (form : Form) (n : ℕ) → 0 < n → hollow form n ≡ None
-hollow_some (forms.Scalar scalars.NegativeInt) n h = cond-false _ _ _ (ne_eqb n 0 (λ e. omega arith))
-hollow_some (forms.Scalar scalars.Timestamp) n h = cond-false _ _ _ (ne_eqb n 0 (λ e. omega arith))
-hollow_some (forms.Scalar scalars.Int) n h = refl
-hollow_some (forms.Scalar scalars.Decimal) n h = refl
-hollow_some (forms.Scalar scalars.Symbol) n h = refl
-hollow_some (forms.Scalar scalars.Str) n h = refl
-hollow_some (forms.Scalar scalars.Clob) n h = refl
-hollow_some (forms.Scalar scalars.Blob) n h = refl
-hollow_some forms.OrderedStruct n h = cond-false _ _ _ (ne_eqb n 0 (λ e. omega arith))
-hollow_some forms.Wrapper n h = cond-false _ _ _ (ne_eqb n 0 (λ e. omega arith))
-hollow_some forms.Pad n h = refl
-hollow_some (forms.Listing x) n h = refl
-hollow_some forms.Struct n h = refl
+hollow_some (Form.Scalar Scalar.NegativeInt) n h = cond-false _ _ _ (ne_eqb n 0 (λ e. omega arith))
+hollow_some (Form.Scalar Scalar.Timestamp) n h = cond-false _ _ _ (ne_eqb n 0 (λ e. omega arith))
+hollow_some (Form.Scalar Scalar.Int) n h = refl
+hollow_some (Form.Scalar Scalar.Decimal) n h = refl
+hollow_some (Form.Scalar Scalar.Symbol) n h = refl
+hollow_some (Form.Scalar Scalar.Str) n h = refl
+hollow_some (Form.Scalar Scalar.Clob) n h = refl
+hollow_some (Form.Scalar Scalar.Blob) n h = refl
+hollow_some Form.OrderedStruct n h = cond-false _ _ _ (ne_eqb n 0 (λ e. omega arith))
+hollow_some Form.Wrapper n h = cond-false _ _ _ (ne_eqb n 0 (λ e. omega arith))
+hollow_some Form.Pad n h = refl
+hollow_some (Form.Listing x) n h = refl
+hollow_some Form.Struct n h = refl
 
 malformed_in : Result Payload Reason → Reason → Reason
 malformed_in (Err e) d = e
 malformed_in (Ok p) d = d
 
 -- no octets are no scalar only where the form asks for some
-pub empty_hollow : (c : List Slot) (t : Scalar) (e : Reason) → judge c t [] ≡ Err e → (hollow (forms.Scalar t) 0 ≡ Some Malformed) × (e ≡ Malformed)
+pub empty_hollow : (c : List Slot) (t : Scalar) (e : Reason) → judge c t [] ≡ Err e → (hollow (Form.Scalar t) 0 ≡ Some Malformed) × (e ≡ Malformed)
 unfolding judge timestamp_of_body read_offset decimal_of_body resolve malformed_in
-empty_hollow c scalars.NegativeInt e h = (refl, ap (λ x. malformed_in x e) (sym h))
-empty_hollow c scalars.Timestamp e h = (refl, ap (λ x. malformed_in x e) (sym h))
-empty_hollow c scalars.Int e h = absurd cc
-empty_hollow c scalars.Decimal e h = absurd cc
-empty_hollow c scalars.Symbol e h = absurd cc
-empty_hollow c scalars.Str e h = let k = cond-true (is_utf8 []) (Ok (payloads.Str [])) (Err BadUtf8) (is_utf8-from_IsUtf8 [] IsUtf8-nil) in absurd cc
-empty_hollow c scalars.Clob e h = absurd cc
-empty_hollow c scalars.Blob e h = absurd cc
+empty_hollow c Scalar.NegativeInt e h = (refl, ap (λ x. malformed_in x e) (sym h))
+empty_hollow c Scalar.Timestamp e h = (refl, ap (λ x. malformed_in x e) (sym h))
+empty_hollow c Scalar.Int e h = absurd cc
+empty_hollow c Scalar.Decimal e h = absurd cc
+empty_hollow c Scalar.Symbol e h = absurd cc
+empty_hollow c Scalar.Str e h = let k = cond-true (is_utf8 []) (Ok (payloads.Str [])) (Err BadUtf8) (is_utf8-from_IsUtf8 [] IsUtf8-nil) in absurd cc
+empty_hollow c Scalar.Clob e h = absurd cc
+empty_hollow c Scalar.Blob e h = absurd cc

@@ -1,29 +1,10 @@
 -- What octets that were not refused are: whole pieces, and then an open rest.
 use Rattle.std.proofs.Common.{◌≡◌, ℕ, ◌+◌, ◌^◌, ◌<◌, ◌≤◌, List, [], ◌∷◌, ◌++◌, length, refl, ap, sym, ◌∙◌, subst, inl, inr, arith, length-append, append_assoc, append-nil, Bool, false, ◌⊎◌, Option}
-use Rattle.ion_model.specs.declared.value.Value.{Value}
-use Rattle.ion_model.specs.declared.value.Field.{Field}
-use Rattle.ion_symtab.specs.declared.limits.Limits.{Limits}
-use Rattle.ion_symtab.specs.declared.catalog.Catalog.{Catalog}
-use Rattle.ion_symtab.specs.Slots.{Slot}
-use Rattle.ion_symtab.specs.laws.Decided.{resolve_decides}
+use Rattle.ion_binary.specs.Names.{Catalog, Field, First, Follows, Form, Fourth, Frame, InBody, InMarker, InNumber, InPad, Limits, Mark, OpenRest, Phase, Purpose, Ready, Scalar, Second, Sized, Slot, Third, Value, Whole, document, end_of, is_pad, no_piece, of_item, of_marker, of_pad, of_pad_length}
 use Rattle.ion_symtab.specs.Decided.{Decides}
-use Rattle.ion_binary.specs.declared.form.Form.{Form}
-use Rattle.ion_binary.specs.declared.form.Form.TheVariants as forms
-use Rattle.ion_binary.specs.declared.form.Scalar.{Scalar}
-use Rattle.ion_binary.specs.machine.Frames.{Frame}
+use Rattle.ion_symtab.specs.laws.Decided.{resolve_decides}
 use Rattle.ion_binary.specs.machine.Frames as frames
-use Rattle.ion_binary.specs.declared.state.Mark.{Mark}
-use Rattle.ion_binary.specs.declared.state.Mark.TheVariants.{First, Second, Third, Fourth}
-use Rattle.ion_binary.specs.declared.state.Purpose.{Purpose}
-use Rattle.ion_binary.specs.declared.state.Purpose.TheVariants as purposes
-use Rattle.ion_binary.specs.declared.state.Phase.{Phase}
-use Rattle.ion_binary.specs.declared.state.Phase.TheVariants.{InMarker, Ready, InNumber, InBody, InPad}
-use Rattle.ion_binary.specs.Grammar.{Whole, no_piece, document, OpenRest, of_marker, of_item, of_pad_length, of_pad}
-use Rattle.ion_scalar.specs.declared.descriptor.Size.TheVariants.{Follows}
-use Rattle.ion_binary.specs.declared.form.Opening.TheVariants.{Sized}
-use Rattle.ion_binary.specs.Opening.{is_pad}
-use Rattle.ion_binary.specs.machine.EachOctet.{end_of}
-use Rattle.ion_binary.specs.laws.reading.Stands.{BodyMayEnd, Box, IsStructOf, InFields, Opened, Front, MarkerStands, LengthStands, NumberStands, BodyStands, Standing, marker_place}
+use Rattle.ion_binary.specs.laws.reading.Stands.{BodyMayEnd, BodyStands, Box, Front, InFields, IsStructOf, LengthStands, MarkerStands, NumberStands, Opened, Standing, marker_place}
 use Rattle.ion_binary.specs.laws.reading.Steady.{FineFrames}
 
 module _ (g : Catalog) (l : Limits) where
@@ -55,12 +36,12 @@ module _ (g : Catalog) (l : Limits) where
   opened_cut : (start : ℕ) (c : List Slot) (s : List Value) (fs : List Frame) (u : List ℕ) → Opened g l start c s fs u → Cut start s u
   opened_cut start c s [] u o = record { front = u; rest = []; parts = sym (append-nil u); whole = document u s c o.0; at = o.1 }
   opened_cut start c s (frames.Items end x vs ∷ fs) u o = cut_on start s o.front o.body u o.whole
-      (box_before start s (Opened g l start c s fs) fs (forms.Listing x) end o.front (opened_cut start c s fs) o.box)
+      (box_before start s (Opened g l start c s fs) fs (Form.Listing x) end o.front (opened_cut start c s fs) o.box)
   opened_cut start c s (frames.Fields end ms ∷ fs) u o = struct_before start c s (Opened g l start c s fs) fs end ms u (opened_cut start c s fs) o
   opened_cut start c s (frames.Named end ms name ∷ fs) u o =
       cut_on start s o.front o.id u o.whole (struct_before start c s (Opened g l start c s fs) fs end ms o.front (opened_cut start c s fs) o.inside)
   opened_cut start c s (frames.Annotated end ss ∷ fs) u o =
-      cut_on start s o.front (o.count ++ o.ids) u o.whole (box_before start s (Opened g l start c s fs) fs forms.Wrapper end o.front (opened_cut start c s fs)
+      cut_on start s o.front (o.count ++ o.ids) u o.whole (box_before start s (Opened g l start c s fs) fs Form.Wrapper end o.front (opened_cut start c s fs)
       o.box)
 
   front_cut : (start : ℕ) (c : List Slot) (s : List Value) (u : List ℕ) → Front g l start c s u → Cut start s u
@@ -80,19 +61,19 @@ module _ (g : Catalog) (l : Limits) where
   ends_within start (frames.Annotated end ss) fs form to h r = omega arith
 
   struct_form : (form : Form) (n : ℕ) → IsStructOf form n → is_pad form ≡ false
-  struct_form forms.Pad n h = absurd h
-  struct_form (forms.Scalar t) n h = refl
-  struct_form (forms.Listing x) n h = refl
-  struct_form forms.Struct n h = refl
-  struct_form forms.OrderedStruct n h = refl
-  struct_form forms.Wrapper n h = refl
+  struct_form Form.Pad n h = absurd h
+  struct_form (Form.Scalar t) n h = refl
+  struct_form (Form.Listing x) n h = refl
+  struct_form Form.Struct n h = refl
+  struct_form Form.OrderedStruct n h = refl
+  struct_form Form.Wrapper n h = refl
 
   -- an open container ends within the item
   end_within : (start : ℕ) (c : List Slot) (s : List Value) (f : Frame) (fs : List Frame) (u : List ℕ) → Opened g l start c s (f ∷ fs) u
       → end_of f ≤ start + l.item
   end_within start c s (frames.Items end x vs) [] u o = o.box.room refl
   end_within start c s (frames.Items end x vs) (k ∷ fs) u o =
-      ends_within start k fs (forms.Listing x) end (end_within start c s k fs o.box.before o.box.outer) o.box.room
+      ends_within start k fs (Form.Listing x) end (end_within start c s k fs o.box.before o.box.outer) o.box.room
   end_within start c s (frames.Fields end ms) [] u o = o.box.room (struct_form o.form o.box.n o.kind)
   end_within start c s (frames.Fields end ms) (k ∷ fs) u o = ends_within start k fs o.form end (end_within start c s k fs o.box.before o.box.outer) o.box.room
   end_within start c s (frames.Named end ms name) [] u o = o.inside.box.room (struct_form o.inside.form o.inside.box.n o.inside.kind)
@@ -100,12 +81,12 @@ module _ (g : Catalog) (l : Limits) where
       ends_within start k fs o.inside.form end (end_within start c s k fs o.inside.box.before o.inside.box.outer) o.inside.box.room
   end_within start c s (frames.Annotated end ss) [] u o = o.box.room refl
   end_within start c s (frames.Annotated end ss) (k ∷ fs) u o =
-      ends_within start k fs forms.Wrapper end (end_within start c s k fs o.box.before o.box.outer) o.box.room
+      ends_within start k fs Form.Wrapper end (end_within start c s k fs o.box.before o.box.outer) o.box.room
 
   wrapper_within : (start : ℕ) (c : List Slot) (s : List Value) (fs : List Frame) (end : ℕ) (u : List ℕ)
-      → Box l start (Opened g l start c s fs) fs forms.Wrapper end u → end ≤ start + l.item
+      → Box l start (Opened g l start c s fs) fs Form.Wrapper end u → end ≤ start + l.item
   wrapper_within start c s [] end u o = o.room refl
-  wrapper_within start c s (k ∷ fs) end u o = ends_within start k fs forms.Wrapper end (end_within start c s k fs o.before o.outer) o.room
+  wrapper_within start c s (k ∷ fs) end u o = ends_within start k fs Form.Wrapper end (end_within start c s k fs o.before o.outer) o.room
 
   -- the octets so far don't go beyond the innermost container
   within_end : (start : ℕ) (c : List Slot) (s : List Value) (f : Frame) (fs : List Frame) (u : List ℕ) → Opened g l start c s (f ∷ fs) u → length u ≤ end_of f
@@ -160,13 +141,13 @@ module _ (g : Catalog) (l : Limits) where
       → Cut start s u
   length_cut start c s fs form a u o = cut_on start s o.before (o.b ∷ o.digits) u o.whole (opened_cut start c s fs o.before o.outer)
 
-  pad_or : (form : Form) → (form ≡ forms.Pad) ⊎ (is_pad form ≡ false)
-  pad_or forms.Pad = inl refl
-  pad_or (forms.Scalar t) = inr refl
-  pad_or (forms.Listing x) = inr refl
-  pad_or forms.Struct = inr refl
-  pad_or forms.OrderedStruct = inr refl
-  pad_or forms.Wrapper = inr refl
+  pad_or : (form : Form) → (form ≡ Form.Pad) ⊎ (is_pad form ≡ false)
+  pad_or Form.Pad = inl refl
+  pad_or (Form.Scalar t) = inr refl
+  pad_or (Form.Listing x) = inr refl
+  pad_or Form.Struct = inr refl
+  pad_or Form.OrderedStruct = inr refl
+  pad_or Form.Wrapper = inr refl
 
   length_open : (start : ℕ) (c : List Slot) (s : List Value) (fs : List Frame) (form : Form) (a : ℕ) (u : List ℕ) → LengthStands g l start c s fs form a u
       → OpenCut start s u
@@ -175,7 +156,7 @@ module _ (g : Catalog) (l : Limits) where
       item_open start s u (length_cut start c s (f ∷ fs) form a u o) (omega arith)
   length_open start c s [] form a u o = go (pad_or form)
     where
-      go : (form ≡ forms.Pad) ⊎ (is_pad form ≡ false) → OpenCut start s u
+      go : (form ≡ Form.Pad) ⊎ (is_pad form ≡ false) → OpenCut start s u
       go (inl p) =
           record {
             cut = record { front = o.before; rest = o.b ∷ o.digits; parts = o.whole; whole = document o.before s c o.outer.0; at = o.outer.1 };
@@ -186,23 +167,23 @@ module _ (g : Catalog) (l : Limits) where
   -- a number in the innermost container
   number_open : (start : ℕ) (c : List Slot) (s : List Value) (fs : List Frame) (p : Purpose) (a : ℕ) (u : List ℕ) → NumberStands g l start c s fs p a u
       → OpenCut start s u
-  number_open start c s fs (purposes.Length form) a u o = length_open start c s fs form a u o
-  number_open start c s (frames.Fields end ms ∷ fs) purposes.FieldName a u o =
+  number_open start c s fs (Purpose.Length form) a u o = length_open start c s fs form a u o
+  number_open start c s (frames.Fields end ms ∷ fs) Purpose.FieldName a u o =
       let h = o.going in
       let e = end_within start c s (frames.Fields end ms) fs o.front o.inside in
       item_open start s u (cut_on start s o.front o.digits u o.whole
       (struct_before start c s (Opened g l start c s fs) fs end ms o.front (opened_cut start c s fs) o.inside)) (omega arith)
-  number_open start c s (frames.Annotated end ss ∷ fs) purposes.AnnotationsLength a u o =
+  number_open start c s (frames.Annotated end ss ∷ fs) Purpose.AnnotationsLength a u o =
       let h = o.going in
       let e = wrapper_within start c s fs end o.front o.box in
       item_open start s u (cut_on start s o.front o.digits u o.whole
-      (box_before start s (Opened g l start c s fs) fs forms.Wrapper end o.front (opened_cut start c s fs) o.box)) (omega arith)
-  number_open start c s (frames.Annotated end ss ∷ fs) (purposes.Annotation stop) a u o =
+      (box_before start s (Opened g l start c s fs) fs Form.Wrapper end o.front (opened_cut start c s fs) o.box)) (omega arith)
+  number_open start c s (frames.Annotated end ss ∷ fs) (Purpose.Annotation stop) a u o =
       let h = o.going in
       let r = o.room in
       let e = wrapper_within start c s fs end o.front o.box in
       item_open start s u (cut_on start s o.front (o.count ++ (o.ids ++ o.digits)) u o.whole
-      (box_before start s (Opened g l start c s fs) fs forms.Wrapper end o.front (opened_cut start c s fs) o.box)) (omega arith)
+      (box_before start s (Opened g l start c s fs) fs Form.Wrapper end o.front (opened_cut start c s fs) o.box)) (omega arith)
   number_open start c s _ _ a u o = absurd o
 
   body_long : (start : ℕ) (c : List Slot) (s : List Value) (fs : List Frame) (form : Form) (n : ℕ) (came : List ℕ) (u : List ℕ)
@@ -225,19 +206,19 @@ module _ (g : Catalog) (l : Limits) where
   body_within_item start c s f fs form n came u o = ends_within start f fs form o.end (end_within start c s f fs o.before o.outer) o.room
 
   scalar_open : (start : ℕ) (c : List Slot) (s : List Value) (fs : List Frame) (t : Scalar) (n : ℕ) (came : List ℕ) (u : List ℕ)
-      → BodyStands g l start c s fs (forms.Scalar t) n came u → OpenCut start s u
+      → BodyStands g l start c s fs (Form.Scalar t) n came u → OpenCut start s u
   scalar_open start c s (f ∷ fs) t n came u o =
-      let b = body_long start c s (f ∷ fs) (forms.Scalar t) n came u o in let e = body_within_item start c s f fs (forms.Scalar t) n came u o in
-      item_open start s u (body_cut start c s (f ∷ fs) (forms.Scalar t) n came u o) (omega arith)
+      let b = body_long start c s (f ∷ fs) (Form.Scalar t) n came u o in let e = body_within_item start c s f fs (Form.Scalar t) n came u o in
+      item_open start s u (body_cut start c s (f ∷ fs) (Form.Scalar t) n came u o) (omega arith)
   scalar_open start c s [] t n came u o =
-      let b = body_long start c s [] (forms.Scalar t) n came u o in let r = o.room refl in
-      item_open start s u (body_cut start c s [] (forms.Scalar t) n came u o) (omega arith)
+      let b = body_long start c s [] (Form.Scalar t) n came u o in let r = o.room refl in
+      item_open start s u (body_cut start c s [] (Form.Scalar t) n came u o) (omega arith)
 
   pad_open : (start : ℕ) (c : List Slot) (s : List Value) (fs : List Frame) (n : ℕ) (came : List ℕ) (u : List ℕ)
-      → BodyStands g l start c s fs forms.Pad n came u → OpenCut start s u
+      → BodyStands g l start c s fs Form.Pad n came u → OpenCut start s u
   pad_open start c s (f ∷ fs) n came u o =
-      let b = body_long start c s (f ∷ fs) forms.Pad n came u o in let e = body_within_item start c s f fs forms.Pad n came u o in
-      item_open start s u (body_cut start c s (f ∷ fs) forms.Pad n came u o) (omega arith)
+      let b = body_long start c s (f ∷ fs) Form.Pad n came u o in let e = body_within_item start c s f fs Form.Pad n came u o in
+      item_open start s u (body_cut start c s (f ∷ fs) Form.Pad n came u o) (omega arith)
   pad_open start c s [] n came u o =
       let z = o.sizes in
       record {
@@ -256,10 +237,10 @@ module _ (g : Catalog) (l : Limits) where
 
   number_fine : (start : ℕ) (c : List Slot) (s : List Value) (fs : List Frame) (p : Purpose) (a : ℕ) (u : List ℕ) → NumberStands g l start c s fs p a u
       → FineFrames fs
-  number_fine start c s fs (purposes.Length form) a u o = opened_fine start c s fs o.before o.outer
-  number_fine start c s (frames.Fields end ms ∷ fs) purposes.FieldName a u o = (tt, opened_fine start c s fs o.inside.box.before o.inside.box.outer)
-  number_fine start c s (frames.Annotated end ss ∷ fs) purposes.AnnotationsLength a u o = (tt, opened_fine start c s fs o.box.before o.box.outer)
-  number_fine start c s (frames.Annotated end ss ∷ fs) (purposes.Annotation stop) a u o = (tt, opened_fine start c s fs o.box.before o.box.outer)
+  number_fine start c s fs (Purpose.Length form) a u o = opened_fine start c s fs o.before o.outer
+  number_fine start c s (frames.Fields end ms ∷ fs) Purpose.FieldName a u o = (tt, opened_fine start c s fs o.inside.box.before o.inside.box.outer)
+  number_fine start c s (frames.Annotated end ss ∷ fs) Purpose.AnnotationsLength a u o = (tt, opened_fine start c s fs o.box.before o.box.outer)
+  number_fine start c s (frames.Annotated end ss ∷ fs) (Purpose.Annotation stop) a u o = (tt, opened_fine start c s fs o.box.before o.box.outer)
   number_fine start c s _ _ a u o = absurd o
 
   -- where the machine stands, the ids of the open field names were looked up
@@ -273,12 +254,12 @@ module _ (g : Catalog) (l : Limits) where
 
   -- the octets kept of a body are at most an item's
   body_kept : (start : ℕ) (c : List Slot) (s : List Value) (fs : List Frame) (t : Scalar) (n : ℕ) (came : List ℕ) (u : List ℕ)
-      → BodyStands g l start c s fs (forms.Scalar t) n came u → length came ≤ l.item
+      → BodyStands g l start c s fs (Form.Scalar t) n came u → length came ≤ l.item
   body_kept start c s [] t n came u o =
       let z = o.sizes in let e = o.ends in let r = o.room refl in let a = o.outer.1 in omega arith
   body_kept start c s (f ∷ fs) t n came u o =
       let z = o.sizes in let e = o.ends in
-      let w = body_within_item start c s f fs (forms.Scalar t) n came u o in
+      let w = body_within_item start c s f fs (Form.Scalar t) n came u o in
       let k = opened_cut start c s (f ∷ fs) o.before o.outer in
       let a = rest_long start s o.before k in
       omega arith

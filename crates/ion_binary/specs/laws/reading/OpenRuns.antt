@@ -1,30 +1,13 @@
 -- Behind octets the machine holds the containers that stand open there.
 use Rattle.std.proofs.Common.{◌≡◌, ℕ, suc, ◌+◌, ◌<◌, List, [], ◌∷◌, ◌++◌, length, Result, Ok, Err, Option, None, Bool, true, false, refl, ap, sym, ◌∙◌, subst, arith, length-append, append_assoc, lt-ltb, eq-eqb, ne_eqb}
 use Rattle.std.proofs.lemmas.Bool.{cond-true, cond-false}
-use Rattle.ion_model.specs.declared.value.Value.{Value}
-use Rattle.ion_model.specs.declared.value.Field.{Field}
-use Rattle.ion_atoms.specs.declared.refusal.Reason.{Reason}
-use Rattle.ion_scalar.specs.binary.Fields.{VarUInt}
-use Rattle.ion_symtab.specs.declared.limits.Limits.{Limits}
-use Rattle.ion_symtab.specs.declared.catalog.Catalog.{Catalog}
-use Rattle.ion_symtab.specs.Slots.{Slot, resolve}
-use Rattle.ion_binary.specs.declared.form.Form.{Form}
-use Rattle.ion_binary.specs.declared.form.Form.TheVariants as forms
-use Rattle.ion_binary.specs.declared.form.Listing.{Listing}
-use Rattle.ion_binary.specs.machine.Frames.{Frame}
-use Rattle.ion_binary.specs.machine.Frames as frames
-use Rattle.ion_binary.specs.declared.state.Purpose.TheVariants as purposes
-use Rattle.ion_binary.specs.declared.state.Phase.{Phase}
-use Rattle.ion_binary.specs.declared.state.Phase.TheVariants.{Ready, InNumber}
+use Rattle.ion_binary.specs.Names.{Catalog, Field, Form, Frame, Headed, InNumber, InStruct, IsStruct, Items, Limits, Listing, MayReach, Named, Noted, Open, Phase, Purpose, Ready, Reason, Slot, Value, VarUInt, at, begin, container_levels, hollow, initial, is_pad, is_wrapper, led, nameless, open_struct, proceed, resolve, run, run-append, run_after, run_on, run_via, spot_at, stray, then_after, then_run, under}
+use Rattle.ion_binary.specs.Deciding.{Container, MayBegin, Names}
 use Rattle.ion_binary.specs.machine.EachOctet as machine
-use Rattle.ion_binary.specs.Opening.{is_pad, is_wrapper}
-use Rattle.ion_binary.specs.machine.EachOctet.{under, spot_at, at, initial, begin, proceed, stray, nameless, open_struct, hollow}
-use Rattle.ion_binary.specs.machine.Run.{run, run_on}
-use Rattle.ion_binary.specs.machine.Pieces.{run-append, then_run, then_after, run_after, led, run_via}
-use Rattle.ion_binary.specs.laws.reading.Stands.{BodyMayEnd}
+use Rattle.ion_binary.specs.machine.Frames as frames
+use Rattle.ion_binary.specs.laws.reading.Complete.{Admits, begin_ordered, begin_wrapper, count_goes, fields_go, fields_run, header_run, ids_run, items_go, items_run, name_run, number_run}
 use Rattle.ion_binary.specs.laws.reading.Documents.{pieces_run}
-use Rattle.ion_binary.specs.laws.reading.Complete.{Admits, header_run, number_run, items_run, fields_run, items_go, fields_go, name_run, ids_run, count_goes, begin_wrapper, begin_ordered}
-use Rattle.ion_binary.specs.Deciding.{Container, Items, Names, Named, Noted, container_levels, MayBegin, MayReach, Headed, InStruct, IsStruct, Open}
+use Rattle.ion_binary.specs.laws.reading.Stands.{BodyMayEnd}
 
 -- the frames of the machine are these containers
 pub data Match (c : List Slot) : List Frame → List Container → Type 0 where
@@ -73,7 +56,7 @@ may_admit c _ _ form (noted end ss fs ks m) h = record { fitting = cond-false _ 
 
 -- the name of a field comes next in a struct, and a descriptor elsewhere
 abbrev pub phase_of : List Container → Phase
-phase_of (Names end ∷ ks) = InNumber purposes.FieldName 0
+phase_of (Names end ∷ ks) = InNumber Purpose.FieldName 0
 phase_of _ = Ready
 
 module _ (g : Catalog) (l : Limits) (c : List Slot) (start : ℕ) where
@@ -131,20 +114,20 @@ module _ (g : Catalog) (l : Limits) (c : List Slot) (start : ℕ) where
 
   struct_opens : (fs : List Frame) (form : Form) (n : ℕ) (used : ℕ) → IsStruct form → 0 < n → begin (under g l) (spot_at used start c) fs form n
       ≡ open_struct (under g l) (spot_at used start c) fs n
-  struct_opens fs forms.Struct n used i h = refl
-  struct_opens fs forms.OrderedStruct n used i h = begin_ordered g l (spot_at used start c) fs n
-  struct_opens fs forms.Pad n used i h = absurd i
-  struct_opens fs (forms.Scalar t) n used i h = absurd i
-  struct_opens fs (forms.Listing x) n used i h = absurd i
-  struct_opens fs forms.Wrapper n used i h = absurd i
+  struct_opens fs Form.Struct n used i h = refl
+  struct_opens fs Form.OrderedStruct n used i h = begin_ordered g l (spot_at used start c) fs n
+  struct_opens fs Form.Pad n used i h = absurd i
+  struct_opens fs (Form.Scalar t) n used i h = absurd i
+  struct_opens fs (Form.Listing x) n used i h = absurd i
+  struct_opens fs Form.Wrapper n used i h = absurd i
 
   struct_hollow : (form : Form) (n : ℕ) → IsStruct form → 0 < n → hollow form n ≡ None
-  struct_hollow forms.Struct n i h = refl
-  struct_hollow forms.OrderedStruct n i h = cond-false _ _ _ (ne_eqb n 0 (λ e. omega arith))
-  struct_hollow forms.Pad n i h = absurd i
-  struct_hollow (forms.Scalar t) n i h = absurd i
-  struct_hollow (forms.Listing x) n i h = absurd i
-  struct_hollow forms.Wrapper n i h = absurd i
+  struct_hollow Form.Struct n i h = refl
+  struct_hollow Form.OrderedStruct n i h = cond-false _ _ _ (ne_eqb n 0 (λ e. omega arith))
+  struct_hollow Form.Pad n i h = absurd i
+  struct_hollow (Form.Scalar t) n i h = absurd i
+  struct_hollow (Form.Listing x) n i h = absurd i
+  struct_hollow Form.Wrapper n i h = absurd i
 
   pub struct_run : (ks : List Container) (end : ℕ) (u : List ℕ) → (o : InStruct l c start (Open g l c start ks) ks end u) → Leads ks o.headed.before
       → Leads (Names end ∷ ks) u
@@ -178,7 +161,7 @@ module _ (g : Catalog) (l : Limits) (c : List Slot) (start : ℕ) where
       let j = length-append front name in
       onward (Names end ∷ ks) (Named end id ∷ ks) front name u (frames.Named end m.fields (resolve c id) ∷ m.outer) d e
       (named end id m.fields m.outer ks m.match)
-      (ap (λ fs. run g l (length front) (at (spot_at (length front) start c) fs (InNumber purposes.FieldName 0)) name) m.are
+      (ap (λ fs. run g l (length front) (at (spot_at (length front) start c) fs (InNumber Purpose.FieldName 0)) name) m.are
       ∙ name_run g l (spot_at (length front) start c) m.outer end m.fields name id (length u) (resolve c id) v refl (omega arith) more)
 
   names_match : (ks : List Container) (end : ℕ) (fs : List Frame) → Match c fs (Names end ∷ ks) → NamesMatch ks end fs
@@ -204,7 +187,7 @@ module _ (g : Catalog) (l : Limits) (c : List Slot) (start : ℕ) where
       let deep = o.deep in
       let same = same_levels c d.fs ks d.match in
       let here : length o.front + o.headed.n ≡ end = sym e in
-      behind_header ks (Items end ∷ ks) (forms.Listing o.listing) end o.front o.body u (frames.Items end o.listing o.items ∷ d.fs) _ o.headed refl d o.parts
+      behind_header ks (Items end ∷ ks) (Form.Listing o.listing) end o.front o.body u (frames.Items end o.listing o.items ∷ d.fs) _ o.headed refl d o.parts
       (items end o.listing o.items d.fs ks d.match)
       (ap (run_on (length o.front) (λ n. run g l (length o.front) n o.body)) (cond-true _ _ _ (lt-ltb (machine.levels d.fs) l.depth (omega arith)))
       ∙ (rw here (items_run g l (length o.front) start c d.fs end o.listing (length u) o.body o.items o.come (omega arith) (omega arith) (omega arith))
@@ -228,12 +211,12 @@ module _ (g : Catalog) (l : Limits) (c : List Slot) (start : ℕ) where
       let mid2 = mid + length o.count in
       let here : mid + o.headed.n ≡ end = sym e in
       let there : length u ≡ mid2 + length o.ids = omega arith in
-      behind_header ks (Noted end ∷ ks) forms.Wrapper end o.front (o.count ++ o.ids) u (frames.Annotated end o.symbols ∷ d.fs) _ o.headed
+      behind_header ks (Noted end ∷ ks) Form.Wrapper end o.front (o.count ++ o.ids) u (frames.Annotated end o.symbols ∷ d.fs) _ o.headed
       (cond-false _ _ _ (ne_eqb o.headed.n 0 (λ x. omega arith))) d o.parts (noted end o.symbols d.fs ks d.match)
       (ap (run_on mid (λ n. run g l mid n (o.count ++ o.ids))) (begin_wrapper g l (spot_at mid start c) d.fs o.headed.n)
-      ∙ (rw here (run_via g l mid mid2 (at (spot_at mid start c) (frames.Annotated end [] ∷ d.fs) (InNumber purposes.AnnotationsLength 0))
-      (at (spot_at mid2 start c) (frames.Annotated end [] ∷ d.fs) (InNumber (purposes.Annotation (mid2 + length o.ids)) 0)) _ o.count o.ids refl
-      (number_run g l (spot_at mid start c) (frames.Annotated end [] ∷ d.fs) purposes.AnnotationsLength o.count (length o.ids) mid2 o.number refl (omega arith)
+      ∙ (rw here (run_via g l mid mid2 (at (spot_at mid start c) (frames.Annotated end [] ∷ d.fs) (InNumber Purpose.AnnotationsLength 0))
+      (at (spot_at mid2 start c) (frames.Annotated end [] ∷ d.fs) (InNumber (Purpose.Annotation (mid2 + length o.ids)) 0)) _ o.count o.ids refl
+      (number_run g l (spot_at mid start c) (frames.Annotated end [] ∷ d.fs) Purpose.AnnotationsLength o.count (length o.ids) mid2 o.number refl (omega arith)
       ∙ ap (run_after mid2) (count_goes g l (spot_at mid2 start c) d.fs end (length o.ids) [] some (omega arith)))
       (ids_run g l (spot_at mid2 start c) d.fs end (mid2 + length o.ids) o.ids o.symbols (length u) o.come (omega arith) there (omega arith)
       ∙ ap (λ ph. led (at (spot_at (length u) start c) (frames.Annotated end o.symbols ∷ d.fs) ph))

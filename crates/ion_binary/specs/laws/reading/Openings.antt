@@ -1,27 +1,14 @@
 -- What stands for octets is what stands open behind them.
 use Rattle.std.proofs.Common.{◌≡◌, ℕ, ◌^◌, ◌<◌, ◌||◌, List, [], ◌∷◌, ◌++◌, length, Result, Ok, Err, Option, Some, None, Bool, true, false, cond, refl, ap, sym, ◌∙◌, subst, arith, length-append, append_assoc}
 use Rattle.std.proofs.lemmas.Bool.{cond-false}
-use Rattle.ion_model.specs.declared.value.Value.{Value}
-use Rattle.ion_model.specs.declared.value.Field.{Field}
-use Rattle.ion_atoms.specs.declared.refusal.Reason.{Reason}
-use Rattle.ion_atoms.specs.declared.refusal.Reason.TheVariants.{Malformed}
-use Rattle.ion_symtab.specs.declared.limits.Limits.{Limits}
-use Rattle.ion_symtab.specs.declared.catalog.Catalog.{Catalog}
-use Rattle.ion_symtab.specs.Slots.{Slot, resolve}
-use Rattle.ion_binary.specs.declared.form.Form.{Form}
-use Rattle.ion_binary.specs.declared.form.Form.TheVariants as forms
-use Rattle.ion_binary.specs.machine.Frames.{Frame}
-use Rattle.ion_binary.specs.machine.Frames as frames
-use Rattle.ion_binary.specs.declared.state.Purpose.{Purpose}
-use Rattle.ion_binary.specs.declared.state.Purpose.TheVariants as purposes
-use Rattle.ion_binary.specs.Opening.{is_pad, is_wrapper}
-use Rattle.ion_binary.specs.machine.EachOctet.{nameless}
-use Rattle.ion_binary.specs.laws.reading.Stands.{BodyMayEnd, Box, IsStructOf, InFields, Opened, Receives, Inside, Going, Fitting, NumberStands}
-use Rattle.ion_binary.specs.laws.reading.Complete.{header_some}
-use Rattle.ion_binary.specs.laws.reading.OpenRuns.{Match, nothing_open, items, names, named, noted, same_levels}
-use Rattle.ion_binary.specs.laws.reading.NumberRuns.{purpose_of, InFrames, length_in, name_in, count_in, id_in}
+use Rattle.ion_binary.specs.Names.{Catalog, Count, Field, Form, Frame, Headed, Id, Items, LastOctet, Length, Limits, Malformed, MayGoOn, MayReach, Name, Named, Noted, Number, Open, Purpose, Reason, Slot, TakesValue, Value, a_count, a_length, a_name, an_id, is_pad, is_wrapper, nameless, of_annotations, of_container, of_struct, of_wrapper, resolve}
 use Rattle.ion_binary.specs.Deciding as deciding
-use Rattle.ion_binary.specs.Deciding.{Container, Items, Names, Named, Noted, TakesValue, MayBegin, MayReach, Headed, Open, Number, Length, Name, Count, Id, a_length, a_name, a_count, an_id, of_container, of_struct, of_wrapper, of_annotations, LastOctet, MayGoOn}
+use Rattle.ion_binary.specs.Deciding.{Container, MayBegin, Names}
+use Rattle.ion_binary.specs.machine.Frames as frames
+use Rattle.ion_binary.specs.laws.reading.Complete.{header_some}
+use Rattle.ion_binary.specs.laws.reading.NumberRuns.{InFrames, count_in, id_in, length_in, name_in, purpose_of}
+use Rattle.ion_binary.specs.laws.reading.OpenRuns.{Match, items, named, names, noted, nothing_open, same_levels}
+use Rattle.ion_binary.specs.laws.reading.Stands.{BodyMayEnd, Box, Fitting, Going, InFields, Inside, IsStructOf, NumberStands, Opened, Receives}
 
 -- where the frames let a descriptor come, one comes next in the containers
 pub takes : (c : List Slot) (fs : List Frame) (ks : List Container) → Match c fs ks → Receives fs → TakesValue ks
@@ -62,12 +49,12 @@ may_reach l start c _ _ form to (named end id ms fs ks m) h = h
 may_reach l start c _ _ form to (noted end ss fs ks m) h = h
 
 is_struct : (form : Form) (n : ℕ) → IsStructOf form n → deciding.IsStruct form
-is_struct forms.Struct n h = tt
-is_struct forms.OrderedStruct n h = tt
-is_struct forms.Pad n h = absurd h
-is_struct (forms.Scalar t) n h = absurd h
-is_struct (forms.Listing x) n h = absurd h
-is_struct forms.Wrapper n h = absurd h
+is_struct Form.Struct n h = tt
+is_struct Form.OrderedStruct n h = tt
+is_struct Form.Pad n h = absurd h
+is_struct (Form.Scalar t) n h = absurd h
+is_struct (Form.Listing x) n h = absurd h
+is_struct Form.Wrapper n h = absurd h
 
 -- what ends inside of a container begins there
 pub ends_inside : (l : Limits) (start : ℕ) (fs : List Frame) (form : Form) (end n : ℕ) → BodyMayEnd l start fs form end → n < end → Inside fs n
@@ -128,7 +115,7 @@ module _ (g : Catalog) (l : Limits) (start : ℕ) (c : List Slot) (s : List Valu
   pub opened_open : (fs : List Frame) (u : List ℕ) → Opened g l start c s fs u → Inside fs (length u) → Shape fs u
   opened_open [] u o i = record { ks = []; match = nothing_open; open' = (s, o.0, o.1) }
   opened_open (frames.Items end x vs ∷ fs) u o i =
-      let p = opened_open fs o.box.before o.box.outer (box_inside fs (forms.Listing x) end o.front o.box) in
+      let p = opened_open fs o.box.before o.box.outer (box_inside fs (Form.Listing x) end o.front o.box) in
       let d = o.deep in
       let e = same_levels c fs p.ks p.match in
       record {
@@ -141,7 +128,7 @@ module _ (g : Catalog) (l : Limits) (start : ℕ) (c : List Slot) (s : List Valu
           items = vs;
           parts = o.whole;
           headed =
-              headed fs (forms.Listing x) end o.front o.box p;
+              headed fs (Form.Listing x) end o.front o.box p;
           come = o.items;
           deep = omega arith;
           more = i;
@@ -169,7 +156,7 @@ module _ (g : Catalog) (l : Limits) (start : ℕ) (c : List Slot) (s : List Valu
         };
       }
   opened_open (frames.Annotated end ss ∷ fs) u o i =
-      let p = opened_open fs o.box.before o.box.outer (box_inside fs forms.Wrapper end o.front o.box) in
+      let p = opened_open fs o.box.before o.box.outer (box_inside fs Form.Wrapper end o.front o.box) in
       record {
         ks = Noted end ∷ p.ks;
         match = noted end ss fs p.ks p.match;
@@ -180,7 +167,7 @@ module _ (g : Catalog) (l : Limits) (start : ℕ) (c : List Slot) (s : List Valu
           symbols = ss;
           parts = o.whole;
           headed =
-              headed fs forms.Wrapper end o.front o.box p;
+              headed fs Form.Wrapper end o.front o.box p;
           number = o.number;
           some = o.some;
           come = o.symbols;
@@ -228,7 +215,7 @@ module _ (g : Catalog) (l : Limits) (start : ℕ) (c : List Slot) (s : List Valu
 
   -- where the machine stands in a VarUInt, the octets end inside of one
   pub numbered : (fs : List Frame) (p : Purpose) (a : ℕ) (u : List ℕ) → a < 2 ^ 63 → NumberStands g l start c s fs p a u → Numbered fs p a u
-  numbered fs (purposes.Length form) a u small o =
+  numbered fs (Purpose.Length form) a u small o =
       let p = opened_open fs o.before o.outer o.more in
       record {
         ks = p.ks;
@@ -246,7 +233,7 @@ module _ (g : Catalog) (l : Limits) (start : ℕ) (c : List Slot) (s : List Valu
           goes_on = in_container fs p.ks form (length u) p.match o.going;
         };
       }
-  numbered (frames.Fields end ms ∷ fs) purposes.FieldName a u small o =
+  numbered (frames.Fields end ms ∷ fs) Purpose.FieldName a u small o =
       let k = ap length o.whole in
       let j = length-append o.front o.digits in
       let w = o.going in
@@ -254,7 +241,7 @@ module _ (g : Catalog) (l : Limits) (start : ℕ) (c : List Slot) (s : List Valu
       by p.ks p.match p.open'
     where
       by : (ks : List Container) → Match c (frames.Fields end ms ∷ fs) ks → Open g l c start ks o.front
-          → Numbered (frames.Fields end ms ∷ fs) purposes.FieldName a u
+          → Numbered (frames.Fields end ms ∷ fs) Purpose.FieldName a u
       by _ (names _ _ _ ks m) x = record {
         ks = Names end ∷ ks;
         q = Name;
@@ -272,8 +259,8 @@ module _ (g : Catalog) (l : Limits) (start : ℕ) (c : List Slot) (s : List Valu
           goes_on = name_goes ks end (length u) o.going;
         };
       }
-  numbered (frames.Annotated end ss ∷ fs) purposes.AnnotationsLength a u small o =
-      let p = opened_open fs o.box.before o.box.outer (box_inside fs forms.Wrapper end o.front o.box) in
+  numbered (frames.Annotated end ss ∷ fs) Purpose.AnnotationsLength a u small o =
+      let p = opened_open fs o.box.before o.box.outer (box_inside fs Form.Wrapper end o.front o.box) in
       record {
         ks = p.ks;
         q = Count end;
@@ -283,15 +270,15 @@ module _ (g : Catalog) (l : Limits) (start : ℕ) (c : List Slot) (s : List Valu
           before = o.front;
           digits = o.digits;
           parts = o.whole;
-          comes = a_count p.ks end o.front (headed fs forms.Wrapper end o.front o.box p);
+          comes = a_count p.ks end o.front (headed fs Form.Wrapper end o.front o.box p);
           small = o.small;
           value = o.value;
           bound = small;
           goes_on = count_goes p.ks end (length u) o.going;
         };
       }
-  numbered (frames.Annotated end ss ∷ fs) (purposes.Annotation stop) a u small o =
-      let p = opened_open fs o.box.before o.box.outer (box_inside fs forms.Wrapper end o.front o.box) in
+  numbered (frames.Annotated end ss ∷ fs) (Purpose.Annotation stop) a u small o =
+      let p = opened_open fs o.box.before o.box.outer (box_inside fs Form.Wrapper end o.front o.box) in
       let e = o.stops in
       let r = o.room in
       record {
@@ -304,7 +291,7 @@ module _ (g : Catalog) (l : Limits) (start : ℕ) (c : List Slot) (s : List Valu
           digits = o.digits;
           parts = o.whole ∙ (ap (λ x. o.front ++ x) (sym (append_assoc o.count o.ids o.digits)) ∙ sym (append_assoc o.front (o.count ++ o.ids) o.digits));
           comes = subst (λ x. deciding.Before g l c start p.ks (Id x) (o.front ++ (o.count ++ o.ids))) (sym e)
-              (an_id p.ks end o.n o.front o.count o.ids ss (headed fs forms.Wrapper end o.front o.box p) o.number o.some o.symbols (omega arith));
+              (an_id p.ks end o.n o.front o.count o.ids ss (headed fs Form.Wrapper end o.front o.box p) o.number o.some o.symbols (omega arith));
           small = o.small;
           value = o.value;
           bound = small;

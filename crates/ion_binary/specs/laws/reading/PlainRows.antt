@@ -2,16 +2,10 @@
 use Rattle.std.proofs.Common.{◌≡◌, ◌↔◌, ℕ, zero, suc, ◌<◌, ◌==◌, Bool, true, false, ◌&&◌, refl, ap, sym, subst, ◌∙◌, arith, ◌⊎◌, inl, inr}
 use Rattle.std.specs.Prelude.{◌||◌}
 use Rattle.std.proofs.lemmas.Bool.{cases_lt, eqb-true}
-use Rattle.ion_atoms.specs.declared.kind.Kind.{Kind}
-use Rattle.ion_atoms.specs.declared.kind.Kind.TheVariants as kinds
-use Rattle.ion_scalar.specs.binary.Descriptor.{descriptor_of}
-use Rattle.ion_binary.specs.declared.form.Opening.{Opening}
-use Rattle.ion_binary.specs.declared.form.Opening.TheVariants.{Null, Truth}
-use Rattle.ion_binary.specs.Opening.{opening_of}
-use Rattle.ion_binary.specs.Output.{null_octet, truth_octet}
+use Rattle.ion_binary.specs.Names.{Kind, Null, Opening, Truth, descriptor_of, null_octet, opening_of, truth_octet}
 
 abbrev is_int : Kind → Bool
-is_int kinds.Int = true
+is_int Kind.Int = true
 is_int _ = false
 
 -- what the octet opens is said of it in the table
@@ -51,42 +45,42 @@ either : (x y : Bool) → x || y ≡ true → (x ≡ true) ⊎ (y ≡ true)
 either true y h = inl refl
 either false y h = inr h
 
-int_alone : (k : Kind) → is_int k ≡ true → k ≡ kinds.Int
-int_alone kinds.Int h = refl
-int_alone kinds.Null h = absurd cc
-int_alone kinds.Bool h = absurd cc
-int_alone kinds.Float h = absurd cc
-int_alone kinds.Decimal h = absurd cc
-int_alone kinds.Timestamp h = absurd cc
-int_alone kinds.Symbol h = absurd cc
-int_alone kinds.Str h = absurd cc
-int_alone kinds.Clob h = absurd cc
-int_alone kinds.Blob h = absurd cc
-int_alone kinds.List h = absurd cc
-int_alone kinds.Sexp h = absurd cc
-int_alone kinds.Fields h = absurd cc
+int_alone : (k : Kind) → is_int k ≡ true → k ≡ Kind.Int
+int_alone Kind.Int h = refl
+int_alone Kind.Null h = absurd cc
+int_alone Kind.Bool h = absurd cc
+int_alone Kind.Float h = absurd cc
+int_alone Kind.Decimal h = absurd cc
+int_alone Kind.Timestamp h = absurd cc
+int_alone Kind.Symbol h = absurd cc
+int_alone Kind.Str h = absurd cc
+int_alone Kind.Clob h = absurd cc
+int_alone Kind.Blob h = absurd cc
+int_alone Kind.List h = absurd cc
+int_alone Kind.Sexp h = absurd cc
+int_alone Kind.Fields h = absurd cc
 
 null_opens : (k : Kind) → opening_of (null_octet k) ≡ Null k
 unfolding opening_of descriptor_of
-null_opens kinds.Null = refl
-null_opens kinds.Bool = refl
-null_opens kinds.Int = refl
-null_opens kinds.Float = refl
-null_opens kinds.Decimal = refl
-null_opens kinds.Timestamp = refl
-null_opens kinds.Symbol = refl
-null_opens kinds.Str = refl
-null_opens kinds.Clob = refl
-null_opens kinds.Blob = refl
-null_opens kinds.List = refl
-null_opens kinds.Sexp = refl
-null_opens kinds.Fields = refl
+null_opens Kind.Null = refl
+null_opens Kind.Bool = refl
+null_opens Kind.Int = refl
+null_opens Kind.Float = refl
+null_opens Kind.Decimal = refl
+null_opens Kind.Timestamp = refl
+null_opens Kind.Symbol = refl
+null_opens Kind.Str = refl
+null_opens Kind.Clob = refl
+null_opens Kind.Blob = refl
+null_opens Kind.List = refl
+null_opens Kind.Sexp = refl
+null_opens Kind.Fields = refl
 
-other_int_opens : opening_of 0x3F ≡ Null kinds.Int
+other_int_opens : opening_of 0x3F ≡ Null Kind.Int
 unfolding opening_of descriptor_of
 other_int_opens = refl
 
-null_told : (b : ℕ) (k : Kind) → b < 256 → opening_of b ≡ Null k → (b ≡ null_octet k) ⊎ ((k ≡ kinds.Int) × (b ≡ 0x3F))
+null_told : (b : ℕ) (k : Kind) → b < 256 → opening_of b ≡ Null k → (b ≡ null_octet k) ⊎ ((k ≡ Kind.Int) × (b ≡ 0x3F))
 null_told b k less e =
     let holds : row_holds (Null k) b ≡ true = subst (λ (o : Opening). row_holds o b ≡ true) e (row b less) in
     elim (either (b == null_octet k) (is_int k && (b == 0x3F)) holds) [
@@ -94,12 +88,12 @@ null_told b k less e =
       | inr other ↦ inr (int_alone k (both_first (is_int k) (b == 0x3F) other), eqb-true b 0x3F (both_second (is_int k) (b == 0x3F) other))
     ]
 
-null_from : (b : ℕ) (k : Kind) → (b ≡ null_octet k) ⊎ ((k ≡ kinds.Int) × (b ≡ 0x3F)) → opening_of b ≡ Null k
+null_from : (b : ℕ) (k : Kind) → (b ≡ null_octet k) ⊎ ((k ≡ Kind.Int) × (b ≡ 0x3F)) → opening_of b ≡ Null k
 null_from b k (inl own) = ap opening_of own ∙ null_opens k
 null_from b k (inr other) = ap opening_of other.1 ∙ (other_int_opens ∙ ap Null (sym other.0))
 
 -- an octet opens a null just where it is that of its kind; ints have two
-pub null_rows : (b : ℕ) (k : Kind) → b < 256 → (opening_of b ≡ Null k) ↔ ((b ≡ null_octet k) ⊎ ((k ≡ kinds.Int) × (b ≡ 0x3F)))
+pub null_rows : (b : ℕ) (k : Kind) → b < 256 → (opening_of b ≡ Null k) ↔ ((b ≡ null_octet k) ⊎ ((k ≡ Kind.Int) × (b ≡ 0x3F)))
 null_rows b k less = (null_told b k less, null_from b k)
 
 -- 2. Bools.

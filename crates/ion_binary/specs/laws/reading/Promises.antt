@@ -2,32 +2,16 @@
 use Rattle.std.proofs.Common.{◌≡◌, ◌↔◌, ℕ, ◌+◌, ◌≤◌, ◌<◌, List, [], ◌∷◌, ◌++◌, length, take, Result, Ok, Err, Option, Some, None, false, refl, ap, sym, ◌∙◌, subst, arith, append_assoc, append-nil, length-append, Bool, cond, option_to_list, inl, inr}
 use Rattle.std.proofs.lemmas.Bool.{cases_lt}
 use Rattle.std.proofs.Math.Seq.{take-append-add}
-use Rattle.ion_model.specs.declared.value.Value.{Value}
-use Rattle.ion_atoms.specs.declared.refusal.Refusal.{Refusal}
-use Rattle.ion_atoms.specs.declared.refusal.Reason.{Reason}
-use Rattle.ion_atoms.specs.declared.refusal.Reason.TheVariants.{Incomplete}
-use Rattle.ion_symtab.specs.declared.limits.Limits.{Limits}
-use Rattle.ion_symtab.specs.declared.catalog.Catalog.{Catalog}
-use Rattle.ion_symtab.specs.Slots.{Slot}
-use Rattle.ion_symtab.specs.Trace.{Streams, Grows, plain}
-use Rattle.ion_symtab.specs.Promises.{Refuses, BeginsNone, IsFirst, HasPieces, Shown, Shows, IsSmall, Spaced, IsReadersReason, HasReasons, NoTables, GivesNoTable, EndsValues}
-use Rattle.ion_symtab.specs.laws.Promises.{first_refused, shown_once}
+use Rattle.ion_binary.specs.Names.{BeginsNone, Catalog, Document, EndsValues, Frame, GivesNoTable, Grows, HasPieces, HasReasons, InBody, InMarker, InNumber, InPad, Incomplete, IsFirst, IsReadersReason, IsSmall, Limits, Machine, NoTables, OpenRest, Phase, Pieces, Ready, Reason, Refusal, Refuses, Run, Shown, Shows, Slot, Spaced, Streams, Value, Whole, anew, at, begins, document, ends_of, holds, initial, is_table, marked, no_piece, of_marker, on_now, plain, refused_of, run, run-append, skips, the_marker, then_run, trace, trace_of, turns, under, whole}
 use Rattle.ion_symtab.specs.Decided.{IsDecided}
-use Rattle.ion_binary.specs.machine.Frames.{Frame}
-use Rattle.ion_binary.specs.declared.state.Phase.{Phase}
-use Rattle.ion_binary.specs.declared.state.Phase.TheVariants.{InMarker, Ready, InNumber, InBody, InPad}
-use Rattle.ion_model.specs.Kinds.{is_table}
-use Rattle.ion_binary.specs.Grammar.{Pieces, begins, marked, skips, turns, holds, the_marker, Document, Whole, no_piece, document, OpenRest, of_marker}
-use Rattle.ion_binary.specs.machine.EachOctet.{Machine, under, anew, at, initial}
-use Rattle.ion_binary.specs.machine.Run.{Run, run, whole, ends_of, refused_of, trace_of, trace}
-use Rattle.ion_binary.specs.machine.Pieces.{run-append, then_run, on_now}
-use Rattle.ion_binary.specs.laws.reading.Stands.{Standing, MachineStands}
-use Rattle.ion_binary.specs.laws.reading.sound.Sound.{run_stands, initial_stands, Ended}
-use Rattle.ion_binary.specs.laws.reading.Steady.{Steady, FineFrames, feed_steady}
-use Rattle.ion_binary.specs.laws.reading.Small.{spaced_on}
+use Rattle.ion_symtab.specs.laws.Promises.{first_refused, shown_once}
 use Rattle.ion_binary.specs.laws.reading.Documents.{pieces_run}
-use Rattle.ion_binary.specs.laws.reading.OpenRests.{OpenCut, standing_open, standing_fine, rest_long}
-use Rattle.ion_binary.specs.laws.reading.Stops.{Stop, stop_of, stopped, begins_none, whole_within}
+use Rattle.ion_binary.specs.laws.reading.OpenRests.{OpenCut, rest_long, standing_fine, standing_open}
+use Rattle.ion_binary.specs.laws.reading.Small.{spaced_on}
+use Rattle.ion_binary.specs.laws.reading.Stands.{MachineStands, Standing}
+use Rattle.ion_binary.specs.laws.reading.Steady.{FineFrames, Steady, feed_steady}
+use Rattle.ion_binary.specs.laws.reading.Stops.{Stop, begins_none, stop_of, stopped, whole_within}
+use Rattle.ion_binary.specs.laws.reading.sound.Sound.{Ended, initial_stands, run_stands}
 
 -- a document where the end is reached with no open piece
 finished : (g : Catalog) (l : Limits) (c : List Slot) (fs : List Frame) (phase : Phase) (start : ℕ) (s : List Value) (body u : List ℕ) (r : Refusal)

@@ -2,24 +2,14 @@
 use Rattle.std.proofs.Common.{◌≡◌, ℕ, ◌+◌, ◌≤◌, List, [], ◌∷◌, ◌++◌, length, take, drop, Bool, true, false, cond, Result, Ok, Err, Option, Some, None, refl, ap, sym, ◌∙◌, subst, arith, length-append}
 use Rattle.std.proofs.Math.Seq.{take-append-add}
 use Rattle.std.proofs.lemmas.List.{length-take-le, take-append-drop}
-use Rattle.ion_model.specs.declared.value.Value.{Value}
-use Rattle.ion_atoms.specs.declared.refusal.Refusal.{Refusal}
-use Rattle.ion_atoms.specs.declared.refusal.Reason.{Reason}
-use Rattle.ion_atoms.specs.declared.refusal.Reason.TheVariants.{Incomplete}
-use Rattle.ion_atoms.specs.Reasons.{reason_number}
-use Rattle.ion_symtab.specs.declared.limits.Limits.{Limits}
-use Rattle.ion_symtab.specs.declared.catalog.Catalog.{Catalog}
-use Rattle.ion_binary.specs.machine.EachOctet.{Machine, initial}
-use Rattle.ion_binary.specs.machine.Run.{run, whole, ends_of, refused_of, trace}
-use Rattle.ion_binary.specs.machine.Pieces.{run-append, on_now}
-use Rattle.ion_binary.specs.laws.reading.Stops.{Stop, stop_of, stopped}
-use Rattle.ion_symtab.specs.Trace.{plain}
-use Rattle.ion_binary.specs.laws.reading.Stands.{Leaves}
-use Rattle.ion_binary.specs.laws.reading.sound.Sound.{feed_stands}
-use Rattle.ion_binary.specs.laws.reading.Promises.{ran_stands}
-use Rattle.ion_binary.specs.laws.reading.NumberRuns.{Stopped}
+use Rattle.ion_binary.specs.Names.{Catalog, Decides, Incomplete, Limits, Machine, Reason, Refusal, Value, ends_of, initial, on_now, plain, reason_number, refused_of, run, run-append, trace, whole}
+use Rattle.ion_binary.specs.Deciding.{Answers}
 use Rattle.ion_binary.specs.laws.reading.DecidedRows.{every_row}
-use Rattle.ion_binary.specs.Deciding.{Decides, Answers}
+use Rattle.ion_binary.specs.laws.reading.NumberRuns.{Stopped}
+use Rattle.ion_binary.specs.laws.reading.Promises.{ran_stands}
+use Rattle.ion_binary.specs.laws.reading.Stands.{Leaves}
+use Rattle.ion_binary.specs.laws.reading.Stops.{Stop, stop_of, stopped}
+use Rattle.ion_binary.specs.laws.reading.sound.Sound.{feed_stands}
 
 -- 1. each row refuses (specs/laws/reading/DecidedRows.antt, one lemma for a row)
 pub decides_stopped : (g : Catalog) (l : Limits) (u : List ℕ) (e : Reason) → Decides g l u e → Stopped g l u e

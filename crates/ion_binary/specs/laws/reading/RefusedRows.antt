@@ -1,35 +1,19 @@
 -- What the machine refuses is a row of the format's table.
 use Rattle.std.proofs.Common.{◌≡◌, ◌≢◌, ◌⊎◌, inl, inr, ℕ, ◌+◌, ◌<◌, ◌≤◌, ◌||◌, ◌==◌, nat_lt, nat_le, ltb-false, eqb-true, List, [], ◌∷◌, ◌++◌, length, Result, Ok, Err, Option, Some, None, Bool, true, false, cond, refl, ap, sym, ◌∙◌, subst, arith}
 use Rattle.std.proofs.lemmas.Bool.{leb-false, eqb-false, cases_lt}
-use Rattle.ion_atoms.specs.declared.refusal.Reason.{Reason}
-use Rattle.ion_atoms.specs.declared.refusal.Reason.TheVariants.{Malformed, Depth, ItemTooLong}
-use Rattle.ion_scalar.specs.declared.descriptor.Size.{Size}
-use Rattle.ion_scalar.specs.declared.descriptor.Size.TheVariants.{Known, Follows}
-use Rattle.ion_scalar.specs.binary.Timestamp.{timestamp_of_body, read_offset}
-use Rattle.ion_symtab.specs.declared.limits.Limits.{Limits}
-use Rattle.ion_symtab.specs.declared.catalog.Catalog.{Catalog}
-use Rattle.ion_symtab.specs.Slots.{Slot, resolve}
-use Rattle.ion_binary.specs.declared.form.Scalar.TheVariants as scalars
-use Rattle.ion_binary.specs.declared.form.Form.{Form}
-use Rattle.ion_binary.specs.declared.form.Form.TheVariants as forms
-use Rattle.ion_binary.specs.declared.form.Opening.TheVariants.{Marker, Sized}
-use Rattle.ion_binary.specs.machine.Frames.{Frame}
-use Rattle.ion_binary.specs.machine.Frames as frames
-use Rattle.ion_binary.specs.declared.state.Purpose.TheVariants as purposes
-use Rattle.ion_binary.specs.Opening.{opening_of, is_pad, is_wrapper}
-use Rattle.ion_binary.specs.Judge.{judge}
-use Rattle.ion_binary.specs.machine.EachOctet as machine
-use Rattle.ion_binary.specs.machine.EachOctet.{or_else, misfits, stray, nameless, unending, past, outside, hollow, unfit}
-use Rattle.ion_binary.specs.laws.reading.OpenRuns.{Match, nothing_open, items, names, named, noted, same_levels}
-use Rattle.ion_binary.specs.laws.reading.NumberRuns.{purpose_of, InFrames, length_in, name_in, count_in, id_in}
+use Rattle.ion_binary.specs.Names.{Catalog, Count, Decides, Depth, EndsHeader, EndsNumber, Follows, Form, Frame, Id, IsContainer, ItemTooLong, Items, Known, LastOctet, Length, Limits, Malformed, Marker, Name, Named, Noted, Number, Open, Purpose, Reason, Scalar, Size, Sized, Slot, TakesValue, a_body, a_null, a_truth, annotations_past, bad_empty_body, header_too_long, hollow, in_wrapper, inner_marker, is_pad, is_wrapper, judge, misfits, nameless, no_annotation, no_annotations, no_count, no_descriptor, no_length, no_name, no_value, number_past, of_annotations, of_container, of_struct, of_wrapper, opening_of, or_else, outside, past, past_container, read_offset, resolve, stray, timestamp_of_body, too_deep, unending, unfit, wrapper_unfilled}
 use Rattle.ion_binary.specs.Deciding as deciding
-use Rattle.ion_binary.specs.Deciding.{Container, Items, Names, Named, Noted, TakesValue, Open, Number, Length, Name, Count, Id, EndsNumber, EndsHeader, LastOctet, of_container, of_struct, of_wrapper, of_annotations, IsContainer, Reaches, a_null, a_truth, a_body, Decides, no_descriptor, inner_marker, in_wrapper, past_container, wrapper_unfilled, no_fields, too_deep, too_long, header_too_long, no_annotations, annotations_past, number_past, no_length, no_count, no_value, no_name, no_annotation, bad_empty_body}
+use Rattle.ion_binary.specs.Deciding.{Container, Names, Reaches, no_fields, too_long}
+use Rattle.ion_binary.specs.machine.EachOctet as machine
+use Rattle.ion_binary.specs.machine.Frames as frames
+use Rattle.ion_binary.specs.laws.reading.NumberRuns.{InFrames, count_in, id_in, length_in, name_in, purpose_of}
+use Rattle.ion_binary.specs.laws.reading.OpenRuns.{Match, items, named, names, noted, nothing_open, same_levels}
 
-negative_empty : (c : List Slot) → judge c scalars.NegativeInt [] ≡ Err Malformed
+negative_empty : (c : List Slot) → judge c Scalar.NegativeInt [] ≡ Err Malformed
 unfolding judge
 negative_empty c = refl
 
-timestamp_empty : (c : List Slot) → judge c scalars.Timestamp [] ≡ Err Malformed
+timestamp_empty : (c : List Slot) → judge c Scalar.Timestamp [] ≡ Err Malformed
 unfolding judge timestamp_of_body read_offset
 timestamp_empty c = refl
 
@@ -67,29 +51,29 @@ module _ (g : Catalog) (l : Limits) (c : List Slot) (start : ℕ) where
 
   -- a header for no octets where its form must have some has a row
   pub hollow_row : (fs : List Frame) (form : Form) (n : ℕ) (u : List ℕ) → HeaderEnds fs form n u → (x : Reason) → hollow form n ≡ Some x → Decides g l u x
-  hollow_row fs (forms.Scalar scalars.NegativeInt) n u h x e =
+  hollow_row fs (Form.Scalar Scalar.NegativeInt) n u h x e =
       let p = some_then (n == 0) Malformed x e in
-      subst (Decides g l u) p.1 (bad_empty_body c start h.ks scalars.NegativeInt u Malformed
-      (subst (λ k. EndsHeader g l c start h.ks (forms.Scalar scalars.NegativeInt) k u) (eqb-true n 0 p.0) h.ends) (negative_empty c))
-  hollow_row fs (forms.Scalar scalars.Timestamp) n u h x e =
+      subst (Decides g l u) p.1 (bad_empty_body c start h.ks Scalar.NegativeInt u Malformed
+      (subst (λ k. EndsHeader g l c start h.ks (Form.Scalar Scalar.NegativeInt) k u) (eqb-true n 0 p.0) h.ends) (negative_empty c))
+  hollow_row fs (Form.Scalar Scalar.Timestamp) n u h x e =
       let p = some_then (n == 0) Malformed x e in
-      subst (Decides g l u) p.1 (bad_empty_body c start h.ks scalars.Timestamp u Malformed
-      (subst (λ k. EndsHeader g l c start h.ks (forms.Scalar scalars.Timestamp) k u) (eqb-true n 0 p.0) h.ends) (timestamp_empty c))
-  hollow_row fs forms.OrderedStruct n u h x e =
+      subst (Decides g l u) p.1 (bad_empty_body c start h.ks Scalar.Timestamp u Malformed
+      (subst (λ k. EndsHeader g l c start h.ks (Form.Scalar Scalar.Timestamp) k u) (eqb-true n 0 p.0) h.ends) (timestamp_empty c))
+  hollow_row fs Form.OrderedStruct n u h x e =
       let p = some_then (n == 0) Malformed x e in
-      subst (Decides g l u) p.1 (no_fields c start h.ks u (subst (λ k. EndsHeader g l c start h.ks forms.OrderedStruct k u) (eqb-true n 0 p.0) h.ends))
-  hollow_row fs forms.Wrapper n u h x e =
+      subst (Decides g l u) p.1 (no_fields c start h.ks u (subst (λ k. EndsHeader g l c start h.ks Form.OrderedStruct k u) (eqb-true n 0 p.0) h.ends))
+  hollow_row fs Form.Wrapper n u h x e =
       let p = some_then (n == 0) Malformed x e in
-      subst (Decides g l u) p.1 (no_count c start h.ks u (subst (λ k. EndsHeader g l c start h.ks forms.Wrapper k u) (eqb-true n 0 p.0) h.ends))
-  hollow_row fs (forms.Scalar scalars.Int) n u h x e = absurd cc
-  hollow_row fs (forms.Scalar scalars.Decimal) n u h x e = absurd cc
-  hollow_row fs (forms.Scalar scalars.Symbol) n u h x e = absurd cc
-  hollow_row fs (forms.Scalar scalars.Str) n u h x e = absurd cc
-  hollow_row fs (forms.Scalar scalars.Clob) n u h x e = absurd cc
-  hollow_row fs (forms.Scalar scalars.Blob) n u h x e = absurd cc
-  hollow_row fs forms.Pad n u h x e = absurd cc
-  hollow_row fs (forms.Listing y) n u h x e = absurd cc
-  hollow_row fs forms.Struct n u h x e = absurd cc
+      subst (Decides g l u) p.1 (no_count c start h.ks u (subst (λ k. EndsHeader g l c start h.ks Form.Wrapper k u) (eqb-true n 0 p.0) h.ends))
+  hollow_row fs (Form.Scalar Scalar.Int) n u h x e = absurd cc
+  hollow_row fs (Form.Scalar Scalar.Decimal) n u h x e = absurd cc
+  hollow_row fs (Form.Scalar Scalar.Symbol) n u h x e = absurd cc
+  hollow_row fs (Form.Scalar Scalar.Str) n u h x e = absurd cc
+  hollow_row fs (Form.Scalar Scalar.Clob) n u h x e = absurd cc
+  hollow_row fs (Form.Scalar Scalar.Blob) n u h x e = absurd cc
+  hollow_row fs Form.Pad n u h x e = absurd cc
+  hollow_row fs (Form.Listing y) n u h x e = absurd cc
+  hollow_row fs Form.Struct n u h x e = absurd cc
 
   past_row : (k : Container) (ks : List Container) (pad : Bool) (to end : ℕ) (u : List ℕ) (x : Reason) → deciding.container_end k ≡ end
       → Reaches g l c start (k ∷ ks) pad to u → cond (nat_le to end) None (Some Malformed) ≡ Some x → Decides g l u x
@@ -118,7 +102,7 @@ module _ (g : Catalog) (l : Limits) (c : List Slot) (start : ℕ) where
 
   -- the id of a name
   name_row : (fs : List Frame) (ks : List Container) (form : Form) (u : List ℕ) (b : ℕ) → Match c fs ks → Open g l c start ks u
-      → ((size : Size) → is_pad form ≡ false → opening_of b ≢ Sized forms.Pad size) → (x : Reason) → nameless fs form ≡ Some x → Decides g l (u ++ b ∷ []) x
+      → ((size : Size) → is_pad form ≡ false → opening_of b ≢ Sized Form.Pad size) → (x : Reason) → nameless fs form ≡ Some x → Decides g l (u ++ b ∷ []) x
   name_row _ _ form u b nothing_open o n x e = absurd cc
   name_row _ _ form u b (items end y vs fs ks m) o n x e = absurd cc
   name_row _ _ form u b (names end ms fs ks m) o n x e = absurd cc
@@ -143,8 +127,8 @@ module _ (g : Catalog) (l : Limits) (c : List Slot) (start : ℕ) where
       let p = some_then (is_pad form || is_wrapper form) Malformed x e in
       subst (Decides g l (u ++ b ∷ [])) p.1 (in_wrapper c start end ks u b form size o i p.0)
 
-  sized_pad : (form : Form) (size z : Size) → is_pad form ≡ false → Sized form size ≡ Sized forms.Pad z → ⊥
-  sized_pad form size z h e = let k : form ≡ forms.Pad = cc in let q : true ≡ false = sym (ap is_pad k) ∙ h in cc
+  sized_pad : (form : Form) (size z : Size) → is_pad form ≡ false → Sized form size ≡ Sized Form.Pad z → ⊥
+  sized_pad form size z h e = let k : form ≡ Form.Pad = cc in let q : true ≡ false = sym (ap is_pad k) ∙ h in cc
 
   -- at a descriptor whose length doesn't follow
   pub short_row : (fs : List Frame) (ks : List Container) (form : Form) (n : ℕ) (u : List ℕ) (b : ℕ) → Match c fs ks → Open g l c start ks u → TakesValue ks
@@ -164,7 +148,7 @@ module _ (g : Catalog) (l : Limits) (c : List Slot) (start : ℕ) where
       (misfit_row fs h.ks form (length u + n) u h.match (a_body u form n h.ends))
       (λ y e. absurd (let q : None ≡ Some y = sym d ∙ e in cc))
 
-  no_stray : (fs : List Frame) (x : Reason) → stray fs forms.Struct ≡ Some x → ⊥
+  no_stray : (fs : List Frame) (x : Reason) → stray fs Form.Struct ≡ Some x → ⊥
   no_stray [] x e = cc
   no_stray (frames.Annotated end ss ∷ fs) x e = cc
   no_stray (frames.Items end y vs ∷ fs) x e = cc
@@ -173,12 +157,12 @@ module _ (g : Catalog) (l : Limits) (c : List Slot) (start : ℕ) where
 
   -- at a value of one octet
   pub one_row : (fs : List Frame) (ks : List Container) (u : List ℕ) (b : ℕ) → Match c fs ks → Open g l c start ks u
-      → Reaches g l c start ks false (length u + 1) (u ++ b ∷ []) → ((size : Size) → opening_of b ≢ Sized forms.Pad size)
-      → (x : Reason) → unfit l.item start fs forms.Struct (length u + 1) ≡ Some x → Decides g l (u ++ b ∷ []) x
+      → Reaches g l c start ks false (length u + 1) (u ++ b ∷ []) → ((size : Size) → opening_of b ≢ Sized Form.Pad size)
+      → (x : Reason) → unfit l.item start fs Form.Struct (length u + 1) ≡ Some x → Decides g l (u ++ b ∷ []) x
   one_row fs ks u b m o r n =
-      first_of_three (stray fs forms.Struct) (misfits l.item start fs forms.Struct (length u + 1)) (nameless fs forms.Struct) (Decides g l (u ++ b ∷ []))
-      (λ y e. absurd (no_stray fs y e)) (misfit_row fs ks forms.Struct (length u + 1) (u ++ b ∷ []) m r)
-      (name_row fs ks forms.Struct u b m o (λ size p. n size))
+      first_of_three (stray fs Form.Struct) (misfits l.item start fs Form.Struct (length u + 1)) (nameless fs Form.Struct) (Decides g l (u ++ b ∷ []))
+      (λ y e. absurd (no_stray fs y e)) (misfit_row fs ks Form.Struct (length u + 1) (u ++ b ∷ []) m r)
+      (name_row fs ks Form.Struct u b m o (λ size p. n size))
 
   last_row : (k : Container) (ks : List Container) (u : List ℕ) (b : ℕ) (form : Form) (end : ℕ) → deciding.container_end k ≡ end → Open g l c start (k ∷ ks) u
       → TakesValue (k ∷ ks) → opening_of b ≡ Sized form Follows → (x : Reason) → cond (nat_lt (length u + 1) end) None (Some Malformed) ≡ Some x
@@ -242,7 +226,7 @@ module _ (g : Catalog) (l : Limits) (c : List Slot) (start : ℕ) where
 
   -- what a number that ended is of
   pub header_here : (ks : List Container) (q : Number) (fs : List Frame) (form : Form) (n : ℕ) (u : List ℕ) → InFrames c ks q fs
-      → purpose_of q ≡ purposes.Length form → EndsNumber g l c start ks q n u → HeaderEnds fs form n u
+      → purpose_of q ≡ Purpose.Length form → EndsNumber g l c start ks q n u → HeaderEnds fs form n u
   header_here _ _ _ form n u (length_in ks f fs m) e o = record {
     ks = ks;
     match = m;
@@ -255,7 +239,7 @@ module _ (g : Catalog) (l : Limits) (c : List Slot) (start : ℕ) where
 
   -- the name of a field that ends with its struct has a row
   pub value_row : (ks : List Container) (q : Number) (all fs : List Frame) (end n : ℕ) (ms : List _) (u : List ℕ) → InFrames c ks q all
-      → all ≡ frames.Fields end ms ∷ fs → purpose_of q ≡ purposes.FieldName → EndsNumber g l c start ks q n u → end ≤ length u → Decides g l u Malformed
+      → all ≡ frames.Fields end ms ∷ fs → purpose_of q ≡ Purpose.FieldName → EndsNumber g l c start ks q n u → end ≤ length u → Decides g l u Malformed
   value_row _ _ _ fs end n ms u (length_in ks f hs m) i e o h = absurd cc
   value_row _ _ _ fs end n ms u (name_in _ _ _ (names end' ms' hs ks m)) i e o h = let k : end' ≡ end = cc in no_value c start end' n ks u o (omega arith)
   value_row _ _ _ fs end n ms u (count_in ks end' hs m) i e o h = absurd cc
@@ -263,7 +247,7 @@ module _ (g : Catalog) (l : Limits) (c : List Slot) (start : ℕ) where
 
   -- annotations that leave no room for their value have a row
   pub count_row : (ks : List Container) (q : Number) (all fs : List Frame) (end n : ℕ) (ss : List (Option (List ℕ))) (u : List ℕ) → InFrames c ks q all
-      → all ≡ frames.Annotated end ss ∷ fs → purpose_of q ≡ purposes.AnnotationsLength → EndsNumber g l c start ks q n u → end ≤ length u + n
+      → all ≡ frames.Annotated end ss ∷ fs → purpose_of q ≡ Purpose.AnnotationsLength → EndsNumber g l c start ks q n u → end ≤ length u + n
       → Decides g l u Malformed
   count_row _ _ _ fs end n ss u (length_in ks f hs m) i e o h = absurd cc
   count_row _ _ _ fs end n ss u (name_in end' ks hs m) i e o h = absurd cc
@@ -271,7 +255,7 @@ module _ (g : Catalog) (l : Limits) (c : List Slot) (start : ℕ) where
   count_row _ _ _ fs end n ss u (id_in ks end' stop ss' hs m) i e o h = absurd cc
 
   -- a wrapper with no annotation octets has a row
-  pub none_row : (ks : List Container) (q : Number) (fs : List Frame) (n : ℕ) (u : List ℕ) → InFrames c ks q fs → purpose_of q ≡ purposes.AnnotationsLength
+  pub none_row : (ks : List Container) (q : Number) (fs : List Frame) (n : ℕ) (u : List ℕ) → InFrames c ks q fs → purpose_of q ≡ Purpose.AnnotationsLength
       → EndsNumber g l c start ks q n u → n ≡ 0 → Decides g l u Malformed
   none_row _ _ _ n u (length_in ks f hs m) e o h = absurd cc
   none_row _ _ _ n u (name_in end' ks hs m) e o h = absurd cc
@@ -280,7 +264,7 @@ module _ (g : Catalog) (l : Limits) (c : List Slot) (start : ℕ) where
 
   -- an annotation whose id has no symbol has a row
   pub annotation_row : (ks : List Container) (q : Number) (fs : List Frame) (stop n : ℕ) (u : List ℕ) (x : Reason) → InFrames c ks q fs
-      → purpose_of q ≡ purposes.Annotation stop → EndsNumber g l c start ks q n u → resolve c n ≡ Err x → Decides g l u x
+      → purpose_of q ≡ Purpose.Annotation stop → EndsNumber g l c start ks q n u → resolve c n ≡ Err x → Decides g l u x
   annotation_row _ _ _ stop n u x (length_in ks f hs m) e o h = absurd cc
   annotation_row _ _ _ stop n u x (name_in end' ks hs m) e o h = absurd cc
   annotation_row _ _ _ stop n u x (count_in ks end' hs m) e o h = absurd cc

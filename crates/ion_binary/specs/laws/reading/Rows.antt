@@ -1,22 +1,11 @@
 -- Worked documents, by the grammar.
 use Rattle.std.proofs.Common.{◌≡◌, ℕ, pos, ◌+◌, ◌<◌, ◌≤◌, true, false, List, [], ◌∷◌, ◌++◌, length, Some, refl, arith}
 use Rattle.std.specs.Prelude.{codes}
-use Rattle.ion_model.specs.declared.value.Value.{Value}
+use Rattle.ion_binary.specs.Names.{Binary, Catalog, Document, Limits, Listing, Scalar, Sequence, Slot, Value, VarUInt, annotated, bare, begins, depth, descriptor_of, holds, is_int, is_listing, is_scalar, is_struct, is_symbol, is_table, is_truth, long, no_fields, no_ids, none, nothing, one_id, one_more, opening_of, padded_field, short, skipped, system_slots, system_texts, the_marker, unannotated, wrapped}
 use Rattle.ion_model.specs.declared.value.Payload.TheVariants as payloads
 use Rattle.ion_model.specs.declared.value.Payload.TheViews as views
-use Rattle.ion_model.specs.Kinds.{is_table}
-use Rattle.ion_model.specs.Measures.{depth, bare, annotated}
-use Rattle.ion_model.specs.laws.Measures.{depth-at-List, depth-at-Fields, depth-at, depth-Truth, depth-Int}
-use Rattle.ion_scalar.specs.binary.Descriptor.{descriptor_of}
-use Rattle.ion_scalar.specs.binary.Fields.{none, VarUInt}
-use Rattle.ion_symtab.specs.declared.catalog.Catalog.{Catalog}
-use Rattle.ion_symtab.specs.declared.limits.Limits.{Limits}
+use Rattle.ion_model.specs.laws.Measures.{depth-Int, depth-Truth, depth-at, depth-at-Fields, depth-at-List}
 use Rattle.ion_symtab.specs.Slots as slots
-use Rattle.ion_symtab.specs.Slots.{Slot, system_slots, system_texts}
-use Rattle.ion_binary.specs.declared.form.Scalar.TheVariants as scalars
-use Rattle.ion_binary.specs.declared.form.Listing.TheVariants as listings
-use Rattle.ion_binary.specs.Opening.{opening_of}
-use Rattle.ion_binary.specs.Grammar.{short, long, is_int, is_symbol, skipped, no_ids, one_id, is_truth, is_scalar, is_listing, is_struct, Binary, unannotated, wrapped, Sequence, nothing, one_more, no_fields, padded_field, the_marker, begins, holds, Document}
 
 -- 1. The values.
 abbrev int_value : ℕ → Value
@@ -66,7 +55,7 @@ one_digit n h = record { digits = []; last = n; small = none; octets = refl; val
 module _ (c : List Slot) where
   five : Binary c (0x21 ∷ 0x05 ∷ []) (int_value 5)
   unfolding opening_of descriptor_of
-  five = unannotated (0x21 ∷ 0x05 ∷ []) (payloads.Int (pos 5)) (is_scalar (0x21 ∷ []) (5 ∷ []) scalars.Int _ (short 0x21 refl) (is_int (omega arith)))
+  five = unannotated (0x21 ∷ 0x05 ∷ []) (payloads.Int (pos 5)) (is_scalar (0x21 ∷ []) (5 ∷ []) Scalar.Int _ (short 0x21 refl) (is_int (omega arith)))
 
   yes_is : Binary c (0x11 ∷ []) true_value
   unfolding opening_of descriptor_of
@@ -77,11 +66,11 @@ module _ (c : List Slot) where
 
   short_list : Binary c (0xB3 ∷ 0x21 ∷ 0x05 ∷ 0x11 ∷ []) list_value
   unfolding opening_of descriptor_of
-  short_list = unannotated _ (payloads.List items) (is_listing (0xB3 ∷ []) (0x21 ∷ 0x05 ∷ 0x11 ∷ []) listings.List items (short 0xB3 refl) both)
+  short_list = unannotated _ (payloads.List items) (is_listing (0xB3 ∷ []) (0x21 ∷ 0x05 ∷ 0x11 ∷ []) Listing.List items (short 0xB3 refl) both)
 
   long_list : Binary c (0xBE ∷ 0x83 ∷ 0x21 ∷ 0x05 ∷ 0x11 ∷ []) list_value
   unfolding opening_of descriptor_of
-  long_list = unannotated _ (payloads.List items) (is_listing (0xBE ∷ 0x83 ∷ []) (0x21 ∷ 0x05 ∷ 0x11 ∷ []) listings.List items
+  long_list = unannotated _ (payloads.List items) (is_listing (0xBE ∷ 0x83 ∷ []) (0x21 ∷ 0x05 ∷ 0x11 ∷ []) Listing.List items
       (long 0xBE (0x83 ∷ []) refl (one_digit 3 (omega arith))) both)
 
   only_a_pad : Binary c (0xD2 ∷ 0x8A ∷ 0x00 ∷ []) empty_struct
@@ -94,12 +83,12 @@ unfolding opening_of descriptor_of system_slots system_texts slots.resolve
 annotated_one = wrapped (0xE4 ∷ []) (0x81 ∷ []) (0x84 ∷ []) (0x21 ∷ 0x01 ∷ []) (Some (codes "name") ∷ []) (payloads.Int (pos 1)) (short 0xE4 refl)
     (one_digit 1 (omega arith)) (omega arith)
     (one_id [] (0x84 ∷ []) [] 4 (Some (codes "name")) no_ids (one_digit 4 (omega arith)) refl)
-    (is_scalar (0x21 ∷ []) (1 ∷ []) scalars.Int _ (short 0x21 refl) (is_int (omega arith)))
+    (is_scalar (0x21 ∷ []) (1 ∷ []) Scalar.Int _ (short 0x21 refl) (is_int (omega arith)))
 
 system_symbol : Binary system_slots (0x71 ∷ 0x09 ∷ []) last_system_symbol
 unfolding opening_of descriptor_of system_slots system_texts slots.resolve
 system_symbol = unannotated _ (payloads.Symbol (Some (codes "$ion_shared_symbol_table")))
-    (is_scalar (0x71 ∷ []) (9 ∷ []) scalars.Symbol _ (short 0x71 refl) (is_symbol (Some (codes "$ion_shared_symbol_table")) (omega arith) refl))
+    (is_scalar (0x71 ∷ []) (9 ∷ []) Scalar.Symbol _ (short 0x71 refl) (is_symbol (Some (codes "$ion_shared_symbol_table")) (omega arith) refl))
 
 -- 4. How deep the values go.
 list_depth : depth list_value ≤ 1

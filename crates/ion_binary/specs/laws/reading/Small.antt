@@ -2,20 +2,10 @@
 use Rattle.std.proofs.Common.{◌≡◌, ℕ, suc, ◌+◌, ◌≤◌, List, [], ◌∷◌, ◌++◌, length, map, sum, Option, pos, neg_ℤ, refl, arith, length-append}
 use Rattle.std.specs.List.{sum_by}
 use Rattle.std.proofs.lemmas.List.Sums.{sum-map, sum_by-append, sum_by-cons}
-use Rattle.ion_model.specs.declared.value.Value.{Value}
-use Rattle.ion_model.specs.declared.value.Field.{Field}
-use Rattle.ion_model.specs.declared.value.Payload.{Payload}
+use Rattle.ion_binary.specs.Names.{Binary, Field, Fields, HasSpan, Ids, IsScalar, Listing, Payload, Plain, Scalar, Sequence, Slot, Spaced, Value, annotated, bare, field_of, is_blob, is_clob, is_decimal, is_int, is_listing, is_negative, is_null, is_ordered, is_scalar, is_string, is_struct, is_symbol, is_timestamp, is_truth, listed, no_fields, no_ids, nodes, nothing, one_field, one_id, one_more, padded, padded_field, positional, unannotated, wrapped}
 use Rattle.ion_model.specs.declared.value.Payload.TheVariants as payloads
 use Rattle.ion_model.specs.declared.value.Payload.TheViews as views
-use Rattle.ion_model.specs.Measures.{nodes, bare, annotated, field_of}
-use Rattle.ion_model.specs.laws.Measures.{nodes-out, nodes-bare, nodes-Null, nodes-Truth, nodes-more}
-use Rattle.ion_scalar.specs.binary.Fields.{positional}
-use Rattle.ion_symtab.specs.Promises.{HasSpan, Spaced}
-use Rattle.ion_symtab.specs.Slots.{Slot}
-use Rattle.ion_binary.specs.declared.form.Listing.{Listing}
-use Rattle.ion_binary.specs.declared.form.Listing.TheVariants as listings
-use Rattle.ion_binary.specs.declared.form.Scalar.{Scalar}
-use Rattle.ion_binary.specs.Grammar.{IsScalar, is_int, is_negative, is_decimal, is_timestamp, is_symbol, is_string, is_clob, is_blob, Ids, no_ids, one_id, listed, Plain, is_null, is_truth, is_scalar, is_listing, is_struct, is_ordered, Binary, unannotated, wrapped, Sequence, nothing, one_more, padded, Fields, no_fields, one_field, padded_field}
+use Rattle.ion_model.specs.laws.Measures.{nodes-Null, nodes-Truth, nodes-bare, nodes-more, nodes-out}
 use Rattle.ion_binary.specs.laws.reading.Complete.{header_some, length_VarUInt}
 
 -- a scalar is one node
@@ -31,8 +21,8 @@ scalar_nodes c body _ _ is_blob = nodes-bare (payloads.Blob body) _ (views.outs-
 
 -- a list or an s-expression is a node beside those of its items
 pub nodes-listed : (x : Listing) (vs : List Value) → nodes (bare (listed x vs)) ≡ suc (sum (map nodes vs))
-nodes-listed listings.List vs = nodes-bare (payloads.List vs) _ (views.outs-List vs)
-nodes-listed listings.Sexp vs = nodes-bare (payloads.Sexp vs) _ (views.outs-Sexp vs)
+nodes-listed Listing.List vs = nodes-bare (payloads.List vs) _ (views.outs-List vs)
+nodes-listed Listing.Sexp vs = nodes-bare (payloads.Sexp vs) _ (views.outs-Sexp vs)
 
 -- the name of a field is a node beside those of its value
 abbrev pub field_nodes : Field → ℕ

@@ -1,19 +1,7 @@
 -- What is known of a reader that builds values and stands for octets.
 use Rattle.std.proofs.Common.{◌≡◌, ℕ, List, [], ◌∷◌, ap, sym, None, Result, Ok, refl}
-use Rattle.ion_atoms.specs.declared.refusal.Refusal.{Refusal}
-use Rattle.ion_model.specs.declared.value.Value.{Value}
-use Rattle.ion_symtab.specs.Walks.{HasTold}
-use Rattle.ion_visiting.specs.Building.{Built, built, builds, fresh}
-use Rattle.ion_visiting.specs.Events.{Event, Led}
-use Rattle.ion_visiting.specs.Tables.{heard}
-use Rattle.ion_binary.specs.machine.Frames.{Frame}
-use Rattle.ion_binary.specs.declared.reader.BinaryReader.{BinaryReader}
-use Rattle.ion_binary.specs.declared.walking.BinaryWalk.{BinaryWalk}
-use Rattle.ion_binary.specs.machine.EachOctet.{Machine, initial}
-use Rattle.ion_binary.specs.machine.Run.{Run, trace}
-use Rattle.ion_binary.specs.Reading.{Stands}
-use Rattle.ion_binary.specs.walking.Holds.{machine_of, told}
-use Rattle.ion_binary.specs.walking.Runs.{Told, failed, kept, taken}
+use Rattle.ion_binary.specs.Names.{BinaryReader, BinaryWalk, Built, Event, Frame, HasTold, Led, Machine, Refusal, Run, Stands, Told, Value, builds, built, failed, fresh, heard, initial, machine_of, taken, told, trace}
+use Rattle.ion_binary.specs.walking.Runs.{kept}
 use Rattle.ion_binary.specs.laws.reading.Walking as walks
 
 -- where its walk told what octets did, the trace says the same of them

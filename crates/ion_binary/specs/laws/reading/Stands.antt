@@ -1,28 +1,7 @@
 -- What octets and a machine have to do with one another.
 use Rattle.std.specs.Prelude.{◌≡◌, ℕ, suc, ◌+◌, ◌^◌, ◌<◌, ◌≤◌, ◌⊎◌, Bool, true, false, ◌&&◌, ◌==◌, List, [], ◌∷◌, ◌++◌, length, Option, None}
-use Rattle.ion_model.specs.declared.value.Value.{Value}
-use Rattle.ion_model.specs.declared.value.Field.{Field}
-use Rattle.ion_symtab.specs.declared.limits.Limits.{Limits}
-use Rattle.ion_symtab.specs.declared.catalog.Catalog.{Catalog}
-use Rattle.ion_symtab.specs.Slots.{Slot, resolve}
-use Rattle.ion_scalar.specs.declared.descriptor.Size.TheVariants.{Follows}
-use Rattle.ion_scalar.specs.binary.Fields.{positional, Digits128, VarUInt}
-use Rattle.ion_binary.specs.declared.form.Form.{Form}
-use Rattle.ion_binary.specs.declared.form.Form.TheVariants as forms
-use Rattle.ion_binary.specs.declared.form.Opening.TheVariants.{Sized}
-use Rattle.ion_binary.specs.machine.Frames.{Frame}
+use Rattle.ion_binary.specs.Names.{Catalog, Decides, Digits128, Field, Fields, First, Follows, Form, Fourth, Frame, Header, Ids, InBody, InMarker, InNumber, InPad, Limits, Machine, Mark, Outcome, Phase, Pieces, Purpose, Ready, Second, Sequence, Sized, Slot, Third, Value, VarUInt, depths, end_of, field_depths, gives, goes, is_pad, levels, nameless, opening_of, positional, refuses, resolve, stray}
 use Rattle.ion_binary.specs.machine.Frames as frames
-use Rattle.ion_binary.specs.declared.state.Mark.{Mark}
-use Rattle.ion_binary.specs.declared.state.Mark.TheVariants.{First, Second, Third, Fourth}
-use Rattle.ion_binary.specs.declared.state.Purpose.{Purpose}
-use Rattle.ion_binary.specs.declared.state.Purpose.TheVariants as purposes
-use Rattle.ion_binary.specs.declared.state.Phase.{Phase}
-use Rattle.ion_binary.specs.declared.state.Phase.TheVariants.{InMarker, Ready, InNumber, InBody, InPad}
-use Rattle.ion_binary.specs.Opening.{opening_of, is_pad}
-use Rattle.ion_binary.specs.Depths.{depths, field_depths}
-use Rattle.ion_binary.specs.Grammar.{Header, Ids, Sequence, Fields, Pieces}
-use Rattle.ion_binary.specs.Deciding.{Decides}
-use Rattle.ion_binary.specs.machine.EachOctet.{Machine, Outcome, goes, gives, refuses, end_of, levels, stray, nameless}
 
 -- an item of the top level may reach up to `to`; a pad may reach anywhere
 abbrev pub TopRoom : ℕ → ℕ → Form → ℕ → Type 0
@@ -48,10 +27,10 @@ InRoom (f ∷ fs) to = to ≤ end_of f
 
 -- a VarUInt may reach up to `to`
 abbrev pub NumberRoom : Limits → ℕ → List Frame → Purpose → ℕ → Type 0
-NumberRoom l start fs (purposes.Length form) to = HasRoom l start fs form to
-NumberRoom l start fs purposes.FieldName to = InRoom fs to
-NumberRoom l start fs purposes.AnnotationsLength to = InRoom fs to
-NumberRoom l start fs (purposes.Annotation stop) to = to ≤ stop
+NumberRoom l start fs (Purpose.Length form) to = HasRoom l start fs form to
+NumberRoom l start fs Purpose.FieldName to = InRoom fs to
+NumberRoom l start fs Purpose.AnnotationsLength to = InRoom fs to
+NumberRoom l start fs (Purpose.Annotation stop) to = to ≤ stop
 
 -- a descriptor may come
 abbrev pub Receives : List Frame → Type 0
@@ -83,8 +62,8 @@ pub record Box (l : Limits) (start : ℕ) (Outer : List ℕ → Type 0) (fs : Li
 
 -- the form is that of a struct of n octets
 abbrev pub IsStructOf : Form → ℕ → Type 0
-IsStructOf forms.Struct n = Unit {0}
-IsStructOf forms.OrderedStruct n = 0 < n
+IsStructOf Form.Struct n = Unit {0}
+IsStructOf Form.OrderedStruct n = 0 < n
 IsStructOf _ n = ⊥
 
 -- a struct's header, and fields
@@ -112,7 +91,7 @@ Opened g l start c s (frames.Items end x vs ∷ fs) u =
       front : List ℕ;
       body : List ℕ;
       whole : u ≡ front ++ body;
-      box : Box l start (Opened g l start c s fs) fs (forms.Listing x) end front;
+      box : Box l start (Opened g l start c s fs) fs (Form.Listing x) end front;
       items : Sequence c body vs;
       deep : depths vs + suc (levels fs) ≤ l.depth;
       within : length u ≤ end;
@@ -135,7 +114,7 @@ Opened g l start c s (frames.Annotated end ss ∷ fs) u =
       count : List ℕ;
       ids : List ℕ;
       whole : u ≡ front ++ (count ++ ids);
-      box : Box l start (Opened g l start c s fs) fs forms.Wrapper end front;
+      box : Box l start (Opened g l start c s fs) fs Form.Wrapper end front;
       bare : IsBare fs;
       number : VarUInt count (length ids);
       some : 0 < length ids;
@@ -145,8 +124,8 @@ Opened g l start c s (frames.Annotated end ss ∷ fs) u =
 
 -- what a form asks of the frames in which it stands
 abbrev pub Accepts : Form → List Frame → Type 0
-Accepts forms.Pad fs = Receives fs × IsBare fs
-Accepts forms.Wrapper fs = IsBare fs
+Accepts Form.Pad fs = Receives fs × IsBare fs
+Accepts Form.Wrapper fs = IsBare fs
 Accepts _ fs = Unit {0}
 
 -- where a descriptor comes next
@@ -243,7 +222,7 @@ pub record CountStands (g : Catalog) (l : Limits) (start : ℕ) (c : List Slot) 
   pub front : List ℕ
   pub digits : List ℕ
   pub whole : u ≡ front ++ digits
-  pub box : Box l start (Opened g l start c s fs) fs forms.Wrapper end front
+  pub box : Box l start (Opened g l start c s fs) fs Form.Wrapper end front
   pub bare : IsBare fs
   pub none_yet : ss ≡ []
   pub small : Digits128 digits
@@ -260,7 +239,7 @@ pub record AnnotationStands (g : Catalog) (l : Limits) (start : ℕ) (c : List S
   pub digits : List ℕ
   pub n : ℕ
   pub whole : u ≡ front ++ (count ++ (ids ++ digits))
-  pub box : Box l start (Opened g l start c s fs) fs forms.Wrapper end front
+  pub box : Box l start (Opened g l start c s fs) fs Form.Wrapper end front
   pub bare : IsBare fs
   pub number : VarUInt count n
   pub some : 0 < n
@@ -274,10 +253,10 @@ pub record AnnotationStands (g : Catalog) (l : Limits) (start : ℕ) (c : List S
 
 -- in a VarUInt, by what it stands for
 abbrev pub NumberStands : Catalog → Limits → ℕ → List Slot → List Value → List Frame → Purpose → ℕ → List ℕ → Type 0
-NumberStands g l start c s fs (purposes.Length form) a u = LengthStands g l start c s fs form a u
-NumberStands g l start c s (frames.Fields end ms ∷ fs) purposes.FieldName a u = NameStands g l start c s fs end ms a u
-NumberStands g l start c s (frames.Annotated end ss ∷ fs) purposes.AnnotationsLength a u = CountStands g l start c s fs end ss a u
-NumberStands g l start c s (frames.Annotated end ss ∷ fs) (purposes.Annotation stop) a u = AnnotationStands g l start c s fs end ss stop a u
+NumberStands g l start c s fs (Purpose.Length form) a u = LengthStands g l start c s fs form a u
+NumberStands g l start c s (frames.Fields end ms ∷ fs) Purpose.FieldName a u = NameStands g l start c s fs end ms a u
+NumberStands g l start c s (frames.Annotated end ss ∷ fs) Purpose.AnnotationsLength a u = CountStands g l start c s fs end ss a u
+NumberStands g l start c s (frames.Annotated end ss ∷ fs) (Purpose.Annotation stop) a u = AnnotationStands g l start c s fs end ss stop a u
 NumberStands g l start c s _ _ a u = ⊥
 
 -- in a body of which `came` has come
@@ -301,8 +280,8 @@ abbrev pub Standing : Catalog → Limits → ℕ → List Slot → List Value �
 Standing g l start c s fs body (InMarker m good) u = MarkerStands g l start c s fs m good u
 Standing g l start c s fs body Ready u = AwaitsDescriptor g l start c s fs u
 Standing g l start c s fs body (InNumber p a) u = NumberStands g l start c s fs p a u
-Standing g l start c s fs body (InBody t n) u = BodyStands g l start c s fs (forms.Scalar t) n body u
-Standing g l start c s fs body (InPad n) u = (came : List ℕ) × BodyStands g l start c s fs forms.Pad n came u
+Standing g l start c s fs body (InBody t n) u = BodyStands g l start c s fs (Form.Scalar t) n body u
+Standing g l start c s fs body (InPad n) u = (came : List ℕ) × BodyStands g l start c s fs Form.Pad n came u
 
 -- u gave s and led to m
 pub record MachineStands (g : Catalog) (l : Limits) (u : List ℕ) (s : List Value) (m : Machine) : Type 0 where

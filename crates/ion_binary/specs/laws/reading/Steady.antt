@@ -1,40 +1,12 @@
 -- An octet never moves the start of the open piece back, and is refused for no want of memory or octets.
 use Rattle.std.proofs.Common.{ℕ, ◌+◌, ◌-◌, ◌*◌, ◌/◌, ◌%◌, ◌^◌, ◌≤◌, List, [], ◌∷◌, ◌++◌, Result, Ok, Err, Option, Some, None, arith, Bool, ◌||◌, nat_lt, nat_le, ◌==◌}
-use Rattle.ion_model.specs.declared.value.Value.{Value}
-use Rattle.ion_model.specs.declared.value.Payload.{Payload}
+use Rattle.ion_binary.specs.Names.{Descriptor, First, Follows, Form, Fourth, Frame, InBody, InMarker, InNumber, InPad, Known, Machine, Mark, Marker, Null, Opening, Outcome, Payload, Phase, Purpose, Ready, Reason, Refused, Scalar, Second, Setting, Size, Sized, Slot, Spot, Third, Truth, Value, annotated, annotation_came, bare, begin, body_of, count_came, counted, deeper, deliver, descriptor_of, end_of, feed, field_of, gives, goes, hollow, is_pad, is_table, is_wrapper, judge, judged, levels, listed, longer, misfits, name_came, nameless, next, number_came, on_descriptor, on_marker, on_phase, one_octet, open_struct, opening_of, opens, or_else, outside, past, proceed, refuses, resolve, sized, stray, too_long, turned, typed, unending, unfit, unless, unsized, with_octets}
 use Rattle.ion_model.specs.declared.value.Payload.TheVariants as payloads
-use Rattle.ion_atoms.specs.declared.refusal.Reason.{Reason}
-use Rattle.ion_model.specs.Measures.{bare, annotated, field_of}
-use Rattle.ion_model.specs.Kinds.{is_table}
-use Rattle.ion_scalar.specs.declared.descriptor.Descriptor.{Descriptor}
-use Rattle.ion_scalar.specs.declared.descriptor.Descriptor.TheVariants as descriptors
-use Rattle.ion_scalar.specs.declared.descriptor.Size.{Size}
-use Rattle.ion_scalar.specs.declared.descriptor.Size.TheVariants.{Known, Follows}
-use Rattle.ion_scalar.specs.binary.Descriptor.{descriptor_of, typed}
-use Rattle.ion_symtab.specs.Slots.{Slot, resolve}
-use Rattle.ion_symtab.specs.Next.{next}
-use Rattle.ion_symtab.specs.laws.Decided.{resolve_decides, next_decides}
+use Rattle.ion_symtab.specs.Decided.{Decides, IsDecided}
+use Rattle.ion_symtab.specs.laws.Decided.{next_decides, resolve_decides}
 use Rattle.ion_symtab.specs.laws.Reasons.{either}
-use Rattle.ion_symtab.specs.Decided.{IsDecided, Decides}
-use Rattle.ion_binary.specs.declared.form.Scalar.{Scalar}
-use Rattle.ion_binary.specs.declared.form.Scalar.TheVariants as scalars
-use Rattle.ion_binary.specs.declared.form.Form.{Form}
-use Rattle.ion_binary.specs.declared.form.Form.TheVariants as forms
-use Rattle.ion_binary.specs.declared.form.Opening.{Opening}
-use Rattle.ion_binary.specs.declared.form.Opening.TheVariants.{Refused, Marker, Null, Truth, Sized}
-use Rattle.ion_binary.specs.machine.Frames.{Frame}
 use Rattle.ion_binary.specs.machine.Frames as frames
-use Rattle.ion_binary.specs.declared.state.Mark.{Mark}
-use Rattle.ion_binary.specs.declared.state.Mark.TheVariants.{First, Second, Third, Fourth}
-use Rattle.ion_binary.specs.declared.state.Purpose.{Purpose}
-use Rattle.ion_binary.specs.declared.state.Purpose.TheVariants as purposes
-use Rattle.ion_binary.specs.declared.state.Phase.{Phase}
-use Rattle.ion_binary.specs.declared.state.Phase.TheVariants.{InMarker, Ready, InNumber, InBody, InPad}
-use Rattle.ion_binary.specs.Opening.{opening_of, opens, body_of, with_octets, is_pad, is_wrapper}
-use Rattle.ion_binary.specs.Grammar.{listed}
-use Rattle.ion_binary.specs.Judge.{judge}
 use Rattle.ion_binary.specs.laws.reading.Decided.{judge_decides}
-use Rattle.ion_binary.specs.machine.EachOctet.{Setting, Spot, Machine, Outcome, goes, gives, refuses, end_of, levels, turned, deliver, proceed, unless, or_else, too_long, misfits, stray, nameless, unending, outside, past, unfit, judged, deeper, open_struct, begin, sized, longer, unsized, one_octet, on_descriptor, name_came, count_came, annotation_came, number_came, on_marker, on_phase, counted, feed, hollow}
 
 -- the open piece begins at `start` or behind it
 pub record Onward (start : ℕ) (m : Machine) : Type 0 where
@@ -119,19 +91,19 @@ long_fine : (item start : ℕ) (form : Form) (to : ℕ) → Fine (too_long item 
 long_fine item start form to = either Fine (is_pad form || nat_le to (start + item)) _ _ tt tt
 
 hollow_fine : (form : Form) (n : ℕ) → Fine (hollow form n)
-hollow_fine (forms.Scalar scalars.NegativeInt) n = either Fine (n == 0) _ _ tt tt
-hollow_fine (forms.Scalar scalars.Timestamp) n = either Fine (n == 0) _ _ tt tt
-hollow_fine (forms.Scalar scalars.Int) n = tt
-hollow_fine (forms.Scalar scalars.Decimal) n = tt
-hollow_fine (forms.Scalar scalars.Symbol) n = tt
-hollow_fine (forms.Scalar scalars.Str) n = tt
-hollow_fine (forms.Scalar scalars.Clob) n = tt
-hollow_fine (forms.Scalar scalars.Blob) n = tt
-hollow_fine forms.OrderedStruct n = either Fine (n == 0) _ _ tt tt
-hollow_fine forms.Wrapper n = either Fine (n == 0) _ _ tt tt
-hollow_fine forms.Pad n = tt
-hollow_fine (forms.Listing x) n = tt
-hollow_fine forms.Struct n = tt
+hollow_fine (Form.Scalar Scalar.NegativeInt) n = either Fine (n == 0) _ _ tt tt
+hollow_fine (Form.Scalar Scalar.Timestamp) n = either Fine (n == 0) _ _ tt tt
+hollow_fine (Form.Scalar Scalar.Int) n = tt
+hollow_fine (Form.Scalar Scalar.Decimal) n = tt
+hollow_fine (Form.Scalar Scalar.Symbol) n = tt
+hollow_fine (Form.Scalar Scalar.Str) n = tt
+hollow_fine (Form.Scalar Scalar.Clob) n = tt
+hollow_fine (Form.Scalar Scalar.Blob) n = tt
+hollow_fine Form.OrderedStruct n = either Fine (n == 0) _ _ tt tt
+hollow_fine Form.Wrapper n = either Fine (n == 0) _ _ tt tt
+hollow_fine Form.Pad n = tt
+hollow_fine (Form.Listing x) n = tt
+hollow_fine Form.Struct n = tt
 
 misfits_fine : (item start : ℕ) (fs : List Frame) (form : Form) (to : ℕ) → Fine (misfits item start fs form to)
 misfits_fine item start [] form to = long_fine item start form to
@@ -164,10 +136,10 @@ outside_fine [] used = tt
 outside_fine (f ∷ fs) used = either Fine (nat_lt used (end_of f)) _ _ tt tt
 
 past_fine : (item start : ℕ) (fs : List Frame) (p : Purpose) (used : ℕ) → Fine (past item start fs p used)
-past_fine item start fs (purposes.Length form) used = unending_fine item start fs form used
-past_fine item start fs purposes.FieldName used = outside_fine fs used
-past_fine item start fs purposes.AnnotationsLength used = outside_fine fs used
-past_fine item start fs (purposes.Annotation stop) used = either Fine (nat_lt used stop) _ _ tt tt
+past_fine item start fs (Purpose.Length form) used = unending_fine item start fs form used
+past_fine item start fs Purpose.FieldName used = outside_fine fs used
+past_fine item start fs Purpose.AnnotationsLength used = outside_fine fs used
+past_fine item start fs (Purpose.Annotation stop) used = either Fine (nat_lt used stop) _ _ tt tt
 
 or_fine : (a b : Option Reason) → Fine a → Fine b → Fine (or_else a b)
 or_fine None b h k = k
@@ -194,16 +166,16 @@ struct_steady setting spot fs n h =
 
 begin_steady : (setting : Setting) (spot : Spot) (fs : List Frame) (form : Form) (n : ℕ) → spot.start ≤ spot.used
     → Steady spot.start (FineFrames fs) (begin setting spot fs form n)
-begin_steady setting spot fs forms.Pad n h = either (Steady spot.start (FineFrames fs)) (n == 0) _ _ (proceed_steady setting spot fs h)
+begin_steady setting spot fs Form.Pad n h = either (Steady spot.start (FineFrames fs)) (n == 0) _ _ (proceed_steady setting spot fs h)
     (record { from = omega arith; to = h })
-begin_steady setting spot fs (forms.Scalar t) n h = either (Steady spot.start (FineFrames fs)) (n == 0) _ _
+begin_steady setting spot fs (Form.Scalar t) n h = either (Steady spot.start (FineFrames fs)) (n == 0) _ _
     (judged_steady setting spot fs (judge spot.context t []) h (judge_decides spot.context t [])) (record { from = omega arith; to = h })
-begin_steady setting spot fs (forms.Listing x) n h =
+begin_steady setting spot fs (Form.Listing x) n h =
     deeper_steady setting.limits.depth spot.start fs _ (weaken spot.start (FineFrames fs) (FineFrames (frames.Items (spot.used + n) x [] ∷ fs))
     (proceed setting spot (frames.Items (spot.used + n) x [] ∷ fs)) (λ p. (tt, p)) (proceed_steady setting spot (frames.Items (spot.used + n) x [] ∷ fs) h))
-begin_steady setting spot fs forms.Struct n h = struct_steady setting spot fs n h
-begin_steady setting spot fs forms.OrderedStruct n h = struct_steady setting spot fs n h
-begin_steady setting spot fs forms.Wrapper n h = record { from = omega arith; to = h }
+begin_steady setting spot fs Form.Struct n h = struct_steady setting spot fs n h
+begin_steady setting spot fs Form.OrderedStruct n h = struct_steady setting spot fs n h
+begin_steady setting spot fs Form.Wrapper n h = record { from = omega arith; to = h }
 
 sized_steady : (setting : Setting) (spot : Spot) (fs : List Frame) (form : Form) (n : ℕ) → spot.start ≤ spot.used
     → Steady spot.start (FineFrames fs) (sized setting spot fs form n)
@@ -227,8 +199,8 @@ unsized_steady setting spot fs form h =
 
 one_steady : (setting : Setting) (spot : Spot) (fs : List Frame) (p : Payload) → spot.start ≤ spot.used
     → Steady spot.start (FineFrames fs) (one_octet setting spot fs p)
-one_steady setting spot fs p h = steady_unless spot.start (FineFrames fs) (unfit setting.limits.item spot.start fs forms.Struct spot.used) _
-    (unfit_fine setting.limits.item spot.start fs forms.Struct spot.used) (deliver_steady setting spot fs (bare p) h)
+one_steady setting spot fs p h = steady_unless spot.start (FineFrames fs) (unfit setting.limits.item spot.start fs Form.Struct spot.used) _
+    (unfit_fine setting.limits.item spot.start fs Form.Struct spot.used) (deliver_steady setting spot fs (bare p) h)
 
 -- why a descriptor is refused
 
@@ -238,8 +210,8 @@ with_fine t Follows = tt
 
 body_fine : (code : ℕ) (z : Size) → FineOpening (body_of code z)
 body_fine code z =
-    either FineOpening (code == 2) _ _ tt (either FineOpening (code == 3) _ _ (with_fine scalars.NegativeInt z)
-    (either FineOpening (code == 5) _ _ tt (either FineOpening (code == 6) _ _ (with_fine scalars.Timestamp z)
+    either FineOpening (code == 2) _ _ tt (either FineOpening (code == 3) _ _ (with_fine Scalar.NegativeInt z)
+    (either FineOpening (code == 5) _ _ tt (either FineOpening (code == 6) _ _ (with_fine Scalar.Timestamp z)
     (either FineOpening (code == 7) _ _ tt (either FineOpening (code == 8) _ _ tt
     (either FineOpening (code == 9) _ _ tt (either FineOpening (code == 10) _ _ tt
     (either FineOpening (code == 11) _ _ tt (either FineOpening (code == 12) _ _ tt
@@ -247,12 +219,12 @@ body_fine code z =
 
 opens_fine : (d : Result Descriptor Reason) → Decides d → FineOpening (opens d)
 opens_fine (Err e) h = h
-opens_fine (Ok descriptors.Marker) h = tt
-opens_fine (Ok (descriptors.Null k)) h = tt
-opens_fine (Ok (descriptors.Truth t)) h = tt
-opens_fine (Ok (descriptors.Pad z)) h = tt
-opens_fine (Ok descriptors.Ordered) h = tt
-opens_fine (Ok (descriptors.Body code z)) h = body_fine code z
+opens_fine (Ok Descriptor.Marker) h = tt
+opens_fine (Ok (Descriptor.Null k)) h = tt
+opens_fine (Ok (Descriptor.Truth t)) h = tt
+opens_fine (Ok (Descriptor.Pad z)) h = tt
+opens_fine (Ok Descriptor.Ordered) h = tt
+opens_fine (Ok (Descriptor.Body code z)) h = body_fine code z
 
 typed_fine : (t n : ℕ) → Decides (typed t n)
 typed_fine t n =
@@ -308,10 +280,10 @@ annotation_steady spot (frames.Named end ms name ∷ fs) stop r h f = λ p. tt
 
 came_steady : (setting : Setting) (spot : Spot) (fs : List Frame) (p : Purpose) (n : ℕ) → spot.start ≤ spot.used
     → Steady spot.start (FineFrames fs) (number_came setting spot fs p n)
-came_steady setting spot fs (purposes.Length form) n h = sized_steady setting spot fs form n h
-came_steady setting spot fs purposes.FieldName n h = name_steady spot fs n h
-came_steady setting spot fs purposes.AnnotationsLength n h = count_steady spot fs n h
-came_steady setting spot fs (purposes.Annotation stop) n h = annotation_steady spot fs stop (resolve spot.context n) h (resolve_decides spot.context n)
+came_steady setting spot fs (Purpose.Length form) n h = sized_steady setting spot fs form n h
+came_steady setting spot fs Purpose.FieldName n h = name_steady spot fs n h
+came_steady setting spot fs Purpose.AnnotationsLength n h = count_steady spot fs n h
+came_steady setting spot fs (Purpose.Annotation stop) n h = annotation_steady spot fs stop (resolve spot.context n) h (resolve_decides spot.context n)
 
 marker_steady : (spot : Spot) (fs : List Frame) (m : Mark) (good : Bool) (b : ℕ) → spot.start ≤ spot.used
     → Steady spot.start (FineFrames fs) (on_marker spot fs m good b)

@@ -1,17 +1,8 @@
 -- Where a run goes on, and where it is refused.
 use Rattle.std.proofs.Common.{◌≡◌, ℕ, ◌+◌, ◌≤◌, List, [], ◌∷◌, ◌++◌, length, Ok, Err, refl, ap, sym, ◌∙◌, subst, arith}
-use Rattle.ion_model.specs.declared.value.Value.{Value}
-use Rattle.ion_atoms.specs.declared.refusal.Refusal.{Refusal}
-use Rattle.ion_symtab.specs.declared.limits.Limits.{Limits}
-use Rattle.ion_symtab.specs.declared.catalog.Catalog.{Catalog}
-use Rattle.ion_symtab.specs.Promises.{BeginsNone}
-use Rattle.ion_binary.specs.declared.state.Phase.TheVariants.{Ready}
-use Rattle.ion_binary.specs.Grammar.{Document, Whole, no_piece, document}
-use Rattle.ion_binary.specs.machine.EachOctet.{Machine, Outcome, goes, gives, refuses, under, anew, feed, at, initial}
-use Rattle.ion_binary.specs.machine.Run.{Run, run, run_on, with_value}
-use Rattle.ion_binary.specs.machine.Pieces.{run-append, then_run, on_now}
-use Rattle.ion_binary.specs.laws.reading.Steady.{Steady, FineFrames, feed_steady}
+use Rattle.ion_binary.specs.Names.{BeginsNone, Catalog, Document, Limits, Machine, Outcome, Ready, Refusal, Run, Value, Whole, anew, at, document, feed, gives, goes, initial, no_piece, on_now, refuses, run, run-append, run_on, then_run, under, with_value}
 use Rattle.ion_binary.specs.laws.reading.Documents.{pieces_run}
+use Rattle.ion_binary.specs.laws.reading.Steady.{FineFrames, Steady, feed_steady}
 
 -- the start of the open piece never moves back
 pub run_onward : (g : Catalog) (l : Limits) (to : ℕ) (m : Machine) (w : List ℕ) (n : Machine) → m.spot.start ≤ m.spot.used → (run g l to m w).now ≡ Ok n

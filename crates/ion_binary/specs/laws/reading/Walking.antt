@@ -1,23 +1,10 @@
 -- What is known of a reader that holds no values and told a visitor what it did.
 use Rattle.std.proofs.Common.{ℕ, ◌≤◌, List, length, ap, arith}
-use Rattle.ion_model.specs.declared.value.Value.{Value}
-use Rattle.ion_symtab.specs.declared.catalog.Catalog.{Catalog}
-use Rattle.ion_symtab.specs.declared.limits.Limits.{Limits}
-use Rattle.ion_symtab.specs.Slots.{Slot}
-use Rattle.ion_symtab.specs.Trace.{plain}
-use Rattle.ion_symtab.specs.Walks.{HasTold}
-use Rattle.ion_visiting.specs.Events.{Event}
-use Rattle.ion_binary.specs.machine.Frames.{Frame}
-use Rattle.ion_binary.specs.declared.state.Phase.{Phase}
-use Rattle.ion_binary.specs.declared.state.Phase.TheVariants.{InMarker, Ready, InNumber, InBody, InPad}
-use Rattle.ion_binary.specs.declared.walking.BinaryWalk.{BinaryWalk}
-use Rattle.ion_binary.specs.machine.Run.{Run, trace, trace_of}
-use Rattle.ion_binary.specs.machine.Views.{body_so_far}
-use Rattle.ion_binary.specs.walking.Holds.{machine_of}
-use Rattle.ion_binary.specs.walking.Runs.{Told, awaits, failed, kept, taken}
-use Rattle.ion_binary.specs.laws.reading.Stands.{Standing}
-use Rattle.ion_binary.specs.laws.reading.Promises.{ran_stands}
+use Rattle.ion_binary.specs.Names.{BinaryWalk, Catalog, Event, Frame, HasTold, InBody, InMarker, InNumber, InPad, Limits, Phase, Ready, Run, Slot, Told, Value, awaits, body_so_far, failed, machine_of, plain, taken, trace, trace_of}
+use Rattle.ion_binary.specs.walking.Runs.{kept}
 use Rattle.ion_binary.specs.laws.reading.OpenRests.{body_within}
+use Rattle.ion_binary.specs.laws.reading.Promises.{ran_stands}
+use Rattle.ion_binary.specs.laws.reading.Stands.{Standing}
 
 so_far_within : (g : Catalog) (l : Limits) (start : ℕ) (c : List Slot) (s : List Value) (fs : List Frame) (body : List ℕ) (phase : Phase) (u : List ℕ)
     → Standing g l start c s fs (body_so_far phase body) phase u → length (body_so_far phase body) ≤ l.item

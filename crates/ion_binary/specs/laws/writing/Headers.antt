@@ -1,19 +1,8 @@
 -- The header that is written is that of its form.
 use Rattle.std.proofs.Common.{◌≡◌, ◌≢◌, ℕ, ◌+◌, ◌*◌, ◌/◌, ◌%◌, ◌^◌, ◌<◌, ◌≤◌, ◌==◌, false, List, ◌∷◌, length, refl, ◌∙◌, arith, inl, inr, length-append, lt-ltb, le-ltb, ne_eqb}
 use Rattle.std.proofs.lemmas.Bool.{cases_lt}
-use Rattle.ion_scalar.specs.declared.descriptor.Size.TheVariants.{Known, Follows}
-use Rattle.ion_scalar.specs.binary.Descriptor.{typed, descriptor_of}
-use Rattle.ion_scalar.specs.binary.Spellings.{var_uint_octets}
+use Rattle.ion_binary.specs.Names.{Follows, Form, Header, IsBodyLength, Known, Listing, Scalar, Sized, descriptor_of, framed, header, long, long_code, opening_of, opens, short, type_code, typed, var_uint_octets}
 use Rattle.ion_scalar.specs.binary.laws.Spellings.{var_uint_spelled}
-use Rattle.ion_binary.specs.declared.form.Scalar.TheVariants as scalars
-use Rattle.ion_binary.specs.declared.form.Listing.TheVariants as listings
-use Rattle.ion_binary.specs.declared.form.Form.{Form}
-use Rattle.ion_binary.specs.declared.form.Form.TheVariants as forms
-use Rattle.ion_binary.specs.declared.form.Opening.TheVariants.{Sized}
-use Rattle.ion_binary.specs.Opening.{opens, opening_of}
-use Rattle.ion_binary.specs.Grammar.{Header, short, long}
-use Rattle.ion_binary.specs.Output.{header, framed}
-use Rattle.ion_binary.specs.HeaderRows.{type_code, long_code, IsBodyLength}
 
 opens_typed : (code n : ℕ) → n < 16 → opening_of (16 * code + n) ≡ opens (typed code n)
 unfolding opening_of descriptor_of
@@ -34,47 +23,47 @@ above n k h = ne_eqb n k (λ e. absurd (omega arith))
 
 -- a body of fewer than 14 octets
 pub known : (form : Form) (n : ℕ) → IsBodyLength form n → n < 14 → opening_of (16 * type_code form + n) ≡ Sized form (Known n)
-known (forms.Scalar scalars.Int) n h k = opens_typed 2 n (omega arith) ∙ rw (below n 15 (omega arith), below n 14 k) refl
-known (forms.Scalar scalars.NegativeInt) n h k = opens_typed 3 n (omega arith) ∙ rw (below n 15 (omega arith), below n 14 k, above n 0 h) refl
-known (forms.Scalar scalars.Decimal) n h k = opens_typed 5 n (omega arith) ∙ rw (below n 15 (omega arith), below n 14 k) refl
-known (forms.Scalar scalars.Timestamp) n h k = opens_typed 6 n (omega arith) ∙ rw (below n 15 (omega arith), below n 14 k, above n 0 h) refl
-known (forms.Scalar scalars.Symbol) n h k = opens_typed 7 n (omega arith) ∙ rw (below n 15 (omega arith), below n 14 k) refl
-known (forms.Scalar scalars.Str) n h k = opens_typed 8 n (omega arith) ∙ rw (below n 15 (omega arith), below n 14 k) refl
-known (forms.Scalar scalars.Clob) n h k = opens_typed 9 n (omega arith) ∙ rw (below n 15 (omega arith), below n 14 k) refl
-known (forms.Scalar scalars.Blob) n h k = opens_typed 10 n (omega arith) ∙ rw (below n 15 (omega arith), below n 14 k) refl
-known (forms.Listing listings.List) n h k = opens_typed 11 n (omega arith) ∙ rw (below n 15 (omega arith), below n 14 k) refl
-known (forms.Listing listings.Sexp) n h k = opens_typed 12 n (omega arith) ∙ rw (below n 15 (omega arith), below n 14 k) refl
-known forms.Struct n h k = opens_typed 13 n (omega arith) ∙ rw (below n 15 (omega arith), below n 14 k, other n 1 h) refl
-known forms.OrderedStruct n h k = absurd h
-known forms.Wrapper n h k = opens_typed 14 n (omega arith)
+known (Form.Scalar Scalar.Int) n h k = opens_typed 2 n (omega arith) ∙ rw (below n 15 (omega arith), below n 14 k) refl
+known (Form.Scalar Scalar.NegativeInt) n h k = opens_typed 3 n (omega arith) ∙ rw (below n 15 (omega arith), below n 14 k, above n 0 h) refl
+known (Form.Scalar Scalar.Decimal) n h k = opens_typed 5 n (omega arith) ∙ rw (below n 15 (omega arith), below n 14 k) refl
+known (Form.Scalar Scalar.Timestamp) n h k = opens_typed 6 n (omega arith) ∙ rw (below n 15 (omega arith), below n 14 k, above n 0 h) refl
+known (Form.Scalar Scalar.Symbol) n h k = opens_typed 7 n (omega arith) ∙ rw (below n 15 (omega arith), below n 14 k) refl
+known (Form.Scalar Scalar.Str) n h k = opens_typed 8 n (omega arith) ∙ rw (below n 15 (omega arith), below n 14 k) refl
+known (Form.Scalar Scalar.Clob) n h k = opens_typed 9 n (omega arith) ∙ rw (below n 15 (omega arith), below n 14 k) refl
+known (Form.Scalar Scalar.Blob) n h k = opens_typed 10 n (omega arith) ∙ rw (below n 15 (omega arith), below n 14 k) refl
+known (Form.Listing Listing.List) n h k = opens_typed 11 n (omega arith) ∙ rw (below n 15 (omega arith), below n 14 k) refl
+known (Form.Listing Listing.Sexp) n h k = opens_typed 12 n (omega arith) ∙ rw (below n 15 (omega arith), below n 14 k) refl
+known Form.Struct n h k = opens_typed 13 n (omega arith) ∙ rw (below n 15 (omega arith), below n 14 k, other n 1 h) refl
+known Form.OrderedStruct n h k = absurd h
+known Form.Wrapper n h k = opens_typed 14 n (omega arith)
     ∙ rw (below n 15 (omega arith), below n 14 k, above n 0 (omega arith), above n 1 (omega arith), above n 2 (omega arith)) refl
-known forms.Pad n h k = opens_typed 0 n (omega arith) ∙ rw (below n 15 (omega arith), below n 14 k) refl
+known Form.Pad n h k = opens_typed 0 n (omega arith) ∙ rw (below n 15 (omega arith), below n 14 k) refl
 
 -- one of whose length stands behind the descriptor
 pub follows : (form : Form) → opening_of (16 * type_code form + long_code form) ≡ Sized form Follows
 unfolding opening_of descriptor_of
-follows (forms.Scalar scalars.Int) = refl
-follows (forms.Scalar scalars.NegativeInt) = refl
-follows (forms.Scalar scalars.Decimal) = refl
-follows (forms.Scalar scalars.Timestamp) = refl
-follows (forms.Scalar scalars.Symbol) = refl
-follows (forms.Scalar scalars.Str) = refl
-follows (forms.Scalar scalars.Clob) = refl
-follows (forms.Scalar scalars.Blob) = refl
-follows (forms.Listing listings.List) = refl
-follows (forms.Listing listings.Sexp) = refl
-follows forms.Struct = refl
-follows forms.OrderedStruct = refl
-follows forms.Wrapper = refl
-follows forms.Pad = refl
+follows (Form.Scalar Scalar.Int) = refl
+follows (Form.Scalar Scalar.NegativeInt) = refl
+follows (Form.Scalar Scalar.Decimal) = refl
+follows (Form.Scalar Scalar.Timestamp) = refl
+follows (Form.Scalar Scalar.Symbol) = refl
+follows (Form.Scalar Scalar.Str) = refl
+follows (Form.Scalar Scalar.Clob) = refl
+follows (Form.Scalar Scalar.Blob) = refl
+follows (Form.Listing Listing.List) = refl
+follows (Form.Listing Listing.Sexp) = refl
+follows Form.Struct = refl
+follows Form.OrderedStruct = refl
+follows Form.Wrapper = refl
+follows Form.Pad = refl
 
 usual : (form : Form) (n : ℕ) → IsBodyLength form n → long_code form ≡ 14
-usual (forms.Scalar _) n h = refl
-usual (forms.Listing _) n h = refl
-usual forms.Struct n h = refl
-usual forms.OrderedStruct n h = absurd h
-usual forms.Wrapper n h = refl
-usual forms.Pad n h = refl
+usual (Form.Scalar _) n h = refl
+usual (Form.Listing _) n h = refl
+usual Form.Struct n h = refl
+usual Form.OrderedStruct n h = absurd h
+usual Form.Wrapper n h = refl
+usual Form.Pad n h = refl
 
 -- the header that is written for a body is one of its form and length
 pub header_is : (form : Form) (n : ℕ) → IsBodyLength form n → n < 2 ^ 63 → Header form n (header (type_code form) n)

@@ -1,15 +1,11 @@
 -- The symbols of a value that is kept are of unknown text, or their texts are UTF-8.
 use Rattle.std.proofs.Common.{◌≡◌, List, sym, subst}
 use Rattle.std.specs.List.{flat_map}
-use Rattle.ion_model.specs.declared.value.Value.{Value}
-use Rattle.ion_model.specs.declared.value.Field.{Field}
-use Rattle.ion_model.specs.declared.value.Payload.{Payload}
+use Rattle.ion_binary.specs.Names.{AreTexts, Field, IsKept, KeptFields, KeptItems, KeptPayload, Layer, Payload, Value, a_field, an_item, annotated, field_symbols, kept, kept_blob, kept_clob, kept_decimal, kept_fields, kept_int, kept_list, kept_null, kept_sexp, kept_string, kept_symbol, kept_timestamp, kept_truth, layer_symbols, no_items, symbols_of}
+use Rattle.ion_model.specs.Kept.{no_fields}
 use Rattle.ion_model.specs.declared.value.Payload.TheVariants as payloads
 use Rattle.ion_model.specs.declared.value.Payload.TheViews as views
-use Rattle.ion_model.specs.Measures.{Layer, annotated}
 use Rattle.ion_model.specs.laws.Kept.{texts_both}
-use Rattle.ion_model.specs.Kept.{AreTexts, IsKept, kept, KeptPayload, kept_null, kept_truth, kept_int, kept_decimal, kept_timestamp, kept_symbol, kept_string, kept_clob, kept_blob, kept_list, kept_sexp, kept_fields, KeptItems, no_items, an_item, KeptFields, no_fields, a_field}
-use Rattle.ion_binary.specs.Output.{symbols_of, layer_symbols, field_symbols}
 use Rattle.ion_binary.specs.laws.writing.Output.{symbols-out}
 
 by_layer : (p : Payload) (d : Layer) → views.out-Payload p ≡ d → AreTexts (layer_symbols d) → AreTexts (layer_symbols (views.out-Payload p))

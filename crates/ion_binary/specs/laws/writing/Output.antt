@@ -2,14 +2,9 @@
 use Rattle.std.proofs.Common.{◌≡◌, ℕ, List, [], ◌∷◌, ◌++◌, map, refl, ap, ◌∙◌}
 use Rattle.std.specs.List.{flat_map}
 use Rattle.std.proofs.lemmas.List.Folds.{flat_map-map}
-use Rattle.ion_model.specs.declared.value.Value.{Value}
-use Rattle.ion_model.specs.declared.value.Field.{Field}
-use Rattle.ion_model.specs.declared.value.Payload.{Payload}
+use Rattle.ion_binary.specs.Names.{Field, Layer, Names, Payload, Payload-F, Value, field_octets, field_symbols, fold-Field, fold-Payload, fold_out-Field, fold_out-Payload, fold_out-Value, framed, layer_octets, layer_symbols, map-Payload, named_octets, octets_step, symbols_of, symbols_step, value_octets}
 use Rattle.ion_model.specs.declared.value.Payload.TheViews as views
-use Rattle.ion_model.specs.declared.value.Payload.TheOpen.{Payload-F}
-use Rattle.ion_model.specs.declared.value.Payload.TheFolds.{fold_out-Payload, fold_out-Value, fold_out-Field, fold-Payload, fold-Field, map-Payload}
-use Rattle.ion_model.specs.Measures.{Layer}
-use Rattle.ion_binary.specs.Output.{Names, symbols_step, symbols_of, field_symbols, layer_symbols, framed, wrapped, named_octets, octets_step, value_octets, field_octets, layer_octets}
+use Rattle.ion_binary.specs.Output.{wrapped}
 
 -- 1. Symbols.
 

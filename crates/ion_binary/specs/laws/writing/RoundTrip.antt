@@ -1,18 +1,10 @@
 -- What is written of a stream of values is a document with these values.
 use Rattle.std.proofs.Common.{◌≡◌, ℕ, suc, ◌≤◌, ◌<◌, true, false, List, [], ◌∷◌, ◌++◌, length, refl, sym, ap, subst, ◌∙◌, arith, append_assoc, append-nil}
-use Rattle.ion_model.specs.declared.value.Value.{Value}
-use Rattle.ion_model.specs.Kinds.{is_table}
-use Rattle.ion_model.specs.Kept.{IsKept, AreKept}
-use Rattle.ion_symtab.specs.declared.limits.Limits.{Limits}
-use Rattle.ion_symtab.specs.declared.catalog.Catalog.{Catalog}
-use Rattle.ion_symtab.specs.Slots.{greatest_id, system_texts}
-use Rattle.ion_symtab.specs.Promises.{NoTables}
-use Rattle.ion_binary.specs.Grammar.{the_marker, Pieces, begins, holds, Document}
-use Rattle.ion_binary.specs.Output.{Names, Progress, system_names, symbols_of, value_octets, table_octets, names_after, bin_from, bin_of, ValueFits, FitBehind, FitsIn}
+use Rattle.ion_binary.specs.Names.{AreAmong, AreKept, AreKnown, Catalog, Document, FitBehind, FitsIn, Grown, IsKept, Limits, Names, NoTables, Pieces, Progress, Value, ValueFits, all_among_more, begins, bin_from, bin_of, greatest_id, grown, holds, is_table, names_after, names_resolve, slots, slots_system, starts_more, symbols_of, system_names, system_texts, table_octets, the_marker, unknown_among, value_octets}
+use Rattle.ion_binary.specs.writer.Names.{Starts}
 use Rattle.ion_binary.specs.laws.writing.KeptTexts.{value_texts}
+use Rattle.ion_binary.specs.laws.writing.TableWritten.{names_turn, table_symbols}
 use Rattle.ion_binary.specs.laws.writing.Written.{value_is}
-use Rattle.ion_binary.specs.writer.Names.{AreAmong, all_among_more, Starts, starts_more, unknown_among, slots, slots_system, names_resolve, AreKnown, Grown, grown}
-use Rattle.ion_binary.specs.laws.writing.TableWritten.{table_symbols, names_turn}
 
 -- behind a marker
 abbrev begun : Names → Progress

@@ -2,21 +2,13 @@
 use Rattle.std.proofs.Common.{◌≡◌, ℕ, pos, negsuc, Bool, true, false, List, [], ◌∷◌, ◌++◌, Some, None, refl, ap, ◌∙◌, map}
 use Rattle.std.specs.Prelude.{codes}
 use Rattle.std.specs.List.{flat_map}
-use Rattle.ion_atoms.specs.declared.timestamp.Precision.TheVariants as precisions
-use Rattle.ion_atoms.specs.Decimals.{DecimalParts}
-use Rattle.ion_atoms.specs.Timestamps.{TimestampParts}
-use Rattle.ion_model.specs.declared.value.Value.{Value}
-use Rattle.ion_model.specs.declared.value.Field.{Field}
-use Rattle.ion_model.specs.declared.value.Payload.{Payload}
+use Rattle.ion_binary.specs.Names.{DecimalParts, Field, Layer, Names, Payload, TimestampParts, Value, annotated, bare, bin_from, bin_of, field_of, framed, id_of, layer_octets, layer_symbols, name_text, named_octets, opening, string_value, symbols_of, system_names, system_texts, table_octets, table_value, timestamp_octets, uint_octets, value_octets, with_names}
+use Rattle.ion_atoms.specs.declared.timestamp.Precision.{Precision}
 use Rattle.ion_model.specs.declared.value.Payload.TheVariants as payloads
 use Rattle.ion_model.specs.declared.value.Payload.TheViews as views
-use Rattle.ion_model.specs.Measures.{Layer, bare, annotated, field_of}
 use Rattle.ion_scalar.specs.binary.Shifted.{moved}
-use Rattle.ion_scalar.specs.binary.Spellings.{uint_octets}
-use Rattle.ion_scalar.specs.binary.TimestampSpellings.{timestamp_octets}
-use Rattle.ion_symtab.specs.Slots.{system_texts}
-use Rattle.ion_binary.specs.Output.{Names, system_names, id_of, with_names, symbols_of, value_octets, framed, wrapped, named_octets, name_text, string_value, table_value, table_octets, opening, bin_from, bin_of, layer_symbols, layer_octets}
-use Rattle.ion_binary.specs.laws.writing.Output.{symbols-out, octets-out}
+use Rattle.ion_binary.specs.Output.{wrapped}
+use Rattle.ion_binary.specs.laws.writing.Output.{octets-out, symbols-out}
 
 -- 1. The values.
 
@@ -39,7 +31,7 @@ worked_list = bare (payloads.List worked_items)
 abbrev in_2007 : TimestampParts
 in_2007 = record {
   local = record { year = 2007; month = 1; day = 1; hour = 0; minute = 0; second = 0; fraction = 0 };
-  precision = precisions.Year;
+  precision = Precision.Year;
   offset = None;
 }
 

@@ -5,26 +5,15 @@ use Rattle.std.specs.List.{flat_map}
 use Rattle.std.specs.Str.{IsUtf8}
 use Rattle.std.proofs.Math.Seq.{drop-append_seam}
 use Rattle.std.proofs.lemmas.List.{length-map}
-use Rattle.ion_atoms.specs.declared.refusal.Reason.{Reason}
-use Rattle.ion_model.specs.declared.value.Value.{Value}
-use Rattle.ion_model.specs.declared.value.Field.{Field}
+use Rattle.ion_binary.specs.Names.{AreAmong, AreKnown, Catalog, Field, IsKept, KeptItems, Layer, Limits, Names, Payload-F, Pieces, Reason, Resolves, Slot, Value, a_field, an_item, and_then, appends_in, bare, depth, field_of, greatest, greatest_id, imported, is_table, is_table_of, joined, kept, kept_fields, kept_list, kept_string, kept_symbol, layer_depth, layer_kind, layer_symbols, local_slot, local_slots, name_text, names_resolve_still, next, next_layer, no_items, slots, slots_more, string_value, symbols_of, system_slots, table_octets, table_value, turns, value_octets}
+use Rattle.ion_model.specs.Kept.{no_fields}
 use Rattle.ion_model.specs.declared.value.Payload.TheVariants as payloads
 use Rattle.ion_model.specs.declared.value.Payload.TheViews as views
-use Rattle.ion_model.specs.declared.value.Payload.TheOpen.{Payload-F}
-use Rattle.ion_model.specs.Kinds.{is_table, is_table_of, layer_kind}
-use Rattle.ion_model.specs.Measures.{Layer, depth, greatest, bare, field_of}
-use Rattle.ion_model.specs.laws.Measures.{depth-out, layer_depth, depth-at-Fields, depth-List}
-use Rattle.ion_model.specs.Kept.{IsKept, kept, kept_symbol, kept_string, kept_list, kept_fields, KeptItems, no_items, an_item, no_fields, a_field}
-use Rattle.ion_symtab.specs.declared.limits.Limits.{Limits}
-use Rattle.ion_symtab.specs.declared.catalog.Catalog.{Catalog}
-use Rattle.ion_symtab.specs.Slots.{Slot, system_slots, greatest_id}
-use Rattle.ion_symtab.specs.Fields.{symbol_of, layer_symbol, elements_in}
-use Rattle.ion_symtab.specs.Next.{and_then, joined, appends_in, imported, local_slot, local_slots, next_layer, next}
-use Rattle.ion_binary.specs.Grammar.{Pieces, turns}
-use Rattle.ion_binary.specs.Output.{Names, symbols_of, value_octets, name_text, string_value, table_value, table_octets, layer_symbols}
+use Rattle.ion_model.specs.laws.Measures.{depth-List, depth-at-Fields, depth-out}
+use Rattle.ion_symtab.specs.Fields.{elements_in, layer_symbol, symbol_of}
+use Rattle.ion_binary.specs.writer.Names.{Starts}
 use Rattle.ion_binary.specs.laws.writing.Output.{symbols-out}
 use Rattle.ion_binary.specs.laws.writing.Written.{value_is}
-use Rattle.ion_binary.specs.writer.Names.{Resolves, AreAmong, Starts, slots, AreKnown, names_resolve_still, slots_more}
 
 -- the texts of its symbols
 abbrev pub table_word : Option (List ℕ)

@@ -2,61 +2,38 @@
 use Rattle.std.proofs.Common.{◌≡◌, ◌≢◌, ℕ, ℤ, suc, pos, negsuc, neg_ℤ, ◌^◌, ◌<◌, ◌≤◌, Bool, true, false, List, [], ◌∷◌, ◌++◌, length, Option, Ok, refl, sym, ap, subst, ◌∙◌, arith, length-append, append_assoc, append-nil, le-ltb}
 use Rattle.std.specs.Prelude.{nat_lt}
 use Rattle.std.specs.List.{flat_map}
-use Rattle.ion_atoms.specs.declared.kind.Kind.{Kind}
-use Rattle.ion_atoms.specs.declared.kind.Kind.TheVariants as kinds
-use Rattle.ion_model.specs.declared.value.Value.{Value}
-use Rattle.ion_model.specs.declared.value.Field.{Field}
-use Rattle.ion_model.specs.declared.value.Payload.{Payload}
+use Rattle.ion_binary.specs.Names.{Binary, DecimalParts, Field, Fields, Form, Ids, IsBodyLength, IsDecimal, IsKept, IsScalar, IsTimestamp, IsTimestampBody, IsWhole, KeptFields, KeptItems, KeptPayload, Kind, Layer, Listing, Names, Payload, Plain, Resolves, Scalar, Sequence, Slot, TimestampParts, Value, VarInt, a_field, an_item, annotated, decimal_octets, field_octets, field_of, field_symbols, framed, header, id_of, ids_octets, is_blob, is_clob, is_decimal, is_int, is_listing, is_negative, is_null, is_scalar, is_string, is_struct, is_symbol, is_timestamp, is_truth, kept, kept_blob, kept_clob, kept_decimal, kept_fields, kept_int, kept_list, kept_null, kept_sexp, kept_string, kept_symbol, kept_timestamp, kept_truth, layer_octets, layer_symbols, listed, no_ids, no_items, nothing, null_octet, one_field, one_id, one_more, opening_of, padded_field, positional, resolve, symbols_of, timestamp_octets, truth_octet, type_code, uint_octets, unannotated, value_octets, var_uint_octets, whole_octets, with_count, wrapped}
+use Rattle.ion_model.specs.Kept as keeping
 use Rattle.ion_model.specs.declared.value.Payload.TheVariants as payloads
 use Rattle.ion_model.specs.declared.value.Payload.TheViews as views
-use Rattle.ion_model.specs.Measures.{Layer, annotated, field_of}
-use Rattle.ion_atoms.specs.Decimals.{DecimalParts, IsDecimal}
-use Rattle.ion_atoms.specs.Timestamps.{TimestampParts, IsTimestamp}
-use Rattle.ion_atoms.specs.Ranges.{IsWhole}
-use Rattle.ion_model.specs.Kept.{IsKept, kept, KeptPayload, kept_null, kept_truth, kept_int, kept_decimal, kept_timestamp, kept_symbol, kept_string, kept_clob, kept_blob, kept_list, kept_sexp, kept_fields, KeptItems, no_items, an_item, KeptFields, a_field}
-use Rattle.ion_model.specs.Kept as keeping
-use Rattle.ion_scalar.specs.binary.Fields.{positional, VarInt, short, long}
-use Rattle.ion_scalar.specs.binary.Spellings.{var_uint_octets, uint_octets, decimal_octets}
-use Rattle.ion_scalar.specs.binary.laws.Spellings.{positional_digits_of, var_uint_spelled}
+use Rattle.ion_scalar.specs.binary.Fields.{long, short}
 use Rattle.ion_scalar.specs.binary.laws.Decimal.{decimal_spelled}
-use Rattle.ion_scalar.specs.binary.Timestamp.{IsTimestampBody}
-use Rattle.ion_scalar.specs.binary.TimestampSpellings.{timestamp_octets}
-use Rattle.ion_scalar.specs.binary.laws.TimestampSpellings.{timestamp_again}
 use Rattle.ion_scalar.specs.binary.laws.Shown.{timestamp_told}
-use Rattle.ion_symtab.specs.Slots.{Slot, resolve}
-use Rattle.ion_binary.specs.declared.form.Scalar.{Scalar}
-use Rattle.ion_binary.specs.declared.form.Scalar.TheVariants as scalars
-use Rattle.ion_binary.specs.declared.form.Listing.{Listing}
-use Rattle.ion_binary.specs.declared.form.Listing.TheVariants as listings
-use Rattle.ion_binary.specs.declared.form.Form.TheVariants as forms
-use Rattle.ion_binary.specs.Opening.{opening_of}
-use Rattle.ion_binary.specs.Grammar.{IsScalar, is_int, is_negative, is_decimal, is_timestamp, is_symbol, is_string, is_clob, is_blob, Ids, no_ids, one_id, listed, Plain, is_null, is_truth, is_scalar, is_listing, is_struct, Binary, unannotated, wrapped, Sequence, nothing, one_more, Fields, one_field, padded_field}
-use Rattle.ion_binary.specs.laws.reading.Complete.{length_VarUInt, binary_some, plain_some, pad_some}
-use Rattle.ion_binary.specs.Output.{Names, id_of, symbols_of, framed, with_count, null_octet, truth_octet, whole_octets, ids_octets, value_octets, header, layer_symbols, layer_octets, field_symbols, field_octets}
-use Rattle.ion_binary.specs.Output as output
-use Rattle.ion_binary.specs.laws.writing.Output.{symbols-out, octets-out}
-use Rattle.ion_binary.specs.writer.Names.{Resolves}
-use Rattle.ion_binary.specs.HeaderRows.{type_code, IsBodyLength}
-use Rattle.ion_binary.specs.laws.writing.Headers.{header_is, framed_long}
+use Rattle.ion_scalar.specs.binary.laws.Spellings.{positional_digits_of, var_uint_spelled}
+use Rattle.ion_scalar.specs.binary.laws.TimestampSpellings.{timestamp_again}
 use Rattle.ion_binary.specs.Grammar as grammar
+use Rattle.ion_binary.specs.Output as output
+use Rattle.ion_binary.specs.laws.reading.Complete.{binary_some, length_VarUInt, pad_some, plain_some}
+use Rattle.ion_binary.specs.laws.writing.Headers.{framed_long, header_is}
+use Rattle.ion_binary.specs.laws.writing.Output.{octets-out, symbols-out}
 
 -- 1. Nulls and truths.
 
 null_is : (c : List Slot) (k : Kind) → Plain c (null_octet k ∷ []) (payloads.Null k)
 unfolding opening_of Rattle.ion_scalar.specs.binary.Descriptor.descriptor_of
-null_is c kinds.Null = is_null 0x0F kinds.Null refl
-null_is c kinds.Bool = is_null 0x1F kinds.Bool refl
-null_is c kinds.Int = is_null 0x2F kinds.Int refl
-null_is c kinds.Float = is_null 0x4F kinds.Float refl
-null_is c kinds.Decimal = is_null 0x5F kinds.Decimal refl
-null_is c kinds.Timestamp = is_null 0x6F kinds.Timestamp refl
-null_is c kinds.Symbol = is_null 0x7F kinds.Symbol refl
-null_is c kinds.Str = is_null 0x8F kinds.Str refl
-null_is c kinds.Clob = is_null 0x9F kinds.Clob refl
-null_is c kinds.Blob = is_null 0xAF kinds.Blob refl
-null_is c kinds.List = is_null 0xBF kinds.List refl
-null_is c kinds.Sexp = is_null 0xCF kinds.Sexp refl
-null_is c kinds.Fields = is_null 0xDF kinds.Fields refl
+null_is c Kind.Null = is_null 0x0F Kind.Null refl
+null_is c Kind.Bool = is_null 0x1F Kind.Bool refl
+null_is c Kind.Int = is_null 0x2F Kind.Int refl
+null_is c Kind.Float = is_null 0x4F Kind.Float refl
+null_is c Kind.Decimal = is_null 0x5F Kind.Decimal refl
+null_is c Kind.Timestamp = is_null 0x6F Kind.Timestamp refl
+null_is c Kind.Symbol = is_null 0x7F Kind.Symbol refl
+null_is c Kind.Str = is_null 0x8F Kind.Str refl
+null_is c Kind.Clob = is_null 0x9F Kind.Clob refl
+null_is c Kind.Blob = is_null 0xAF Kind.Blob refl
+null_is c Kind.List = is_null 0xBF Kind.List refl
+null_is c Kind.Sexp = is_null 0xCF Kind.Sexp refl
+null_is c Kind.Fields = is_null 0xDF Kind.Fields refl
 
 truth_is : (c : List Slot) (b : Bool) → Plain c (truth_octet b ∷ []) (payloads.Truth b)
 unfolding opening_of Rattle.ion_scalar.specs.binary.Descriptor.descriptor_of
@@ -65,11 +42,11 @@ truth_is c true = is_truth 0x11 true refl
 
 -- 2. Scalars.
 
-framed_scalar : (c : List Slot) (t : Scalar) (body : List ℕ) (p : Payload) → IsBodyLength (forms.Scalar t) (length body) → IsScalar c body t p
-    → length (framed (type_code (forms.Scalar t)) body) < 2 ^ 63 → Plain c (framed (type_code (forms.Scalar t)) body) p
+framed_scalar : (c : List Slot) (t : Scalar) (body : List ℕ) (p : Payload) → IsBodyLength (Form.Scalar t) (length body) → IsScalar c body t p
+    → length (framed (type_code (Form.Scalar t)) body) < 2 ^ 63 → Plain c (framed (type_code (Form.Scalar t)) body) p
 framed_scalar c t body p fits is small =
-    is_scalar (header (type_code (forms.Scalar t)) (length body)) body t p
-    (header_is (forms.Scalar t) (length body) fits (omega (arith, framed_long (type_code (forms.Scalar t)) body))) is
+    is_scalar (header (type_code (Form.Scalar t)) (length body)) body t p
+    (header_is (Form.Scalar t) (length body) fits (omega (arith, framed_long (type_code (Form.Scalar t)) body))) is
 
 -- octets of a number that is not 0
 some_octets : (w : List ℕ) (n : ℕ) → positional 256 w ≡ n → 0 < n → 0 < length w
@@ -79,20 +56,20 @@ some_octets (b ∷ w) n e h = omega arith
 int_is : (c : List Slot) (z : ℤ) → IsWhole z → length (whole_octets z) < 2 ^ 63 → Plain c (whole_octets z) (payloads.Int z)
 int_is c (pos n) h small =
     let e = positional_digits_of 256 n (omega arith) in
-    let is : IsScalar c (uint_octets n) scalars.Int (payloads.Int (pos n)) =
-    subst (λ (k : ℕ). IsScalar c (uint_octets n) scalars.Int (payloads.Int (pos k))) e (is_int (omega (arith, e, h))) in
+    let is : IsScalar c (uint_octets n) Scalar.Int (payloads.Int (pos n)) =
+    subst (λ (k : ℕ). IsScalar c (uint_octets n) Scalar.Int (payloads.Int (pos k))) e (is_int (omega (arith, e, h))) in
     let none : nat_lt n 0 ≡ false = le-ltb n 0 (omega arith) in
-    rw none (framed_scalar c scalars.Int (uint_octets n) (payloads.Int (pos n)) tt is (rw none at small))
+    rw none (framed_scalar c Scalar.Int (uint_octets n) (payloads.Int (pos n)) tt is (rw none at small))
 int_is c (negsuc n) h small =
     let e = positional_digits_of 256 (suc n) (omega arith) in
-    let is : IsScalar c (uint_octets (suc n)) scalars.NegativeInt (payloads.Int (neg_ℤ (pos (suc n)))) =
-    subst (λ (k : ℕ). IsScalar c (uint_octets (suc n)) scalars.NegativeInt (payloads.Int (neg_ℤ (pos k)))) e
+    let is : IsScalar c (uint_octets (suc n)) Scalar.NegativeInt (payloads.Int (neg_ℤ (pos (suc n)))) =
+    subst (λ (k : ℕ). IsScalar c (uint_octets (suc n)) Scalar.NegativeInt (payloads.Int (neg_ℤ (pos k)))) e
     (is_negative (omega (arith, e, h)) (omega (arith, e))) in
-    framed_scalar c scalars.NegativeInt (uint_octets (suc n)) (payloads.Int (negsuc n)) (some_octets (uint_octets (suc n)) (suc n) e (omega arith)) is small
+    framed_scalar c Scalar.NegativeInt (uint_octets (suc n)) (payloads.Int (negsuc n)) (some_octets (uint_octets (suc n)) (suc n) e (omega arith)) is small
 
 decimal_is : (c : List Slot) (d : DecimalParts) → IsDecimal d → length (framed 5 (decimal_octets d)) < 2 ^ 63
     → Plain c (framed 5 (decimal_octets d)) (payloads.Decimal d)
-decimal_is c d h small = framed_scalar c scalars.Decimal (decimal_octets d) (payloads.Decimal d) tt (is_decimal d (decimal_spelled d (h.1, h.2)) h) small
+decimal_is c d h small = framed_scalar c Scalar.Decimal (decimal_octets d) (payloads.Decimal d) tt (is_decimal d (decimal_spelled d (h.1, h.2)) h) small
 
 var_int_some : (w : List ℕ) (negative : Bool) (n : ℕ) → VarInt w negative n → 0 < length w
 var_int_some _ _ _ (short octet h) = omega arith
@@ -106,13 +83,13 @@ timestamp_is : (c : List Slot) (t : TimestampParts) → IsTimestamp t → length
     → Plain c (framed 6 (timestamp_octets t)) (payloads.Timestamp t)
 timestamp_is c t h small =
     let body = timestamp_told (timestamp_octets t) t (timestamp_again t h) in
-    framed_scalar c scalars.Timestamp (timestamp_octets t) (payloads.Timestamp t) (body_some (timestamp_octets t) t body) (is_timestamp t body) small
+    framed_scalar c Scalar.Timestamp (timestamp_octets t) (payloads.Timestamp t) (body_some (timestamp_octets t) t body) (is_timestamp t body) small
 
 symbol_is : (c : List Slot) (n : ℕ) (s : Option (List ℕ)) → resolve c n ≡ Ok s → n < 2 ^ 63 → length (framed 7 (uint_octets n)) < 2 ^ 63
     → Plain c (framed 7 (uint_octets n)) (payloads.Symbol s)
 symbol_is c n s r few small =
     let e = positional_digits_of 256 n (omega arith) in
-    framed_scalar c scalars.Symbol (uint_octets n) (payloads.Symbol s) tt (is_symbol s (omega (arith, e)) (ap (resolve c) e ∙ r)) small
+    framed_scalar c Scalar.Symbol (uint_octets n) (payloads.Symbol s) tt (is_symbol s (omega (arith, e)) (ap (resolve c) e ∙ r)) small
 
 -- 3. Values.
 
@@ -173,7 +150,7 @@ module _ (c : List Slot) (names : Names) where
       let k = length_VarUInt count (length ids) number in
       let j = plain_some c w p b in
       let body = count ++ (ids ++ w) in
-      let head = header_is forms.Wrapper (length body) (omega arith) (omega arith) in
+      let head = header_is Form.Wrapper (length body) (omega arith) (omega arith) in
       subst (λ (x : List ℕ). Binary c (framed 14 x) (annotated (s ∷ ss) p)) (sym e)
       (grammar.wrapped (header 14 (length body)) count ids w (s ∷ ss) p head number some (ids_from [] [] (s ∷ ss) no_ids r) b)
 
@@ -191,14 +168,14 @@ module _ (c : List Slot) (names : Names) where
   by_layer : (p : Payload) (d : Layer) → views.out-Payload p ≡ d → PlainFor p d → PlainFor p (views.out-Payload p)
   by_layer p d e f = subst (PlainFor p) (sym e) f
 
-  listing_is : (x : Listing) (body : List ℕ) (vs : List Value) → Sequence c body vs → length (framed (type_code (forms.Listing x)) body) < 2 ^ 63
-      → Plain c (framed (type_code (forms.Listing x)) body) (listed x vs)
-  listing_is x body vs q small = is_listing (header (type_code (forms.Listing x)) (length body)) body x vs
-      (header_is (forms.Listing x) (length body) tt (omega (arith, framed_long (type_code (forms.Listing x)) body))) q
+  listing_is : (x : Listing) (body : List ℕ) (vs : List Value) → Sequence c body vs → length (framed (type_code (Form.Listing x)) body) < 2 ^ 63
+      → Plain c (framed (type_code (Form.Listing x)) body) (listed x vs)
+  listing_is x body vs q small = is_listing (header (type_code (Form.Listing x)) (length body)) body x vs
+      (header_is (Form.Listing x) (length body) tt (omega (arith, framed_long (type_code (Form.Listing x)) body))) q
 
   struct_is : (body : List ℕ) (ms : List Field) → Fields c body ms → length (framed 13 body) < 2 ^ 63 → Plain c (framed 13 body) (payloads.Fields ms)
   struct_is body ms q small = is_struct (header 13 (length body)) body ms
-      (header_is forms.Struct (length body) (never_one c body ms q) (omega (arith, framed_long 13 body))) q
+      (header_is Form.Struct (length body) (never_one c body ms q) (omega (arith, framed_long 13 body))) q
 
   mutual
     -- the octets that are written of a kept value are that value, where its symbols have these ids
@@ -220,17 +197,17 @@ module _ (c : List Slot) (names : Names) where
     payload_is _ (kept_timestamp t h) = by_layer (payloads.Timestamp t) _ (views.outs-Timestamp t) (λ r small. timestamp_is c t h small)
     payload_is _ (kept_symbol s h) = by_layer (payloads.Symbol s) _ (views.outs-Symbol s) (λ r small. symbol_is c (id_of names s) s r.0.0 r.0.1 small)
     payload_is _ (kept_string text h) = by_layer (payloads.Str text) _ (views.outs-Str text)
-        (λ r small. framed_scalar c scalars.Str text (payloads.Str text) tt (is_string h) small)
+        (λ r small. framed_scalar c Scalar.Str text (payloads.Str text) tt (is_string h) small)
     payload_is _ (kept_clob body h) = by_layer (payloads.Clob body) _ (views.outs-Clob body)
-        (λ r small. framed_scalar c scalars.Clob body (payloads.Clob body) tt is_clob small)
+        (λ r small. framed_scalar c Scalar.Clob body (payloads.Clob body) tt is_clob small)
     payload_is _ (kept_blob body h) = by_layer (payloads.Blob body) _ (views.outs-Blob body)
-        (λ r small. framed_scalar c scalars.Blob body (payloads.Blob body) tt is_blob small)
+        (λ r small. framed_scalar c Scalar.Blob body (payloads.Blob body) tt is_blob small)
     payload_is _ (kept_list vs k) =
         by_layer (payloads.List vs) _ (views.outs-List vs) (λ r small.
-        listing_is listings.List _ vs (items_are [] [] vs nothing k r (omega (arith, framed_long 11 (flat_map (value_octets names) vs)))) small)
+        listing_is Listing.List _ vs (items_are [] [] vs nothing k r (omega (arith, framed_long 11 (flat_map (value_octets names) vs)))) small)
     payload_is _ (kept_sexp vs k) =
         by_layer (payloads.Sexp vs) _ (views.outs-Sexp vs) (λ r small.
-        listing_is listings.Sexp _ vs (items_are [] [] vs nothing k r (omega (arith, framed_long 12 (flat_map (value_octets names) vs)))) small)
+        listing_is Listing.Sexp _ vs (items_are [] [] vs nothing k r (omega (arith, framed_long 12 (flat_map (value_octets names) vs)))) small)
     payload_is _ (kept_fields ms k) =
         by_layer (payloads.Fields ms) _ (views.outs-Fields ms)
         (λ r small. struct_is _ ms (fields_are [] [] ms grammar.no_fields k r (omega (arith, framed_long 13 (flat_map (field_octets names) ms)))) small)

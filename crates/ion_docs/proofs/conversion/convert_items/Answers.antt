@@ -1,16 +1,13 @@
 use Rattle.std.proofs.Common.{◌≡◌, ◌++◌, ◌∷◌, [], inr, arith, rules, refl, ◌∙◌}
 use Rattle.std.proofs.lemmas.List.{length-map}
 use Rattle.std.proofs.lemmas.Result.{err_from_is_err_and}
-use Rattle.ion_symtab.specs.Trace.{plain}
-use Rattle.ion_streams.specs.reading.Telling.{telling}
+use Rattle.ion_docs.specs.Names.{ReadSoFar, WasTold, in_reading, plain, so_far, telling}
 use Rattle.ion_streams.proofs.Driven.{driven_on}
 use Rattle.ion_streams.proofs.Fronts.{gave_told}
 use Rattle.ion_streams.proofs.Steps.{on_err, stood_plain, within_begun}
 use Rattle.ion_streams.proofs.Telling.{told_none, told_some}
 use Rattle.ion_streams.proofs.Turns.{each_end, so_far_end}
-use Rattle.ion_docs.specs.Converted.{ReadSoFar, in_reading, so_far}
-use Rattle.ion_docs.specs.Encodings.{WasTold}
-use Rattle.ion_docs.proofs.Conversions.{took_whole, took_some, front_of_front, took_front, put_cause, stood_more, was_read, done_next, converted_at, kept_at}
+use Rattle.ion_docs.proofs.Conversions.{converted_at, done_next, front_of_front, kept_at, put_cause, stood_more, took_front, took_some, took_whole, was_read}
 use Rattle.ion_docs.proofs.conversion.convert_items.Goals as goal
 
 pub loop-encoder-init : goal.loop-encoder-init

@@ -1,5 +1,5 @@
 use Rattle.std.proofs.Common.{◌+◌, ◌*◌, ◌≤◌, ◌^◌, length}
-use Rattle.ion_streams.specs.reading.Standing.{work_of, reads_of}
+use Rattle.ion_docs.specs.Names.{reads_of, work_of}
 use Rattle.ion_streams.proofs.Driven.{Driven}
 use Rattle.ion_docs.proofs.Conversions.{Done}
 use Rattle.ion_docs.proofs.conversion.convert_items.Given as goal

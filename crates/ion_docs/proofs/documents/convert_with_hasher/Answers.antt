@@ -1,7 +1,5 @@
 use Rattle.std.proofs.Common.{rules, ◌≡◌, IfOk}
-use Rattle.ion_docs.specs.Encodings.{encoding_of}
-use Rattle.ion_docs.specs.Formats.{documents}
-use Rattle.ion_docs.specs.Conversion.{WritesKept}
+use Rattle.ion_docs.specs.Names.{WritesKept, documents, encoding_of}
 use Rattle.ion_docs.specs.laws.Conversion.{keeps_if}
 use Rattle.ion_docs.proofs.documents.convert_with_hasher.Goals as goal
 

@@ -1,7 +1,7 @@
 use Rattle.std.proofs.Common.{[]}
+use Rattle.ion_docs.specs.Names.{documents}
 use Rattle.ion_docs.specs.laws.Documents.{promised}
-use Rattle.ion_docs.specs.Formats.{documents}
-use Rattle.ion_docs.proofs.Tables.{loaded_document, document_of_tables}
+use Rattle.ion_docs.proofs.Tables.{document_of_tables, loaded_document}
 use Rattle.ion_docs.proofs.laws.catalog_documents.Goals as goal
 
 pub returns : goal.returns

@@ -1,13 +1,7 @@
 use Rattle.std.proofs.Common.{◌≡◌, ℕ, List, [], map, Ok, subst}
-use Rattle.ion_model.specs.declared.value.Value.{Value}
-use Rattle.ion_symtab.specs.Shared.{shared_table}
-use Rattle.ion_symtab.specs.Tables.{Table}
-use Rattle.ion_symtab.specs.declared.limits.Limits.{Limits}
+use Rattle.ion_docs.specs.Names.{AreApart, Denotes, IsCatalog, Limits, Table, Value, documents, shared_table}
 use Rattle.ion_docs.specs.laws.Documents.{one_document}
-use Rattle.ion_docs.specs.Documents.{Denotes}
-use Rattle.ion_docs.specs.Formats.{documents}
-use Rattle.ion_streams.specs.Loaded.{AreApart, IsCatalog}
-use Rattle.ion_docs.proofs.Tables.{loaded_document, finds, finds_none}
+use Rattle.ion_docs.proofs.Tables.{finds, finds_none, loaded_document}
 use Rattle.ion_docs.proofs.laws.catalogs_find.Goals as goal
 
 -- the values of the document describe the tables

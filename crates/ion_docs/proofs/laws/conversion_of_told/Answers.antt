@@ -1,4 +1,4 @@
-use Rattle.ion_docs.specs.Encodings.{encoding_of}
+use Rattle.ion_docs.specs.Names.{encoding_of}
 use Rattle.ion_docs.proofs.Told.{conversion_told}
 use Rattle.ion_docs.proofs.laws.conversion_of_told.Goals as goal
 

@@ -1,6 +1,6 @@
-use Rattle.ion_docs.specs.Encodings.{encoding_of}
+use Rattle.ion_docs.specs.Names.{encoding_of}
 use Rattle.ion_docs.specs.laws.Conversion.{again_denotes}
-use Rattle.ion_docs.proofs.Converses.{one_conversion, conversion_denotes, conversion_equivalent, conversion_is}
+use Rattle.ion_docs.proofs.Converses.{conversion_denotes, conversion_equivalent, conversion_is, one_conversion}
 use Rattle.ion_docs.proofs.laws.conversions.Goals as goal
 
 pub returns : goal.returns

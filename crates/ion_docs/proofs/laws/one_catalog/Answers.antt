@@ -1,5 +1,5 @@
 use Rattle.std.proofs.Common.{[]}
-use Rattle.ion_docs.specs.Formats.{documents}
+use Rattle.ion_docs.specs.Names.{documents}
 use Rattle.ion_docs.proofs.Tables.{one_answer, some_answer}
 use Rattle.ion_docs.proofs.laws.one_catalog.Goals as goal
 

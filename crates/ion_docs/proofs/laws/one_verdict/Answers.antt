@@ -1,4 +1,4 @@
-use Rattle.ion_docs.specs.Formats.{documents}
+use Rattle.ion_docs.specs.Names.{documents}
 use Rattle.ion_docs.specs.laws.Documents.{one_document}
 use Rattle.ion_docs.proofs.Verdicts.{verdicts_agree}
 use Rattle.ion_docs.proofs.laws.one_verdict.Goals as goal

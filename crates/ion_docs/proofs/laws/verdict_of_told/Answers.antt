@@ -1,4 +1,4 @@
-use Rattle.ion_docs.specs.Formats.{documents}
+use Rattle.ion_docs.specs.Names.{documents}
 use Rattle.ion_docs.proofs.Told.{verdict_told}
 use Rattle.ion_docs.proofs.laws.verdict_of_told.Goals as goal
 

@@ -1,6 +1,6 @@
 use Rattle.std.proofs.Common.{inl, inr, refl}
 use Rattle.std.proofs.lemmas.Result.{IfOk-weaker, IfErr-weaker}
-use Rattle.ion_docs.specs.Formats.{documents}
+use Rattle.ion_memory.specs.Names.{documents}
 use Rattle.ion_docs.proofs.Told.{verdict_told}
 use Rattle.ion_memory.proofs.Faults.{read_fault}
 use Rattle.ion_memory.proofs.documents.compare.Goals as goal

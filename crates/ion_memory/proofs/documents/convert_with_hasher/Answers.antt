@@ -1,9 +1,8 @@
 use Rattle.std.proofs.Common.{Some, ap, sym, refl, ◌∙◌}
-use Rattle.ion_symtab.specs.kept.ToWrite.{failed_of, written_of, passed_of}
-use Rattle.ion_docs.specs.Encodings.{encoding_of}
+use Rattle.ion_memory.specs.Names.{encoding_of, failed_of, passed_of, written_of}
 use Rattle.ion_docs.specs.laws.Readers.{doc_given, doc_given_next}
-use Rattle.ion_memory.proofs.Memory.{converted_all}
 use Rattle.ion_memory.proofs.Faults.{converted_fault}
+use Rattle.ion_memory.proofs.Memory.{converted_all}
 use Rattle.ion_memory.proofs.documents.convert_with_hasher.Goals as goal
 
 pub returns-in-Ok-clause-document : goal.returns-in-Ok-clause-document

@@ -1,8 +1,8 @@
 use Rattle.std.proofs.Common.{[], refl}
 use Rattle.std.proofs.lemmas.Result.{IfOk-weaker, IfErr-weaker}
-use Rattle.ion_docs.specs.Formats.{documents}
-use Rattle.ion_memory.proofs.Memory.{loaded_all}
+use Rattle.ion_memory.specs.Names.{documents}
 use Rattle.ion_memory.proofs.Faults.{read_fault}
+use Rattle.ion_memory.proofs.Memory.{loaded_all}
 use Rattle.ion_memory.proofs.documents.load_catalog.Goals as goal
 
 pub returns-clause-loaded : goal.returns-clause-loaded

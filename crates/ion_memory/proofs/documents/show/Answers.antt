@@ -1,7 +1,7 @@
 use Rattle.std.proofs.Common.{None, Some, ap, sym, refl, ◌∙◌}
-use Rattle.ion_symtab.specs.kept.ToWrite.{failed_of, written_of, passed_of}
-use Rattle.ion_memory.proofs.Memory.{shown_all}
+use Rattle.ion_memory.specs.Names.{failed_of, passed_of, written_of}
 use Rattle.ion_memory.proofs.Faults.{shown_fault}
+use Rattle.ion_memory.proofs.Memory.{shown_all}
 use Rattle.ion_memory.proofs.documents.show.Goals as goal
 
 pub returns-in-Ok-clause-lines : goal.returns-in-Ok-clause-lines

@@ -1,15 +1,7 @@
 use Rattle.std.proofs.Common.{◌≡◌, ◌∙◌, Ordering, Less, Equal, Greater, refl, sym, ap, arith, rules}
 use Rattle.std.specs.Cmp.Lexicographic.{slice_cmp}
 use Rattle.std.specs.Ordering.{ordering_then, bool_cmp}
-use Rattle.ion_atoms.specs.Decimals.{decimal_cmp}
-use Rattle.ion_atoms.specs.Timestamps.{timestamp_cmp}
-use Rattle.ion_model.specs.Measures.{Layer}
-use Rattle.ion_model.specs.Symbols.{symbol_cmp, text_cmp}
-use Rattle.ion_model.specs.declared.value.Payload.{Payload}
-use Rattle.ion_model.specs.declared.value.Payload.TheOpen.{Payload-F}
-use Rattle.ion_model.specs.Order.{order, field_cmp, layer_cmp}
-use Rattle.ion_model.specs.declared.value.Payload.TheViews.{out-Payload, outs-Truth, outs-Decimal, outs-Timestamp, outs-Symbol, outs-Str}
-use Rattle.ion_model.specs.declared.value.Payload.TheViews.{outs-Clob, outs-Blob, outs-List, outs-Sexp, outs-Fields}
+use Rattle.ion_model.specs.Names.{Layer, Payload, Payload-F, decimal_cmp, field_cmp, layer_cmp, order, out-Payload, outs-Blob, outs-Clob, outs-Decimal, outs-Fields, outs-List, outs-Sexp, outs-Str, outs-Symbol, outs-Timestamp, outs-Truth, symbol_cmp, text_cmp, timestamp_cmp}
 use Rattle.ion_model.specs.laws.Order.{order-is, prefix_first}
 use Rattle.ion_model.proofs.Heads.{heads_decide}
 use Rattle.ion_model.proofs.compare.+order.Goals as goal

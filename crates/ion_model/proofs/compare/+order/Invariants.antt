@@ -1,6 +1,6 @@
 use Rattle.std.proofs.Common.{◌≡◌, ◌≤◌, length, drop}
 use Rattle.std.specs.Cmp.Lexicographic.{slice_cmp}
-use Rattle.ion_model.specs.Order.{order, field_cmp}
+use Rattle.ion_model.specs.Names.{field_cmp, order}
 use Rattle.ion_model.proofs.compare.+order.Given as goal
 
 abbrev pub invariant-order_items-loop-i : goal.invariant-order_items-loop-i

@@ -1,5 +1,5 @@
 use Rattle.std.proofs.Common.{arith}
-use Rattle.ion_model.specs.declared.value.Payload.TheViews.{out-Payload}
+use Rattle.ion_model.specs.Names.{out-Payload}
 use Rattle.ion_model.specs.laws.Order.{scalar-kind}
 use Rattle.ion_model.proofs.compare.order_heads.Goals as goal
 

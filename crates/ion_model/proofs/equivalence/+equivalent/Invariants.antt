@@ -1,6 +1,6 @@
 use Rattle.std.proofs.Common.{◌≡◌, length, drop}
 use lib.Pointwise.{pointwise}
-use Rattle.ion_model.specs.Same.{same}
+use Rattle.ion_model.specs.Names.{same}
 use Rattle.ion_model.proofs.equivalence.+equivalent.Given as goal
 
 abbrev pub invariant-equivalent_items-loop-i : goal.invariant-equivalent_items-loop-i

@@ -1,10 +1,9 @@
 use Rattle.std.proofs.Common.{◌≡◌, ◌∙◌, true, refl, ap, sym, subst}
 use Rattle.std.specs.Ordering.{is_eq}
-use Rattle.ion_model.specs.Order.{order}
-use Rattle.ion_model.specs.Same.{same}
+use Rattle.ion_model.specs.Names.{order, same}
+use Rattle.ion_atoms.specs.laws.Ties.{tie_from_is_eq}
 use Rattle.ion_model.specs.laws.Equivalence.{same-equiv}
 use Rattle.ion_model.specs.laws.OrderEqual.{equal_from_order}
-use Rattle.ion_atoms.specs.laws.Ties.{tie_from_is_eq}
 use Rattle.ion_model.proofs.equivalence.equivalent.Goals as goal
 
 pub returns-then-is_eq : goal.returns-then-is_eq

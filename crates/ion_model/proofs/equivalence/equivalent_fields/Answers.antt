@@ -1,7 +1,7 @@
 use Rattle.std.proofs.Common.{◌∙◌, ap, sym}
 use Rattle.std.specs.Ordering.{is_eq}
 use Rattle.std.specs.Cmp.Lexicographic.{slice_cmp}
-use Rattle.ion_model.specs.Order.{order, field_cmp}
+use Rattle.ion_model.specs.Names.{field_cmp, order}
 use Rattle.ion_model.proofs.CountLengths.{fields_same-lengths}
 use Rattle.ion_model.proofs.NormalTies.{tied-fields}
 use Rattle.ion_model.proofs.equivalence.equivalent_fields.Goals as goal

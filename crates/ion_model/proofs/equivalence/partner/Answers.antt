@@ -1,8 +1,7 @@
 use Rattle.std.proofs.Common.{◌≡◌, ◌∙◌, ◌<◌, length, Some, true, refl, arith, ap, sym}
 use Rattle.std.proofs.lemmas.Option.{slice_get_read, slice_get-get_or}
 use Rattle.std.specs.Ordering.{is_eq}
-use Rattle.ion_model.specs.Order.{order}
-use Rattle.ion_model.specs.Symbols.{symbol_same}
+use Rattle.ion_model.specs.Names.{order, symbol_same}
 use Rattle.ion_atoms.specs.laws.Ties.{tie_from_is_eq}
 use Rattle.ion_model.proofs.Pairing.{field-is}
 use Rattle.ion_model.proofs.equivalence.partner.Goals as goal

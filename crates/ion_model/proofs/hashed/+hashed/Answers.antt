@@ -1,8 +1,8 @@
 use Rattle.std.proofs.Common.{◌∙◌, ap, sym, fold, rules}
 use Rattle.std.specs.Hash as fed
 use Rattle.std.specs.Hash.{fed_then}
-use Rattle.ion_model.specs.Hashed.{symbol_fed, layer_fed, hashed, field_hashed}
-use Rattle.ion_model.specs.declared.value.Payload.TheViews.{out-Payload}
+use Rattle.ion_model.specs.Names.{out-Payload}
+use Rattle.ion_model.specs.Hashed.{field_hashed, hashed, layer_fed, symbol_fed}
 use Rattle.ion_model.specs.laws.Hashed.{hashed-out}
 use Rattle.ion_model.proofs.hashed.+hashed.Goals as goal
 

@@ -1,5 +1,5 @@
 use Rattle.std.proofs.Common.{◌≡◌, true, ap, subst}
-use Rattle.ion_atoms.specs.Timestamps.{instant, timestamp_same}
+use Rattle.ion_model.specs.Names.{instant, timestamp_same}
 use Rattle.ion_atoms.specs.laws.Equivalence.{timestamp_same-equiv}
 use Rattle.ion_atoms.specs.laws.Ties.{timestamp_from}
 use Rattle.ion_atoms.specs.laws.Timestamps.{one_timestamp}

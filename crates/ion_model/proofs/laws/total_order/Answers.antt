@@ -1,8 +1,8 @@
 use Rattle.std.proofs.Common.{◌∙◌, ap, sym}
 use Rattle.std.proofs.lemmas.Cmp.{tied_itself}
-use Rattle.ion_model.specs.Order.{order}
-use Rattle.ion_model.specs.laws.OrderTotal.{order-total}
+use Rattle.ion_model.specs.Names.{order}
 use Rattle.ion_model.specs.laws.OrderEqual.{equal_from_order}
+use Rattle.ion_model.specs.laws.OrderTotal.{order-total}
 use Rattle.ion_model.proofs.laws.total_order.Goals as goal
 
 pub returns-clause-total : goal.returns-clause-total

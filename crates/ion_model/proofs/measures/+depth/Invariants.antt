@@ -1,5 +1,5 @@
 use Rattle.std.proofs.Common.{◌≡◌, ◌<◌, ◌^◌, ◌-◌, min, max, map, drop}
-use Rattle.ion_model.specs.Measures.{depth, greatest}
+use Rattle.ion_model.specs.Names.{depth, greatest}
 use Rattle.ion_model.proofs.measures.+depth.Given as goal
 
 -- the deepest so far and the deepest of those to come are the deepest of all

@@ -1,5 +1,5 @@
 use Rattle.std.proofs.Common.{◌≡◌, ◌<◌, ◌^◌, ◌-◌, ◌+◌, suc, min, map, sum, drop}
-use Rattle.ion_model.specs.Measures.{nodes}
+use Rattle.ion_model.specs.Names.{nodes}
 use Rattle.ion_model.proofs.measures.+nodes.Given as goal
 
 -- the nodes so far and those of what is to come are the nodes of all

@@ -2,14 +2,11 @@ use Rattle.std.proofs.Common.{◌<◌, length, arith, ◌∙◌, refl, length-se
 use Rattle.std.proofs.lemmas.Result.{on_ok_weaker}
 use Rattle.std.proofs.lemmas.List.Sorted.{IsPermutation-refl, All-permutation}
 use Rattle.std.proofs.lemmas.Cmp.{lists_equiv}
-use Rattle.ion_model.specs.Measures.{depth}
-use Rattle.ion_model.specs.Same.{same, field_same}
-use Rattle.ion_model.specs.Normal.{IsNormal}
-use Rattle.ion_model.specs.declared.value.Payload.TheViews.{roll-Field}
+use Rattle.ion_model.specs.Names.{IsNormal, depth, field_same, roll-Field, same}
 use Rattle.ion_atoms.specs.laws.Tests.{both}
+use Rattle.ion_model.specs.laws.Equivalence.{field_same-equiv, same-equiv, symbol_same-equiv}
 use Rattle.ion_model.specs.laws.Measures.{depth-at, greatest-at}
-use Rattle.ion_model.specs.laws.Equivalence.{same-equiv, field_same-equiv, symbol_same-equiv}
-use Rattle.ion_model.proofs.NormalLaws.{normal_from, same_with, fields_moved, walked, later_more, done_more, always_ok}
+use Rattle.ion_model.proofs.NormalLaws.{always_ok, done_more, fields_moved, later_more, normal_from, same_with, walked}
 use Rattle.ion_model.proofs.normal.+tidy.Goals as goal
 
 pub tidy-tidy_payload-requires : goal.tidy-tidy_payload-requires

@@ -1,12 +1,6 @@
 use Rattle.std.proofs.Common.{◌≡◌, ℕ, ◌+◌, ◌*◌, ◌<◌, ◌≤◌, true, length, map, get_or}
 use lib.Pointwise.{pointwise}
-use Rattle.ion_model.specs.Measures.{depth, greatest}
-use Rattle.ion_model.specs.Same.{same, field_same}
-use Rattle.ion_model.specs.Normal.{IsNormal}
-use Rattle.ion_model.specs.declared.value.Value.{Value}
-use Rattle.ion_model.specs.declared.value.Field.{Field}
-use Rattle.ion_model.specs.declared.value.Payload.TheViews.{out-Payload}
-use Rattle.ion_model.specs.laws.Measures.{layer_depth}
+use Rattle.ion_model.specs.Names.{Field, IsNormal, Value, depth, field_same, greatest, layer_depth, out-Payload, same}
 use Rattle.ion_model.proofs.normal.+tidy.Given as goal
 
 abbrev pub decreases-tidy : goal.decreases-tidy

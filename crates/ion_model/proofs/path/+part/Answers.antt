@@ -1,15 +1,9 @@
 use Rattle.std.proofs.Common.{◌≡◌, ◌+◌, ⊎_elim, map, [], ◌∷◌, Option, Some, MatchOption, option_map, Bor, true, false, refl, arith, rules, ap, sym, subst, ◌∙◌}
 use lib.Pointwise.{pointwise}
-use Rattle.ion_model.specs.declared.path.Part.TheVariants as parts
-use Rattle.ion_model.specs.declared.value.Field.{Field}
-use Rattle.ion_model.specs.declared.value.Payload.TheViews.{out-Payload}
-use Rattle.ion_model.specs.Measures.{depth, greatest}
-use Rattle.ion_model.specs.laws.Measures.{greatest-at, depth-at-List, depth-at-Sexp, depth-at-Fields}
-use Rattle.ion_model.specs.Parting.{IsPath, LeastParting, once_named}
+use Rattle.ion_model.specs.Names.{Field, IsPath, LeastParting, Part, depth, fields_same, greatest, once_named, out-Payload, same, symbol_same}
+use Rattle.ion_model.specs.laws.Measures.{depth-at-Fields, depth-at-List, depth-at-Sexp, greatest-at}
 use Rattle.ion_model.specs.laws.PartingSteps.{AgreeTo}
-use Rattle.ion_model.specs.Same.{same, fields_same}
-use Rattle.ion_model.specs.Symbols.{symbol_same}
-use Rattle.ion_model.proofs.PartingLaws.{both_hold, ends_here, list_parts, sexp_parts, struct_parts, differ_at, one_ends, once_parts, once_deep}
+use Rattle.ion_model.proofs.PartingLaws.{both_hold, differ_at, ends_here, list_parts, once_deep, once_parts, one_ends, sexp_parts, struct_parts}
 use Rattle.ion_model.proofs.path.+part.Goals as goal
 
 -- what a field that was found is
@@ -41,7 +35,7 @@ pub part_items-returns-clause-path : goal.part_items-returns-clause-path
 part_items-returns-clause-path t c =
     let agree : AgreeTo c.args.vs.now c.args.ws.now c.in_ok-before.before = c.in_ok-before.ensures in
     record {
-      rest = parts.Item (c.in_ok-before.before + 1) ∷ [];
+      rest = Part.Item (c.in_ok-before.before + 1) ∷ [];
       is = c.in_ok-push.ensures.items;
       path = record {
         before = c.in_ok-before.before;

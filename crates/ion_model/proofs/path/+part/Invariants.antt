@@ -1,5 +1,5 @@
 use Rattle.std.proofs.Common.{◌+◌, ◌*◌, map}
-use Rattle.ion_model.specs.Measures.{depth, greatest}
+use Rattle.ion_model.specs.Names.{depth, greatest}
 use Rattle.ion_model.proofs.path.+part.Given as goal
 
 abbrev pub decreases-part_values : goal.decreases-part_values

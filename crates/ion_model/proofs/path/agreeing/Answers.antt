@@ -1,5 +1,5 @@
 use Rattle.std.proofs.Common.{arith, ◌<◌, ◌≡◌, true, length}
-use Rattle.ion_model.specs.Same.{same}
+use Rattle.ion_model.specs.Names.{same}
 use Rattle.ion_model.proofs.PartingLaws.{agree_more}
 use Rattle.ion_model.proofs.path.agreeing.Goals as goal
 

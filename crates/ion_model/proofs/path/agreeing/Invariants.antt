@@ -1,6 +1,6 @@
 use Rattle.std.proofs.Common.{◌≡◌, ◌≤◌, length, take, true}
 use lib.Pointwise.{pointwise}
-use Rattle.ion_model.specs.Same.{same}
+use Rattle.ion_model.specs.Names.{same}
 use Rattle.ion_model.proofs.path.agreeing.Given as goal
 
 abbrev pub invariant-loop-i : goal.invariant-loop-i

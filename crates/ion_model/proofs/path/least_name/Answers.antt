@@ -1,9 +1,6 @@
 use Rattle.std.proofs.Common.{◌≡◌, MatchOption, None, Some, Option, List, ℕ, true, subst}
-use Rattle.ion_model.specs.declared.value.Field.{Field}
-use Rattle.ion_model.specs.Normal.{AreNormalOf}
-use Rattle.ion_model.specs.Parting.{LeastParting}
+use Rattle.ion_model.specs.Names.{AreNormalOf, Field, LeastParting, fields_same, same}
 use Rattle.ion_model.specs.laws.PartingSteps.{first_untied}
-use Rattle.ion_model.specs.Same.{same, fields_same}
 use Rattle.ion_model.proofs.PartingLeast.{least-name}
 use Rattle.ion_model.proofs.path.least_name.Goals as goal
 

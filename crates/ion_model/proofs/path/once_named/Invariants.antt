@@ -1,7 +1,6 @@
 use Rattle.std.proofs.Common.{◌≡◌, ◌++◌, drop, option_map, option_to_list}
 use Rattle.std.specs.List.{filter}
-use Rattle.ion_model.specs.Parting.{only, once_named}
-use Rattle.ion_model.specs.Symbols.{symbol_same}
+use Rattle.ion_model.specs.Names.{once_named, only, symbol_same}
 use Rattle.ion_model.proofs.path.once_named.Given as goal
 
 abbrev pub invariant-loop-field : goal.invariant-loop-field

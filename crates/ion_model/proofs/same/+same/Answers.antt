@@ -1,18 +1,9 @@
 use Rattle.std.proofs.Common.{◌≡◌, ◌<◌, suc, map, length, Bool, true, false, ◌&&◌, refl, arith, ap, sym, ◌∙◌}
 use Rattle.std.specs.Bool.{beq}
-use Rattle.ion_model.specs.Measures.{depth, greatest}
-use Rattle.ion_model.specs.Same.{same, layer_same}
-use Rattle.ion_atoms.specs.Decimals.{decimal_same}
-use Rattle.ion_atoms.specs.Timestamps.{timestamp_same}
-use Rattle.ion_model.specs.Measures.{Layer}
-use Rattle.ion_model.specs.Symbols.{text_same, symbol_same}
-use Rattle.ion_model.specs.declared.value.Payload.{Payload}
-use Rattle.ion_model.specs.declared.value.Payload.TheOpen.{Payload-F}
-use Rattle.ion_model.specs.declared.value.Payload.TheViews.{out-Payload, outs-Truth, outs-Decimal, outs-Timestamp, outs-Symbol, outs-Str}
-use Rattle.ion_model.specs.declared.value.Payload.TheViews.{outs-Clob, outs-Blob, outs-List, outs-Sexp, outs-Fields}
 use lib.Pointwise.{pointwise}
-use Rattle.ion_model.specs.laws.Measures.{greatest-at, depth-at-List, depth-at-Sexp, depth-at-Fields}
-use Rattle.ion_model.specs.laws.Same.{same-is, counts_agree_fails, counts_agree_more}
+use Rattle.ion_model.specs.Names.{Layer, Payload, Payload-F, decimal_same, depth, greatest, layer_same, out-Payload, outs-Blob, outs-Clob, outs-Decimal, outs-Fields, outs-List, outs-Sexp, outs-Str, outs-Symbol, outs-Timestamp, outs-Truth, same, symbol_same, text_same, timestamp_same}
+use Rattle.ion_model.specs.laws.Measures.{depth-at-Fields, depth-at-List, depth-at-Sexp, greatest-at}
+use Rattle.ion_model.specs.laws.Same.{counts_agree_fails, counts_agree_more, same-is}
 use Rattle.ion_model.proofs.same.+same.Goals as goal
 
 -- behind the part that two payloads of a kind have, nothing else differs

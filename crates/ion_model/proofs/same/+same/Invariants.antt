@@ -1,9 +1,6 @@
 use Rattle.std.proofs.Common.{List, map, ◌≡◌, ℕ, ◌+◌, ◌*◌, length, true, take, drop, max}
 use lib.Pointwise.{pointwise}
-use Rattle.ion_model.specs.Same.{same, field_count, counts_agree}
-use Rattle.ion_model.specs.declared.value.Value.{Value}
-use Rattle.ion_model.specs.declared.value.Field.{Field}
-use Rattle.ion_model.specs.Measures.{depth, greatest}
+use Rattle.ion_model.specs.Names.{Field, Value, counts_agree, depth, field_count, greatest, same}
 use Rattle.ion_model.proofs.same.+same.Given as goal
 
 abbrev pub invariant-agree-loop-field : goal.invariant-agree-loop-field

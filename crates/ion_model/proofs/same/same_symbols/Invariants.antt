@@ -1,6 +1,6 @@
 use Rattle.std.proofs.Common.{◌≡◌, length, drop}
 use lib.Pointwise.{pointwise}
-use Rattle.ion_model.specs.Symbols.{symbol_same}
+use Rattle.ion_model.specs.Names.{symbol_same}
 use Rattle.ion_model.proofs.same.same_symbols.Given as goal
 
 abbrev pub invariant-loop-i : goal.invariant-loop-i

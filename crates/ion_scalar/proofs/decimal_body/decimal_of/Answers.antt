@@ -1,5 +1,5 @@
 use Rattle.std.proofs.Common.{sym, subst, ◌∙◌}
-use Rattle.ion_scalar.specs.binary.Reads.{ReadsDecimalBody}
+use Rattle.ion_scalar.specs.Names.{ReadsDecimalBody}
 use Rattle.ion_scalar.specs.binary.laws.Decimal.{decimal_answers, decimal_only}
 use Rattle.ion_scalar.proofs.decimal_body.decimal_of.Goals as goal
 

@@ -1,8 +1,7 @@
 use Rattle.std.proofs.Common.{◌≡◌, ◌≢◌, ℕ, ◌^◌, ◌≤◌, inl, inr, Bool, true, false, List, [], ◌∷◌, drop, get_or, min, refl, arith}
 use Rattle.std.specs.Char.{digit_value}
 use Rattle.std.proofs.lemmas.List.{take_rest}
-use Rattle.ion_scalar.specs.text.Ints.{number}
-use Rattle.ion_scalar.specs.text.Decimals.{IsPlain, IsSigned}
+use Rattle.ion_scalar.specs.Names.{IsPlain, IsSigned, number}
 use Rattle.ion_scalar.specs.text.laws.OneRun.{first_digit}
 use Rattle.ion_scalar.proofs.decimals.signed_of.Goals as goal
 

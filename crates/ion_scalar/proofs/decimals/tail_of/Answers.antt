@@ -1,9 +1,6 @@
 use Rattle.std.proofs.Common.{◌≡◌, ℕ, ◌^◌, ◌≤◌, inl, inr, Bool, List, [], ◌∷◌, drop, get_or, min, refl, arith}
 use Rattle.std.proofs.lemmas.List.{take_rest}
-use Rattle.ion_scalar.specs.Positional.{positional_one}
-use Rattle.ion_scalar.specs.declared.decimals.Tail.{Tail}
-use Rattle.ion_scalar.specs.text.Ints.{continued}
-use Rattle.ion_scalar.specs.text.Decimals.{IsExponent, IsFraction, IsTail, Shows}
+use Rattle.ion_scalar.specs.Names.{IsExponent, IsFraction, IsTail, Shows, Tail, continued, positional_one}
 use Rattle.ion_scalar.specs.text.laws.DecimalTails.{no_tail, no_tail_pointed}
 use Rattle.ion_scalar.proofs.decimals.tail_of.Goals as goal
 

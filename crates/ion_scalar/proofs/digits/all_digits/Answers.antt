@@ -1,7 +1,7 @@
 use Rattle.std.proofs.Common.{ℕ, inl, inr, drop, refl, subst, arith}
 use Rattle.std.proofs.lemmas.Bool.{false≢true}
 use Rattle.std.proofs.lemmas.List.{take_all}
-use Rattle.ion_scalar.specs.text.Ints.{BeginsWithNone}
+use Rattle.ion_scalar.specs.Names.{BeginsWithNone}
 use Rattle.ion_scalar.specs.text.laws.OneRun.{all_used, none_begins}
 use Rattle.ion_scalar.proofs.digits.all_digits.Goals as goal
 

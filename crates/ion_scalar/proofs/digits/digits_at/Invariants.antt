@@ -1,6 +1,6 @@
 use Rattle.std.proofs.Common.{◌<◌, ◌≤◌, ◌+◌, length, take, ◌-◌}
-use Rattle.ion_scalar.specs.text.Ints.{IsDigits}
-use Rattle.ion_scalar.specs.text.laws.DigitRuns.{Run, Place}
+use Rattle.ion_scalar.specs.Names.{IsDigits}
+use Rattle.ion_scalar.specs.text.laws.DigitRuns.{Place, Run}
 use Rattle.ion_scalar.proofs.digits.digits_at.Given as goal
 
 abbrev pub invariant-loop-digit : goal.invariant-loop-digit

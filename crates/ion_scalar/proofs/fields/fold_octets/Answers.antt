@@ -1,5 +1,5 @@
 use Rattle.std.proofs.Common.{◌+◌, arith}
-use Rattle.ion_scalar.specs.Positional.{positional_behind, positional_behind_take}
+use Rattle.ion_scalar.specs.Names.{positional_behind, positional_behind_take}
 use Rattle.ion_scalar.proofs.fields.fold_octets.Goals as goal
 
 pub returns-then-value : goal.returns-then-value

@@ -1,5 +1,5 @@
 use Rattle.std.proofs.Common.{◌≡◌, ◌∷◌, ◌^◌, ◌<◌, take}
-use Rattle.ion_scalar.specs.binary.Fields.{positional}
+use Rattle.ion_scalar.specs.Names.{positional}
 use Rattle.ion_scalar.proofs.fields.fold_octets.Given as goal
 
 abbrev pub invariant-loop-octet : goal.invariant-loop-octet

@@ -1,7 +1,7 @@
 use Rattle.std.proofs.Common.{◌≡◌, ◌+◌, ◌*◌, ◌%◌, length, take, get_or, below_more, ℕ, List, ◌<◌, sym, ap, arith}
 use Rattle.std.proofs.lemmas.List.{take_all}
-use Rattle.ion_scalar.specs.binary.Fields.{groups}
-use Rattle.ion_scalar.specs.binary.VarEnds.{groups_more, seven_bits_octet, too_large_at, ends_at, no_end}
+use Rattle.ion_scalar.specs.Names.{groups}
+use Rattle.ion_scalar.specs.binary.VarEnds.{ends_at, groups_more, no_end, seven_bits_octet, too_large_at}
 use Rattle.ion_scalar.proofs.fields.read_rest.Goals as goal
 
 -- the value with one octet more

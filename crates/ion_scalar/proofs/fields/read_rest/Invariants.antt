@@ -1,5 +1,5 @@
 use Rattle.std.proofs.Common.{◌≡◌, ℕ, ◌^◌, ◌<◌, take, get_or}
-use Rattle.ion_scalar.specs.binary.Fields.{groups}
+use Rattle.ion_scalar.specs.Names.{groups}
 use Rattle.ion_scalar.proofs.fields.read_rest.Given as goal
 
 abbrev pub invariant-loop-i : goal.invariant-loop-i

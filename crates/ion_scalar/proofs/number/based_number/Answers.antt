@@ -1,8 +1,8 @@
 use Rattle.std.proofs.Common.{◌∙◌, ℕ, drop, refl, ap, min, ◌^◌}
 use Rattle.std.proofs.lemmas.Bool.{false≢true}
 use Rattle.std.proofs.lemmas.List.{take_rest}
-use Rattle.ion_scalar.specs.text.Ints.{IsDigits, number}
-use Rattle.ion_scalar.specs.text.laws.Unsigned.{continued_none, base_magnitude, int_answer, no_based}
+use Rattle.ion_scalar.specs.Names.{IsDigits, number}
+use Rattle.ion_scalar.specs.text.laws.Unsigned.{base_magnitude, continued_none, int_answer, no_based}
 use Rattle.ion_scalar.proofs.number.based_number.Goals as goal
 
 pub returns-in-Some : goal.returns-in-Some

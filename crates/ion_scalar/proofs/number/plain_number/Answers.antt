@@ -1,7 +1,7 @@
 use Rattle.std.proofs.Common.{arith}
 use Rattle.std.proofs.lemmas.List.{take_rest}
-use Rattle.ion_scalar.specs.text.Ints.{number}
-use Rattle.ion_scalar.specs.text.laws.Unsigned.{whole_magnitude, int_answer, decimal_answer, float_body, no_plain, no_plain_tail}
+use Rattle.ion_scalar.specs.Names.{number}
+use Rattle.ion_scalar.specs.text.laws.Unsigned.{decimal_answer, float_body, int_answer, no_plain, no_plain_tail, whole_magnitude}
 use Rattle.ion_scalar.proofs.number.plain_number.Goals as goal
 
 pub returns-in_default : goal.returns-in_default

@@ -1,6 +1,6 @@
 use Rattle.std.proofs.Common.{◌-◌, length, arith}
+use Rattle.ion_scalar.specs.Names.{ROOM}
 use Rattle.ion_scalar.proofs.Places.{room_for}
-use Rattle.ion_scalar.specs.declared.backward.TheConstants.{ROOM}
 use Rattle.ion_scalar.proofs.put.var_uint_before.Goals as goal
 
 pub push_digits-requires-clause-room : goal.push_digits-requires-clause-room

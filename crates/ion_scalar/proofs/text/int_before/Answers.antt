@@ -1,4 +1,4 @@
-use Rattle.ion_atoms.specs.Ranges.{IsWhole}
+use Rattle.ion_scalar.specs.Names.{IsWhole}
 use Rattle.ion_scalar.specs.text.laws.Texts.{int_reads}
 use Rattle.ion_scalar.proofs.text.int_before.Goals as goal
 

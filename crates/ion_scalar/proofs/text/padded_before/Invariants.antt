@@ -1,5 +1,5 @@
 use Rattle.std.proofs.Common.{◌≡◌, ◌+◌, ◌-◌, ◌++◌, length}
-use Rattle.ion_scalar.specs.text.Texts.{padded}
+use Rattle.ion_scalar.specs.Names.{padded}
 use Rattle.ion_scalar.proofs.text.padded_before.Given as goal
 
 abbrev pub invariant-loop : goal.invariant-loop

@@ -1,9 +1,9 @@
 use Rattle.std.proofs.Common.{inl, inr, refl, sym}
 use Rattle.std.proofs.lemmas.Bool.{cases_lt}
 use Rattle.std.proofs.lemmas.Result.{err_from_is_err_and}
-use Rattle.ion_atoms.specs.Calendar.{month_length}
+use Rattle.ion_scalar.specs.Names.{month_length}
 use Rattle.ion_atoms.specs.laws.Neighbours.{month_most}
-use Rattle.ion_scalar.specs.binary.laws.Days.{day_read, day_beyond, day_refused}
+use Rattle.ion_scalar.specs.binary.laws.Days.{day_beyond, day_read, day_refused}
 use Rattle.ion_scalar.proofs.timestamp_body.day_field.Goals as goal
 
 pub returns-in_err-day-clause-value : goal.returns-in_err-day-clause-value

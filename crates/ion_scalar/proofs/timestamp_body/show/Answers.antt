@@ -1,10 +1,8 @@
 use Rattle.std.proofs.Common.{◌≡◌, Ok, pos, ◌+ℤ◌, sym, ap, subst, ◌∙◌, FitsSigned, w16}
 use Rattle.std.proofs.lemmas.Bool.{false≢true}
 use Rattle.std.proofs.lemmas.Int.{to_z-of_z}
-use Rattle.ion_atoms.specs.Calendar.{InYears, minute_number}
-use Rattle.ion_atoms.specs.Timestamps.{minutes_ahead}
-use Rattle.ion_scalar.specs.binary.Timestamp.{kept_offset}
-use Rattle.ion_scalar.specs.binary.laws.Shown.{near_fits, shown_none, shown_some, shown_is}
+use Rattle.ion_scalar.specs.Names.{InYears, kept_offset, minute_number, minutes_ahead}
+use Rattle.ion_scalar.specs.binary.laws.Shown.{near_fits, shown_is, shown_none, shown_some}
 use Rattle.ion_scalar.proofs.timestamp_body.show.Goals as goal
 
 pub returns-in_default : goal.returns-in_default

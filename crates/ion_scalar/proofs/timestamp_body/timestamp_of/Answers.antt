@@ -1,5 +1,5 @@
 use Rattle.std.proofs.Common.{sym, subst, ◌∙◌}
-use Rattle.ion_scalar.specs.binary.TimestampReasons.{ReadsTimestampBody}
+use Rattle.ion_scalar.specs.Names.{ReadsTimestampBody}
 use Rattle.ion_scalar.specs.binary.laws.TimestampReasons.{timestamp_answers, timestamp_only}
 use Rattle.ion_scalar.proofs.timestamp_body.timestamp_of.Goals as goal
 

@@ -1,9 +1,9 @@
 use Rattle.std.proofs.Common.{◌≤◌, ◌^◌, arith, sym}
 use Rattle.std.proofs.Math.Nat.{pow-le-pow_right}
 use Rattle.std.proofs.lemmas.Bool.{false≢true}
-use Rattle.ion_atoms.specs.TimestampBounds.{most_digits}
+use Rattle.ion_scalar.specs.Names.{most_digits}
 use Rattle.ion_scalar.proofs.timestamp_body.with_fraction.Goals as goal
-use Rattle.ion_scalar.proofs.timestamp_body.with_fraction.Goals.{else-power-via-then-power+else-power-2, else-power-via-else-power}
+use Rattle.ion_scalar.proofs.timestamp_body.with_fraction.Goals.{else-power-via-else-power, else-power-via-then-power+else-power-2}
 
 pub pow-requires : goal.pow-requires
 pow-requires c =

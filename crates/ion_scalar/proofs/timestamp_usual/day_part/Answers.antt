@@ -1,5 +1,5 @@
 use Rattle.std.proofs.Common.{refl}
-use Rattle.ion_atoms.specs.Calendar.{month_length}
+use Rattle.ion_scalar.specs.Names.{month_length}
 use Rattle.ion_atoms.specs.laws.Neighbours.{month_most}
 use Rattle.ion_scalar.specs.binary.laws.Days.{day_read}
 use Rattle.ion_scalar.proofs.timestamp_usual.day_part.Goals as goal

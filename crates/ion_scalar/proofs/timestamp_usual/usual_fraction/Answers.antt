@@ -1,7 +1,7 @@
 use Rattle.std.proofs.Common.{◌≡◌, ◌<◌, ◌^◌, ◌-◌, drop, get_or, false, arith, ◌∙◌}
 use Rattle.std.proofs.lemmas.Bool.{ltb-true}
 use Rattle.std.proofs.lemmas.List.{take_rest}
-use Rattle.ion_scalar.specs.binary.Fields.{int_negative, int_magnitude}
+use Rattle.ion_scalar.specs.Names.{int_magnitude, int_negative}
 use Rattle.ion_scalar.specs.binary.laws.Usual.{int_told, usual_fraction}
 use Rattle.ion_scalar.proofs.timestamp_usual.usual_fraction.Goals as goal
 

@@ -1,10 +1,10 @@
 use Rattle.std.proofs.Common.{◌≡◌, pos, ◌-ℤ◌, arith, neg_ℤ, ap, ◌∙◌, FitsSigned, w16}
 use Rattle.std.proofs.lemmas.Int.{ints, to_z-of_z}
-use Rattle.ion_atoms.specs.Timestamps.{minutes_ahead, local_minute}
+use Rattle.ion_scalar.specs.Names.{local_minute, minutes_ahead}
 use Rattle.ion_atoms.specs.laws.Timestamps.{local_minute-is}
 use Rattle.ion_scalar.specs.binary.laws.Shifted.{moved_found}
 use Rattle.ion_scalar.specs.binary.laws.Shown.{near_fits}
-use Rattle.ion_scalar.specs.binary.laws.TimestampSpellings.{near_utc, fraction_small}
+use Rattle.ion_scalar.specs.binary.laws.TimestampSpellings.{fraction_small, near_utc}
 use Rattle.ion_scalar.proofs.timestamp_writer.utc_of.Goals as goal
 
 pub returns-clause-value : goal.returns-clause-value

@@ -1,4 +1,4 @@
-use Rattle.ion_scalar.specs.text.Timestamps.{year, month, day}
+use Rattle.ion_scalar.specs.Names.{day, month, year}
 use Rattle.ion_scalar.specs.text.laws.TimestampForms.{shown_where}
 use Rattle.ion_scalar.proofs.timestamps.date_token.Goals as goal
 

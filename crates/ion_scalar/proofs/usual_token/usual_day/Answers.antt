@@ -1,6 +1,6 @@
 use Rattle.std.proofs.Common.{refl, arith, sym, subst}
-use Rattle.ion_atoms.specs.Timestamps.{IsTimestamp}
-use Rattle.ion_scalar.specs.text.laws.UsualTokens.{there_in_utc, day_spelled}
+use Rattle.ion_scalar.specs.Names.{IsTimestamp}
+use Rattle.ion_scalar.specs.text.laws.UsualTokens.{day_spelled, there_in_utc}
 use Rattle.ion_scalar.proofs.usual_token.usual_day.Goals as goal
 
 pub of_parts-requires : goal.of_parts-requires

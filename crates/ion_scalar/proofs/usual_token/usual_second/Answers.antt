@@ -1,7 +1,7 @@
 use Rattle.std.proofs.Common.{refl, arith, sym, subst}
 use Rattle.std.proofs.lemmas.Int.{ints}
-use Rattle.ion_atoms.specs.Timestamps.{IsTimestamp}
-use Rattle.ion_scalar.specs.text.laws.UsualTokens.{there_in_utc, second_spelled}
+use Rattle.ion_scalar.specs.Names.{IsTimestamp}
+use Rattle.ion_scalar.specs.text.laws.UsualTokens.{second_spelled, there_in_utc}
 use Rattle.ion_scalar.proofs.usual_token.usual_second.Goals as goal
 
 pub of_parts-requires : goal.of_parts-requires

@@ -1,27 +1,13 @@
 -- A body is refused as too large or as malformed, and for no other reason.
 use Rattle.std.proofs.Common.{ℕ, ℤ, ◌^◌, List, [], ◌∷◌, drop, Bool, true, false, cond, ◌&&◌, nat_le, nat_lt, not, Option, Result, Ok, Err}
-use Rattle.ion_atoms.specs.declared.calendar.Date.{Date}
-use Rattle.ion_atoms.specs.declared.calendar.Minute.{Minute}
-use Rattle.ion_atoms.specs.declared.refusal.Reason.{Reason}
-use Rattle.ion_atoms.specs.declared.refusal.Reason.TheVariants as reasons
-use Rattle.ion_atoms.specs.TimestampBounds.{last_year, last_month, last_hour, last_minute, last_second, farthest_offset, most_digits}
-use Rattle.ion_atoms.specs.Calendar.{month_length}
-use Rattle.ion_atoms.specs.Decimals.{DecimalParts}
-use Rattle.ion_atoms.specs.Timestamps.{TimestampParts, minutes_ahead}
-use Rattle.ion_scalar.specs.declared.fields.Signed.{Signed}
-use Rattle.ion_scalar.specs.declared.timestamp_body.Utc.{Utc}
-use Rattle.ion_scalar.specs.binary.Fields.{var_uint, var_int, int_negative, int_magnitude}
-use Rattle.ion_scalar.specs.binary.Reads.{ReadsDecimalBody}
-use Rattle.ion_scalar.specs.binary.Decimal.{decimal_of_body}
+use Rattle.ion_scalar.specs.Names.{Date, DecimalParts, Minute, ReadsDecimalBody, Reason, Signed, TimestampParts, Utc, and_then, day_of, decimal_of_body, farthest_offset, in_range, int_magnitude, int_negative, kept_offset, last_hour, last_minute, last_month, last_second, last_year, minute_of, minutes_ahead, month_length, most_digits, moved, near, read_behind_day, read_behind_hour, read_behind_minute, read_behind_month, read_behind_second, read_behind_year, read_digits, read_field, read_fields, read_fraction, read_no_digits, read_offset, shown, shown_at, timestamp_of_body, var_int, var_uint, with_offset, with_power}
+use Rattle.ion_scalar.specs.binary.Timestamp.{shown_by}
 use Rattle.ion_scalar.specs.binary.laws.Decimal.{decimal_answers}
-use Rattle.ion_atoms.specs.Neighbours.{day_of}
-use Rattle.ion_scalar.specs.binary.Shifted.{moved}
-use Rattle.ion_scalar.specs.binary.Timestamp.{minute_of, in_range, read_field, and_then, read_digits, read_no_digits, read_fraction, with_power, read_behind_second, read_behind_minute, read_behind_hour, read_behind_day, read_behind_month, read_behind_year, read_fields, near, read_offset, kept_offset, shown_at, shown, shown_by, with_offset, timestamp_of_body}
 
 -- the reasons of a body
 abbrev pub IsBodyReason : Reason → Type 0
-IsBodyReason reasons.TooLarge = Unit {0}
-IsBodyReason reasons.Malformed = Unit {0}
+IsBodyReason Reason.TooLarge = Unit {0}
+IsBodyReason Reason.Malformed = Unit {0}
 IsBodyReason _ = ⊥
 
 -- an answer that refuses for such a reason at most
@@ -40,7 +26,7 @@ and_then_judges octets judge (Err e) p q = p
 
 range_judges : (least most : ℕ) (r : Result (ℕ × ℕ) Reason) → JudgesBody (in_range least most r)
 range_judges least most (Ok read) = either (JudgesBody {X = ℕ × ℕ}) (nat_le least read.0 && nat_le read.0 most) _ _ tt tt
-range_judges least most (Err reasons.TooLarge) = tt
+range_judges least most (Err Reason.TooLarge) = tt
 range_judges least most (Err _) = tt
 
 field_judges : (least most : ℕ) (octets : List ℕ) → JudgesBody (read_field least most octets)
@@ -65,7 +51,7 @@ fraction_judges minute second power octets =
 
 power_judges : (minute : Minute) (second : ℕ) (octets : List ℕ) (r : Result (Signed × ℕ) Reason) → JudgesBody (with_power minute second octets r)
 power_judges minute second octets (Ok read) = fraction_judges minute second read.0 (drop read.1 octets)
-power_judges minute second octets (Err reasons.TooLarge) = tt
+power_judges minute second octets (Err Reason.TooLarge) = tt
 power_judges minute second octets (Err _) = tt
 
 second_judges : (minute : Minute) (second : ℕ) (octets : List ℕ) → JudgesBody (read_behind_second minute second octets)
@@ -109,7 +95,7 @@ fields_judge octets = and_then_judges octets read_behind_year (read_field 1 last
 
 near_judges : (r : Result (Signed × ℕ) Reason) → JudgesBody (near r)
 near_judges (Ok read) = either (JudgesBody {X = Option ℤ × ℕ}) (nat_le read.0.magnitude farthest_offset) _ _ tt tt
-near_judges (Err reasons.TooLarge) = tt
+near_judges (Err Reason.TooLarge) = tt
 near_judges (Err _) = tt
 
 offset_judges : (octets : List ℕ) → JudgesBody (read_offset octets)
@@ -138,8 +124,8 @@ timestamp_judges body = with_offset_judges body (read_offset body) (offset_judge
 
 answer_judges : (body : List ℕ) (r : Result DecimalParts Reason) → ReadsDecimalBody body r → JudgesBody r
 answer_judges body (Ok d) h = tt
-answer_judges body (Err reasons.TooLarge) h = tt
-answer_judges body (Err reasons.Malformed) h = tt
+answer_judges body (Err Reason.TooLarge) h = tt
+answer_judges body (Err Reason.Malformed) h = tt
 answer_judges body (Err _) h = h
 
 -- the body of a decimal

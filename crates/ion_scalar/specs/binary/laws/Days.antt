@@ -1,11 +1,7 @@
 -- The day of a month is read as a number up to 31 first, and is judged by the month then.
 use Rattle.std.proofs.Common.{◌≡◌, ℕ, ◌≤◌, ◌<◌, List, Result, Ok, Err, inl, inr, refl, sym, ap, subst, arith}
 use Rattle.std.proofs.lemmas.Bool.{lt-leb, le-leb, cases_lt}
-use Rattle.ion_atoms.specs.declared.refusal.Reason.{Reason}
-use Rattle.ion_atoms.specs.declared.refusal.Reason.TheVariants.{TooLarge, Malformed, Incomplete}
-use Rattle.ion_scalar.specs.binary.Fields.{var_uint}
-use Rattle.ion_scalar.specs.binary.Reads.{ReadsVarUInt}
-use Rattle.ion_scalar.specs.binary.Timestamp.{in_range, read_field}
+use Rattle.ion_scalar.specs.Names.{Incomplete, Malformed, ReadsVarUInt, Reason, TooLarge, in_range, read_field, var_uint}
 use Rattle.ion_scalar.specs.binary.laws.VarUInt.{var_uint_answers}
 
 module _ (last : ℕ) (few : last ≤ 31) (octets : List ℕ) where

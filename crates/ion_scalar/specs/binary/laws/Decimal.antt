@@ -3,21 +3,13 @@ use Rattle.std.proofs.Common.{◌≡◌, ◌≢◌, ◌⊎◌, ℕ, ℤ, cond, p
 use Rattle.std.specs.Prelude.{unsigned_abs, int_lt, ◌&&◌, ◌==◌}
 use Rattle.std.specs.Ordering.{int_eq}
 use Rattle.std.proofs.lemmas.Bool.Decides.{Decides-int_eq}
-use Rattle.ion_scalar.specs.binary.Spellings.{decimal_octets, var_int_octets, int_octets, is_zero}
-use Rattle.ion_scalar.specs.binary.laws.Spellings.{int_parts, var_int_spelled}
 use Rattle.std.proofs.lemmas.Bool.{eqb-true, false≢true, lt-ltb, le-ltb, le-leb, lt-leb, cases_lt}
 use Rattle.std.proofs.Math.Seq.{drop-append_seam}
 use Rattle.std.proofs.lemmas.List.{take-append-drop}
 use Rattle.std.proofs.lemmas.Int.{ints}
-use Rattle.ion_atoms.specs.declared.refusal.Reason.{Reason}
-use Rattle.ion_atoms.specs.declared.refusal.Reason.TheVariants.{TooLarge, Malformed, Incomplete}
-use Rattle.ion_scalar.specs.declared.fields.Signed.{Signed}
-use Rattle.ion_scalar.specs.binary.Fields.{VarInt, short, long, var_int, int_negative, int_magnitude, signed_of}
-use Rattle.ion_atoms.specs.Decimals.{DecimalParts, IsDecimal}
-use Rattle.ion_scalar.specs.text.Decimals.{signed}
-use Rattle.ion_scalar.specs.binary.Decimal.{IsDecimalParts, IsDecimalField, exponent_fits, decimal_with, with_coefficient, with_exponent, decimal_of_body}
-use Rattle.ion_scalar.specs.binary.Reads.{ReachesInt, ReadsDecimalBody, BeginsWithInt, ReadsVarInt}
-use Rattle.ion_scalar.specs.binary.laws.VarInt.{var_int_read, var_int_reaches, var_int_goes_on, var_int_answers}
+use Rattle.ion_scalar.specs.Names.{BeginsWithInt, DecimalParts, Incomplete, IsDecimal, IsDecimalField, IsDecimalParts, Malformed, ReachesInt, ReadsDecimalBody, ReadsVarInt, Reason, Signed, TooLarge, VarInt, decimal_octets, decimal_of_body, decimal_with, exponent_fits, int_magnitude, int_negative, int_octets, is_zero, long, short, signed, signed_of, var_int, var_int_octets, with_coefficient, with_exponent}
+use Rattle.ion_scalar.specs.binary.laws.Spellings.{int_parts, var_int_spelled}
+use Rattle.ion_scalar.specs.binary.laws.VarInt.{var_int_answers, var_int_goes_on, var_int_reaches, var_int_read}
 
 abbrev InRange : ℤ → Type 0
 InRange e = (neg_ℤ (pos (2 ^ 31)) ≤ℤ e) × (e <ℤ pos (2 ^ 31))

@@ -1,9 +1,8 @@
 -- The definition of the descriptors is the table.
 use Rattle.std.proofs.Common.{◌≡◌, ℕ, ◌+◌, ◌*◌, ◌/◌, ◌%◌, ◌<◌, ◌∙◌, Ok, cond, eqb, refl, arith}
 use Rattle.std.proofs.lemmas.Bool.{ne_eqb}
-use Rattle.ion_scalar.specs.declared.descriptor.Descriptor.TheVariants.{Null, Body}
-use Rattle.ion_scalar.specs.binary.Descriptor.{descriptor_of, typed, size, kind}
-use Rattle.ion_scalar.specs.binary.laws.DescriptorRows.{says, HasBody, IsTable}
+use Rattle.ion_scalar.specs.Names.{Body, Null, descriptor_of, kind, size, typed}
+use Rattle.ion_scalar.specs.binary.laws.DescriptorRows.{HasBody, IsTable, says}
 
 row : (tag length : ℕ) → length < 16 → says tag length ≡ typed tag length
 unfolding descriptor_of

@@ -5,9 +5,7 @@ use Rattle.std.proofs.lemmas.Int.Digits.{length-digits_of-le}
 use Rattle.std.proofs.Math.Seq.{get_or-append_seam}
 use Rattle.std.proofs.Math.Nat.{pow-suc, pow-zero, pow-le-pow_right, mul_comm, suc-mul, mul-le-mul_left, mul-le-mul_right}
 use Rattle.std.specs.Int.Digits.{digits_of}
-use Rattle.ion_scalar.specs.binary.Fields.{positional, VarUInt, VarInt, short, long, seven_bits, six_bits, is_negative, is_last, int_negative, int_magnitude}
-use Rattle.ion_scalar.specs.binary.Spellings.{AreBelow, var_uint_octets, var_int_octets, uint_octets, int_octets, signed_digits}
-use Rattle.ion_scalar.specs.Positional.{positional_push}
+use Rattle.ion_scalar.specs.Names.{AreBelow, VarInt, VarUInt, int_magnitude, int_negative, int_octets, is_last, is_negative, long, positional, positional_push, seven_bits, short, signed_digits, six_bits, uint_octets, var_int_octets, var_uint_octets}
 use Rattle.ion_scalar.specs.binary.laws.Rests.{digits_below}
 use Rattle.ion_scalar.specs.binary.laws.Spellings.{positional_digits_of}
 

@@ -4,23 +4,9 @@ use Rattle.std.specs.Prelude.{◌&&◌, ◌==◌, int_lt, unsigned_abs}
 use Rattle.std.proofs.lemmas.Bool.{le-ltb}
 use Rattle.std.proofs.lemmas.Int.{ints}
 use Rattle.std.proofs.lemmas.List.{get_or_append_left, get_or-append-add}
-use Rattle.ion_atoms.specs.Decimals.{DecimalParts}
-use Rattle.ion_atoms.specs.declared.calendar.Date.{Date}
-use Rattle.ion_atoms.specs.declared.calendar.Minute.{Minute}
-use Rattle.ion_atoms.specs.declared.timestamp.Precision.{Precision}
-use Rattle.ion_atoms.specs.declared.timestamp.Precision.TheVariants as precisions
-use Rattle.ion_atoms.specs.Calendar.{minute_number}
-use Rattle.ion_atoms.specs.Timestamps.{TimestampParts, utc_minute, local_minute, minutes_ahead}
+use Rattle.ion_scalar.specs.Names.{AreBelow, AreFields, Date, DecimalParts, IsBehindDay, IsBehindHour, IsBehindMinute, IsBehindMonth, IsBehindSecond, IsBehindYear, IsDecimalField, IsFractionOf, IsTimestampBody, Minute, Precision, TimestampParts, Utc, VarInt, VarUInt, ahead_octets, decimal_octets, fields_octets, int_magnitude, int_negative, int_octets, is_zero, kept_offset, local_minute, long, minute_number, minute_of, minutes_ahead, moved, octets_behind_day, octets_behind_minute, octets_behind_month, octets_behind_second, octets_behind_year, offset_from, short, signed, timestamp_octets, utc_minute, utc_of, var_int_octets, var_uint_octets}
 use Rattle.ion_atoms.specs.laws.Timestamps.{local_minute-is}
-use Rattle.ion_scalar.specs.declared.timestamp_body.Utc.{Utc}
-use Rattle.ion_scalar.specs.text.Decimals.{signed}
-use Rattle.ion_scalar.specs.binary.Fields.{VarUInt, VarInt, short, long, int_negative, int_magnitude}
-use Rattle.ion_scalar.specs.binary.Spellings.{AreBelow, is_zero, var_uint_octets, var_int_octets, int_octets, decimal_octets}
-use Rattle.ion_scalar.specs.binary.Decimal.{IsDecimalField}
-use Rattle.ion_scalar.specs.binary.Shifted.{moved}
-use Rattle.ion_scalar.specs.binary.Timestamp.{minute_of, IsFractionOf, IsBehindSecond, IsBehindMinute, IsBehindHour, IsBehindDay, IsBehindMonth, IsBehindYear, AreFields, IsTimestampBody, offset_from, kept_offset}
-use Rattle.ion_scalar.specs.binary.TimestampSpellings.{ahead_octets, utc_of, octets_behind_second, octets_behind_minute, octets_behind_day, octets_behind_month, octets_behind_year, fields_octets, timestamp_octets}
-use Rattle.ion_scalar.specs.binary.laws.Fewest.{var_uint_fewest, var_int_fewest, int_fewest}
+use Rattle.ion_scalar.specs.binary.laws.Fewest.{int_fewest, var_int_fewest, var_uint_fewest}
 use Rattle.ion_scalar.specs.binary.laws.Shifted.{moved_found}
 use Rattle.ion_scalar.specs.binary.laws.Timestamp.{fields_are}
 use Rattle.ion_scalar.specs.binary.laws.TimestampSpellings.{near_utc}
@@ -75,40 +61,40 @@ decimal_fewest w d octets (inr p) =
 
 -- what stands behind the fields, part by part, at most
 minute_size : (p : Precision) (utc : Utc) → length (octets_behind_minute p utc) ≤ length (var_uint_octets utc.second) + length (octets_behind_second p utc)
-minute_size precisions.Year utc = omega arith
-minute_size precisions.Month utc = omega arith
-minute_size precisions.Day utc = omega arith
-minute_size precisions.Minute utc = omega arith
-minute_size precisions.Second utc = omega (arith, length-append (var_uint_octets utc.second) (octets_behind_second precisions.Second utc))
-minute_size (precisions.Fraction n) utc = omega (arith, length-append (var_uint_octets utc.second) (octets_behind_second (precisions.Fraction n) utc))
+minute_size Precision.Year utc = omega arith
+minute_size Precision.Month utc = omega arith
+minute_size Precision.Day utc = omega arith
+minute_size Precision.Minute utc = omega arith
+minute_size Precision.Second utc = omega (arith, length-append (var_uint_octets utc.second) (octets_behind_second Precision.Second utc))
+minute_size (Precision.Fraction n) utc = omega (arith, length-append (var_uint_octets utc.second) (octets_behind_second (Precision.Fraction n) utc))
 
 abbrev clock_octets : Precision → Utc → List ℕ
 clock_octets p utc = var_uint_octets utc.minute.minute ++ octets_behind_minute p utc
 
 day_size : (p : Precision) (utc : Utc) → length (octets_behind_day p utc) ≤ length (var_uint_octets utc.minute.hour) + length (clock_octets p utc)
-day_size precisions.Year utc = omega arith
-day_size precisions.Month utc = omega arith
-day_size precisions.Day utc = omega arith
-day_size precisions.Minute utc = omega (arith, length-append (var_uint_octets utc.minute.hour) (clock_octets precisions.Minute utc))
-day_size precisions.Second utc = omega (arith, length-append (var_uint_octets utc.minute.hour) (clock_octets precisions.Second utc))
-day_size (precisions.Fraction n) utc = omega (arith, length-append (var_uint_octets utc.minute.hour) (clock_octets (precisions.Fraction n) utc))
+day_size Precision.Year utc = omega arith
+day_size Precision.Month utc = omega arith
+day_size Precision.Day utc = omega arith
+day_size Precision.Minute utc = omega (arith, length-append (var_uint_octets utc.minute.hour) (clock_octets Precision.Minute utc))
+day_size Precision.Second utc = omega (arith, length-append (var_uint_octets utc.minute.hour) (clock_octets Precision.Second utc))
+day_size (Precision.Fraction n) utc = omega (arith, length-append (var_uint_octets utc.minute.hour) (clock_octets (Precision.Fraction n) utc))
 
 month_size : (p : Precision) (utc : Utc) → length (octets_behind_month p utc) ≤ length (var_uint_octets utc.minute.date.day) + length (octets_behind_day p utc)
-month_size precisions.Year utc = omega arith
-month_size precisions.Month utc = omega arith
-month_size precisions.Day utc = omega (arith, length-append (var_uint_octets utc.minute.date.day) (octets_behind_day precisions.Day utc))
-month_size precisions.Minute utc = omega (arith, length-append (var_uint_octets utc.minute.date.day) (octets_behind_day precisions.Minute utc))
-month_size precisions.Second utc = omega (arith, length-append (var_uint_octets utc.minute.date.day) (octets_behind_day precisions.Second utc))
-month_size (precisions.Fraction n) utc = omega (arith, length-append (var_uint_octets utc.minute.date.day) (octets_behind_day (precisions.Fraction n) utc))
+month_size Precision.Year utc = omega arith
+month_size Precision.Month utc = omega arith
+month_size Precision.Day utc = omega (arith, length-append (var_uint_octets utc.minute.date.day) (octets_behind_day Precision.Day utc))
+month_size Precision.Minute utc = omega (arith, length-append (var_uint_octets utc.minute.date.day) (octets_behind_day Precision.Minute utc))
+month_size Precision.Second utc = omega (arith, length-append (var_uint_octets utc.minute.date.day) (octets_behind_day Precision.Second utc))
+month_size (Precision.Fraction n) utc = omega (arith, length-append (var_uint_octets utc.minute.date.day) (octets_behind_day (Precision.Fraction n) utc))
 
 year_size : (p : Precision) (utc : Utc) → length (octets_behind_year p utc) ≤ length (var_uint_octets utc.minute.date.month)
     + length (octets_behind_month p utc)
-year_size precisions.Year utc = omega arith
-year_size precisions.Month utc = omega (arith, length-append (var_uint_octets utc.minute.date.month) (octets_behind_month precisions.Month utc))
-year_size precisions.Day utc = omega (arith, length-append (var_uint_octets utc.minute.date.month) (octets_behind_month precisions.Day utc))
-year_size precisions.Minute utc = omega (arith, length-append (var_uint_octets utc.minute.date.month) (octets_behind_month precisions.Minute utc))
-year_size precisions.Second utc = omega (arith, length-append (var_uint_octets utc.minute.date.month) (octets_behind_month precisions.Second utc))
-year_size (precisions.Fraction n) utc = omega (arith, length-append (var_uint_octets utc.minute.date.month) (octets_behind_month (precisions.Fraction n) utc))
+year_size Precision.Year utc = omega arith
+year_size Precision.Month utc = omega (arith, length-append (var_uint_octets utc.minute.date.month) (octets_behind_month Precision.Month utc))
+year_size Precision.Day utc = omega (arith, length-append (var_uint_octets utc.minute.date.month) (octets_behind_month Precision.Day utc))
+year_size Precision.Minute utc = omega (arith, length-append (var_uint_octets utc.minute.date.month) (octets_behind_month Precision.Minute utc))
+year_size Precision.Second utc = omega (arith, length-append (var_uint_octets utc.minute.date.month) (octets_behind_month Precision.Second utc))
+year_size (Precision.Fraction n) utc = omega (arith, length-append (var_uint_octets utc.minute.date.month) (octets_behind_month (Precision.Fraction n) utc))
 
 -- a field and what stands behind it
 field_size : (w field rest : List ℕ) (n m a : ℕ) → AreBelow 256 w → w ≡ field ++ rest → VarUInt field n → m ≡ n → a ≤ length rest
@@ -235,12 +221,12 @@ offset_size w negative n octets is = by (negative && (n == 0)) where
   by false = omega (arith, size, signed_size negative n)
 
 kept_size : (p : Precision) (offset : Option ℤ) (n : ℕ) → 1 ≤ n → length (ahead_octets offset) ≤ n → length (ahead_octets (kept_offset p offset)) ≤ n
-kept_size precisions.Year offset n one h = one
-kept_size precisions.Month offset n one h = one
-kept_size precisions.Day offset n one h = one
-kept_size precisions.Minute offset n one h = h
-kept_size precisions.Second offset n one h = h
-kept_size (precisions.Fraction digits) offset n one h = h
+kept_size Precision.Year offset n one h = one
+kept_size Precision.Month offset n one h = one
+kept_size Precision.Day offset n one h = one
+kept_size Precision.Minute offset n one h = h
+kept_size Precision.Second offset n one h = h
+kept_size (Precision.Fraction digits) offset n one h = h
 
 -- the fields of a body are those of the timestamp in UTC
 utc_is : (body : List ℕ) (t : TimestampParts) (b : IsTimestampBody body t) → utc_of t ≡ b.utc

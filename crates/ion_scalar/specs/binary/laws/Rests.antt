@@ -6,11 +6,8 @@ use Rattle.std.proofs.Math.Seq.{get_or-append_seam, take-append_seam, drop-cons}
 use Rattle.std.proofs.lemmas.Bool.{lt-leb, le-leb, leb-true, leb-false, lt-ltb, le-ltb, cases_lt}
 use Rattle.std.proofs.lemmas.List.Sums.{passes_at_first, fails_before_first}
 use Rattle.std.proofs.lemmas.List.{take_more, take_all, map-append, take-append-drop}
-use Rattle.ion_atoms.specs.declared.refusal.Reason.{Reason}
-use Rattle.ion_atoms.specs.declared.refusal.Reason.TheVariants.{TooLarge, Incomplete}
-use Rattle.ion_scalar.specs.binary.Fields.{positional, Digits128, none, more, seven_bits, groups, is_last, up_to_last, var_rest}
-use Rattle.ion_scalar.specs.binary.Reads.{Reaches, GoesOn}
-use Rattle.ion_scalar.specs.Positional.{positional_one}
+use Rattle.ion_scalar.specs.Names.{Digits128, GoesOn, Incomplete, Reason, TooLarge, groups, is_last, more, none, positional, positional_one, seven_bits, up_to_last, var_rest}
+use Rattle.ion_scalar.specs.binary.Reads.{Reaches}
 use Rattle.ion_scalar.specs.binary.VarEnds.{GoOn, ends_at, too_large_at}
 
 -- of digits of base 128 none ends a number

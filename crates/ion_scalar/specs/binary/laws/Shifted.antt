@@ -3,15 +3,9 @@ use Rattle.std.proofs.Common.{◌≡◌, ℕ, ◌+◌, ◌-◌, ◌*◌, ◌<◌
 use Rattle.std.specs.Prelude.{unsigned_abs}
 use Rattle.std.proofs.lemmas.Bool.{lt-ltb, le-ltb, cases_lt}
 use Rattle.std.proofs.lemmas.Int.{ints}
-use Rattle.ion_atoms.specs.declared.calendar.Date.{Date}
-use Rattle.ion_atoms.specs.declared.calendar.Minute.{Minute}
-use Rattle.ion_atoms.specs.TimestampBounds.{last_year, last_month}
-use Rattle.ion_atoms.specs.Calendar.{IsDate, IsMinute, InYears, month_length, day_number, minute_number, first_day, last_day}
-use Rattle.ion_atoms.specs.Timestamps.{IsOffset}
+use Rattle.ion_scalar.specs.Names.{Date, InYears, IsDate, IsMinute, IsOffset, Minute, day_at, day_number, day_of, first_day, last_day, last_month, last_year, minute_at, minute_number, month_length, moved, next_day, previous_day}
 use Rattle.ion_atoms.specs.laws.Calendar.{minute-in_years, minute_number-injective}
-use Rattle.ion_atoms.specs.Neighbours.{day_of, previous_day, next_day}
-use Rattle.ion_atoms.specs.laws.Neighbours.{next_number, next_is, previous_number, previous_is, previous_first, next_last}
-use Rattle.ion_scalar.specs.binary.Shifted.{day_at, minute_at, moved}
+use Rattle.ion_atoms.specs.laws.Neighbours.{next_is, next_last, next_number, previous_first, previous_is, previous_number}
 
 low_of : (b : Bool) (d e : Date) → 1 ≤ d.year → 1 ≤ e.year → 1 ≤ (cond b d e).year
 low_of true d e h k = h

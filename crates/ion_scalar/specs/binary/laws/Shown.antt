@@ -5,27 +5,13 @@ use Rattle.std.proofs.lemmas.Bool.{lt-leb, le-leb, cases_lt}
 use Rattle.std.proofs.lemmas.Int.{ints, fits_signed_from_abs}
 use Rattle.std.proofs.lemmas.List.{take-append-drop}
 use Rattle.std.proofs.Math.Seq.{drop-append_seam}
-use Rattle.ion_atoms.specs.declared.calendar.Minute.{Minute}
-use Rattle.ion_atoms.specs.declared.refusal.Reason.{Reason}
-use Rattle.ion_atoms.specs.declared.refusal.Reason.TheVariants.{TooLarge, Malformed, Incomplete}
-use Rattle.ion_atoms.specs.declared.timestamp.Local.{Local}
-use Rattle.ion_atoms.specs.declared.timestamp.Precision.{Precision}
-use Rattle.ion_atoms.specs.declared.timestamp.Precision.TheVariants as precisions
-use Rattle.ion_atoms.specs.TimestampBounds.{last_year, farthest_offset}
-use Rattle.ion_atoms.specs.Calendar.{IsMinute, InYears, minute_number}
+use Rattle.ion_scalar.specs.Names.{HasOffset, InYears, Incomplete, IsCut, IsMinute, IsOffset, IsTimestamp, IsTimestampBody, Local, Malformed, Minute, Precision, ReadsVarInt, Reason, Signed, TimestampParts, TooLarge, Utc, VarInt, farthest_offset, instant, kept_offset, last_year, local_in, local_minute, minute_number, minutes_ahead, moved, near, offset_from, read_fields, read_offset, shown, signed, timestamp_of_body, utc_minute, var_int, with_offset}
 use Rattle.ion_atoms.specs.laws.Calendar.{minute-in_years, minute_number-injective}
-use Rattle.ion_atoms.specs.Timestamps.{TimestampParts, IsTimestamp, IsCut, IsOffset, HasOffset, instant, utc_minute, local_minute, minutes_ahead}
 use Rattle.ion_atoms.specs.laws.Timestamps.{local_minute-is}
-use Rattle.ion_scalar.specs.declared.fields.Signed.{Signed}
-use Rattle.ion_scalar.specs.declared.timestamp_body.Utc.{Utc}
-use Rattle.ion_scalar.specs.binary.Fields.{VarInt, var_int}
-use Rattle.ion_scalar.specs.binary.Reads.{ReadsVarInt}
-use Rattle.ion_scalar.specs.binary.laws.VarInt.{var_int_read, var_int_answers}
-use Rattle.ion_scalar.specs.text.Decimals.{signed}
-use Rattle.ion_scalar.specs.binary.Shifted.{moved}
-use Rattle.ion_scalar.specs.binary.laws.Shifted.{moved_is, moved_out, moved_minute, moved_number, moved_years}
-use Rattle.ion_scalar.specs.binary.Timestamp.{IsTimestampBody, offset_from, kept_offset, local_in, near, shown, shown_by, read_offset, read_fields, with_offset, timestamp_of_body}
-use Rattle.ion_scalar.specs.binary.laws.Timestamp.{IsUtc, fields_told, fields_read, fields_are}
+use Rattle.ion_scalar.specs.binary.Timestamp.{shown_by}
+use Rattle.ion_scalar.specs.binary.laws.Shifted.{moved_is, moved_minute, moved_number, moved_out, moved_years}
+use Rattle.ion_scalar.specs.binary.laws.Timestamp.{IsUtc, fields_are, fields_read, fields_told}
+use Rattle.ion_scalar.specs.binary.laws.VarInt.{var_int_answers, var_int_read}
 
 zero_near : IsOffset (pos 0)
 zero_near = (omega (arith, ints), omega (arith, ints))
@@ -41,36 +27,36 @@ near_fits z h = fits_signed_from_abs w16 z (abs_small z h)
 
 -- the offset that is kept is less than a day
 near_kept : (p : Precision) (offset : Option ℤ) → IfSome offset IsOffset → IsOffset (minutes_ahead (kept_offset p offset))
-near_kept precisions.Year offset h = zero_near
-near_kept precisions.Month offset h = zero_near
-near_kept precisions.Day offset h = zero_near
-near_kept precisions.Minute None h = zero_near
-near_kept precisions.Minute (Some z) h = h
-near_kept precisions.Second None h = zero_near
-near_kept precisions.Second (Some z) h = h
-near_kept (precisions.Fraction digits) None h = zero_near
-near_kept (precisions.Fraction digits) (Some z) h = h
+near_kept Precision.Year offset h = zero_near
+near_kept Precision.Month offset h = zero_near
+near_kept Precision.Day offset h = zero_near
+near_kept Precision.Minute None h = zero_near
+near_kept Precision.Minute (Some z) h = h
+near_kept Precision.Second None h = zero_near
+near_kept Precision.Second (Some z) h = h
+near_kept (Precision.Fraction digits) None h = zero_near
+near_kept (Precision.Fraction digits) (Some z) h = h
 
 has_offset : (p : Precision) (offset : Option ℤ) → IfSome offset IsOffset → HasOffset p (kept_offset p offset)
-has_offset precisions.Year offset h = refl
-has_offset precisions.Month offset h = refl
-has_offset precisions.Day offset h = refl
-has_offset precisions.Minute None h = tt
-has_offset precisions.Minute (Some z) h = h
-has_offset precisions.Second None h = tt
-has_offset precisions.Second (Some z) h = h
-has_offset (precisions.Fraction digits) None h = tt
-has_offset (precisions.Fraction digits) (Some z) h = h
+has_offset Precision.Year offset h = refl
+has_offset Precision.Month offset h = refl
+has_offset Precision.Day offset h = refl
+has_offset Precision.Minute None h = tt
+has_offset Precision.Minute (Some z) h = h
+has_offset Precision.Second None h = tt
+has_offset Precision.Second (Some z) h = h
+has_offset (Precision.Fraction digits) None h = tt
+has_offset (Precision.Fraction digits) (Some z) h = h
 
 -- moving the minute leaves the fields cut
 pub cut_kept : (p : Precision) (offset : Option ℤ) (l k : Local) → IsCut p l → k.second ≡ l.second → k.fraction ≡ l.fraction
     → (kept_offset p offset ≡ None → k ≡ l) → IsCut p k
-cut_kept precisions.Year offset l k cut second fraction same = subst (IsCut precisions.Year) (sym (same refl)) cut
-cut_kept precisions.Month offset l k cut second fraction same = subst (IsCut precisions.Month) (sym (same refl)) cut
-cut_kept precisions.Day offset l k cut second fraction same = subst (IsCut precisions.Day) (sym (same refl)) cut
-cut_kept precisions.Minute offset l k cut second fraction same = (second ∙ cut.0, fraction ∙ cut.1)
-cut_kept precisions.Second offset l k cut second fraction same = fraction ∙ cut
-cut_kept (precisions.Fraction digits) offset l k cut second fraction same = (cut.0, cut.1, rw fraction cut.2)
+cut_kept Precision.Year offset l k cut second fraction same = subst (IsCut Precision.Year) (sym (same refl)) cut
+cut_kept Precision.Month offset l k cut second fraction same = subst (IsCut Precision.Month) (sym (same refl)) cut
+cut_kept Precision.Day offset l k cut second fraction same = subst (IsCut Precision.Day) (sym (same refl)) cut
+cut_kept Precision.Minute offset l k cut second fraction same = (second ∙ cut.0, fraction ∙ cut.1)
+cut_kept Precision.Second offset l k cut second fraction same = fraction ∙ cut
+cut_kept (Precision.Fraction digits) offset l k cut second fraction same = (cut.0, cut.1, rw fraction cut.2)
 
 module _ (utc : Utc) (h : IsUtc utc) (offset : Option ℤ) (o : IfSome offset IsOffset) where
   abbrev by : ℤ

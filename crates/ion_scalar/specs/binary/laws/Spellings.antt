@@ -5,12 +5,10 @@ use Rattle.std.proofs.lemmas.Int.Digits.{all_below_base_digits_of, number_digits
 use Rattle.std.proofs.lemmas.List.{take_all}
 use Rattle.std.specs.Prelude.{nat_le}
 use Rattle.std.specs.Int.Digits.{digits_of, number_from_digits_after, AllBelowBase}
-use Rattle.ion_scalar.specs.binary.Fields.{positional, Digits128, none, VarUInt, VarInt, short, long, seven_bits, six_bits, is_negative, is_last, int_negative, int_magnitude, var_uint, var_int, uint_field, int_field, signed_of}
-use Rattle.ion_scalar.specs.binary.Spellings.{var_uint_octets, var_int_octets, uint_octets, int_octets, sign_bit, signed_digits}
-use Rattle.ion_scalar.specs.Positional.{positional_push, positional_one, positional-append}
+use Rattle.ion_scalar.specs.Names.{Digits128, VarInt, VarUInt, int_field, int_magnitude, int_negative, int_octets, is_last, is_negative, long, none, positional, positional-append, positional_one, positional_push, seven_bits, short, sign_bit, signed_digits, signed_of, six_bits, uint_field, uint_octets, var_int, var_int_octets, var_uint, var_uint_octets}
 use Rattle.ion_scalar.specs.binary.laws.Rests.{digits_below, digits_take}
-use Rattle.ion_scalar.specs.binary.laws.VarUInt.{var_uint_read}
 use Rattle.ion_scalar.specs.binary.laws.VarInt.{var_int_read}
+use Rattle.ion_scalar.specs.binary.laws.VarUInt.{var_uint_read}
 
 positional_two : (base front d : ℕ) → positional base (front ∷ d ∷ []) ≡ front * base + d
 positional_two base front d = positional_push base (front ∷ []) d ∙ ap (λ p. p * base + d) (positional_one base front)

@@ -5,23 +5,10 @@ use Rattle.std.proofs.lemmas.Bool.{lt-ltb, le-ltb, lt-leb, le-leb, cases_lt}
 use Rattle.std.proofs.lemmas.List.{take-append-drop}
 use Rattle.std.proofs.Math.Nat.{pow-le-pow_right}
 use Rattle.std.proofs.Math.Seq.{drop-append_seam}
-use Rattle.ion_atoms.specs.declared.calendar.Date.{Date}
-use Rattle.ion_atoms.specs.declared.calendar.Minute.{Minute}
-use Rattle.ion_atoms.specs.declared.refusal.Reason.{Reason}
-use Rattle.ion_atoms.specs.declared.refusal.Reason.TheVariants.{TooLarge, Malformed, Incomplete}
-use Rattle.ion_atoms.specs.declared.timestamp.Precision.TheVariants as precisions
-use Rattle.ion_atoms.specs.TimestampBounds.{last_year, last_month, last_hour, last_minute, last_second, most_digits}
-use Rattle.ion_atoms.specs.Calendar.{IsDate, IsMinute, month_length}
-use Rattle.ion_atoms.specs.Timestamps.{IsCut}
-use Rattle.ion_scalar.specs.declared.fields.Signed.{Signed}
-use Rattle.ion_scalar.specs.declared.timestamp_body.Utc.{Utc}
-use Rattle.ion_scalar.specs.binary.Fields.{VarUInt, VarInt, short, long, var_uint, var_int, int_negative, int_magnitude, signed_of}
-use Rattle.ion_scalar.specs.binary.Reads.{BeginsWith, ReadsVarUInt, ReadsVarInt}
-use Rattle.ion_scalar.specs.binary.laws.VarUInt.{var_uint_read, var_uint_answers}
-use Rattle.ion_scalar.specs.binary.laws.VarInt.{var_int_read, var_int_answers}
-use Rattle.ion_atoms.specs.Neighbours.{day_of}
+use Rattle.ion_scalar.specs.Names.{AreFields, Begins, BeginsWith, Date, Incomplete, IsBehindDay, IsBehindHour, IsBehindMinute, IsBehindMonth, IsBehindSecond, IsBehindYear, IsCut, IsDate, IsFractionOf, IsMinute, IsSecondsFraction, Malformed, Minute, Precision, ReadsVarInt, ReadsVarUInt, Reason, Signed, TooLarge, Utc, VarInt, VarUInt, and_then, day_of, in_range, int_magnitude, int_negative, last_hour, last_minute, last_month, last_second, last_year, local_in, long, minute_of, month_length, most_digits, read_behind_day, read_behind_hour, read_behind_minute, read_behind_month, read_behind_second, read_behind_year, read_digits, read_field, read_fields, read_fraction, read_no_digits, short, signed_of, time_known, var_int, var_uint, with_power}
 use Rattle.ion_atoms.specs.laws.Neighbours.{month_least}
-use Rattle.ion_scalar.specs.binary.Timestamp.{time_known, minute_of, Begins, IsFractionOf, IsSecondsFraction, IsBehindSecond, IsBehindMinute, IsBehindHour, IsBehindDay, IsBehindMonth, IsBehindYear, AreFields, local_in, in_range, and_then, with_power, read_digits, read_no_digits, read_field, read_fraction, read_behind_second, read_behind_minute, read_behind_hour, read_behind_day, read_behind_month, read_behind_year, read_fields}
+use Rattle.ion_scalar.specs.binary.laws.VarInt.{var_int_answers, var_int_read}
+use Rattle.ion_scalar.specs.binary.laws.VarUInt.{var_uint_answers, var_uint_read}
 
 -- fields of a day and a time of day, those past the precision the least
 pub record IsUtc (utc : Utc) : Type 0 where
@@ -104,10 +91,10 @@ and_false false = refl
 -- a coefficient and its exponent
 module _ (minute : Minute) (second : ℕ) (octets : List ℕ) (utc : Utc) where
   abbrev DigitsTold : ℕ → Type 0
-  DigitsTold digits = (int_magnitude octets < 10 ^ digits) × (utc ≡ time_known (precisions.Fraction digits) minute second (int_magnitude octets))
+  DigitsTold digits = (int_magnitude octets < 10 ^ digits) × (utc ≡ time_known (Precision.Fraction digits) minute second (int_magnitude octets))
 
   bounded : (digits : ℕ) → cond (nat_lt (int_magnitude octets) (10 ^ digits))
-      (Ok (time_known (precisions.Fraction digits) minute second (int_magnitude octets))) (Err Malformed) ≡ Ok utc → DigitsTold digits
+      (Ok (time_known (Precision.Fraction digits) minute second (int_magnitude octets))) (Err Malformed) ≡ Ok utc → DigitsTold digits
   bounded digits e =
       elim (cases_lt (int_magnitude octets) (10 ^ digits)) [
         | inl small ↦ (small, let h = rw (lt-ltb (int_magnitude octets) (10 ^ digits) small) at e in cc)
@@ -123,7 +110,7 @@ module _ (minute : Minute) (second : ℕ) (octets : List ℕ) (utc : Utc) where
         | inr none ↦ (inr (omega arith), bounded digits (rw (sign, le-ltb 0 (int_magnitude octets) none) at e))
       ]
 
-  no_digits : read_no_digits minute second octets ≡ Ok utc → (int_magnitude octets ≡ 0) × (utc ≡ time_known precisions.Second minute second 0)
+  no_digits : read_no_digits minute second octets ≡ Ok utc → (int_magnitude octets ≡ 0) × (utc ≡ time_known Precision.Second minute second 0)
   no_digits e =
       elim (cases_lt 0 (int_magnitude octets)) [
         | inl some ↦ absurd (let h = rw (lt-ltb 0 (int_magnitude octets) some) at e in cc)

@@ -4,24 +4,13 @@ use Rattle.std.specs.Prelude.{nat_lt, ◌&&◌}
 use Rattle.std.proofs.lemmas.Bool.{lt-ltb, le-ltb, lt-leb, le-leb, cases_lt}
 use Rattle.std.proofs.lemmas.List.{take-append-drop}
 use Rattle.std.proofs.Math.Seq.{drop-append_seam}
-use Rattle.ion_atoms.specs.declared.calendar.Date.{Date}
-use Rattle.ion_atoms.specs.declared.calendar.Minute.{Minute}
-use Rattle.ion_atoms.specs.declared.refusal.Reason.{Reason}
-use Rattle.ion_atoms.specs.declared.refusal.Reason.TheVariants.{TooLarge, Malformed, Incomplete}
-use Rattle.ion_atoms.specs.TimestampBounds.{last_year, last_month, last_hour, last_minute, last_second, farthest_offset, most_digits}
-use Rattle.ion_atoms.specs.Calendar.{month_length}
-use Rattle.ion_atoms.specs.Timestamps.{TimestampParts}
-use Rattle.ion_scalar.specs.declared.fields.Signed.{Signed}
-use Rattle.ion_scalar.specs.declared.timestamp_body.Utc.{Utc}
-use Rattle.ion_scalar.specs.binary.Fields.{VarInt, var_uint, var_int, int_magnitude, signed_of}
-use Rattle.ion_scalar.specs.binary.Reads.{Reaches, ReadsVarUInt, ReadsVarInt}
+use Rattle.ion_scalar.specs.Names.{AreLargeFields, Date, Incomplete, IsLargeBehindDay, IsLargeBehindHour, IsLargeBehindMinute, IsLargeBehindMonth, IsLargeBehindSecond, IsLargeBehindYear, IsLargeBody, IsLargeFraction, IsLargePart, Malformed, Minute, ReadsTimestampBody, ReadsVarInt, ReadsVarUInt, Reason, Signed, TimestampParts, TooLarge, Utc, VarInt, and_then, day_of, farthest_offset, in_range, int_magnitude, last_hour, last_minute, last_month, last_second, last_year, minute_of, month_length, most_digits, near, offset_from, read_behind_day, read_behind_hour, read_behind_minute, read_behind_month, read_behind_second, read_behind_year, read_digits, read_field, read_fields, read_fraction, read_no_digits, read_offset, shown, signed_of, timestamp_of_body, var_int, var_uint, with_offset, with_power}
+use Rattle.ion_scalar.specs.binary.Reads.{Reaches}
+use Rattle.ion_scalar.specs.binary.Timestamp.{shown_by}
+use Rattle.ion_scalar.specs.binary.laws.Shown.{timestamp_read, timestamp_told}
+use Rattle.ion_scalar.specs.binary.laws.Timestamp.{Told, begins_some, field_told, int_some, part_read}
+use Rattle.ion_scalar.specs.binary.laws.VarInt.{var_int_answers, var_int_reaches, var_int_read}
 use Rattle.ion_scalar.specs.binary.laws.VarUInt.{var_uint_answers, var_uint_reaches}
-use Rattle.ion_scalar.specs.binary.laws.VarInt.{var_int_read, var_int_answers, var_int_reaches}
-use Rattle.ion_atoms.specs.Neighbours.{day_of}
-use Rattle.ion_scalar.specs.binary.Timestamp.{minute_of, offset_from, in_range, and_then, with_power, near, shown, shown_by, with_offset, read_offset, read_digits, read_no_digits, read_field, read_fraction, read_behind_second, read_behind_minute, read_behind_hour, read_behind_day, read_behind_month, read_behind_year, read_fields, timestamp_of_body}
-use Rattle.ion_scalar.specs.binary.laws.Timestamp.{Told, field_told, part_read, begins_some, int_some}
-use Rattle.ion_scalar.specs.binary.laws.Shown.{timestamp_told, timestamp_read}
-use Rattle.ion_scalar.specs.binary.TimestampReasons.{IsLargePart, IsLargeFraction, IsLargeBehindSecond, IsLargeBehindMinute, IsLargeBehindHour, IsLargeBehindDay, IsLargeBehindMonth, IsLargeBehindYear, AreLargeFields, IsLargeBody, ReadsTimestampBody}
 
 -- too large, as the octets say, or else malformed
 abbrev Refused : Type 0 → Reason → Type 0

@@ -4,27 +4,14 @@ use Rattle.std.specs.Prelude.{IfSome, ◌==◌}
 use Rattle.std.proofs.Math.Nat.{pow-le-pow_right}
 use Rattle.std.proofs.lemmas.Int.{ints}
 use Rattle.std.proofs.lemmas.Bool.{le-ltb, eqb-true}
-use Rattle.ion_atoms.specs.declared.calendar.Minute.{Minute}
-use Rattle.ion_atoms.specs.declared.timestamp.Local.{Local}
-use Rattle.ion_atoms.specs.declared.timestamp.Precision.{Precision}
-use Rattle.ion_atoms.specs.declared.timestamp.Precision.TheVariants as precisions
-use Rattle.ion_atoms.specs.TimestampBounds.{last_year, last_month, last_hour, last_minute, last_second, farthest_offset, most_digits}
-use Rattle.ion_atoms.specs.Calendar.{IsMinute, InYears, minute_number, month_length}
+use Rattle.ion_scalar.specs.Names.{AreFields, Begins, HasOffset, InYears, IsBehindDay, IsBehindHour, IsBehindMinute, IsBehindMonth, IsBehindSecond, IsBehindYear, IsCut, IsMinute, IsOffset, IsTimestamp, IsTimestampBody, Local, Minute, Precision, TimestampParts, Utc, VarInt, ahead_octets, day_of, farthest_offset, fields_octets, int_octets, kept_offset, last_hour, last_minute, last_month, last_second, last_year, local_in, local_minute, minute_number, minute_of, minutes_ahead, month_length, most_digits, moved, octets_behind_minute, octets_behind_second, offset_from, time_known, timestamp_octets, timestamp_of_body, utc_minute, utc_of, var_int_octets, var_uint_octets}
 use Rattle.ion_atoms.specs.laws.Calendar.{minute_number-injective}
-use Rattle.ion_atoms.specs.Timestamps.{TimestampParts, IsTimestamp, IsCut, IsOffset, HasOffset, utc_minute, local_minute, minutes_ahead}
-use Rattle.ion_atoms.specs.laws.Timestamps.{local_minute-is}
-use Rattle.ion_scalar.specs.declared.timestamp_body.Utc.{Utc}
-use Rattle.ion_scalar.specs.binary.Fields.{VarInt}
-use Rattle.ion_atoms.specs.Neighbours.{day_of}
-use Rattle.ion_scalar.specs.binary.Shifted.{moved}
 use Rattle.ion_atoms.specs.laws.Neighbours.{month_most}
+use Rattle.ion_atoms.specs.laws.Timestamps.{local_minute-is}
 use Rattle.ion_scalar.specs.binary.laws.Shifted.{moved_is}
-use Rattle.ion_scalar.specs.binary.Spellings.{var_uint_octets, var_int_octets, int_octets}
-use Rattle.ion_scalar.specs.binary.laws.Spellings.{var_uint_spelled, var_int_spelled, int_parts}
-use Rattle.ion_scalar.specs.binary.Timestamp.{time_known, minute_of, Begins, IsBehindSecond, IsBehindMinute, IsBehindHour, IsBehindDay, IsBehindMonth, IsBehindYear, AreFields, IsTimestampBody, local_in, offset_from, kept_offset, timestamp_of_body}
-use Rattle.ion_scalar.specs.binary.laws.Timestamp.{IsUtc}
 use Rattle.ion_scalar.specs.binary.laws.Shown.{cut_kept, timestamp_read}
-use Rattle.ion_scalar.specs.binary.TimestampSpellings.{ahead_octets, utc_of, octets_behind_second, octets_behind_minute, fields_octets, timestamp_octets}
+use Rattle.ion_scalar.specs.binary.laws.Spellings.{int_parts, var_int_spelled, var_uint_spelled}
+use Rattle.ion_scalar.specs.binary.laws.Timestamp.{IsUtc}
 
 begins : (least most : ℕ) (Behind : ℕ → List ℕ → Type 0) (n : ℕ) (rest : List ℕ) → most < 2 ^ 63 → least ≤ n → n ≤ most → Behind n rest
     → Begins least most Behind (var_uint_octets n ++ rest)
@@ -45,8 +32,8 @@ module _ (m : Minute) (h : IsMinute m) (s : ℕ) (k : s ≤ last_second) (f : �
   abbrev IsCutTo : Precision → Type 0
   IsCutTo p = IsCut p (local_in (time_known p m s f) m)
 
-  fraction_spelled : (digits : ℕ) → IsCutTo (precisions.Fraction digits)
-      → IsBehindSecond m s (octets_behind_second (precisions.Fraction digits) (utc (precisions.Fraction digits))) (utc (precisions.Fraction digits))
+  fraction_spelled : (digits : ℕ) → IsCutTo (Precision.Fraction digits)
+      → IsBehindSecond m s (octets_behind_second (Precision.Fraction digits) (utc (Precision.Fraction digits))) (utc (Precision.Fraction digits))
   fraction_spelled digits cut =
       let parts = int_parts false f in
       inr (record {
@@ -56,14 +43,14 @@ module _ (m : Minute) (h : IsMinute m) (s : ℕ) (k : s ≤ last_second) (f : �
         power = digits;
         cut = refl;
         is = var_int_spelled true digits (omega (arith, cut.1));
-        fraction = inl (refl, cut.0, cut.1, inl parts.0, rw parts.1 cut.2, λ i. time_known (precisions.Fraction digits) m s (sym parts.1 i));
+        fraction = inl (refl, cut.0, cut.1, inl parts.0, rw parts.1 cut.2, λ i. time_known (Precision.Fraction digits) m s (sym parts.1 i));
       })
 
-  second_spelled : IsCutTo precisions.Second → IsBehindSecond m s (octets_behind_second precisions.Second (utc precisions.Second)) (utc precisions.Second)
-  second_spelled cut = inl (refl, λ i. time_known precisions.Second m s (cut i))
+  second_spelled : IsCutTo Precision.Second → IsBehindSecond m s (octets_behind_second Precision.Second (utc Precision.Second)) (utc Precision.Second)
+  second_spelled cut = inl (refl, λ i. time_known Precision.Second m s (cut i))
 
-  minute_spelled : IsCutTo precisions.Minute → IsBehindMinute m (octets_behind_minute precisions.Minute (utc precisions.Minute)) (utc precisions.Minute)
-  minute_spelled cut = inl (refl, λ i. time_known precisions.Minute m (cut.0 i) (cut.1 i))
+  minute_spelled : IsCutTo Precision.Minute → IsBehindMinute m (octets_behind_minute Precision.Minute (utc Precision.Minute)) (utc Precision.Minute)
+  minute_spelled cut = inl (refl, λ i. time_known Precision.Minute m (cut.0 i) (cut.1 i))
 
   -- a second behind a minute, an hour and a minute behind a day, and so on
   seconds : (u : Utc) (rest : List ℕ) → IsBehindSecond m s rest u → IsBehindMinute m (var_uint_octets s ++ rest) u
@@ -91,15 +78,15 @@ module _ (m : Minute) (h : IsMinute m) (s : ℕ) (k : s ≤ last_second) (f : �
 
   pub fields_spelled : (p : Precision) → IsCutTo p → AreFields (fields_octets (utc p)) (utc p)
   unfolding known
-  fields_spelled precisions.Year cut =
-      years _ _ (inl (refl, λ i. known precisions.Year (cut.0 i) (cut.1 i) (cut.2 i) (cut.3 i) (cut.4 i) (cut.5 i)))
-  fields_spelled precisions.Month cut =
-      years _ _ (months _ _ (inl (refl, λ i. known precisions.Month m.date.month (cut.0 i) (cut.1 i) (cut.2 i) (cut.3 i) (cut.4 i))))
-  fields_spelled precisions.Day cut =
-      years _ _ (months _ _ (days _ _ (inl (refl, λ i. known precisions.Day m.date.month m.date.day (cut.0 i) (cut.1 i) (cut.2 i) (cut.3 i)))))
-  fields_spelled precisions.Minute cut = years _ _ (months _ _ (days _ _ (hours _ _ (minute_spelled cut))))
-  fields_spelled precisions.Second cut = years _ _ (months _ _ (days _ _ (hours _ _ (seconds _ _ (second_spelled cut)))))
-  fields_spelled (precisions.Fraction digits) cut =
+  fields_spelled Precision.Year cut =
+      years _ _ (inl (refl, λ i. known Precision.Year (cut.0 i) (cut.1 i) (cut.2 i) (cut.3 i) (cut.4 i) (cut.5 i)))
+  fields_spelled Precision.Month cut =
+      years _ _ (months _ _ (inl (refl, λ i. known Precision.Month m.date.month (cut.0 i) (cut.1 i) (cut.2 i) (cut.3 i) (cut.4 i))))
+  fields_spelled Precision.Day cut =
+      years _ _ (months _ _ (days _ _ (inl (refl, λ i. known Precision.Day m.date.month m.date.day (cut.0 i) (cut.1 i) (cut.2 i) (cut.3 i)))))
+  fields_spelled Precision.Minute cut = years _ _ (months _ _ (days _ _ (hours _ _ (minute_spelled cut))))
+  fields_spelled Precision.Second cut = years _ _ (months _ _ (days _ _ (hours _ _ (seconds _ _ (second_spelled cut)))))
+  fields_spelled (Precision.Fraction digits) cut =
       years _ _ (months _ _ (days _ _ (hours _ _ (seconds _ _ (fraction_spelled digits cut)))))
 
 -- the offset
@@ -135,23 +122,23 @@ none_near : (offset : Option ℤ) → offset ≡ None → IfSome offset IsOffset
 none_near offset e = let P : Option ℤ → Type 0 = λ x. IfSome x IsOffset in subst P (sym e) tt
 
 near_offset : (p : Precision) (offset : Option ℤ) → HasOffset p offset → IfSome offset IsOffset
-near_offset precisions.Year offset h = none_near offset h
-near_offset precisions.Month offset h = none_near offset h
-near_offset precisions.Day offset h = none_near offset h
-near_offset precisions.Minute None h = tt
-near_offset precisions.Minute (Some z) h = h
-near_offset precisions.Second None h = tt
-near_offset precisions.Second (Some z) h = h
-near_offset (precisions.Fraction digits) None h = tt
-near_offset (precisions.Fraction digits) (Some z) h = h
+near_offset Precision.Year offset h = none_near offset h
+near_offset Precision.Month offset h = none_near offset h
+near_offset Precision.Day offset h = none_near offset h
+near_offset Precision.Minute None h = tt
+near_offset Precision.Minute (Some z) h = h
+near_offset Precision.Second None h = tt
+near_offset Precision.Second (Some z) h = h
+near_offset (Precision.Fraction digits) None h = tt
+near_offset (Precision.Fraction digits) (Some z) h = h
 
 kept_is : (p : Precision) (offset : Option ℤ) → HasOffset p offset → offset ≡ kept_offset p offset
-kept_is precisions.Year offset h = h
-kept_is precisions.Month offset h = h
-kept_is precisions.Day offset h = h
-kept_is precisions.Minute offset h = refl
-kept_is precisions.Second offset h = refl
-kept_is (precisions.Fraction digits) offset h = refl
+kept_is Precision.Year offset h = h
+kept_is Precision.Month offset h = h
+kept_is Precision.Day offset h = h
+kept_is Precision.Minute offset h = refl
+kept_is Precision.Second offset h = refl
+kept_is (Precision.Fraction digits) offset h = refl
 
 pub near_back : (offset : Option ℤ) → IfSome offset IsOffset → IsOffset (neg_ℤ (minutes_ahead offset))
 near_back None h = (omega (arith, ints), omega (arith, ints))
@@ -216,12 +203,12 @@ module _ (t : TimestampParts) (h : IsTimestamp t) where
 
 -- a fraction has at most 38 digits
 cut_small : (p : Precision) (l : Local) → IsCut p l → l.fraction < 2 ^ 127
-cut_small precisions.Year l cut = omega (arith, cut.5)
-cut_small precisions.Month l cut = omega (arith, cut.4)
-cut_small precisions.Day l cut = omega (arith, cut.3)
-cut_small precisions.Minute l cut = omega (arith, cut.1)
-cut_small precisions.Second l cut = omega (arith, cut)
-cut_small (precisions.Fraction digits) l cut =
+cut_small Precision.Year l cut = omega (arith, cut.5)
+cut_small Precision.Month l cut = omega (arith, cut.4)
+cut_small Precision.Day l cut = omega (arith, cut.3)
+cut_small Precision.Minute l cut = omega (arith, cut.1)
+cut_small Precision.Second l cut = omega (arith, cut)
+cut_small (Precision.Fraction digits) l cut =
     let most : 10 ^ digits ≤ 10 ^ most_digits = pow-le-pow_right (omega arith) cut.1 in
     omega (arith, most, cut.2)
 

@@ -3,21 +3,12 @@ use Rattle.std.proofs.Common.{◌≡◌, ℕ, ℤ, cond, Bool, true, false, zero
 use Rattle.std.specs.Prelude.{is_ok, IsOkAnd}
 use Rattle.std.proofs.lemmas.Bool.{lt-ltb, le-ltb, le-leb, cases_lt}
 use Rattle.std.proofs.Math.Nat.{pow-le-pow_right}
-use Rattle.ion_atoms.specs.declared.calendar.Minute.{Minute}
-use Rattle.ion_atoms.specs.declared.refusal.Reason.{Reason}
-use Rattle.ion_atoms.specs.declared.timestamp.Precision.TheVariants as precisions
-use Rattle.ion_atoms.specs.TimestampBounds.{last_year}
-use Rattle.ion_atoms.specs.Timestamps.{minutes_ahead}
-use Rattle.ion_scalar.specs.declared.timestamp_body.Utc.{Utc}
-use Rattle.ion_scalar.specs.binary.Fields.{positional, short, var_int, uint_field, int_field, int_magnitude, int_negative, is_last, is_negative, seven_bits, six_bits, signed_of}
-use Rattle.ion_scalar.specs.binary.Decimal.{with_exponent, with_coefficient, decimal_of_body}
-use Rattle.ion_scalar.specs.binary.Spellings.{AreBelow}
-use Rattle.ion_scalar.specs.binary.Timestamp.{time_known, kept_offset, with_power, read_behind_second, read_fraction, read_fields, read_offset, shown, shown_by, timestamp_of_body}
+use Rattle.ion_scalar.specs.Names.{AreBelow, Minute, Precision, Reason, Utc, decimal_of_body, int_field, int_magnitude, int_negative, is_last, is_negative, kept_offset, last_year, minutes_ahead, moved, positional, read_behind_second, read_fields, read_fraction, read_offset, seven_bits, short, shown, signed_of, six_bits, time_known, timestamp_of_body, uint_field, var_int, with_coefficient, with_exponent, with_power}
+use Rattle.ion_scalar.specs.binary.Timestamp.{shown_by}
 use Rattle.ion_scalar.specs.binary.laws.Fewest.{positional_below, six_below}
 use Rattle.ion_scalar.specs.binary.laws.Shifted.{moved_stays}
 use Rattle.ion_scalar.specs.binary.laws.Timestamp.{fraction_read}
 use Rattle.ion_scalar.specs.binary.laws.VarInt.{var_int_read}
-use Rattle.ion_scalar.specs.binary.Shifted.{moved}
 
 -- 15 octets hold 120 bits
 small : (octets : List ℕ) → AreBelow 256 octets → length octets < 16 → positional 256 octets < 2 ^ 127
@@ -109,7 +100,7 @@ usual_fraction (octet ∷ rest) some few plus bound minute second =
     let seven : seven_bits octet ≡ octet - 128 = rw (le-leb 128 octet (omega arith)) refl in
     let below : is_negative octet ≡ true = rw seven (le-leb 64 (octet - 128) (omega arith)) in
     let six : six_bits octet ≡ power = rw (below, seven) (omega arith) in
-    let utc : Utc = time_known (precisions.Fraction power) minute second (int_magnitude rest) in
+    let utc : Utc = time_known (Precision.Fraction power) minute second (int_magnitude rest) in
     let read = ap (with_power minute second (octet ∷ rest)) (var_int_read (octet ∷ []) rest (is_negative octet) (six_bits octet) (short octet (omega arith))) in
     let is = fraction_read minute second rest utc true power (inl (refl, omega arith, omega arith, inl plus, bound, refl)) in
     let whole : with_power minute second (octet ∷ rest) (var_int (octet ∷ rest)) ≡ Ok utc =

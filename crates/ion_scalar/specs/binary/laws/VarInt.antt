@@ -2,12 +2,8 @@
 use Rattle.std.proofs.Common.{◌≡◌, ℕ, Bool, cond, suc, [], ◌∷◌, ◌++◌, ◌+◌, ◌^◌, ◌<◌, ◌≤◌, List, length, refl, sym, ap, subst, ◌∙◌, arith, Ok, Err, Result, inl, inr, length-append, append_assoc}
 use Rattle.std.proofs.lemmas.Bool.Decides.{nat_tests}
 use Rattle.std.proofs.lemmas.Bool.{lt-leb, le-leb, cases_lt}
-use Rattle.ion_atoms.specs.declared.refusal.Reason.{Reason}
-use Rattle.ion_atoms.specs.declared.refusal.Reason.TheVariants.{TooLarge, Incomplete}
-use Rattle.ion_scalar.specs.declared.fields.Signed.{Signed}
-use Rattle.ion_scalar.specs.binary.Fields.{positional, VarInt, short, long, seven_bits, six_bits, is_negative, with_sign, signed_of, var_rest, var_int}
-use Rattle.ion_scalar.specs.binary.Reads.{BeginsWithInt, ReachesInt, GoesOnInt, ReadsVarInt}
-use Rattle.ion_scalar.specs.binary.laws.Rests.{Ended, ReadsRest, rest_read, rest_reaches, rest_goes_on, rest_answers}
+use Rattle.ion_scalar.specs.Names.{BeginsWithInt, GoesOnInt, Incomplete, ReachesInt, ReadsVarInt, Reason, Signed, TooLarge, VarInt, is_negative, long, positional, seven_bits, short, signed_of, six_bits, var_int, var_rest, with_sign}
+use Rattle.ion_scalar.specs.binary.laws.Rests.{Ended, ReadsRest, rest_answers, rest_goes_on, rest_reaches, rest_read}
 
 module _ (octet : ℕ) (rest : List ℕ) where
   pick : Bool → Result (Signed × ℕ) Reason

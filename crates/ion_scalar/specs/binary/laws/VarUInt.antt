@@ -1,10 +1,8 @@
 -- A VarUInt is read back, and what is read is one.
 use Rattle.std.proofs.Common.{◌≡◌, ℕ, [], ◌∷◌, ◌++◌, ◌+◌, List, length, refl, sym, ap, subst, ◌∙◌, arith, Ok, Err, Result, length-append, append_assoc}
-use Rattle.ion_atoms.specs.declared.refusal.Reason.{Reason}
-use Rattle.ion_atoms.specs.declared.refusal.Reason.TheVariants.{TooLarge}
-use Rattle.ion_scalar.specs.binary.Fields.{positional, VarUInt, var_uint}
-use Rattle.ion_scalar.specs.binary.Reads.{BeginsWith, Reaches, ReadsVarUInt}
-use Rattle.ion_scalar.specs.binary.laws.Rests.{Ended, ReadsRest, rest_read, rest_reaches, rest_answers}
+use Rattle.ion_scalar.specs.Names.{BeginsWith, ReadsVarUInt, Reason, TooLarge, VarUInt, positional, var_uint}
+use Rattle.ion_scalar.specs.binary.Reads.{Reaches}
+use Rattle.ion_scalar.specs.binary.laws.Rests.{Ended, ReadsRest, rest_answers, rest_reaches, rest_read}
 
 -- octets that begin with a VarUInt are read as its value and length
 pub var_uint_read : (w rest : List ℕ) (n : ℕ) → VarUInt w n → var_uint (w ++ rest) ≡ Ok (n, length w)

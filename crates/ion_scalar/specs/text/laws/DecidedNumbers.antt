@@ -2,12 +2,8 @@
 use Rattle.std.proofs.Common.{◌≡◌, ℕ, ◌⊎◌, inl, inr, List, [], ◌∷◌, ◌++◌, length, slice_index, Bool, true, false, ℤ, pos, ◌-ℤ◌, refl, ap}
 use Rattle.std.proofs.Math.Decide.{map_dec, ℕ_discrete, dec_lt}
 use Rattle.std.specs.Char.{digit_value}
-use Rattle.ion_scalar.specs.declared.number.Number.{Number}
-use Rattle.ion_scalar.specs.declared.number.Number.TheVariants as numbers
-use Rattle.ion_scalar.specs.text.Ints.{IsDigits, digits_in, number, IsWholePart, IsRadix, IsMagnitude}
-use Rattle.ion_scalar.specs.text.Decimals.{signed, IsPlain, IsSigned, IsLetter, IsExponent, IsEnd, IsFraction, IsTail, IsDecimalBody}
-use Rattle.ion_scalar.specs.text.Numbers.{IsBehind, IsFloatBody, IsNumeral, IsFloat}
-use Rattle.ion_scalar.specs.text.laws.Deciding.{both, either, not_so, is_empty, Cut, some_cut, some_behind}
+use Rattle.ion_scalar.specs.Names.{IsBehind, IsDecimalBody, IsDigits, IsEnd, IsExponent, IsFloat, IsFloatBody, IsFraction, IsLetter, IsMagnitude, IsNumeral, IsPlain, IsRadix, IsSigned, IsTail, IsWholePart, Number, digits_in, number, signed}
+use Rattle.ion_scalar.specs.text.laws.Deciding.{Cut, both, either, is_empty, not_so, some_behind, some_cut}
 
 digits : (base : ℕ) (os : List ℕ) → Dec (IsDigits base os)
 digits base [] = no (λ h. h)
@@ -163,13 +159,13 @@ abbrev SomeBehind : Bool → List ℕ → Type 0
 SomeBehind negative body = (x : Number) × IsBehind negative body x
 
 behind_parts : (negative : Bool) (body : List ℕ) (x : Number) → IsBehind negative body x → SomeMagnitude body ⊎ SomeDecimal false body
-behind_parts negative body (numbers.Int z) h = inl (h.0, h.1)
-behind_parts negative body (numbers.Decimal d) h = inr (record { magnitude = d.magnitude; exponent = d.exponent; is = h.1 })
-behind_parts negative body (numbers.Timestamp t) h = absurd h
+behind_parts negative body (Number.Int z) h = inl (h.0, h.1)
+behind_parts negative body (Number.Decimal d) h = inr (record { magnitude = d.magnitude; exponent = d.exponent; is = h.1 })
+behind_parts negative body (Number.Timestamp t) h = absurd h
 
 number_behind : (negative : Bool) (body : List ℕ) → SomeMagnitude body ⊎ SomeDecimal false body → SomeBehind negative body
-number_behind negative body (inl m) = (numbers.Int (signed negative m.0), (m.0, m.1, refl))
-number_behind negative body (inr d) = (numbers.Decimal (record { negative = negative; magnitude = d.magnitude; exponent = d.exponent }), (refl, d.is))
+number_behind negative body (inl m) = (Number.Int (signed negative m.0), (m.0, m.1, refl))
+number_behind negative body (inr d) = (Number.Decimal (record { negative = negative; magnitude = d.magnitude; exponent = d.exponent }), (refl, d.is))
 
 behind : (negative : Bool) (body : List ℕ) → Dec (SomeBehind negative body)
 behind negative body = map_dec (number_behind negative body) (λ h. behind_parts negative body h.0 h.1) (either (magnitude body) (decimal false body))

@@ -1,18 +1,9 @@
 -- Whether octets are the token of a timestamp, and whether there is such a day and time.
 use Rattle.std.proofs.Common.{◌≡◌, ℕ, ◌+◌, ◌*◌, ◌^◌, ◌≤◌, ◌⊎◌, inl, inr, List, length, drop, slice_index, ℤ, pos, neg_ℤ, Option, Some, None, refl}
 use Rattle.std.proofs.Math.Decide.{map_dec, ℕ_discrete, dec_le, dec_lt}
-use Rattle.ion_atoms.specs.TimestampBounds.{last_year, last_month, last_hour, last_minute, last_second, farthest_offset, most_digits}
-use Rattle.ion_atoms.specs.Calendar.{IsDate, InYears, month_length, first_day, last_day}
-use Rattle.ion_atoms.specs.declared.calendar.Date.{Date}
-use Rattle.ion_atoms.specs.declared.timestamp.Local.{Local}
-use Rattle.ion_atoms.specs.declared.timestamp.Precision.{Precision}
-use Rattle.ion_atoms.specs.declared.timestamp.Precision.TheVariants as precisions
-use Rattle.ion_atoms.specs.Timestamps.{TimestampParts, IsTimestamp, IsTime, IsCut, IsOffset, HasOffset, local_date, utc_minute}
-use Rattle.ion_scalar.specs.text.Ints.{number}
-use Rattle.ion_scalar.specs.text.Decimals.{IsPlain}
-use Rattle.ion_scalar.specs.text.Timestamps.{IsAt, IsDigitAt, AreTwoAt, two, AreFourAt, four, BeginsWithMonth, BeginsWithDay, BeginsWithMinute, BeginsWithSecond, IsOffsetToken, IsYear, IsMonth, IsDay, IsTimestampToken, year, month, day, minute, second, fraction, dated, timed, IsShort}
-use Rattle.ion_scalar.specs.text.laws.Deciding.{both, three, five, either, below, at_most, Cut, some_cut}
+use Rattle.ion_scalar.specs.Names.{AreFourAt, AreTwoAt, BeginsWithDay, BeginsWithMinute, BeginsWithMonth, BeginsWithSecond, Date, HasOffset, InYears, IsAt, IsCut, IsDate, IsDay, IsDigitAt, IsMonth, IsOffset, IsOffsetToken, IsPlain, IsShort, IsTime, IsTimestamp, IsTimestampToken, IsYear, Local, Precision, TimestampParts, dated, day, farthest_offset, first_day, four, fraction, last_day, last_hour, last_minute, last_month, last_second, last_year, local_date, minute, month, month_length, most_digits, number, second, timed, two, utc_minute, year}
 use Rattle.ion_scalar.specs.text.laws.DecidedNumbers.{plain}
+use Rattle.ion_scalar.specs.text.laws.Deciding.{Cut, at_most, below, both, either, five, some_cut, three}
 
 -- 1. The forms.
 
@@ -83,14 +74,14 @@ abbrev pub SomeTimestamp : List ℕ → Type 0
 SomeTimestamp os = (t : TimestampParts) × IsTimestampToken os t
 
 form_timestamp : (os : List ℕ) → Form os → SomeTimestamp os
-form_timestamp os (inl h) = (dated precisions.Year (four os 0) 1 1, year h)
-form_timestamp os (inr (inl h)) = (dated precisions.Month (four os 0) (two os 5) 1, month h)
-form_timestamp os (inr (inr (inl h))) = (dated precisions.Day (four os 0) (two os 5) (two os 8), day h)
-form_timestamp os (inr (inr (inr (inl h)))) = (timed os precisions.Minute 0 0 (drop 16 os), minute h.0 h.1)
-form_timestamp os (inr (inr (inr (inr (inl h))))) = (timed os precisions.Second (two os 17) 0 (drop 19 os), second h.0 h.1)
+form_timestamp os (inl h) = (dated Precision.Year (four os 0) 1 1, year h)
+form_timestamp os (inr (inl h)) = (dated Precision.Month (four os 0) (two os 5) 1, month h)
+form_timestamp os (inr (inr (inl h))) = (dated Precision.Day (four os 0) (two os 5) (two os 8), day h)
+form_timestamp os (inr (inr (inr (inl h)))) = (timed os Precision.Minute 0 0 (drop 16 os), minute h.0 h.1)
+form_timestamp os (inr (inr (inr (inr (inl h))))) = (timed os Precision.Second (two os 17) 0 (drop 19 os), second h.0 h.1)
 form_timestamp os (inr (inr (inr (inr (inr h))))) =
     let c = h.2 in (
-      timed os (precisions.Fraction (length c.front)) (two os 17) (number 10 c.front) c.rest,
+      timed os (Precision.Fraction (length c.front)) (two os 17) (number 10 c.front) c.rest,
       fraction h.0 h.1 c.front c.rest (record { cut = c.octets; plain = c.is.0; offset = c.is.1 }),
     )
 
@@ -125,15 +116,15 @@ no_time : (l : Local) → Dec ((l.hour ≡ 0) × (l.minute ≡ 0) × (l.second �
 no_time l = map_dec (λ p. (p.0, p.1, p.2.0, p.2.1)) (λ p. (p.0, p.1, (p.2, p.3))) (three (ℕ_discrete l.hour 0) (ℕ_discrete l.minute 0) (no_seconds l))
 
 cut_there : (p : Precision) (l : Local) → Dec (IsCut p l)
-cut_there precisions.Year l =
+cut_there Precision.Year l =
     map_dec (λ p. (p.0, p.1, p.2.0, p.2.1, p.2.2, p.2.3)) (λ p. (p.0, p.1, (p.2, p.3, p.4, p.5)))
     (three (ℕ_discrete l.month 1) (ℕ_discrete l.day 1) (no_time l))
-cut_there precisions.Month l =
+cut_there Precision.Month l =
     map_dec (λ p. (p.0, p.1.0, p.1.1, p.1.2, p.1.3)) (λ p. (p.0, (p.1, p.2, p.3, p.4))) (both (ℕ_discrete l.day 1) (no_time l))
-cut_there precisions.Day l = no_time l
-cut_there precisions.Minute l = no_seconds l
-cut_there precisions.Second l = ℕ_discrete l.fraction 0
-cut_there (precisions.Fraction digits) l = three (dec_le 1 digits) (dec_le digits most_digits) (dec_lt l.fraction (10 ^ digits))
+cut_there Precision.Day l = no_time l
+cut_there Precision.Minute l = no_seconds l
+cut_there Precision.Second l = ℕ_discrete l.fraction 0
+cut_there (Precision.Fraction digits) l = three (dec_le 1 digits) (dec_le digits most_digits) (dec_lt l.fraction (10 ^ digits))
 
 unknown : (o : Option ℤ) → Dec (o ≡ None)
 unknown None = yes refl
@@ -143,15 +134,15 @@ near : (z : ℤ) → Dec (IsOffset z)
 near z = both (at_most (neg_ℤ (pos farthest_offset)) z) (at_most z (pos farthest_offset))
 
 offset_there : (p : Precision) (o : Option ℤ) → Dec (HasOffset p o)
-offset_there precisions.Year o = unknown o
-offset_there precisions.Month o = unknown o
-offset_there precisions.Day o = unknown o
-offset_there precisions.Minute None = yes tt
-offset_there precisions.Second None = yes tt
-offset_there (precisions.Fraction digits) None = yes tt
-offset_there precisions.Minute (Some z) = near z
-offset_there precisions.Second (Some z) = near z
-offset_there (precisions.Fraction digits) (Some z) = near z
+offset_there Precision.Year o = unknown o
+offset_there Precision.Month o = unknown o
+offset_there Precision.Day o = unknown o
+offset_there Precision.Minute None = yes tt
+offset_there Precision.Second None = yes tt
+offset_there (Precision.Fraction digits) None = yes tt
+offset_there Precision.Minute (Some z) = near z
+offset_there Precision.Second (Some z) = near z
+offset_there (Precision.Fraction digits) (Some z) = near z
 
 in_years : (z : ℤ) → Dec (InYears z)
 in_years z = both (at_most (pos (first_day * 1440)) z) (below z (pos ((last_day + 1) * 1440)))
@@ -164,9 +155,9 @@ there t =
 
 -- whether a precision has at most 38 fraction digits is decided
 pub short : (p : Precision) → Dec (IsShort p)
-short precisions.Year = yes tt
-short precisions.Month = yes tt
-short precisions.Day = yes tt
-short precisions.Minute = yes tt
-short precisions.Second = yes tt
-short (precisions.Fraction digits) = dec_le digits most_digits
+short Precision.Year = yes tt
+short Precision.Month = yes tt
+short Precision.Day = yes tt
+short Precision.Minute = yes tt
+short Precision.Second = yes tt
+short (Precision.Fraction digits) = dec_le digits most_digits

@@ -4,7 +4,7 @@ use Rattle.std.proofs.Math.Decide.{map_dec, ℕ_discrete}
 use Rattle.std.specs.Prelude.{◌≤ℤ◌, ◌<ℤ◌}
 use Rattle.std.proofs.lemmas.Int.{by_lt_z}
 use Rattle.std.specs.Int.Signed.{clash_ℤ}
-use Rattle.ion_scalar.specs.text.Ints.{minus}
+use Rattle.ion_scalar.specs.Names.{minus}
 
 -- two statements that are decided are decided together
 pub both : {A B : Type 0} → Dec A → Dec B → Dec (A × B)

@@ -3,15 +3,10 @@ use Rattle.std.proofs.Common.{◌≡◌, ℕ, ◌+◌, ◌*◌, ◌^◌, ◌<◌
 use Rattle.std.specs.Char.{digit_value}
 use Rattle.std.proofs.Math.Nat.{one-le-pow}
 use Rattle.std.proofs.lemmas.List.{take-append-drop, length-take-le}
-use Rattle.ion_scalar.specs.Positional.{positional-append}
-use Rattle.ion_scalar.specs.binary.Fields.{positional}
-use Rattle.ion_scalar.specs.declared.decimals.Tail.{Tail}
-use Rattle.ion_scalar.specs.text.Ints.{IsDigits, GoesNotOn, digits_in, number, continued}
-use Rattle.ion_scalar.specs.text.Ints.{IsWholePart}
-use Rattle.ion_scalar.specs.text.Decimals.{IsTail, IsDecimalBody, Shows, signed}
-use Rattle.ion_scalar.specs.text.laws.OneRun.{one_run}
-use Rattle.ion_scalar.specs.text.laws.DigitRuns.{digits_in-append, cap_more}
+use Rattle.ion_scalar.specs.Names.{GoesNotOn, IsDecimalBody, IsDigits, IsTail, IsWholePart, Shows, Tail, continued, digits_in, number, positional, positional-append, signed}
 use Rattle.ion_scalar.specs.text.laws.DecimalTails.{end_stops, one_rest}
+use Rattle.ion_scalar.specs.text.laws.DigitRuns.{cap_more, digits_in-append}
+use Rattle.ion_scalar.specs.text.laws.OneRun.{one_run}
 
 -- a whole part is a run of decimal digits
 pub whole_digits : (w : List ℕ) → IsWholePart w → IsDigits 10 w

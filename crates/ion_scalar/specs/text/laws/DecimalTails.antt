@@ -2,8 +2,7 @@
 use Rattle.std.proofs.Common.{◌≡◌, ◌≢◌, ℕ, zero, suc, ◌<◌, ◌≤◌, ◌⊎◌, inl, inr, List, [], ◌∷◌, ◌++◌, take, drop, get_or, Bool, true, false, refl, sym, ap, subst, ◌∙◌, arith}
 use Rattle.std.specs.Char.{digit_value}
 use Rattle.std.proofs.lemmas.List.{take-append-drop, append_cancel_left}
-use Rattle.ion_scalar.specs.text.Ints.{IsDigits, GoesNotOn, BeginsWithNone}
-use Rattle.ion_scalar.specs.text.Decimals.{IsLetter, IsExponent, IsEnd, IsFraction, IsTail}
+use Rattle.ion_scalar.specs.Names.{BeginsWithNone, GoesNotOn, IsDigits, IsEnd, IsExponent, IsFraction, IsLetter, IsTail}
 use Rattle.ion_scalar.specs.text.laws.OneRun.{first_digit, one_run}
 
 -- a letter of an exponent is no digit, no `_` and no point

@@ -6,9 +6,7 @@ use Rattle.std.proofs.lemmas.Bool.{ne_eqb, cases_lt}
 use Rattle.std.proofs.lemmas.List.{take_more, drop_more, drop_all, map-append}
 use Rattle.std.proofs.lemmas.List.Elements.{filter-append}
 use Rattle.std.proofs.Math.Nat.{mul-le-mul_left, mul-le-mul_right}
-use Rattle.ion_scalar.specs.binary.Fields.{positional}
-use Rattle.ion_scalar.specs.Positional.{positional_push}
-use Rattle.ion_scalar.specs.text.Ints.{IsDigits, GoesNotOn, BeginsWithNone, digits_in, continued}
+use Rattle.ion_scalar.specs.Names.{BeginsWithNone, GoesNotOn, IsDigits, continued, digits_in, positional, positional_push}
 
 -- a run of digits with a digit more is a run of digits
 pub digits_push : (base : ℕ) (os : List ℕ) (c : ℕ) → IsDigits base os → digit_value c < base → IsDigits base (os ++ c ∷ [])

@@ -4,23 +4,14 @@ use Rattle.std.specs.Prelude.{is_ok}
 use Rattle.std.proofs.lemmas.Bool.{false≢true, true≢false}
 use Rattle.std.proofs.lemmas.List.{append-nil, append_cancel_left}
 use Rattle.std.specs.Char.{digit_value}
-use Rattle.ion_atoms.specs.Decimals.{DecimalParts}
-use Rattle.ion_atoms.specs.declared.refusal.Reason.{Reason}
-use Rattle.ion_atoms.specs.declared.refusal.Reason.TheVariants.{TooLarge, Malformed, Float}
-use Rattle.ion_scalar.specs.declared.number.Number.{Number}
-use Rattle.ion_scalar.specs.declared.number.Number.TheVariants as numbers
-use Rattle.ion_scalar.specs.text.Ints.{IsDigits, GoesNotOn, BeginsWithNone, digits_in, number, IsWholePart, IsMagnitude, HasBase, minus, BeginsWithMinus}
-use Rattle.ion_scalar.specs.text.Decimals.{signed, IsPlain, IsSigned, IsLetter, IsExponent, IsEnd, IsFraction, IsTail, IsDecimalBody}
-use Rattle.ion_scalar.specs.text.Numbers.{IsBehind, IsFloatBody, IsNumeral, IsNumber, IsFloat, Fits, IsThere, ReadsNumber, ReadsNumeral, ReadsTimestamp}
-use Rattle.ion_scalar.specs.text.laws.OneRun.{first_digit, one_run}
-use Rattle.ion_scalar.specs.text.laws.DecimalTails.{letter, none_first, end_stops, begins_front}
-use Rattle.ion_scalar.specs.text.laws.DecimalCuts.{whole_digits, tail_stops}
 use Rattle.std.proofs.lemmas.Str.{digit_value_digit}
-use Rattle.ion_atoms.specs.Timestamps.{TimestampParts, IsTimestamp}
-use Rattle.ion_scalar.specs.text.Timestamps.{IsAt, AreFourAt, IsTimestampToken, IsShort}
-use Rattle.ion_scalar.specs.text.laws.TimestampForms.{one_timestamp, stamp_front, there_short}
+use Rattle.ion_scalar.specs.Names.{AreFourAt, BeginsWithMinus, BeginsWithNone, DecimalParts, Fits, Float, GoesNotOn, HasBase, IsAt, IsBehind, IsDecimalBody, IsDigits, IsEnd, IsExponent, IsFloat, IsFloatBody, IsFraction, IsLetter, IsMagnitude, IsNumber, IsNumeral, IsPlain, IsShort, IsSigned, IsTail, IsThere, IsTimestamp, IsTimestampToken, IsWholePart, Malformed, Number, ReadsNumber, ReadsNumeral, ReadsTimestamp, Reason, TimestampParts, TooLarge, digits_in, minus, number, signed}
+use Rattle.ion_scalar.specs.text.laws.DecimalCuts.{tail_stops, whole_digits}
+use Rattle.ion_scalar.specs.text.laws.DecimalTails.{begins_front, end_stops, letter, none_first}
+use Rattle.ion_scalar.specs.text.laws.OneRun.{first_digit, one_run}
 use Rattle.ion_scalar.specs.text.laws.Signs.{one_magnitude}
-use Rattle.ion_scalar.specs.text.laws.Unsigned.{radix_base, based_decimal, behind_first, number_behind, float_behind}
+use Rattle.ion_scalar.specs.text.laws.TimestampForms.{one_timestamp, stamp_front, there_short}
+use Rattle.ion_scalar.specs.text.laws.Unsigned.{based_decimal, behind_first, float_behind, number_behind, radix_base}
 
 plain_first : (c : ℕ) (os : List ℕ) → IsPlain (c ∷ os) → (c ≡ 45) ⊎ (c ≡ 43) → ⊥
 plain_first c os h (inl e) = let P : ℕ → Type 0 = λ y. digit_value y < 10 in absurd (omega (arith, subst P e (first_digit 10 c os h.0)))
@@ -132,20 +123,20 @@ same_parts : (d e : DecimalParts) → d.negative ≡ e.negative → d.magnitude 
 same_parts d e a b c = λ i. record { negative = a i; magnitude = b i; exponent = c i }
 
 one_behind : (s : Bool) (body : List ℕ) (x y : Number) → IsBehind s body x → IsBehind s body y → x ≡ y
-one_behind s body (numbers.Int x) (numbers.Int y) a b = ap numbers.Int (a.2 ∙ (ap (signed s) (one_magnitude body a.0 b.0 a.1 b.1) ∙ sym b.2))
-one_behind s body (numbers.Timestamp t) y a b = absurd a
-one_behind s body (numbers.Int x) (numbers.Timestamp t) a b = absurd b
-one_behind s body (numbers.Decimal d) (numbers.Timestamp t) a b = absurd b
-one_behind s body (numbers.Int x) (numbers.Decimal d) a b = absurd (int_or_decimal body a.0 d.magnitude false d.exponent a.1 b.1)
-one_behind s body (numbers.Decimal d) (numbers.Int y) a b = absurd (int_or_decimal body b.0 d.magnitude false d.exponent b.1 a.1)
-one_behind s body (numbers.Decimal d) (numbers.Decimal e) a b =
+one_behind s body (Number.Int x) (Number.Int y) a b = ap Number.Int (a.2 ∙ (ap (signed s) (one_magnitude body a.0 b.0 a.1 b.1) ∙ sym b.2))
+one_behind s body (Number.Timestamp t) y a b = absurd a
+one_behind s body (Number.Int x) (Number.Timestamp t) a b = absurd b
+one_behind s body (Number.Decimal d) (Number.Timestamp t) a b = absurd b
+one_behind s body (Number.Int x) (Number.Decimal d) a b = absurd (int_or_decimal body a.0 d.magnitude false d.exponent a.1 b.1)
+one_behind s body (Number.Decimal d) (Number.Int y) a b = absurd (int_or_decimal body b.0 d.magnitude false d.exponent b.1 a.1)
+one_behind s body (Number.Decimal d) (Number.Decimal e) a b =
     let one = one_decimal body false false d.magnitude e.magnitude d.exponent e.exponent a.1 b.1 in
-    ap numbers.Decimal (same_parts d e (a.0 ∙ sym b.0) (one.1) (one.2))
+    ap Number.Decimal (same_parts d e (a.0 ∙ sym b.0) (one.1) (one.2))
 
 float_or_number : (s : Bool) (body : List ℕ) (x : Number) → IsFloatBody body → IsBehind s body x → ⊥
-float_or_number s body (numbers.Int z) f is = int_or_decimal body is.0 f.magnitude true f.exponent is.1 f.is
-float_or_number s body (numbers.Timestamp t) f is = is
-float_or_number s body (numbers.Decimal d) f is = true≢false (one_decimal body true false f.magnitude d.magnitude f.exponent d.exponent f.is is.1).0
+float_or_number s body (Number.Int z) f is = int_or_decimal body is.0 f.magnitude true f.exponent is.1 f.is
+float_or_number s body (Number.Timestamp t) f is = is
+float_or_number s body (Number.Decimal d) f is = true≢false (one_decimal body true false f.magnitude d.magnitude f.exponent d.exponent f.is is.1).0
 
 begins_so : (s : Bool) (body : List ℕ) → ((c : ℕ) (os : List ℕ) → body ≡ c ∷ os → c ≢ 45) → BeginsWithMinus s (minus s ++ body)
 begins_so true body first = (λ _. refl, λ _. refl)
@@ -221,9 +212,9 @@ module _ (a b c d e : ℕ) (rest : List ℕ) (da : digit_value a < 10) (db : dig
   front_magnitude n (inr r) = let k = radix_base (a ∷ b ∷ c ∷ d ∷ e ∷ rest) n r in front_base k.0 k.1
 
   front_behind : (s : Bool) (x : Number) → IsBehind s (a ∷ b ∷ c ∷ d ∷ e ∷ rest) x → ⊥
-  front_behind s (numbers.Int z) is = front_magnitude is.0 is.1
-  front_behind s (numbers.Decimal z) is = front_decimal false z.magnitude z.exponent is.1
-  front_behind s (numbers.Timestamp t) is = is
+  front_behind s (Number.Int z) is = front_magnitude is.0 is.1
+  front_behind s (Number.Decimal z) is = front_decimal false z.magnitude z.exponent is.1
+  front_behind s (Number.Timestamp t) is = is
 
   front_sign : BeginsWithMinus false (a ∷ b ∷ c ∷ d ∷ e ∷ rest)
   front_sign =
@@ -256,38 +247,38 @@ timestamp_alone token t is = no_front token (stamp_front token t is)
 
 -- a token spells one number at most
 pub one_number : (token : List ℕ) (x y : Number) → IsNumber token x → IsNumber token y → x ≡ y
-one_number token (numbers.Timestamp s) (numbers.Timestamp t) i j = ap numbers.Timestamp (one_timestamp token s t i j)
-one_number token (numbers.Timestamp s) (numbers.Int z) i j = absurd ((timestamp_alone token s i).0 (numbers.Int z) j)
-one_number token (numbers.Timestamp s) (numbers.Decimal d) i j = absurd ((timestamp_alone token s i).0 (numbers.Decimal d) j)
-one_number token (numbers.Int z) (numbers.Timestamp t) i j = absurd ((timestamp_alone token t j).0 (numbers.Int z) i)
-one_number token (numbers.Decimal d) (numbers.Timestamp t) i j = absurd ((timestamp_alone token t j).0 (numbers.Decimal d) i)
-one_number token (numbers.Int y) (numbers.Int z) i j = one_numeral token (numbers.Int y) (numbers.Int z) i j
-one_number token (numbers.Int y) (numbers.Decimal d) i j = one_numeral token (numbers.Int y) (numbers.Decimal d) i j
-one_number token (numbers.Decimal d) (numbers.Int z) i j = one_numeral token (numbers.Decimal d) (numbers.Int z) i j
-one_number token (numbers.Decimal d) (numbers.Decimal e) i j = one_numeral token (numbers.Decimal d) (numbers.Decimal e) i j
+one_number token (Number.Timestamp s) (Number.Timestamp t) i j = ap Number.Timestamp (one_timestamp token s t i j)
+one_number token (Number.Timestamp s) (Number.Int z) i j = absurd ((timestamp_alone token s i).0 (Number.Int z) j)
+one_number token (Number.Timestamp s) (Number.Decimal d) i j = absurd ((timestamp_alone token s i).0 (Number.Decimal d) j)
+one_number token (Number.Int z) (Number.Timestamp t) i j = absurd ((timestamp_alone token t j).0 (Number.Int z) i)
+one_number token (Number.Decimal d) (Number.Timestamp t) i j = absurd ((timestamp_alone token t j).0 (Number.Decimal d) i)
+one_number token (Number.Int y) (Number.Int z) i j = one_numeral token (Number.Int y) (Number.Int z) i j
+one_number token (Number.Int y) (Number.Decimal d) i j = one_numeral token (Number.Int y) (Number.Decimal d) i j
+one_number token (Number.Decimal d) (Number.Int z) i j = one_numeral token (Number.Decimal d) (Number.Int z) i j
+one_number token (Number.Decimal d) (Number.Decimal e) i j = one_numeral token (Number.Decimal d) (Number.Decimal e) i j
 
 -- and is no float then
 pub number_no_float : (token : List ℕ) (x : Number) → IsNumber token x → IsFloat token → ⊥
-number_no_float token (numbers.Timestamp t) i f = (timestamp_alone token t i).1 f
-number_no_float token (numbers.Int z) i f = numeral_no_float token (numbers.Int z) i f
-number_no_float token (numbers.Decimal d) i f = numeral_no_float token (numbers.Decimal d) i f
+number_no_float token (Number.Timestamp t) i f = (timestamp_alone token t i).1 f
+number_no_float token (Number.Int z) i f = numeral_no_float token (Number.Int z) i f
+number_no_float token (Number.Decimal d) i f = numeral_no_float token (Number.Decimal d) i f
 
 no_there : (token : List ℕ) → ((x : Number) → IsNumeral token x → ⊥)
     → ((t : TimestampParts) → IsTimestampToken token t → IsShort t.precision × (IsTimestamp t → ⊥)) → (x : Number) → IsNumber token x → Fits x × (IsThere x → ⊥)
-no_there token none h (numbers.Timestamp t) is = h t is
-no_there token none h (numbers.Int z) is = absurd (none (numbers.Int z) is)
-no_there token none h (numbers.Decimal d) is = absurd (none (numbers.Decimal d) is)
+no_there token none h (Number.Timestamp t) is = h t is
+no_there token none h (Number.Int z) is = absurd (none (Number.Int z) is)
+no_there token none h (Number.Decimal d) is = absurd (none (Number.Decimal d) is)
 
 -- a timestamp that a token spells is the number that it is read as
 pub timestamp_answer : (token : List ℕ) (x : Number) → ReadsTimestamp token (Ok x) → ReadsNumber token (Ok x)
-timestamp_answer token (numbers.Timestamp t) h = (h.0, there_short t (h.1), h.1)
-timestamp_answer token (numbers.Int z) h = absurd h
-timestamp_answer token (numbers.Decimal d) h = absurd h
+timestamp_answer token (Number.Timestamp t) h = (h.0, there_short t (h.1), h.1)
+timestamp_answer token (Number.Int z) h = absurd h
+timestamp_answer token (Number.Decimal d) h = absurd h
 
 -- of a token that is no int, decimal or float, the forms of a timestamp alone decide
 pub stamp_answer : (token : List ℕ) (r : Result Number Reason) → ReadsNumeral token (Err Malformed) → ReadsTimestamp token r → ReadsNumber token r
 stamp_answer token (Ok x) n h = timestamp_answer token x h
-stamp_answer token (Err TooLarge) n h = (numbers.Timestamp (h.0), h.1, h.2)
+stamp_answer token (Err TooLarge) n h = (Number.Timestamp (h.0), h.1, h.2)
 stamp_answer token (Err Malformed) n h = (no_there token (n.0) h, n.1)
 stamp_answer token (Err _) n h = absurd h
 

@@ -2,8 +2,8 @@
 use Rattle.std.proofs.Common.{◌≡◌, ℕ, ◌<◌, ◌≤◌, inl, inr, List, [], ◌∷◌, ◌++◌, length, take, drop, sym, ap, subst, ◌∙◌, arith}
 use Rattle.std.specs.Char.{digit_value}
 use Rattle.std.proofs.lemmas.List.{take-append-drop, append-nil, length-take-le}
+use Rattle.ion_scalar.specs.Names.{BeginsWithNone, GoesNotOn, IsDigits}
 use Rattle.ion_scalar.specs.text.laws.DigitRuns.{not_mark}
-use Rattle.ion_scalar.specs.text.Ints.{IsDigits, GoesNotOn, BeginsWithNone}
 
 -- the first octet of a run of digits is a digit
 pub first_digit : (base c : ℕ) (os : List ℕ) → IsDigits base (c ∷ os) → digit_value c < base

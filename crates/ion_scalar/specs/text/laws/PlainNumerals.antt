@@ -3,13 +3,8 @@ use Rattle.std.proofs.Common.{◌≡◌, ◌≢◌, ℕ, zero, suc, ◌+◌, ◌
 use Rattle.std.proofs.lemmas.Int.{ints}
 use Rattle.std.specs.Prelude.{◌≤ℤ◌, ◌<ℤ◌}
 use Rattle.std.proofs.lemmas.List.{get_or-take, get_or-drop, length-take-le}
-use Rattle.ion_atoms.specs.Ranges.{IsWhole}
-use Rattle.ion_scalar.specs.declared.number.Number.{Number}
-use Rattle.ion_scalar.specs.declared.number.Number.TheVariants as numbers
-use Rattle.ion_scalar.specs.text.Ints.{BeginsWithMinus, minus}
-use Rattle.ion_scalar.specs.text.Decimals.{signed}
-use Rattle.ion_scalar.specs.text.Numbers.{ReadsBehind, ReadsNumeral, ReadsNumber, decimal_read}
-use Rattle.ion_scalar.specs.text.laws.ShortNumbers.{PlainRun, plain_more, below_room, room_behind, marked_from, room_decimal, short_int, short_decimal, short_whole}
+use Rattle.ion_scalar.specs.Names.{BeginsWithMinus, IsWhole, Number, ReadsBehind, ReadsNumber, ReadsNumeral, decimal_read, minus, signed}
+use Rattle.ion_scalar.specs.text.laws.ShortNumbers.{PlainRun, below_room, marked_from, plain_more, room_behind, room_decimal, short_decimal, short_int, short_whole}
 use Rattle.ion_scalar.specs.text.laws.Unsigned.{token_answer}
 
 -- `0` to `9`
@@ -60,7 +55,7 @@ body_reads : (negative : Bool) (body : List ℕ) → PlainNumeral body (length b
 body_reads negative body h = elim h.behind [
   | inl all ↦
       let run = run_of body 0 h.whole (omega arith) h.digits in
-      let x = numbers.Int (signed negative run.0) in (
+      let x = Number.Int (signed negative run.0) in (
         x,
         short_int negative body h.whole run.0 (Some x) run.1 all (short_whole body h.whole run.0 run.1 h.some h.first)
             (refl, signed_fits negative run.0 (room_decimal body h.whole run.0 h.few (marked_from body h.whole run.0 run.1))),
@@ -84,9 +79,9 @@ body_reads negative body h = elim h.behind [
 ]
 
 number_of_numeral : (token : List ℕ) (x : Number) → ReadsNumeral token (Ok x) → ReadsNumber token (Ok x)
-number_of_numeral token (numbers.Int z) h = (h.0, h.1, tt)
-number_of_numeral token (numbers.Decimal d) h = (h.0, h.1, tt)
-number_of_numeral token (numbers.Timestamp t) h = absurd h.0.is
+number_of_numeral token (Number.Int z) h = (h.0, h.1, tt)
+number_of_numeral token (Number.Decimal d) h = (h.0, h.1, tt)
+number_of_numeral token (Number.Timestamp t) h = absurd h.0.is
 
 -- what the numeral says doesn't hang on the octets behind it
 alone : (os : List ℕ) (count : ℕ) → PlainNumeral os count → PlainNumeral (take count os) (length (take count os))

@@ -5,16 +5,10 @@ use Rattle.std.proofs.lemmas.Str.{digit_value_digit}
 use Rattle.std.proofs.lemmas.Bool.{cases_lt}
 use Rattle.std.proofs.Math.Nat.{pow-suc, one-le-pow, pow-le-pow_right, mul-le-mul_left, mul-le-mul_right}
 use Rattle.std.proofs.lemmas.List.{take_all, take-append-drop, append-nil, drop_more, drop_all, length-drop}
-use Rattle.ion_scalar.specs.declared.number.Number.{Number}
-use Rattle.ion_scalar.specs.declared.number.Number.TheVariants as numbers
-use Rattle.ion_scalar.specs.Positional.{positional_push}
-use Rattle.ion_scalar.specs.binary.Fields.{positional}
-use Rattle.ion_scalar.specs.text.Ints.{IsDigits, digits_in, number, continued, IsWholePart, BeginsWithMinus, minus}
-use Rattle.ion_scalar.specs.text.Decimals.{signed, IsPlain, IsEnd, IsExponent, IsTail, IsDecimalBody}
-use Rattle.ion_scalar.specs.text.Numbers.{IsBehind, Fits, ReadsBehind, ReadsNumeral, decimal_read}
-use Rattle.ion_scalar.specs.text.laws.DigitRuns.{Place, run_step, not_mark, continued_more}
-use Rattle.ion_scalar.specs.text.laws.DecimalTails.{fraction_is}
+use Rattle.ion_scalar.specs.Names.{BeginsWithMinus, Fits, IsBehind, IsDecimalBody, IsDigits, IsEnd, IsExponent, IsPlain, IsTail, IsWholePart, Number, ReadsBehind, ReadsNumeral, continued, decimal_read, digits_in, minus, number, positional, positional_push, signed}
 use Rattle.ion_scalar.specs.text.laws.DecimalCuts.{continued_number}
+use Rattle.ion_scalar.specs.text.laws.DecimalTails.{fraction_is}
+use Rattle.ion_scalar.specs.text.laws.DigitRuns.{Place, continued_more, not_mark, run_step}
 use Rattle.ion_scalar.specs.text.laws.Unsigned.{continued_none, token_answer}
 
 -- with a digit more, a number leaves room for one digit fewer
@@ -128,7 +122,7 @@ marked_end base os used value run all some =
 -- a whole part that is all of the octets is an int
 pub short_int : (negative : Bool) (body : List ℕ) (used value : ℕ) (r : Option Number) → PlainRun body 0 used value → used ≡ length body
     → IsWholePart (take used body)
-    → IfSome r (λ x. (x ≡ numbers.Int (signed negative value)) × Fits x) → IfSome r (λ x. ReadsBehind negative body (Ok x))
+    → IfSome r (λ x. (x ≡ Number.Int (signed negative value)) × Fits x) → IfSome r (λ x. ReadsBehind negative body (Ok x))
 short_int negative body used value None run all whole h = tt
 short_int negative body used value (Some x) run all whole h =
     let same : take used body ≡ body = take_all used body (omega arith) in

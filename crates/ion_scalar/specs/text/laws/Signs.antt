@@ -1,7 +1,6 @@
 -- What stands behind a sign begins with a digit, and has one magnitude.
 use Rattle.std.proofs.Common.{◌≡◌, ◌≢◌, ℕ, ◌⊎◌, inl, inr, List, [], ◌∷◌, sym, subst, ◌∙◌, arith}
-use Rattle.ion_scalar.specs.text.Ints.{IsDigits, number}
-use Rattle.ion_scalar.specs.text.Ints.{IsWholePart, IsRadix, IsMagnitude}
+use Rattle.ion_scalar.specs.Names.{IsDigits, IsMagnitude, IsRadix, IsWholePart, number}
 use Rattle.ion_scalar.specs.text.laws.OneRun.{first_digit}
 
 -- a magnitude begins with a digit

@@ -6,16 +6,8 @@ use Rattle.std.proofs.lemmas.Int.{ints}
 use Rattle.std.proofs.lemmas.Bool.{cases_lt}
 use Rattle.std.proofs.lemmas.Fmt.{decimal_by_steps_wide, decimal_digit}
 use Rattle.std.proofs.lemmas.Str.{digit_value_digit}
-use Rattle.ion_atoms.specs.Ranges.{IsWhole}
-use Rattle.ion_atoms.specs.Decimals.{DecimalParts, IsDecimal}
-use Rattle.ion_scalar.specs.declared.number.Number.TheVariants as numbers
-use Rattle.ion_scalar.specs.binary.Fields.{positional}
-use Rattle.ion_scalar.specs.Positional.{positional_push}
-use Rattle.ion_scalar.specs.text.Ints.{IsDigits, digits_in, number, IsWholePart}
-use Rattle.ion_scalar.specs.text.Decimals.{signed, IsSigned, IsPower}
-use Rattle.ion_scalar.specs.text.Numbers.{IsNumber, ReadsNumber}
-use Rattle.ion_scalar.specs.text.Texts.{decimal_text, number_text}
-use Rattle.ion_scalar.specs.text.laws.DigitRuns.{digits_push, digits_in_push, digits_in_one}
+use Rattle.ion_scalar.specs.Names.{DecimalParts, IsDecimal, IsDigits, IsNumber, IsPower, IsSigned, IsWhole, IsWholePart, Number, ReadsNumber, decimal_text, digits_in, number, number_text, positional, positional_push, signed}
+use Rattle.ion_scalar.specs.text.laws.DigitRuns.{digits_in_one, digits_in_push, digits_push}
 
 -- digits as they are written: plain, without a leading zero, and of that number
 pub record Spells (n : ℕ) (ds : List ℕ) : Type 0 where
@@ -71,7 +63,7 @@ whole_text n h =
       | inr le ↦ inl (let e : n ≡ 0 = omega arith in rw e (decimal_digit 0 (omega arith)))
     ]
 
-pub int_text : (z : ℤ) → IsWhole z → IsNumber (signed_decimal z) (numbers.Int z)
+pub int_text : (z : ℤ) → IsWhole z → IsNumber (signed_decimal z) (Number.Int z)
 int_text (pos n) h = let s = spells n (omega arith) in record {
   negative = false;
   body = decimal n;
@@ -95,7 +87,7 @@ no_less : (z : ℤ) → z -ℤ pos 0 ≡ z
 no_less (pos n) = grind (arith, ints)
 no_less (negsuc n) = grind (arith, ints)
 
-pub decimal_is : (d : DecimalParts) → d.magnitude < 2 ^ 127 → IsWhole d.exponent → IsNumber (decimal_text d) (numbers.Decimal d)
+pub decimal_is : (d : DecimalParts) → d.magnitude < 2 ^ 127 → IsWhole d.exponent → IsNumber (decimal_text d) (Number.Decimal d)
 decimal_is d m e =
     let p = power_text d.exponent e in
     let s = spells d.magnitude (omega arith) in
@@ -121,7 +113,7 @@ decimal_is d m e =
     }
 
 -- the texts of an int and of a decimal that are kept are read as them
-pub int_reads : (z : ℤ) → IsWhole z → ReadsNumber (number_text (numbers.Int z)) (Ok (numbers.Int z))
+pub int_reads : (z : ℤ) → IsWhole z → ReadsNumber (number_text (Number.Int z)) (Ok (Number.Int z))
 int_reads z h = (int_text z h, h, tt)
 
 -- an exponent that is kept is an int that is kept
@@ -130,5 +122,5 @@ power_is (pos n) h = omega (arith, ints, h.1)
 power_is (negsuc n) h = omega (arith, ints, h.0)
 
 -- the text of a decimal that is kept is read as it
-pub decimal_reads : (d : DecimalParts) → IsDecimal d → ReadsNumber (number_text (numbers.Decimal d)) (Ok (numbers.Decimal d))
+pub decimal_reads : (d : DecimalParts) → IsDecimal d → ReadsNumber (number_text (Number.Decimal d)) (Ok (Number.Decimal d))
 decimal_reads d h = (decimal_is d h.0 (power_is d.exponent (h.1, h.2)), h, tt)

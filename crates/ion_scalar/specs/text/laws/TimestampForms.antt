@@ -3,19 +3,11 @@ use Rattle.std.proofs.Common.{◌≡◌, ◌≢◌, ℕ, zero, suc, ◌+◌, ◌
 use Rattle.std.specs.Char.{digit_value}
 use Rattle.std.proofs.lemmas.Bool.{eq-eqb, ne_eqb}
 use Rattle.std.proofs.Math.Nat.{pow-suc, pow-le-pow_right, mul-le-mul_right}
-use Rattle.ion_scalar.specs.binary.Fields.{positional}
-use Rattle.ion_scalar.specs.text.laws.DigitRuns.{not_mark}
 use Rattle.std.proofs.lemmas.List.{drop_more, take-append-drop, append_cancel_left, length-take-le}
-use Rattle.ion_atoms.specs.TimestampBounds.{most_digits}
-use Rattle.ion_atoms.specs.Timestamps.{TimestampParts, IsTimestamp, IsCut}
-use Rattle.ion_atoms.specs.declared.timestamp.Local.{Local}
-use Rattle.ion_atoms.specs.declared.timestamp.Precision.{Precision}
-use Rattle.ion_atoms.specs.declared.timestamp.Precision.TheVariants as precisions
-use Rattle.ion_scalar.specs.declared.timestamps.Stamp.{Stamp}
-use Rattle.ion_scalar.specs.text.Ints.{IsDigits, GoesNotOn, BeginsWithNone, digits_in, number, continued}
-use Rattle.ion_scalar.specs.text.Timestamps.{IsAt, AreTwoAt, two, AreFourAt, four, BeginsWithMinute, BeginsWithSecond, IsOffsetToken, offset_read, minute_read, dated, timed, IsYear, IsMonth, IsDay, IsFractionEnd, IsTimestampToken, year, month, day, minute, second, fraction, stamp, IsShort, read_precision}
-use Rattle.ion_scalar.specs.text.laws.OneRun.{one_run}
+use Rattle.ion_scalar.specs.Names.{AreFourAt, AreTwoAt, BeginsWithMinute, BeginsWithNone, BeginsWithSecond, GoesNotOn, IsAt, IsCut, IsDay, IsDigits, IsFractionEnd, IsMonth, IsOffsetToken, IsShort, IsTimestamp, IsTimestampToken, IsYear, Local, Precision, Stamp, TimestampParts, continued, dated, day, digits_in, four, fraction, minute, minute_read, month, most_digits, number, offset_read, positional, read_precision, second, stamp, timed, two, year}
 use Rattle.ion_scalar.specs.text.laws.DecimalTails.{begins_front, one_rest}
+use Rattle.ion_scalar.specs.text.laws.DigitRuns.{not_mark}
+use Rattle.ion_scalar.specs.text.laws.OneRun.{one_run}
 use Rattle.ion_scalar.specs.text.laws.Unsigned.{continued_none}
 
 -- an offset begins with `Z` or a sign
@@ -81,25 +73,25 @@ Shown os s = (t : TimestampParts) × IsTimestampToken os t × (s ≡ stamp t)
 
 -- what is read of a minute where an offset stands behind it is what the token spells
 pub minute_some : (os : List ℕ) (l : Local) (r : Option Stamp) → BeginsWithMinute os → l ≡ minute_read os
-    → SomeIff r (IsOffsetToken (drop 16 os)) (record { local = l; precision = precisions.Minute; offset = offset_read (drop 16 os) }) → IfSome r (Shown os)
+    → SomeIff r (IsOffsetToken (drop 16 os)) (record { local = l; precision = Precision.Minute; offset = offset_read (drop 16 os) }) → IfSome r (Shown os)
 minute_some os l None b e h = tt
 minute_some os l (Some s) b e h = (
-  timed os precisions.Minute 0 0 (drop 16 os),
+  timed os Precision.Minute 0 0 (drop 16 os),
   minute b (h.0),
   h.1
-      ∙ (λ i. record { local = e i; precision = precisions.Minute; offset = offset_read (drop 16 os) }),
+      ∙ (λ i. record { local = e i; precision = Precision.Minute; offset = offset_read (drop 16 os) }),
 )
 
 -- what is read of a second where an offset stands behind it is what the token spells
 pub second_some : (os : List ℕ) (l : Local) (r : Option Stamp) → BeginsWithMinute os → IsAt os 16 58 → AreTwoAt os 17
     → l ≡ record (minute_read os) { second = two os 17 }
-    → SomeIff r (IsOffsetToken (drop 19 os)) (record { local = l; precision = precisions.Second; offset = offset_read (drop 19 os) }) → IfSome r (Shown os)
+    → SomeIff r (IsOffsetToken (drop 19 os)) (record { local = l; precision = Precision.Second; offset = offset_read (drop 19 os) }) → IfSome r (Shown os)
 second_some os l None b colon two_there e h = tt
 second_some os l (Some s) b colon two_there e h = (
-  timed os precisions.Second (two os 17) 0 (drop 19 os),
+  timed os Precision.Second (two os 17) 0 (drop 19 os),
   second (b, colon, two_there) (h.0),
   h.1
-      ∙ (λ i. record { local = e i; precision = precisions.Second; offset = offset_read (drop 19 os) }),
+      ∙ (λ i. record { local = e i; precision = Precision.Second; offset = offset_read (drop 19 os) }),
 )
 
 abbrev pub ShownEnd : Local → List ℕ → Stamp → Type 0
@@ -107,7 +99,7 @@ ShownEnd l os s = (digits rest : List ℕ) × IsFractionEnd os digits rest
     × (s ≡ record {
       local = record l { fraction = min (number 10 digits) (2 ^ 127) };
       precision =
-          precisions.Fraction (min (length digits) (most_digits + 1));
+          Precision.Fraction (min (length digits) (most_digits + 1));
       offset = offset_read rest;
     })
 
@@ -119,12 +111,12 @@ fraction_some os l None b colon two_there point e h = tt
 fraction_some os l (Some s) b colon two_there point e h =
     let digits = h.0 in
     let rest = h.1 in (
-      timed os (precisions.Fraction (length digits)) (two os 17) (number 10 digits) rest,
+      timed os (Precision.Fraction (length digits)) (two os 17) (number 10 digits) rest,
       fraction (b, colon, two_there) point digits rest (h.2),
       h.3 ∙ (λ i. record {
         local = record (e i) { fraction = min (number 10 digits) (2 ^ 127) };
         precision =
-            precisions.Fraction (min (length digits) (most_digits + 1));
+            Precision.Fraction (min (length digits) (most_digits + 1));
         offset = offset_read rest;
       }),
     )
@@ -176,7 +168,7 @@ no_end os digits rest used count d b g within many (inr (inr offset)) e =
 pub end_some : (os : List ℕ) (l : Local) (used count value shown : ℕ) (r : Option Stamp) → IsDigits 10 (take used os) → used ≤ length os
     → count ≡ length (digits_in (take used os)) → count ≡ used → value ≡ min (continued 10 0 (take used os)) (2 ^ 127)
     → shown ≡ min count (most_digits + 1) → SomeIff r (IsOffsetToken (drop used os))
-    (record { local = record l { fraction = value }; precision = precisions.Fraction shown; offset = offset_read (drop used os) }) → IfSome r (ShownEnd l os)
+    (record { local = record l { fraction = value }; precision = Precision.Fraction shown; offset = offset_read (drop used os) }) → IfSome r (ShownEnd l os)
 end_some os l used count value shown None d within many all v c h = tt
 end_some os l used count value shown (Some s) d within many all v c h =
     let digits = take used os in
@@ -186,7 +178,7 @@ end_some os l used count value shown (Some s) d within many all v c h =
       digits,
       drop used os,
       record { cut = sym (take-append-drop used os); plain = (d, sym many ∙ size); offset = h.0 },
-      h.1 ∙ (λ i. record { local = record l { fraction = number_of i }; precision = precisions.Fraction (capped i); offset = offset_read (drop used os) }),
+      h.1 ∙ (λ i. record { local = record l { fraction = number_of i }; precision = Precision.Fraction (capped i); offset = offset_read (drop used os) }),
     )
 
 -- an answer that is given where a token has a form is what the token spells
@@ -197,7 +189,7 @@ shown_where os t (Some s) P h is = (t, is (h.0), h.1)
 day_short : (os : List ℕ) → IsDay os → (10 ≤ length os) × (length os ≤ 11)
 day_short os h = elim (h.1) [ inl e ↦ (omega arith, omega arith) | inr e ↦ (omega (arith, e.0), omega (arith, e.0)) ]
 
-year_only : (os : List ℕ) → IsYear os → (t : TimestampParts) → IsTimestampToken os t → t ≡ dated precisions.Year (four os 0) 1 1
+year_only : (os : List ℕ) → IsYear os → (t : TimestampParts) → IsTimestampToken os t → t ≡ dated Precision.Year (four os 0) 1 1
 year_only os a _ (year h) = refl
 year_only os a _ (month h) = absurd (let u = a.0 in let v = h.0 in omega arith)
 year_only os a _ (day h) = absurd (let u = a.0 in let v = day_short os h in omega arith)
@@ -205,7 +197,7 @@ year_only os a _ (minute h o) = absurd (let u = a.0 in let v = long os h in omeg
 year_only os a _ (second h o) = absurd (let u = a.0 in let v = long os (h.0) in omega arith)
 year_only os a _ (fraction h p digits rest e) = absurd (let u = a.0 in let v = long os (h.0) in omega arith)
 
-month_only : (os : List ℕ) → IsMonth os → (t : TimestampParts) → IsTimestampToken os t → t ≡ dated precisions.Month (four os 0) (two os 5) 1
+month_only : (os : List ℕ) → IsMonth os → (t : TimestampParts) → IsTimestampToken os t → t ≡ dated Precision.Month (four os 0) (two os 5) 1
 month_only os a _ (year h) = absurd (let u = a.0 in let v = h.0 in omega arith)
 month_only os a _ (month h) = refl
 month_only os a _ (day h) = absurd (let u = a.0 in let v = day_short os h in omega arith)
@@ -213,7 +205,7 @@ month_only os a _ (minute h o) = absurd (let u = a.0 in let v = long os h in ome
 month_only os a _ (second h o) = absurd (let u = a.0 in let v = long os (h.0) in omega arith)
 month_only os a _ (fraction h p digits rest e) = absurd (let u = a.0 in let v = long os (h.0) in omega arith)
 
-day_only : (os : List ℕ) → IsDay os → (t : TimestampParts) → IsTimestampToken os t → t ≡ dated precisions.Day (four os 0) (two os 5) (two os 8)
+day_only : (os : List ℕ) → IsDay os → (t : TimestampParts) → IsTimestampToken os t → t ≡ dated Precision.Day (four os 0) (two os 5) (two os 8)
 day_only os a _ (year h) = absurd (let u = day_short os a in let v = h.0 in omega arith)
 day_only os a _ (month h) = absurd (let u = day_short os a in let v = h.0 in omega arith)
 day_only os a _ (day h) = refl
@@ -222,7 +214,7 @@ day_only os a _ (second h o) = absurd (let u = day_short os a in let v = long os
 day_only os a _ (fraction h p digits rest e) = absurd (let u = day_short os a in let v = long os (h.0) in omega arith)
 
 minute_only : (os : List ℕ) → BeginsWithMinute os → IsOffsetToken (drop 16 os) → (t : TimestampParts) → IsTimestampToken os t
-    → t ≡ timed os precisions.Minute 0 0 (drop 16 os)
+    → t ≡ timed os Precision.Minute 0 0 (drop 16 os)
 minute_only os a b _ (year h) = absurd (let u = long os a in let v = h.0 in omega arith)
 minute_only os a b _ (month h) = absurd (let u = long os a in let v = h.0 in omega arith)
 minute_only os a b _ (day h) = absurd (let u = long os a in let v = day_short os h in omega arith)
@@ -231,7 +223,7 @@ minute_only os a b _ (second h o) = absurd (no_offset_colon os 16 h.1 b)
 minute_only os a b _ (fraction h p digits rest e) = absurd (no_offset_colon os 16 h.1 b)
 
 second_only : (os : List ℕ) → BeginsWithSecond os → IsOffsetToken (drop 19 os) → (t : TimestampParts) → IsTimestampToken os t
-    → t ≡ timed os precisions.Second (two os 17) 0 (drop 19 os)
+    → t ≡ timed os Precision.Second (two os 17) 0 (drop 19 os)
 second_only os a b _ (year h) = absurd (let u = long os (a.0) in let v = h.0 in omega arith)
 second_only os a b _ (month h) = absurd (let u = long os (a.0) in let v = h.0 in omega arith)
 second_only os a b _ (day h) = absurd (let u = long os (a.0) in let v = day_short os h in omega arith)
@@ -246,14 +238,14 @@ one_end os digits rest more other a b =
     (same, append_cancel_left more rest other (sym (ap (λ (z : List ℕ). z ++ rest) same) ∙ cut))
 
 fraction_only : (os digits rest : List ℕ) → BeginsWithSecond os → IsAt os 19 46 → IsFractionEnd (drop 20 os) digits rest → (t : TimestampParts)
-    → IsTimestampToken os t → t ≡ timed os (precisions.Fraction (length digits)) (two os 17) (number 10 digits) rest
+    → IsTimestampToken os t → t ≡ timed os (Precision.Fraction (length digits)) (two os 17) (number 10 digits) rest
 fraction_only os digits rest a p b _ (year h) = absurd (let u = long os (a.0) in let v = h.0 in omega arith)
 fraction_only os digits rest a p b _ (month h) = absurd (let u = long os (a.0) in let v = h.0 in omega arith)
 fraction_only os digits rest a p b _ (day h) = absurd (let u = long os (a.0) in let v = day_short os h in omega arith)
 fraction_only os digits rest a p b _ (minute h o) = absurd (no_offset_colon os 16 a.1 o)
 fraction_only os digits rest a p b _ (second h o) = absurd (no_offset_point os 19 p o)
 fraction_only os digits rest a p b _ (fraction h q more other e) = let one = one_end (drop 20 os) more other digits rest e b in
-    λ i. timed os (precisions.Fraction (length (one.0 i))) (two os 17) (number 10 (one.0 i)) (one.1 i)
+    λ i. timed os (Precision.Fraction (length (one.0 i))) (two os 17) (number 10 (one.0 i)) (one.1 i)
 
 -- a token has one form of a timestamp
 pub one_timestamp : (os : List ℕ) (s t : TimestampParts) → IsTimestampToken os s → IsTimestampToken os t → s ≡ t
@@ -313,18 +305,18 @@ read_short os _ (fraction h p digits rest e) s =
       λ i. record {
         local = record (minute_read os) { second = two os 17; fraction = value i };
         precision =
-            precisions.Fraction (count i);
+            Precision.Fraction (count i);
         offset = offset_read rest;
       },
     )
 
 pub short_read : (p : Precision) → IsShort p → IsShort (read_precision p)
-short_read precisions.Year h = tt
-short_read precisions.Month h = tt
-short_read precisions.Day h = tt
-short_read precisions.Minute h = tt
-short_read precisions.Second h = tt
-short_read (precisions.Fraction digits) h = omega arith
+short_read Precision.Year h = tt
+short_read Precision.Month h = tt
+short_read Precision.Day h = tt
+short_read Precision.Minute h = tt
+short_read Precision.Second h = tt
+short_read (Precision.Fraction digits) h = omega arith
 
 -- the parts of what is read of a token with at most 38 fraction digits
 pub short_parts : (os : List ℕ) (t : TimestampParts) (s : Stamp) → IsTimestampToken os t → s ≡ stamp t → IsShort s.precision → IsShort t.precision
@@ -353,12 +345,12 @@ pub made : (os : List ℕ) (t x y : TimestampParts) → IsTimestampToken os t �
 made os t x y is e h = (subst (IsTimestampToken os) (e ∙ sym (h.1)) is, subst IsTimestamp (sym (h.1)) (h.0))
 
 cut_short : (p : Precision) (l : Local) → IsCut p l → IsShort p
-cut_short precisions.Year l h = tt
-cut_short precisions.Month l h = tt
-cut_short precisions.Day l h = tt
-cut_short precisions.Minute l h = tt
-cut_short precisions.Second l h = tt
-cut_short (precisions.Fraction digits) l h = h.1
+cut_short Precision.Year l h = tt
+cut_short Precision.Month l h = tt
+cut_short Precision.Day l h = tt
+cut_short Precision.Minute l h = tt
+cut_short Precision.Second l h = tt
+cut_short (Precision.Fraction digits) l h = h.1
 
 -- a timestamp has at most 38 fraction digits
 pub there_short : (t : TimestampParts) → IsTimestamp t → IsShort t.precision

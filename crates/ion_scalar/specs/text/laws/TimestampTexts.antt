@@ -5,22 +5,10 @@ use Rattle.std.proofs.Math.Nat.{pow-suc}
 use Rattle.std.proofs.lemmas.Nat.{div_below}
 use Rattle.std.proofs.lemmas.Int.{ints}
 use Rattle.std.proofs.lemmas.Bool.{ne_eqb}
-use Rattle.ion_atoms.specs.TimestampBounds.{last_hour, last_minute, farthest_offset}
-use Rattle.ion_atoms.specs.Calendar.{month_length, is_leap}
-use Rattle.ion_atoms.specs.Timestamps.{TimestampParts, IsTimestamp, IsCut, IsOffset, HasOffset}
-use Rattle.ion_atoms.specs.declared.timestamp.Local.{Local}
-use Rattle.ion_atoms.specs.declared.timestamp.Precision.{Precision}
-use Rattle.ion_atoms.specs.declared.timestamp.Precision.TheVariants as precisions
-use Rattle.ion_scalar.specs.binary.Fields.{positional}
-use Rattle.ion_scalar.specs.Positional.{positional_push}
-use Rattle.ion_scalar.specs.text.Ints.{IsDigits, digits_in, number}
-use Rattle.ion_scalar.specs.text.Timestamps.{IsAt, AreTwoAt, two, AreFourAt, four, BeginsWithMonth, BeginsWithDay, BeginsWithMinute, BeginsWithSecond, minute_read, dated, timed, IsOffsetToken, offset_read, offset_minutes, IsTimestampToken, year, month, day, minute, second, fraction}
-use Rattle.ion_scalar.specs.text.Texts.{two_digits, four_digits, padded, month_text, day_text, minute_text, second_text, clock_text, offset_text, cut_text, timestamp_text, number_text}
-use Rattle.ion_scalar.specs.declared.number.Number.TheVariants as numbers
-use Rattle.ion_scalar.specs.text.Numbers.{ReadsNumber}
-use Rattle.ion_scalar.specs.text.laws.TimestampForms.{there_short}
-use Rattle.ion_scalar.specs.text.laws.DigitRuns.{digits_push, digits_in_push, digits_in_one}
+use Rattle.ion_scalar.specs.Names.{AreFourAt, AreTwoAt, BeginsWithDay, BeginsWithMinute, BeginsWithMonth, BeginsWithSecond, HasOffset, IsAt, IsCut, IsDigits, IsOffset, IsOffsetToken, IsTimestamp, IsTimestampToken, Local, Number, Precision, ReadsNumber, TimestampParts, clock_text, cut_text, dated, day, day_text, digits_in, farthest_offset, four, four_digits, fraction, is_leap, last_hour, last_minute, minute, minute_read, minute_text, month, month_length, month_text, number, number_text, offset_minutes, offset_read, offset_text, padded, positional, positional_push, second, second_text, timed, timestamp_text, two, two_digits, year}
+use Rattle.ion_scalar.specs.text.laws.DigitRuns.{digits_in_one, digits_in_push, digits_push}
 use Rattle.ion_scalar.specs.text.laws.Texts.{digit_of}
+use Rattle.ion_scalar.specs.text.laws.TimestampForms.{there_short}
 
 -- the last digit of a number of so many digits goes in front of what stands
 pub padded_step : (w n : ℕ) (tail more text : List ℕ) → padded (suc w) n ++ tail ≡ text → more ≡ (48 + n % 10) ∷ tail → padded w (n / 10) ++ more ≡ text
@@ -59,12 +47,12 @@ small_fields t h =
 
 pub near_offset : (p : Precision) (o : Option ℤ) → HasOffset p o → IfSome o IsOffset
 near_offset p None h = tt
-near_offset precisions.Year (Some z) h = cc
-near_offset precisions.Month (Some z) h = cc
-near_offset precisions.Day (Some z) h = cc
-near_offset precisions.Minute (Some z) h = h
-near_offset precisions.Second (Some z) h = h
-near_offset (precisions.Fraction d) (Some z) h = h
+near_offset Precision.Year (Some z) h = cc
+near_offset Precision.Month (Some z) h = cc
+near_offset Precision.Day (Some z) h = cc
+near_offset Precision.Minute (Some z) h = h
+near_offset Precision.Second (Some z) h = h
+near_offset (Precision.Fraction d) (Some z) h = h
 
 clock_is : (c n : ℕ) → n ≤ farthest_offset → let os = c ∷ clock_text n in AreTwoAt os 1 × IsAt os 3 58 × AreTwoAt os 4 × (two os 1 ≤ last_hour)
     × (two os 4 ≤ last_minute) × (offset_minutes os ≡ n)
@@ -164,10 +152,10 @@ read_back l rest s =
 
 cut_again : (l : Local) (p : Precision) (o : Option ℤ) → Small l → IsCut p l → HasOffset p o
     → IsTimestampToken (cut_text p l o) (record { local = l; precision = p; offset = o })
-cut_again l precisions.Year o s c h =
+cut_again l Precision.Year o s c h =
     let os = four_digits l.year ++ (84 ∷ []) in
     let y = four_at os l.year s.0 (omega arith) refl refl refl refl in
-    let e : Path TimestampParts (dated precisions.Year (four os 0) 1 1) (record { local = l; precision = precisions.Year; offset = o }) =
+    let e : Path TimestampParts (dated Precision.Year (four os 0) 1 1) (record { local = l; precision = Precision.Year; offset = o }) =
     λ i. record {
       local = record {
         year = y.1 i;
@@ -179,14 +167,14 @@ cut_again l precisions.Year o s c h =
             sym (c.4) i;
         fraction = sym (c.5) i;
       };
-      precision = precisions.Year;
+      precision = Precision.Year;
       offset = sym h i;
     } in
     subst (IsTimestampToken os) e (year (refl, y.0, (omega arith, refl)))
-cut_again l precisions.Month o s c h =
+cut_again l Precision.Month o s c h =
     let os = month_text l ++ (84 ∷ []) in
     let m = month_front l (84 ∷ []) s in
-    let e : Path TimestampParts (dated precisions.Month (four os 0) (two os 5) 1) (record { local = l; precision = precisions.Month; offset = o }) =
+    let e : Path TimestampParts (dated Precision.Month (four os 0) (two os 5) 1) (record { local = l; precision = Precision.Month; offset = o }) =
     λ i. record {
       local = record {
         year = m.1 i;
@@ -198,15 +186,15 @@ cut_again l precisions.Month o s c h =
         fraction =
             sym (c.4) i;
       };
-      precision = precisions.Month;
+      precision = Precision.Month;
       offset = sym h i;
     } in
     subst (IsTimestampToken os) e (month (refl, m.0, (omega arith, refl)))
-cut_again l precisions.Day o s c h =
+cut_again l Precision.Day o s c h =
     let os = day_text l in
     let m = month_front l (45 ∷ two_digits l.day) s in
     let d = day_front l [] s in
-    let e : Path TimestampParts (dated precisions.Day (four os 0) (two os 5) (two os 8)) (record { local = l; precision = precisions.Day; offset = o }) =
+    let e : Path TimestampParts (dated Precision.Day (four os 0) (two os 5) (two os 8)) (record { local = l; precision = Precision.Day; offset = o }) =
     λ i. record {
       local = record {
         year = m.1 i;
@@ -218,43 +206,43 @@ cut_again l precisions.Day o s c h =
         fraction =
             sym (c.3) i;
       };
-      precision = precisions.Day;
+      precision = Precision.Day;
       offset = sym h i;
     } in
     subst (IsTimestampToken os) e (day (d.0, inl refl))
-cut_again l precisions.Minute o s c h =
+cut_again l Precision.Minute o s c h =
     let os = minute_text l ++ offset_text o in
     let m = minute_front l (offset_text o) s in
     let b = read_back l (offset_text o) s in
-    let k = offset_is o (near_offset precisions.Minute o h) in
-    let e : Path TimestampParts (timed os precisions.Minute 0 0 (offset_text o)) (record { local = l; precision = precisions.Minute; offset = o }) =
-    λ i. record { local = record (b i) { second = sym (c.0) i; fraction = sym (c.1) i }; precision = precisions.Minute; offset = k.1 i } in
+    let k = offset_is o (near_offset Precision.Minute o h) in
+    let e : Path TimestampParts (timed os Precision.Minute 0 0 (offset_text o)) (record { local = l; precision = Precision.Minute; offset = o }) =
+    λ i. record { local = record (b i) { second = sym (c.0) i; fraction = sym (c.1) i }; precision = Precision.Minute; offset = k.1 i } in
     subst (IsTimestampToken os) e (minute m.0 k.0)
-cut_again l precisions.Second o s c h =
+cut_again l Precision.Second o s c h =
     let os = second_text l ++ offset_text o in
     let m = second_front l (offset_text o) s in
     let b = read_back l (58 ∷ two_digits l.second ++ offset_text o) s in
-    let k = offset_is o (near_offset precisions.Second o h) in
-    let e : Path TimestampParts (timed os precisions.Second (two os 17) 0 (offset_text o)) (record { local = l; precision = precisions.Second; offset = o }) =
-    λ i. record { local = record (b i) { second = m.1 i; fraction = sym c i }; precision = precisions.Second; offset = k.1 i } in
+    let k = offset_is o (near_offset Precision.Second o h) in
+    let e : Path TimestampParts (timed os Precision.Second (two os 17) 0 (offset_text o)) (record { local = l; precision = Precision.Second; offset = o }) =
+    λ i. record { local = record (b i) { second = m.1 i; fraction = sym c i }; precision = Precision.Second; offset = k.1 i } in
     subst (IsTimestampToken os) e (second m.0 k.0)
-cut_again l (precisions.Fraction zero) o s c h = absurd (omega (arith, c.0))
-cut_again l (precisions.Fraction (suc d)) o s c h =
+cut_again l (Precision.Fraction zero) o s c h = absurd (omega (arith, c.0))
+cut_again l (Precision.Fraction (suc d)) o s c h =
     let digits = padded (suc d) l.fraction in
     let rest = offset_text o in
     let os = second_text l ++ (46 ∷ (digits ++ rest)) in
     let m = second_front l (46 ∷ (digits ++ rest)) s in
     let b = read_back l (58 ∷ two_digits l.second ++ (46 ∷ (digits ++ rest))) s in
-    let k = offset_is o (near_offset (precisions.Fraction (suc d)) o h) in
+    let k = offset_is o (near_offset (Precision.Fraction (suc d)) o h) in
     let q = pads d l.fraction (c.2) in
-    let e : Path TimestampParts (timed os (precisions.Fraction (length digits)) (two os 17) (number 10 digits) rest)
-    (record { local = l; precision = precisions.Fraction (suc d); offset = o }) =
-    λ i. record { local = record (b i) { second = m.1 i; fraction = q.value i }; precision = precisions.Fraction (q.size i); offset = k.1 i } in
+    let e : Path TimestampParts (timed os (Precision.Fraction (length digits)) (two os 17) (number 10 digits) rest)
+    (record { local = l; precision = Precision.Fraction (suc d); offset = o }) =
+    λ i. record { local = record (b i) { second = m.1 i; fraction = q.value i }; precision = Precision.Fraction (q.size i); offset = k.1 i } in
     subst (IsTimestampToken os) e (fraction m.0 (omega arith, refl) digits rest (record { cut = refl; plain = (q.digits, q.plain); offset = k.0 }))
 
 pub timestamp_again : (t : TimestampParts) → IsTimestamp t → IsTimestampToken (timestamp_text t) t
 timestamp_again t h = cut_again t.local t.precision t.offset (small_fields t h) h.cut h.offset
 
 -- the text of a timestamp is read as it
-pub timestamp_reads : (t : TimestampParts) → IsTimestamp t → ReadsNumber (number_text (numbers.Timestamp t)) (Ok (numbers.Timestamp t))
+pub timestamp_reads : (t : TimestampParts) → IsTimestamp t → ReadsNumber (number_text (Number.Timestamp t)) (Ok (Number.Timestamp t))
 timestamp_reads t h = (timestamp_again t h, there_short t h, h)

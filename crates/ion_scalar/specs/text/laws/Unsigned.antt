@@ -2,18 +2,11 @@
 use Rattle.std.proofs.Common.{◌≡◌, ◌≢◌, ℕ, ◌<◌, ◌^◌, ◌⊎◌, inl, inr, List, [], ◌∷◌, ◌++◌, length, take, drop, min, Bool, true, false, ℤ, pos, ◌-ℤ◌, refl, sym, ap, subst, ◌∙◌, arith, Result, Ok, Err, IfOk, IfErr}
 use Rattle.std.proofs.lemmas.Bool.{false≢true}
 use Rattle.std.proofs.lemmas.List.{append-nil, take_all, length-take-le}
-use Rattle.ion_atoms.specs.declared.refusal.Reason.{Reason}
-use Rattle.ion_atoms.specs.declared.refusal.Reason.TheVariants.{TooLarge, Malformed, Float}
-use Rattle.ion_scalar.specs.declared.decimals.Tail.{Tail}
-use Rattle.ion_scalar.specs.declared.number.Number.{Number}
-use Rattle.ion_scalar.specs.declared.number.Number.TheVariants as numbers
-use Rattle.ion_scalar.specs.text.Ints.{IsDigits, GoesNotOn, number, continued, IsWholePart, IsRadix, IsMagnitude, HasBase, minus, BeginsWithMinus}
-use Rattle.ion_scalar.specs.text.Decimals.{signed, IsDecimalBody, IsTail, IsLetter, Shows}
-use Rattle.ion_scalar.specs.text.Numbers.{IsBehind, IsFloatBody, Fits, ReadsBehind, decimal_read, IsNumeral, IsFloat, ReadsNumeral}
 use Rattle.std.specs.Char.{digit_value}
-use Rattle.ion_scalar.specs.text.laws.Signs.{no_sign}
+use Rattle.ion_scalar.specs.Names.{BeginsWithMinus, Fits, Float, GoesNotOn, HasBase, IsBehind, IsDecimalBody, IsDigits, IsFloat, IsFloatBody, IsLetter, IsMagnitude, IsNumeral, IsRadix, IsTail, IsWholePart, Malformed, Number, ReadsBehind, ReadsNumeral, Reason, Shows, Tail, TooLarge, continued, decimal_read, minus, number, signed}
+use Rattle.ion_scalar.specs.text.laws.DecimalCuts.{body_is, coefficient, no_body, tail_stops, whole_digits}
 use Rattle.ion_scalar.specs.text.laws.OneRun.{first_digit}
-use Rattle.ion_scalar.specs.text.laws.DecimalCuts.{whole_digits, tail_stops, body_is, no_body, coefficient}
+use Rattle.ion_scalar.specs.text.laws.Signs.{no_sign}
 
 -- the letters of a base are none that a tail begins with
 no_letter : (float : Bool) (x : ℕ) → (x ≡ 46) ⊎ IsLetter float x → (base : ℕ) → ((base ≡ 16) × ((x ≡ 120) ⊎ (x ≡ 88))) ⊎ ((base ≡ 2) × ((x ≡ 98) ⊎ (x ≡ 66)))
@@ -111,14 +104,14 @@ based_magnitude base body n h (inr r) =
 
 -- the answer on an int
 pub int_answer : (negative : Bool) (body : List ℕ) (n v : ℕ) (r : Result Number Reason) → IsMagnitude body n → v ≡ min n (2 ^ 127)
-    → IfOk r (λ x. (n : ℕ) → v ≡ min n (2 ^ 127) → (x ≡ numbers.Int (signed negative n)) × Fits x)
-    → IfErr r (λ e. (e ≡ TooLarge) × ((n : ℕ) → v ≡ min n (2 ^ 127) → Fits (numbers.Int (signed negative n)) → ⊥)) → ReadsBehind negative body r
+    → IfOk r (λ x. (n : ℕ) → v ≡ min n (2 ^ 127) → (x ≡ Number.Int (signed negative n)) × Fits x)
+    → IfErr r (λ e. (e ≡ TooLarge) × ((n : ℕ) → v ≡ min n (2 ^ 127) → Fits (Number.Int (signed negative n)) → ⊥)) → ReadsBehind negative body r
 int_answer negative body n v (Ok x) is cap ok err =
     let k = ok n cap in
     (let P : Number → Type 0 = IsBehind negative body in subst P (sym k.0) (n, is, refl), k.1)
 int_answer negative body n v (Err e) is cap ok err =
     let P : Reason → Type 0 = λ y. ReadsBehind negative body (Err y) in
-    subst P (sym err.0) (numbers.Int (signed negative n), (n, is, refl), err.1 n cap)
+    subst P (sym err.0) (Number.Int (signed negative n), (n, is, refl), err.1 n cap)
 
 decimal_behind : (negative : Bool) (body : List ℕ) (used v : ℕ) (t : Tail) → IsWholePart (take used body) → (s : Shows (IsTail (drop used body)) v t)
     → t.float ≡ false
@@ -129,9 +122,9 @@ decimal_behind negative body used v t w s decimal =
 
 no_based_number : (negative : Bool) (base : ℕ) (body : List ℕ) → HasBase base body → (IsDigits base (drop 2 body) → ⊥) → (x : Number) → IsBehind negative body x
     → ⊥
-no_based_number negative base body h none (numbers.Int z) is = none (based_magnitude base body is.0 h is.1).0
-no_based_number negative base body h none (numbers.Timestamp t) is = is
-no_based_number negative base body h none (numbers.Decimal d) is = based_decimal false base body d.magnitude d.exponent h is.1
+no_based_number negative base body h none (Number.Int z) is = none (based_magnitude base body is.0 h is.1).0
+no_based_number negative base body h none (Number.Timestamp t) is = is
+no_based_number negative base body h none (Number.Decimal d) is = based_decimal false base body d.magnitude d.exponent h is.1
 
 no_whole_decimal : (float : Bool) (body : List ℕ) (m : ℕ) (e : ℤ) → ((w t : List ℕ) → body ≡ w ++ t → IsWholePart w → GoesNotOn 10 t → ⊥)
     → IsDecimalBody float body m e → ⊥
@@ -144,18 +137,18 @@ plain_magnitude body n no_base (inr r) = let b = radix_base body n r in absurd (
 
 no_plain_number : (negative : Bool) (body : List ℕ) → ((base : ℕ) → HasBase base body → ⊥)
     → ((w t : List ℕ) → body ≡ w ++ t → IsWholePart w → GoesNotOn 10 t → ⊥) → (x : Number) → IsBehind negative body x → ⊥
-no_plain_number negative body no_base none (numbers.Int z) is = none body [] (sym (append-nil body)) (plain_magnitude body is.0 no_base is.1).0 tt
-no_plain_number negative body no_base none (numbers.Timestamp t) is = is
-no_plain_number negative body no_base none (numbers.Decimal d) is = no_whole_decimal false body d.magnitude d.exponent none is.1
+no_plain_number negative body no_base none (Number.Int z) is = none body [] (sym (append-nil body)) (plain_magnitude body is.0 no_base is.1).0 tt
+no_plain_number negative body no_base none (Number.Timestamp t) is = is
+no_plain_number negative body no_base none (Number.Decimal d) is = no_whole_decimal false body d.magnitude d.exponent none is.1
 
 no_tail_number : (negative : Bool) (body : List ℕ) (used : ℕ) → ((base : ℕ) → HasBase base body → ⊥) → used < length body
     → ((w t : List ℕ) → body ≡ w ++ t → IsWholePart w → GoesNotOn 10 t → w ≡ take used body)
     → ((f : List ℕ) (float s : Bool) (n : ℕ) → IsTail (drop used body) f float s n → ⊥) → (x : Number) → IsBehind negative body x → ⊥
-no_tail_number negative body used no_base more only none (numbers.Int z) is =
+no_tail_number negative body used no_base more only none (Number.Int z) is =
     let e = only body [] (sym (append-nil body)) (plain_magnitude body is.0 no_base is.1).0 tt in
     omega (arith, ap length e, length-take-le used body (omega arith))
-no_tail_number negative body used no_base more only none (numbers.Timestamp t) is = is
-no_tail_number negative body used no_base more only none (numbers.Decimal d) is = no_body false body used d.magnitude d.exponent only none is.1
+no_tail_number negative body used no_base more only none (Number.Timestamp t) is = is
+no_tail_number negative body used no_base more only none (Number.Decimal d) is = no_body false body used d.magnitude d.exponent only none is.1
 
 -- the answer on a decimal
 pub decimal_answer : (negative : Bool) (body : List ℕ) (used v : ℕ) (t : Tail) (r : Result Number Reason) → IsWholePart (take used body)
@@ -246,9 +239,9 @@ one_sign false true (c ∷ token) body other b e f first = absurd (false≢true 
 
 -- what stands behind a sign doesn't begin with `-`
 pub behind_first : (negative : Bool) (c : ℕ) (os : List ℕ) (x : Number) → IsBehind negative (c ∷ os) x → c ≢ 45
-behind_first negative c os (numbers.Int z) is = no_sign c os is.0 is.1
-behind_first negative c os (numbers.Timestamp t) is = absurd is
-behind_first negative c os (numbers.Decimal d) is = decimal_first false c os d.magnitude d.exponent is.1
+behind_first negative c os (Number.Int z) is = no_sign c os is.0 is.1
+behind_first negative c os (Number.Timestamp t) is = absurd is
+behind_first negative c os (Number.Decimal d) is = decimal_first false c os d.magnitude d.exponent is.1
 
 -- what a token spells as an int or a decimal, its octets behind the sign are with that sign
 pub number_behind : (negative : Bool) (token body : List ℕ) (x : Number) → BeginsWithMinus negative token → token ≡ minus negative ++ body → IsNumeral token x

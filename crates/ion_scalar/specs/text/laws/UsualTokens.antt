@@ -4,19 +4,11 @@ use Rattle.std.proofs.lemmas.Bool.{eq-eqb, ne_eqb}
 use Rattle.std.proofs.lemmas.List.{drop_more, drop_all}
 use Rattle.std.proofs.lemmas.Int.{ints}
 use Rattle.std.proofs.Math.Nat.{pow-le-pow_right}
-use Rattle.ion_atoms.specs.Calendar.{IsDate, IsMinute, InYears, minute_number}
-use Rattle.ion_atoms.specs.TimestampBounds.{last_year, farthest_offset}
-use Rattle.ion_atoms.specs.declared.timestamp.Local.{Local}
-use Rattle.ion_atoms.specs.declared.timestamp.Precision.{Precision}
-use Rattle.ion_atoms.specs.declared.timestamp.Precision.TheVariants as precisions
+use Rattle.ion_scalar.specs.Names.{AreTwoAt, BeginsWithDay, BeginsWithMinute, HasOffset, InYears, IsAt, IsCut, IsDate, IsDigits, IsMinute, IsOffset, IsOffsetToken, IsShort, IsTime, IsTimestamp, IsTimestampToken, Local, Precision, Stamp, TimestampParts, continued, dated, day, farthest_offset, four, fraction, last_year, local_date, local_minute, minute, minute_number, minute_read, minutes_ahead, month, offset_minutes, offset_read, precision_rank, second, stamp, timed, two, year}
 use Rattle.ion_atoms.specs.laws.Calendar.{minute-in_years}
-use Rattle.ion_atoms.specs.Timestamps.{TimestampParts, IsTimestamp, IsTime, IsCut, IsOffset, HasOffset, minutes_ahead, precision_rank, local_date, local_minute}
-use Rattle.ion_scalar.specs.text.Timestamps.{IsAt, AreTwoAt, two, four, BeginsWithDay, BeginsWithMinute, IsOffsetToken, offset_read, minute_read, dated, timed, IsTimestampToken, offset_minutes, year, month, day, minute, second, fraction, IsShort, stamp}
-use Rattle.ion_scalar.specs.text.Ints.{IsDigits, continued}
-use Rattle.ion_scalar.specs.text.laws.TimestampForms.{ShownEnd, end_some, number_small, short_parts, made}
+use Rattle.ion_scalar.specs.binary.laws.Shifted.{moved_out, moved_stays}
 use Rattle.ion_scalar.specs.text.laws.ShortNumbers.{PlainRun, below_room}
-use Rattle.ion_scalar.specs.declared.timestamps.Stamp.{Stamp}
-use Rattle.ion_scalar.specs.binary.laws.Shifted.{moved_stays, moved_out}
+use Rattle.ion_scalar.specs.text.laws.TimestampForms.{ShownEnd, end_some, made, number_small, short_parts}
 
 -- a day and time whose clock isn't ahead of UTC are a timestamp
 pub there_in_utc : (l : Local) (p : Precision) (o : Option ℤ) → IsDate (local_date l) → IsTime l → IsCut p l → HasOffset p o → minutes_ahead o ≡ pos 0
@@ -34,10 +26,10 @@ there_in_utc l p o date time cut offset utc =
 
 -- a token of a day, and the parts that it spells
 pub day_spelled : (os : List ℕ) (l : Local) (t : TimestampParts) → (length os ≡ 10) ⊎ ((length os ≡ 11) × IsAt os 10 84) → BeginsWithDay os
-    → l ≡ (dated precisions.Day (four os 0) (two os 5) (two os 8)).local → t ≡ record { local = l; precision = precisions.Day; offset = None }
+    → l ≡ (dated Precision.Day (four os 0) (two os 5) (two os 8)).local → t ≡ record { local = l; precision = Precision.Day; offset = None }
     → IsTimestampToken os t
 day_spelled os l t long is same e =
-    subst (IsTimestampToken os) (sym (e ∙ (λ i. record { local = same i; precision = precisions.Day; offset = None }))) (day (is, long))
+    subst (IsTimestampToken os) (sym (e ∙ (λ i. record { local = same i; precision = Precision.Day; offset = None }))) (day (is, long))
 
 -- `Z` alone is the offset of UTC
 z_alone : (os : List ℕ) (at : ℕ) → length os ≡ at + 1 → get_or os at 0 ≡ 90 → IsOffsetToken (drop at os) × (offset_read (drop at os) ≡ Some (pos 0))
@@ -47,12 +39,12 @@ z_alone os at long z =
 
 -- a token of a second with `Z`, and the parts that it spells
 pub second_spelled : (os : List ℕ) (l : Local) (t : TimestampParts) → length os ≡ 20 → BeginsWithMinute os → get_or os 16 0 ≡ 58 → AreTwoAt os 17
-    → get_or os 19 0 ≡ 90 → l ≡ record (minute_read os) { second = two os 17 } → t ≡ record { local = l; precision = precisions.Second; offset = Some (pos 0) }
+    → get_or os 19 0 ≡ 90 → l ≡ record (minute_read os) { second = two os 17 } → t ≡ record { local = l; precision = Precision.Second; offset = Some (pos 0) }
     → IsTimestampToken os t
 second_spelled os l t long is colon digits z same e =
     let offset = z_alone os 19 long z in
-    let parts : t ≡ timed os precisions.Second (two os 17) 0 (drop 19 os) =
-    e ∙ (λ i. record { local = same i; precision = precisions.Second; offset = sym offset.1 i }) in
+    let parts : t ≡ timed os Precision.Second (two os 17) 0 (drop 19 os) =
+    e ∙ (λ i. record { local = same i; precision = Precision.Second; offset = sym offset.1 i }) in
     subst (IsTimestampToken os) (sym parts) (second (is, (omega arith, colon), digits) offset.0)
 
 -- the minutes of an offset's token are less than a day either way
@@ -73,15 +65,15 @@ offset_near os (inr h) =
     rw (ne_eqb (get_or os 0 0) 90 no_z) (signed_near (get_or os 0 0) (offset_minutes os) (omega (arith, h.5, h.6)))
 
 timed_offset : (p : Precision) (o : Option ℤ) → 3 ≤ precision_rank p → IfSome o IsOffset → HasOffset p o
-timed_offset precisions.Year o late near = absurd (omega arith)
-timed_offset precisions.Month o late near = absurd (omega arith)
-timed_offset precisions.Day o late near = absurd (omega arith)
-timed_offset precisions.Minute None late near = tt
-timed_offset precisions.Minute (Some minutes) late near = near
-timed_offset precisions.Second None late near = tt
-timed_offset precisions.Second (Some minutes) late near = near
-timed_offset (precisions.Fraction digits) None late near = tt
-timed_offset (precisions.Fraction digits) (Some minutes) late near = near
+timed_offset Precision.Year o late near = absurd (omega arith)
+timed_offset Precision.Month o late near = absurd (omega arith)
+timed_offset Precision.Day o late near = absurd (omega arith)
+timed_offset Precision.Minute None late near = tt
+timed_offset Precision.Minute (Some minutes) late near = near
+timed_offset Precision.Second None late near = tt
+timed_offset Precision.Second (Some minutes) late near = near
+timed_offset (Precision.Fraction digits) None late near = tt
+timed_offset (Precision.Fraction digits) (Some minutes) late near = near
 
 ahead_near : (o : Option ℤ) → IfSome o IsOffset → IsOffset (minutes_ahead o)
 ahead_near None near = (omega (arith, ints), omega (arith, ints))
@@ -120,11 +112,11 @@ spelled_there os _ (year h) short date time low high = there_in_utc _ _ _ date t
 spelled_there os _ (month h) short date time low high = there_in_utc _ _ _ date time (refl, refl, refl, refl, refl) refl refl
 spelled_there os _ (day h) short date time low high = there_in_utc _ _ _ date time (refl, refl, refl, refl) refl refl
 spelled_there os _ (minute h o) short date time low high =
-    there_timed _ precisions.Minute (offset_read (drop 16 os)) date time (refl, refl) (omega arith) (offset_near (drop 16 os) o) low high
+    there_timed _ Precision.Minute (offset_read (drop 16 os)) date time (refl, refl) (omega arith) (offset_near (drop 16 os) o) low high
 spelled_there os _ (second h o) short date time low high =
-    there_timed _ precisions.Second (offset_read (drop 19 os)) date time refl (omega arith) (offset_near (drop 19 os) o) low high
+    there_timed _ Precision.Second (offset_read (drop 19 os)) date time refl (omega arith) (offset_near (drop 19 os) o) low high
 spelled_there os _ (fraction h p digits rest e) short date time low high =
-    there_timed _ (precisions.Fraction (length digits)) (offset_read rest) date time
+    there_timed _ (Precision.Fraction (length digits)) (offset_read rest) date time
     (some_digits digits e.plain.0, short, rw e.plain.1 at (number_small digits e.plain.0)) (omega arith) (offset_near rest e.offset) low high
 
 -- so are the parts that are read of it
@@ -148,7 +140,7 @@ usual_spelled os t s (Some x) is e h = made os t x (record { local = s.local; pr
 -- digits of at most 19 octets, and the offset behind them, are read as a fraction's end
 pub short_end : (os : List ℕ) (l : Local) (used value : ℕ) (r : Option Stamp) → PlainRun os 0 used value → 0 < used → length os ≤ 19
     → SomeIff r (IsOffsetToken (drop used os))
-    (record { local = record l { fraction = value }; precision = precisions.Fraction used; offset = offset_read (drop used os) }) → IfSome r (ShownEnd l os)
+    (record { local = record l { fraction = value }; precision = Precision.Fraction used; offset = offset_read (drop used os) }) → IfSome r (ShownEnd l os)
 short_end os l used value r run some few h =
     let all : 10 ^ length os ≤ 10 ^ 19 = pow-le-pow_right (omega arith) few in
     let small : value < (0 + 1) * 10 ^ length os = below_room 10 value (length os - used) _ (omega arith) run.room in

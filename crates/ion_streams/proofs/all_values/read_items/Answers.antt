@@ -1,5 +1,5 @@
 use Rattle.std.proofs.Common.{◌++◌, ◌∷◌, []}
-use Rattle.ion_symtab.specs.Trace.{plain}
+use Rattle.ion_streams.specs.Names.{plain}
 use Rattle.ion_streams.proofs.Passes.{gave_none}
 use Rattle.ion_streams.proofs.Steps.{stood_plain}
 use Rattle.ion_streams.proofs.Turns.{each_end, so_far_end}

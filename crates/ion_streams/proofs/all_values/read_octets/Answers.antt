@@ -1,7 +1,7 @@
 use Rattle.std.proofs.Common.{◌≡◌, ℕ, ◌+◌, ◌≤◌, [], ◌∷◌, ◌++◌, length, take, drop, refl, ap, sym, subst, ◌∙◌, arith, Option, IsNone, length-drop}
 use Rattle.std.proofs.Math.Seq.{drop-length}
 use Rattle.std.proofs.lemmas.Result.{err_from_is_err_and}
-use Rattle.ion_atoms.specs.declared.refusal.Refusal.{Refusal}
+use Rattle.ion_streams.specs.Names.{Refusal}
 use Rattle.ion_streams.proofs.Pieces.{none_awaited}
 use Rattle.ion_streams.proofs.Wholes.{all_left, taken_count, taken_more, taken_refused, taken_stopped}
 use Rattle.ion_streams.proofs.all_values.read_octets.Goals as goal

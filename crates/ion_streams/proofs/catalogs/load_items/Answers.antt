@@ -1,9 +1,7 @@
 use Rattle.std.proofs.Common.{◌≡◌, ℕ, List, [], ◌∷◌, ◌++◌, arith, rules, Ok, Err, ◌∙◌}
-use Rattle.ion_model.specs.declared.value.Value.{Value}
-use Rattle.ion_symtab.specs.Trace.{plain}
-use Rattle.ion_streams.specs.Loaded.{catalog_of}
-use Rattle.ion_streams.proofs.Loads.{catalog_ok, value_refused}
+use Rattle.ion_streams.specs.Names.{Value, catalog_of, plain}
 use Rattle.ion_streams.proofs.Driven.{driven_on}
+use Rattle.ion_streams.proofs.Loads.{catalog_ok, value_refused}
 use Rattle.ion_streams.proofs.Passes.{gave_none}
 use Rattle.ion_streams.proofs.Steps.{stood_plain, within_begun}
 use Rattle.ion_streams.proofs.Turns.{each_end, so_far_end}

@@ -1,7 +1,5 @@
 use Rattle.std.proofs.Common.{◌≡◌, ℕ, ◌+◌, ◌*◌, ◌≤◌, List, [], Ok, length}
-use Rattle.ion_model.specs.declared.value.Value.{Value}
-use Rattle.ion_streams.specs.Loaded.{catalog_of}
-use Rattle.ion_streams.specs.reading.Standing.{work_of, reads_of, StoodEach}
+use Rattle.ion_streams.specs.Names.{StoodEach, Value, catalog_of, reads_of, work_of}
 use Rattle.ion_streams.proofs.Driven.{Driven}
 use Rattle.ion_streams.proofs.catalogs.load_items.Given as goal
 

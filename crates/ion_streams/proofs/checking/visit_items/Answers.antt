@@ -1,6 +1,5 @@
 use Rattle.std.proofs.Common.{◌+◌, ◌++◌, ◌∷◌, ◌∙◌, [], ℕ, arith, refl, rules, ap, length-append}
-use Rattle.ion_symtab.specs.Trace.{plain}
-use Rattle.ion_streams.specs.reading.Telling.{telling}
+use Rattle.ion_streams.specs.Names.{plain, telling}
 use Rattle.ion_streams.proofs.Driven.{driven_on, heard_more, visited_at}
 use Rattle.ion_streams.proofs.Steps.{stood_plain, within_begun}
 use Rattle.ion_streams.proofs.Telling.{told_some}

@@ -1,9 +1,5 @@
 use Rattle.std.proofs.Common.{◌≡◌, ℕ, ◌+◌, ◌*◌, ◌≤◌, ◌^◌, List, [], length}
-use Rattle.ion_model.specs.declared.value.Value.{Value}
-use Rattle.ion_symtab.specs.Trace.{plain}
-use Rattle.ion_visiting.specs.Events.{Led, stream_events}
-use Rattle.ion_streams.specs.reading.Standing.{work_of, reads_of, StoodEach}
-use Rattle.ion_streams.specs.reading.Telling.{telling}
+use Rattle.ion_streams.specs.Names.{Led, StoodEach, Value, plain, reads_of, stream_events, telling, work_of}
 use Rattle.ion_streams.proofs.Driven.{Driven}
 use Rattle.ion_streams.proofs.checking.visit_items.Given as goal
 

@@ -1,9 +1,9 @@
 use Rattle.std.proofs.Common.{◌≡◌, [], arith, refl, ap, ◌∙◌}
-use Rattle.ion_streams.specs.reading.Telling.{telling}
+use Rattle.ion_streams.specs.Names.{telling}
+use Rattle.ion_streams.proofs.Passes.{err_by, ok_by}
 use Rattle.ion_streams.proofs.Pieces.{between_nil}
-use Rattle.ion_streams.proofs.Unfailed.{asks_begun}
 use Rattle.ion_streams.proofs.Steps.{reads_begun, ready_begun, within_begun}
-use Rattle.ion_streams.proofs.Passes.{ok_by, err_by}
+use Rattle.ion_streams.proofs.Unfailed.{asks_begun}
 use Rattle.ion_streams.proofs.comparison.compare_items.Goals as goal
 
 pub compare_places-verdict-requires : goal.compare_places-verdict-requires

@@ -1,13 +1,11 @@
 use Rattle.std.proofs.Common.{rules, ◌++◌, [], inl, inr, arith, subst, option_to_list}
 use Rattle.std.proofs.lemmas.Result.{err_from_is_err_and}
-use Rattle.ion_streams.specs.declared.source.Standing.{Standing}
-use Rattle.ion_streams.specs.reading.Standing.{Stood}
-use Rattle.ion_streams.specs.reading.Telling.{telling}
-use Rattle.ion_streams.proofs.Courses.{left_refused, closed_verdict, works_less, true_case, false_case}
-use Rattle.ion_streams.proofs.SideBySide.{closed_kept, left_goes, right_goes, both_met, ready_told, told_so_far, told_with_next}
-use Rattle.ion_streams.proofs.Turns.{left_failed, right_on, in_turn, stood_end, so_far_end}
+use Rattle.ion_streams.specs.Names.{Standing, Stood, telling}
+use Rattle.ion_streams.proofs.Courses.{closed_verdict, false_case, left_refused, true_case, works_less}
+use Rattle.ion_streams.proofs.SideBySide.{both_met, closed_kept, left_goes, ready_told, right_goes, told_so_far, told_with_next}
+use Rattle.ion_streams.proofs.Turns.{in_turn, left_failed, right_on, so_far_end, stood_end}
 use Rattle.ion_streams.proofs.Unfailed.{heard_alone, heard_since, stands_heard}
-use Rattle.ion_streams.proofs.comparison.compare_places.Goals.{else-not-is_open-via-then-not-is_open+else-not-is_open-2, else-not-is_open-via-else-not-is_open}
+use Rattle.ion_streams.proofs.comparison.compare_places.Goals.{else-not-is_open-via-else-not-is_open, else-not-is_open-via-then-not-is_open+else-not-is_open-2}
 use Rattle.ion_streams.proofs.comparison.compare_places.Goals as goal
 
 -- the left can't be read on

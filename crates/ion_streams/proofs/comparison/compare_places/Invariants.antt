@@ -1,5 +1,5 @@
 use Rattle.std.proofs.Common.{◌+◌}
-use Rattle.ion_streams.specs.reading.Standing.{work_of}
+use Rattle.ion_streams.specs.Names.{work_of}
 use Rattle.ion_streams.proofs.SideBySide.{SideBySide}
 use Rattle.ion_streams.proofs.comparison.compare_places.Given as goal
 

@@ -1,4 +1,4 @@
-use Rattle.ion_streams.specs.Listing.{accepted_line}
+use Rattle.ion_streams.specs.Names.{accepted_line}
 use Rattle.ion_streams.proofs.listing.accepted.Goals as goal
 
 pub returns : goal.returns

@@ -1,5 +1,5 @@
 use Rattle.std.proofs.Common.{append_assoc}
-use Rattle.ion_streams.specs.Listing.{line_of}
+use Rattle.ion_streams.specs.Names.{line_of}
 use Rattle.ion_streams.proofs.listing.set_line.Goals as goal
 
 pub returns : goal.returns

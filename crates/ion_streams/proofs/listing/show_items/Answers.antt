@@ -1,17 +1,13 @@
 use Rattle.std.proofs.Common.{◌+◌, ◌++◌, ◌∷◌, [], refl, length-append, arith, ap, sym, subst, ◌∙◌, ℕ, List}
-use Rattle.ion_visiting.specs.Outlining.{outlines}
-use Rattle.ion_symtab.specs.Took.{Took, TookFront}
-use Rattle.ion_symtab.specs.Trace.{plain}
-use Rattle.ion_symtab.specs.laws.Took.{Took-nil, Took-trans, Took-kept, Front-all, Front-behind}
-use Rattle.ion_streams.specs.reading.Telling.{telling}
-use Rattle.ion_streams.specs.Listing.{lines_of, in_reading}
-use Rattle.ion_streams.proofs.Steps.{stood_plain, on_err}
-use Rattle.ion_streams.proofs.Fronts.{gave_told, line_next, so_far}
+use Rattle.ion_streams.specs.Names.{Took, TookFront, in_reading, lines_of, outlines, plain, telling}
+use Rattle.ion_symtab.specs.laws.Took.{Front-all, Front-behind, Took-kept, Took-nil, Took-trans}
 use Rattle.ion_streams.proofs.Driven.{driven_on}
+use Rattle.ion_streams.proofs.Fronts.{gave_told, line_next, so_far}
+use Rattle.ion_streams.proofs.Shown.{outlined_next, shown_err, shown_ok, shows_ok}
+use Rattle.ion_streams.proofs.Steps.{on_err, stood_plain}
 use Rattle.ion_streams.proofs.Telling.{told_none}
 use Rattle.ion_streams.proofs.Turns.{each_end, so_far_end}
-use Rattle.ion_streams.proofs.Shown.{outlined_next, shows_ok, shown_ok, shown_err}
-use Rattle.ion_streams.proofs.listing.show_items.Goals.{in-Ok+in_ok-write_accepted-in-Ok, in-Err+in_ok-flushed-in-Err}
+use Rattle.ion_streams.proofs.listing.show_items.Goals.{in-Err+in_ok-flushed-in-Err, in-Ok+in_ok-write_accepted-in-Ok}
 use Rattle.ion_streams.proofs.listing.show_items.Goals as goal
 
 pub returns-in_err-advance_by-clause-so_far : goal.returns-in_err-advance_by-clause-so_far

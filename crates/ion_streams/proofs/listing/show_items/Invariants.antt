@@ -1,11 +1,5 @@
 use Rattle.std.proofs.Common.{◌≡◌, ℕ, ◌+◌, ◌*◌, ◌≤◌, ◌^◌, List, [], length}
-use Rattle.ion_model.specs.declared.value.Value.{Value}
-use Rattle.ion_symtab.specs.Took.{Took}
-use Rattle.ion_symtab.specs.Trace.{plain}
-use Rattle.ion_streams.specs.Listing.{lines_of}
-use Rattle.ion_streams.specs.reading.Standing.{work_of, reads_of, StoodEach}
-use Rattle.ion_streams.specs.reading.Telling.{telling}
-use Rattle.ion_visiting.specs.Outlining.{no_outline}
+use Rattle.ion_streams.specs.Names.{StoodEach, Took, Value, lines_of, no_outline, plain, reads_of, telling, work_of}
 use Rattle.ion_streams.proofs.Driven.{Driven}
 use Rattle.ion_streams.proofs.listing.show_items.Given as goal
 

@@ -1,12 +1,11 @@
 use Rattle.std.proofs.Common.{rules, refl, ◌≢◌}
-use Rattle.ion_atoms.specs.declared.refusal.Reason.TheVariants as reasons
-use Rattle.ion_streams.specs.Formats.{format_of}
+use Rattle.ion_streams.specs.Names.{Reason, format_of}
 use Rattle.ion_streams.proofs.Endings.{refused_late}
 use Rattle.ion_streams.proofs.source.last.Goals as goal
 
 pub returns-clause-ends : goal.returns-clause-ends
 returns-clause-ends g c = λ u given h.
-    let other : c.in-Err.refusal.reason ≢ reasons.Memory = search rules in
+    let other : c.in-Err.refusal.reason ≢ Reason.Memory = search rules in
     let catalog = g.I.Items.catalog c.args.source.items in
     let limits = g.I.Items.limits c.args.source.items in (
       refl,

@@ -1,6 +1,6 @@
 use Rattle.std.proofs.Common.{◌≡◌, ◌++◌, drop, option_copied}
 use Rattle.std.specs.Option.{option_to_list}
-use Rattle.ion_model.specs.Holds.{values_of}
+use Rattle.ion_symtab.specs.Names.{values_of}
 use Rattle.ion_symtab.proofs.fields.only.Given as goal
 
 abbrev pub invariant-loop-field : goal.invariant-loop-field

@@ -1,5 +1,5 @@
 use Rattle.std.proofs.Common.{◌≡◌, map, take}
-use Rattle.ion_symtab.specs.Fields.{symbol_of}
+use Rattle.ion_symtab.specs.Names.{symbol_of}
 use Rattle.ion_symtab.proofs.fields.symbols_of.Given as goal
 
 abbrev pub invariant-loop-element : goal.invariant-loop-element

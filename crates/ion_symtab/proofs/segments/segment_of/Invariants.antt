@@ -1,5 +1,5 @@
 use Rattle.std.proofs.Common.{◌<◌, ◌≤◌, ◌-◌, length}
-use Rattle.ion_symtab.specs.kept.Segments.{StartsBy, StartsBehind}
+use Rattle.ion_symtab.specs.Names.{StartsBehind, StartsBy}
 use Rattle.ion_symtab.proofs.segments.segment_of.Given as goal
 
 abbrev pub invariant-loop-high : goal.invariant-loop-high

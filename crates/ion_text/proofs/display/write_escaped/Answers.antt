@@ -2,10 +2,10 @@ use Rattle.std.proofs.Common.{◌≡◌, ◌-◌, ◌<◌, false, true, [], ◌+
 use Rattle.std.proofs.lemmas.Grind.{common_steps}
 use Rattle.std.proofs.lemmas.Str.{IsCharBoundary-start, IsCharBoundary-after_ascii}
 use Rattle.std.proofs.Output.{has_written_append, has_written_of_eq}
-use Rattle.ion_text.specs.Output.{of_symbol, escape, is_raw}
-use Rattle.ion_text.proofs.QuotedRuns.{escaped_low, keep_octet, escape_octet, escaped_end}
+use Rattle.ion_text.specs.Names.{escape, is_raw, of_symbol}
+use Rattle.ion_text.proofs.QuotedRuns.{escape_octet, escaped_end, escaped_low, keep_octet}
 use Rattle.ion_text.proofs.display.write_escaped.Goals as goal
-use Rattle.ion_text.proofs.display.write_escaped.Goals.{then-not-is_raw+in_ok-write_str+in_ok-write_escape, else-not-is_raw}
+use Rattle.ion_text.proofs.display.write_escaped.Goals.{else-not-is_raw, then-not-is_raw+in_ok-write_str+in_ok-write_escape}
 
 pub loop-at-init : goal.loop-at-init
 loop-at-init g c = (omega arith, IsCharBoundary-start c.args.text.now c.utf8.text, [], refl, search rules)

@@ -1,7 +1,7 @@
 use Rattle.std.proofs.Common.{◌≡◌, ◌-◌, ◌≤◌, List, ℕ, ◌++◌, take, drop}
 use Rattle.std.specs.Fmt.{HasWritten, IsPlainFormatter}
 use Rattle.std.specs.Str.{IsCharBoundary}
-use Rattle.ion_text.specs.Output.{of_symbol, escaped_text}
+use Rattle.ion_text.specs.Names.{escaped_text, of_symbol}
 use Rattle.ion_text.proofs.display.write_escaped.Given as goal
 
 -- what is written, the run that isn't yet, and what is left are all

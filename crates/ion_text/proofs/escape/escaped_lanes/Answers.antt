@@ -3,9 +3,9 @@ use Rattle.std.specs.Prelude.{◌&&◌, ◌==◌}
 use Rattle.std.proofs.lemmas.Simd.{zip2_splat, zip2_splat_left, zip2_of_maps}
 use lib.Bits.{bit_or}
 use lib.Lanes.{top}
+use Rattle.ion_text.specs.Names.{stands_raw}
 use Rattle.ion_tokens.proofs.masks.ByOctet.{holds_below, same}
-use Rattle.ion_tokens.proofs.masks.LaneMasks.{is, below, masked_by}
-use Rattle.ion_text.specs.Output.{stands_raw}
+use Rattle.ion_tokens.proofs.masks.LaneMasks.{below, is, masked_by}
 use Rattle.ion_text.proofs.escape.escaped_lanes.Goals as goal
 
 -- what the operations say of an octet, which is the quote or not

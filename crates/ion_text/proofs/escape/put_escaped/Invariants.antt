@@ -1,5 +1,5 @@
 use Rattle.std.proofs.Common.{◌≡◌, ◌++◌, length}
-use Rattle.ion_text.specs.Output.{escaped_text}
+use Rattle.ion_text.specs.Names.{escaped_text}
 use Rattle.ion_text.proofs.escape.put_escaped.Given as goal
 
 -- what is written and what is left are all

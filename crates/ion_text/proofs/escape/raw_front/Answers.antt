@@ -1,6 +1,6 @@
 use Rattle.std.proofs.Common.{◌≡◌, ◌+◌, ◌-◌, length, subst, arith}
-use Rattle.ion_tokens.proofs.masks.LaneRuns.{GoesOnTo, at_start, goes_through, stops_at, from_before, is_all}
-use Rattle.ion_text.specs.Output.{is_raw}
+use Rattle.ion_text.specs.Names.{is_raw}
+use Rattle.ion_tokens.proofs.masks.LaneRuns.{GoesOnTo, at_start, from_before, goes_through, is_all, stops_at}
 use Rattle.ion_text.proofs.escape.raw_front.Goals as goal
 
 pub loop-at-init : goal.loop-at-init

@@ -1,6 +1,6 @@
 use Rattle.std.proofs.Common.{◌-◌, length}
+use Rattle.ion_text.specs.Names.{is_raw}
 use Rattle.ion_tokens.proofs.masks.LaneRuns.{GoesOnTo}
-use Rattle.ion_text.specs.Output.{is_raw}
 use Rattle.ion_text.proofs.escape.raw_front.Given as goal
 
 abbrev pub invariant-loop-at : goal.invariant-loop-at

@@ -1,6 +1,6 @@
 use Rattle.std.proofs.Common.{rules, ◌≡◌, ◌++◌, Some, OnOk, sym, subst}
+use Rattle.ion_text.specs.Names.{of_string, quoted}
 use Rattle.ion_model.specs.declared.value.Payload.TheViews as views
-use Rattle.ion_text.specs.Output.{of_string, quoted}
 use Rattle.ion_text.proofs.Transcribed.{part_text, symbol_known}
 use Rattle.ion_text.proofs.scalar.put_part.Goals as goal
 

@@ -2,9 +2,8 @@ use Rattle.std.proofs.Common.{◌≡◌, ℕ, ◌+◌, ◌<◌, ◌≤◌, ◌^�
 use Rattle.std.proofs.lemmas.List.{drop_all}
 use Rattle.std.specs.Prelude.{if◌then◌else◌}
 use Rattle.std.specs.List.{list_all}
-use Rattle.ion_tokens.specs.Bodies.{number_in}
-use Rattle.ion_tokens.specs.Octets.{is_digit}
-use Rattle.ion_tokens.proofs.Digits.{bounded_step, bounded_end}
+use Rattle.ion_text.specs.Names.{is_digit, number_in}
+use Rattle.ion_tokens.proofs.Digits.{bounded_end, bounded_step}
 use Rattle.ion_text.proofs.words.number_in.Goals as goal
 
 digits_step : (i : ℕ) (ds : List ℕ) → i < length ds → is_digit (get_or ds i 0) ≡ true

@@ -1,7 +1,6 @@
 use Rattle.std.proofs.Common.{◌≡◌, ◌≤◌, ◌^◌, ◌-◌, min, drop}
 use Rattle.std.specs.List.{list_all}
-use Rattle.ion_tokens.specs.Bodies.{number_in}
-use Rattle.ion_tokens.specs.Octets.{is_digit}
+use Rattle.ion_text.specs.Names.{is_digit, number_in}
 use Rattle.ion_text.proofs.words.number_in.Given as goal
 
 -- what is left leads on from the number so far, where both are bounded, and is of digits where all are

@@ -1,5 +1,5 @@
 use Rattle.std.proofs.Common.{◌≡◌, length}
-use Rattle.ion_text.specs.Grammar.{version_parts}
+use Rattle.ion_text.specs.Names.{version_parts}
 use Rattle.ion_text.proofs.Versions.{since}
 use Rattle.ion_text.proofs.words.version_parts.Given as goal
 

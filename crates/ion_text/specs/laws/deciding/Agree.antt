@@ -1,20 +1,15 @@
 -- Tokens of octets, of which the last one has ended in them, and those of more octets: one list is the front of the other.
 use Rattle.std.proofs.Common.{◌≡◌, ℕ, ◌+◌, ◌-◌, ◌≤◌, false, List, [], ◌∷◌, ◌++◌, length, drop, refl, sym, ap, ◌∙◌, subst, arith, ◌⊎◌, inl, inr}
 use Rattle.std.proofs.lemmas.List.{drop-append-le, length-drop}
-use Rattle.ion_model.specs.declared.value.Value.{Value}
-use Rattle.ion_symtab.specs.declared.limits.Limits.{Limits}
-use Rattle.ion_symtab.specs.declared.catalog.Catalog.{Catalog}
-use Rattle.ion_tokens.specs.Lexed.{Placed, BeginsLexed}
-use Rattle.ion_tokens.specs.machine.Scanning.{Known, Outcome, Next, Given, Left, initial, run}
-use Rattle.ion_tokens.proofs.complete.Found.{Nothing, Last, Gives, Leaves, Unclosed}
+use Rattle.ion_text.specs.Names.{BeginsLexed, Catalog, Given, Known, Left, Limits, Next, Outcome, Placed, Reading, Value, Walk, initial, place, reads, reads-append, scan as run, stopped, then_walk}
+use Rattle.ion_tokens.proofs.complete.Found.{Gives, Last, Leaves, Nothing, Unclosed}
 use Rattle.ion_tokens.proofs.histories.Histories.{begins_completes, given_front, left_front}
 use Rattle.ion_tokens.proofs.runs.Runs.{given_used, left_used, next_used}
-use Rattle.ion_text.specs.machine.EachToken.{Reading, place}
-use Rattle.ion_text.specs.machine.TokenLists.{Walk, walked, stopped, then_walk, reads, reads-append}
+use Rattle.ion_text.specs.machine.TokenLists.{walked}
+use Rattle.ion_text.specs.laws.deciding.Fronts.{Any, Came, Either, HasEnded, found_open, last_behind, last_of, origin}
 use Rattle.ion_text.specs.laws.reading.complete.Pieces.{walked_now}
-use Rattle.ion_text.specs.laws.showing.tokens.Compare.{Found', lexeme_in, state_in, placed_same}
+use Rattle.ion_text.specs.laws.showing.tokens.Compare.{Found', lexeme_in, placed_same, state_in}
 use Rattle.ion_text.specs.laws.showing.tokens.Walks.{adds_is, walking_said}
-use Rattle.ion_text.specs.laws.deciding.Fronts.{origin, Any, last_of, last_behind, Came, Either, HasEnded, found_open}
 
 module _ (g : Catalog) (l : Limits) where
   -- 1. Tokens that the reader looks for.

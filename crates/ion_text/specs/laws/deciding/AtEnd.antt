@@ -1,54 +1,27 @@
 -- What the end refuses for a reason that rows have is such a row.
 use Rattle.std.proofs.Common.{◌≡◌, ℕ, nat_lt, Bool, true, false, List, [], ◌∷◌, ◌++◌, length, Result, Ok, Err, Option, Some, None, refl, sym, ap, ◌∙◌, subst, append_assoc, length-append, arith, if◌then◌else◌, ◌⊎◌, inl, inr, codes}
-use Rattle.ion_model.specs.declared.value.Value.{Value}
-use Rattle.ion_atoms.specs.declared.refusal.Reason.{Reason}
-use Rattle.ion_atoms.specs.declared.refusal.Reason.TheVariants as reasons
-use Rattle.ion_atoms.specs.declared.refusal.Refusal.{Refusal}
-use Rattle.ion_symtab.specs.declared.limits.Limits.{Limits}
-use Rattle.ion_symtab.specs.declared.catalog.Catalog.{Catalog}
-use Rattle.ion_symtab.specs.Trace.{plain}
-use Rattle.ion_tokens.specs.declared.mode.Mark.{Mark}
-use Rattle.ion_tokens.specs.declared.mode.Mark.TheVariants as marks
-use Rattle.ion_tokens.specs.declared.mode.TokenKind.TheVariants as kinds
-use Rattle.ion_tokens.specs.machine.Table.{end_of}
-use Rattle.ion_tokens.specs.machine.Bounds.{is_idle}
-use Rattle.ion_tokens.specs.machine.Steps.{is_end_reason}
-use Rattle.ion_tokens.specs.machine.Ahead.{is_closing}
-use Rattle.ion_tokens.specs.Bodies.{Content, Word, Id, TypedNull, Mark', IsBody}
-use Rattle.ion_tokens.specs.Lexed.{Placed, Lexes, LexesTo, colon_behind}
-use Rattle.ion_tokens.specs.machine.Said.{said}
-use Rattle.ion_tokens.specs.machine.Scanning.{Known, at_end}
-use Rattle.ion_tokens.specs.Lexemes.{Lexeme}
-use Rattle.ion_tokens.specs.machine.Scanned.{Scanned}
+use Rattle.ion_text.specs.Names.{Are, AwaitsColons, Catalog, Content, EndDecides, Frame, HasRow, Held, Id, IsBody, Known, Lexeme, Lexes, LexesTo, Limits, Mark, Mark', Now, Placed, Reading, Reason, Refusal, Scanned, State, TokenKind, Turn, TypedNull, Value, Word, at, at_end, begun, begun_at, by_end, colon_behind, cut_short, end_late, end_now, end_of, end_ready, end_said, end_settled, end_turned, end_waiting, ends_of, gives, goes, is_closing, is_end_reason, is_fresh, is_idle, is_top, late, place, plain, refused_of, refuses, run, said, said_body, said_passes, settle, token_of, trace, turn}
 use Rattle.ion_tokens.proofs.histories.EndCauses.{IsEndFair, end_fair}
-use Rattle.ion_tokens.proofs.sound.Holds.{blank_none}
-use Rattle.ion_tokens.proofs.runs.Scans.{placed}
 use Rattle.ion_tokens.proofs.histories.Stepped.{all_since}
+use Rattle.ion_tokens.proofs.runs.Scans.{placed}
+use Rattle.ion_tokens.proofs.sound.Holds.{blank_none}
 use Rattle.ion_tokens.proofs.sound.Told.{ends_in_token}
-use Rattle.ion_text.specs.declared.state.Held.{Held}
-use Rattle.ion_text.specs.declared.state.Now.{Now}
-use Rattle.ion_text.specs.declared.state.Now.TheVariants as nows
-use Rattle.ion_text.specs.declared.state.Frame.TheVariants as frames
-use Rattle.ion_text.specs.Deciding.{Are, AwaitsColons, EndDecides, HasRow, by_end}
-use Rattle.ion_text.specs.machine.EachToken.{Reading, Turn, goes, gives, refuses, late, at, place, settle, turn, begun_at}
-use Rattle.ion_text.specs.machine.Run.{State, begun, run, is_top, is_fresh, token_of, trace, refused_of, ends_of, cut_short, end_late, end_settled, end_turned, end_said, end_waiting, end_ready, end_now}
-use Rattle.ion_text.specs.machine.Passed.{said_body, said_passes}
-use Rattle.ion_text.specs.laws.reading.sound.Admits.{at_end_fine}
-use Rattle.ion_text.specs.laws.reading.complete.Found.{no_more}
-use Rattle.ion_text.specs.laws.reading.complete.Going.{mark_kind, top_place}
-use Rattle.ion_text.specs.laws.reading.sound.Held.{Behind, NoLongText, Reads, Scans, token_read}
-use Rattle.ion_text.specs.laws.reading.complete.Meets.{end_spans}
-use Rattle.ion_text.specs.laws.reading.sound.Quotes.{left_none}
-use Rattle.ion_text.specs.laws.reading.complete.Segments.{never}
-use Rattle.ion_text.specs.laws.reading.sound.StandsOpen.{NowStands, PendingFor}
-use Rattle.ion_text.specs.laws.reading.sound.Steps.{StoodBehind, run_ran, begun_stood}
-use Rattle.ion_text.specs.laws.reading.Stops.{stood_used}
-use Rattle.ion_text.specs.laws.showing.tokens.Cuts.{lexed_front}
-use Rattle.ion_text.specs.laws.showing.tokens.Froms.{EndsWaiting, Waits, run_waits}
-use Rattle.ion_text.specs.laws.showing.shown.Opened.{symbol_colon}
 use Rattle.ion_text.specs.laws.deciding.Lates.{said_rowless}
 use Rattle.ion_text.specs.laws.deciding.Shows.{Shown, awaits_colons, flag}
 use Rattle.ion_text.specs.laws.deciding.Turns.{Decided, TurnDecided, settled_decided, token_decided}
+use Rattle.ion_text.specs.laws.reading.Stops.{stood_used}
+use Rattle.ion_text.specs.laws.reading.complete.Found.{no_more}
+use Rattle.ion_text.specs.laws.reading.complete.Going.{mark_kind, top_place}
+use Rattle.ion_text.specs.laws.reading.complete.Meets.{end_spans}
+use Rattle.ion_text.specs.laws.reading.complete.Segments.{never}
+use Rattle.ion_text.specs.laws.reading.sound.Admits.{at_end_fine}
+use Rattle.ion_text.specs.laws.reading.sound.Held.{Behind, NoLongText, Reads, Scans, token_read}
+use Rattle.ion_text.specs.laws.reading.sound.Quotes.{left_none}
+use Rattle.ion_text.specs.laws.reading.sound.StandsOpen.{NowStands, PendingFor}
+use Rattle.ion_text.specs.laws.reading.sound.Steps.{StoodBehind, begun_stood, run_ran}
+use Rattle.ion_text.specs.laws.showing.shown.Opened.{symbol_colon}
+use Rattle.ion_text.specs.laws.showing.tokens.Cuts.{lexed_front}
+use Rattle.ion_text.specs.laws.showing.tokens.Froms.{EndsWaiting, Waits, run_waits}
 
 -- 1. Tokens up to the end.
 
@@ -75,24 +48,24 @@ all_are u ts t h e =
 
 -- what the scanner's end refuses for
 end_rowless : (e : Reason) → is_end_reason e ≡ true → HasRow e → ⊥
-end_rowless reasons.SymbolRange h i = absurd cc
-end_rowless reasons.ImportGap h i = absurd cc
-end_rowless reasons.MissingImport h i = absurd cc
-end_rowless reasons.RepeatedField h i = absurd cc
-end_rowless reasons.TableTooLarge h i = absurd cc
-end_rowless reasons.NullTable h i = absurd cc
-end_rowless reasons.Depth h i = absurd cc
-end_rowless reasons.Version h i = absurd cc
-end_rowless reasons.KeywordAsName h i = absurd cc
+end_rowless Reason.SymbolRange h i = absurd cc
+end_rowless Reason.ImportGap h i = absurd cc
+end_rowless Reason.MissingImport h i = absurd cc
+end_rowless Reason.RepeatedField h i = absurd cc
+end_rowless Reason.TableTooLarge h i = absurd cc
+end_rowless Reason.NullTable h i = absurd cc
+end_rowless Reason.Depth h i = absurd cc
+end_rowless Reason.Version h i = absurd cc
+end_rowless Reason.KeywordAsName h i = absurd cc
 end_rowless _ h i = i
 
 -- an open brace
 abbrev opens_struct : Content → Bool
-opens_struct (Mark' marks.FieldsOpen) = true
+opens_struct (Mark' Mark.FieldsOpen) = true
 opens_struct _ = false
 
-opens_is : (c : Content) → opens_struct c ≡ true → c ≡ Mark' marks.FieldsOpen
-opens_is (Mark' marks.FieldsOpen) h = refl
+opens_is : (c : Content) → opens_struct c ≡ true → c ≡ Mark' Mark.FieldsOpen
+opens_is (Mark' Mark.FieldsOpen) h = refl
 opens_is _ h = absurd cc
 
 -- nothing is left
@@ -113,7 +86,7 @@ module _ (g : Catalog) (l : Limits) (u : List ℕ) where
   EndRows (Ok v) = Unit {0}
 
   late_rows : (used : ℕ) (e : Reason) → Decided g l (by_end u) e → EndRows (end_late used e)
-  late_rows used reasons.Depth h = λ i. absurd i
+  late_rows used Reason.Depth h = λ i. absurd i
   late_rows used _ h = h
 
   fresh_rows : (used : ℕ) (b : Bool) → EndRows (if b then Ok None else cut_short used)
@@ -149,32 +122,32 @@ module _ (g : Catalog) (l : Limits) (u : List ℕ) where
   turned_rows used (late e r) h k = late_rows used e h
 
   -- An open brace leaves a struct open.
-  open_rows : (used : ℕ) (r : Reading) (x : Lexeme) → EndRows (end_turned g l used (turn g l r (token_of x (Mark' marks.FieldsOpen))))
+  open_rows : (used : ℕ) (r : Reading) (x : Lexeme) → EndRows (end_turned g l used (turn g l r (token_of x (Mark' Mark.FieldsOpen))))
   open_rows used r x = go r.now
     where
-      go : (n : Now) → EndRows (end_turned g l used (turn g l (at r.start r.context r.frames r.notes n) (token_of x (Mark' marks.FieldsOpen))))
-      go nows.Ready = by (nat_lt (length r.frames) l.depth)
+      go : (n : Now) → EndRows (end_turned g l used (turn g l (at r.start r.context r.frames r.notes n) (token_of x (Mark' Mark.FieldsOpen))))
+      go Now.Ready = by (nat_lt (length r.frames) l.depth)
         where
           begin : ℕ
           begin = begun_at r.start x.start r.frames r.notes
 
-          by : (b : Bool) → EndRows (end_turned g l used (if b then goes (at begin r.context (frames.Fields r.notes [] ∷ r.frames) [] nows.Name) else late
-              reasons.Depth (at begin r.context (frames.Fields r.notes [] ∷ r.frames) [] nows.Name)))
+          by : (b : Bool) → EndRows (end_turned g l used (if b then goes (at begin r.context (Frame.Fields r.notes [] ∷ r.frames) [] Now.Name) else late
+              Reason.Depth (at begin r.context (Frame.Fields r.notes [] ∷ r.frames) [] Now.Name)))
           by true = λ i. absurd i
           by false = λ i. absurd i
-      go (nows.Pending h e) = λ i. absurd i
-      go (nows.Long w e) = λ i. absurd i
-      go nows.After = λ i. absurd i
-      go nows.Name = λ i. absurd i
-      go (nows.LongName w) = λ i. absurd i
-      go (nows.Keyed s) = λ i. absurd i
+      go (Now.Pending h e) = λ i. absurd i
+      go (Now.Long w e) = λ i. absurd i
+      go Now.After = λ i. absurd i
+      go Now.Name = λ i. absurd i
+      go (Now.LongName w) = λ i. absurd i
+      go (Now.Keyed s) = λ i. absurd i
 
   module _ (vs : List Value) (s : Known) (r : Reading) (b : Behind g l Scanned u vs s r [] (NoLongText s.mode)) (used' : s.used ≡ length u)
       (wait : Waits g l s r.now) where
     abbrev ts : List Placed
     ts = b.front ++ b.item
 
-    awaits : (h : Held) (end : ℕ) → r.now ≡ nows.Pending h end → r.frames ≡ [] → AwaitsColons u ts
+    awaits : (h : Held) (end : ℕ) → r.now ≡ Now.Pending h end → r.frames ≡ [] → AwaitsColons u ts
     awaits h end e top =
         let d : PendingFor r.context r.frames r.notes h b.item = subst (NowStands r.context r.frames r.notes b.item) e b.stands in
         let last : ts ≡ (b.front ++ d.before) ++ d.token ∷ [] = ap (λ y. b.front ++ y) d.whole ∙ sym (append_assoc b.front d.before (d.token ∷ [])) in
@@ -200,36 +173,36 @@ module _ (g : Catalog) (l : Limits) (u : List ℕ) where
           (said_passes x.kind x.octets c k)))
           ((end_spans s (end_of (place r) s.mode) x e).1 ∙ used')
 
-      closing : (m : Mark) → c ≡ Mark' m → is_closing (kinds.Mark m) ≡ true → (m ≡ marks.Colon → ⊥) → ⊥
+      closing : (m : Mark) → c ≡ Mark' m → is_closing (TokenKind.Mark m) ≡ true → (m ≡ Mark.Colon → ⊥) → ⊥
       closing m f i n = go (is_idle s.mode) refl
         where
-          kind : x.kind ≡ kinds.Mark m
+          kind : x.kind ≡ TokenKind.Mark m
           kind = mark_kind x.kind x.octets m (subst (λ y. IsBody x.kind x.octets (Ok y)) f body)
 
-          by : (x.kind ≡ kinds.Mark marks.Colon) ⊎ (x.kind ≡ kinds.Operator) → ⊥
-          by (inl y) = n (let q : kinds.Mark m ≡ kinds.Mark marks.Colon = sym kind ∙ y in let q' : m ≡ marks.Colon = cc in q')
-          by (inr y) = absurd (let q : kinds.Mark m ≡ kinds.Operator = sym kind ∙ y in cc)
+          by : (x.kind ≡ TokenKind.Mark Mark.Colon) ⊎ (x.kind ≡ TokenKind.Operator) → ⊥
+          by (inl y) = n (let q : TokenKind.Mark m ≡ TokenKind.Mark Mark.Colon = sym kind ∙ y in let q' : m ≡ Mark.Colon = cc in q')
+          by (inr y) = absurd (let q : TokenKind.Mark m ≡ TokenKind.Operator = sym kind ∙ y in cc)
 
           go : (y : Bool) → is_idle s.mode ≡ y → ⊥
           go false f = never (is_closing x.kind) ((at_end_fine (place r) s x e).2 f) (ap is_closing kind ∙ i)
           go true f = by ((at_end_fine (place r) s x e).4 f)
 
-      shown : (c ≡ Mark' marks.FieldsOpen → ⊥) → Shown (by_end u) (ts ++ placed (place r) x ∷ []) c
+      shown : (c ≡ Mark' Mark.FieldsOpen → ⊥) → Shown (by_end u) (ts ++ placed (place r) x ∷ []) c
       shown n = go c refl
         where
           go : (d : Content) → c ≡ d → Shown (by_end u) (ts ++ placed (place r) x ∷ []) d
           go (Word v) f = here
           go (Id id) f = here
           go (TypedNull k) f = here
-          go (Mark' marks.FieldsOpen) f = absurd (n f)
-          go (Mark' marks.Comma) f = tt
-          go (Mark' marks.Colon) f = tt
-          go (Mark' marks.FieldsClose) f = absurd (closing marks.FieldsClose f refl (λ q. cc))
-          go (Mark' marks.ListOpen) f = absurd (closing marks.ListOpen f refl (λ q. cc))
-          go (Mark' marks.ListClose) f = absurd (closing marks.ListClose f refl (λ q. cc))
-          go (Mark' marks.SexpOpen) f = absurd (closing marks.SexpOpen f refl (λ q. cc))
-          go (Mark' marks.SexpClose) f = absurd (closing marks.SexpClose f refl (λ q. cc))
-          go (Mark' marks.Colons) f = absurd (closing marks.Colons f refl (λ q. cc))
+          go (Mark' Mark.FieldsOpen) f = absurd (n f)
+          go (Mark' Mark.Comma) f = tt
+          go (Mark' Mark.Colon) f = tt
+          go (Mark' Mark.FieldsClose) f = absurd (closing Mark.FieldsClose f refl (λ q. cc))
+          go (Mark' Mark.ListOpen) f = absurd (closing Mark.ListOpen f refl (λ q. cc))
+          go (Mark' Mark.ListClose) f = absurd (closing Mark.ListClose f refl (λ q. cc))
+          go (Mark' Mark.SexpOpen) f = absurd (closing Mark.SexpOpen f refl (λ q. cc))
+          go (Mark' Mark.SexpClose) f = absurd (closing Mark.SexpClose f refl (λ q. cc))
+          go (Mark' Mark.Colons) f = absurd (closing Mark.Colons f refl (λ q. cc))
           go _ f = tt
 
       -- behind it `::` may yet follow, where nothing else does
@@ -249,7 +222,7 @@ module _ (g : Catalog) (l : Limits) (u : List ℕ) where
       token_rows : (used : ℕ) → EndRows (end_turned g l used (turn g l r (token_of x c)))
       token_rows used = go (opens_struct c) refl
         where
-          other : (c ≡ Mark' marks.FieldsOpen → ⊥) → EndRows (end_turned g l used (turn g l r (token_of x c)))
+          other : (c ≡ Mark' Mark.FieldsOpen → ⊥) → EndRows (end_turned g l used (turn g l r (token_of x c)))
           other n =
               turned_rows used (turn g l r (token_of x c))
               (token_decided g l (by_end u) r.context b.front vs b.pieces (placed (place r) x) x.start x.end r.start b.item r.frames r.notes c r.now b.deep
@@ -272,13 +245,13 @@ module _ (g : Catalog) (l : Limits) (u : List ℕ) where
     ready_rows used (Err y) e = λ i. absurd (end_rowless y (subst IsEndFair e (end_fair (place r) s u ts b.scanned)) i)
 
     now_rows : (used : ℕ) (n : Now) → EndRows (end_now g l used r (at_end (place r) s) n)
-    now_rows used (nows.Pending h end) = waiting_rows used (at_end (place r) s) (settle g l r) waited
-    now_rows used (nows.Long w end) = waiting_rows used (at_end (place r) s) (settle g l r) waited
-    now_rows used (nows.LongName w) = λ i. absurd i
-    now_rows used nows.Ready = ready_rows used (at_end (place r) s) refl
-    now_rows used nows.After = ready_rows used (at_end (place r) s) refl
-    now_rows used nows.Name = ready_rows used (at_end (place r) s) refl
-    now_rows used (nows.Keyed k) = ready_rows used (at_end (place r) s) refl
+    now_rows used (Now.Pending h end) = waiting_rows used (at_end (place r) s) (settle g l r) waited
+    now_rows used (Now.Long w end) = waiting_rows used (at_end (place r) s) (settle g l r) waited
+    now_rows used (Now.LongName w) = λ i. absurd i
+    now_rows used Now.Ready = ready_rows used (at_end (place r) s) refl
+    now_rows used Now.After = ready_rows used (at_end (place r) s) refl
+    now_rows used Now.Name = ready_rows used (at_end (place r) s) refl
+    now_rows used (Now.Keyed k) = ready_rows used (at_end (place r) s) refl
 
   end_rows : (given : List (Value × ℕ)) (now : Result State Refusal) → StoodBehind g l u [] (record { given = given; now = now }) → EndsWaiting g l now
       → refused_of now ≡ None → EndRows (ends_of g l now)

@@ -1,35 +1,17 @@
 -- The tokens of a row lead the reader to where its last token stands, and with that one it goes on as it does there.
 use Rattle.std.proofs.Common.{◌≡◌, ℕ, suc, ◌+◌, ◌≤◌, true, false, ◌&&◌, List, [], ◌∷◌, ◌++◌, length, refl, sym, ap, ◌∙◌, subst, arith, append_assoc, append-nil, Option}
-use Rattle.ion_model.specs.declared.value.Field.{Field}
-use Rattle.ion_symtab.specs.declared.limits.Limits.{Limits}
-use Rattle.ion_symtab.specs.declared.catalog.Catalog.{Catalog}
-use Rattle.ion_symtab.specs.Slots.{Slot}
-use Rattle.ion_tokens.specs.declared.mode.Place.{Place}
-use Rattle.ion_tokens.specs.declared.mode.Place.TheVariants as places
-use Rattle.ion_tokens.specs.declared.mode.Mark.TheVariants as marks
-use Rattle.ion_tokens.specs.Bodies.{Content, Quoted, Long, Mark'}
-use Rattle.ion_tokens.specs.Lexed.{Placed}
-use Rattle.ion_text.specs.declared.state.Frame.{Frame}
-use Rattle.ion_text.specs.declared.state.Frame.TheVariants as frames
-use Rattle.ion_text.specs.declared.state.Listing.TheVariants as listings
-use Rattle.ion_text.specs.declared.state.Now.TheVariants as nows
-use Rattle.ion_text.specs.Grammar.{Says, IsName, Annotations, Members, ends_long, begins_as_long}
-use Rattle.ion_text.specs.Deciding.{Container, InList, InSexp, InStruct, InField, place_of, TakesValue, Open, none_open, list_open, sexp_open, struct_open, named, Comes}
-use Rattle.ion_text.specs.machine.EachToken.{Symbols, at, fresh}
-use Rattle.ion_text.specs.machine.TokenLists.{adds_values, reads}
+use Rattle.ion_text.specs.Names.{Annotations, Bracket, Catalog, Comes, Container, Content, Field, Frame, InField, InList, InSexp, InStruct, IsName, Limits, Listing, Long, Mark, Mark', Members, Now, Open, Place, Placed, Quoted, Says, Slot, Symbols, TakesValue, adds_values, at, begins_as_long, bracket_in, ends_long, fresh, list_open, none_open, open_mark, place_of, reads, sexp_open, struct_open}
+use Rattle.ion_text.specs.Deciding.{named}
+use Rattle.ion_text.specs.laws.deciding.Fronts.{Came, SettlesTo, origin, ready_settles, stands_read, struct_settles}
+use Rattle.ion_text.specs.laws.deciding.Openings.{containers, levels_same, place_same}
+use Rattle.ion_text.specs.laws.reading.Brackets.{no_colons}
 use Rattle.ion_text.specs.laws.reading.complete.Complete.{Begins, notes_begin, starts}
+use Rattle.ion_text.specs.laws.reading.complete.Pieces.{more_read, pieces_read}
+use Rattle.ion_text.specs.laws.reading.complete.Tokens.{neither}
 use Rattle.ion_text.specs.laws.reading.sound.Depths.{Deep}
 use Rattle.ion_text.specs.laws.reading.sound.MarkerWords.{both_not}
-use Rattle.ion_text.specs.laws.reading.complete.Pieces.{pieces_read, more_read}
-use Rattle.ion_text.specs.laws.reading.sound.StandsOpen.{Around, Items, Opened, Receives, ReadyFor, value_place}
-use Rattle.ion_text.specs.laws.reading.complete.Tokens.{neither}
-use Rattle.ion_text.specs.laws.showing.tokens.Stays.{ready_outer, token_behind, name_there}
-use Rattle.ion_text.specs.laws.deciding.Openings.{containers, place_same, levels_same}
-use Rattle.ion_text.specs.laws.deciding.Fronts.{origin, Came, SettlesTo, stands_read, ready_settles, struct_settles}
-use Rattle.ion_visiting.specs.declared.bracket.Bracket.{Bracket}
-use Rattle.ion_visiting.specs.declared.bracket.Bracket.TheVariants as brackets
-use Rattle.ion_text.specs.machine.Nested.{bracket_in, open_mark}
-use Rattle.ion_text.specs.laws.reading.Brackets.{no_colons}
+use Rattle.ion_text.specs.laws.reading.sound.StandsOpen.{Around, Items, Opened, ReadyFor, Receives, value_place}
+use Rattle.ion_text.specs.laws.showing.tokens.Stays.{name_there, ready_outer, token_behind}
 
 -- What stands open is what the reader would hold.
 pub record Framed (l : Limits) (c : List Slot) (ks : List Container) (ts : List Placed) : Type 0 where
@@ -40,9 +22,9 @@ pub record Framed (l : Limits) (c : List Slot) (ks : List Container) (ts : List 
 
 receives : (fs : List Frame) → TakesValue (containers fs) → Receives fs
 receives [] h = tt
-receives (frames.Items listing ss vs ∷ fs) h = tt
-receives (frames.Fields ss ms ∷ fs) h = absurd h
-receives (frames.Named ss ms s ∷ fs) h = tt
+receives (Frame.Items listing ss vs ∷ fs) h = tt
+receives (Frame.Fields ss ms ∷ fs) h = absurd h
+receives (Frame.Named ss ms s ∷ fs) h = tt
 
 module _ (l : Limits) (c : List Slot) where
   -- where a value may come
@@ -64,13 +46,13 @@ module _ (l : Limits) (c : List Slot) where
   shallow ks fs n e h = omega (arith, h, same_levels ks fs e)
 
   named_frames : (ks : List Container) (ts ns : List Placed) (s : Option (List ℕ)) (colon : Placed) (n : IsName c ns s)
-      (k : Says places.Name colon (Mark' marks.Colon)) (fs : List Frame) → containers fs ≡ InStruct ∷ ks → Opened c fs ts true → Deep l.depth fs
+      (k : Says Place.Name colon (Mark' Mark.Colon)) (fs : List Frame) → containers fs ≡ InStruct ∷ ks → Opened c fs ts true → Deep l.depth fs
       → Framed l c (InField ∷ ks) (ts ++ (ns ++ colon ∷ []))
-  named_frames ks ts ns s colon n k (frames.Fields ss ms ∷ fs) e o d =
+  named_frames ks ts ns s colon n k (Frame.Fields ss ms ∷ fs) e o d =
       let rest : containers fs ≡ ks = cc in
       let name : List Placed = ns ++ colon ∷ [] in
       record {
-        held = frames.Named ss ms s ∷ fs;
+        held = Frame.Named ss ms s ∷ fs;
         same = ap (λ x. InField ∷ x) rest;
         opened = record {
           front = o.front;
@@ -92,9 +74,9 @@ module _ (l : Limits) (c : List Slot) where
         deep = d;
       }
   named_frames ks ts ns s colon n k [] e o d = absurd cc
-  named_frames ks ts ns s colon n k (frames.Items listings.List ss vs ∷ fs) e o d = absurd cc
-  named_frames ks ts ns s colon n k (frames.Items listings.Sexp ss vs ∷ fs) e o d = absurd cc
-  named_frames ks ts ns s colon n k (frames.Named ss ms x ∷ fs) e o d = absurd cc
+  named_frames ks ts ns s colon n k (Frame.Items Listing.List ss vs ∷ fs) e o d = absurd cc
+  named_frames ks ts ns s colon n k (Frame.Items Listing.Sexp ss vs ∷ fs) e o d = absurd cc
+  named_frames ks ts ns s colon n k (Frame.Named ss ms x ∷ fs) e o d = absurd cc
 
   -- a container stands open in what does
   around : (bracket : Bracket) (Body : List Placed → Type 0) (ks : List Container) (ts notes us : List Placed) (ss : Symbols) (t : Placed)
@@ -116,21 +98,21 @@ module _ (l : Limits) (c : List Slot) where
   pub framed : (ks : List Container) (ts : List Placed) → Open l c ks ts → Framed l c ks ts
   framed _ _ none_open = record { held = []; same = refl; opened = refl; deep = tt }
   framed _ _ (list_open ks ts notes us ss t vs o takes a says items deep) = let f = framed ks ts o in record {
-    held = frames.Items listings.List ss vs ∷ f.held;
+    held = Frame.Items Listing.List ss vs ∷ f.held;
     same = ap (λ x. InList ∷ x) f.same;
-    opened = around brackets.List (Items c listings.List vs true) ks ts notes us ss t f takes a says items;
+    opened = around Bracket.List (Items c Listing.List vs true) ks ts notes us ss t f takes a says items;
     deep = (shallow ks f.held _ f.same deep, f.deep);
   }
   framed _ _ (sexp_open ks ts notes us ss t vs o takes a says items deep) = let f = framed ks ts o in record {
-    held = frames.Items listings.Sexp ss vs ∷ f.held;
+    held = Frame.Items Listing.Sexp ss vs ∷ f.held;
     same = ap (λ x. InSexp ∷ x) f.same;
-    opened = around brackets.Sexp (Items c listings.Sexp vs true) ks ts notes us ss t f takes a says items;
+    opened = around Bracket.Sexp (Items c Listing.Sexp vs true) ks ts notes us ss t f takes a says items;
     deep = (shallow ks f.held _ f.same deep, f.deep);
   }
   framed _ _ (struct_open ks ts notes us ss t ms o takes a says items deep) = let f = framed ks ts o in record {
-    held = frames.Fields ss ms ∷ f.held;
+    held = Frame.Fields ss ms ∷ f.held;
     same = ap (λ x. InStruct ∷ x) f.same;
-    opened = around brackets.Fields (λ body. Members c body ms true) ks ts notes us ss t f takes a says items;
+    opened = around Bracket.Fields (λ body. Members c body ms true) ks ts notes us ss t f takes a says items;
     deep = (shallow ks f.held _ f.same deep, f.deep);
   }
   framed _ _ (named ks ts ns s colon o n k) =
@@ -141,29 +123,29 @@ module _ (l : Limits) (c : List Slot) where
 pub record JoinsNothing (d : Content) : Type 0 where
   pub long : (w : List ℕ) → d ≡ Long w → ⊥
   pub quoted : (w : List ℕ) → d ≡ Quoted w → ⊥
-  pub colons : d ≡ Mark' marks.Colons → ⊥
+  pub colons : d ≡ Mark' Mark.Colons → ⊥
 
 module _ (g : Catalog) (l : Limits) where
   -- the first tokens of an open item
   item_begins : (c : List Slot) (fs : List Frame) (ts us front notes body : List Placed) (ss : Symbols) (t : Placed) (d : Content)
-      → ts ≡ front ++ (notes ++ t ∷ body) → Annotations c (value_place fs) notes ss → Says (value_place fs) t d → (d ≡ Mark' marks.Colons → ⊥)
-      → ((x : List Placed) → Begins g l (value_place fs) x → Begins g l places.Top (front ++ x)) → Begins g l places.Top (ts ++ us)
+      → ts ≡ front ++ (notes ++ t ∷ body) → Annotations c (value_place fs) notes ss → Says (value_place fs) t d → (d ≡ Mark' Mark.Colons → ⊥)
+      → ((x : List Placed) → Begins g l (value_place fs) x → Begins g l Place.Top (front ++ x)) → Begins g l Place.Top (ts ++ us)
   item_begins c fs ts us front notes body ss t d cut a says n f =
       let whole : ts ++ us ≡ front ++ (notes ++ t ∷ (body ++ us)) =
       ap (λ x. x ++ us) cut ∙ (append_assoc front (notes ++ t ∷ body) us ∙ ap (λ x. front ++ x) (append_assoc notes (t ∷ body) us)) in
-      subst (Begins g l places.Top) (sym whole)
+      subst (Begins g l Place.Top) (sym whole)
       (f (notes ++ t ∷ (body ++ us)) (notes_begin g l c (value_place fs) notes (t ∷ (body ++ us)) ss a
       (record { first = t; later = body ++ us; said = d; cut = refl; says = says; no_colons = n })))
 
   opened_begins : (c : List Slot) (fs : List Frame) (ts us : List Placed) → Opened c fs ts true → Begins g l (value_place fs) us
-      → Begins g l places.Top (ts ++ us)
-  opened_begins c [] ts us o b = subst (λ x. Begins g l places.Top (x ++ us)) (sym o) b
-  opened_begins c (frames.Items listing ss vs ∷ fs) ts us o b = item_begins c fs ts us o.front o.notes o.body ss o.open'
+      → Begins g l Place.Top (ts ++ us)
+  opened_begins c [] ts us o b = subst (λ x. Begins g l Place.Top (x ++ us)) (sym o) b
+  opened_begins c (Frame.Items listing ss vs ∷ fs) ts us o b = item_begins c fs ts us o.front o.notes o.body ss o.open'
       (Mark' (open_mark (bracket_in listing))) o.whole o.noted o.opens (no_colons (bracket_in listing)) (λ x d. opened_begins c fs o.front x o.outer d)
-  opened_begins c (frames.Fields ss ms ∷ fs) ts us o b = item_begins c fs ts us o.front o.notes o.body ss o.open' (Mark' marks.FieldsOpen) o.whole o.noted
+  opened_begins c (Frame.Fields ss ms ∷ fs) ts us o b = item_begins c fs ts us o.front o.notes o.body ss o.open' (Mark' Mark.FieldsOpen) o.whole o.noted
       o.opens (λ e. cc) (λ x d. opened_begins c fs o.front x o.outer d)
-  opened_begins c (frames.Named ss ms s ∷ fs) ts us o b = item_begins c fs ts us o.front o.notes (o.body ++ (o.name ++ o.colon ∷ [])) ss o.open'
-      (Mark' marks.FieldsOpen) o.whole o.noted o.opens (λ e. cc) (λ x d. opened_begins c fs o.front x o.outer d)
+  opened_begins c (Frame.Named ss ms s ∷ fs) ts us o b = item_begins c fs ts us o.front o.notes (o.body ++ (o.name ++ o.colon ∷ [])) ss o.open'
+      (Mark' Mark.FieldsOpen) o.whole o.noted o.opens (λ e. cc) (λ x d. opened_begins c fs o.front x o.outer d)
 
   -- behind a long string none that isn't open stands
   stays_apart : (front item : List Placed) (t : Placed) (d : Content) (more : List Placed) (p : Place) → (ends_long front && begins_as_long item) ≡ false
@@ -210,15 +192,15 @@ module _ (g : Catalog) (l : Limits) where
 
       -- the tokens before it lead the reader to the place in which it comes
       pub came : Came g l before (place_of ks)
-      came = subst (Came g l before) (sym here) (stands_read g l c h.front h.values f.held h.symbols nows.Ready item h.pieces f.deep ready h.apart)
+      came = subst (Came g l before) (sym here) (stands_read g l c h.front h.values f.held h.symbols Now.Ready item h.pieces f.deep ready h.apart)
 
       -- behind the tokens before it the reader settles to where a value may come
-      pub settles : (s : ℕ) × SettlesTo g l before (at s c f.held h.symbols nows.Ready)
+      pub settles : (s : ℕ) × SettlesTo g l before (at s c f.held h.symbols Now.Ready)
       settles = ready_settles g l c h.front h.values f.held h.symbols item h.pieces f.deep ready h.apart
 
       -- A token that comes there is read there.
       pub go_on : (t : Placed) (d : Content) (more : List Placed) → Says (place_of ks) t d → JoinsNothing d → (s : ℕ)
-          × (reads g l (origin g l) (before ++ t ∷ more) ≡ adds_values h.values (reads g l (at s c f.held h.symbols nows.Ready) (t ∷ more)))
+          × (reads g l (origin g l) (before ++ t ∷ more) ≡ adds_values h.values (reads g l (at s c f.held h.symbols Now.Ready) (t ∷ more)))
       unfolding ready
       go_on t d more says a =
           let says' = says_so l c ks f.held t d f.same says in
@@ -228,7 +210,7 @@ module _ (g : Catalog) (l : Limits) where
           let join : h.item ++ (h.notes ++ t ∷ more) ≡ item ++ t ∷ more = sym (append_assoc h.item h.notes (t ∷ more)) in (
             starts g l (starts g l 0 [] h.item) f.held h.notes,
             ap (reads g l (origin g l)) (append_assoc h.front item (t ∷ more))
-                ∙ (more_read g l h.front (item ++ t ∷ more) h.values c (pieces_read g l h.front h.values c h.pieces) (subst (Begins g l places.Top) join first)
+                ∙ (more_read g l h.front (item ++ t ∷ more) h.values c (pieces_read g l h.front h.values c h.pieces) (subst (Begins g l Place.Top) join first)
                 (stays_apart h.front item t d more (place_of ks) h.apart says a)
                 ∙ ap (adds_values h.values)
                 (ap (reads g l (fresh c)) (sym join)
@@ -241,16 +223,16 @@ module _ (g : Catalog) (l : Limits) where
     pub notes : Symbols
     pub fields : List Field
     pub outer : List Frame
-    pub opened : Opened c (frames.Fields notes fields ∷ outer) ts true
-    pub deep : Deep l.depth (frames.Fields notes fields ∷ outer)
+    pub opened : Opened c (Frame.Fields notes fields ∷ outer) ts true
+    pub deep : Deep l.depth (Frame.Fields notes fields ∷ outer)
 
   struct_of : (c : List Slot) (ks : List Container) (ts : List Placed) (fs : List Frame) → containers fs ≡ InStruct ∷ ks → Opened c fs ts true → Deep l.depth fs
       → Struct c ts
-  struct_of c ks ts (frames.Fields ss ms ∷ fs) e o d = record { notes = ss; fields = ms; outer = fs; opened = o; deep = d }
+  struct_of c ks ts (Frame.Fields ss ms ∷ fs) e o d = record { notes = ss; fields = ms; outer = fs; opened = o; deep = d }
   struct_of c ks ts [] e o d = absurd cc
-  struct_of c ks ts (frames.Items listings.List ss vs ∷ fs) e o d = absurd cc
-  struct_of c ks ts (frames.Items listings.Sexp ss vs ∷ fs) e o d = absurd cc
-  struct_of c ks ts (frames.Named ss ms x ∷ fs) e o d = absurd cc
+  struct_of c ks ts (Frame.Items Listing.List ss vs ∷ fs) e o d = absurd cc
+  struct_of c ks ts (Frame.Items Listing.Sexp ss vs ∷ fs) e o d = absurd cc
+  struct_of c ks ts (Frame.Named ss ms x ∷ fs) e o d = absurd cc
 
   module _ (c : List Slot) (ks : List Container) (said : Content) (ts : List Placed) (h : Comes g l c (InStruct ∷ ks) said ts) where
     -- where a name comes next, the innermost of what the reader would hold is a struct
@@ -272,24 +254,24 @@ module _ (g : Catalog) (l : Limits) where
     apart = subst (λ x. (ends_long h.front && begins_as_long x) ≡ false) bare h.apart
 
     -- the tokens before the name lead the reader to the place of names
-    pub came_name : Came g l up_to places.Name
-    came_name = stands_read g l c h.front h.values (frames.Fields struct.notes struct.fields ∷ struct.outer) [] nows.Name h.item h.pieces struct.deep
+    pub came_name : Came g l up_to Place.Name
+    came_name = stands_read g l c h.front h.values (Frame.Fields struct.notes struct.fields ∷ struct.outer) [] Now.Name h.item h.pieces struct.deep
         (struct.opened, tt) apart
 
     -- behind the tokens before the name the reader settles to where a name may come
-    pub settles_name : (s : ℕ) × SettlesTo g l up_to (at s c (frames.Fields struct.notes struct.fields ∷ struct.outer) [] nows.Name)
+    pub settles_name : (s : ℕ) × SettlesTo g l up_to (at s c (Frame.Fields struct.notes struct.fields ∷ struct.outer) [] Now.Name)
     settles_name = struct_settles g l c h.front h.values struct.notes struct.fields struct.outer h.item true h.pieces struct.deep struct.opened apart
 
     -- whatever token comes in place of the name is read as where a name may come
-    pub go_on_name : (t : Placed) (d : Content) → Says places.Name t d → JoinsNothing d → (s : ℕ)
+    pub go_on_name : (t : Placed) (d : Content) → Says Place.Name t d → JoinsNothing d → (s : ℕ)
         × (reads g l (origin g l) (up_to ++ t ∷ []) ≡ adds_values h.values
-        (reads g l (at s c (frames.Fields struct.notes struct.fields ∷ struct.outer) [] nows.Name) (t ∷ [])))
+        (reads g l (at s c (Frame.Fields struct.notes struct.fields ∷ struct.outer) [] Now.Name) (t ∷ [])))
     go_on_name t d says a =
-        let b : Begins g l places.Name (t ∷ []) = record { first = t; later = []; said = d; cut = refl; says = says; no_colons = a.colons } in
-        let first = opened_begins c (frames.Fields struct.notes struct.fields ∷ struct.outer) h.item (t ∷ []) struct.opened b in (
+        let b : Begins g l Place.Name (t ∷ []) = record { first = t; later = []; said = d; cut = refl; says = says; no_colons = a.colons } in
+        let first = opened_begins c (Frame.Fields struct.notes struct.fields ∷ struct.outer) h.item (t ∷ []) struct.opened b in (
           starts g l 0 [] h.item,
           ap (reads g l (origin g l)) (append_assoc h.front h.item (t ∷ []))
               ∙ (more_read g l h.front (h.item ++ t ∷ []) h.values c (pieces_read g l h.front h.values c h.pieces) first
-              (stays_apart h.front h.item t d [] places.Name apart says a)
+              (stays_apart h.front h.item t d [] Place.Name apart says a)
               ∙ ap (adds_values h.values) (name_there g l c struct.notes struct.fields struct.outer h.item struct.deep struct.opened [] (t ∷ []) b)),
         )

@@ -1,36 +1,22 @@
 -- Where a row of the table stands that the end shows, the end refuses for the row's reason, unless an item became too long before.
 use Rattle.std.proofs.Common.{◌≡◌, ℕ, ◌+◌, nat_le, Bool, true, false, ◌||◌, List, [], ◌∷◌, ◌++◌, length, Result, Ok, Err, Option, Some, None, IfErr, refl, sym, ap, ◌∙◌, subst, append_assoc, length-append, arith, if◌then◌else◌, ◌⊎◌, inl, inr, codes}
 use Rattle.std.proofs.lemmas.Bool.{false_from_ne_true}
-use Rattle.ion_model.specs.declared.value.Value.{Value}
-use Rattle.ion_atoms.specs.declared.refusal.Reason.{Reason}
-use Rattle.ion_atoms.specs.declared.refusal.Reason.TheVariants as reasons
-use Rattle.ion_atoms.specs.declared.refusal.Refusal.{Refusal}
-use Rattle.ion_symtab.specs.declared.limits.Limits.{Limits}
-use Rattle.ion_symtab.specs.declared.catalog.Catalog.{Catalog}
-use Rattle.ion_symtab.specs.Reasons.{IsIdReason, IsTableReason}
-use Rattle.ion_symtab.specs.laws.Reasons.{resolve_fails, next_fails}
+use Rattle.ion_text.specs.Names.{Are, AwaitsColons, BlankThen, Catalog, Content, EndDecides, Given, HasRow, IsIdReason, IsTableReason, Known, Leading, Left, Lexeme, LexesTo, Limits, Mark, Next, Now, Place, Placed, Reading, Reason, Refusal, State, TokenKind, Turn, Value, annotated, at, at_end, bad_table, begun, continues, eats, end_fails, end_late, end_now, end_ready, end_said, end_settled, end_turned, end_waiting, ends_of, fails, feed, gives, goes, initial, is_idle, is_quoting, is_sane, is_top, keyword_as_annotation, keyword_as_name, late, line_feed, no_symbol, null_table, other_version, place, reaches, reads, refused_of, refuses, run, run_on, said_body, settle, settle_same, settled, struct_too_deep, token_of, too_deep, trace, turn, under, uses, waits_now, with_scan}
 use Rattle.ion_model.specs.declared.value.Payload.TheVariants as payloads
-use Rattle.ion_model.specs.Measures.{annotated}
-use Rattle.ion_tokens.specs.declared.mode.Mark.TheVariants as marks
-use Rattle.ion_tokens.specs.declared.mode.Place.TheVariants as places
-use Rattle.ion_tokens.specs.declared.mode.TokenKind.TheVariants as kinds
-use Rattle.ion_tokens.specs.machine.Ahead.{is_sane, is_quoting}
-use Rattle.ion_tokens.specs.machine.Bounds.{is_idle}
-use Rattle.ion_tokens.specs.machine.Scanning.{Known, Next, Given, Left, feed, at_end, initial}
-use Rattle.ion_tokens.specs.Bodies.{Content}
-use Rattle.ion_tokens.specs.Ascii.{line_feed}
-use Rattle.ion_tokens.specs.Lexed.{Placed, LexesTo}
 use Rattle.ion_tokens.proofs.runs.Runs.{feed_used}
-use Rattle.ion_tokens.specs.Lexemes.{Lexeme}
-use Rattle.ion_text.specs.declared.state.Now.{Now}
-use Rattle.ion_text.specs.declared.state.Now.TheVariants as nows
-use Rattle.ion_text.specs.Deciding.{Are, AwaitsColons, EndDecides, HasRow, no_symbol, keyword_as_name, keyword_as_annotation, other_version, null_table, too_deep, struct_too_deep, bad_table}
-use Rattle.ion_text.specs.Grammar.{BlankThen}
-use Rattle.ion_text.specs.machine.EachToken.{under, Reading, Turn, goes, gives, refuses, late, at, place, settle, settled, turn}
-use Rattle.ion_text.specs.machine.Passed.{said_body}
-use Rattle.ion_text.specs.machine.Places.{Leading, settle_same}
-use Rattle.ion_text.specs.machine.Run.{State, uses, fails, eats, reaches, with_scan, token_of, is_top, waits_now, begun, run, run_on, trace, refused_of, ends, ends_of, end_fails, end_late, end_settled, end_turned, end_said, end_waiting, end_ready, end_now}
-use Rattle.ion_text.specs.machine.TokenLists.{continues, reads}
+use Rattle.ion_symtab.specs.laws.Reasons.{next_fails, resolve_fails}
+use Rattle.ion_text.specs.machine.Run.{ends}
+use Rattle.ion_text.specs.laws.deciding.Finding.{EndsThere, IsLeft, ends_there, tokens_seen}
+use Rattle.ion_text.specs.laws.deciding.Fronts.{HasEnded, origin}
+use Rattle.ion_text.specs.laws.deciding.Heading.{Heads, Never, Turned, TurnsTo, refused_heads, settled_heads, waiting_heads}
+use Rattle.ion_text.specs.laws.deciding.LineEnds.{Lined, seen_before}
+use Rattle.ion_text.specs.laws.deciding.Lines.{line}
+use Rattle.ion_text.specs.laws.deciding.OneEnd.{SeenEnd, by_waiting, by_word, end_seen, waits_ended, word_ended}
+use Rattle.ion_text.specs.laws.deciding.Reaching.{Sees, TopCalm, last_left, not_shut, reached, rests, sees_left}
+use Rattle.ion_text.specs.laws.deciding.Shows.{IsBare, NoLetters, last_flag}
+use Rattle.ion_text.specs.laws.deciding.Stopped.{Nothing', Stands, has_row, stands_left, stands_on, waits_on, waits_uses}
+use Rattle.ion_text.specs.laws.deciding.Tokens.{Refusing, Stops, bare_plain}
+use Rattle.ion_text.specs.laws.deciding.Waiting.{Pends, pend}
 use Rattle.ion_text.specs.laws.reading.complete.Accepts.{fresh_top}
 use Rattle.ion_text.specs.laws.reading.complete.Found.{lexes_operators, no_more}
 use Rattle.ion_text.specs.laws.reading.complete.Going.{TopOk}
@@ -44,31 +30,20 @@ use Rattle.ion_text.specs.laws.reading.sound.StandsOpen.{start_now}
 use Rattle.ion_text.specs.laws.reading.sound.Steps.{begun_stood}
 use Rattle.ion_text.specs.laws.showing.refused.Ahead.{last_parted}
 use Rattle.ion_text.specs.laws.showing.tokens.Froms.{EndsWaiting, Waits, run_waits}
-use Rattle.ion_text.specs.laws.deciding.Finding.{EndsThere, IsLeft, ends_there, tokens_seen}
-use Rattle.ion_text.specs.laws.deciding.Fronts.{origin, HasEnded}
-use Rattle.ion_text.specs.laws.deciding.Heading.{TurnsTo, Heads, Never, Turned, refused_heads, settled_heads, waiting_heads}
-use Rattle.ion_text.specs.laws.deciding.LineEnds.{Lined, seen_before}
-use Rattle.ion_text.specs.laws.deciding.Lines.{line}
-use Rattle.ion_text.specs.laws.deciding.OneEnd.{SeenEnd, by_word, by_waiting, end_seen, word_ended, waits_ended}
-use Rattle.ion_text.specs.laws.deciding.Reaching.{Sees, TopCalm, rests, last_left, sees_left, not_shut, reached}
-use Rattle.ion_text.specs.laws.deciding.Shows.{IsBare, NoLetters, last_flag}
-use Rattle.ion_text.specs.laws.deciding.Stopped.{Stands, stands_left, stands_on, waits_on, waits_uses, has_row, Nothing'}
-use Rattle.ion_text.specs.laws.deciding.Tokens.{Refusing, Stops, bare_plain}
-use Rattle.ion_text.specs.laws.deciding.Waiting.{Pends, pend}
 
 -- 1. The reasons of rows of the end.
 
 -- no container is too deep for want of more octets
 abbrev IsShallow : Reason → Type 0
-IsShallow reasons.Depth = ⊥
+IsShallow Reason.Depth = ⊥
 IsShallow _ = Unit {0}
 
 id_shallow : (e : Reason) → IsIdReason e → IsShallow e
-id_shallow reasons.Depth h = h
+id_shallow Reason.Depth h = h
 id_shallow _ h = tt
 
 table_shallow : (e : Reason) → IsTableReason e → IsShallow e
-table_shallow reasons.Depth h = h
+table_shallow Reason.Depth h = h
 table_shallow _ h = tt
 
 shallow : (g : Catalog) (l : Limits) (u : List ℕ) (e : Reason) → EndDecides g l u e → IsShallow e
@@ -85,7 +60,7 @@ shallow g l u _ (bad_table ts c ss ms e shown h table why) = absurd shown
 -- in these octets `::` may follow up to the end
 data Awaiting : Known → List ℕ → Type 0 where
   ended : (s : Known) → Awaiting s []
-  may : (s : Known) (o : ℕ) (os : List ℕ) (s' : Known) → feed places.Top s o ≡ Next s' → is_idle s'.mode ≡ true → Awaiting s' os → Awaiting s (o ∷ os)
+  may : (s : Known) (o : ℕ) (os : List ℕ) (s' : Known) → feed Place.Top s o ≡ Next s' → is_idle s'.mode ≡ true → Awaiting s' os → Awaiting s (o ∷ os)
 
 -- 2. What the end answers.
 
@@ -97,14 +72,14 @@ module _ (g : Catalog) (l : Limits) (u : List ℕ) (e : Reason) where
   -- so it does where octets end in this state, or an item became too long before
   abbrev EndsFor : Result State Refusal → Type 0
   EndsFor (Ok m) = Waits g l m.scan m.reading.now → Answers (ends g l m)
-  EndsFor (Err r) = r.reason ≡ reasons.ItemTooLong
+  EndsFor (Err r) = r.reason ≡ Reason.ItemTooLong
 
   module _ (row : HasRow e) (fits : IsShallow e) where
     fails_so : (used : ℕ) (f : Reason) → used ≡ length u → f ≡ e → Answers (end_fails used f)
     fails_so used f i h = ap (λ n. end_fails n f) i ∙ ap (end_fails (length u)) h
 
     late_so : (used : ℕ) (f : Reason) → used ≡ length u → f ≡ e → Answers (end_late used f)
-    late_so used reasons.Depth i h = absurd (subst IsShallow (sym h) fits)
+    late_so used Reason.Depth i h = absurd (subst IsShallow (sym h) fits)
     late_so used f i h = fails_so used f i h
 
     settled_so : (used : ℕ) (t : Turn) → used ≡ length u → Refusing e t → Answers (end_settled used t)
@@ -127,7 +102,7 @@ module _ (g : Catalog) (l : Limits) (u : List ℕ) (e : Reason) where
 
     -- 3. A word that the end ends, which is refused, or which waits and is refused then.
 
-    module _ (Done : Reading → Type 0) (Refused : Type 0) (done : (r : Reading) → Done r → (r.now ≡ nows.Ready → ⊥) × Refusing e (settle g l r)) where
+    module _ (Done : Reading → Type 0) (Refused : Type 0) (done : (r : Reading) → Done r → (r.now ≡ Now.Ready → ⊥) × Refusing e (settle g l r)) where
       turned_so : (used : ℕ) (top : Bool) (c : Content) (item start end : ℕ) (x : Turn) → used ≡ length u → Spans top c item start end x
           → Turned g l e Done Refused x [] → Answers (end_turned g l used x)
       turned_so used top c item start end (goes r) i q d = settled_so used (settle g l r) i (done r d).1
@@ -143,7 +118,7 @@ module _ (g : Catalog) (l : Limits) (u : List ℕ) (e : Reason) where
         busy : is_idle s.mode ≡ true → ⊥
         busy idle = by ((at_end_fine t.place s t.lexeme i).4 idle)
           where
-            by : (t.lexeme.kind ≡ kinds.Mark marks.Colon) ⊎ (t.lexeme.kind ≡ kinds.Operator) → ⊥
+            by : (t.lexeme.kind ≡ TokenKind.Mark Mark.Colon) ⊎ (t.lexeme.kind ≡ TokenKind.Operator) → ⊥
             by (inl k) = subst IsBare k bare
             by (inr k) = bare_plain t.lexeme.kind bare k
 
@@ -151,14 +126,14 @@ module _ (g : Catalog) (l : Limits) (u : List ℕ) (e : Reason) where
         unquoted q = subst IsBare ((at_end_fine t.place s t.lexeme i).5 q) bare
 
         -- it is no segment, so what a long name waited for is a colon
-        no_name : (w : List ℕ) → r.now ≡ nows.LongName w → ⊥
+        no_name : (w : List ℕ) → r.now ≡ Now.LongName w → ⊥
         no_name w n =
             not_shut g l e row Done Refused k t [] (settled_heads g l e Done Refused r k t [] h same refl
             (subst (TurnsTo g l e Done Refused (λ m. Turned g l e Done Refused (turn g l m (token_of t.lexeme h.1)) []) ⊥) leads (h.4 apart))) s (ends_next s t i)
             sane (false_from_ne_true (is_idle s.mode) busy) refl
           where
             k : Reading
-            k = at r.start r.context r.frames r.notes (nows.Keyed (Some w))
+            k = at r.start r.context r.frames r.notes (Now.Keyed (Some w))
 
             leads : settle g l r ≡ goes k
             leads = ap (settled (under g l) r.start r.context r.frames r.notes) n
@@ -192,13 +167,13 @@ module _ (g : Catalog) (l : Limits) (u : List ℕ) (e : Reason) where
         quoting false j w = unquoted w
 
         now_so : (n : Now) → r.now ≡ n → Waits g l s n → Answers (end_now g l s.used r (at_end (place r) s) n)
-        now_so (nows.Pending k end) j w = absurd (busy w)
-        now_so (nows.Long v end) j w = absurd (quoting (is_idle s.mode) refl w)
-        now_so (nows.LongName v) j w = absurd (no_name v j)
-        now_so nows.Ready j w = ready_so (still nows.Ready j refl)
-        now_so nows.After j w = ready_so (still nows.After j refl)
-        now_so nows.Name j w = ready_so (still nows.Name j refl)
-        now_so (nows.Keyed k) j w = ready_so (still (nows.Keyed k) j refl)
+        now_so (Now.Pending k end) j w = absurd (busy w)
+        now_so (Now.Long v end) j w = absurd (quoting (is_idle s.mode) refl w)
+        now_so (Now.LongName v) j w = absurd (no_name v j)
+        now_so Now.Ready j w = ready_so (still Now.Ready j refl)
+        now_so Now.After j w = ready_so (still Now.After j refl)
+        now_so Now.Name j w = ready_so (still Now.Name j refl)
+        now_so (Now.Keyed k) j w = ready_so (still (Now.Keyed k) j refl)
 
         word_so : EndsFor (Ok (with_scan s r))
         word_so w = now_so r.now refl w
@@ -244,7 +219,7 @@ module _ (g : Catalog) (l : Limits) (u : List ℕ) (e : Reason) where
       awaiting k (x ∷ ys) since s cut h =
           may s x ys on.0 on.1 on.2 (awaiting k ys (since ++ x ∷ []) on.0 (cut ∙ sym (append_assoc since (x ∷ []) ys)) (stands_on k s since x on.0 h on.1))
         where
-          on : (t : Known) × (feed places.Top s x ≡ Next t) × (is_idle t.mode ≡ true)
+          on : (t : Known) × (feed Place.Top s x ≡ Next t) × (is_idle t.mode ≡ true)
           on = waits_on k s since x ys (ys ++ a.before.0) h
               (subst (BlankThen (codes "::")) (ap (λ y. y ++ a.before.0) cut ∙ append_assoc since (x ∷ ys) a.before.0) a.before.1)
               (λ b. a.after (subst (BlankThen (codes "::")) (sym cut) b))
@@ -255,10 +230,10 @@ module _ (g : Catalog) (l : Limits) (u : List ℕ) (e : Reason) where
       rest_ended _ _ (may s o os s' f i m) to all used =
           subst (λ y. EndsFor (run_on to (λ n. eats g l n o) (λ n. run g l (to + 1) n os) y).now) (sym (waits_uses g l ts e p s o s' f i))
           (go (nat_le (reaches P.frames P s') l.item)
-          (rest_ended s' os m (to + 1) (omega (arith, all)) (let x = feed_used places.Top s s' o f in omega (arith, x, used))))
+          (rest_ended s' os m (to + 1) (omega (arith, all)) (let x = feed_used Place.Top s s' o f in omega (arith, x, used))))
         where
           go : (b : Bool) → EndsFor (run g l (to + 1) (with_scan s' P) os).now
-              → EndsFor (run_on to (λ n. eats g l n o) (λ n. run g l (to + 1) n os) (if b then uses (with_scan s' P) else fails reasons.ItemTooLong)).now
+              → EndsFor (run_on to (λ n. eats g l n o) (λ n. run g l (to + 1) n os) (if b then uses (with_scan s' P) else fails Reason.ItemTooLong)).now
           go true h = h
           go false h = refl
 
@@ -273,8 +248,8 @@ module _ (g : Catalog) (l : Limits) (u : List ℕ) (e : Reason) where
           (subst (λ y. LexesTo false 0 u y a.are.0 a.are.1 a.rest) p.is a.are.2)) 0 (omega arith) refl (origin g l) (λ top. tt)
           (waiting_heads g l e (p.front ++ p.token ∷ []) P p.values (ap (reads g l (origin g l)) (sym p.is) ∙ p.read))
         where
-          waits : (n : Reading) → n ≡ P → (n.now ≡ nows.Ready → ⊥) × Refusing e (settle g l n)
-          waits n j = ((λ k. let no : nows.Pending p.held p.end ≡ nows.Ready = sym (ap (λ (x : Reading). x.now) j) ∙ k in cc), subst (λ x. Refusing e (settle g l x)) (sym j) p.why)
+          waits : (n : Reading) → n ≡ P → (n.now ≡ Now.Ready → ⊥) × Refusing e (settle g l n)
+          waits n j = ((λ k. let no : Now.Pending p.held p.end ≡ Now.Ready = sym (ap (λ (x : Reading). x.now) j) ∙ k in cc), subst (λ x. Refusing e (settle g l x)) (sym j) p.why)
 
           here : (Are (u ++ line) (p.front ++ p.token ∷ []) (a.rest ++ line)) × HasEnded g l (u ++ line) p.token
           here = waits_ended g l u ts e p a
@@ -309,11 +284,11 @@ module _ (g : Catalog) (l : Limits) (u : List ℕ) (e : Reason) where
 
 -- Where the end shows a row, it refuses for the row's reason, all octets counted, unless an octet was refused since an item became too long.
 pub end_refuses : (g : Catalog) (l : Limits) (u : List ℕ) (e : Reason) → EndDecides g l u e → (r : Refusal) × ((trace g l u).ends ≡ Err r)
-    × (((r.offset ≡ length u) × (r.reason ≡ e)) ⊎ (((trace g l u).refused ≡ Some r) × (r.reason ≡ reasons.ItemTooLong)))
+    × (((r.offset ≡ length u) × (r.reason ≡ e)) ⊎ (((trace g l u).refused ≡ Some r) × (r.reason ≡ Reason.ItemTooLong)))
 end_refuses g l u e d =
     go (run g l 0 begun u).now (ended_for g l u e (has_row g l _ e d) (shallow g l u e d) (end_seen g l u e d)) (run_waits g l u [] [] 0 begun (begun_stood g l) tt)
   where
     go : (now : Result State Refusal) → EndsFor g l u e now → EndsWaiting g l now
-        → (r : Refusal) × (ends_of g l now ≡ Err r) × (((r.offset ≡ length u) × (r.reason ≡ e)) ⊎ ((refused_of now ≡ Some r) × (r.reason ≡ reasons.ItemTooLong)))
+        → (r : Refusal) × (ends_of g l now ≡ Err r) × (((r.offset ≡ length u) × (r.reason ≡ e)) ⊎ ((refused_of now ≡ Some r) × (r.reason ≡ Reason.ItemTooLong)))
     go (Ok m) h w = (record { offset = length u; reason = e }, h w, inl (refl, refl))
     go (Err r) h w = (r, refl, inr (refl, h))

@@ -1,37 +1,27 @@
 -- What the scanner meets in the octets of a row, up to its last token.
 use Rattle.std.proofs.Common.{◌≡◌, ℕ, ◌+◌, ◌-◌, ◌==◌, Bool, true, false, ◌&&◌, List, [], ◌∷◌, ◌++◌, length, drop, Option, Some, None, refl, sym, ap, ◌∙◌, subst, arith, length-append, if◌then◌else◌, codes}
 use Rattle.std.specs.Str.{bytes_eq}
-use Rattle.ion_symtab.specs.declared.limits.Limits.{Limits}
-use Rattle.ion_symtab.specs.declared.catalog.Catalog.{Catalog}
-use Rattle.ion_tokens.specs.declared.mode.Action.{Action}
-use Rattle.ion_tokens.specs.declared.mode.Action.TheVariants as actions
-use Rattle.ion_tokens.specs.declared.mode.Mark.TheVariants as marks
-use Rattle.ion_tokens.specs.declared.mode.Mode.TheVariants as modes
-use Rattle.ion_tokens.specs.declared.mode.Place.{Place}
-use Rattle.ion_tokens.specs.declared.mode.TokenKind.TheVariants as kinds
-use Rattle.ion_tokens.specs.machine.Scanning.{Known, Outcome, Next, Given, Left, Refused, acts, blob_ends, cut, past, go_to, feed, follow, run, initial}
+use Rattle.ion_text.specs.Names.{Action, Catalog, Given, Known, Left, LexesTo, Limits, Mark, Mode, Next, Outcome, Place, Placed, Refused, TokenKind, acts, blob_ends, blob_of, cut, feed, follow, go_to, initial, past, scan as run}
 use Rattle.ion_tokens.specs.machine.Table.{next}
-use Rattle.ion_tokens.specs.Blobs.{blob_of}
-use Rattle.ion_tokens.specs.Lexed.{Placed, LexesTo}
 use Rattle.ion_tokens.specs.laws.ByRows.{by_rows_where}
-use Rattle.ion_tokens.proofs.complete.Found.{FindsUpTo, Nothing, Last, Gives, Leaves, Unclosed, in_word}
+use Rattle.ion_tokens.proofs.complete.Found.{FindsUpTo, Gives, Last, Leaves, Nothing, Unclosed, in_word}
 use Rattle.ion_tokens.proofs.complete.Moves.{at}
 use Rattle.ion_tokens.proofs.complete.Wholes.{FindsFrom, find_token}
 use Rattle.ion_tokens.proofs.histories.Histories.{behind_front}
 use Rattle.ion_tokens.proofs.runs.Runs.{feed_used, next_used}
-use Rattle.ion_tokens.proofs.runs.Splits.{given_split, left_split, given_one, left_one}
-use Rattle.ion_text.specs.laws.reading.complete.Found.{no_more}
+use Rattle.ion_tokens.proofs.runs.Splits.{given_one, given_split, left_one, left_split}
 use Rattle.ion_text.specs.laws.deciding.Fronts.{Any, HasEnded, found_open, last_behind, last_of}
-use Rattle.ion_text.specs.laws.deciding.Reaching.{Sees, sees_on, sees_given, sees_left}
+use Rattle.ion_text.specs.laws.deciding.Reaching.{Sees, sees_given, sees_left, sees_on}
 use Rattle.ion_text.specs.laws.deciding.Shows.{IsBare}
+use Rattle.ion_text.specs.laws.reading.complete.Found.{no_more}
 
 -- 1. A token that ends with an octet.
 
 -- its end isn't shown by the octet behind it
 abbrev gives_shown : Action → Bool
-gives_shown (actions.Give kinds.Word k) = false
-gives_shown (actions.Give kinds.KindName k) = false
-gives_shown (actions.Give (kinds.Mark marks.FieldsOpen) k) = false
+gives_shown (Action.Give TokenKind.Word k) = false
+gives_shown (Action.Give TokenKind.KindName k) = false
+gives_shown (Action.Give (TokenKind.Mark Mark.FieldsOpen) k) = false
 gives_shown _ = true
 
 -- and it ended with the octets used
@@ -44,19 +34,19 @@ blob_there s (Some b) = tt
 blob_there s None = tt
 
 acts_there : (p : Place) (s : Known) (o : ℕ) (a : Action) → gives_shown a ≡ true → EndsThere (acts p s o a)
-acts_there p s o (actions.Give kinds.Word k) h = absurd cc
-acts_there p s o (actions.Give kinds.KindName k) h = absurd cc
-acts_there p s o (actions.Give (kinds.Mark marks.FieldsOpen) k) h = absurd cc
-acts_there p s o (actions.Give _ k) h = (λ b. b, refl)
-acts_there p s o (actions.Go m k) h = tt
-acts_there p s o (actions.Refuse e) h = tt
-acts_there p s o (actions.Before kind k m) h = tt
-acts_there p s o (actions.Split n) h = tt
-acts_there p s o actions.EndBlob h = blob_there s (blob_of s.kept)
-acts_there p s o actions.EndWord h = go ((o == 46) && bytes_eq s.kept (codes "null"))
+acts_there p s o (Action.Give TokenKind.Word k) h = absurd cc
+acts_there p s o (Action.Give TokenKind.KindName k) h = absurd cc
+acts_there p s o (Action.Give (TokenKind.Mark Mark.FieldsOpen) k) h = absurd cc
+acts_there p s o (Action.Give _ k) h = (λ b. b, refl)
+acts_there p s o (Action.Go m k) h = tt
+acts_there p s o (Action.Refuse e) h = tt
+acts_there p s o (Action.Before kind k m) h = tt
+acts_there p s o (Action.Split n) h = tt
+acts_there p s o Action.EndBlob h = blob_there s (blob_of s.kept)
+acts_there p s o Action.EndWord h = go ((o == 46) && bytes_eq s.kept (codes "null"))
   where
-    go : (a : Bool) → EndsThere (if a then Next (go_to s modes.KindName []) else Left (cut s kinds.Word s.kept s.used)
-        (past p kinds.Word modes.Blank [] s.used s.used))
+    go : (a : Bool) → EndsThere (if a then Next (go_to s Mode.KindName []) else Left (cut s TokenKind.Word s.kept s.used)
+        (past p TokenKind.Word Mode.Blank [] s.used s.used))
     go true = tt
     go false = tt
 
@@ -69,7 +59,7 @@ ends_there p s o = acts_there p s o (next p s.colon s.mode o) (by_rows_where (λ
 pub record IsLeft (colon : Bool) (end : ℕ) (left : List ℕ) (s : Known) (rest : List ℕ) : Type 0 where
   pub ahead : List ℕ
   pub cut : left ≡ ahead ++ rest
-  pub reached : (p : Place) → run p ahead (at modes.Blank [] colon end end) ≡ Next s
+  pub reached : (p : Place) → run p ahead (at Mode.Blank [] colon end end) ≡ Next s
 
 -- the scanner finds tokens, and what is left behind them
 finds_to : (after : Bool) (end : ℕ) (left : List ℕ) (ts : List Placed)
@@ -77,8 +67,8 @@ finds_to : (after : Bool) (end : ℕ) (left : List ℕ) (ts : List Placed)
 finds_to after end left [] = λ colon k octets ahead rest s lexes e reached. Nothing s rest (record {
   ahead = ahead;
   cut = sym lexes.2 ∙ e;
-  reached = λ p. subst (λ c. run p ahead (at modes.Blank [] c end end) ≡ Next s) lexes.0
-      (subst (λ (n : ℕ). run p ahead (at modes.Blank [] colon n n) ≡ Next s) lexes.1 (reached p));
+  reached = λ p. subst (λ c. run p ahead (at Mode.Blank [] c end end) ≡ Next s) lexes.0
+      (subst (λ (n : ℕ). run p ahead (at Mode.Blank [] colon n n) ≡ Next s) lexes.1 (reached p));
 })
 finds_to after end left (t ∷ ts) = find_token (λ c b o. (c ≡ after) × (b ≡ end) × (o ≡ left)) (IsLeft after end left) (Unit {0}) (λ c b o w x. tt) t ts
     (finds_to after end left ts)

@@ -1,37 +1,18 @@
 -- Tokens that are read lead the reader to where the next one is looked for; and where the last of them has ended, it isn't open still.
 use Rattle.std.proofs.Common.{◌≡◌, ℕ, Bool, true, false, ◌&&◌, List, [], ◌∷◌, ◌++◌, length, refl, sym, ap, ◌∙◌, subst, append-nil, Ok, Some, ◌⊎◌, inl, inr}
-use Rattle.ion_model.specs.declared.value.Value.{Value}
-use Rattle.ion_model.specs.declared.value.Field.{Field}
-use Rattle.ion_symtab.specs.declared.limits.Limits.{Limits}
-use Rattle.ion_symtab.specs.declared.catalog.Catalog.{Catalog}
-use Rattle.ion_symtab.specs.Slots.{Slot, system_slots}
-use Rattle.ion_tokens.specs.declared.mode.Mark.TheVariants as marks
-use Rattle.ion_tokens.specs.declared.mode.Place.{Place}
-use Rattle.ion_tokens.specs.declared.mode.Place.TheVariants as places
-use Rattle.ion_tokens.specs.declared.mode.TokenKind.TheVariants as kinds
-use Rattle.ion_tokens.specs.Bodies.{IsBody}
-use Rattle.ion_tokens.specs.Lexed.{Placed}
-use Rattle.ion_tokens.specs.machine.Scanning.{Known, Next, Given, Left, run, at_end}
-use Rattle.ion_tokens.proofs.complete.Found.{Last, Gives, Leaves, Unclosed}
-use Rattle.ion_text.specs.declared.state.Frame.{Frame}
-use Rattle.ion_text.specs.declared.state.Frame.TheVariants as frames
-use Rattle.ion_text.specs.declared.state.Now.{Now}
-use Rattle.ion_text.specs.declared.state.Now.TheVariants as nows
-use Rattle.ion_text.specs.Grammar.{Pieces, ends_long, begins_as_long}
-use Rattle.ion_text.specs.machine.EachToken.{Reading, goes, Symbols, at, fresh, place, place_in, settle}
-use Rattle.ion_text.specs.machine.Run.{is_fresh}
-use Rattle.ion_text.specs.machine.Passed.{said_body}
-use Rattle.ion_text.specs.machine.TokenLists.{walked, adds_values, done, on_turn, reads}
-use Rattle.ion_text.specs.laws.reading.sound.Admits.{fresh_empty}
+use Rattle.ion_text.specs.Names.{Catalog, Field, Frame, Given, IsBody, Known, Left, Limits, Mark, Next, Now, Pieces, Place, Placed, Reading, Slot, Symbols, TokenKind, Value, adds_values, at, at_end, begins_as_long, done, ends_long, fresh, goes, is_fresh, on_turn, place, place_in, reads, said_body, scan as run, settle, system_slots}
+use Rattle.ion_tokens.proofs.complete.Found.{Gives, Last, Leaves, Unclosed}
+use Rattle.ion_text.specs.machine.TokenLists.{walked}
 use Rattle.ion_text.specs.laws.reading.complete.Complete.{Begins, starts}
-use Rattle.ion_text.specs.laws.reading.sound.Depths.{Deep}
 use Rattle.ion_text.specs.laws.reading.complete.Found.{next_is}
-use Rattle.ion_text.specs.laws.reading.complete.Going.{says_so, mark_kind}
+use Rattle.ion_text.specs.laws.reading.complete.Going.{mark_kind, says_so}
+use Rattle.ion_text.specs.laws.reading.complete.Pieces.{more_read, pieces_read, top_now, walked_now}
+use Rattle.ion_text.specs.laws.reading.sound.Admits.{fresh_empty}
+use Rattle.ion_text.specs.laws.reading.sound.Depths.{Deep}
 use Rattle.ion_text.specs.laws.reading.sound.Held.{none_open, opened_some}
-use Rattle.ion_text.specs.laws.reading.complete.Pieces.{pieces_read, more_read, top_now, walked_now}
 use Rattle.ion_text.specs.laws.reading.sound.StandsOpen.{NowStands, Opened}
 use Rattle.ion_text.specs.laws.showing.tokens.Compare.{Found', alone}
-use Rattle.ion_text.specs.laws.showing.tokens.Firsts.{opens_item, now_first}
+use Rattle.ion_text.specs.laws.showing.tokens.Firsts.{now_first, opens_item}
 use Rattle.ion_text.specs.laws.showing.tokens.Stays.{Arrived, arrived, opened_read}
 use Rattle.ion_text.specs.laws.showing.tokens.Walks.{walking_said}
 
@@ -87,8 +68,8 @@ module _ (g : Catalog) (l : Limits) where
 
   -- a token has ended in the octets, whatever a scanner holds that used them
   pub record HasEnded (u : List ℕ) (t : Placed) : Type 0 where
-    pub plain : t.lexeme.kind ≡ kinds.Operator → ⊥
-    pub word : t.lexeme.kind ≡ kinds.Word → t.lexeme.end ≡ length u → ⊥
+    pub plain : t.lexeme.kind ≡ TokenKind.Operator → ⊥
+    pub word : t.lexeme.kind ≡ TokenKind.Word → t.lexeme.end ≡ length u → ⊥
     pub closed : (p : Place) (s : Known) → s.used ≡ length u → at_end p s ≡ Ok (Some t.lexeme) → ⊥
 
   -- it isn't open
@@ -105,7 +86,7 @@ module _ (g : Catalog) (l : Limits) where
       same : s' ≡ n
       same = next_is s' n (sym f ∙ ran)
 
-      by : (ms ≡ []) ⊎ ((w : Placed) × (ms ≡ w ∷ []) × (w.lexeme.kind ≡ kinds.Word) × (w.lexeme.end ≡ s'.used)) → ⊥
+      by : (ms ≡ []) ⊎ ((w : Placed) × (ms ≡ w ∷ []) × (w.lexeme.kind ≡ TokenKind.Word) × (w.lexeme.end ≡ s'.used)) → ⊥
       by (inl k) = h.plain (ap (λ (y : Placed). y.lexeme.kind) (sym is ∙ ap (last_of x) k) ∙ operator)
       by (inr (w, k, word, end)) =
           let it : t ≡ w = sym is ∙ ap (last_of x) k in
@@ -127,7 +108,7 @@ module _ (g : Catalog) (l : Limits) where
   item_read c front vs fs ss now x xs pieces d apart a = more_read g l front (x ∷ xs) vs c (pieces_read g l front vs c pieces) first apart
       ∙ ap (adds_values vs) a.read
     where
-      first : Begins g l places.Top (x ∷ xs)
+      first : Begins g l Place.Top (x ∷ xs)
       first =
           let q = walking_said g l (fresh c) x xs (record { vs = []; n = a.r; read = a.read }) in
           let opens : opens_item x.lexeme.kind ≡ true = now_first c fs ss now (x ∷ xs) d in
@@ -138,7 +119,7 @@ module _ (g : Catalog) (l : Limits) where
             cut = refl;
             says = says_so g l (fresh c) x q.1 q.0 q.2;
             no_colons = λ e.
-                let kind = mark_kind x.lexeme.kind x.lexeme.octets marks.Colons
+                let kind = mark_kind x.lexeme.kind x.lexeme.octets Mark.Colons
                 (subst (λ y. IsBody x.lexeme.kind x.lexeme.octets (Ok y)) e (said_body x.lexeme.kind x.lexeme.octets q.1 q.2)) in
                 let n : false ≡ true = sym (ap opens_item kind) ∙ opens in
                 cc;
@@ -175,52 +156,52 @@ module _ (g : Catalog) (l : Limits) where
 
   -- where a value may come
   pub ready_settles : (c : List Slot) (front : List Placed) (vs : List Value) (fs : List Frame) (ss : Symbols) (item : List Placed) → Pieces g l front vs c
-      → Deep l.depth fs → NowStands c fs ss item nows.Ready → (ends_long front && begins_as_long item) ≡ false
-      → (s : ℕ) × SettlesTo (front ++ item) (at s c fs ss nows.Ready)
+      → Deep l.depth fs → NowStands c fs ss item Now.Ready → (ends_long front && begins_as_long item) ≡ false
+      → (s : ℕ) × SettlesTo (front ++ item) (at s c fs ss Now.Ready)
   ready_settles c front vs fs ss [] pieces deep d apart =
-      let none = none_open c fs ss nows.Ready d in (
+      let none = none_open c fs ss Now.Ready d in (
         0,
         λ ws n e.
             let r = pieces_read g l front vs c pieces in
             let same = walked_now g l r.given ws r.now n (sym r.read ∙ (ap (reads g l origin) (sym (append-nil front)) ∙ e)) in (
               r.later,
               ap (λ k. on_turn (settle g l k) done) (sym same.1)
-                  ∙ (r.settles ∙ (ap (λ y. walked r.later (at 0 c y [] nows.Ready)) (sym none.0)
-                  ∙ ap (λ y. walked r.later (at 0 c fs y nows.Ready)) (sym none.1))),
+                  ∙ (r.settles ∙ (ap (λ y. walked r.later (at 0 c y [] Now.Ready)) (sym none.0)
+                  ∙ ap (λ y. walked r.later (at 0 c fs y Now.Ready)) (sym none.1))),
             ),
       )
   ready_settles c front vs fs ss (x ∷ xs) pieces deep d apart =
-      let a = item_arrived c fs ss nows.Ready x xs deep d in (
+      let a = item_arrived c fs ss Now.Ready x xs deep d in (
         starts g l 0 [] (x ∷ xs),
-        item_settles c front vs fs ss nows.Ready x xs (at (starts g l 0 [] (x ∷ xs)) c fs ss nows.Ready) pieces d apart a
+        item_settles c front vs fs ss Now.Ready x xs (at (starts g l 0 [] (x ∷ xs)) c fs ss Now.Ready) pieces d apart a
             (a.ready refl),
       )
 
   -- what a struct waits for: a name, or what stands behind a field
   abbrev pub struct_now : Bool → Now
-  struct_now true = nows.Name
-  struct_now false = nows.After
+  struct_now true = Now.Name
+  struct_now false = Now.After
 
   -- in a struct
   pub struct_settles : (c : List Slot) (front : List Placed) (vs : List Value) (rs : Symbols) (ms : List Field) (fs : List Frame) (item : List Placed)
-      (more : Bool) → Pieces g l front vs c → Deep l.depth (frames.Fields rs ms ∷ fs) → Opened c (frames.Fields rs ms ∷ fs) item more
-      → (ends_long front && begins_as_long item) ≡ false → (s : ℕ) × SettlesTo (front ++ item) (at s c (frames.Fields rs ms ∷ fs) [] (struct_now more))
-  struct_settles c front vs rs ms fs [] more pieces deep o apart = absurd (let e = opened_some c (frames.Fields rs ms ∷ fs) more o in cc)
+      (more : Bool) → Pieces g l front vs c → Deep l.depth (Frame.Fields rs ms ∷ fs) → Opened c (Frame.Fields rs ms ∷ fs) item more
+      → (ends_long front && begins_as_long item) ≡ false → (s : ℕ) × SettlesTo (front ++ item) (at s c (Frame.Fields rs ms ∷ fs) [] (struct_now more))
+  struct_settles c front vs rs ms fs [] more pieces deep o apart = absurd (let e = opened_some c (Frame.Fields rs ms ∷ fs) more o in cc)
   struct_settles c front vs rs ms fs (x ∷ xs) true pieces deep o apart =
-      let a = item_arrived c (frames.Fields rs ms ∷ fs) [] nows.Name x xs deep (o, tt) in
-      let r = opened_read g l c (frames.Fields rs ms ∷ fs) (x ∷ xs) true deep o in
+      let a = item_arrived c (Frame.Fields rs ms ∷ fs) [] Now.Name x xs deep (o, tt) in
+      let r = opened_read g l c (Frame.Fields rs ms ∷ fs) (x ∷ xs) true deep o in
       let same = walked_now g l [] [] r.now a.r (sym r.read ∙ a.read) in
-      let there = at (starts g l 0 [] (x ∷ xs)) c (frames.Fields rs ms ∷ fs) [] nows.Name in (
+      let there = at (starts g l 0 [] (x ∷ xs)) c (Frame.Fields rs ms ∷ fs) [] Now.Name in (
         starts g l 0 [] (x ∷ xs),
-        item_settles c front vs (frames.Fields rs ms ∷ fs) [] nows.Name x xs there pieces (o, tt) apart a
+        item_settles c front vs (Frame.Fields rs ms ∷ fs) [] Now.Name x xs there pieces (o, tt) apart a
             (subst (λ k. settle g l k ≡ goes there) same.1 r.settles),
       )
   struct_settles c front vs rs ms fs (x ∷ xs) false pieces deep o apart =
-      let a = item_arrived c (frames.Fields rs ms ∷ fs) [] nows.After x xs deep (o, refl, tt) in
-      let r = opened_read g l c (frames.Fields rs ms ∷ fs) (x ∷ xs) false deep o in
+      let a = item_arrived c (Frame.Fields rs ms ∷ fs) [] Now.After x xs deep (o, refl, tt) in
+      let r = opened_read g l c (Frame.Fields rs ms ∷ fs) (x ∷ xs) false deep o in
       let same = walked_now g l [] [] r.now a.r (sym r.read ∙ a.read) in
-      let there = at (starts g l 0 [] (x ∷ xs)) c (frames.Fields rs ms ∷ fs) [] nows.After in (
+      let there = at (starts g l 0 [] (x ∷ xs)) c (Frame.Fields rs ms ∷ fs) [] Now.After in (
         starts g l 0 [] (x ∷ xs),
-        item_settles c front vs (frames.Fields rs ms ∷ fs) [] nows.After x xs there pieces (o, refl, tt) apart a
+        item_settles c front vs (Frame.Fields rs ms ∷ fs) [] Now.After x xs there pieces (o, refl, tt) apart a
             (subst (λ k. settle g l k ≡ goes there) same.1 r.settles),
       )

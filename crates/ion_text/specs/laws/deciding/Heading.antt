@@ -1,49 +1,36 @@
 -- Tokens that lead the reader of tokens up to one that it refuses, or to where something waits.
 use Rattle.std.proofs.Common.{◌≡◌, List, [], ◌∷◌, ◌++◌, Bool, true, false, Ok, refl, sym, ap, ◌∙◌, subst, append-nil, inl, inr}
-use Rattle.ion_model.specs.declared.value.Value.{Value}
-use Rattle.ion_atoms.specs.declared.refusal.Reason.{Reason}
-use Rattle.ion_symtab.specs.declared.limits.Limits.{Limits}
-use Rattle.ion_symtab.specs.declared.catalog.Catalog.{Catalog}
-use Rattle.ion_tokens.specs.declared.mode.Mark.TheVariants as marks
-use Rattle.ion_tokens.specs.Bodies.{Content, Quoted, Long, Mark'}
-use Rattle.ion_tokens.specs.Lexed.{Placed}
-use Rattle.ion_tokens.specs.Lexemes.{Lexeme}
-use Rattle.ion_tokens.specs.machine.Said.{said}
-use Rattle.ion_text.specs.declared.state.Now.{Now}
-use Rattle.ion_text.specs.declared.state.Now.TheVariants as nows
-use Rattle.ion_text.specs.machine.EachToken.{Reading, Turn, goes, gives, refuses, late, place, settle, turn}
-use Rattle.ion_text.specs.machine.Run.{token_of, is_top}
-use Rattle.ion_text.specs.machine.TokenLists.{walked, done, on_turn, continues, continues_now, reads, first_token}
-use Rattle.ion_text.specs.machine.Places.{Leading, settle_same, settle_still}
+use Rattle.ion_text.specs.Names.{Catalog, Content, Leading, Lexeme, Limits, Long, Mark, Mark', Now, Placed, Quoted, Reading, Reason, Turn, Value, continues, continues_now, done, first_token, gives, goes, is_top, late, on_turn, place, reads, refuses, said, settle, settle_same, settle_still, token_of, turn}
+use Rattle.ion_text.specs.machine.TokenLists.{walked}
+use Rattle.ion_text.specs.laws.deciding.Comings.{JoinsNothing}
+use Rattle.ion_text.specs.laws.deciding.Fronts.{Came, origin}
+use Rattle.ion_text.specs.laws.deciding.Tokens.{Refusing, Why, as_colons, by_itself}
 use Rattle.ion_text.specs.laws.reading.complete.Going.{Direct, says_so}
 use Rattle.ion_text.specs.laws.reading.complete.Pieces.{walked_now}
-use Rattle.ion_text.specs.laws.showing.tokens.Walks.{walking_said, settled_reads, adds_is}
-use Rattle.ion_text.specs.laws.deciding.Comings.{JoinsNothing}
-use Rattle.ion_text.specs.laws.deciding.Fronts.{origin, Came}
-use Rattle.ion_text.specs.laws.deciding.Tokens.{Refusing, Why, by_itself, as_colons}
+use Rattle.ion_text.specs.laws.showing.tokens.Walks.{adds_is, settled_reads, walking_said}
 
 -- what says nothing that goes on joins nothing that waits
 pub joins_none : (top : Bool) (now : Now) (x : Lexeme) (c : Content) → JoinsNothing c → continues_now top now (token_of x c) ≡ false
-joins_none top (nows.Pending h end) x c a = go c a
+joins_none top (Now.Pending h end) x c a = go c a
   where
-    go : (c : Content) → JoinsNothing c → continues_now top (nows.Pending h end) (token_of x c) ≡ false
-    go (Mark' marks.Colons) a = absurd (a.colons refl)
+    go : (c : Content) → JoinsNothing c → continues_now top (Now.Pending h end) (token_of x c) ≡ false
+    go (Mark' Mark.Colons) a = absurd (a.colons refl)
     go _ a = refl
-joins_none top (nows.Long w end) x c a = go c a
+joins_none top (Now.Long w end) x c a = go c a
   where
-    go : (c : Content) → JoinsNothing c → continues_now top (nows.Long w end) (token_of x c) ≡ false
+    go : (c : Content) → JoinsNothing c → continues_now top (Now.Long w end) (token_of x c) ≡ false
     go (Long v) a = absurd (a.long v refl)
     go (Quoted v) a = absurd (a.quoted v refl)
     go _ a = refl
-joins_none top (nows.LongName w) x c a = go c a
+joins_none top (Now.LongName w) x c a = go c a
   where
-    go : (c : Content) → JoinsNothing c → continues_now top (nows.LongName w) (token_of x c) ≡ false
+    go : (c : Content) → JoinsNothing c → continues_now top (Now.LongName w) (token_of x c) ≡ false
     go (Long v) a = absurd (a.long v refl)
     go _ a = refl
-joins_none top nows.Ready x c a = refl
-joins_none top nows.After x c a = refl
-joins_none top nows.Name x c a = refl
-joins_none top (nows.Keyed k) x c a = refl
+joins_none top Now.Ready x c a = refl
+joins_none top Now.After x c a = refl
+joins_none top Now.Name x c a = refl
+joins_none top (Now.Keyed k) x c a = refl
 
 -- What is so where no token is left, and whether the last token is refused for the reason, or none is.
 module _ (g : Catalog) (l : Limits) (e : Reason) (Done : Reading → Type 0) (Refused : Type 0) where
@@ -163,9 +150,9 @@ module _ (g : Catalog) (l : Limits) (e : Reason) where
       by (as_colons n vs read kind h says on) =
           subst (λ k. Heads g l e Never (Unit {0}) k (t ∷ [])) (walked_now g l vs came.values n came.now (sym read ∙ came.read)).1 (
             sym came.here ∙ ap place (walked_now g l came.values vs came.now n (sym came.read ∙ read)).1,
-            Mark' marks.Colons,
+            Mark' Mark.Colons,
             says,
-            λ w. refusing_turned (turn g l n (token_of t.lexeme (Mark' marks.Colons))) h,
+            λ w. refusing_turned (turn g l n (token_of t.lexeme (Mark' Mark.Colons))) h,
             λ w. absurd (let n : true ≡ false = sym on ∙ w in cc),
           )
 

@@ -1,65 +1,28 @@
 -- An octet for which a reason is late is read on, and refused there for no reason that rows have.
 use Rattle.std.proofs.Common.{◌≡◌, ℕ, zero, suc, ◌+◌, ◌≤◌, nat_le, nat_lt, List, [], ◌∷◌, ◌++◌, length, Bool, true, false, ◌&&◌, not, Result, Ok, Err, Option, Some, None, refl, sym, ap, ◌∙◌, subst, arith, if◌then◌else◌, inl, inr}
 use Rattle.std.proofs.lemmas.Bool.Decides.{nat_tests}
-use Rattle.ion_model.specs.declared.value.Value.{Value}
-use Rattle.ion_model.specs.declared.value.Payload.{Payload}
+use Rattle.ion_text.specs.Names.{Blob, Bracket, Catalog, Clob, Content, Effect, Frame, Given, HasRow, Held, Id, IsBody, IsUsed, IsWordBody, Kind, Known, Left, Lexeme, Limits, Listing, Long, Mark, Mark', Next, Now, Number', Operator, Outcome, Payload, Place, Quoted, Reading, ReadsNumber, Reason, Refused, Setting, Short, Slot, Spot, State, Symbols, Token, TokenKind, Turn, TypedNull, Value, Word, annotated, at, bare_close, begun_at, behind_given, behind_left, beyond_depth, closed, deeper, ended, fails, feed, field_of, first_now, follow, fresh, gives, goes, held_symbol, id_of, is_idle, is_keyword, is_table, keyed, kind_named, late, named, next, noted, noticed, null_of, number_payload, on_after, on_comma, on_keyed, on_long, on_long_name, on_name, on_pending, on_ready, on_said, on_scan, on_settled, opened, opening, place, reaches, refuses, resolve, resolved, said, said_body, says, settle, shut, spot_at, spot_in, takes, token_of, turn, turn_now, turned, under, unsettled, uses, with_scan, within}
 use Rattle.ion_model.specs.declared.value.Payload.TheVariants as payloads
-use Rattle.ion_model.specs.Measures.{annotated, field_of}
-use Rattle.ion_model.specs.Kinds.{is_table}
-use Rattle.ion_atoms.specs.declared.kind.Kind.{Kind}
-use Rattle.ion_atoms.specs.declared.refusal.Reason.{Reason}
-use Rattle.ion_atoms.specs.declared.refusal.Reason.TheVariants as reasons
-use Rattle.ion_scalar.specs.text.Numbers.{ReadsNumber}
-use Rattle.ion_symtab.specs.declared.limits.Limits.{Limits}
-use Rattle.ion_symtab.specs.declared.catalog.Catalog.{Catalog}
-use Rattle.ion_symtab.specs.Slots.{Slot, resolve}
-use Rattle.ion_symtab.specs.Next.{next}
-use Rattle.ion_tokens.specs.declared.mode.Mark.TheVariants as marks
-use Rattle.ion_tokens.specs.declared.mode.Place.{Place}
-use Rattle.ion_tokens.specs.declared.mode.Place.TheVariants as places
-use Rattle.ion_tokens.specs.declared.mode.TokenKind.{TokenKind}
-use Rattle.ion_tokens.specs.declared.mode.TokenKind.TheVariants as kinds
-use Rattle.ion_tokens.specs.machine.Bounds.{is_idle}
-use Rattle.ion_tokens.specs.machine.Ahead.{IsUsed}
-use Rattle.ion_tokens.specs.Bodies.{Content, Word, Id, Quoted, Short, Long, Number', TypedNull, Operator, Clob, Blob, Mark', IsBody, IsWordBody, id_of, kind_named, null_of}
-use Rattle.ion_tokens.specs.machine.Said.{said, says}
-use Rattle.ion_tokens.specs.machine.Scanning.{Known, Outcome, Next, Given, Left, Refused, feed, follow}
-use Rattle.ion_tokens.specs.Lexemes.{Lexeme}
 use Rattle.ion_tokens.proofs.bounds.Causes.{IsFair, run_fair}
 use Rattle.ion_tokens.proofs.bounds.Fits.{is_octet_reason}
-use Rattle.ion_text.specs.declared.state.Held.{Held}
-use Rattle.ion_text.specs.declared.state.Held.TheVariants as helds
-use Rattle.ion_text.specs.declared.state.Now.{Now}
-use Rattle.ion_text.specs.declared.state.Now.TheVariants as nows
-use Rattle.ion_text.specs.declared.state.Frame.{Frame}
-use Rattle.ion_text.specs.declared.state.Frame.TheVariants as frames
-use Rattle.ion_visiting.specs.declared.bracket.Bracket.TheVariants as brackets
-use Rattle.ion_text.specs.declared.state.Listing.TheVariants as listings
-use Rattle.ion_text.specs.Grammar.{is_keyword}
-use Rattle.ion_text.specs.Deciding.{HasRow}
-use Rattle.ion_text.specs.machine.EachToken.{Setting, Spot, under, spot_at, Reading, Turn, goes, gives, refuses, late, Token, Symbols, at, fresh, place, settle, turn, turn_now, ended, within, turned, held_symbol, on_ready, on_pending, on_long, on_after, on_name, on_long_name, on_keyed, on_comma, resolved, noted, keyed, named, opened, first_now, beyond_depth, opening, closed, bare_close, deeper, begun_at, spot_in}
-use Rattle.ion_visiting.specs.Parts.{number_payload}
-use Rattle.ion_text.specs.machine.Run.{State, Effect, uses, fails, takes, unsettled, noticed, shut, reaches, on_scan, on_settled, on_said, behind_given, behind_left, with_scan, token_of}
-use Rattle.ion_text.specs.machine.Passed.{said_body}
+use Rattle.ion_text.specs.laws.deciding.Shows.{BareSaid}
+use Rattle.ion_text.specs.laws.reading.Brackets.{Closes, closes_or_not, ends_list, ends_none, ends_sexp, ends_struct}
 use Rattle.ion_text.specs.laws.reading.complete.Accepts.{mark_said}
 use Rattle.ion_text.specs.laws.reading.complete.Fuel.{UsedHere}
 use Rattle.ion_text.specs.laws.reading.complete.Meets.{IdleLeft, idle_left}
-use Rattle.ion_text.specs.laws.deciding.Shows.{BareSaid}
-use Rattle.ion_text.specs.laws.reading.Brackets.{Closes, ends_list, ends_sexp, ends_struct, ends_none, closes_or_not}
-use Rattle.ion_visiting.specs.declared.bracket.Bracket.{Bracket}
 
 -- 1. Reasons of octets and tokens.
 
 octet_rowless : (e : Reason) → is_octet_reason e ≡ true → HasRow e → ⊥
-octet_rowless reasons.SymbolRange h i = absurd cc
-octet_rowless reasons.ImportGap h i = absurd cc
-octet_rowless reasons.MissingImport h i = absurd cc
-octet_rowless reasons.RepeatedField h i = absurd cc
-octet_rowless reasons.TableTooLarge h i = absurd cc
-octet_rowless reasons.NullTable h i = absurd cc
-octet_rowless reasons.Depth h i = absurd cc
-octet_rowless reasons.Version h i = absurd cc
-octet_rowless reasons.KeywordAsName h i = absurd cc
+octet_rowless Reason.SymbolRange h i = absurd cc
+octet_rowless Reason.ImportGap h i = absurd cc
+octet_rowless Reason.MissingImport h i = absurd cc
+octet_rowless Reason.RepeatedField h i = absurd cc
+octet_rowless Reason.TableTooLarge h i = absurd cc
+octet_rowless Reason.NullTable h i = absurd cc
+octet_rowless Reason.Depth h i = absurd cc
+octet_rowless Reason.Version h i = absurd cc
+octet_rowless Reason.KeywordAsName h i = absurd cc
 octet_rowless _ h i = i
 
 fair_reason : (n : ℕ) (e : Reason) → IsFair (Refused n e) → is_octet_reason e ≡ true
@@ -71,15 +34,15 @@ pub feed_rowless : (p : Place) (s : Known) (o n : ℕ) (e : Reason) → feed p s
 feed_rowless p s o n e h = octet_rowless e (fair_reason n e (subst IsFair (ap (λ y. follow y (λ t. Next t)) h) (run_fair p (o ∷ []) s)))
 
 number_rowless : (octets : List ℕ) (e : Reason) → ReadsNumber octets (Err e) → HasRow e → ⊥
-number_rowless octets reasons.SymbolRange h i = h
-number_rowless octets reasons.ImportGap h i = h
-number_rowless octets reasons.MissingImport h i = h
-number_rowless octets reasons.RepeatedField h i = h
-number_rowless octets reasons.TableTooLarge h i = h
-number_rowless octets reasons.NullTable h i = h
-number_rowless octets reasons.Depth h i = h
-number_rowless octets reasons.Version h i = h
-number_rowless octets reasons.KeywordAsName h i = h
+number_rowless octets Reason.SymbolRange h i = h
+number_rowless octets Reason.ImportGap h i = h
+number_rowless octets Reason.MissingImport h i = h
+number_rowless octets Reason.RepeatedField h i = h
+number_rowless octets Reason.TableTooLarge h i = h
+number_rowless octets Reason.NullTable h i = h
+number_rowless octets Reason.Depth h i = h
+number_rowless octets Reason.Version h i = h
+number_rowless octets Reason.KeywordAsName h i = h
 number_rowless octets _ h i = i
 
 word_rowless : (octets : List ℕ) (id : Option ℕ) (e : Reason) → IsWordBody octets id (Err e) → HasRow e → ⊥
@@ -87,20 +50,20 @@ word_rowless octets None e h i = subst HasRow h.0 i
 word_rowless octets (Some id) e h i = absurd cc
 
 null_rowless : (kind : Option Kind) (e : Reason) → Err e ≡ null_of kind → HasRow e → ⊥
-null_rowless None e h i = let k : e ≡ reasons.Malformed = cc in subst HasRow k i
+null_rowless None e h i = let k : e ≡ Reason.Malformed = cc in subst HasRow k i
 null_rowless (Some kind) e h i = absurd cc
 
 body_rowless : (k : TokenKind) (octets : List ℕ) (e : Reason) → IsBody k octets (Err e) → HasRow e → ⊥
-body_rowless kinds.Word octets e h = word_rowless octets (id_of octets) e h
-body_rowless kinds.KindName octets e h = null_rowless (kind_named octets) e h
-body_rowless kinds.Number octets e h = number_rowless octets e h
-body_rowless kinds.Operator octets e h = λ i. subst HasRow h.0 i
-body_rowless kinds.QuotedSymbol octets e h = λ i. subst HasRow h.0 i
-body_rowless kinds.ShortString octets e h = λ i. subst HasRow h.0 i
-body_rowless kinds.LongString octets e h = λ i. subst HasRow h.0 i
-body_rowless kinds.Clob octets e h = absurd cc
-body_rowless kinds.Blob octets e h = absurd cc
-body_rowless (kinds.Mark m) octets e h = absurd cc
+body_rowless TokenKind.Word octets e h = word_rowless octets (id_of octets) e h
+body_rowless TokenKind.KindName octets e h = null_rowless (kind_named octets) e h
+body_rowless TokenKind.Number octets e h = number_rowless octets e h
+body_rowless TokenKind.Operator octets e h = λ i. subst HasRow h.0 i
+body_rowless TokenKind.QuotedSymbol octets e h = λ i. subst HasRow h.0 i
+body_rowless TokenKind.ShortString octets e h = λ i. subst HasRow h.0 i
+body_rowless TokenKind.LongString octets e h = λ i. subst HasRow h.0 i
+body_rowless TokenKind.Clob octets e h = absurd cc
+body_rowless TokenKind.Blob octets e h = absurd cc
+body_rowless (TokenKind.Mark m) octets e h = absurd cc
 
 -- what a token that says nothing is refused for
 pub said_rowless : (k : TokenKind) (octets : List ℕ) (e : Reason) → said k octets ≡ Err e → HasRow e → ⊥
@@ -117,7 +80,7 @@ NotLate _ = Unit {0}
 pub noticed_quiet : (l : Limits) (r : Reading) (s : Known) → NotLate (noticed l r s)
 noticed_quiet l r s = go (shut r.now && not (is_idle s.mode)) (nat_le (reaches r.frames r s) l.item)
   where
-    go : (a b : Bool) → NotLate (if a then fails reasons.Unexpected else (if b then uses (record { scan = s; reading = r }) else fails reasons.ItemTooLong))
+    go : (a b : Bool) → NotLate (if a then fails Reason.Unexpected else (if b then uses (record { scan = s; reading = r }) else fails Reason.ItemTooLong))
     go true b = λ i. i
     go false true = tt
     go false false = λ i. i
@@ -135,10 +98,10 @@ said_quiet k octets f h = go (said k octets) refl
 -- behind a name, in a struct that a container holds, and behind the colons of an annotation
 pub data LateAs (said : Content) : Reading → Type 0 where
   behind_name : BareSaid said → (start : ℕ) (c : List Slot) (fs : List Frame) (ss : Symbols) (s : Option (List ℕ))
-      → LateAs said (at start c fs ss (nows.Keyed s))
+      → LateAs said (at start c fs ss (Now.Keyed s))
   in_struct : BareSaid said → (start : ℕ) (c : List Slot) (rs : Symbols) (f : Frame) (fs : List Frame)
-      → LateAs said (at start c (frames.Fields rs [] ∷ f ∷ fs) [] nows.Name)
-  behind_colons : (n : Reading) → said ≡ Mark' marks.Colons → LateAs said n
+      → LateAs said (at start c (Frame.Fields rs [] ∷ f ∷ fs) [] Now.Name)
+  behind_colons : (n : Reading) → said ≡ Mark' Mark.Colons → LateAs said n
 
 -- what a late reason goes on with
 abbrev pub TurnLate : (Reading → Type 0) → Turn → Type 0
@@ -149,7 +112,7 @@ TurnLate P _ = Unit {0}
 pub within_late : (P : Reading → Type 0) (item start end : ℕ) (t : Turn) → TurnLate P t → TurnLate P (within item start end t)
 within_late P item start end t h = go (nat_le end (start + item))
   where
-    go : (b : Bool) → TurnLate P (if b then t else refuses reasons.ItemTooLong)
+    go : (b : Bool) → TurnLate P (if b then t else refuses Reason.ItemTooLong)
     go true = h
     go false = tt
 
@@ -162,9 +125,9 @@ top_late P item start end c v d false = within_late P item start end (gives v (f
 -- where a value ends, no reason is late
 pub ended_late : (P : Reading → Type 0) (setting : Setting) (spot : Spot) (fs : List Frame) (v : Value) → TurnLate P (ended setting spot fs v)
 ended_late P setting spot [] v = top_late P setting.limits.item spot.start spot.end spot.context v (next spot.context v setting.catalog) (is_table v)
-ended_late P setting spot (frames.Items listing ss vs ∷ fs) v = tt
-ended_late P setting spot (frames.Named ss ms s ∷ fs) v = tt
-ended_late P setting spot (frames.Fields ss ms ∷ fs) v = tt
+ended_late P setting spot (Frame.Items listing ss vs ∷ fs) v = tt
+ended_late P setting spot (Frame.Named ss ms s ∷ fs) v = tt
+ended_late P setting spot (Frame.Fields ss ms ∷ fs) v = tt
 
 resolved_late : (P : Reading → Type 0) (r : Result (Option (List ℕ)) Reason) (f : Option (List ℕ) → Turn) → ((s : Option (List ℕ)) → TurnLate P (f s))
     → TurnLate P (resolved r f)
@@ -209,64 +172,64 @@ module _ (g : Catalog) (l : Limits) where
   ready_late spot fs ss (Operator w) = ended_late (LateAs (Operator w)) (under g l) spot fs _
   ready_late spot fs ss (Clob w) = ended_late (LateAs (Clob w)) (under g l) spot fs _
   ready_late spot fs ss (Blob w) = ended_late (LateAs (Blob w)) (under g l) spot fs _
-  ready_late spot fs ss (Mark' marks.ListOpen) = deeper_late (LateAs (Mark' marks.ListOpen)) l.depth fs _ _ tt tt
-  ready_late spot fs ss (Mark' marks.SexpOpen) = deeper_late (LateAs (Mark' marks.SexpOpen)) l.depth fs _ _ tt tt
-  ready_late spot fs ss (Mark' marks.FieldsOpen) = go (nat_lt (length fs) l.depth) refl
+  ready_late spot fs ss (Mark' Mark.ListOpen) = deeper_late (LateAs (Mark' Mark.ListOpen)) l.depth fs _ _ tt tt
+  ready_late spot fs ss (Mark' Mark.SexpOpen) = deeper_late (LateAs (Mark' Mark.SexpOpen)) l.depth fs _ _ tt tt
+  ready_late spot fs ss (Mark' Mark.FieldsOpen) = go (nat_lt (length fs) l.depth) refl
     where
       inside : (fs : List Frame) → nat_lt (length fs) l.depth ≡ false
-          → LateAs (Mark' marks.FieldsOpen) (at spot.start spot.context (frames.Fields ss [] ∷ fs) [] nows.Name)
+          → LateAs (Mark' Mark.FieldsOpen) (at spot.start spot.context (Frame.Fields ss [] ∷ fs) [] Now.Name)
       inside [] e = absurd (let n : true ≡ false = sym some_level ∙ e in cc)
       inside (f ∷ fs) e = in_struct tt spot.start spot.context ss f fs
 
-      go : (b : Bool) → nat_lt (length fs) l.depth ≡ b → TurnLate (LateAs (Mark' marks.FieldsOpen))
-          (if b then goes (at spot.start spot.context (frames.Fields ss [] ∷ fs) [] nows.Name) else late reasons.Depth
-          (at spot.start spot.context (frames.Fields ss [] ∷ fs) [] nows.Name))
+      go : (b : Bool) → nat_lt (length fs) l.depth ≡ b → TurnLate (LateAs (Mark' Mark.FieldsOpen))
+          (if b then goes (at spot.start spot.context (Frame.Fields ss [] ∷ fs) [] Now.Name) else late Reason.Depth
+          (at spot.start spot.context (Frame.Fields ss [] ∷ fs) [] Now.Name))
       go true e = tt
       go false e = inside fs e
-  ready_late spot fs ss (Mark' marks.ListClose) = bare_late (LateAs (Mark' marks.ListClose)) ss _
-      (closed_late (LateAs (Mark' marks.ListClose)) (under g l) spot brackets.List fs)
-  ready_late spot fs ss (Mark' marks.SexpClose) = bare_late (LateAs (Mark' marks.SexpClose)) ss _
-      (closed_late (LateAs (Mark' marks.SexpClose)) (under g l) spot brackets.Sexp fs)
+  ready_late spot fs ss (Mark' Mark.ListClose) = bare_late (LateAs (Mark' Mark.ListClose)) ss _
+      (closed_late (LateAs (Mark' Mark.ListClose)) (under g l) spot Bracket.List fs)
+  ready_late spot fs ss (Mark' Mark.SexpClose) = bare_late (LateAs (Mark' Mark.SexpClose)) ss _
+      (closed_late (LateAs (Mark' Mark.SexpClose)) (under g l) spot Bracket.Sexp fs)
   ready_late spot fs ss (Mark' _) = tt
 
   noted_late : (start : ℕ) (c : List Slot) (fs : List Frame) (ss : Symbols) (r : Result (Option (List ℕ)) Reason)
-      → TurnLate (LateAs (Mark' marks.Colons)) (noted start c fs ss r)
+      → TurnLate (LateAs (Mark' Mark.Colons)) (noted start c fs ss r)
   noted_late start c fs ss (Ok s) = tt
-  noted_late start c fs ss (Err e) = behind_colons (at start c fs (ss ++ None ∷ []) nows.Ready) refl
+  noted_late start c fs ss (Err e) = behind_colons (at start c fs (ss ++ None ∷ []) Now.Ready) refl
 
   comma_late : (x : Content) (start : ℕ) (c : List Slot) (fs : List Frame) → TurnLate (LateAs x) (on_comma start c fs)
-  comma_late x start c (frames.Items listings.List ss vs ∷ fs) = tt
-  comma_late x start c (frames.Fields ss ms ∷ fs) = tt
-  comma_late x start c (frames.Items listings.Sexp ss vs ∷ fs) = tt
-  comma_late x start c (frames.Named ss ms s ∷ fs) = tt
+  comma_late x start c (Frame.Items Listing.List ss vs ∷ fs) = tt
+  comma_late x start c (Frame.Fields ss ms ∷ fs) = tt
+  comma_late x start c (Frame.Items Listing.Sexp ss vs ∷ fs) = tt
+  comma_late x start c (Frame.Named ss ms s ∷ fs) = tt
   comma_late x start c [] = tt
 
   after_late : (spot : Spot) (fs : List Frame) (x : Content) → TurnLate (LateAs x) (on_after (under g l) spot fs x)
-  after_late spot fs (Mark' marks.Comma) = comma_late (Mark' marks.Comma) spot.start spot.context fs
-  after_late spot fs (Mark' marks.ListClose) = closed_late (LateAs (Mark' marks.ListClose)) (under g l) spot brackets.List fs
-  after_late spot fs (Mark' marks.FieldsClose) = closed_late (LateAs (Mark' marks.FieldsClose)) (under g l) spot brackets.Fields fs
+  after_late spot fs (Mark' Mark.Comma) = comma_late (Mark' Mark.Comma) spot.start spot.context fs
+  after_late spot fs (Mark' Mark.ListClose) = closed_late (LateAs (Mark' Mark.ListClose)) (under g l) spot Bracket.List fs
+  after_late spot fs (Mark' Mark.FieldsClose) = closed_late (LateAs (Mark' Mark.FieldsClose)) (under g l) spot Bracket.Fields fs
   after_late spot fs _ = tt
 
   name_late : (spot : Spot) (fs : List Frame) (x : Content) → TurnLate (LateAs x) (on_name (under g l) spot fs x)
   name_late spot fs (Word w) = go (is_keyword w)
     where
-      go : (b : Bool) → TurnLate (LateAs (Word w)) (if b then late reasons.KeywordAsName (keyed spot.start spot.context fs (Some w)) else goes
+      go : (b : Bool) → TurnLate (LateAs (Word w)) (if b then late Reason.KeywordAsName (keyed spot.start spot.context fs (Some w)) else goes
           (keyed spot.start spot.context fs (Some w)))
       go true = behind_name tt spot.start spot.context fs [] (Some w)
       go false = tt
   name_late spot fs (TypedNull k) = behind_name tt spot.start spot.context fs [] None
   name_late spot fs (Id id) = resolved_late (LateAs (Id id)) (resolve spot.context id) _ (λ s. tt)
-  name_late spot fs (Mark' marks.FieldsClose) = closed_late (LateAs (Mark' marks.FieldsClose)) (under g l) spot brackets.Fields fs
+  name_late spot fs (Mark' Mark.FieldsClose) = closed_late (LateAs (Mark' Mark.FieldsClose)) (under g l) spot Bracket.Fields fs
   name_late spot fs _ = tt
 
   named_late : (x : Content) (start : ℕ) (c : List Slot) (fs : List Frame) (s : Option (List ℕ)) → TurnLate (LateAs x) (named start c fs s)
-  named_late x start c (frames.Fields ss ms ∷ fs) s = tt
-  named_late x start c (frames.Items listing ss vs ∷ fs) s = tt
-  named_late x start c (frames.Named ss ms y ∷ fs) s = tt
+  named_late x start c (Frame.Fields ss ms ∷ fs) s = tt
+  named_late x start c (Frame.Items listing ss vs ∷ fs) s = tt
+  named_late x start c (Frame.Named ss ms y ∷ fs) s = tt
   named_late x start c [] s = tt
 
   pending_late : (start : ℕ) (c : List Slot) (fs : List Frame) (ss : Symbols) (h : Held) (x : Content) → TurnLate (LateAs x) (on_pending start c fs ss h x)
-  pending_late start c fs ss h (Mark' marks.Colons) = noted_late start c fs ss (held_symbol h)
+  pending_late start c fs ss h (Mark' Mark.Colons) = noted_late start c fs ss (held_symbol h)
   pending_late start c fs ss h _ = tt
 
   long_late : (spot : Spot) (fs : List Frame) (ss : Symbols) (v : List ℕ) (x : Content) → TurnLate (LateAs x) (on_long spot fs ss v x)
@@ -278,7 +241,7 @@ module _ (g : Catalog) (l : Limits) where
   long_name_late start c fs v _ = tt
 
   keyed_late : (start : ℕ) (c : List Slot) (fs : List Frame) (s : Option (List ℕ)) (x : Content) → TurnLate (LateAs x) (on_keyed start c fs s x)
-  keyed_late start c fs s (Mark' marks.Colon) = named_late (Mark' marks.Colon) start c fs s
+  keyed_late start c fs s (Mark' Mark.Colon) = named_late (Mark' Mark.Colon) start c fs s
   keyed_late start c fs s _ = tt
 
   -- what a token's reason is late for
@@ -286,13 +249,13 @@ module _ (g : Catalog) (l : Limits) where
   turn_late r t = go r.now
     where
       go : (n : Now) → TurnLate (LateAs t.said) (turn_now (under g l) r t n)
-      go nows.Ready = ready_late (spot_at t.end (begun_at r.start t.start r.frames r.notes) r.context) r.frames r.notes t.said
-      go (nows.Pending h e) = pending_late r.start r.context r.frames r.notes h t.said
-      go (nows.Long w e) = long_late (spot_in r t.end) r.frames r.notes w t.said
-      go nows.After = after_late (spot_in r t.end) r.frames t.said
-      go nows.Name = name_late (spot_in r t.end) r.frames t.said
-      go (nows.LongName w) = long_name_late r.start r.context r.frames w t.said
-      go (nows.Keyed s) = keyed_late r.start r.context r.frames s t.said
+      go Now.Ready = ready_late (spot_at t.end (begun_at r.start t.start r.frames r.notes) r.context) r.frames r.notes t.said
+      go (Now.Pending h e) = pending_late r.start r.context r.frames r.notes h t.said
+      go (Now.Long w e) = long_late (spot_in r t.end) r.frames r.notes w t.said
+      go Now.After = after_late (spot_in r t.end) r.frames t.said
+      go Now.Name = name_late (spot_in r t.end) r.frames t.said
+      go (Now.LongName w) = long_name_late r.start r.context r.frames w t.said
+      go (Now.Keyed s) = keyed_late r.start r.context r.frames s t.said
 
   -- 4. What comes of the octet there.
 
@@ -316,43 +279,43 @@ module _ (g : Catalog) (l : Limits) where
       go false = subst (λ t. NotLate (on_settled g l again m.scan x t)) (sym e) h
 
   named_quiet : (t : Known) (start : ℕ) (c : List Slot) (fs : List Frame) (s : Option (List ℕ)) → NotLate (behind_given l t (named start c fs s))
-  named_quiet t start c (frames.Fields ss ms ∷ fs) s = noticed_quiet l (at start c (frames.Named ss ms s ∷ fs) [] nows.Ready) t
-  named_quiet t start c (frames.Items listing ss vs ∷ fs) s = λ i. i
-  named_quiet t start c (frames.Named ss ms y ∷ fs) s = λ i. i
+  named_quiet t start c (Frame.Fields ss ms ∷ fs) s = noticed_quiet l (at start c (Frame.Named ss ms s ∷ fs) [] Now.Ready) t
+  named_quiet t start c (Frame.Items listing ss vs ∷ fs) s = λ i. i
+  named_quiet t start c (Frame.Named ss ms y ∷ fs) s = λ i. i
   named_quiet t start c [] s = λ i. i
 
   keyed_given : (t : Known) (start : ℕ) (c : List Slot) (fs : List Frame) (s : Option (List ℕ)) (x : Content)
       → NotLate (behind_given l t (on_keyed start c fs s x))
-  keyed_given t start c fs s (Mark' marks.Colon) = named_quiet t start c fs s
+  keyed_given t start c fs s (Mark' Mark.Colon) = named_quiet t start c fs s
   keyed_given t start c fs s _ = λ i. i
 
   -- behind a name
   name_quiet : (n : ℕ) (s : Known) (o start : ℕ) (c : List Slot) (fs : List Frame) (ss : Symbols) (k : Option (List ℕ)) → UsedHere s o
-      → NotLate (takes g l n (with_scan s (at start c fs ss (nows.Keyed k))) o)
+      → NotLate (takes g l n (with_scan s (at start c fs ss (Now.Keyed k))) o)
   name_quiet zero s o start c fs ss k once = λ i. i
   name_quiet (suc n) s o start c fs ss k once =
-      let r = at start c fs ss (nows.Keyed k) in
+      let r = at start c fs ss (Now.Keyed k) in
       still_quiet (λ m. takes g l n m o) (with_scan s r) (feed (place r) s o) refl
       (used_quiet (λ m. takes g l n m o) (place r) s o r (λ y t e x f. keyed_given t start c fs k x) (feed (place r) s o) refl (once (place r)))
 
   closed_quiet : (t : Known) (spot : Spot) (f : Frame) (fs : List Frame) (v : Value) → NotLate (behind_given l t (ended (under g l) spot (f ∷ fs) v))
-  closed_quiet t spot (frames.Items listings.List ss vs) fs v =
-      noticed_quiet l (at spot.start spot.context (frames.Items listings.List ss (vs ++ v ∷ []) ∷ fs) [] nows.After) t
-  closed_quiet t spot (frames.Items listings.Sexp ss vs) fs v =
-      noticed_quiet l (at spot.start spot.context (frames.Items listings.Sexp ss (vs ++ v ∷ []) ∷ fs) [] nows.Ready) t
-  closed_quiet t spot (frames.Named ss ms s) fs v = noticed_quiet l (at spot.start spot.context (frames.Fields ss (ms ++ field_of s v ∷ []) ∷ fs) [] nows.After)
+  closed_quiet t spot (Frame.Items Listing.List ss vs) fs v =
+      noticed_quiet l (at spot.start spot.context (Frame.Items Listing.List ss (vs ++ v ∷ []) ∷ fs) [] Now.After) t
+  closed_quiet t spot (Frame.Items Listing.Sexp ss vs) fs v =
+      noticed_quiet l (at spot.start spot.context (Frame.Items Listing.Sexp ss (vs ++ v ∷ []) ∷ fs) [] Now.Ready) t
+  closed_quiet t spot (Frame.Named ss ms s) fs v = noticed_quiet l (at spot.start spot.context (Frame.Fields ss (ms ++ field_of s v ∷ []) ∷ fs) [] Now.After)
       t
-  closed_quiet t spot (frames.Fields ss ms) fs v = λ i. i
+  closed_quiet t spot (Frame.Fields ss ms) fs v = λ i. i
 
   struct_given : (t : Known) (spot : Spot) (rs : Symbols) (f : Frame) (fs : List Frame) (x : Content) → (BareSaid x → ⊥)
-      → NotLate (behind_given l t (on_name (under g l) spot (frames.Fields rs [] ∷ f ∷ fs) x))
+      → NotLate (behind_given l t (on_name (under g l) spot (Frame.Fields rs [] ∷ f ∷ fs) x))
   struct_given t spot rs f fs (Word w) n = absurd (n tt)
   struct_given t spot rs f fs (Id id) n = absurd (n tt)
   struct_given t spot rs f fs (TypedNull k) n = absurd (n tt)
-  struct_given t spot rs f fs (Quoted w) n = noticed_quiet l (keyed spot.start spot.context (frames.Fields rs [] ∷ f ∷ fs) (Some w)) t
-  struct_given t spot rs f fs (Short w) n = noticed_quiet l (keyed spot.start spot.context (frames.Fields rs [] ∷ f ∷ fs) (Some w)) t
-  struct_given t spot rs f fs (Long w) n = noticed_quiet l (at spot.start spot.context (frames.Fields rs [] ∷ f ∷ fs) [] (nows.LongName w)) t
-  struct_given t spot rs f fs (Mark' marks.FieldsClose) n = closed_quiet t spot f fs (annotated rs (payloads.Fields []))
+  struct_given t spot rs f fs (Quoted w) n = noticed_quiet l (keyed spot.start spot.context (Frame.Fields rs [] ∷ f ∷ fs) (Some w)) t
+  struct_given t spot rs f fs (Short w) n = noticed_quiet l (keyed spot.start spot.context (Frame.Fields rs [] ∷ f ∷ fs) (Some w)) t
+  struct_given t spot rs f fs (Long w) n = noticed_quiet l (at spot.start spot.context (Frame.Fields rs [] ∷ f ∷ fs) [] (Now.LongName w)) t
+  struct_given t spot rs f fs (Mark' Mark.FieldsClose) n = closed_quiet t spot f fs (annotated rs (payloads.Fields []))
   struct_given t spot rs f fs _ n = λ i. i
 
   -- no token that ends with the octet would need one behind it
@@ -360,18 +323,18 @@ module _ (g : Catalog) (l : Limits) where
   GivesNoBare p s o = (y : Lexeme) (t : Known) → feed p s o ≡ Given y t → (c : Content) → said y.kind y.octets ≡ Ok c → BareSaid c → ⊥
 
   -- behind the brace of a struct
-  struct_quiet : (n : ℕ) (s : Known) (o start : ℕ) (c : List Slot) (rs : Symbols) (f : Frame) (fs : List Frame) → UsedHere s o → GivesNoBare places.Name s o
-      → NotLate (takes g l n (with_scan s (at start c (frames.Fields rs [] ∷ f ∷ fs) [] nows.Name)) o)
+  struct_quiet : (n : ℕ) (s : Known) (o start : ℕ) (c : List Slot) (rs : Symbols) (f : Frame) (fs : List Frame) → UsedHere s o → GivesNoBare Place.Name s o
+      → NotLate (takes g l n (with_scan s (at start c (Frame.Fields rs [] ∷ f ∷ fs) [] Now.Name)) o)
   struct_quiet zero s o start c rs f fs once bare = λ i. i
   struct_quiet (suc n) s o start c rs f fs once bare =
-      let r = at start c (frames.Fields rs [] ∷ f ∷ fs) [] nows.Name in
+      let r = at start c (Frame.Fields rs [] ∷ f ∷ fs) [] Now.Name in
       still_quiet (λ m. takes g l n m o) (with_scan s r) (feed (place r) s o) refl
       (used_quiet (λ m. takes g l n m o) (place r) s o r (λ y t e x i. struct_given t (spot_at y.end start c) rs f fs x (bare y t e x i)) (feed (place r) s o)
       refl (once (place r)))
 
   -- Where a token that was left is late, no reason of rows comes of the octet.
-  pub late_quiet : (n : ℕ) (s : Known) (o : ℕ) (x : Content) (r : Reading) → LateAs x r → (x ≡ Mark' marks.Colons → ⊥) → (BareSaid x → UsedHere s o)
-      → GivesNoBare places.Name s o → NotLate (takes g l n (with_scan s r) o)
+  pub late_quiet : (n : ℕ) (s : Known) (o : ℕ) (x : Content) (r : Reading) → LateAs x r → (x ≡ Mark' Mark.Colons → ⊥) → (BareSaid x → UsedHere s o)
+      → GivesNoBare Place.Name s o → NotLate (takes g l n (with_scan s r) o)
   late_quiet n s o x _ (behind_name b start c fs ss k) colons once bare = name_quiet n s o start c fs ss k (once b)
   late_quiet n s o x _ (in_struct b start c rs f fs) colons once bare = struct_quiet n s o start c rs f fs (once b) bare
   late_quiet n s o x r (behind_colons _ e) colons once bare = absurd (colons e)
@@ -382,7 +345,7 @@ module _ (g : Catalog) (l : Limits) where
       → NotLate (behind_given l t (ended (under g l) (spot_at end start c) [] (annotated [] q)))
   fresh_ended t start end c q = go (nat_le end (start + l.item))
     where
-      go : (b : Bool) → NotLate (behind_given l t (if b then gives (annotated [] q) (fresh c) else refuses reasons.ItemTooLong))
+      go : (b : Bool) → NotLate (behind_given l t (if b then gives (annotated [] q) (fresh c) else refuses Reason.ItemTooLong))
       go true = tt
       go false = λ i. i
 
@@ -398,30 +361,30 @@ module _ (g : Catalog) (l : Limits) where
   fresh_given t start end c (Word w) n = absurd (n tt)
   fresh_given t start end c (Id id) n = absurd (n tt)
   fresh_given t start end c (TypedNull k) n = absurd (n tt)
-  fresh_given t start end c (Quoted w) n = noticed_quiet l (at start c [] [] (nows.Pending (helds.Symbol (Some w)) end)) t
-  fresh_given t start end c (Long w) n = noticed_quiet l (at start c [] [] (nows.Long w end)) t
+  fresh_given t start end c (Quoted w) n = noticed_quiet l (at start c [] [] (Now.Pending (Held.Symbol (Some w)) end)) t
+  fresh_given t start end c (Long w) n = noticed_quiet l (at start c [] [] (Now.Long w end)) t
   fresh_given t start end c (Short w) n = fresh_ended t start end c (payloads.Str w)
   fresh_given t start end c (Number' y) n = fresh_ended t start end c (number_payload y)
   fresh_given t start end c (Operator w) n = fresh_ended t start end c (payloads.Symbol (Some w))
   fresh_given t start end c (Clob w) n = fresh_ended t start end c (payloads.Clob w)
   fresh_given t start end c (Blob w) n = fresh_ended t start end c (payloads.Blob w)
-  fresh_given t start end c (Mark' marks.ListOpen) n = fresh_open t start c brackets.List
-  fresh_given t start end c (Mark' marks.SexpOpen) n = fresh_open t start c brackets.Sexp
-  fresh_given t start end c (Mark' marks.FieldsOpen) n = absurd (n tt)
+  fresh_given t start end c (Mark' Mark.ListOpen) n = fresh_open t start c Bracket.List
+  fresh_given t start end c (Mark' Mark.SexpOpen) n = fresh_open t start c Bracket.Sexp
+  fresh_given t start end c (Mark' Mark.FieldsOpen) n = absurd (n tt)
   fresh_given t start end c (Mark' _) n = λ i. i
 
   -- Behind such a marker no reason of rows comes of the octet that shows that it is no annotation.
-  pub version_quiet : (again : State → Effect) (s : Known) (o : ℕ) (c : List Slot) → is_idle s.mode ≡ true → GivesNoBare places.Top s o → (x : Outcome)
-      → feed places.Top s o ≡ x → NotLate (on_scan g l again (fresh c) x)
+  pub version_quiet : (again : State → Effect) (s : Known) (o : ℕ) (c : List Slot) → is_idle s.mode ≡ true → GivesNoBare Place.Top s o → (x : Outcome)
+      → feed Place.Top s o ≡ x → NotLate (on_scan g l again (fresh c) x)
   version_quiet again s o c idle bare (Next t) e = noticed_quiet l (fresh c) t
   version_quiet again s o c idle bare (Given y t) e = said_quiet y.kind y.octets (λ x. behind_given l t (turn g l (fresh c) (token_of y x)))
       (λ x i. fresh_given t y.start y.end c x (bare y t e x i))
   version_quiet again s o c idle bare (Left y t) e = said_quiet y.kind y.octets (λ x. behind_left again t (turn g l (fresh c) (token_of y x)))
-      (λ x i. by x i (subst (IdleLeft places.Top s.used) e (idle_left places.Top s o idle)))
+      (λ x i. by x i (subst (IdleLeft Place.Top s.used) e (idle_left Place.Top s o idle)))
     where
-      by : (x : Content) → said y.kind y.octets ≡ Ok x → IdleLeft places.Top s.used (Left y t)
+      by : (x : Content) → said y.kind y.octets ≡ Ok x → IdleLeft Place.Top s.used (Left y t)
           → NotLate (behind_left again t (turn g l (fresh c) (token_of y x)))
       by x i (inl k) = subst (λ z. NotLate (behind_left again t (turn g l (fresh c) (token_of y z))))
-          (sym (mark_said y.kind y.octets marks.Colon x k.0 (said_body y.kind y.octets x i))) (λ j. j)
+          (sym (mark_said y.kind y.octets Mark.Colon x k.0 (said_body y.kind y.octets x i))) (λ j. j)
       by x i (inr k) = absurd (let n : false ≡ true = k.1 in cc)
-  version_quiet again s o c idle bare (Refused n y) e = feed_rowless places.Top s o n y e
+  version_quiet again s o c idle bare (Refused n y) e = feed_rowless Place.Top s o n y e

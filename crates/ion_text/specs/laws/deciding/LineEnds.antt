@@ -2,44 +2,32 @@
 use Rattle.std.proofs.Common.{◌≡◌, ℕ, ◌-◌, ◌<◌, ◌==◌, Bool, true, false, ◌&&◌, ◌||◌, not, List, [], ◌∷◌, ◌++◌, length, take, Ok, Option, Some, None, refl, sym, ap, ◌∙◌, subst, length-append, arith, if◌then◌else◌, codes}
 use Rattle.std.proofs.lemmas.List.{append_cancel_right}
 use Rattle.std.specs.Str.{bytes_eq}
-use Rattle.ion_tokens.specs.declared.mode.Action.{Action}
-use Rattle.ion_tokens.specs.declared.mode.Action.TheVariants as actions
-use Rattle.ion_tokens.specs.declared.mode.Mark.TheVariants as marks
-use Rattle.ion_tokens.specs.declared.mode.Mode.{Mode}
-use Rattle.ion_tokens.specs.declared.mode.Mode.TheVariants as modes
-use Rattle.ion_tokens.specs.declared.mode.Place.{Place}
-use Rattle.ion_tokens.specs.declared.mode.TokenKind.TheVariants as kinds
-use Rattle.ion_tokens.specs.Ascii.{line_feed}
-use Rattle.ion_tokens.specs.Blobs.{blob_of}
-use Rattle.ion_tokens.specs.Lexed.{Placed}
-use Rattle.ion_tokens.specs.Lexemes.{Lexeme}
+use Rattle.ion_text.specs.Names.{Action, Known, LeavesIn, Left, LeftIn, Lexeme, Mark, Mode, Next, Outcome, Place, Placed, TokenKind, acts, at_end, blob_ends, blob_of, cut, end_of, ends_at, feed, go_to, line_feed, past}
+use Rattle.ion_tokens.specs.machine.Table.{next}
 use Rattle.ion_tokens.specs.laws.Again.{feed_leaves, word_leaves}
 use Rattle.ion_tokens.specs.laws.ByRows.{by_rows_where}
-use Rattle.ion_tokens.specs.machine.Ahead.{LeftIn, LeavesIn}
-use Rattle.ion_tokens.specs.machine.Scanning.{Known, Outcome, Next, Left, acts, blob_ends, cut, past, go_to, feed, at_end, ends_at}
-use Rattle.ion_tokens.specs.machine.Table.{next, end_of}
-use Rattle.ion_text.specs.laws.reading.complete.Segments.{never}
 use Rattle.ion_text.specs.laws.deciding.Finding.{EndsThere, ends_there}
-use Rattle.ion_text.specs.laws.deciding.Fronts.{last_of, last_behind}
+use Rattle.ion_text.specs.laws.deciding.Fronts.{last_behind, last_of}
 use Rattle.ion_text.specs.laws.deciding.Lines.{line}
-use Rattle.ion_text.specs.laws.deciding.Reaching.{Sees, rests, last_given, last_left, last_ends, sees_on, sees_given, sees_left, sees_some}
+use Rattle.ion_text.specs.laws.deciding.Reaching.{Sees, last_ends, last_given, last_left, rests, sees_given, sees_left, sees_on, sees_some}
 use Rattle.ion_text.specs.laws.deciding.Shows.{IsBare, NoLetters}
+use Rattle.ion_text.specs.laws.reading.complete.Segments.{never}
 
 -- 1. What the scanner's table has for the end of a line.
 
 -- a word, the name of a kind or one `{` has begun
 abbrev is_bare : Mode → Bool
-is_bare modes.Word = true
-is_bare modes.KindName = true
-is_bare modes.Brace = true
+is_bare Mode.Word = true
+is_bare Mode.KindName = true
+is_bare Mode.Brace = true
 is_bare _ = false
 
 -- none of these is left
 abbrev leaves_other : Action → Bool
-leaves_other (actions.Before kinds.Word k m) = false
-leaves_other (actions.Before kinds.KindName k m) = false
-leaves_other (actions.Before (kinds.Mark marks.FieldsOpen) k m) = false
-leaves_other actions.EndWord = false
+leaves_other (Action.Before TokenKind.Word k m) = false
+leaves_other (Action.Before TokenKind.KindName k m) = false
+leaves_other (Action.Before (TokenKind.Mark Mark.FieldsOpen) k m) = false
+leaves_other Action.EndWord = false
 leaves_other _ = true
 
 abbrev LeavesOther : Outcome → Type 0
@@ -51,16 +39,16 @@ blob_other s (Some b) = tt
 blob_other s None = tt
 
 acts_other : (p : Place) (s : Known) (o : ℕ) (a : Action) → leaves_other a ≡ true → LeavesOther (acts p s o a)
-acts_other p s o (actions.Before kinds.Word k m) h = absurd cc
-acts_other p s o (actions.Before kinds.KindName k m) h = absurd cc
-acts_other p s o (actions.Before (kinds.Mark marks.FieldsOpen) k m) h = absurd cc
-acts_other p s o (actions.Before _ k m) h = λ b. b
-acts_other p s o (actions.Split n) h = λ b. b
-acts_other p s o (actions.Go m k) h = tt
-acts_other p s o (actions.Give kind k) h = tt
-acts_other p s o (actions.Refuse e) h = tt
-acts_other p s o actions.EndBlob h = blob_other s (blob_of s.kept)
-acts_other p s o actions.EndWord h = absurd cc
+acts_other p s o (Action.Before TokenKind.Word k m) h = absurd cc
+acts_other p s o (Action.Before TokenKind.KindName k m) h = absurd cc
+acts_other p s o (Action.Before (TokenKind.Mark Mark.FieldsOpen) k m) h = absurd cc
+acts_other p s o (Action.Before _ k m) h = λ b. b
+acts_other p s o (Action.Split n) h = λ b. b
+acts_other p s o (Action.Go m k) h = tt
+acts_other p s o (Action.Give kind k) h = tt
+acts_other p s o (Action.Refuse e) h = tt
+acts_other p s o Action.EndBlob h = blob_other s (blob_of s.kept)
+acts_other p s o Action.EndWord h = absurd cc
 
 other_left : (p : Place) (s : Known) (o : ℕ) → not (is_bare s.mode) ≡ true → LeavesOther (feed p s o)
 other_left p s o h = acts_other p s o (next p s.colon s.mode o)
@@ -80,26 +68,26 @@ line_ends p s t x f b = go s.mode refl
     whole = omega arith
 
     go : (m : Mode) → s.mode ≡ m → at_end p s ≡ Ok (Some x)
-    go modes.Word e =
-        let h : Left (cut s kinds.Word s.kept s.used) (past p kinds.Word modes.Blank [] s.used s.used) ≡ Left x t = fed modes.Word e in
-        ended modes.Word e (cut s kinds.Word s.kept s.used) refl cc
-    go modes.KindName e =
-        let h : Left (cut s kinds.KindName s.kept (s.used - 0)) (past p kinds.KindName modes.Blank [] (s.used - 0) s.used) ≡ Left x t = fed modes.KindName e in
-        ended modes.KindName e (cut s kinds.KindName s.kept s.used) refl (ap (cut s kinds.KindName s.kept) (sym whole) ∙ cc)
-    go modes.Brace e =
-        let brace = kinds.Mark marks.FieldsOpen in
-        let h : Left (cut s brace s.kept (s.used - 0)) (past p brace modes.Blank [] (s.used - 0) s.used) ≡ Left x t = fed modes.Brace e in
-        ended modes.Brace e (cut s brace s.kept s.used) refl (ap (cut s brace s.kept) (sym whole) ∙ cc)
+    go Mode.Word e =
+        let h : Left (cut s TokenKind.Word s.kept s.used) (past p TokenKind.Word Mode.Blank [] s.used s.used) ≡ Left x t = fed Mode.Word e in
+        ended Mode.Word e (cut s TokenKind.Word s.kept s.used) refl cc
+    go Mode.KindName e =
+        let h : Left (cut s TokenKind.KindName s.kept (s.used - 0)) (past p TokenKind.KindName Mode.Blank [] (s.used - 0) s.used) ≡ Left x t = fed Mode.KindName e in
+        ended Mode.KindName e (cut s TokenKind.KindName s.kept s.used) refl (ap (cut s TokenKind.KindName s.kept) (sym whole) ∙ cc)
+    go Mode.Brace e =
+        let brace = TokenKind.Mark Mark.FieldsOpen in
+        let h : Left (cut s brace s.kept (s.used - 0)) (past p brace Mode.Blank [] (s.used - 0) s.used) ≡ Left x t = fed Mode.Brace e in
+        ended Mode.Brace e (cut s brace s.kept s.used) refl (ap (cut s brace s.kept) (sym whole) ∙ cc)
     go _ e = absurd (subst LeavesOther f (other_left p s line_feed (ap (λ m. not (is_bare m)) e)) b)
 
 -- no word begins where a token is left
 abbrev begins_none : Action → Bool
-begins_none (actions.Before kind k modes.Word) = false
+begins_none (Action.Before kind k Mode.Word) = false
 begins_none _ = true
 
 -- but that of the letters of `inf`
 abbrev LeavesLetters : Outcome → Type 0
-LeavesLetters (Left x t) = t.mode ≡ modes.Word → (n : ℕ) × (t.kept ≡ take n (codes "inf"))
+LeavesLetters (Left x t) = t.mode ≡ Mode.Word → (n : ℕ) × (t.kept ≡ take n (codes "inf"))
 LeavesLetters _ = Unit {0}
 
 blob_letters : (s : Known) (b : Option (List ℕ)) → LeavesLetters (blob_ends s b)
@@ -107,16 +95,16 @@ blob_letters s (Some b) = tt
 blob_letters s None = tt
 
 acts_letters : (p : Place) (s : Known) (o : ℕ) (a : Action) → begins_none a ≡ true → LeavesLetters (acts p s o a)
-acts_letters p s o (actions.Before kind k m) h = λ e. absurd (never (begins_none (actions.Before kind k m)) (ap (λ n. begins_none (actions.Before kind k n)) e) h)
-acts_letters p s o (actions.Split n) h = λ e. (n, refl)
-acts_letters p s o (actions.Go m k) h = tt
-acts_letters p s o (actions.Give kind k) h = tt
-acts_letters p s o (actions.Refuse e) h = tt
-acts_letters p s o actions.EndBlob h = blob_letters s (blob_of s.kept)
-acts_letters p s o actions.EndWord h = go ((o == 46) && bytes_eq s.kept (codes "null"))
+acts_letters p s o (Action.Before kind k m) h = λ e. absurd (never (begins_none (Action.Before kind k m)) (ap (λ n. begins_none (Action.Before kind k n)) e) h)
+acts_letters p s o (Action.Split n) h = λ e. (n, refl)
+acts_letters p s o (Action.Go m k) h = tt
+acts_letters p s o (Action.Give kind k) h = tt
+acts_letters p s o (Action.Refuse e) h = tt
+acts_letters p s o Action.EndBlob h = blob_letters s (blob_of s.kept)
+acts_letters p s o Action.EndWord h = go ((o == 46) && bytes_eq s.kept (codes "null"))
   where
-    go : (b : Bool) → LeavesLetters (if b then Next (go_to s modes.KindName []) else Left (cut s kinds.Word s.kept s.used)
-        (past p kinds.Word modes.Blank [] s.used s.used))
+    go : (b : Bool) → LeavesLetters (if b then Next (go_to s Mode.KindName []) else Left (cut s TokenKind.Word s.kept s.used)
+        (past p TokenKind.Word Mode.Blank [] s.used s.used))
     go true = tt
     go false = λ e. absurd cc
 
@@ -128,16 +116,16 @@ abbrev IsNext : Outcome → Type 0
 IsNext (Next s) = Unit {0}
 IsNext _ = ⊥
 
-blank_next : (p : Place) (s : Known) (o : ℕ) → o ≡ line_feed → s.mode ≡ modes.Blank → IsNext (feed p s o)
+blank_next : (p : Place) (s : Known) (o : ℕ) → o ≡ line_feed → s.mode ≡ Mode.Blank → IsNext (feed p s o)
 blank_next p s o e m =
     subst (λ y. IsNext (feed p s y)) (sym e) (subst (λ n. IsNext (acts p s line_feed (next p s.colon n line_feed))) (sym m) tt)
 
 -- the word is left
 abbrev LeavesWord : List ℕ → Outcome → Type 0
-LeavesWord letters (Left x s) = (x.kind ≡ kinds.Word) × (x.octets ≡ letters)
+LeavesWord letters (Left x s) = (x.kind ≡ TokenKind.Word) × (x.octets ≡ letters)
 LeavesWord letters _ = ⊥
 
-word_left : (p : Place) (s : Known) (o : ℕ) → o ≡ line_feed → s.mode ≡ modes.Word → LeavesWord s.kept (feed p s o)
+word_left : (p : Place) (s : Known) (o : ℕ) → o ≡ line_feed → s.mode ≡ Mode.Word → LeavesWord s.kept (feed p s o)
 word_left p s o e m =
     subst (λ y. LeavesWord s.kept (feed p s y)) (sym e)
     (subst (λ n. LeavesWord s.kept (acts p s line_feed (next p s.colon n line_feed))) (sym m) (refl, refl))
@@ -178,7 +166,7 @@ module _ (Rest : Known → List ℕ → Type 0) (last : Placed) (bare : IsBare l
   none_behind s o os ts m e = omega (arith, ap length e, some s os ts m)
 
   -- in a blank none is met
-  blank_meets : (s : Known) (os : List ℕ) (x : Placed) (xs : List Placed) → L s os (x ∷ xs) → os ≡ line → s.mode ≡ modes.Blank → ⊥
+  blank_meets : (s : Known) (os : List ℕ) (x : Placed) (xs : List Placed) → L s os (x ∷ xs) → os ≡ line → s.mode ≡ Mode.Blank → ⊥
   blank_meets _ _ _ _ (last_given s o t s' b f) e m = subst IsNext f (blank_next t.place s o (here o [] e) m)
   blank_meets _ _ _ _ (last_left s o t s' b f) e m = subst IsNext f (blank_next t.place s o (here o [] e) m)
   blank_meets _ _ _ _ (last_ends s t b i f) e m = b
@@ -187,13 +175,13 @@ module _ (Rest : Known → List ℕ → Type 0) (last : Placed) (bare : IsBare l
   blank_meets _ _ _ _ (sees_left s o os t ts s' f w) e m = subst IsNext f (blank_next t.place s o (here o os e) m)
 
   -- the last token isn't a word of letters of `inf`
-  no_word : (s : Known) (o : ℕ) (os : List ℕ) (t : Placed) (s' : Known) → feed t.place s o ≡ Left t.lexeme s' → o ∷ os ≡ line → s.mode ≡ modes.Word
+  no_word : (s : Known) (o : ℕ) (os : List ℕ) (t : Placed) (s' : Known) → feed t.place s o ≡ Left t.lexeme s' → o ∷ os ≡ line → s.mode ≡ Mode.Word
       → (n : ℕ) × (s.kept ≡ take n (codes "inf")) → t ≡ last → ⊥
   no_word s o os t s' f e m n is =
       let w = subst (LeavesWord s.kept) f (word_left t.place s o (here o os e) m) in
       letters n.0 (ap (λ (y : Placed). y.lexeme.kind) (sym is) ∙ w.0) (ap (λ (y : Placed). y.lexeme.octets) (sym is) ∙ (w.1 ∙ n.1))
 
-  word_meets : (s : Known) (os : List ℕ) (x : Placed) (xs : List Placed) → L s os (x ∷ xs) → os ≡ line → s.mode ≡ modes.Word
+  word_meets : (s : Known) (os : List ℕ) (x : Placed) (xs : List Placed) → L s os (x ∷ xs) → os ≡ line → s.mode ≡ Mode.Word
       → (n : ℕ) × (s.kept ≡ take n (codes "inf")) → IsLastOf (x ∷ xs) → ⊥
   word_meets _ _ _ _ (last_given s o t s' b f) e m n is = subst (LeavesWord s.kept) f (word_left t.place s o (here o [] e) m)
   word_meets _ _ _ _ (last_left s o t s' b f) e m n is = no_word s o [] t s' f e m n is
@@ -209,9 +197,9 @@ module _ (Rest : Known → List ℕ → Type 0) (last : Placed) (bare : IsBare l
   left_meets s o os t s' x xs f w e is = by s'.mode refl (subst (LeavesIn o) f (feed_leaves t.place s o))
     where
       by : (m : Mode) → s'.mode ≡ m → LeftIn o m → ⊥
-      by modes.Blank m h = blank_meets s' (o ∷ os) x xs w e m
-      by modes.Word m h = word_meets s' (o ∷ os) x xs w e m (subst LeavesLetters f (letters_left t.place s o) m) is
-      by modes.Slash m h = absurd (let n : false ≡ true = subst (λ y. ((y == 47) || (y == 42)) ≡ true) (here o os e) h in cc)
+      by Mode.Blank m h = blank_meets s' (o ∷ os) x xs w e m
+      by Mode.Word m h = word_meets s' (o ∷ os) x xs w e m (subst LeavesLetters f (letters_left t.place s o) m) is
+      by Mode.Slash m h = absurd (let n : false ≡ true = subst (λ y. ((y == 47) || (y == 42)) ≡ true) (here o os e) h in cc)
       by _ m h = absurd h
 
   line_seen : (s : Known) (all : List ℕ) (ts : List Placed) → L s all ts → (os : List ℕ) → all ≡ os ++ line → IsLastOf ts

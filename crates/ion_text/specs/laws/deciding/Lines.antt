@@ -1,15 +1,8 @@
 -- Tokens of octets are tokens of the same octets with the end of a line behind them.
 use Rattle.std.proofs.Common.{◌≡◌, ◌==◌, ℕ, Bool, true, false, ◌&&◌, ◌||◌, not, List, [], ◌∷◌, ◌++◌, refl, sym, ap, ◌∙◌, subst, append_assoc, ◌⊎◌, inl, inr}
-use Rattle.ion_tokens.specs.declared.mode.Mark.{Mark}
-use Rattle.ion_tokens.specs.declared.mode.Mark.TheVariants as marks
-use Rattle.ion_tokens.specs.declared.mode.Place.{Place}
-use Rattle.ion_tokens.specs.declared.mode.TokenKind.{TokenKind}
-use Rattle.ion_tokens.specs.declared.mode.TokenKind.TheVariants as kinds
-use Rattle.ion_tokens.specs.Ascii.{line_feed, asterisk, slash, dot, single_quote, open_brace, lower_i, lower_n, lower_f}
+use Rattle.ion_text.specs.Names.{IsLexeme, LexesTo, Mark, MarkEnds, Place, Placed, TokenKind, asterisk, begins_comment, begins_infinity, colon_behind, comment_within, dot, is_digit, is_operator_octet, is_stop, is_word_octet, line_feed, lower_f, lower_i, lower_n, open_brace, single_quote, slash}
 use Rattle.ion_tokens.specs.Ascii as ascii
-use Rattle.ion_tokens.specs.Octets.{is_digit, is_stop, is_word_octet, is_operator_octet}
-use Rattle.ion_tokens.specs.Lexemes.{IsLexeme, MarkEnds, begins, begins_comment, begins_infinity, comment_within}
-use Rattle.ion_tokens.specs.Lexed.{Placed, LexesTo, colon_behind}
+use Rattle.ion_tokens.specs.Lexemes.{begins}
 
 -- the end of a line, which shows where a word or a number ends
 abbrev pub line : List ℕ
@@ -45,21 +38,21 @@ stop_line [] h = refl
 stop_line (o ∷ r) h = h
 
 mark_line : (m : Mark) (r : List ℕ) → MarkEnds m r → MarkEnds m (r ++ line)
-mark_line marks.FieldsOpen r h = begins_line (λ o. o == open_brace) r refl ∙ h
-mark_line marks.Colon r h = begins_line (λ o. o == ascii.colon) r refl ∙ h
+mark_line Mark.FieldsOpen r h = begins_line (λ o. o == open_brace) r refl ∙ h
+mark_line Mark.Colon r h = begins_line (λ o. o == ascii.colon) r refl ∙ h
 mark_line _ r h = h
 
 lexeme_line : (p : Place) (colon : Bool) (w r : List ℕ) (k : TokenKind) (kept : List ℕ) → IsLexeme p colon w r k kept → IsLexeme p colon w (r ++ line) k kept
-lexeme_line p colon w r kinds.Word kept (a, b, c, d) = (a, b, begins_line is_word_octet r refl ∙ c, λ e. begins_line (λ o. o == dot) r refl ∙ d e)
-lexeme_line p colon w r kinds.KindName kept (a, b, c) = (a, b, begins_line is_word_octet r refl ∙ c)
-lexeme_line p colon w r kinds.Number kept (a, b, n) = (a, b, record { begun = n.begun; each = n.each; longest = by n.longest })
+lexeme_line p colon w r TokenKind.Word kept (a, b, c, d) = (a, b, begins_line is_word_octet r refl ∙ c, λ e. begins_line (λ o. o == dot) r refl ∙ d e)
+lexeme_line p colon w r TokenKind.KindName kept (a, b, c) = (a, b, begins_line is_word_octet r refl ∙ c)
+lexeme_line p colon w r TokenKind.Number kept (a, b, n) = (a, b, record { begun = n.begun; each = n.each; longest = by n.longest })
   where
     by : (r ≡ []) ⊎ ((begins is_stop r ≡ true) ⊎ (begins_comment r ≡ true)) → (r ++ line ≡ [])
         ⊎ ((begins is_stop (r ++ line) ≡ true) ⊎ (begins_comment (r ++ line) ≡ true))
     by (inl e) = inr (inl (subst (λ z. begins is_stop (z ++ line) ≡ true) (sym e) refl))
     by (inr (inl h)) = inr (inl (stop_line r h))
     by (inr (inr h)) = inr (inr (comment_line r ∙ h))
-lexeme_line p colon w r kinds.Operator kept (a, b, n) = (
+lexeme_line p colon w r TokenKind.Operator kept (a, b, n) = (
   a,
   b,
   record {
@@ -76,12 +69,12 @@ lexeme_line p colon w r kinds.Operator kept (a, b, n) = (
     by : (begins is_operator_octet r ≡ false) ⊎ (begins_comment r ≡ true) → (begins is_operator_octet (r ++ line) ≡ false) ⊎ (begins_comment (r ++ line) ≡ true)
     by (inl h) = inl (begins_line is_operator_octet r refl ∙ h)
     by (inr h) = inr (comment_line r ∙ h)
-lexeme_line p colon w r kinds.QuotedSymbol kept (c, q, e, h) = (c, q, e, λ i. begins_line (λ o. o == single_quote) r refl ∙ h i)
-lexeme_line p colon w r kinds.ShortString kept h = h
-lexeme_line p colon w r kinds.LongString kept h = h
-lexeme_line p colon w r kinds.Clob kept h = h
-lexeme_line p colon w r kinds.Blob kept h = h
-lexeme_line p colon w r (kinds.Mark m) kept (a, b, c, d) = (a, b, c, mark_line m r d)
+lexeme_line p colon w r TokenKind.QuotedSymbol kept (c, q, e, h) = (c, q, e, λ i. begins_line (λ o. o == single_quote) r refl ∙ h i)
+lexeme_line p colon w r TokenKind.ShortString kept h = h
+lexeme_line p colon w r TokenKind.LongString kept h = h
+lexeme_line p colon w r TokenKind.Clob kept h = h
+lexeme_line p colon w r TokenKind.Blob kept h = h
+lexeme_line p colon w r (TokenKind.Mark m) kept (a, b, c, d) = (a, b, c, mark_line m r d)
 
 -- They end where they did.
 pub lexes_line : (ts : List Placed) (colon : Bool) (before : ℕ) (octets : List ℕ) (after : Bool) (end : ℕ) (rest : List ℕ)

@@ -1,60 +1,29 @@
 -- An octet that is refused for a reason that rows have is refused by one of them.
 use Rattle.std.proofs.Common.{◌≡◌, ℕ, zero, suc, ◌+◌, nat_le, nat_lt, Bool, true, false, ◌&&◌, not, List, [], ◌∷◌, ◌++◌, length, take, Result, Ok, Err, Some, refl, sym, ap, ◌∙◌, subst, append_assoc, if◌then◌else◌, ◌⊎◌, inl, inr}
-use Rattle.ion_model.specs.declared.value.Value.{Value}
-use Rattle.ion_model.specs.Measures.{annotated}
+use Rattle.ion_text.specs.Names.{Catalog, Content, Continues, Decides, Effect, Frame, Given, HasRow, Held, IsBody, Known, Leading, Left, Lexeme, Limits, Mark, Mark', Next, NoColons, Now, Outcome, Place, Placed, Reading, Reason, Refusal, Refused, Run, Scanned, Slot, State, Symbols, TokenKind, Turn, Value, annotated, at, begun, behind_given, behind_left, by_octet, eats, fails, feed, fresh, gives, goes, in_segment, is_colons, is_fresh, is_idle, is_top, late, leaves, noticed, on_now, on_octet, on_said, on_scan, on_settled, once_more, or_worse, place, plain, reaches, reason_number, refuses, released, run, run_on, said, said_body, said_passes, settle, settle_same, shut, spot_at, system_slots, takes, tells, token_of, trace, turn, under, unsettled, uses, waits, waits_now, with_scan}
 use Rattle.ion_model.specs.declared.value.Payload.TheVariants as payloads
-use Rattle.ion_atoms.specs.declared.refusal.Reason.{Reason}
-use Rattle.ion_atoms.specs.declared.refusal.Reason.TheVariants as reasons
-use Rattle.ion_atoms.specs.declared.refusal.Refusal.{Refusal}
-use Rattle.ion_atoms.specs.Reasons.{reason_number}
-use Rattle.ion_symtab.specs.declared.limits.Limits.{Limits}
-use Rattle.ion_symtab.specs.declared.catalog.Catalog.{Catalog}
-use Rattle.ion_symtab.specs.Slots.{Slot, system_slots}
-use Rattle.ion_symtab.specs.Trace.{plain}
-use Rattle.ion_tokens.specs.declared.mode.Mark.TheVariants as marks
-use Rattle.ion_tokens.specs.declared.mode.Place.TheVariants as places
-use Rattle.ion_tokens.specs.declared.mode.TokenKind.TheVariants as kinds
-use Rattle.ion_tokens.specs.machine.Bounds.{is_idle}
-use Rattle.ion_tokens.specs.machine.Ahead.{is_colons}
-use Rattle.ion_tokens.specs.Bodies.{Content, Mark', IsBody}
-use Rattle.ion_tokens.specs.Lexed.{Placed}
-use Rattle.ion_tokens.specs.machine.Said.{said}
-use Rattle.ion_tokens.specs.machine.Scanning.{Known, Outcome, Next, Given, Left, Refused, feed}
-use Rattle.ion_tokens.specs.Lexemes.{Lexeme}
-use Rattle.ion_tokens.specs.machine.Scanned.{Scanned, Continues}
 use Rattle.ion_tokens.proofs.runs.Scans.{placed, scanned_left}
-use Rattle.ion_text.specs.declared.state.Held.{Held}
-use Rattle.ion_text.specs.declared.state.Held.TheVariants as helds
-use Rattle.ion_text.specs.declared.state.Now.{Now}
-use Rattle.ion_text.specs.declared.state.Now.TheVariants as nows
-use Rattle.ion_text.specs.declared.state.Frame.{Frame}
-use Rattle.ion_text.specs.Deciding.{Decides, HasRow, NoColons, by_octet}
-use Rattle.ion_text.specs.machine.EachToken.{under, spot_at, Reading, Turn, goes, gives, refuses, late, Symbols, at, fresh, place, settle, turn, released}
-use Rattle.ion_text.specs.machine.Run.{State, Effect, uses, tells, leaves, fails, begun, eats, takes, waits, waits_now, in_segment, unsettled, noticed, shut, reaches, or_worse, on_octet, on_scan, on_settled, on_said, behind_given, behind_left, with_scan, token_of, is_top, is_fresh, Run, run, run_on, once_more, trace}
-use Rattle.ion_text.specs.machine.Passed.{said_body, said_passes}
-use Rattle.ion_text.specs.machine.Pieces.{on_now}
-use Rattle.ion_text.specs.laws.reading.complete.Fuel.{UsedHere, Leaving, feed_leaves}
-use Rattle.ion_text.specs.laws.reading.complete.Going.{mark_kind, top_place}
-use Rattle.ion_text.specs.laws.reading.sound.Held.{Behind, Reads, ApartAt, or_parts, settled_read}
-use Rattle.ion_text.specs.laws.reading.complete.Meets.{finely_as}
-use Rattle.ion_text.specs.machine.Places.{Leading, settle_same}
-use Rattle.ion_text.specs.laws.reading.sound.Quotes.{Finely}
-use Rattle.ion_text.specs.laws.reading.complete.Segments.{never}
-use Rattle.ion_text.specs.laws.reading.sound.StandsOpen.{NowStands, PendingFor}
-use Rattle.ion_text.specs.laws.reading.sound.Steps.{Stood, StoodBehind, After, eats_after, left_reads, open_at, run_ran, begun_stood}
-use Rattle.ion_text.specs.laws.reading.Stops.{behind_run, refused_run, stop_of, stop_taken}
-use Rattle.ion_text.specs.laws.reading.complete.Tokens.{left_colons}
-use Rattle.ion_text.specs.laws.showing.tokens.Froms.{EndsWaiting, IsFree, Waits, fresh_parts, idle_waits, run_waits, settle_free}
-use Rattle.ion_text.specs.laws.showing.refused.Halts.{left_idle}
-use Rattle.ion_text.specs.laws.showing.shown.Opened.{symbol_colon}
 use Rattle.ion_text.specs.laws.deciding.Lates.{GivesNoBare, LateAs, NotLate, TurnLate, ended_late, feed_rowless, late_quiet, noticed_quiet, said_rowless, turn_late, version_quiet, within_late}
 use Rattle.ion_text.specs.laws.deciding.Shows.{BareSaid, IsBare, Shown, flag, given_bare, given_shown, left_shown, no_colons, said_bare}
 use Rattle.ion_text.specs.laws.deciding.Turns.{Decided, TurnDecided, settled_decided, token_decided}
+use Rattle.ion_text.specs.laws.reading.Stops.{behind_run, refused_run, stop_of, stop_taken}
+use Rattle.ion_text.specs.laws.reading.complete.Fuel.{Leaving, UsedHere, feed_leaves}
+use Rattle.ion_text.specs.laws.reading.complete.Going.{mark_kind, top_place}
+use Rattle.ion_text.specs.laws.reading.complete.Meets.{finely_as}
+use Rattle.ion_text.specs.laws.reading.complete.Segments.{never}
+use Rattle.ion_text.specs.laws.reading.complete.Tokens.{left_colons}
+use Rattle.ion_text.specs.laws.reading.sound.Held.{ApartAt, Behind, Reads, or_parts, settled_read}
+use Rattle.ion_text.specs.laws.reading.sound.Quotes.{Finely}
+use Rattle.ion_text.specs.laws.reading.sound.StandsOpen.{NowStands, PendingFor}
+use Rattle.ion_text.specs.laws.reading.sound.Steps.{After, Stood, StoodBehind, begun_stood, eats_after, left_reads, open_at, run_ran}
+use Rattle.ion_text.specs.laws.showing.refused.Halts.{left_idle}
+use Rattle.ion_text.specs.laws.showing.shown.Opened.{symbol_colon}
+use Rattle.ion_text.specs.laws.showing.tokens.Froms.{EndsWaiting, IsFree, Waits, fresh_parts, idle_waits, run_waits, settle_free}
 
 -- 1. What is late of what waits is the marker of another version.
 
 abbrev IsPending : Now → Type 0
-IsPending (nows.Pending h end) = Unit {0}
+IsPending (Now.Pending h end) = Unit {0}
 IsPending _ = ⊥
 
 module _ (g : Catalog) (l : Limits) where
@@ -63,50 +32,50 @@ module _ (g : Catalog) (l : Limits) where
 
   released_late : (start end : ℕ) (c : List Slot) (fs : List Frame) (ss : Symbols) (h : Held) (now : Now) → IsPending now
       → TurnLate (LateVersion c fs now) (released (under g l) (spot_at end start c) fs ss h)
-  released_late start end c [] [] (helds.Version true s) now i = within_late (LateVersion c [] now) l.item start end (goes (fresh system_slots)) tt
-  released_late start end c [] [] (helds.Version false s) now i = (refl, refl, i)
-  released_late start end c [] [] (helds.Symbol s) now i =
+  released_late start end c [] [] (Held.Version true s) now i = within_late (LateVersion c [] now) l.item start end (goes (fresh system_slots)) tt
+  released_late start end c [] [] (Held.Version false s) now i = (refl, refl, i)
+  released_late start end c [] [] (Held.Symbol s) now i =
       ended_late (LateVersion c [] now) (under g l) (spot_at end start c) [] (annotated [] (payloads.Symbol s))
-  released_late start end c [] [] (helds.Null k) now i = ended_late (LateVersion c [] now) (under g l) (spot_at end start c) [] (annotated [] (payloads.Null k))
-  released_late start end c [] [] (helds.Truth b) now i = ended_late (LateVersion c [] now) (under g l) (spot_at end start c) []
+  released_late start end c [] [] (Held.Null k) now i = ended_late (LateVersion c [] now) (under g l) (spot_at end start c) [] (annotated [] (payloads.Null k))
+  released_late start end c [] [] (Held.Truth b) now i = ended_late (LateVersion c [] now) (under g l) (spot_at end start c) []
       (annotated [] (payloads.Truth b))
-  released_late start end c [] [] helds.Nan now i = tt
-  released_late start end c [] (x ∷ ss) (helds.Version b s) now i =
+  released_late start end c [] [] Held.Nan now i = tt
+  released_late start end c [] (x ∷ ss) (Held.Version b s) now i =
       ended_late (LateVersion c [] now) (under g l) (spot_at end start c) [] (annotated (x ∷ ss) (payloads.Symbol s))
-  released_late start end c [] (x ∷ ss) (helds.Symbol s) now i =
+  released_late start end c [] (x ∷ ss) (Held.Symbol s) now i =
       ended_late (LateVersion c [] now) (under g l) (spot_at end start c) [] (annotated (x ∷ ss) (payloads.Symbol s))
-  released_late start end c [] (x ∷ ss) (helds.Null k) now i =
+  released_late start end c [] (x ∷ ss) (Held.Null k) now i =
       ended_late (LateVersion c [] now) (under g l) (spot_at end start c) [] (annotated (x ∷ ss) (payloads.Null k))
-  released_late start end c [] (x ∷ ss) (helds.Truth b) now i =
+  released_late start end c [] (x ∷ ss) (Held.Truth b) now i =
       ended_late (LateVersion c [] now) (under g l) (spot_at end start c) [] (annotated (x ∷ ss) (payloads.Truth b))
-  released_late start end c [] (x ∷ ss) helds.Nan now i = tt
-  released_late start end c (f ∷ fs) ss (helds.Version b s) now i =
+  released_late start end c [] (x ∷ ss) Held.Nan now i = tt
+  released_late start end c (f ∷ fs) ss (Held.Version b s) now i =
       ended_late (LateVersion c (f ∷ fs) now) (under g l) (spot_at end start c) (f ∷ fs) (annotated ss (payloads.Symbol s))
-  released_late start end c (f ∷ fs) ss (helds.Symbol s) now i =
+  released_late start end c (f ∷ fs) ss (Held.Symbol s) now i =
       ended_late (LateVersion c (f ∷ fs) now) (under g l) (spot_at end start c) (f ∷ fs) (annotated ss (payloads.Symbol s))
-  released_late start end c (f ∷ fs) ss (helds.Null k) now i =
+  released_late start end c (f ∷ fs) ss (Held.Null k) now i =
       ended_late (LateVersion c (f ∷ fs) now) (under g l) (spot_at end start c) (f ∷ fs) (annotated ss (payloads.Null k))
-  released_late start end c (f ∷ fs) ss (helds.Truth b) now i =
+  released_late start end c (f ∷ fs) ss (Held.Truth b) now i =
       ended_late (LateVersion c (f ∷ fs) now) (under g l) (spot_at end start c) (f ∷ fs) (annotated ss (payloads.Truth b))
-  released_late start end c (f ∷ fs) ss helds.Nan now i = tt
+  released_late start end c (f ∷ fs) ss Held.Nan now i = tt
 
   settled_late : (start : ℕ) (c : List Slot) (fs : List Frame) (ss : Symbols) (now : Now) → TurnLate (LateVersion c fs now) (settle g l (at start c fs ss now))
-  settled_late start c fs ss (nows.Pending h end) = released_late start end c fs ss h (nows.Pending h end) tt
-  settled_late start c fs ss (nows.Long v end) = ended_late (LateVersion c fs (nows.Long v end)) (under g l) (spot_at end start c) fs _
-  settled_late start c fs ss (nows.LongName v) = tt
-  settled_late start c fs ss nows.Ready = tt
-  settled_late start c fs ss nows.After = tt
-  settled_late start c fs ss nows.Name = tt
-  settled_late start c fs ss (nows.Keyed x) = tt
+  settled_late start c fs ss (Now.Pending h end) = released_late start end c fs ss h (Now.Pending h end) tt
+  settled_late start c fs ss (Now.Long v end) = ended_late (LateVersion c fs (Now.Long v end)) (under g l) (spot_at end start c) fs _
+  settled_late start c fs ss (Now.LongName v) = tt
+  settled_late start c fs ss Now.Ready = tt
+  settled_late start c fs ss Now.After = tt
+  settled_late start c fs ss Now.Name = tt
+  settled_late start c fs ss (Now.Keyed x) = tt
 
   pending_idle : (s : Known) (now : Now) → IsPending now → Waits g l s now → is_idle s.mode ≡ true
-  pending_idle s (nows.Pending h end) i w = w
-  pending_idle s (nows.Long v end) i w = absurd i
-  pending_idle s (nows.LongName v) i w = absurd i
-  pending_idle s nows.Ready i w = absurd i
-  pending_idle s nows.After i w = absurd i
-  pending_idle s nows.Name i w = absurd i
-  pending_idle s (nows.Keyed x) i w = absurd i
+  pending_idle s (Now.Pending h end) i w = w
+  pending_idle s (Now.Long v end) i w = absurd i
+  pending_idle s (Now.LongName v) i w = absurd i
+  pending_idle s Now.Ready i w = absurd i
+  pending_idle s Now.After i w = absurd i
+  pending_idle s Now.Name i w = absurd i
+  pending_idle s (Now.Keyed x) i w = absurd i
 
   fresh_waits : (s : Known) (r : Reading) → is_fresh r ≡ true → Waits g l s r.now
   fresh_waits s r h = subst (Waits g l s) (sym (fresh_parts r.start r.context r.frames r.notes r.now h).2) tt
@@ -125,7 +94,7 @@ module _ (g : Catalog) (l : Limits) where
     noticed_rows : (r : Reading) (s : Known) → Rows (noticed l r s)
     noticed_rows r s = go (shut r.now && not (is_idle s.mode)) (nat_le (reaches r.frames r s) l.item)
       where
-        go : (a b : Bool) → Rows (if a then fails reasons.Unexpected else (if b then uses (record { scan = s; reading = r }) else fails reasons.ItemTooLong))
+        go : (a b : Bool) → Rows (if a then fails Reason.Unexpected else (if b then uses (record { scan = s; reading = r }) else fails Reason.ItemTooLong))
         go true b = λ i. absurd i
         go false true = tt
         go false false = λ i. absurd i
@@ -186,21 +155,21 @@ module _ (g : Catalog) (l : Limits) where
           body : IsBody x.kind x.octets (Ok c)
           body = said_body x.kind x.octets c k
 
-          no_colons_left : c ≡ Mark' marks.Colons → ⊥
+          no_colons_left : c ≡ Mark' Mark.Colons → ⊥
           no_colons_left f = never (is_colons x.kind) (left_colons (place r) s s' o x b.sane e)
-              (ap is_colons (mark_kind x.kind x.octets marks.Colons (subst (λ y. IsBody x.kind x.octets (Ok y)) f body)))
+              (ap is_colons (mark_kind x.kind x.octets Mark.Colons (subst (λ y. IsBody x.kind x.octets (Ok y)) f body)))
 
           once : BareSaid c → UsedHere s' o
           once h = go (subst (Leaving o) e (feed_leaves (place r) s o b.fine)).0
             where
-              go : UsedHere s' o ⊎ (x.kind ≡ kinds.Operator) → UsedHere s' o
+              go : UsedHere s' o ⊎ (x.kind ≡ TokenKind.Operator) → UsedHere s' o
               go (inl i) = i
               go (inr i) = absurd (subst IsBare i (said_bare x.kind x.octets c body h))
 
-          names_bare : GivesNoBare g l places.Name s' o
+          names_bare : GivesNoBare g l Place.Name s' o
           names_bare y t f d j h =
-              given_bare places.Name s' u (ts ++ placed (place r) x ∷ []) (o ∷ [])
-              (scanned_left (place r) s u ts ahead b.scanned o next s' x e (said_passes x.kind x.octets c k) places.Name) o ([], refl) y t
+              given_bare Place.Name s' u (ts ++ placed (place r) x ∷ []) (o ∷ [])
+              (scanned_left (place r) s u ts ahead b.scanned o next s' x e (said_passes x.kind x.octets c k) Place.Name) o ([], refl) y t
               (said_passes y.kind y.octets d j) f
               (said_bare y.kind y.octets d (said_body y.kind y.octets d j) h)
 
@@ -239,7 +208,7 @@ module _ (g : Catalog) (l : Limits) where
         not_waiting : waits r (feed (place r) s o) ≡ false
         not_waiting = (or_parts (waits r (feed (place r) s o)) (in_segment r.now s) open').0
 
-        colons : (h : Held) (end : ℕ) → r.now ≡ nows.Pending h end → r.frames ≡ [] → NoColons w (b.front ++ b.item)
+        colons : (h : Held) (end : ℕ) → r.now ≡ Now.Pending h end → r.frames ≡ [] → NoColons w (b.front ++ b.item)
         colons h end e top =
             let d : PendingFor r.context r.frames r.notes h b.item = subst (NowStands r.context r.frames r.notes b.item) e b.stands in
             let last : b.front ++ b.item ≡ (b.front ++ d.before) ++ d.token ∷ [] =
@@ -249,7 +218,7 @@ module _ (g : Catalog) (l : Limits) where
             (symbol_colon d.token.place d.token.lexeme.kind d.token.lexeme.octets d.said d.says.body d.named))
             (subst (Waits g l s) e (wait (ap is_top top))) b.sane (sym (ap (λ m. waits_now (is_top r.frames) m (feed (place r) s o)) e) ∙ not_waiting)
 
-        bare : r.frames ≡ [] → GivesNoBare g l places.Top s o
+        bare : r.frames ≡ [] → GivesNoBare g l Place.Top s o
         bare top =
             subst (λ p. GivesNoBare g l p s o) (top_place r.frames r.now (ap is_top top))
             (λ y t f d j h. given_bare (place r) s u (b.front ++ b.item) ahead b.scanned o next y t (said_passes y.kind y.octets d j) f
@@ -302,7 +271,7 @@ module _ (g : Catalog) (l : Limits) where
     named_so : (y : Reason) → y ≡ r.reason → Decided g l (by_octet (u ++ o ∷ [])) y → HasRow r.reason → Decides g l (u ++ o ∷ []) r.reason
     named_so y e h i = subst (Decides g l (u ++ o ∷ [])) e (h (subst HasRow (sym e) i))
 
-    unexpected : reasons.Unexpected ≡ r.reason → HasRow r.reason → Decides g l (u ++ o ∷ []) r.reason
+    unexpected : Reason.Unexpected ≡ r.reason → HasRow r.reason → Decides g l (u ++ o ∷ []) r.reason
     unexpected e i = absurd (subst HasRow (sym e) i)
 
     last_rows : (vs : List Value) (n : State) → Stood g l u vs n → Waits g l n.scan n.reading.now
@@ -314,7 +283,7 @@ module _ (g : Catalog) (l : Limits) where
         again : (x : Effect) → Rows u o x → (once_more to (λ n. run g l (to + 1) n []) x).now ≡ Err r → HasRow r.reason → Decides g l (u ++ o ∷ []) r.reason
         again (uses m) h e i = absurd cc
         again (tells v m) h e i = absurd cc
-        again (leaves v m) h e i = unexpected (ap (reason_in reasons.Unexpected) e) i
+        again (leaves v m) h e i = unexpected (ap (reason_in Reason.Unexpected) e) i
         again (fails y) h e i = named_so y (ap (reason_in y) e) h i
 
         by : (x : Effect) → Rows u o x → After g l u vs o x → (run_on to (λ n. eats g l n o) (λ n. run g l (to + 1) n []) x).now ≡ Err r → HasRow r.reason

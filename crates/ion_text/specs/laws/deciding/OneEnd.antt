@@ -2,28 +2,16 @@
 use Rattle.std.proofs.Common.{◌≡◌, ℕ, false, List, [], ◌∷◌, ◌++◌, take, drop, sym, ap, ◌∙◌, subst, append_assoc, append-nil, arith, inl, inr, codes}
 use Rattle.std.proofs.lemmas.Bool.{or_left}
 use Rattle.std.proofs.lemmas.List.{length-append, take-append-drop}
-use Rattle.ion_atoms.specs.declared.refusal.Reason.{Reason}
-use Rattle.ion_atoms.specs.declared.refusal.Reason.TheVariants.{KeywordAsName}
-use Rattle.ion_symtab.specs.declared.limits.Limits.{Limits}
-use Rattle.ion_symtab.specs.declared.catalog.Catalog.{Catalog}
-use Rattle.ion_symtab.specs.Slots.{Slot}
-use Rattle.ion_tokens.specs.declared.mode.Mark.TheVariants as marks
-use Rattle.ion_tokens.specs.declared.mode.TokenKind.TheVariants as kinds
-use Rattle.ion_tokens.specs.Ascii.{line_feed}
-use Rattle.ion_tokens.specs.Bodies.{Content, Word, Id, TypedNull}
-use Rattle.ion_tokens.specs.Lexed.{Placed, BeginsLexed, LexesTo}
-use Rattle.ion_text.specs.Grammar.{BlankThen, is_keyword, is_version}
-use Rattle.ion_text.specs.Deciding.{Decides, EndDecides, Are, AwaitsColons, Comes, Container, InStruct, IsKeyword, no_symbol, keyword_as_name, keyword_as_annotation, other_version, null_table, too_deep, struct_too_deep, bad_table}
-use Rattle.ion_text.specs.machine.TokenLists.{stopped, reads}
+use Rattle.ion_text.specs.Names.{Are, AwaitsColons, BeginsLexed, BlankThen, Catalog, Comes, Container, Content, Decides, EndDecides, Id, InStruct, IsKeyword, KeywordAsName, LexesTo, Limits, Mark, Placed, Reason, Slot, TokenKind, TypedNull, Word, bad_table, is_keyword, is_version, keyword_as_annotation, keyword_as_name, line_feed, no_symbol, null_table, other_version, reads, stopped, struct_too_deep, too_deep}
+use Rattle.ion_text.specs.laws.deciding.Agree.{agreed}
+use Rattle.ion_text.specs.laws.deciding.Fronts.{Either, HasEnded, origin}
+use Rattle.ion_text.specs.laws.deciding.Lines.{lexes_line, line}
+use Rattle.ion_text.specs.laws.deciding.OneOctet.{Seen, bare_behind, colons_on, left_same, met, none_later, pends_beyond, pends_once, read_on, refused, seen, unfollowed}
+use Rattle.ion_text.specs.laws.deciding.Shows.{EndSaid, IsBare, NoLetters, end_bare, no_letters, said_bare}
+use Rattle.ion_text.specs.laws.deciding.Tokens.{Stops, bare_plain, ended_by_rest, id_stops, keyword_stops}
+use Rattle.ion_text.specs.laws.deciding.Waiting.{Pends, colons_next, colons_shown, null_pends, pend, version_pends}
 use Rattle.ion_text.specs.laws.showing.tokens.Cuts.{parted}
 use Rattle.ion_text.specs.laws.showing.tokens.Once.{begins_lexed}
-use Rattle.ion_text.specs.laws.deciding.Agree.{agreed}
-use Rattle.ion_text.specs.laws.deciding.Fronts.{origin, Either, HasEnded}
-use Rattle.ion_text.specs.laws.deciding.Lines.{line, lexes_line}
-use Rattle.ion_text.specs.laws.deciding.OneOctet.{Seen, refused, unfollowed, seen, bare_behind, left_same, colons_on, pends_beyond, pends_once, none_later, read_on, met}
-use Rattle.ion_text.specs.laws.deciding.Shows.{IsBare, EndSaid, NoLetters, end_bare, no_letters, said_bare}
-use Rattle.ion_text.specs.laws.deciding.Tokens.{Stops, bare_plain, ended_by_rest, id_stops, keyword_stops}
-use Rattle.ion_text.specs.laws.deciding.Waiting.{Pends, pend, colons_next, colons_shown, version_pends, null_pends}
 
 -- the last token is a word that is refused, or waits for `::`, which doesn't follow
 pub data SeenEnd (g : Catalog) (l : Limits) (u : List ℕ) (e : Reason) : Type 0 where
@@ -79,7 +67,7 @@ module _ (g : Catalog) (l : Limits) where
 
   -- `::` doesn't stand behind it
   none_behind : (u : List ℕ) (ts : List Placed) → AwaitsColons u ts → (x : Placed) (xs ws : List Placed) (rest : List ℕ) → Are u ws rest → ws ≡ ts ++ x ∷ xs
-      → x.lexeme.kind ≡ kinds.Mark marks.Colons → ⊥
+      → x.lexeme.kind ≡ TokenKind.Mark Mark.Colons → ⊥
   none_behind u ts a x xs ws rest are i k = a.after (colons_shown u ts x xs a.are.0 are.0 a.are.1 are.1 a.rest rest a.are.2
       (subst (λ z. LexesTo false 0 u z are.0 are.1 rest) i are.2) k)
 
@@ -152,7 +140,7 @@ module _ (g : Catalog) (l : Limits) where
 
   -- `::` didn't stand in fewer octets
   none_fewer : (u v : List ℕ) (ts : List Placed) (e : Reason) → Pends g l ts e → AwaitsColons (u ++ v) ts → (x : Placed) (xs ws : List Placed) (rest : List ℕ)
-      → Are u ws rest → ws ≡ ts ++ x ∷ xs → x.lexeme.kind ≡ kinds.Mark marks.Colons → ⊥
+      → Are u ws rest → ws ≡ ts ++ x ∷ xs → x.lexeme.kind ≡ TokenKind.Mark Mark.Colons → ⊥
   none_fewer u v ts e p a x xs ws rest are i k =
       let lexes = subst (λ z. LexesTo false 0 u z are.0 are.1 rest) i are.2 in
       let y = parted ts (x ∷ xs) false 0 u are.0 are.1 rest lexes in

@@ -3,49 +3,33 @@ use Rattle.std.proofs.Common.{◌≡◌, ℕ, ◌+◌, ◌<◌, ◌≤◌, Bool,
 use Rattle.std.proofs.Math.Nat.{eq-zero-or-pos}
 use Rattle.std.proofs.lemmas.Bool.{cases_lt}
 use Rattle.std.proofs.lemmas.List.{length-append, length-drop, take-append-drop, take-append-le, length-take-le}
-use Rattle.ion_atoms.specs.declared.refusal.Reason.{Reason}
-use Rattle.ion_atoms.specs.declared.refusal.Reason.TheVariants.{Depth, KeywordAsName}
-use Rattle.ion_symtab.specs.declared.limits.Limits.{Limits}
-use Rattle.ion_symtab.specs.declared.catalog.Catalog.{Catalog}
-use Rattle.ion_symtab.specs.Slots.{Slot}
-use Rattle.ion_tokens.specs.declared.mode.Mark.{Mark}
-use Rattle.ion_tokens.specs.declared.mode.Mark.TheVariants as marks
-use Rattle.ion_tokens.specs.declared.mode.Place.{Place}
-use Rattle.ion_tokens.specs.declared.mode.TokenKind.{TokenKind}
-use Rattle.ion_tokens.specs.declared.mode.TokenKind.TheVariants as kinds
-use Rattle.ion_tokens.specs.machine.Ahead.{is_closing}
-use Rattle.ion_tokens.specs.Bodies.{Content, Word, Id, TypedNull, Mark'}
-use Rattle.ion_tokens.specs.Lexed.{Placed, BeginsLexed, LexesTo}
-use Rattle.ion_text.specs.Grammar.{Says, BlankThen, close_place}
-use Rattle.ion_text.specs.Deciding.{Decides, Are, NoColons, Comes, Container, InStruct, place_of, IsKeyword, no_symbol, keyword_as_name, keyword_as_annotation, other_version, null_table, too_deep, struct_too_deep, bad_table}
-use Rattle.ion_text.specs.machine.EachToken.{settle}
-use Rattle.ion_text.specs.machine.TokenLists.{walked, stopped, done, then_walk, reads, reads-append}
-use Rattle.ion_text.specs.laws.reading.complete.Going.{mark_kind}
-use Rattle.ion_text.specs.laws.reading.complete.Pieces.{walked_now}
-use Rattle.ion_text.specs.laws.showing.tokens.Cuts.{parted, parts_meet, parts_same, lexed_front}
-use Rattle.ion_text.specs.laws.showing.tokens.Once.{begins_lexed}
+use Rattle.ion_text.specs.Names.{Are, BeginsLexed, BlankThen, Bracket, Catalog, Comes, Container, Content, Decides, Depth, Id, InStruct, IsKeyword, KeywordAsName, LexesTo, Limits, Mark, Mark', NoColons, Place, Placed, Reason, Says, Slot, TokenKind, TypedNull, Word, bad_table, close_place, done, is_closing, keyword_as_annotation, keyword_as_name, no_symbol, null_table, other_version, place_of, reads, reads-append, settle, stopped, struct_too_deep, then_walk, too_deep}
+use Rattle.ion_text.specs.machine.TokenLists.{walked}
 use Rattle.ion_text.specs.laws.deciding.Agree.{agreed}
 use Rattle.ion_text.specs.laws.deciding.AtEnd.{last_ends}
-use Rattle.ion_text.specs.laws.deciding.Fronts.{origin, Came, Either, HasEnded, split}
-use Rattle.ion_text.specs.laws.deciding.Shows.{IsBare, BareSaid, said_bare}
-use Rattle.ion_text.specs.laws.deciding.Tokens.{Refusing, one_refusing, Why, by_itself, as_colons, why_once, Stops, bare_plain, ended_by_rest, bare_ended, mark_ended, id_stops, keyword_stops, keyword_note_stops, open_stops, table_stops}
-use Rattle.ion_text.specs.laws.deciding.Waiting.{Pends, pend, settling_stops, colons_next, colons_shown, version_pends, null_pends}
-use Rattle.ion_visiting.specs.declared.bracket.Bracket.TheVariants as brackets
+use Rattle.ion_text.specs.laws.deciding.Fronts.{Came, Either, HasEnded, origin, split}
+use Rattle.ion_text.specs.laws.deciding.Shows.{BareSaid, IsBare, said_bare}
+use Rattle.ion_text.specs.laws.deciding.Tokens.{Refusing, Stops, Why, as_colons, bare_ended, bare_plain, by_itself, ended_by_rest, id_stops, keyword_note_stops, keyword_stops, mark_ended, one_refusing, open_stops, table_stops, why_once}
+use Rattle.ion_text.specs.laws.deciding.Waiting.{Pends, colons_next, colons_shown, null_pends, pend, settling_stops, version_pends}
+use Rattle.ion_text.specs.laws.reading.complete.Going.{mark_kind}
+use Rattle.ion_text.specs.laws.reading.complete.Pieces.{walked_now}
+use Rattle.ion_text.specs.laws.showing.tokens.Cuts.{lexed_front, parted, parts_meet, parts_same}
+use Rattle.ion_text.specs.laws.showing.tokens.Once.{begins_lexed}
 
 -- 1. What octets show, where a row stands.
 
 -- how many octets behind a token show it
 abbrev pub behind_kind : TokenKind → ℕ
-behind_kind kinds.Word = 1
-behind_kind kinds.KindName = 1
-behind_kind (kinds.Mark marks.FieldsOpen) = 1
+behind_kind TokenKind.Word = 1
+behind_kind TokenKind.KindName = 1
+behind_kind (TokenKind.Mark Mark.FieldsOpen) = 1
 behind_kind _ = 0
 
 -- one octet behind a word, a typed null or the `{` of a struct shows it
 pub bare_behind : (k : TokenKind) → IsBare k → behind_kind k ≡ 1
-bare_behind kinds.Word h = refl
-bare_behind kinds.KindName h = refl
-bare_behind (kinds.Mark marks.FieldsOpen) h = refl
+bare_behind TokenKind.Word h = refl
+bare_behind TokenKind.KindName h = refl
+bare_behind (TokenKind.Mark Mark.FieldsOpen) h = refl
 bare_behind _ h = absurd h
 
 -- the last token is refused, or it waits for `::`, which doesn't follow
@@ -75,8 +59,8 @@ module _ (g : Catalog) (l : Limits) (u : List ℕ) where
       (sym (bare_behind h.token.lexeme.kind (said_bare h.token.lexeme.kind h.token.lexeme.octets said h.says.body bare)))
 
   -- a mark
-  mark_seen : (ts : List Placed) (t : Placed) (p : Place) (x : Mark) (e : Reason) → Are u ts [] → Says p t (Mark' x) → is_closing (kinds.Mark x) ≡ true
-      → (x ≡ marks.Colon → ⊥) → behind_kind (kinds.Mark x) ≡ 0 → Stops g l ts t e → Seen g l u e
+  mark_seen : (ts : List Placed) (t : Placed) (p : Place) (x : Mark) (e : Reason) → Are u ts [] → Says p t (Mark' x) → is_closing (TokenKind.Mark x) ≡ true
+      → (x ≡ Mark.Colon → ⊥) → behind_kind (TokenKind.Mark x) ≡ 0 → Stops g l ts t e → Seen g l u e
   mark_seen ts t p x e are says closing n none s =
       token_seen ts t e [] are s (λ front all. mark_ended g l u p t x says closing n)
       (sym (ap behind_kind (mark_kind t.lexeme.kind t.lexeme.octets x says.body) ∙ none))
@@ -87,21 +71,21 @@ module _ (g : Catalog) (l : Limits) (u : List ℕ) where
   seen _ (keyword_as_name ts c ks said shown h k) = bare_seen ts c (InStruct ∷ ks) said KeywordAsName shown h (keyword_bare said k)
       (keyword_stops g l ts c ks said h k)
   seen _ (keyword_as_annotation ts colons c ks said shown h takes k says) =
-      mark_seen (ts ++ colons ∷ []) colons (place_of ks) marks.Colons KeywordAsName shown says refl (λ e. cc) refl
+      mark_seen (ts ++ colons ∷ []) colons (place_of ks) Mark.Colons KeywordAsName shown says refl (λ e. cc) refl
       (keyword_note_stops g l ts colons c ks said h takes k says)
   seen _ (other_version ts c w shown h none version other) = unfollowed ts (version_pends g l ts c w h none version other) shown
   seen _ (null_table ts c ss k e shown h table fails) = unfollowed ts (null_pends g l ts c ss k e h table fails) shown
   seen _ (too_deep ts c ks said shown h takes (inl i) deep) =
-      mark_seen ts h.token (place_of ks) marks.ListOpen Depth shown (subst (Says (place_of ks) h.token) i h.says) refl (λ e. cc) refl
-      (open_stops g l c ks said ts h takes brackets.List i deep)
+      mark_seen ts h.token (place_of ks) Mark.ListOpen Depth shown (subst (Says (place_of ks) h.token) i h.says) refl (λ e. cc) refl
+      (open_stops g l c ks said ts h takes Bracket.List i deep)
   seen _ (too_deep ts c ks said shown h takes (inr i) deep) =
-      mark_seen ts h.token (place_of ks) marks.SexpOpen Depth shown (subst (Says (place_of ks) h.token) i h.says) refl (λ e. cc) refl
-      (open_stops g l c ks said ts h takes brackets.Sexp i deep)
-  seen _ (struct_too_deep ts c ks shown h takes deep) = bare_seen ts c ks (Mark' marks.FieldsOpen) Depth shown h tt
-      (open_stops g l c ks (Mark' marks.FieldsOpen) ts h takes brackets.Fields refl deep)
+      mark_seen ts h.token (place_of ks) Mark.SexpOpen Depth shown (subst (Says (place_of ks) h.token) i h.says) refl (λ e. cc) refl
+      (open_stops g l c ks said ts h takes Bracket.Sexp i deep)
+  seen _ (struct_too_deep ts c ks shown h takes deep) = bare_seen ts c ks (Mark' Mark.FieldsOpen) Depth shown h tt
+      (open_stops g l c ks (Mark' Mark.FieldsOpen) ts h takes Bracket.Fields refl deep)
   seen _ (bad_table ts c ss ms e shown h table fails) =
       let s = table_stops g l ts c ss ms e h table fails in
-      mark_seen ts s.close (close_place s.more) marks.FieldsClose e shown s.closes refl (λ e. cc) refl s.at_close
+      mark_seen ts s.close (close_place s.more) Mark.FieldsClose e shown s.closes refl (λ e. cc) refl s.at_close
 
 -- 2. Octets behind tokens.
 
@@ -139,10 +123,10 @@ module _ (g : Catalog) (l : Limits) where
 
   -- behind one that waits `::` is
   pub pends_beyond : (ts : List Placed) (e f : Reason) (p : Pends g l ts e) (front : List Placed) (t x : Placed) (xs : List Placed) → Came g l front t.place
-      → Why g l front t f → front ++ t ∷ [] ≡ ts ++ x ∷ xs → x.lexeme.kind ≡ kinds.Mark marks.Colons
+      → Why g l front t f → front ++ t ∷ [] ≡ ts ++ x ∷ xs → x.lexeme.kind ≡ TokenKind.Mark Mark.Colons
   pends_beyond ts e f p front t x xs came why cut = by (split front t ts x xs cut) why
     where
-      by : ((front ≡ ts) × (t ≡ x)) ⊎ ((more : List Placed) × (front ≡ ts ++ x ∷ more)) → Why g l front t f → x.lexeme.kind ≡ kinds.Mark marks.Colons
+      by : ((front ≡ ts) × (t ≡ x)) ⊎ ((more : List Placed) × (front ≡ ts ++ x ∷ more)) → Why g l front t f → x.lexeme.kind ≡ TokenKind.Mark Mark.Colons
       by (inl (same, i)) (by_itself m c settles k n h a) =
           absurd
           (let s = settles p.values (pend g l ts e p) (ap (reads g l (origin g l)) same ∙ p.read) in
@@ -162,7 +146,7 @@ module _ (g : Catalog) (l : Limits) where
   module _ (u v : List ℕ) where
     -- where `::` doesn't follow it doesn't in more octets
     pub none_later : (ts : List Placed) (e : Reason) (p : Pends g l ts e) → NoColons u ts → (x : Placed) (xs : List Placed) (d : Bool) (f : ℕ) (left : List ℕ)
-        → LexesTo false 0 (u ++ v) (ts ++ x ∷ xs) d f left → x.lexeme.kind ≡ kinds.Mark marks.Colons → ⊥
+        → LexesTo false 0 (u ++ v) (ts ++ x ∷ xs) d f left → x.lexeme.kind ≡ TokenKind.Mark Mark.Colons → ⊥
     none_later ts e p none x xs d f left lexes k =
         let y = parted ts (x ∷ xs) false 0 (u ++ v) d f left lexes in
         let same = left_same p.front p.token u v none.are.0 y.flag none.are.1 y.mid (none.rest ++ none.o ∷ []) y.left
@@ -175,7 +159,7 @@ module _ (g : Catalog) (l : Limits) where
     -- nor did it in fewer
     none_before : (ts : List Placed) (e : Reason) (p : Pends g l ts e) → NoColons (u ++ v) ts
         → (x : Placed) (xs : List Placed) (d : Bool) (f : ℕ) (left : List ℕ) → LexesTo false 0 u (ts ++ x ∷ xs) d f left
-        → x.lexeme.kind ≡ kinds.Mark marks.Colons → ⊥
+        → x.lexeme.kind ≡ TokenKind.Mark Mark.Colons → ⊥
     none_before ts e p none x xs d f left lexes k =
         let y = parted ts (x ∷ xs) false 0 u d f left lexes in
         let same = left_same p.front p.token u v y.flag none.are.0 y.mid none.are.1 y.left (none.rest ++ none.o ∷ [])

@@ -1,32 +1,18 @@
 -- What the reader of tokens holds of the open item is what stands open.
 use Rattle.std.proofs.Common.{◌≡◌, ◌+◌, ◌≤◌, ℕ, suc, List, [], ◌∷◌, ◌++◌, length, true, false, Bool, ◌&&◌, refl, sym, ap, ◌∙◌, subst, arith, append_assoc, append-nil}
-use Rattle.ion_model.specs.declared.value.Value.{Value}
-use Rattle.ion_model.specs.declared.value.Field.{Field}
+use Rattle.ion_text.specs.Names.{Annotations, Catalog, Comes, Container, Content, Field, Frame, InField, InList, InSexp, InStruct, Limits, Listing, Mark, Mark', MayNote, Means, Open, Pieces, Place, Placed, Says, Slot, Symbols, TakesValue, Value, annotated, begins_as_long, close_place, ends_long, is_struct, list_open, means, no_annotation, none_open, place_of, sexp_open, struct_open}
 use Rattle.ion_model.specs.declared.value.Payload.TheVariants as payloads
-use Rattle.ion_model.specs.Measures.{annotated}
-use Rattle.ion_symtab.specs.declared.limits.Limits.{Limits}
-use Rattle.ion_symtab.specs.declared.catalog.Catalog.{Catalog}
-use Rattle.ion_symtab.specs.Slots.{Slot}
-use Rattle.ion_tokens.specs.declared.mode.Place.TheVariants as places
-use Rattle.ion_tokens.specs.declared.mode.Mark.TheVariants as marks
-use Rattle.ion_tokens.specs.Bodies.{Content, Mark'}
-use Rattle.ion_tokens.specs.Lexed.{Placed}
-use Rattle.ion_text.specs.declared.state.Frame.{Frame}
-use Rattle.ion_text.specs.declared.state.Frame.TheVariants as frames
-use Rattle.ion_text.specs.declared.state.Listing.TheVariants as listings
-use Rattle.ion_text.specs.Grammar.{Says, Annotations, no_annotation, means, Pieces, is_struct, Means, close_place, ends_long, begins_as_long}
-use Rattle.ion_text.specs.Deciding.{Container, InList, InSexp, InStruct, InField, place_of, TakesValue, Open, none_open, list_open, sexp_open, struct_open, named, MayNote, Comes, Ends}
-use Rattle.ion_text.specs.machine.EachToken.{Symbols}
+use Rattle.ion_text.specs.Deciding.{Ends, named}
 use Rattle.ion_text.specs.laws.reading.complete.Complete.{depth-struct}
 use Rattle.ion_text.specs.laws.reading.sound.Depths.{Deep}
 use Rattle.ion_text.specs.laws.reading.sound.Held.{IsSome, some_more}
-use Rattle.ion_text.specs.laws.reading.sound.StandsOpen.{Opened, Receives, ReadyFor, value_place}
+use Rattle.ion_text.specs.laws.reading.sound.StandsOpen.{Opened, ReadyFor, Receives, value_place}
 
 abbrev pub container : Frame → Container
-container (frames.Items listings.List ss vs) = InList
-container (frames.Items listings.Sexp ss vs) = InSexp
-container (frames.Fields ss ms) = InStruct
-container (frames.Named ss ms s) = InField
+container (Frame.Items Listing.List ss vs) = InList
+container (Frame.Items Listing.Sexp ss vs) = InSexp
+container (Frame.Fields ss ms) = InStruct
+container (Frame.Named ss ms s) = InField
 
 -- the containers that the reader holds, the innermost first
 abbrev pub containers : List Frame → List Container
@@ -36,10 +22,10 @@ containers (f ∷ fs) = container f ∷ containers fs
 -- what the reader holds and what stands open have the same place for a value
 pub place_same : (fs : List Frame) → value_place fs ≡ place_of (containers fs)
 place_same [] = refl
-place_same (frames.Items listings.List ss vs ∷ fs) = refl
-place_same (frames.Items listings.Sexp ss vs ∷ fs) = refl
-place_same (frames.Fields ss ms ∷ fs) = refl
-place_same (frames.Named ss ms s ∷ fs) = refl
+place_same (Frame.Items Listing.List ss vs ∷ fs) = refl
+place_same (Frame.Items Listing.Sexp ss vs ∷ fs) = refl
+place_same (Frame.Fields ss ms ∷ fs) = refl
+place_same (Frame.Named ss ms s ∷ fs) = refl
 
 -- as many containers stand open as the reader holds
 pub levels_same : (fs : List Frame) → length (containers fs) ≡ length fs
@@ -49,17 +35,17 @@ levels_same (f ∷ fs) = ap suc (levels_same fs)
 -- where the reader holds a container that receives a value, a value may come
 pub takes_value : (fs : List Frame) → Receives fs → TakesValue (containers fs)
 takes_value [] h = tt
-takes_value (frames.Items listings.List ss vs ∷ fs) h = tt
-takes_value (frames.Items listings.Sexp ss vs ∷ fs) h = tt
-takes_value (frames.Fields ss ms ∷ fs) h = absurd h
-takes_value (frames.Named ss ms s ∷ fs) h = tt
+takes_value (Frame.Items Listing.List ss vs ∷ fs) h = tt
+takes_value (Frame.Items Listing.Sexp ss vs ∷ fs) h = tt
+takes_value (Frame.Fields ss ms ∷ fs) h = absurd h
+takes_value (Frame.Named ss ms s ∷ fs) h = tt
 
 pub may_note : (fs : List Frame) (notes : List Placed) → Receives fs → MayNote (containers fs) notes
 may_note [] notes h = tt
-may_note (frames.Items listings.List ss vs ∷ fs) notes h = tt
-may_note (frames.Items listings.Sexp ss vs ∷ fs) notes h = tt
-may_note (frames.Fields ss ms ∷ fs) notes h = absurd h
-may_note (frames.Named ss ms s ∷ fs) notes h = tt
+may_note (Frame.Items Listing.List ss vs ∷ fs) notes h = tt
+may_note (Frame.Items Listing.Sexp ss vs ∷ fs) notes h = tt
+may_note (Frame.Fields ss ms ∷ fs) notes h = absurd h
+may_note (Frame.Named ss ms s ∷ fs) notes h = tt
 
 pub noted_there : (c : List Slot) (fs : List Frame) (notes : List Placed) (ss : Symbols) → Annotations c (value_place fs) notes ss
     → Annotations c (place_of (containers fs)) notes ss
@@ -77,26 +63,26 @@ module _ (l : Limits) (c : List Slot) where
   -- The open containers of the reader stand open.
   pub opened_open : (fs : List Frame) (ts : List Placed) → Deep l.depth fs → Opened c fs ts true → Open l c (containers fs) ts
   opened_open [] ts d o = subst (Open l c []) (sym o) none_open
-  opened_open (frames.Items listings.List ss vs ∷ fs) ts d o =
+  opened_open (Frame.Items Listing.List ss vs ∷ fs) ts d o =
       subst (Open l c (InList ∷ containers fs)) (sym o.whole)
       (list_open (containers fs) o.front o.notes o.body ss o.open' vs (opened_open fs o.front d.1 o.outer) (takes_value fs o.receives)
-      (noted_there c fs o.notes ss o.noted) (says_there fs o.open' (Mark' marks.ListOpen) o.opens) o.items (deeper fs _ d.0))
-  opened_open (frames.Items listings.Sexp ss vs ∷ fs) ts d o =
+      (noted_there c fs o.notes ss o.noted) (says_there fs o.open' (Mark' Mark.ListOpen) o.opens) o.items (deeper fs _ d.0))
+  opened_open (Frame.Items Listing.Sexp ss vs ∷ fs) ts d o =
       subst (Open l c (InSexp ∷ containers fs)) (sym o.whole)
       (sexp_open (containers fs) o.front o.notes o.body ss o.open' vs (opened_open fs o.front d.1 o.outer) (takes_value fs o.receives)
-      (noted_there c fs o.notes ss o.noted) (says_there fs o.open' (Mark' marks.SexpOpen) o.opens) o.items (deeper fs _ d.0))
-  opened_open (frames.Fields ss ms ∷ fs) ts d o =
+      (noted_there c fs o.notes ss o.noted) (says_there fs o.open' (Mark' Mark.SexpOpen) o.opens) o.items (deeper fs _ d.0))
+  opened_open (Frame.Fields ss ms ∷ fs) ts d o =
       subst (Open l c (InStruct ∷ containers fs)) (sym o.whole)
       (struct_open (containers fs) o.front o.notes o.body ss o.open' ms (opened_open fs o.front d.1 o.outer) (takes_value fs o.receives)
-      (noted_there c fs o.notes ss o.noted) (says_there fs o.open' (Mark' marks.FieldsOpen) o.opens) o.items (deeper fs _ d.0))
-  opened_open (frames.Named ss ms s ∷ fs) ts d o =
+      (noted_there c fs o.notes ss o.noted) (says_there fs o.open' (Mark' Mark.FieldsOpen) o.opens) o.items (deeper fs _ d.0))
+  opened_open (Frame.Named ss ms s ∷ fs) ts d o =
       let name : List Placed = o.name ++ o.colon ∷ [] in
       let cut : ts ≡ (o.front ++ (o.notes ++ o.open' ∷ o.body)) ++ name =
       o.whole ∙ (ap (λ x. o.front ++ x) (sym (append_assoc o.notes (o.open' ∷ o.body) name)) ∙ sym (append_assoc o.front (o.notes ++ o.open' ∷ o.body) name)) in
       subst (Open l c (InField ∷ containers fs)) (sym cut)
       (named (containers fs) (o.front ++ (o.notes ++ o.open' ∷ o.body)) o.name s o.colon
       (struct_open (containers fs) o.front o.notes o.body ss o.open' ms (opened_open fs o.front d.1 o.outer) (takes_value fs o.receives)
-      (noted_there c fs o.notes ss o.noted) (says_there fs o.open' (Mark' marks.FieldsOpen) o.opens) o.items (deeper fs _ d.0))
+      (noted_there c fs o.notes ss o.noted) (says_there fs o.open' (Mark' Mark.FieldsOpen) o.opens) o.items (deeper fs _ d.0))
       o.named o.colons)
 
 -- the first token stays so
@@ -130,8 +116,8 @@ module _ (g : Catalog) (l : Limits) (c : List Slot) (front : List Placed) (vs : 
   }
 
   -- and where a name may
-  pub name_comes : (rs : Symbols) (ms : List Field) (fs : List Frame) (item : List Placed) → Deep l.depth (frames.Fields rs ms ∷ fs)
-      → (ends_long front && begins_as_long item) ≡ false → Opened c (frames.Fields rs ms ∷ fs) item true → Says places.Name t said
+  pub name_comes : (rs : Symbols) (ms : List Field) (fs : List Frame) (item : List Placed) → Deep l.depth (Frame.Fields rs ms ∷ fs)
+      → (ends_long front && begins_as_long item) ≡ false → Opened c (Frame.Fields rs ms ∷ fs) item true → Says Place.Name t said
       → Comes g l c (InStruct ∷ containers fs) said (front ++ (item ++ t ∷ []))
   name_comes rs ms fs item deep apart o h = record {
     front = front;
@@ -142,7 +128,7 @@ module _ (g : Catalog) (l : Limits) (c : List Slot) (front : List Placed) (vs : 
     symbols = [];
     parts = ap (λ x. front ++ (x ++ t ∷ [])) (sym (append-nil item));
     pieces = pieces;
-    open' = opened_open l c (frames.Fields rs ms ∷ fs) item deep o;
+    open' = opened_open l c (Frame.Fields rs ms ∷ fs) item deep o;
     noted = no_annotation;
     may = refl;
     apart = subst (λ x. (ends_long front && begins_as_long x) ≡ false) (sym (append-nil item)) apart;
@@ -151,8 +137,8 @@ module _ (g : Catalog) (l : Limits) (c : List Slot) (front : List Placed) (vs : 
 
 -- a struct of the top level is closed
 pub struct_ends : (g : Catalog) (l : Limits) (c : List Slot) (front : List Placed) (vs : List Value) (ss : Symbols) (ms : List Field) (item : List Placed)
-    (more : Bool) (t : Placed) → Pieces g l front vs c → Deep l.depth (frames.Fields ss ms ∷ []) → (ends_long front && begins_as_long item) ≡ false
-    → Opened c (frames.Fields ss ms ∷ []) item more → Says (close_place more) t (Mark' marks.FieldsClose)
+    (more : Bool) (t : Placed) → Pieces g l front vs c → Deep l.depth (Frame.Fields ss ms ∷ []) → (ends_long front && begins_as_long item) ≡ false
+    → Opened c (Frame.Fields ss ms ∷ []) item more → Says (close_place more) t (Mark' Mark.FieldsClose)
     → Ends g l c (annotated ss (payloads.Fields ms)) (front ++ (item ++ t ∷ []))
 struct_ends g l c front vs ss ms item more t pieces deep apart o h =
     let alone : item ≡ o.notes ++ o.open' ∷ o.body = o.whole ∙ ap (λ x. x ++ (o.notes ++ o.open' ∷ o.body)) o.outer in
@@ -166,7 +152,7 @@ struct_ends g l c front vs ss ms item more t pieces deep apart o h =
       deep = omega (arith, deep.0, depth-struct ss ms);
       apart = begins_on (ends_long front) item (t ∷ []) (subst IsSome (sym alone) (some_more o.notes o.body o.open')) apart;
       means =
-          subst (λ x. Means c places.Top x (annotated ss (payloads.Fields ms))) (sym cut)
-          (means places.Top o.notes (o.open' ∷ (o.body ++ t ∷ [])) ss (payloads.Fields ms) o.noted
-          (is_struct places.Top o.open' t o.body ms more o.opens o.items h));
+          subst (λ x. Means c Place.Top x (annotated ss (payloads.Fields ms))) (sym cut)
+          (means Place.Top o.notes (o.open' ∷ (o.body ++ t ∷ [])) ss (payloads.Fields ms) o.noted
+          (is_struct Place.Top o.open' t o.body ms more o.opens o.items h));
     }

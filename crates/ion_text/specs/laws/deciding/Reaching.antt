@@ -3,47 +3,22 @@
 use Rattle.std.proofs.Common.{◌≡◌, ℕ, ◌+◌, ◌<◌, ◌≤◌, nat_le, nat_lt, List, [], ◌∷◌, length, Bool, true, false, ◌&&◌, ◌||◌, not, Result, Ok, Err, Some, refl, ap, sym, ◌∙◌, subst, arith, if◌then◌else◌, ◌⊎◌, inl, inr}
 use Rattle.std.proofs.lemmas.Bool.{cond-false}
 use Rattle.std.proofs.lemmas.Bool.Decides.{nat_tests}
-use Rattle.ion_model.specs.declared.value.Value.{Value}
-use Rattle.ion_atoms.specs.Reasons.{reason_number}
-use Rattle.ion_atoms.specs.declared.refusal.Reason.{Reason}
-use Rattle.ion_atoms.specs.declared.refusal.Reason.TheVariants as reasons
-use Rattle.ion_atoms.specs.declared.refusal.Refusal.{Refusal}
-use Rattle.ion_symtab.specs.declared.limits.Limits.{Limits}
-use Rattle.ion_symtab.specs.declared.catalog.Catalog.{Catalog}
-use Rattle.ion_tokens.specs.declared.mode.Mode.{Mode}
-use Rattle.ion_tokens.specs.declared.mode.Mode.TheVariants as modes
-use Rattle.ion_tokens.specs.declared.mode.Mark.TheVariants as marks
-use Rattle.ion_tokens.specs.declared.mode.TokenKind.TheVariants as kinds
-use Rattle.ion_tokens.specs.machine.Bounds.{is_idle}
-use Rattle.ion_tokens.specs.machine.Ahead.{is_quoting, is_quoted, is_sane, is_closing}
-use Rattle.ion_tokens.specs.machine.Said.{said}
-use Rattle.ion_tokens.specs.machine.Scanning.{Known, Outcome, Next, Given, Left, feed, at_end}
-use Rattle.ion_tokens.specs.Bodies.{Content, Mark', IsBody}
-use Rattle.ion_tokens.specs.Lexed.{Placed}
+use Rattle.ion_text.specs.Names.{Catalog, Content, Effect, Given, HasRow, IsBody, Known, Leading, Left, Limits, Mark, Mark', Mode, Next, Now, Outcome, Placed, Reading, Reason, Refusal, Run, State, TokenKind, Turn, Value, at_end, behind_given, behind_left, continues, eats, fails, feed, gives, goes, is_closing, is_idle, is_quoted, is_quoting, is_sane, is_top, is_two_quotes, late, leaves, lesser, noticed, on_said, on_scan, once_more, or_worse, place, reaches, reason_number, refuses, run, run_on, said, said_body, settle, settle_same, settle_still, shut, takes, tells, token_at, token_of, turn, turn_now, under, uses, waits, waits_now, with_scan}
 use Rattle.ion_tokens.proofs.runs.Runs.{feed_used}
 use Rattle.ion_tokens.proofs.runs.Splits.{given_one, left_one}
-use Rattle.ion_text.specs.declared.state.Now.{Now}
-use Rattle.ion_text.specs.declared.state.Now.TheVariants as nows
-use Rattle.ion_text.specs.Deciding.{HasRow}
-use Rattle.ion_text.specs.Grammar.{is_two_quotes}
-use Rattle.ion_text.specs.machine.EachToken.{under, token_at, Reading, Turn, goes, gives, refuses, late, place, settle, turn, turn_now}
-use Rattle.ion_text.specs.machine.Run.{State, Effect, uses, tells, leaves, fails, eats, takes, waits, waits_now, noticed, shut, reaches, lesser, or_worse, on_scan, on_said, behind_given, behind_left, with_scan, token_of, is_top, Run, run, run_on, once_more}
-use Rattle.ion_text.specs.machine.TokenLists.{continues}
-use Rattle.ion_text.specs.machine.Places.{Leading, settle_same, settle_still}
-use Rattle.ion_text.specs.machine.Passed.{said_body}
-use Rattle.ion_text.specs.laws.reading.sound.Quotes.{Fine, Finely, given_far}
-use Rattle.ion_text.specs.laws.reading.sound.Spans.{IsClose, Spans, IsTopNow, turn_spans}
-use Rattle.ion_text.specs.laws.reading.sound.StandsOpen.{start_now}
-use Rattle.ion_text.specs.laws.reading.complete.Accepts.{DirectAt, SettledCalm, settle_settled, idle_calm, still_calm, always_calm, fresh_top, eats_direct, eats_settled, waits_calm, turn_ok, ready_still, mark_said, exactly_as, long_refused}
+use Rattle.ion_text.specs.laws.deciding.Heading.{Heads, IsLast, Turned, TurnsTo, settled_heads}
+use Rattle.ion_text.specs.laws.deciding.Shows.{IsBare}
+use Rattle.ion_text.specs.laws.reading.complete.Accepts.{DirectAt, SettledCalm, always_calm, eats_direct, eats_settled, exactly_as, fresh_top, idle_calm, long_refused, mark_said, ready_still, settle_settled, still_calm, turn_ok, waits_calm}
 use Rattle.ion_text.specs.laws.reading.complete.Exact.{Exact}
-use Rattle.ion_text.specs.laws.reading.complete.Fuel.{UsedHere, Leaving, feed_leaves, twice_fuel, eats_stays, more_same}
+use Rattle.ion_text.specs.laws.reading.complete.Fuel.{Leaving, UsedHere, eats_stays, feed_leaves, more_same, twice_fuel}
 use Rattle.ion_text.specs.laws.reading.complete.Going.{Direct, Operators, TopOk, closes_kind, gives_top, mark_kind, no_operator}
-use Rattle.ion_text.specs.laws.reading.complete.Meets.{MeetsNext, ends_next, next_on, next_given, next_left, IdleLeft, begun_closing, finely_as, follows_as, idle_left}
-use Rattle.ion_text.specs.laws.reading.complete.Quiet.{CalmNow, EndedIn, calm_now, ClosingSaid, shut_said, shut_still}
+use Rattle.ion_text.specs.laws.reading.complete.Meets.{IdleLeft, MeetsNext, begun_closing, ends_next, finely_as, follows_as, idle_left, next_given, next_left, next_on}
+use Rattle.ion_text.specs.laws.reading.complete.Quiet.{CalmNow, ClosingSaid, EndedIn, calm_now, shut_said, shut_still}
 use Rattle.ion_text.specs.laws.reading.complete.Segments.{NotRefused}
 use Rattle.ion_text.specs.laws.reading.complete.Tokens.{given_agrees, left_agrees, left_colons, left_two, next_agrees, quoting_left, segment_agree}
-use Rattle.ion_text.specs.laws.deciding.Heading.{IsLast, TurnsTo, Heads, Turned, settled_heads}
-use Rattle.ion_text.specs.laws.deciding.Shows.{IsBare}
+use Rattle.ion_text.specs.laws.reading.sound.Quotes.{Fine, Finely, given_far}
+use Rattle.ion_text.specs.laws.reading.sound.Spans.{IsClose, IsTopNow, Spans, turn_spans}
+use Rattle.ion_text.specs.laws.reading.sound.StandsOpen.{start_now}
 
 -- 1. What the scanner meets.
 
@@ -111,23 +86,23 @@ module _ (g : Catalog) (l : Limits) where
 
   module _ (e : Reason) (row : HasRow e) (Done : Reading → Type 0) (Refused : Type 0) where
     -- no row has this reason
-    unexpected_never : (x : Turn) (ts : List Placed) → x ≡ refuses reasons.Unexpected → Turned g l e Done Refused x ts → ⊥
-    unexpected_never x ts i h = let k : IsLast g l e Done Refused ts × (reasons.Unexpected ≡ e) = subst (λ y. Turned g l e Done Refused y ts) i h in
+    unexpected_never : (x : Turn) (ts : List Placed) → x ≡ refuses Reason.Unexpected → Turned g l e Done Refused x ts → ⊥
+    unexpected_never x ts i h = let k : IsLast g l e Done Refused ts × (Reason.Unexpected ≡ e) = subst (λ y. Turned g l e Done Refused y ts) i h in
         subst HasRow (sym k.1) row
 
     -- where something waited at the top level, a colon doesn't follow
     settled_colon : (r : Reading) (t : Placed) (ts : List Placed) (h : Heads g l e Done Refused r (t ∷ ts)) → is_top r.frames ≡ true → TopOk g l r
-        → continues r (token_of t.lexeme h.1) ≡ false → t.lexeme.kind ≡ kinds.Mark marks.Colon → ⊥
+        → continues r (token_of t.lexeme h.1) ≡ false → t.lexeme.kind ≡ TokenKind.Mark Mark.Colon → ⊥
     settled_colon r t ts h top ok w i = by (settle g l r) (settle_same g l r.start r.context r.frames r.notes r.now)
         (settle_settled g l r.start r.context r.frames r.notes r.now ok) (h.4 w)
       where
-        c : h.1 ≡ Mark' marks.Colon
-        c = mark_said t.lexeme.kind t.lexeme.octets marks.Colon h.1 i (said_body t.lexeme.kind t.lexeme.octets h.1 h.2)
+        c : h.1 ≡ Mark' Mark.Colon
+        c = mark_said t.lexeme.kind t.lexeme.octets Mark.Colon h.1 i (said_body t.lexeme.kind t.lexeme.octets h.1 h.2)
 
-        never : (k : Reading) → k.now ≡ nows.Ready → Turned g l e Done Refused (turn g l k (token_of t.lexeme h.1)) ts → ⊥
+        never : (k : Reading) → k.now ≡ Now.Ready → Turned g l e Done Refused (turn g l k (token_of t.lexeme h.1)) ts → ⊥
         never k n d = unexpected_never (turn g l k (token_of t.lexeme h.1)) ts
             (ap (λ y. turn g l k (token_of t.lexeme y)) c
-            ∙ ap (turn_now (under g l) k (token_at t.lexeme.start t.lexeme.end (Mark' marks.Colon))) n) d
+            ∙ ap (turn_now (under g l) k (token_at t.lexeme.start t.lexeme.end (Mark' Mark.Colon))) n) d
 
         by : (x : Turn) → Leading g l (λ n. (place n ≡ place r) × (is_top n.frames ≡ is_top r.frames)) x → SettledCalm g l x
             → TurnsTo g l e Done Refused (λ k. Turned g l e Done Refused (turn g l k (token_of t.lexeme h.1)) ts) ⊥ x → ⊥
@@ -142,7 +117,7 @@ module _ (g : Catalog) (l : Limits) where
     not_shut r t ts h s m sane i q =
         by (shut_said g l t.lexeme.start t.lexeme.end r.start r.context r.frames r.notes h.1 r.now q)
       where
-        by : (ClosingSaid g l h.1) ⊎ (turn g l r (token_of t.lexeme h.1) ≡ refuses reasons.Unexpected) → ⊥
+        by : (ClosingSaid g l h.1) ⊎ (turn g l r (token_of t.lexeme h.1) ≡ refuses Reason.Unexpected) → ⊥
         by (inl k) =
             let body = subst (λ x. IsBody t.lexeme.kind t.lexeme.octets (Ok x)) k.1 (said_body t.lexeme.kind t.lexeme.octets h.1 h.2) in
             let n : true ≡ false = sym k.2 ∙ (ap is_closing (sym (mark_kind t.lexeme.kind t.lexeme.octets k.0 body)) ∙ begun_closing s t m sane i) in
@@ -165,7 +140,7 @@ module _ (g : Catalog) (l : Limits) where
   module _ (e : Reason) (row : HasRow e) (Done : Reading → Type 0) (Refused ByOctet ByEnd : Type 0) (Rest : Known → List ℕ → Type 0) (total : ℕ)
       (Good : Result State Refusal → Type 0)
       (long : (to : ℕ) (s : Known) (os : List ℕ) (ts : List Placed) → Sees ByOctet ByEnd Rest s os ts → to + length os ≡ total
-      → Good (Err (record { offset = to; reason = reasons.ItemTooLong })))
+      → Good (Err (record { offset = to; reason = Reason.ItemTooLong })))
       (last : ByOctet → (f : Reason) → reason_number f ≤ reason_number e → Good (Err (record { offset = total; reason = f })))
       (none : ByOctet → (r : Reading) → Done r → ⊥) (apart : Refused → (s : Known) (os : List ℕ) → Rest s os → ⊥)
       (word : ByEnd → (s : Known) (t : Placed) (r : Reading) → IsBare t.lexeme.kind → at_end t.place s ≡ Ok (Some t.lexeme) → s.used ≡ total
@@ -202,12 +177,12 @@ module _ (g : Catalog) (l : Limits) where
     went_more to more x (inr (inr (f, i, h))) = subst (λ y. Good (once_more to more y).now) (sym i) h
 
     noticed_went : (to : ℕ) (more : State → Run) (s : Known) (r : Reading) → (shut r.now && not (is_idle s.mode)) ≡ false
-        → Good (Err (record { offset = to + 1; reason = reasons.ItemTooLong })) → Good (more (with_scan s r)).now → Went to more (noticed l r s)
+        → Good (Err (record { offset = to + 1; reason = Reason.ItemTooLong })) → Good (more (with_scan s r)).now → Went to more (noticed l r s)
     noticed_went to more s r q too h = subst (Went to more) (sym (cond-false _ _ _ q)) (go (nat_le (reaches r.frames r s) l.item))
       where
-        go : (b : Bool) → Went to more (if b then uses (with_scan s r) else fails reasons.ItemTooLong)
+        go : (b : Bool) → Went to more (if b then uses (with_scan s r) else fails Reason.ItemTooLong)
         go true = inl (with_scan s r, refl, h)
-        go false = inr (inr (reasons.ItemTooLong, refl, too))
+        go false = inr (inr (Reason.ItemTooLong, refl, too))
 
     -- the last token is refused for the reason, or for one with a smaller number
     refused_here : (to : ℕ) → to + 1 ≡ total → ByOctet → (f : Reason) → reason_number f ≤ reason_number e → Good (Err (record { offset = to + 1; reason = f }))
@@ -222,7 +197,7 @@ module _ (g : Catalog) (l : Limits) where
 
     -- where what waited is settled it may stand at the top level
     settled_ok : (k : Reading) → ((m : Mode) → is_top k.frames ≡ true → CalmNow k.now m) → TopOk g l k
-    settled_ok k c h = calm_now k.now modes.Blank (c modes.Blank h)
+    settled_ok k c h = calm_now k.now Mode.Blank (c Mode.Blank h)
 
     module _ (s : Known) (o to : ℕ) (more : State → Run) where
       abbrev again : State → Effect
@@ -260,7 +235,7 @@ module _ (g : Catalog) (l : Limits) where
 
       -- where the scanner goes on
       next_went : (s' : Known) (t : Placed) (ts : List Placed) → MeetsNext s' t → is_sane s'.mode ≡ true
-          → Good (Err (record { offset = to + 1; reason = reasons.ItemTooLong }))
+          → Good (Err (record { offset = to + 1; reason = Reason.ItemTooLong }))
           → ((k : Reading) → TopCalm s' k → H k (t ∷ ts) → Good (more (with_scan s' k)).now)
           → (k : Reading) → H k (t ∷ ts) → TopOk g l k → DirectAt g l k (Next s') → Went to more (on_scan g l again k (Next s'))
       next_went s' t ts m sane too onward k h ok w = noticed_went to more s' k (shut_quiet e row Done Refused k t ts h s' m sane) too (onward k (calm w) h)
@@ -282,7 +257,7 @@ module _ (g : Catalog) (l : Limits) where
         by_turn : Went to more (behind_given l s' given) → Went to more (on_scan g l again k (Given t.lexeme s'))
         by_turn x = subst (Went to more) (sym (ap (λ y. on_said y (λ c. behind_given l s' (turn g l k (token_of t.lexeme c)))) h.2)) x
 
-        given_went : is_idle s'.mode ≡ true → Good (Err (record { offset = to + 1; reason = reasons.ItemTooLong })) → (IsLast g l e Done Refused ts → ⊥)
+        given_went : is_idle s'.mode ≡ true → Good (Err (record { offset = to + 1; reason = Reason.ItemTooLong })) → (IsLast g l e Done Refused ts → ⊥)
             → ((n : Reading) → TopCalm s' n → H n ts → Good (more (with_scan s' n)).now) → Went to more (on_scan g l again k (Given t.lexeme s'))
         given_went idle too never onward =
             by_turn (by given (turn_ok g l k h.1 l.item (start_now k.now k.start t.lexeme.start k.frames k.notes) t.lexeme.end given
@@ -380,7 +355,7 @@ module _ (g : Catalog) (l : Limits) where
               | inr j ↦ absurd (by' (is_top k.frames) refl j)
             ]
               where
-                by' : (b : Bool) → is_top k.frames ≡ b → t.lexeme.kind ≡ kinds.Operator → ⊥
+                by' : (b : Bool) → is_top k.frames ≡ b → t.lexeme.kind ≡ TokenKind.Operator → ⊥
                 by' true z j = no_operator g l k t z d.0 ops.0 j
                 by' false z j = no_close d.1 d.2 (subst (λ b. IsClose b d.1) z q.1)
 
@@ -400,14 +375,14 @@ module _ (g : Catalog) (l : Limits) where
         shut_off w = sym (left_direct r ts h i) ∙ w
 
         -- nothing that waits at the top level is ended by a token that is left
-        never_gives : (n : Now) → r.now ≡ n → is_top r.frames ≡ true → waits r (Left t.lexeme s') ≡ false → CalmNow n s.mode → (n ≡ nows.Ready → ⊥) → ⊥
-        never_gives nows.Ready x top w c z = z refl
-        never_gives (nows.Pending q b) x top w c z = idle (subst (IdleLeft (place r) s.used) i (idle_left (place r) s o c))
+        never_gives : (n : Now) → r.now ≡ n → is_top r.frames ≡ true → waits r (Left t.lexeme s') ≡ false → CalmNow n s.mode → (n ≡ Now.Ready → ⊥) → ⊥
+        never_gives Now.Ready x top w c z = z refl
+        never_gives (Now.Pending q b) x top w c z = idle (subst (IdleLeft (place r) s.used) i (idle_left (place r) s o c))
           where
             idle : IdleLeft (place r) s.used (Left t.lexeme s') → ⊥
             idle (inl j) = settled_colon e row Done Refused r t ts h top ok (shut_off w) j.0
             idle (inr j) = no_operator g l r t top h.0 ops.0 j.0
-        never_gives (nows.Long v b) x top w c z = by (is_idle s.mode) refl
+        never_gives (Now.Long v b) x top w c z = by (is_idle s.mode) refl
           where
             idle : IdleLeft (place r) s.used (Left t.lexeme s') → ⊥
             idle (inl j) = settled_colon e row Done Refused r t ts h top ok (shut_off w) j.0
@@ -420,10 +395,10 @@ module _ (g : Catalog) (l : Limits) where
                 let k = quoting_left (place r) s s' o t.lexeme exactly q i in
                 let n : true ≡ false = sym (ap is_quoted k.0) ∙ (sym (ap (λ b. b && is_quoted t.lexeme.kind) top)
                 ∙ (ap (λ b. waits_now (is_top r.frames) b (Left t.lexeme s')) (sym x) ∙ w)) in cc
-        never_gives nows.After x top w c z = c
-        never_gives nows.Name x top w c z = c
-        never_gives (nows.LongName v) x top w c z = c
-        never_gives (nows.Keyed v) x top w c z = c
+        never_gives Now.After x top w c z = c
+        never_gives Now.Name x top w c z = c
+        never_gives (Now.LongName v) x top w c z = c
+        never_gives (Now.Keyed v) x top w c z = c
 
         settled : (x : Turn) → settle g l r ≡ x → waits r (Left t.lexeme s') ≡ false
             → Leading g l (λ n. (place n ≡ place r) × (is_top n.frames ≡ is_top r.frames)) x → Leading g l (λ n. settle g l n ≡ goes n) x → SettledCalm g l x
@@ -447,18 +422,18 @@ module _ (g : Catalog) (l : Limits) where
         settled (late z k) j w a b c d = absurd d.0
 
         waited : (n : Now) → r.now ≡ n → waits_now (is_top r.frames) n (Left t.lexeme s') ≡ true → continues r (token_of t.lexeme h.1) ≡ true → ⊥
-        waited (nows.Long v b) x w q =
+        waited (Now.Long v b) x w q =
             let body = said_body t.lexeme.kind t.lexeme.octets h.1 h.2 in
             unexpected_never e row Done Refused (turn g l r (token_of t.lexeme h.1)) ts
             (ap (turn_now (under g l) r (token_of t.lexeme h.1)) x
             ∙ long_refused g l t.lexeme.start t.lexeme.end r.start r.context r.frames r.notes h.1 v b
             (sym (segment_agree t.lexeme.kind t.lexeme.octets h.1 body) ∙ f.1)) (h.3 (inl q))
-        waited (nows.Pending q b) x w d = absurd cc
-        waited (nows.LongName v) x w d = absurd cc
-        waited nows.Ready x w d = absurd cc
-        waited nows.After x w d = absurd cc
-        waited nows.Name x w d = absurd cc
-        waited (nows.Keyed v) x w d = absurd cc
+        waited (Now.Pending q b) x w d = absurd cc
+        waited (Now.LongName v) x w d = absurd cc
+        waited Now.Ready x w d = absurd cc
+        waited Now.After x w d = absurd cc
+        waited Now.Name x w d = absurd cc
+        waited (Now.Keyed v) x w d = absurd cc
 
         left_run : Good (run g l to (with_scan s r) (o ∷ os)).now
         left_run = go (waits r (Left t.lexeme s')) refl

@@ -1,21 +1,13 @@
 -- Where a row of the table stands, the octets up to there are refused.
 use Rattle.std.proofs.Common.{◌≡◌, ◌≤◌, ℕ, List, length, take, drop, sym, ap, ◌∙◌, subst, arith, Result, Ok, Err, Option, Some, inl, inr}
 use Rattle.std.proofs.lemmas.List.{take-append-drop, length-take-le}
-use Rattle.ion_model.specs.declared.value.Value.{Value}
-use Rattle.ion_atoms.specs.declared.refusal.Reason.{Reason}
-use Rattle.ion_atoms.specs.declared.refusal.Refusal.{Refusal}
-use Rattle.ion_symtab.specs.declared.limits.Limits.{Limits}
-use Rattle.ion_symtab.specs.declared.catalog.Catalog.{Catalog}
-use Rattle.ion_text.specs.Grammar.{Document}
-use Rattle.ion_text.specs.Deciding.{Decides, EndDecides, HasRow}
-use Rattle.ion_text.specs.machine.Run.{State, begun, Run, run, trace, refused_of, ends_of}
-use Rattle.ion_text.specs.machine.Pieces.{on_now}
-use Rattle.ion_text.specs.laws.reading.complete.Accepts.{accepts}
-use Rattle.ion_text.specs.laws.reading.Stops.{behind_run}
+use Rattle.ion_text.specs.Names.{Catalog, Decides, Document, EndDecides, HasRow, Limits, Reason, Refusal, Run, State, Value, begun, ends_of, on_now, refused_of, run, trace}
+use Rattle.ion_text.specs.laws.deciding.EndStopped.{end_refuses}
 use Rattle.ion_text.specs.laws.deciding.Octets.{deciding}
 use Rattle.ion_text.specs.laws.deciding.OneOctet.{one_octet}
-use Rattle.ion_text.specs.laws.deciding.EndStopped.{end_refuses}
 use Rattle.ion_text.specs.laws.deciding.Stopped.{Stopped, StopsFor, row_stopped}
+use Rattle.ion_text.specs.laws.reading.Stops.{behind_run}
+use Rattle.ion_text.specs.laws.reading.complete.Accepts.{accepts}
 
 -- 1. Octets.
 

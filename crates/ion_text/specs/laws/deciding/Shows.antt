@@ -1,34 +1,19 @@
 -- What octets show of a token that ends with the last of them, or before it.
 use Rattle.std.proofs.Common.{◌≡◌, ℕ, zero, suc, ◌+◌, List, [], ◌∷◌, ◌++◌, length, take, Bool, true, false, ◌||◌, Ok, refl, sym, ap, ◌∙◌, subst, append-nil, length-append, arith, ◌⊎◌, inl, inr, codes}
-use Rattle.ion_tokens.specs.declared.mode.Mark.{Mark}
-use Rattle.ion_tokens.specs.declared.mode.Mark.TheVariants as marks
-use Rattle.ion_tokens.specs.declared.mode.Mode.TheVariants as modes
-use Rattle.ion_tokens.specs.declared.mode.Place.{Place}
-use Rattle.ion_tokens.specs.declared.mode.Place.TheVariants as places
-use Rattle.ion_tokens.specs.declared.mode.TokenKind.{TokenKind}
-use Rattle.ion_tokens.specs.declared.mode.TokenKind.TheVariants as kinds
-use Rattle.ion_tokens.specs.machine.Table.{end_of}
-use Rattle.ion_tokens.specs.machine.Bounds.{is_idle}
-use Rattle.ion_tokens.specs.machine.Ahead.{is_sane, is_closing, symbol_waits}
-use Rattle.ion_tokens.specs.Bodies.{Content, Word, Id, Quoted, Short, Long, Number', TypedNull, Operator, Clob, Blob, Mark', IsBody}
-use Rattle.ion_tokens.specs.Lexemes.{IsLexeme, Lexeme}
-use Rattle.ion_tokens.specs.Lexed.{Placed, BeginsWith, colon_behind, LexesTo, Passes}
-use Rattle.ion_tokens.specs.machine.Scanning.{Known, Next, Given, Left, feed, run}
-use Rattle.ion_tokens.specs.machine.Scanned.{Scanned, Continues}
-use Rattle.ion_tokens.proofs.sound.Holds.{IsTold, InMode, Sound}
+use Rattle.ion_text.specs.Names.{Are, AwaitsColons, BeginsWith, BlankThen, Blob, Clob, Content, Continues, Given, Id, IsBody, IsLexeme, Known, Left, Lexeme, LexesTo, Long, Mark, Mark', Mode, Next, NoColons, Number', Operator, Place, Placed, Quoted, Scanned, Short, Sight, TokenKind, TypedNull, Word, by_octet, colon_behind, end_of, feed, is_closing, is_idle, is_keyword, is_sane, is_version, scan as run, symbol_waits}
+use Rattle.ion_tokens.specs.Lexed.{Passes}
 use Rattle.ion_tokens.proofs.complete.Moves.{at}
 use Rattle.ion_tokens.proofs.runs.Scans.{placed}
+use Rattle.ion_tokens.proofs.sound.Holds.{InMode, IsTold, Sound}
 use Rattle.ion_tokens.proofs.sound.Sounds.{feed_sound}
-use Rattle.ion_text.specs.Grammar.{BlankThen, is_keyword, is_version}
-use Rattle.ion_text.specs.Deciding.{Are, AwaitsColons, NoColons, Sight, by_octet}
-use Rattle.ion_text.specs.laws.reading.sound.Admits.{at_end_fine}
 use Rattle.ion_text.specs.laws.reading.complete.Going.{mark_kind}
 use Rattle.ion_text.specs.laws.reading.complete.Meets.{IdleLeft, end_spans, follows_as, idle_left}
 use Rattle.ion_text.specs.laws.reading.complete.Segments.{never}
+use Rattle.ion_text.specs.laws.reading.sound.Admits.{at_end_fine}
 use Rattle.ion_text.specs.laws.showing.refused.Ahead.{octet_colons}
-use Rattle.ion_text.specs.laws.showing.tokens.Closing.{colons_close}
-use Rattle.ion_text.specs.laws.showing.tokens.Cuts.{OpenBehind, Is, behind_tokens, one_found}
 use Rattle.ion_text.specs.laws.showing.refused.Halts.{symbol_colons}
+use Rattle.ion_text.specs.laws.showing.tokens.Closing.{colons_close}
+use Rattle.ion_text.specs.laws.showing.tokens.Cuts.{Is, OpenBehind, behind_tokens, one_found}
 
 -- one token more
 lexes_more : (ts : List Placed) (colon : Bool) (before : ℕ) (octets : List ℕ) (after : Bool) (end : ℕ) (rest : List ℕ) (t : Placed) (r : List ℕ)
@@ -50,17 +35,17 @@ last_flag (x ∷ ts) t colon before octets after end rest (q, b, h) = last_flag 
 
 -- tokens whose end the octet directly behind them shows
 abbrev pub IsBare : TokenKind → Type 0
-IsBare kinds.Word = Unit {0}
-IsBare kinds.KindName = Unit {0}
-IsBare (kinds.Mark marks.FieldsOpen) = Unit {0}
+IsBare TokenKind.Word = Unit {0}
+IsBare TokenKind.KindName = Unit {0}
+IsBare (TokenKind.Mark Mark.FieldsOpen) = Unit {0}
 IsBare _ = ⊥
 
 -- the first octet behind them shows it
 shorter : (p : Place) (colon : Bool) (w : List ℕ) (a : ℕ) (as' r : List ℕ) (k : TokenKind) (kept : List ℕ) → IsBare k
     → IsLexeme p colon w (a ∷ (as' ++ r)) k kept → IsLexeme p colon w (a ∷ as') k kept
-shorter p colon w a as' r kinds.Word kept b h = h
-shorter p colon w a as' r kinds.KindName kept b h = h
-shorter p colon w a as' r (kinds.Mark marks.FieldsOpen) kept b h = h
+shorter p colon w a as' r TokenKind.Word kept b h = h
+shorter p colon w a as' r TokenKind.KindName kept b h = h
+shorter p colon w a as' r (TokenKind.Mark Mark.FieldsOpen) kept b h = h
 shorter p colon w a as' r _ kept b h = absurd b
 
 -- what such a token says
@@ -68,11 +53,11 @@ abbrev pub BareSaid : Content → Type 0
 BareSaid (Word w) = Unit {0}
 BareSaid (Id id) = Unit {0}
 BareSaid (TypedNull k) = Unit {0}
-BareSaid (Mark' marks.FieldsOpen) = Unit {0}
+BareSaid (Mark' Mark.FieldsOpen) = Unit {0}
 BareSaid _ = ⊥
 
-mark_bare : (m : Mark) → BareSaid (Mark' m) → IsBare (kinds.Mark m)
-mark_bare marks.FieldsOpen h = tt
+mark_bare : (m : Mark) → BareSaid (Mark' m) → IsBare (TokenKind.Mark m)
+mark_bare Mark.FieldsOpen h = tt
 mark_bare _ h = absurd h
 
 other_bare : (c d : Content) → c ≡ d → (BareSaid d → ⊥) → BareSaid c → ⊥
@@ -80,17 +65,17 @@ other_bare c d e n h = n (subst BareSaid e h)
 
 -- what says a word, an id, a typed null or the `{` of a struct is a token that the octet behind it shows
 pub said_bare : (k : TokenKind) (octets : List ℕ) (c : Content) → IsBody k octets (Ok c) → BareSaid c → IsBare k
-said_bare kinds.Word octets c b h = tt
-said_bare kinds.KindName octets c b h = tt
-said_bare kinds.Number octets (Number' n) b h = absurd h
-said_bare kinds.Number octets _ b h = absurd b
-said_bare kinds.Operator octets c b h = absurd (other_bare c (Operator octets) b.0 (λ x. x) h)
-said_bare kinds.QuotedSymbol octets c b h = absurd (other_bare c (Quoted octets) b.0 (λ x. x) h)
-said_bare kinds.ShortString octets c b h = absurd (other_bare c (Short octets) b.0 (λ x. x) h)
-said_bare kinds.LongString octets c b h = absurd (other_bare c (Long octets) b.0 (λ x. x) h)
-said_bare kinds.Clob octets c b h = absurd (other_bare c (Clob octets) (let e : c ≡ Clob octets = cc in e) (λ x. x) h)
-said_bare kinds.Blob octets c b h = absurd (other_bare c (Blob octets) (let e : c ≡ Blob octets = cc in e) (λ x. x) h)
-said_bare (kinds.Mark m) octets c b h = mark_bare m (subst BareSaid (let e : c ≡ Mark' m = cc in e) h)
+said_bare TokenKind.Word octets c b h = tt
+said_bare TokenKind.KindName octets c b h = tt
+said_bare TokenKind.Number octets (Number' n) b h = absurd h
+said_bare TokenKind.Number octets _ b h = absurd b
+said_bare TokenKind.Operator octets c b h = absurd (other_bare c (Operator octets) b.0 (λ x. x) h)
+said_bare TokenKind.QuotedSymbol octets c b h = absurd (other_bare c (Quoted octets) b.0 (λ x. x) h)
+said_bare TokenKind.ShortString octets c b h = absurd (other_bare c (Short octets) b.0 (λ x. x) h)
+said_bare TokenKind.LongString octets c b h = absurd (other_bare c (Long octets) b.0 (λ x. x) h)
+said_bare TokenKind.Clob octets c b h = absurd (other_bare c (Clob octets) (let e : c ≡ Clob octets = cc in e) (λ x. x) h)
+said_bare TokenKind.Blob octets c b h = absurd (other_bare c (Blob octets) (let e : c ≡ Blob octets = cc in e) (λ x. x) h)
+said_bare (TokenKind.Mark m) octets c b h = mark_bare m (subst BareSaid (let e : c ≡ Mark' m = cc in e) h)
 
 -- what says a keyword, a version, an id or a typed null, of which alone the end decides
 abbrev pub EndSaid : Content → Type 0
@@ -107,16 +92,16 @@ end_bare _ h = absurd h
 
 -- the token isn't the word that letters of `inf` behind a sign are
 abbrev pub NoLetters : Lexeme → Type 0
-NoLetters x = (n : ℕ) → x.kind ≡ kinds.Word → x.octets ≡ take n (codes "inf") → ⊥
+NoLetters x = (n : ℕ) → x.kind ≡ TokenKind.Word → x.octets ≡ take n (codes "inf") → ⊥
 
 pub no_letters : (x : Lexeme) (c : Content) → IsBody x.kind x.octets (Ok c) → EndSaid c → NoLetters x
 no_letters x c b h n kind letters =
-    go n (subst (λ y. IsBody kinds.Word y (Ok c)) letters (subst (λ k. IsBody k x.octets (Ok c)) kind b))
+    go n (subst (λ y. IsBody TokenKind.Word y (Ok c)) letters (subst (λ k. IsBody k x.octets (Ok c)) kind b))
   where
     other : (w : List ℕ) → c ≡ Word w → (is_keyword w || is_version w) ≡ false → ⊥
     other w e f = never (is_keyword w || is_version w) f (subst EndSaid e h)
 
-    go : (n : ℕ) → IsBody kinds.Word (take n (codes "inf")) (Ok c) → ⊥
+    go : (n : ℕ) → IsBody TokenKind.Word (take n (codes "inf")) (Ok c) → ⊥
     go zero b = other [] b.0 refl
     go (suc zero) b = other (codes "i") b.0 refl
     go (suc (suc zero)) b = other (codes "in") b.0 refl
@@ -124,12 +109,12 @@ no_letters x c b h n kind letters =
     go (suc (suc (suc (suc n)))) b = other (codes "inf") b.0 refl
 
 -- `::` would have been told
-colons_told : (p : Place) (k : ℕ) (since : List ℕ) (s : Known) → is_idle s.mode ≡ true → run p since (at modes.Blank [] true k k) ≡ Next s
+colons_told : (p : Place) (k : ℕ) (since : List ℕ) (s : Known) → is_idle s.mode ≡ true → run p since (at Mode.Blank [] true k k) ≡ Next s
     → BlankThen (codes "::") since → ⊥
 colons_told p k since s idle ran (w, more, is, e) = by (subst (Is p x) ran (one_found true k since (placed p x) more token))
   where
     x : Lexeme
-    x = record { start = k + length w; end = (k + length w) + 2; kind = kinds.Mark marks.Colons; octets = [] }
+    x = record { start = k + length w; end = (k + length w) + 2; kind = TokenKind.Mark Mark.Colons; octets = [] }
 
     token : BeginsWith true k since (placed p x) more
     token = record { blank = w; token = codes "::"; is_blank = is; cut = e; start = refl; end = refl; is = (refl, refl, refl, tt) }
@@ -137,10 +122,10 @@ colons_told p k since s idle ran (w, more, is, e) = by (subst (Is p x) ran (one_
     by : Is p x (Next s) → ⊥
     by (inl e) = go ((at_end_fine p s x e).4 idle)
       where
-        go : (x.kind ≡ kinds.Mark marks.Colon) ⊎ (x.kind ≡ kinds.Operator) → ⊥
+        go : (x.kind ≡ TokenKind.Mark Mark.Colon) ⊎ (x.kind ≡ TokenKind.Operator) → ⊥
         go (inl y) = cc
         go (inr y) = cc
-    by (inr e) = let n : x.kind ≡ kinds.Operator = e.1 in cc
+    by (inr e) = let n : x.kind ≡ TokenKind.Operator = e.1 in cc
 
 module _ (p : Place) (s : Known) (u : List ℕ) (ts : List Placed) (ahead : List ℕ) (h : Scanned p s u ts ahead) (o : ℕ) (next : Continues (o ∷ []) ahead) where
   -- the tokens that a scanner was told of, and what is open behind them, before the octet
@@ -151,11 +136,11 @@ module _ (p : Place) (s : Known) (u : List ℕ) (ts : List Placed) (ahead : List
   all = k.lexes (o ∷ []) next
 
   -- behind a symbol at the top level an octet shows that no `::` follows
-  pub no_colons : p ≡ places.Top → k.colon ≡ true → is_idle s.mode ≡ true → is_sane s.mode ≡ true → symbol_waits (feed p s o) ≡ false
+  pub no_colons : p ≡ Place.Top → k.colon ≡ true → is_idle s.mode ≡ true → is_sane s.mode ≡ true → symbol_waits (feed p s o) ≡ false
       → NoColons (u ++ o ∷ []) ts
   no_colons top colon idle sane shut =
-      let mode : InMode places.Top true k.end s.mode s.kept s.start k.since =
-      subst (λ c. InMode places.Top c k.end s.mode s.kept s.start k.since) colon
+      let mode : InMode Place.Top true k.end s.mode s.kept s.start k.since =
+      subst (λ c. InMode Place.Top c k.end s.mode s.kept s.start k.since) colon
       (subst (λ q. InMode q k.colon k.end s.mode s.kept s.start k.since) top k.holds.mode) in
       let close = colons_close k.end s.kept s.start s.used k.since s.mode idle mode in
       record {
@@ -163,15 +148,15 @@ module _ (p : Place) (s : Known) (u : List ℕ) (ts : List Placed) (ahead : List
         o = o;
         are = (k.colon, k.end, all);
         before = (close.octets, close.shows);
-        after = octet_colons p k.end k.since s o sane (subst (λ c. run p k.since (at modes.Blank [] c k.end k.end) ≡ Next s) colon k.reached)
+        after = octet_colons p k.end k.since s o sane (subst (λ c. run p k.since (at Mode.Blank [] c k.end k.end) ≡ Next s) colon k.reached)
             (symbol_colons (feed p s o) shut);
       }
 
   -- behind one `::` may follow
-  pub awaits_colons : p ≡ places.Top → k.colon ≡ true → is_idle s.mode ≡ true → ahead ≡ [] → AwaitsColons u ts
+  pub awaits_colons : p ≡ Place.Top → k.colon ≡ true → is_idle s.mode ≡ true → ahead ≡ [] → AwaitsColons u ts
   awaits_colons top colon idle none =
-      let mode : InMode places.Top true k.end s.mode s.kept s.start k.since =
-      subst (λ c. InMode places.Top c k.end s.mode s.kept s.start k.since) colon
+      let mode : InMode Place.Top true k.end s.mode s.kept s.start k.since =
+      subst (λ c. InMode Place.Top c k.end s.mode s.kept s.start k.since) colon
       (subst (λ q. InMode q k.colon k.end s.mode s.kept s.start k.since) top k.holds.mode) in
       let close = colons_close k.end s.kept s.start s.used k.since s.mode idle mode in
       let here : LexesTo false 0 (u ++ []) ts k.colon k.end (k.since ++ []) = k.lexes [] ([], sym (append-nil ahead ∙ none)) in
@@ -184,7 +169,7 @@ module _ (p : Place) (s : Known) (u : List ℕ) (ts : List Placed) (ahead : List
               (subst (λ x. LexesTo false 0 (u ++ []) ts k.colon k.end x) (append-nil k.since) here),
         );
         before = (close.octets, close.shows);
-        after = colons_told p k.end k.since s idle (subst (λ c. run p k.since (at modes.Blank [] c k.end k.end) ≡ Next s) colon k.reached);
+        after = colons_told p k.end k.since s idle (subst (λ c. run p k.since (at Mode.Blank [] c k.end k.end) ≡ Next s) colon k.reached);
       }
 
   -- where a colon may stand behind the last token, it may behind all of them
@@ -218,9 +203,9 @@ module _ (p : Place) (s : Known) (u : List ℕ) (ts : List Placed) (ahead : List
         more n kind f = subst (λ y. IsLexeme p k.colon i.token (n ∷ []) y x.octets) f (i.found (n ∷ []) pass)
 
         go : (kind : TokenKind) → x.kind ≡ kind → IsBare kind → ⊥
-        go kinds.Word f b = let w = more 97 kinds.Word f in let n : true ≡ false = w.2 in cc
-        go kinds.KindName f b = let w = more 97 kinds.KindName f in let n : true ≡ false = w.2 in cc
-        go (kinds.Mark marks.FieldsOpen) f b = let w = more 123 (kinds.Mark marks.FieldsOpen) f in let n : true ≡ false = w.3 in cc
+        go TokenKind.Word f b = let w = more 97 TokenKind.Word f in let n : true ≡ false = w.2 in cc
+        go TokenKind.KindName f b = let w = more 97 TokenKind.KindName f in let n : true ≡ false = w.2 in cc
+        go (TokenKind.Mark Mark.FieldsOpen) f b = let w = more 123 (TokenKind.Mark Mark.FieldsOpen) f in let n : true ≡ false = w.3 in cc
         go _ f b = absurd b
 
     -- 2. One that ended before the octet.
@@ -279,23 +264,23 @@ module _ (p : Place) (s : Known) (u : List ℕ) (ts : List Placed) (ahead : List
         )
 
     -- No mark but `{` and a colon is left.
-    pub left_mark : is_sane s.mode ≡ true → feed p s o ≡ Left x s' → is_closing x.kind ≡ true → x.kind ≡ kinds.Mark marks.Colon ⊎ (x.kind ≡ kinds.Operator)
+    pub left_mark : is_sane s.mode ≡ true → feed p s o ≡ Left x s' → is_closing x.kind ≡ true → x.kind ≡ TokenKind.Mark Mark.Colon ⊎ (x.kind ≡ TokenKind.Operator)
     left_mark sane e c = go (is_idle s.mode) refl
       where
-        by : IdleLeft p s.used (Left x s') → x.kind ≡ kinds.Mark marks.Colon ⊎ (x.kind ≡ kinds.Operator)
+        by : IdleLeft p s.used (Left x s') → x.kind ≡ TokenKind.Mark Mark.Colon ⊎ (x.kind ≡ TokenKind.Operator)
         by (inl y) = inl y.0
         by (inr y) = inr y.0
 
-        go : (b : Bool) → is_idle s.mode ≡ b → x.kind ≡ kinds.Mark marks.Colon ⊎ (x.kind ≡ kinds.Operator)
+        go : (b : Bool) → is_idle s.mode ≡ b → x.kind ≡ TokenKind.Mark Mark.Colon ⊎ (x.kind ≡ TokenKind.Operator)
         go true i = by (subst (IdleLeft p s.used) e (idle_left p s o i))
         go false i = absurd (never (is_closing x.kind) ((follows_as p s o (Left x s') sane e).1 i) c)
 
 -- 3. What is shown of a token that says this.
 
 abbrev pub MarkShown : Sight → List Placed → Mark → Type 0
-MarkShown sight ts marks.FieldsOpen = sight.struct ts
-MarkShown sight ts marks.Comma = Unit {0}
-MarkShown sight ts marks.Colon = Unit {0}
+MarkShown sight ts Mark.FieldsOpen = sight.struct ts
+MarkShown sight ts Mark.Comma = Unit {0}
+MarkShown sight ts Mark.Colon = Unit {0}
 MarkShown sight ts _ = sight.mark ts
 
 -- what is seen of a token that says this: a word, a struct's `{` or another mark, and nothing of others
@@ -322,9 +307,9 @@ module _ (p : Place) (s : Known) (u : List ℕ) (ts : List Placed) (ahead : List
       go (Word v) f = absurd (bare (Word v) f tt)
       go (Id id) f = absurd (bare (Id id) f tt)
       go (TypedNull k) f = absurd (bare (TypedNull k) f tt)
-      go (Mark' marks.FieldsOpen) f = absurd (bare (Mark' marks.FieldsOpen) f tt)
-      go (Mark' marks.Comma) f = tt
-      go (Mark' marks.Colon) f = tt
+      go (Mark' Mark.FieldsOpen) f = absurd (bare (Mark' Mark.FieldsOpen) f tt)
+      go (Mark' Mark.Comma) f = tt
+      go (Mark' Mark.Colon) f = tt
       go (Mark' _) f = ends
       go _ f = tt
 
@@ -335,26 +320,26 @@ module _ (p : Place) (s : Known) (u : List ℕ) (ts : List Placed) (ahead : List
       ends : (d : Content) → c ≡ d → BareSaid d → (z : ℕ) × Are (u ++ o ∷ []) (ts ++ placed p x ∷ []) (z ∷ [])
       ends d f b = left_ends p s u ts ahead h o next x s' pass e (said_bare x.kind x.octets c body (subst BareSaid (sym f) b))
 
-      closing : (m : Mark) → c ≡ Mark' m → is_closing (kinds.Mark m) ≡ true → (m ≡ marks.Colon → ⊥) → ⊥
+      closing : (m : Mark) → c ≡ Mark' m → is_closing (TokenKind.Mark m) ≡ true → (m ≡ Mark.Colon → ⊥) → ⊥
       closing m f i n =
-          let kind : x.kind ≡ kinds.Mark m = mark_kind x.kind x.octets m (subst (λ y. IsBody x.kind x.octets (Ok y)) f body) in
+          let kind : x.kind ≡ TokenKind.Mark m = mark_kind x.kind x.octets m (subst (λ y. IsBody x.kind x.octets (Ok y)) f body) in
           by m n kind (left_mark p s u ts ahead h o next x s' pass sane e (ap is_closing kind ∙ i))
         where
-          by : (m : Mark) → (m ≡ marks.Colon → ⊥) → x.kind ≡ kinds.Mark m → x.kind ≡ kinds.Mark marks.Colon ⊎ (x.kind ≡ kinds.Operator) → ⊥
-          by m n kind (inl y) = n (let q : kinds.Mark m ≡ kinds.Mark marks.Colon = sym kind ∙ y in let q' : m ≡ marks.Colon = cc in q')
-          by m n kind (inr y) = absurd (let q : kinds.Mark m ≡ kinds.Operator = sym kind ∙ y in cc)
+          by : (m : Mark) → (m ≡ Mark.Colon → ⊥) → x.kind ≡ TokenKind.Mark m → x.kind ≡ TokenKind.Mark Mark.Colon ⊎ (x.kind ≡ TokenKind.Operator) → ⊥
+          by m n kind (inl y) = n (let q : TokenKind.Mark m ≡ TokenKind.Mark Mark.Colon = sym kind ∙ y in let q' : m ≡ Mark.Colon = cc in q')
+          by m n kind (inr y) = absurd (let q : TokenKind.Mark m ≡ TokenKind.Operator = sym kind ∙ y in cc)
 
       go : (d : Content) → c ≡ d → Shown (by_octet (u ++ o ∷ [])) (ts ++ placed p x ∷ []) d
       go (Word v) f = ends (Word v) f tt
       go (Id id) f = ends (Id id) f tt
       go (TypedNull k) f = ends (TypedNull k) f tt
-      go (Mark' marks.FieldsOpen) f = ends (Mark' marks.FieldsOpen) f tt
-      go (Mark' marks.Comma) f = tt
-      go (Mark' marks.Colon) f = tt
-      go (Mark' marks.FieldsClose) f = absurd (closing marks.FieldsClose f refl (λ q. cc))
-      go (Mark' marks.ListOpen) f = absurd (closing marks.ListOpen f refl (λ q. cc))
-      go (Mark' marks.ListClose) f = absurd (closing marks.ListClose f refl (λ q. cc))
-      go (Mark' marks.SexpOpen) f = absurd (closing marks.SexpOpen f refl (λ q. cc))
-      go (Mark' marks.SexpClose) f = absurd (closing marks.SexpClose f refl (λ q. cc))
-      go (Mark' marks.Colons) f = absurd (closing marks.Colons f refl (λ q. cc))
+      go (Mark' Mark.FieldsOpen) f = ends (Mark' Mark.FieldsOpen) f tt
+      go (Mark' Mark.Comma) f = tt
+      go (Mark' Mark.Colon) f = tt
+      go (Mark' Mark.FieldsClose) f = absurd (closing Mark.FieldsClose f refl (λ q. cc))
+      go (Mark' Mark.ListOpen) f = absurd (closing Mark.ListOpen f refl (λ q. cc))
+      go (Mark' Mark.ListClose) f = absurd (closing Mark.ListClose f refl (λ q. cc))
+      go (Mark' Mark.SexpOpen) f = absurd (closing Mark.SexpOpen f refl (λ q. cc))
+      go (Mark' Mark.SexpClose) f = absurd (closing Mark.SexpClose f refl (λ q. cc))
+      go (Mark' Mark.Colons) f = absurd (closing Mark.Colons f refl (λ q. cc))
       go _ f = tt

@@ -1,64 +1,42 @@
 -- Where a row of the table stands, the octet that shows it is refused, for the row's reason or one with a smaller number, unless an item
 -- became too long before.
 use Rattle.std.proofs.Common.{◌≡◌, ℕ, ◌+◌, ◌<◌, ◌≤◌, nat_le, Bool, true, false, ◌||◌, List, [], ◌∷◌, ◌++◌, length, Result, Err, IfErr, refl, sym, ap, ◌∙◌, subst, append_assoc, append-nil, length-append, arith, if◌then◌else◌, ◌⊎◌, inl, inr, codes}
+use Rattle.ion_text.specs.Names.{Are, BlankThen, Catalog, Decides, Effect, Given, HasRow, IsIdReason, IsTableReason, Known, Left, LexesTo, Limits, Mark, Mode, Next, NoColons, Outcome, Place, Placed, Reading, Reason, Refusal, Refused, Sight, State, TokenKind, Turn, annotated, bad_table, begun, eats, fails, feed, follow, followed, gives, goes, initial, is_idle, is_sane, keyword_as_annotation, keyword_as_name, late, no_symbol, noticed, null_table, on_scan, on_settled, other_version, reaches, reads, reason_number, refuses, run, run_on, scan, settle, struct_too_deep, symbol_waits, takes, too_deep, uses, with_scan}
 use Rattle.ion_model.specs.declared.value.Payload.TheVariants as payloads
-use Rattle.ion_model.specs.Measures.{annotated}
-use Rattle.ion_atoms.specs.Reasons.{reason_number}
-use Rattle.ion_atoms.specs.declared.refusal.Reason.{Reason}
-use Rattle.ion_atoms.specs.declared.refusal.Reason.TheVariants as reasons
-use Rattle.ion_atoms.specs.declared.refusal.Refusal.{Refusal}
-use Rattle.ion_symtab.specs.Reasons.{IsIdReason, IsTableReason}
-use Rattle.ion_symtab.specs.laws.Reasons.{resolve_fails, next_fails}
-use Rattle.ion_symtab.specs.declared.limits.Limits.{Limits}
-use Rattle.ion_symtab.specs.declared.catalog.Catalog.{Catalog}
-use Rattle.ion_tokens.specs.declared.mode.Mark.TheVariants as marks
-use Rattle.ion_tokens.specs.declared.mode.Mode.TheVariants as modes
-use Rattle.ion_tokens.specs.declared.mode.Place.{Place}
-use Rattle.ion_tokens.specs.declared.mode.Place.TheVariants as places
-use Rattle.ion_tokens.specs.declared.mode.TokenKind.{TokenKind}
-use Rattle.ion_tokens.specs.declared.mode.TokenKind.TheVariants as kinds
-use Rattle.ion_tokens.specs.machine.Ahead.{is_sane, symbol_waits}
-use Rattle.ion_tokens.specs.machine.Bounds.{is_idle}
-use Rattle.ion_tokens.specs.machine.Scanning.{Known, Outcome, Next, Given, Left, Refused, feed, follow, run as scan, initial}
-use Rattle.ion_tokens.specs.Lexed.{Placed, LexesTo}
 use Rattle.ion_tokens.proofs.complete.Moves.{at}
 use Rattle.ion_tokens.proofs.complete.Wholes.{run_behind}
 use Rattle.ion_tokens.proofs.sound.Holds.{Holds, Sound, blank_behind}
 use Rattle.ion_tokens.proofs.sound.Sounds.{RunSound, feed_sound, run_sound}
-use Rattle.ion_text.specs.Deciding.{Are, Decides, Gives, HasRow, NoColons, Sight, no_symbol, keyword_as_name, keyword_as_annotation, other_version, null_table, too_deep, struct_too_deep, bad_table}
-use Rattle.ion_text.specs.Grammar.{BlankThen}
-use Rattle.ion_text.specs.machine.EachToken.{Reading, Turn, goes, gives, refuses, late, settle}
-use Rattle.ion_text.specs.machine.Pieces.{followed}
-use Rattle.ion_text.specs.machine.TokenLists.{reads}
-use Rattle.ion_text.specs.machine.Run.{State, Effect, uses, fails, eats, takes, noticed, on_scan, on_settled, reaches, with_scan, begun, run, run_on}
+use Rattle.ion_symtab.specs.laws.Reasons.{next_fails, resolve_fails}
+use Rattle.ion_text.specs.Deciding.{Gives}
+use Rattle.ion_text.specs.laws.deciding.AtEnd.{last_ends}
+use Rattle.ion_text.specs.laws.deciding.Finding.{EndsThere, IsLeft, ends_there, tokens_seen}
+use Rattle.ion_text.specs.laws.deciding.Fronts.{HasEnded, origin}
+use Rattle.ion_text.specs.laws.deciding.Heading.{Never, refused_heads, waiting_heads}
+use Rattle.ion_text.specs.laws.deciding.OneOctet.{Seen, behind_kind, refused, seen, unfollowed, waited_ended}
+use Rattle.ion_text.specs.laws.deciding.Reaching.{Sees, last_given, last_left, reached, rests, sees_given, sees_left, sees_some, worse_less}
+use Rattle.ion_text.specs.laws.deciding.Shows.{IsBare, last_flag}
+use Rattle.ion_text.specs.laws.deciding.Tokens.{Refusing, Stops}
+use Rattle.ion_text.specs.laws.deciding.Waiting.{Pends, pend}
 use Rattle.ion_text.specs.laws.reading.complete.Found.{lexes_operators, next_is, no_more}
 use Rattle.ion_text.specs.laws.reading.complete.Meets.{follows_as}
 use Rattle.ion_text.specs.laws.showing.refused.Ahead.{last_parted, octet_colons}
 use Rattle.ion_text.specs.laws.showing.refused.Halts.{symbol_colons}
 use Rattle.ion_text.specs.laws.showing.refused.Told.{given_colons}
 use Rattle.ion_text.specs.laws.showing.tokens.Closing.{colons_close}
-use Rattle.ion_text.specs.laws.deciding.AtEnd.{last_ends}
-use Rattle.ion_text.specs.laws.deciding.Finding.{EndsThere, IsLeft, ends_there, tokens_seen}
-use Rattle.ion_text.specs.laws.deciding.Fronts.{origin, HasEnded}
-use Rattle.ion_text.specs.laws.deciding.Heading.{Never, refused_heads, waiting_heads}
-use Rattle.ion_text.specs.laws.deciding.OneOctet.{Seen, refused, unfollowed, behind_kind, seen, waited_ended}
-use Rattle.ion_text.specs.laws.deciding.Reaching.{Sees, rests, last_given, last_left, sees_given, sees_left, sees_some, reached, worse_less}
-use Rattle.ion_text.specs.laws.deciding.Shows.{IsBare, last_flag}
-use Rattle.ion_text.specs.laws.deciding.Tokens.{Refusing, Stops}
-use Rattle.ion_text.specs.laws.deciding.Waiting.{Pends, pend}
 
 -- 1. The reasons of rows.
 
 id_row : (e : Reason) → IsIdReason e → HasRow e
-id_row reasons.SymbolRange h = tt
-id_row reasons.ImportGap h = tt
+id_row Reason.SymbolRange h = tt
+id_row Reason.ImportGap h = tt
 id_row _ h = absurd h
 
 table_row : (e : Reason) → IsTableReason e → HasRow e
-table_row reasons.NullTable h = tt
-table_row reasons.RepeatedField h = tt
-table_row reasons.MissingImport h = tt
-table_row reasons.TableTooLarge h = tt
+table_row Reason.NullTable h = tt
+table_row Reason.RepeatedField h = tt
+table_row Reason.MissingImport h = tt
+table_row Reason.TableTooLarge h = tt
 table_row _ h = absurd h
 
 -- a row's reason is one that rows have
@@ -78,7 +56,7 @@ has_row g l sight _ (bad_table ts c ss ms e shown h table why) =
 
 -- an item became too long before, or the last of them is refused for the reason, or for one with a smaller number
 abbrev pub StopsFor : ℕ → Reason → Refusal → Type 0
-StopsFor total e r = ((r.reason ≡ reasons.ItemTooLong) × (r.offset < total)) ⊎ ((r.offset ≡ total) × (reason_number r.reason ≤ reason_number e))
+StopsFor total e r = ((r.reason ≡ Reason.ItemTooLong) × (r.offset < total)) ⊎ ((r.offset ≡ total) × (reason_number r.reason ≤ reason_number e))
 
 abbrev pub Stopped : ℕ → Reason → Result State Refusal → Type 0
 Stopped total e now = (r : Refusal) × (now ≡ Err r) × StopsFor total e r
@@ -88,19 +66,19 @@ abbrev pub Nothing' : Known → List ℕ → Type 0
 Nothing' s os = ⊥
 
 zero_behind : (k : TokenKind) → (IsBare k → ⊥) → behind_kind k ≡ 0
-zero_behind kinds.Word n = absurd (n tt)
-zero_behind kinds.KindName n = absurd (n tt)
-zero_behind (kinds.Mark marks.FieldsOpen) n = absurd (n tt)
+zero_behind TokenKind.Word n = absurd (n tt)
+zero_behind TokenKind.KindName n = absurd (n tt)
+zero_behind (TokenKind.Mark Mark.FieldsOpen) n = absurd (n tt)
 zero_behind _ n = refl
 
 behind_most : (k : TokenKind) → behind_kind k ≤ 1
-behind_most kinds.Word = omega arith
-behind_most kinds.KindName = omega arith
-behind_most (kinds.Mark marks.FieldsOpen) = omega arith
+behind_most TokenKind.Word = omega arith
+behind_most TokenKind.KindName = omega arith
+behind_most (TokenKind.Mark Mark.FieldsOpen) = omega arith
 behind_most _ = omega arith
 
-too_long : (total to : ℕ) (e : Reason) → to < total → Stopped total e (Err (record { offset = to; reason = reasons.ItemTooLong }))
-too_long total to e h = (record { offset = to; reason = reasons.ItemTooLong }, refl, inl (refl, h))
+too_long : (total to : ℕ) (e : Reason) → to < total → Stopped total e (Err (record { offset = to; reason = Reason.ItemTooLong }))
+too_long total to e h = (record { offset = to; reason = Reason.ItemTooLong }, refl, inl (refl, h))
 
 -- 3. Rows whose last token is refused.
 
@@ -139,8 +117,8 @@ module _ (g : Catalog) (l : Limits) (u : List ℕ) (e : Reason) (row : HasRow e)
 
 -- in these octets `::` may follow up to the last one, which shows that it doesn't
 data Unfollowed : Known → List ℕ → Type 0 where
-  shows : (s : Known) (o : ℕ) → symbol_waits (feed places.Top s o) ≡ false → Unfollowed s (o ∷ [])
-  may : (s : Known) (o : ℕ) (os : List ℕ) (s' : Known) → feed places.Top s o ≡ Next s' → is_idle s'.mode ≡ true → Unfollowed s' os → Unfollowed s (o ∷ os)
+  shows : (s : Known) (o : ℕ) → symbol_waits (feed Place.Top s o) ≡ false → Unfollowed s (o ∷ [])
+  may : (s : Known) (o : ℕ) (os : List ℕ) (s' : Known) → feed Place.Top s o ≡ Next s' → is_idle s'.mode ≡ true → Unfollowed s' os → Unfollowed s (o ∷ os)
 
 unfollowed_some : (s : Known) (os : List ℕ) → Unfollowed s os → 0 < length os
 unfollowed_some _ _ (shows s o w) = omega arith
@@ -152,47 +130,47 @@ run_sane p (x ∷ xs) s t h e = let f = followed (feed p s x) (λ k. scan p xs k
 
 -- the scanner has come to this over octets behind a token at the top level that may be a symbol, and that ended there
 pub record Stands (k : ℕ) (s : Known) (since : List ℕ) : Type 0 where
-  pub holds : Holds places.Top true k s since
-  pub ran : scan places.Top since (at modes.Blank [] true k k) ≡ Next s
+  pub holds : Holds Place.Top true k s since
+  pub ran : scan Place.Top since (at Mode.Blank [] true k k) ≡ Next s
   pub sane : is_sane s.mode ≡ true
 
 pub stands_left : (colon : Bool) (k : ℕ) (octets : List ℕ) (s : Known) (rest : List ℕ) → colon ≡ true → (w : IsLeft colon k octets s rest)
     → Stands k s w.ahead
 stands_left colon k octets s rest flag w = record {
-  holds = subst (λ x. RunSound places.Top true k [] w.ahead x) ran
-      (run_sound places.Top true k w.ahead [] (at modes.Blank [] true k k) (blank_behind places.Top true k));
+  holds = subst (λ x. RunSound Place.Top true k [] w.ahead x) ran
+      (run_sound Place.Top true k w.ahead [] (at Mode.Blank [] true k k) (blank_behind Place.Top true k));
   ran = ran;
-  sane = run_sane places.Top w.ahead (at modes.Blank [] true k k) s refl ran;
+  sane = run_sane Place.Top w.ahead (at Mode.Blank [] true k k) s refl ran;
 }
   where
-    ran : scan places.Top w.ahead (at modes.Blank [] true k k) ≡ Next s
-    ran = subst (λ c. scan places.Top w.ahead (at modes.Blank [] c k k) ≡ Next s) flag (w.reached places.Top)
+    ran : scan Place.Top w.ahead (at Mode.Blank [] true k k) ≡ Next s
+    ran = subst (λ c. scan Place.Top w.ahead (at Mode.Blank [] c k k) ≡ Next s) flag (w.reached Place.Top)
 
-pub stands_on : (k : ℕ) (s : Known) (since : List ℕ) (x : ℕ) (t : Known) → Stands k s since → feed places.Top s x ≡ Next t → Stands k t (since ++ x ∷ [])
+pub stands_on : (k : ℕ) (s : Known) (since : List ℕ) (x : ℕ) (t : Known) → Stands k s since → feed Place.Top s x ≡ Next t → Stands k t (since ++ x ∷ [])
 stands_on k s since x t h f = record {
-  holds = subst (λ y. Sound places.Top true k since x y) f (feed_sound places.Top true k s since x h.holds);
-  ran = run_behind places.Top since (x ∷ []) (at modes.Blank [] true k k) s h.ran ∙ ap (λ y. follow y (λ m. Next m)) f;
-  sane = (follows_as places.Top s x (Next t) h.sane f).0;
+  holds = subst (λ y. Sound Place.Top true k since x y) f (feed_sound Place.Top true k s since x h.holds);
+  ran = run_behind Place.Top since (x ∷ []) (at Mode.Blank [] true k k) s h.ran ∙ ap (λ y. follow y (λ m. Next m)) f;
+  sane = (follows_as Place.Top s x (Next t) h.sane f).0;
 }
 
 -- an octet is used, and no token has begun behind it, where `::` may follow it, and doesn't
 pub waits_on : (k : ℕ) (s : Known) (since : List ℕ) (x : ℕ) (ys zs : List ℕ) → Stands k s since → BlankThen (codes "::") (since ++ x ∷ zs)
-    → (BlankThen (codes "::") (since ++ x ∷ ys) → ⊥) → (t : Known) × (feed places.Top s x ≡ Next t) × (is_idle t.mode ≡ true)
-waits_on k s since x ys zs h before none = go (feed places.Top s x) refl
+    → (BlankThen (codes "::") (since ++ x ∷ ys) → ⊥) → (t : Known) × (feed Place.Top s x ≡ Next t) × (is_idle t.mode ≡ true)
+waits_on k s since x ys zs h before none = go (feed Place.Top s x) refl
   where
-    waits : symbol_waits (feed places.Top s x) ≡ false → ⊥
-    waits w = octet_colons places.Top k since s x h.sane h.ran (symbol_colons (feed places.Top s x) w) zs before
+    waits : symbol_waits (feed Place.Top s x) ≡ false → ⊥
+    waits w = octet_colons Place.Top k since s x h.sane h.ran (symbol_colons (feed Place.Top s x) w) zs before
 
-    go : (y : Outcome) → feed places.Top s x ≡ y → (t : Known) × (feed places.Top s x ≡ Next t) × (is_idle t.mode ≡ true)
+    go : (y : Outcome) → feed Place.Top s x ≡ y → (t : Known) × (feed Place.Top s x ≡ Next t) × (is_idle t.mode ≡ true)
     go (Next t) f = idle (is_idle t.mode) refl
       where
-        idle : (b : Bool) → is_idle t.mode ≡ b → (n : Known) × (feed places.Top s x ≡ Next n) × (is_idle n.mode ≡ true)
+        idle : (b : Bool) → is_idle t.mode ≡ b → (n : Known) × (feed Place.Top s x ≡ Next n) × (is_idle n.mode ≡ true)
         idle true i = (t, f, i)
         idle false i = absurd (waits (ap symbol_waits f ∙ i))
     go (Given y t) f = told (symbol_waits (Given y t)) refl
       where
-        told : (b : Bool) → symbol_waits (Given y t) ≡ b → (n : Known) × (feed places.Top s x ≡ Next n) × (is_idle n.mode ≡ true)
-        told true i = absurd (none ((given_colons places.Top true k s since x h.holds y t f i).1 ys))
+        told : (b : Bool) → symbol_waits (Given y t) ≡ b → (n : Known) × (feed Place.Top s x ≡ Next n) × (is_idle n.mode ≡ true)
+        told true i = absurd (none ((given_colons Place.Top true k s since x h.holds y t f i).1 ys))
         told false i = absurd (waits (ap symbol_waits f ∙ i))
     go (Left y t) f = absurd (waits (ap symbol_waits f))
     go (Refused n y) f = absurd (waits (ap symbol_waits f))
@@ -208,24 +186,24 @@ module _ (u : List ℕ) (ts : List Placed) (none : NoColons u ts) (k : ℕ) wher
       never more b = none.after more (subst (BlankThen (codes "::")) (ap (λ y. y ++ more) (sym cut) ∙ append_assoc none.rest (none.o ∷ []) more) b)
 
       -- `::` doesn't end with the octet
-      given : (y : _) (t : Known) → feed places.Top s x ≡ Given y t → symbol_waits (Given y t) ≡ true → ⊥
+      given : (y : _) (t : Known) → feed Place.Top s x ≡ Given y t → symbol_waits (Given y t) ≡ true → ⊥
       given y t f c = never [] (subst (BlankThen (codes "::")) (sym (append-nil (since ++ x ∷ ys)))
-          ((given_colons places.Top true k s since x h.holds y t f c).1 ys))
+          ((given_colons Place.Top true k s since x h.holds y t f c).1 ys))
 
       by : ((x ∷ ys ≡ []) × (since ≡ none.rest ++ none.o ∷ [])) ⊎ ((front : List ℕ) × (x ∷ ys ≡ front ++ none.o ∷ []) × (none.rest ≡ since ++ front))
-          → ((t : Known) → feed places.Top s x ≡ Next t → (ys ≡ [] → ⊥) → Unfollowed t ys) → Unfollowed s (x ∷ ys)
+          → ((t : Known) → feed Place.Top s x ≡ Next t → (ys ≡ [] → ⊥) → Unfollowed t ys) → Unfollowed s (x ∷ ys)
       by (inl (e, f)) more = absurd cc
       by (inr ([], e, f)) more =
           let only : ys ≡ [] = cc in
-          subst (λ y. Unfollowed s (x ∷ y)) (sym only) (shows s x (go (feed places.Top s x) refl only))
+          subst (λ y. Unfollowed s (x ∷ y)) (sym only) (shows s x (go (feed Place.Top s x) refl only))
         where
-          go : (y : Outcome) → feed places.Top s x ≡ y → ys ≡ [] → symbol_waits y ≡ false
+          go : (y : Outcome) → feed Place.Top s x ≡ y → ys ≡ [] → symbol_waits y ≡ false
           go (Next t) f only = idle (is_idle t.mode) refl
             where
               idle : (b : Bool) → is_idle t.mode ≡ b → b ≡ false
               idle false i = refl
               idle true i =
-                  let here = subst (λ y. Sound places.Top true k since x y) f (feed_sound places.Top true k s since x h.holds) in
+                  let here = subst (λ y. Sound Place.Top true k since x y) f (feed_sound Place.Top true k s since x h.holds) in
                   let close = colons_close k t.kept t.start t.used (since ++ x ∷ []) t.mode i here.mode in
                   absurd (never close.octets (subst (λ y. BlankThen (codes "::") ((since ++ x ∷ y) ++ close.octets)) (sym only) close.shows))
           go (Given y t) f only = told (symbol_waits (Given y t)) refl
@@ -247,13 +225,13 @@ module _ (u : List ℕ) (ts : List Placed) (none : NoColons u ts) (k : ℕ) wher
           some' : ys ≡ [] → ⊥
           some' n = omega (arith, ap length (sym others ∙ n), length-append zs (none.o ∷ []))
 
-          on : (t : Known) × (feed places.Top s x ≡ Next t) × (is_idle t.mode ≡ true)
+          on : (t : Known) × (feed Place.Top s x ≡ Next t) × (is_idle t.mode ≡ true)
           on = waits_on k s since x ys (zs ++ none.before.0) h (subst (BlankThen (codes "::")) same none.before.1)
               (λ b. never [] (subst (BlankThen (codes "::")) (sym (append-nil (since ++ x ∷ ys))) b))
 
 -- an octet behind what waits is used
 pub waits_uses : (g : Catalog) (l : Limits) (ts : List Placed) (e : Reason) (p : Pends g l ts e) (s : Known) (o : ℕ) (s' : Known)
-    → feed places.Top s o ≡ Next s' → is_idle s'.mode ≡ true → eats g l (with_scan s (pend g l ts e p)) o ≡ noticed l (pend g l ts e p) s'
+    → feed Place.Top s o ≡ Next s' → is_idle s'.mode ≡ true → eats g l (with_scan s (pend g l ts e p)) o ≡ noticed l (pend g l ts e p) s'
 waits_uses g l ts e p s o s' f i =
     let P = pend g l ts e p in
     let again = λ (k : State). takes g l 2 k o in
@@ -278,10 +256,10 @@ module _ (g : Catalog) (l : Limits) (u : List ℕ) (e : Reason) (row : HasRow e)
       → IsLeft none.are.0 none.are.1 (none.rest ++ none.o ∷ []) n rest → Sees ⊥ ⊥ Unfollowed k (o ∷ rest) (p.token ∷ [])
   given k o n rest f w = sees_given k o rest p.token [] n f (rests n rest (from n rest w some))
     where
-      holds : Holds places.Top none.are.0 none.are.1 n w.ahead
-      holds = subst (λ x. RunSound places.Top none.are.0 none.are.1 [] w.ahead x) (w.reached places.Top)
-          (run_sound places.Top none.are.0 none.are.1 w.ahead [] (at modes.Blank [] none.are.0 none.are.1 none.are.1)
-          (blank_behind places.Top none.are.0 none.are.1))
+      holds : Holds Place.Top none.are.0 none.are.1 n w.ahead
+      holds = subst (λ x. RunSound Place.Top none.are.0 none.are.1 [] w.ahead x) (w.reached Place.Top)
+          (run_sound Place.Top none.are.0 none.are.1 w.ahead [] (at Mode.Blank [] none.are.0 none.are.1 none.are.1)
+          (blank_behind Place.Top none.are.0 none.are.1))
 
       some : rest ≡ [] → ⊥
       some z = omega (
@@ -311,7 +289,7 @@ module _ (g : Catalog) (l : Limits) (u : List ℕ) (e : Reason) (row : HasRow e)
       → Stopped (length u) e (run g l to (with_scan s P) os).now
   rest_stopped _ _ (shows s o w) to all =
       let again = λ (k : State). takes g l 2 k o in
-      let x = feed places.Top s o in
+      let x = feed Place.Top s o in
       let q = settled_fails again s x (settle g l P) p.why in
       let eff : eats g l (with_scan s P) o ≡ fails q.0 =
       ap (λ b. if b || false then on_scan g l again P x else on_settled g l again s x (settle g l P)) w ∙ q.1 in
@@ -323,7 +301,7 @@ module _ (g : Catalog) (l : Limits) (u : List ℕ) (e : Reason) (row : HasRow e)
     where
       go : (b : Bool) → Stopped (length u) e (run g l (to + 1) (with_scan s' P) os).now
           → Stopped (length u) e (run_on to (λ n. eats g l n o) (λ n. run g l (to + 1) n os)
-          (if b then uses (with_scan s' P) else fails reasons.ItemTooLong)).now
+          (if b then uses (with_scan s' P) else fails Reason.ItemTooLong)).now
       go true h = h
       go false h = too_long (length u) (to + 1) e (omega (arith, all, unfollowed_some s' os m))
 

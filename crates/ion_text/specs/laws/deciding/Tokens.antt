@@ -3,68 +3,32 @@ use Rattle.std.proofs.Common.{◌≡◌, ℕ, ◌+◌, ◌≤◌, nat_lt, Bool, 
 use Rattle.std.proofs.lemmas.Bool.{cond-true}
 use Rattle.std.proofs.lemmas.Bool.Decides.{nat_tests}
 use Rattle.std.specs.Str.{bytes_eq}
-use Rattle.ion_model.specs.declared.value.Value.{Value}
-use Rattle.ion_model.specs.declared.value.Field.{Field}
-use Rattle.ion_model.specs.declared.value.Payload.{Payload}
+use Rattle.ion_text.specs.Names.{Annotations, Are, Bracket, Catalog, Comes, Container, Content, Field, Frame, Held, Id, InField, InList, InSexp, InStruct, IsBody, IsKeyword, IsScalar, Kind, Known, Layer, Limits, Mark, Mark', Means, Members, Now, Payload, Payload-F, Place, Placed, Plain, Reading, Reason, Says, Slot, Symbols, TakesValue, TokenKind, Turn, TypedNull, Value, Walk, Word, adds_values, annotated, at, at_end, begins_as_long, begun_at, close_place, continues, depth, done, end_of, ended, ends_long, first_token, fresh, gives, goes, held_symbol, held_word, is_blob, is_clob, is_closing, is_decimal, is_false, is_idle, is_int, is_keyword, is_list, is_null, is_operator, is_short, is_struct, is_symbol, is_table, is_timestamp, is_true, is_typed_null, is_version, late, long_string, means, next, noted, on_ready, on_turn, one_token, open_mark, pending_at, place, place_of, reads, refuses, resolve, resolved, said, said_ok, spot_at, stopped, the_marker, token_of, turn, turned, under}
 use Rattle.ion_model.specs.declared.value.Payload.TheVariants as payloads
-use Rattle.ion_model.specs.declared.value.Payload.TheOpen.{Payload-F}
 use Rattle.ion_model.specs.declared.value.Payload.TheViews as views
-use Rattle.ion_model.specs.Measures.{Layer, depth, annotated}
-use Rattle.ion_model.specs.Kinds.{is_table}
-use Rattle.ion_atoms.specs.declared.kind.Kind.TheVariants as values
-use Rattle.ion_atoms.specs.declared.refusal.Reason.{Reason}
-use Rattle.ion_atoms.specs.declared.refusal.Reason.TheVariants as reasons
-use Rattle.ion_symtab.specs.declared.limits.Limits.{Limits}
-use Rattle.ion_symtab.specs.declared.catalog.Catalog.{Catalog}
-use Rattle.ion_symtab.specs.Slots.{Slot, resolve}
-use Rattle.ion_symtab.specs.Next.{next}
-use Rattle.ion_tokens.specs.declared.mode.Mark.{Mark}
-use Rattle.ion_tokens.specs.declared.mode.Mark.TheVariants as marks
-use Rattle.ion_tokens.specs.declared.mode.Place.{Place}
-use Rattle.ion_tokens.specs.declared.mode.Place.TheVariants as places
-use Rattle.ion_tokens.specs.declared.mode.TokenKind.{TokenKind}
-use Rattle.ion_tokens.specs.declared.mode.TokenKind.TheVariants as kinds
-use Rattle.ion_tokens.specs.machine.Table.{end_of}
-use Rattle.ion_tokens.specs.machine.Bounds.{is_idle}
-use Rattle.ion_tokens.specs.machine.Ahead.{is_closing}
-use Rattle.ion_tokens.specs.machine.Said.{said}
-use Rattle.ion_tokens.specs.machine.Scanning.{Known, at_end}
-use Rattle.ion_tokens.specs.Bodies.{Content, Word, Id, TypedNull, Mark', IsBody}
-use Rattle.ion_tokens.specs.Lexed.{Placed}
-use Rattle.ion_text.specs.declared.state.Held.{Held}
-use Rattle.ion_text.specs.declared.state.Held.TheVariants as helds
-use Rattle.ion_text.specs.declared.state.Frame.{Frame}
-use Rattle.ion_text.specs.declared.state.Frame.TheVariants as frames
-use Rattle.ion_text.specs.declared.state.Now.TheVariants as nows
-use Rattle.ion_text.specs.Grammar.{Says, Annotations, Plain, one_token, long_string, is_list, is_sexp, is_struct, Means, means, Members, IsScalar, is_null, is_typed_null, is_true, is_false, is_int, is_decimal, is_timestamp, is_symbol, is_operator, is_short, is_clob, is_blob, is_keyword, is_version, the_marker, close_place, ends_long, begins_as_long}
-use Rattle.ion_text.specs.Deciding.{Container, InList, InSexp, InStruct, InField, place_of, TakesValue, Comes, Ends, Are, IsKeyword}
-use Rattle.ion_text.specs.machine.EachToken.{under, spot_at, Reading, Turn, goes, gives, refuses, late, Symbols, at, fresh, place, turn, ended, turned, held_word, held_symbol, begun_at, on_ready, resolved, noted}
-use Rattle.ion_text.specs.machine.Run.{token_of}
-use Rattle.ion_text.specs.machine.TokenLists.{Walk, walked, stopped, adds_values, done, on_turn, continues, reads, said_ok, first_token}
-use Rattle.ion_text.specs.laws.reading.sound.Admits.{at_end_fine}
-use Rattle.ion_text.specs.laws.reading.complete.Complete.{depth-struct, starts, notes_read, read_behind, open_read, members_read, struct_ends, means_begins}
-use Rattle.ion_text.specs.laws.reading.sound.Depths.{Deep}
+use Rattle.ion_text.specs.Deciding.{Ends}
+use Rattle.ion_text.specs.Grammar.{is_sexp}
+use Rattle.ion_text.specs.machine.TokenLists.{walked}
+use Rattle.ion_text.specs.laws.deciding.AtEnd.{last_ends}
+use Rattle.ion_text.specs.laws.deciding.Comings.{JoinsNothing, before, came, came_name, cut, cut_name, f, go_on, go_on_name, here, same_levels, settles, settles_name, struct, up_to}
+use Rattle.ion_text.specs.laws.deciding.Fronts.{Came, HasEnded, SettlesTo, origin, stands_read, struct_now, struct_settles}
+use Rattle.ion_text.specs.laws.deciding.Openings.{begins_so}
+use Rattle.ion_text.specs.laws.deciding.Shows.{BareSaid, IsBare, said_bare}
+use Rattle.ion_text.specs.laws.reading.Brackets.{no_colons}
+use Rattle.ion_text.specs.laws.reading.complete.Complete.{depth-struct, means_begins, members_read, notes_read, open_read, read_behind, starts, struct_ends}
 use Rattle.ion_text.specs.laws.reading.complete.Going.{mark_kind}
 use Rattle.ion_text.specs.laws.reading.complete.Meets.{end_spans}
-use Rattle.ion_text.specs.laws.reading.complete.Pieces.{pieces_read, more_read, walked_now}
-use Rattle.ion_text.specs.machine.Places.{pending_at}
+use Rattle.ion_text.specs.laws.reading.complete.Pieces.{more_read, pieces_read, walked_now}
 use Rattle.ion_text.specs.laws.reading.complete.Segments.{never}
+use Rattle.ion_text.specs.laws.reading.sound.Admits.{at_end_fine}
+use Rattle.ion_text.specs.laws.reading.sound.Depths.{Deep}
 use Rattle.ion_text.specs.laws.reading.sound.StandsOpen.{Opened}
 use Rattle.ion_text.specs.laws.showing.tokens.Cuts.{lexed_front}
-use Rattle.ion_text.specs.laws.deciding.AtEnd.{last_ends}
-use Rattle.ion_text.specs.laws.deciding.Openings.{begins_so}
-use Rattle.ion_text.specs.laws.deciding.Shows.{IsBare, BareSaid, said_bare}
-use Rattle.ion_text.specs.laws.deciding.Fronts.{origin, Came, HasEnded, SettlesTo, struct_now, struct_settles, stands_read}
-use Rattle.ion_text.specs.laws.deciding.Comings.{JoinsNothing, same_levels, before, cut, f, here, came, settles, go_on, struct, up_to, cut_name, came_name, settles_name, go_on_name}
-use Rattle.ion_visiting.specs.declared.bracket.Bracket.TheVariants as brackets
-use Rattle.ion_visiting.specs.declared.bracket.Bracket.{Bracket}
-use Rattle.ion_text.specs.machine.Nested.{open_mark}
-use Rattle.ion_text.specs.laws.reading.Brackets.{no_colons}
 
 -- 1. Tokens that have ended.
 
 -- where octets are left behind the last token, it has ended
-pub ended_by_rest : (g : Catalog) (l : Limits) (u : List ℕ) (ts : List Placed) (t : Placed) (o : ℕ) (rest : List ℕ) → (t.lexeme.kind ≡ kinds.Operator → ⊥)
+pub ended_by_rest : (g : Catalog) (l : Limits) (u : List ℕ) (ts : List Placed) (t : Placed) (o : ℕ) (rest : List ℕ) → (t.lexeme.kind ≡ TokenKind.Operator → ⊥)
     → Are u (ts ++ t ∷ []) (rest ++ o ∷ []) → HasEnded g l u t
 ended_by_rest g l u ts t o rest plain (colon, end, lexes) = record {
   plain = plain;
@@ -85,17 +49,17 @@ ended_by_rest g l u ts t o rest plain (colon, end, lexes) = record {
         )
 
 -- what says a word or opens a struct is no operator
-pub bare_plain : (k : TokenKind) → IsBare k → k ≡ kinds.Operator → ⊥
-bare_plain kinds.Word b e = cc
-bare_plain kinds.KindName b e = cc
-bare_plain (kinds.Mark m) b e = cc
-bare_plain kinds.Number b e = absurd b
-bare_plain kinds.Operator b e = absurd b
-bare_plain kinds.QuotedSymbol b e = absurd b
-bare_plain kinds.ShortString b e = absurd b
-bare_plain kinds.LongString b e = absurd b
-bare_plain kinds.Clob b e = absurd b
-bare_plain kinds.Blob b e = absurd b
+pub bare_plain : (k : TokenKind) → IsBare k → k ≡ TokenKind.Operator → ⊥
+bare_plain TokenKind.Word b e = cc
+bare_plain TokenKind.KindName b e = cc
+bare_plain (TokenKind.Mark m) b e = cc
+bare_plain TokenKind.Number b e = absurd b
+bare_plain TokenKind.Operator b e = absurd b
+bare_plain TokenKind.QuotedSymbol b e = absurd b
+bare_plain TokenKind.ShortString b e = absurd b
+bare_plain TokenKind.LongString b e = absurd b
+bare_plain TokenKind.Clob b e = absurd b
+bare_plain TokenKind.Blob b e = absurd b
 
 -- a token that the octet behind it shows has ended where an octet stands behind it
 pub bare_ended : (g : Catalog) (l : Limits) (u : List ℕ) (ts : List Placed) (t : Placed) (p : Place) (d : Content) (o : ℕ) (rest : List ℕ) → Says p t d
@@ -104,20 +68,20 @@ bare_ended g l u ts t p d o rest says b are = ended_by_rest g l u ts t o rest (b
     are
 
 -- a mark that the end doesn't end has ended with its last octet
-pub mark_ended : (g : Catalog) (l : Limits) (u : List ℕ) (p : Place) (t : Placed) (m : Mark) → Says p t (Mark' m) → is_closing (kinds.Mark m) ≡ true
-    → (m ≡ marks.Colon → ⊥) → HasEnded g l u t
+pub mark_ended : (g : Catalog) (l : Limits) (u : List ℕ) (p : Place) (t : Placed) (m : Mark) → Says p t (Mark' m) → is_closing (TokenKind.Mark m) ≡ true
+    → (m ≡ Mark.Colon → ⊥) → HasEnded g l u t
 mark_ended g l u p t m says closing n = record {
-  plain = λ e. let k : kinds.Mark m ≡ kinds.Operator = sym kind ∙ e in absurd cc;
-  word = λ e i. let k : kinds.Mark m ≡ kinds.Word = sym kind ∙ e in absurd cc;
+  plain = λ e. let k : TokenKind.Mark m ≡ TokenKind.Operator = sym kind ∙ e in absurd cc;
+  word = λ e i. let k : TokenKind.Mark m ≡ TokenKind.Word = sym kind ∙ e in absurd cc;
   closed = λ q s used e. go q s e (is_idle s.mode) refl;
 }
   where
-    kind : t.lexeme.kind ≡ kinds.Mark m
+    kind : t.lexeme.kind ≡ TokenKind.Mark m
     kind = mark_kind t.lexeme.kind t.lexeme.octets m says.body
 
-    by : (t.lexeme.kind ≡ kinds.Mark marks.Colon) ⊎ (t.lexeme.kind ≡ kinds.Operator) → ⊥
-    by (inl y) = n (let q : kinds.Mark m ≡ kinds.Mark marks.Colon = sym kind ∙ y in let q' : m ≡ marks.Colon = cc in q')
-    by (inr y) = absurd (let q : kinds.Mark m ≡ kinds.Operator = sym kind ∙ y in cc)
+    by : (t.lexeme.kind ≡ TokenKind.Mark Mark.Colon) ⊎ (t.lexeme.kind ≡ TokenKind.Operator) → ⊥
+    by (inl y) = n (let q : TokenKind.Mark m ≡ TokenKind.Mark Mark.Colon = sym kind ∙ y in let q' : m ≡ Mark.Colon = cc in q')
+    by (inr y) = absurd (let q : TokenKind.Mark m ≡ TokenKind.Operator = sym kind ∙ y in cc)
 
     go : (q : Place) (s : Known) → at_end q s ≡ Ok (Some t.lexeme) → (b : Bool) → is_idle s.mode ≡ b → ⊥
     go q s e false h = never (is_closing t.lexeme.kind) ((at_end_fine q s t.lexeme e).2 h) (ap is_closing kind ∙ closing)
@@ -136,8 +100,8 @@ id_apart id = record { long = λ v e. cc; quoted = λ v e. cc; colons = λ e. cc
 pub null_apart : (k : _) → JoinsNothing (TypedNull k)
 null_apart k = record { long = λ v e. cc; quoted = λ v e. cc; colons = λ e. cc }
 
-mark_apart : (m : Mark) → (m ≡ marks.Colons → ⊥) → JoinsNothing (Mark' m)
-mark_apart m n = record { long = λ v e. cc; quoted = λ v e. cc; colons = λ e. n (let h : m ≡ marks.Colons = cc in h) }
+mark_apart : (m : Mark) → (m ≡ Mark.Colons → ⊥) → JoinsNothing (Mark' m)
+mark_apart m n = record { long = λ v e. cc; quoted = λ v e. cc; colons = λ e. n (let h : m ≡ Mark.Colons = cc in h) }
 
 too_many : (a b depth : ℕ) → depth ≤ b → a ≡ b → nat_lt a depth ≡ false
 too_many a b depth h e = grind (arith, nat_tests)
@@ -151,13 +115,13 @@ fields_in (Payload-F.Fields fs) = fs
 fields_in _ = []
 
 -- a keyword is held as no symbol
-keyword_held : (w : List ℕ) → is_keyword w ≡ true → held_symbol (held_word w) ≡ Err reasons.KeywordAsName
+keyword_held : (w : List ℕ) → is_keyword w ≡ true → held_symbol (held_word w) ≡ Err Reason.KeywordAsName
 keyword_held w h = go (bytes_eq w (codes "null")) (bytes_eq w (codes "true")) (bytes_eq w (codes "false")) (bytes_eq w (codes "nan")) h
   where
     go : (a b c d : Bool) → ((a || b) || (c || d)) ≡ true
-        → held_symbol (if a then helds.Null values.Null else (if b then helds.Truth true else
-        (if c then helds.Truth false else (if d then helds.Nan else
-        (if is_version w then helds.Version (bytes_eq w the_marker) (Some w) else helds.Symbol (Some w)))))) ≡ Err reasons.KeywordAsName
+        → held_symbol (if a then Held.Null Kind.Null else (if b then Held.Truth true else
+        (if c then Held.Truth false else (if d then Held.Nan else
+        (if is_version w then Held.Version (bytes_eq w the_marker) (Some w) else Held.Symbol (Some w)))))) ≡ Err Reason.KeywordAsName
     go true b c d h = refl
     go false true c d h = refl
     go false false true d h = refl
@@ -207,15 +171,15 @@ refusing_noted e start c fs ss r h = subst (λ x. Refusing e (noted start c fs s
 
 -- a token behind others is refused where it comes by itself, or as the `::` behind what waits
 pub data Why (g : Catalog) (l : Limits) (ts : List Placed) (t : Placed) (e : Reason) : Type 0 where
-  by_itself : (m : Reading) (c : Content) → SettlesTo g l ts m → said t.lexeme.kind t.lexeme.octets ≡ Ok c → (t.lexeme.kind ≡ kinds.Mark marks.Colons → ⊥)
+  by_itself : (m : Reading) (c : Content) → SettlesTo g l ts m → said t.lexeme.kind t.lexeme.octets ≡ Ok c → (t.lexeme.kind ≡ TokenKind.Mark Mark.Colons → ⊥)
       → Refusing e (turn g l m (token_of t.lexeme c)) → JoinsNothing c → Why g l ts t e
-  as_colons : (n : Reading) (vs : List Value) → reads g l (origin g l) ts ≡ walked vs n → t.lexeme.kind ≡ kinds.Mark marks.Colons
-      → Refusing e (turn g l n (token_of t.lexeme (Mark' marks.Colons))) → said t.lexeme.kind t.lexeme.octets ≡ Ok (Mark' marks.Colons)
-      → continues n (token_of t.lexeme (Mark' marks.Colons)) ≡ true → Why g l ts t e
+  as_colons : (n : Reading) (vs : List Value) → reads g l (origin g l) ts ≡ walked vs n → t.lexeme.kind ≡ TokenKind.Mark Mark.Colons
+      → Refusing e (turn g l n (token_of t.lexeme (Mark' Mark.Colons))) → said t.lexeme.kind t.lexeme.octets ≡ Ok (Mark' Mark.Colons)
+      → continues n (token_of t.lexeme (Mark' Mark.Colons)) ≡ true → Why g l ts t e
 
-not_colons : (p : Place) (t : Placed) (d : Content) → Says p t d → (d ≡ Mark' marks.Colons → ⊥) → t.lexeme.kind ≡ kinds.Mark marks.Colons → ⊥
-not_colons p t d says n k = let b : IsBody (kinds.Mark marks.Colons) t.lexeme.octets (Ok d) = subst (λ y. IsBody y t.lexeme.octets (Ok d)) k says.body in
-    n (let e : d ≡ Mark' marks.Colons = cc in e)
+not_colons : (p : Place) (t : Placed) (d : Content) → Says p t d → (d ≡ Mark' Mark.Colons → ⊥) → t.lexeme.kind ≡ TokenKind.Mark Mark.Colons → ⊥
+not_colons p t d says n k = let b : IsBody (TokenKind.Mark Mark.Colons) t.lexeme.octets (Ok d) = subst (λ y. IsBody y t.lexeme.octets (Ok d)) k says.body in
+    n (let e : d ≡ Mark' Mark.Colons = cc in e)
 
 -- for one reason
 pub why_once : (g : Catalog) (l : Limits) (ts : List Placed) (t : Placed) (d e : Reason) (p : Place) → Came g l ts p → Why g l ts t d → Why g l ts t e → d ≡ e
@@ -228,8 +192,8 @@ why_once g l ts t d e p came (by_itself m c s i n h a) (by_itself m' c' s' i' n'
     one_refusing d e (turn g l m' (token_of t.lexeme c')) (subst (λ x. Refusing d (turn g l x (token_of t.lexeme c'))) same.1
     (subst (λ x. Refusing d (turn g l m (token_of t.lexeme x))) one h)) h'
 why_once g l ts t d e p came (as_colons n vs r k h i w) (as_colons n' vs' r' k' h' i' w') =
-    one_refusing d e (turn g l n' (token_of t.lexeme (Mark' marks.Colons)))
-    (subst (λ x. Refusing d (turn g l x (token_of t.lexeme (Mark' marks.Colons)))) (walked_now g l vs vs' n n' (sym r ∙ r')).1 h) h'
+    one_refusing d e (turn g l n' (token_of t.lexeme (Mark' Mark.Colons)))
+    (subst (λ x. Refusing d (turn g l x (token_of t.lexeme (Mark' Mark.Colons)))) (walked_now g l vs vs' n n' (sym r ∙ r')).1 h) h'
 why_once g l ts t d e p came (by_itself m c s i n h a) (as_colons n' vs r k h' i' w) = absurd (n k)
 why_once g l ts t d e p came (as_colons n vs r k h i' w) (by_itself m c s i n' h' a) = absurd (n' k)
 
@@ -249,7 +213,7 @@ module _ (g : Catalog) (l : Limits) where
     held = (f g l c ks said ts h).held
 
     -- which is refused there
-    value_stops : (e : Reason) → JoinsNothing said → ((s : ℕ) → Refusing e (turn g l (at s c held h.symbols nows.Ready) (token_of h.token.lexeme said)))
+    value_stops : (e : Reason) → JoinsNothing said → ((s : ℕ) → Refusing e (turn g l (at s c held h.symbols Now.Ready) (token_of h.token.lexeme said)))
         → Stops g l ts h.token e
     value_stops e a refused =
         let w = settles g l c ks said ts h takes in
@@ -261,9 +225,9 @@ module _ (g : Catalog) (l : Limits) where
           is = is;
           came = subst (Came g l front) (sym h.says.place) (came g l c ks said ts h takes);
           stops = ap (reads g l (origin g l)) is ∙ (x.1 ∙ ap (adds_values h.values)
-              (first_token g l (place_of ks) (at x.0 c held h.symbols nows.Ready) h.token said [] h.says (here g l c ks said ts h takes) (inr refl)
-              ∙ refusing_stops e (turn g l (at x.0 c held h.symbols nows.Ready) (token_of h.token.lexeme said)) done (refused x.0)));
-          why = by_itself (at w.0 c held h.symbols nows.Ready) said w.1 (said_ok g l (place_of ks) h.token said h.says)
+              (first_token g l (place_of ks) (at x.0 c held h.symbols Now.Ready) h.token said [] h.says (here g l c ks said ts h takes) (inr refl)
+              ∙ refusing_stops e (turn g l (at x.0 c held h.symbols Now.Ready) (token_of h.token.lexeme said)) done (refused x.0)));
+          why = by_itself (at w.0 c held h.symbols Now.Ready) said w.1 (said_ok g l (place_of ks) h.token said h.says)
               (not_colons (place_of ks) h.token said h.says a.colons) (refused w.0) a;
         }
 
@@ -272,25 +236,25 @@ module _ (g : Catalog) (l : Limits) where
     levels deep = too_many (length held) (length ks) l.depth deep (same_levels l c ks held (f g l c ks said ts h).same)
 
     -- a mark that opens a container beyond the limit on levels is refused
-    pub open_stops : (bracket : Bracket) → said ≡ Mark' (open_mark bracket) → l.depth ≤ length ks → Stops g l ts h.token reasons.Depth
+    pub open_stops : (bracket : Bracket) → said ≡ Mark' (open_mark bracket) → l.depth ≤ length ks → Stops g l ts h.token Reason.Depth
     open_stops bracket e deep =
-        value_stops reasons.Depth (subst JoinsNothing (sym e) (mark_apart (open_mark bracket) (λ k. no_colons bracket (ap Mark' k))))
-        (λ s. subst (λ d. Refusing reasons.Depth (turn g l (at s c held h.symbols nows.Ready) (token_of h.token.lexeme d))) (sym e) (by bracket s))
+        value_stops Reason.Depth (subst JoinsNothing (sym e) (mark_apart (open_mark bracket) (λ k. no_colons bracket (ap Mark' k))))
+        (λ s. subst (λ d. Refusing Reason.Depth (turn g l (at s c held h.symbols Now.Ready) (token_of h.token.lexeme d))) (sym e) (by bracket s))
       where
         by : (bracket : Bracket) (s : ℕ)
-            → Refusing reasons.Depth (turn g l (at s c held h.symbols nows.Ready) (token_of h.token.lexeme (Mark' (open_mark bracket))))
-        by brackets.List s = refusing_else reasons.Depth (nat_lt (length held) l.depth) _ (refuses reasons.Depth) (levels deep) refl
-        by brackets.Sexp s = refusing_else reasons.Depth (nat_lt (length held) l.depth) _ (refuses reasons.Depth) (levels deep) refl
-        by brackets.Fields s = refusing_else reasons.Depth (nat_lt (length held) l.depth) _ (late reasons.Depth _) (levels deep) refl
+            → Refusing Reason.Depth (turn g l (at s c held h.symbols Now.Ready) (token_of h.token.lexeme (Mark' (open_mark bracket))))
+        by Bracket.List s = refusing_else Reason.Depth (nat_lt (length held) l.depth) _ (refuses Reason.Depth) (levels deep) refl
+        by Bracket.Sexp s = refusing_else Reason.Depth (nat_lt (length held) l.depth) _ (refuses Reason.Depth) (levels deep) refl
+        by Bracket.Fields s = refusing_else Reason.Depth (nat_lt (length held) l.depth) _ (late Reason.Depth _) (levels deep) refl
 
     -- one that waits for `::`
     module _ (word : Held) (waits : (start end : ℕ) → on_ready (under g l) (spot_at end start c) held h.symbols said
-        ≡ goes (at start c held h.symbols (nows.Pending word end))) (apart : JoinsNothing said) where
+        ≡ goes (at start c held h.symbols (Now.Pending word end))) (apart : JoinsNothing said) where
       abbrev pub front : List Placed
       front = before g l c ks said ts h
 
       abbrev pub pending_word : ℕ → Reading
-      pending_word s = at (begun_at s h.token.lexeme.start held h.symbols) c held h.symbols (nows.Pending word h.token.lexeme.end)
+      pending_word s = at (begun_at s h.token.lexeme.start held h.symbols) c held h.symbols (Now.Pending word h.token.lexeme.end)
 
       -- where the token that comes waits for `::`, the tokens up to it lead to where it waits
       pub read_to : (more : List Placed) → (s : ℕ) × (reads g l (origin g l) (front ++ h.token ∷ more) ≡ adds_values h.values (reads g l (pending_word s) more))
@@ -299,7 +263,7 @@ module _ (g : Catalog) (l : Limits) where
             x.0,
             x.1
                 ∙ ap (adds_values h.values)
-                (first_token g l (place_of ks) (at x.0 c held h.symbols nows.Ready) h.token said more h.says (here g l c ks said ts h takes) (inr refl)
+                (first_token g l (place_of ks) (at x.0 c held h.symbols Now.Ready) h.token said more h.says (here g l c ks said ts h takes) (inr refl)
                 ∙ ap (λ y. on_turn y (λ k. reads g l k more)) (waits (begun_at x.0 h.token.lexeme.start held h.symbols) h.token.lexeme.end)),
           )
 
@@ -310,8 +274,8 @@ module _ (g : Catalog) (l : Limits) where
       came_pending = let x = read_to [] in record { values = h.values ++ []; now = pending_word x.0; read = x.1; here = sym (at_pending x.0) }
 
       -- an annotation that is a keyword
-      note_stops : (colons : Placed) → Says (place_of ks) colons (Mark' marks.Colons) → held_symbol word ≡ Err reasons.KeywordAsName
-          → Stops g l (ts ++ colons ∷ []) colons reasons.KeywordAsName
+      note_stops : (colons : Placed) → Says (place_of ks) colons (Mark' Mark.Colons) → held_symbol word ≡ Err Reason.KeywordAsName
+          → Stops g l (ts ++ colons ∷ []) colons Reason.KeywordAsName
       note_stops colons says none =
           let x = read_to (colons ∷ []) in
           let y = read_to [] in
@@ -323,21 +287,21 @@ module _ (g : Catalog) (l : Limits) where
             stops =
                 ap (reads g l (origin g l)) (whole ∙ append_assoc front (h.token ∷ []) (colons ∷ []))
                 ∙ (x.1 ∙ ap (adds_values h.values)
-                (first_token g l (place_of ks) (pending_word x.0) colons (Mark' marks.Colons) [] says (at_pending x.0) (inl refl)
+                (first_token g l (place_of ks) (pending_word x.0) colons (Mark' Mark.Colons) [] says (at_pending x.0) (inl refl)
                 ∙ ap (λ y. on_turn (noted (begun_at x.0 h.token.lexeme.start held h.symbols) c held h.symbols y) done) none));
             why =
-                as_colons (pending_word y.0) (h.values ++ []) y.1 (mark_kind colons.lexeme.kind colons.lexeme.octets marks.Colons says.body)
-                (refusing_noted reasons.KeywordAsName (begun_at y.0 h.token.lexeme.start held h.symbols) c held h.symbols (held_symbol word) none)
-                (said_ok g l (place_of ks) colons (Mark' marks.Colons) says) refl;
+                as_colons (pending_word y.0) (h.values ++ []) y.1 (mark_kind colons.lexeme.kind colons.lexeme.octets Mark.Colons says.body)
+                (refusing_noted Reason.KeywordAsName (begun_at y.0 h.token.lexeme.start held h.symbols) c held h.symbols (held_symbol word) none)
+                (said_ok g l (place_of ks) colons (Mark' Mark.Colons) says) refl;
           }
 
   -- 5. A token where a name may come.
 
   module _ (c : List Slot) (ks : List Container) (said : Content) (ts : List Placed) (h : Comes g l c (InStruct ∷ ks) said ts) where
     abbrev inside : List Frame
-    inside = let s = struct g l c ks said ts h in frames.Fields s.notes s.fields ∷ s.outer
+    inside = let s = struct g l c ks said ts h in Frame.Fields s.notes s.fields ∷ s.outer
 
-    name_stops : (e : Reason) → JoinsNothing said → ((s : ℕ) → Refusing e (turn g l (at s c inside [] nows.Name) (token_of h.token.lexeme said)))
+    name_stops : (e : Reason) → JoinsNothing said → ((s : ℕ) → Refusing e (turn g l (at s c inside [] Now.Name) (token_of h.token.lexeme said)))
         → Stops g l ts h.token e
     name_stops e a refused =
         let w = settles_name g l c ks said ts h in
@@ -349,10 +313,10 @@ module _ (g : Catalog) (l : Limits) where
           is = is;
           came = subst (Came g l front) (sym h.says.place) (came_name g l c ks said ts h);
           stops = ap (reads g l (origin g l)) is ∙ (x.1 ∙ ap (adds_values h.values)
-              (first_token g l places.Name (at x.0 c inside [] nows.Name) h.token said [] h.says refl (inr refl)
-              ∙ refusing_stops e (turn g l (at x.0 c inside [] nows.Name) (token_of h.token.lexeme said)) done (refused x.0)));
-          why = by_itself (at w.0 c inside [] nows.Name) said w.1 (said_ok g l places.Name h.token said h.says)
-              (not_colons places.Name h.token said h.says a.colons) (refused w.0) a;
+              (first_token g l Place.Name (at x.0 c inside [] Now.Name) h.token said [] h.says refl (inr refl)
+              ∙ refusing_stops e (turn g l (at x.0 c inside [] Now.Name) (token_of h.token.lexeme said)) done (refused x.0)));
+          why = by_itself (at w.0 c inside [] Now.Name) said w.1 (said_ok g l Place.Name h.token said h.says)
+              (not_colons Place.Name h.token said h.says a.colons) (refused w.0) a;
         }
 
   -- 6. The rows of one token.
@@ -372,19 +336,19 @@ module _ (g : Catalog) (l : Limits) where
 
   -- a keyword where a field's name comes is refused
   pub keyword_stops : (ts : List Placed) (c : List Slot) (ks : List Container) (said : Content) → (h : Comes g l c (InStruct ∷ ks) said ts) → IsKeyword said
-      → Stops g l ts h.token reasons.KeywordAsName
-  keyword_stops ts c ks (Word w) h k = name_stops c ks (Word w) ts h reasons.KeywordAsName (word_apart w)
-      (λ s. refusing_then reasons.KeywordAsName (is_keyword w) _ _ k refl)
-  keyword_stops ts c ks (TypedNull k) h i = name_stops c ks (TypedNull k) ts h reasons.KeywordAsName (null_apart k) (λ s. refl)
+      → Stops g l ts h.token Reason.KeywordAsName
+  keyword_stops ts c ks (Word w) h k = name_stops c ks (Word w) ts h Reason.KeywordAsName (word_apart w)
+      (λ s. refusing_then Reason.KeywordAsName (is_keyword w) _ _ k refl)
+  keyword_stops ts c ks (TypedNull k) h i = name_stops c ks (TypedNull k) ts h Reason.KeywordAsName (null_apart k) (λ s. refl)
   keyword_stops ts c ks _ h k = absurd k
 
   -- the `::` behind a keyword is refused
   pub keyword_note_stops : (ts : List Placed) (colons : Placed) (c : List Slot) (ks : List Container) (said : Content) → Comes g l c ks said ts → TakesValue ks
-      → IsKeyword said → Says (place_of ks) colons (Mark' marks.Colons) → Stops g l (ts ++ colons ∷ []) colons reasons.KeywordAsName
+      → IsKeyword said → Says (place_of ks) colons (Mark' Mark.Colons) → Stops g l (ts ++ colons ∷ []) colons Reason.KeywordAsName
   keyword_note_stops ts colons c ks (Word w) h takes k says =
       note_stops c ks (Word w) ts h takes (held_word w) (λ start end. refl) (word_apart w) colons says (keyword_held w k)
   keyword_note_stops ts colons c ks (TypedNull k) h takes i says =
-      note_stops c ks (TypedNull k) ts h takes (helds.Null k) (λ start end. refl) (null_apart k) colons says refl
+      note_stops c ks (TypedNull k) ts h takes (Held.Null k) (λ start end. refl) (null_apart k) colons says refl
   keyword_note_stops ts colons c ks _ h takes k says = absurd k
 
   -- 7. A local symbol table.
@@ -397,21 +361,21 @@ module _ (g : Catalog) (l : Limits) where
   pub record TableStops (ts : List Placed) (e : Reason) : Type 0 where
     pub close : Placed
     pub more : Bool
-    pub closes : Says (close_place more) close (Mark' marks.FieldsClose)
+    pub closes : Says (close_place more) close (Mark' Mark.FieldsClose)
     pub at_close : Stops g l ts close e
 
   -- a local symbol table that the context doesn't take is refused at its `}`
   pub table_stops : (ts : List Placed) (c : List Slot) (ss : Symbols) (ms : List Field) (e : Reason) → Ends g l c (annotated ss (payloads.Fields ms)) ts
       → is_table (annotated ss (payloads.Fields ms)) ≡ true
       → next c (annotated ss (payloads.Fields ms)) g ≡ Err e → TableStops ts e
-  table_stops ts c ss ms e h table fails = value places.Top h.item (annotated ss (payloads.Fields ms)) h.means refl refl refl
+  table_stops ts c ss ms e h table fails = value Place.Top h.item (annotated ss (payloads.Fields ms)) h.means refl refl refl
     where
       -- what has no fields isn't such a value
       other : (q : Payload) → q ≡ payloads.Fields ms → has_fields (views.out-Payload q) ≡ false → ⊥
       other q e n = never (has_fields (views.out-Payload q)) n (ap (λ x. has_fields (views.out-Payload x)) e ∙ ap has_fields (views.outs-Fields ms))
 
-      struct' : (notes body : List Placed) (rs : Symbols) (open' close : Placed) (more : Bool) → rs ≡ ss → Annotations c places.Top notes rs
-          → Says places.Top open' (Mark' marks.FieldsOpen) → Members c body ms more → Says (close_place more) close (Mark' marks.FieldsClose)
+      struct' : (notes body : List Placed) (rs : Symbols) (open' close : Placed) (more : Bool) → rs ≡ ss → Annotations c Place.Top notes rs
+          → Says Place.Top open' (Mark' Mark.FieldsOpen) → Members c body ms more → Says (close_place more) close (Mark' Mark.FieldsClose)
           → h.item ≡ notes ++ open' ∷ (body ++ close ∷ []) → TableStops ts e
       struct' notes body rs open' close more same a opens members closes cut =
           record {
@@ -434,10 +398,10 @@ module _ (g : Catalog) (l : Limits) where
           whole : ts ≡ front ++ close ∷ []
           whole = h.parts ∙ (ap (λ x. h.front ++ x) item_is ∙ sym (append_assoc h.front inner (close ∷ [])))
 
-          deep : Deep l.depth (frames.Fields rs ms ∷ [])
+          deep : Deep l.depth (Frame.Fields rs ms ∷ [])
           deep = let k = h.deep in (omega (arith, k, depth-struct ss ms), tt)
 
-          opened : (more : Bool) → Members c body ms more → Opened c (frames.Fields rs ms ∷ []) inner more
+          opened : (more : Bool) → Members c body ms more → Opened c (Frame.Fields rs ms ∷ []) inner more
           opened more members = record {
             front = [];
             notes = notes;
@@ -455,27 +419,27 @@ module _ (g : Catalog) (l : Limits) where
           apart : (ends_long h.front && begins_as_long inner) ≡ false
           apart = begins_so (ends_long h.front) inner (close ∷ []) (subst (λ x. (ends_long h.front && begins_as_long x) ≡ false) item_is h.apart)
 
-          came' : (more : Bool) → Members c body ms more → Says (close_place more) close (Mark' marks.FieldsClose) → Came g l front (close_place more)
-          came' true members closes = stands_read g l c h.front h.values (frames.Fields rs ms ∷ []) [] nows.Name inner h.pieces deep (opened true members, tt)
+          came' : (more : Bool) → Members c body ms more → Says (close_place more) close (Mark' Mark.FieldsClose) → Came g l front (close_place more)
+          came' true members closes = stands_read g l c h.front h.values (Frame.Fields rs ms ∷ []) [] Now.Name inner h.pieces deep (opened true members, tt)
               apart
-          came' false members closes = stands_read g l c h.front h.values (frames.Fields rs ms ∷ []) [] nows.After inner h.pieces deep
+          came' false members closes = stands_read g l c h.front h.values (Frame.Fields rs ms ∷ []) [] Now.After inner h.pieces deep
               (opened false members, refl, tt) apart
 
           refused : (s : ℕ) → ended (under g l) (spot_at close.lexeme.end s c) [] (annotated rs (payloads.Fields ms)) ≡ refuses e
           refused s = subst (λ y. ended (under g l) (spot_at close.lexeme.end s c) [] (annotated y (payloads.Fields ms)) ≡ refuses e) (sym same)
               (cond-true _ _ _ table ∙ ap (turned l.item s close.lexeme.end) fails)
 
-          closed : (more : Bool) (s : ℕ) → Refusing e (turn g l (at s c (frames.Fields rs ms ∷ []) [] (struct_now g l more))
-              (token_of close.lexeme (Mark' marks.FieldsClose)))
+          closed : (more : Bool) (s : ℕ) → Refusing e (turn g l (at s c (Frame.Fields rs ms ∷ []) [] (struct_now g l more))
+              (token_of close.lexeme (Mark' Mark.FieldsClose)))
           closed true s = refusing_is e _ (refused s)
           closed false s = refusing_is e _ (refused s)
 
           why : Why g l front close e
           why =
               let w = struct_settles g l c h.front h.values rs ms [] inner more h.pieces deep (opened more members) apart in
-              by_itself (at w.0 c (frames.Fields rs ms ∷ []) [] (struct_now g l more)) (Mark' marks.FieldsClose) w.1
-              (said_ok g l (close_place more) close (Mark' marks.FieldsClose) closes)
-              (not_colons (close_place more) close (Mark' marks.FieldsClose) closes (λ k. cc)) (closed more w.0) (mark_apart marks.FieldsClose (λ k. cc))
+              by_itself (at w.0 c (Frame.Fields rs ms ∷ []) [] (struct_now g l more)) (Mark' Mark.FieldsClose) w.1
+              (said_ok g l (close_place more) close (Mark' Mark.FieldsClose) closes)
+              (not_colons (close_place more) close (Mark' Mark.FieldsClose) closes (λ k. cc)) (closed more w.0) (mark_apart Mark.FieldsClose (λ k. cc))
 
           s : ℕ
           s = begun_at (starts g l 0 [] notes) open'.lexeme.start [] rs
@@ -484,25 +448,25 @@ module _ (g : Catalog) (l : Limits) where
           stops =
               ap (reads g l (origin g l)) h.parts
               ∙ (more_read g l h.front h.item h.values c (pieces_read g l h.front h.values c h.pieces)
-              (means_begins g l c places.Top h.item (annotated ss (payloads.Fields ms)) h.means) h.apart
+              (means_begins g l c Place.Top h.item (annotated ss (payloads.Fields ms)) h.means) h.apart
               ∙ ap (adds_values h.values)
               (ap (reads g l (fresh c)) cut
-              ∙ (read_behind g l (fresh c) (at (starts g l 0 [] notes) c [] rs nows.Ready) notes (open' ∷ (body ++ close ∷ []))
-              (notes_read g l c places.Top 0 [] notes rs refl a)
-              ∙ (open_read g l brackets.Fields c places.Top (starts g l 0 [] notes) s [] rs open' (body ++ close ∷ []) refl (omega (arith, deep.0)) opens refl
+              ∙ (read_behind g l (fresh c) (at (starts g l 0 [] notes) c [] rs Now.Ready) notes (open' ∷ (body ++ close ∷ []))
+              (notes_read g l c Place.Top 0 [] notes rs refl a)
+              ∙ (open_read g l Bracket.Fields c Place.Top (starts g l 0 [] notes) s [] rs open' (body ++ close ∷ []) refl (omega (arith, deep.0)) opens refl
               ∙ (struct_ends g l c s [] rs body ms more close (members_read g l c s [] rs body ms more members deep.0) closes
               ∙ ap (λ x. on_turn x done) (refused s))))))
 
-      plain : (p : Place) (notes us : List Placed) (rs : Symbols) (q : Payload) → p ≡ places.Top → rs ≡ ss → Annotations c p notes rs → Plain c p us q
+      plain : (p : Place) (notes us : List Placed) (rs : Symbols) (q : Payload) → p ≡ Place.Top → rs ≡ ss → Annotations c p notes rs → Plain c p us q
           → q ≡ payloads.Fields ms → h.item ≡ notes ++ us → TableStops ts e
       plain p notes _ rs _ top same a (is_struct p' open' close body fs more opens members closes) is cut =
           let k : fs ≡ ms = sym (ap fields_in (views.outs-Fields fs)) ∙ (ap (λ x. fields_in (views.out-Payload x)) is ∙ ap fields_in (views.outs-Fields ms)) in
           struct' notes body rs open' close more same (subst (λ x. Annotations c x notes rs) top a)
-          (subst (λ x. Says x open' (Mark' marks.FieldsOpen)) top opens) (subst (λ x. Members c body x more) k members) closes cut
+          (subst (λ x. Says x open' (Mark' Mark.FieldsOpen)) top opens) (subst (λ x. Members c body x more) k members) closes cut
       plain p notes _ rs _ top same a (one_token p' t said q says scalar) is cut = absurd (no_fields said q scalar is)
         where
           no_fields : (said : Content) (q : Payload) → IsScalar c said q → q ≡ payloads.Fields ms → ⊥
-          no_fields _ _ is_null e = other _ e (ap has_fields (views.outs-Null values.Null))
+          no_fields _ _ is_null e = other _ e (ap has_fields (views.outs-Null Kind.Null))
           no_fields _ _ (is_typed_null k) e = other _ e (ap has_fields (views.outs-Null k))
           no_fields _ _ is_true e = other _ e (ap has_fields (views.outs-Truth true))
           no_fields _ _ is_false e = other _ e (ap has_fields (views.outs-Truth false))
@@ -518,7 +482,7 @@ module _ (g : Catalog) (l : Limits) where
       plain p notes _ rs _ top same a (is_list p' open' close body xs more opens items closes) is cut = absurd (other _ is (ap has_fields (views.outs-List xs)))
       plain p notes _ rs _ top same a (is_sexp p' open' close body xs opens items closes) is cut = absurd (other _ is (ap has_fields (views.outs-Sexp xs)))
 
-      value : (p : Place) (us : List Placed) (v : Value) → Means c p us v → p ≡ places.Top → v ≡ annotated ss (payloads.Fields ms) → us ≡ h.item
+      value : (p : Place) (us : List Placed) (v : Value) → Means c p us v → p ≡ Place.Top → v ≡ annotated ss (payloads.Fields ms) → us ≡ h.item
           → TableStops ts e
       value p _ _ (means p' notes us rs q a d) top is cut =
           let k = payload_same rs ss q (payloads.Fields ms) is in

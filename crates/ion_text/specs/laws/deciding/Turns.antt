@@ -3,50 +3,17 @@ use Rattle.std.proofs.Common.{◌≡◌, ℕ, ◌+◌, ◌≤◌, nat_le, nat_lt
 use Rattle.std.proofs.lemmas.Bool.Decides.{nat_tests}
 use Rattle.std.specs.Str.{bytes_eq}
 use Rattle.std.proofs.lemmas.Slice.Eq.{bytes_eq-Decides}
-use Rattle.ion_model.specs.declared.value.Value.{Value}
-use Rattle.ion_model.specs.declared.value.Field.{Field}
-use Rattle.ion_model.specs.declared.value.Payload.{Payload}
+use Rattle.ion_text.specs.Names.{Blob, Bracket, Catalog, Clob, Content, Field, Frame, HasRow, Held, Id, InStruct, IsKeyword, Kind, Limits, Listing, Long, Mark, Mark', Means, Now, Number, Number', Operator, Payload, Pieces, Place, Placed, Quoted, Reason, Says, Short, Sight, Slot, Symbols, Turn, TypedNull, Value, Word, annotated, at, bad_table, begins_as_long, begun_at, bracket_in, close_place, closed, deeper, ended, ends_long, fresh, gives, goes, held_symbol, held_word, is_fields, is_keyword, is_table, is_version, keyed, keyword_as_annotation, keyword_as_name, late, layer_kind, means, named, names_table, next, no_symbol, noted, null_table, number_payload, on_after, on_comma, on_keyed, on_long, on_long_name, on_name, on_pending, on_ready, one_token, other_version, pending_at, place_in, refuses, released, resolve, resolved, settle, spot_at, struct_too_deep, system_slots, the_marker, token_at, too_deep, turn_now, turned, under, within}
 use Rattle.ion_model.specs.declared.value.Payload.TheVariants as payloads
 use Rattle.ion_model.specs.declared.value.Payload.TheViews as views
-use Rattle.ion_model.specs.Measures.{annotated}
-use Rattle.ion_model.specs.Kinds.{is_fields, is_table, layer_kind, names_table}
-use Rattle.ion_atoms.specs.declared.kind.Kind.{Kind}
-use Rattle.ion_atoms.specs.declared.kind.Kind.TheVariants as values
-use Rattle.ion_atoms.specs.declared.refusal.Reason.{Reason}
-use Rattle.ion_atoms.specs.declared.refusal.Reason.TheVariants as reasons
-use Rattle.ion_scalar.specs.declared.number.Number.{Number}
-use Rattle.ion_scalar.specs.declared.number.Number.TheVariants as numbers
-use Rattle.ion_symtab.specs.declared.limits.Limits.{Limits}
-use Rattle.ion_symtab.specs.declared.catalog.Catalog.{Catalog}
-use Rattle.ion_symtab.specs.Slots.{Slot, resolve, system_slots}
-use Rattle.ion_symtab.specs.Next.{next}
-use Rattle.ion_tokens.specs.declared.mode.Place.TheVariants as places
-use Rattle.ion_tokens.specs.declared.mode.Mark.TheVariants as marks
-use Rattle.ion_tokens.specs.Bodies.{Content, Word, Id, Quoted, Short, Long, Number', TypedNull, Operator, Clob, Blob, Mark'}
-use Rattle.ion_tokens.specs.Lexed.{Placed}
-use Rattle.ion_text.specs.declared.state.Held.{Held}
-use Rattle.ion_text.specs.declared.state.Held.TheVariants as helds
-use Rattle.ion_text.specs.declared.state.Now.{Now}
-use Rattle.ion_text.specs.declared.state.Now.TheVariants as nows
-use Rattle.ion_text.specs.declared.state.Frame.{Frame}
-use Rattle.ion_text.specs.declared.state.Frame.TheVariants as frames
-use Rattle.ion_visiting.specs.declared.bracket.Bracket.TheVariants as brackets
-use Rattle.ion_text.specs.declared.state.Listing.TheVariants as listings
-use Rattle.ion_text.specs.Grammar.{Says, Means, means, one_token, Pieces, close_place, ends_long, begins_as_long, is_keyword, is_version, the_marker}
-use Rattle.ion_text.specs.Deciding.{Ends, IsKeyword, InStruct, Sight, Gives, HasRow, no_symbol, keyword_as_name, keyword_as_annotation, other_version, null_table, too_deep, struct_too_deep, bad_table}
-use Rattle.ion_text.specs.machine.EachToken.{under, spot_at, token_at, Turn, goes, gives, refuses, late, Symbols, at, fresh, place_in, settle, turn_now, ended, within, turned, held_word, held_symbol, released, begun_at, on_ready, on_pending, on_after, on_name, on_comma, on_long, on_long_name, on_keyed, resolved, noted, keyed, named, deeper, closed}
-use Rattle.ion_visiting.specs.Parts.{number_payload}
+use Rattle.ion_text.specs.Deciding.{Ends, Gives}
+use Rattle.ion_text.specs.laws.deciding.Openings.{begins_so, containers, levels_same, name_comes, says_there, struct_ends, takes_value, value_comes}
+use Rattle.ion_text.specs.laws.deciding.Shows.{Shown}
+use Rattle.ion_text.specs.laws.reading.Brackets.{Closes, closes_or_not, ends_list, ends_none, ends_sexp, ends_struct}
+use Rattle.ion_text.specs.laws.reading.complete.Segments.{never}
 use Rattle.ion_text.specs.laws.reading.sound.Depths.{Deep, flat_null}
 use Rattle.ion_text.specs.laws.reading.sound.Held.{none_noted}
-use Rattle.ion_text.specs.machine.Places.{pending_at}
-use Rattle.ion_text.specs.laws.reading.complete.Segments.{never}
-use Rattle.ion_text.specs.laws.reading.sound.StandsOpen.{Opened, ReadyFor, PendingFor, NowStands, IsHeld, symbol_said, value_place}
-use Rattle.ion_text.specs.laws.deciding.Openings.{containers, levels_same, takes_value, says_there, value_comes, name_comes, struct_ends, begins_so}
-use Rattle.ion_text.specs.laws.deciding.Shows.{Shown}
-use Rattle.ion_text.specs.laws.reading.Brackets.{Closes, ends_list, ends_sexp, ends_struct, ends_none, closes_or_not}
-use Rattle.ion_visiting.specs.declared.bracket.Bracket.{Bracket}
-use Rattle.ion_text.specs.declared.state.Listing.{Listing}
-use Rattle.ion_text.specs.machine.Nested.{bracket_in}
+use Rattle.ion_text.specs.laws.reading.sound.StandsOpen.{IsHeld, NowStands, Opened, PendingFor, ReadyFor, symbol_said, value_place}
 
 -- 1. Of what is no local symbol table, and of words.
 
@@ -60,36 +27,36 @@ no_table (s ∷ ss) q h = go (names_table s) (is_fields (layer_kind (views.out-P
     go false b h = refl
 
 flat_number : (n : Number) → is_fields (layer_kind (views.out-Payload (number_payload n))) ≡ false
-flat_number (numbers.Int z) = ap (λ y. is_fields (layer_kind y)) (views.outs-Int z)
-flat_number (numbers.Decimal d) = ap (λ y. is_fields (layer_kind y)) (views.outs-Decimal d)
-flat_number (numbers.Timestamp t) = ap (λ y. is_fields (layer_kind y)) (views.outs-Timestamp t)
+flat_number (Number.Int z) = ap (λ y. is_fields (layer_kind y)) (views.outs-Int z)
+flat_number (Number.Decimal d) = ap (λ y. is_fields (layer_kind y)) (views.outs-Decimal d)
+flat_number (Number.Timestamp t) = ap (λ y. is_fields (layer_kind y)) (views.outs-Timestamp t)
 
 not_less : (a b : ℕ) → nat_lt a b ≡ false → b ≤ a
 not_less a b h = grind (arith, nat_tests)
 
 -- a word that is held as no symbol
-word_keyword : (w : List ℕ) (e : Reason) → held_symbol (held_word w) ≡ Err e → (is_keyword w ≡ true) × (reasons.KeywordAsName ≡ e)
+word_keyword : (w : List ℕ) (e : Reason) → held_symbol (held_word w) ≡ Err e → (is_keyword w ≡ true) × (Reason.KeywordAsName ≡ e)
 word_keyword w e h = go (bytes_eq w (codes "null")) (bytes_eq w (codes "true")) (bytes_eq w (codes "false")) (bytes_eq w (codes "nan")) (is_version w) h
   where
-    go : (a b c d v : Bool) → held_symbol (if a then helds.Null values.Null else
-        (if b then helds.Truth true else (if c then helds.Truth false else
-        (if d then helds.Nan else (if v then helds.Version (bytes_eq w the_marker) (Some w) else helds.Symbol (Some w)))))) ≡ Err e
-        → (((a || b) || (c || d)) ≡ true) × (reasons.KeywordAsName ≡ e)
-    go true b c d v h = (refl, let k : reasons.KeywordAsName ≡ e = cc in k)
-    go false true c d v h = (refl, let k : reasons.KeywordAsName ≡ e = cc in k)
-    go false false true d v h = (refl, let k : reasons.KeywordAsName ≡ e = cc in k)
-    go false false false true v h = (refl, let k : reasons.KeywordAsName ≡ e = cc in k)
+    go : (a b c d v : Bool) → held_symbol (if a then Held.Null Kind.Null else
+        (if b then Held.Truth true else (if c then Held.Truth false else
+        (if d then Held.Nan else (if v then Held.Version (bytes_eq w the_marker) (Some w) else Held.Symbol (Some w)))))) ≡ Err e
+        → (((a || b) || (c || d)) ≡ true) × (Reason.KeywordAsName ≡ e)
+    go true b c d v h = (refl, let k : Reason.KeywordAsName ≡ e = cc in k)
+    go false true c d v h = (refl, let k : Reason.KeywordAsName ≡ e = cc in k)
+    go false false true d v h = (refl, let k : Reason.KeywordAsName ≡ e = cc in k)
+    go false false false true v h = (refl, let k : Reason.KeywordAsName ≡ e = cc in k)
     go false false false false true h = absurd cc
     go false false false false false h = absurd cc
 
 held_keyword : (c : List Slot) (said : Content) (h : Held) (e : Reason) → symbol_said said ≡ true → IsHeld c said h → held_symbol h ≡ Err e → IsKeyword said
-    × (reasons.KeywordAsName ≡ e)
+    × (Reason.KeywordAsName ≡ e)
 held_keyword c (Word w) h e n k f = word_keyword w e (ap held_symbol (sym k) ∙ f)
 held_keyword c (Id id) h e n k f = absurd (let x : Ok k.0 ≡ Err e = ap held_symbol (sym k.2) ∙ f in cc)
 held_keyword c (Quoted w) h e n k f = absurd (let x : Ok (Some w) ≡ Err e = ap held_symbol (sym k) ∙ f in cc)
 held_keyword c (TypedNull kind) h e n k f = (
   tt,
-  let x : Err reasons.KeywordAsName ≡ Err e = ap held_symbol (sym k) ∙ f in let y : reasons.KeywordAsName ≡ e =
+  let x : Err Reason.KeywordAsName ≡ Err e = ap held_symbol (sym k) ∙ f in let y : Reason.KeywordAsName ≡ e =
       cc in y,
 )
 held_keyword c _ h e n k f = absurd cc
@@ -101,16 +68,16 @@ record OtherVersion (said : Content) : Type 0 where
   version : is_version word ≡ true
   other : bytes_eq word the_marker ≡ false
 
-word_other : (w : List ℕ) (s : Option (List ℕ)) → helds.Version false s ≡ held_word w → OtherVersion (Word w)
+word_other : (w : List ℕ) (s : Option (List ℕ)) → Held.Version false s ≡ held_word w → OtherVersion (Word w)
 word_other w s h = go (bytes_eq w (codes "null")) (bytes_eq w (codes "true")) (bytes_eq w (codes "false")) (bytes_eq w (codes "nan")) (is_version w) refl h
   where
     which : Held → Bool
-    which (helds.Version b s) = b
+    which (Held.Version b s) = b
     which _ = true
 
-    go : (a b c d v : Bool) → is_version w ≡ v → helds.Version false s
-        ≡ (if a then helds.Null values.Null else (if b then helds.Truth true else
-        (if c then helds.Truth false else (if d then helds.Nan else (if v then helds.Version (bytes_eq w the_marker) (Some w) else helds.Symbol (Some w))))))
+    go : (a b c d v : Bool) → is_version w ≡ v → Held.Version false s
+        ≡ (if a then Held.Null Kind.Null else (if b then Held.Truth true else
+        (if c then Held.Truth false else (if d then Held.Nan else (if v then Held.Version (bytes_eq w the_marker) (Some w) else Held.Symbol (Some w))))))
         → OtherVersion (Word w)
     go true b c d v f h = absurd cc
     go false true c d v f h = absurd cc
@@ -119,9 +86,9 @@ word_other w s h = go (bytes_eq w (codes "null")) (bytes_eq w (codes "true")) (b
     go false false false false true f h = record { word = w; is = refl; version = f; other = sym (ap which h) }
     go false false false false false f h = absurd cc
 
-held_other : (c : List Slot) (said : Content) (s : Option (List ℕ)) → symbol_said said ≡ true → IsHeld c said (helds.Version false s) → OtherVersion said
+held_other : (c : List Slot) (said : Content) (s : Option (List ℕ)) → symbol_said said ≡ true → IsHeld c said (Held.Version false s) → OtherVersion said
 held_other c (Word w) s n k = word_other w s k
-held_other c (Id id) s n k = absurd (let x : helds.Version false s ≡ helds.Symbol k.0 = k.2 in cc)
+held_other c (Id id) s n k = absurd (let x : Held.Version false s ≡ Held.Symbol k.0 = k.2 in cc)
 held_other c (Quoted w) s n k = absurd cc
 held_other c (TypedNull kind) s n k = absurd cc
 held_other c _ s n k = absurd cc
@@ -143,7 +110,7 @@ module _ (g : Catalog) (l : Limits) (sight : Sight) where
   within_decided : (item start end : ℕ) (t : Turn) → TurnDecided t → TurnDecided (within item start end t)
   within_decided item start end t h = go (nat_le end (start + item))
     where
-      go : (b : Bool) → TurnDecided (if b then t else refuses reasons.ItemTooLong)
+      go : (b : Bool) → TurnDecided (if b then t else refuses Reason.ItemTooLong)
       go true = h
       go false = λ i. absurd i
 
@@ -156,9 +123,9 @@ module _ (g : Catalog) (l : Limits) (sight : Sight) where
   ended_decided : (start end : ℕ) (c : List Slot) (fs : List Frame) (v : Value) → ((e : Reason) → fs ≡ [] → is_table v ≡ true → next c v g ≡ Err e → Decided e)
       → TurnDecided (ended (under g l) (spot_at end start c) fs v)
   ended_decided start end c [] v f = top_decided l.item start end c v (next c v g) (is_table v) (λ e i j. f e refl i j)
-  ended_decided start end c (frames.Items listing ss vs ∷ fs) v f = tt
-  ended_decided start end c (frames.Named ss ms s ∷ fs) v f = tt
-  ended_decided start end c (frames.Fields ss ms ∷ fs) v f = λ i. absurd i
+  ended_decided start end c (Frame.Items listing ss vs ∷ fs) v f = tt
+  ended_decided start end c (Frame.Named ss ms s ∷ fs) v f = tt
+  ended_decided start end c (Frame.Fields ss ms ∷ fs) v f = λ i. absurd i
 
   flat_decided : (start end : ℕ) (c : List Slot) (fs : List Frame) (ss : Symbols) (q : Payload) → is_fields (layer_kind (views.out-Payload q)) ≡ false
       → TurnDecided (ended (under g l) (spot_at end start c) fs (annotated ss q))
@@ -180,11 +147,11 @@ module _ (g : Catalog) (l : Limits) (sight : Sight) where
       → TurnDecided (closed (bracket_in listing) (under g l) (spot_at end start c) fs)
   items_decided start end c listing fs = by (bracket_in listing) fs (closes_or_not (bracket_in listing) fs) (no_struct listing)
     where
-      no_struct : (listing : Listing) → bracket_in listing ≡ brackets.Fields → ⊥
-      no_struct listings.List e = cc
-      no_struct listings.Sexp e = cc
+      no_struct : (listing : Listing) → bracket_in listing ≡ Bracket.Fields → ⊥
+      no_struct Listing.List e = cc
+      no_struct Listing.Sexp e = cc
 
-      by : (bracket : Bracket) (fs : List Frame) → Closes bracket fs → (bracket ≡ brackets.Fields → ⊥)
+      by : (bracket : Bracket) (fs : List Frame) → Closes bracket fs → (bracket ≡ Bracket.Fields → ⊥)
           → TurnDecided (closed bracket (under g l) (spot_at end start c) fs)
       by _ _ (ends_list ss vs fs) n = flat_decided start end c fs ss (payloads.List vs) (ap (λ y. is_fields (layer_kind y)) (views.outs-List vs))
       by _ _ (ends_sexp ss vs fs) n = flat_decided start end c fs ss (payloads.Sexp vs) (ap (λ y. is_fields (layer_kind y)) (views.outs-Sexp vs))
@@ -194,14 +161,14 @@ module _ (g : Catalog) (l : Limits) (sight : Sight) where
   module _ (c : List Slot) (front : List Placed) (vs : List Value) (pieces : Pieces g l front vs c) where
     -- a struct is closed
     closed_decided : (start end : ℕ) (ss : Symbols) (ms : List Field) (fs : List Frame) (item : List Placed) (more : Bool) (t : Placed)
-        → Deep l.depth (frames.Fields ss ms ∷ fs) → (ends_long front && begins_as_long item) ≡ false → Opened c (frames.Fields ss ms ∷ fs) item more
-        → Says (close_place more) t (Mark' marks.FieldsClose)
+        → Deep l.depth (Frame.Fields ss ms ∷ fs) → (ends_long front && begins_as_long item) ≡ false → Opened c (Frame.Fields ss ms ∷ fs) item more
+        → Says (close_place more) t (Mark' Mark.FieldsClose)
         → sight.mark (front ++ (item ++ t ∷ [])) → TurnDecided (ended (under g l) (spot_at end start c) fs (annotated ss (payloads.Fields ms)))
     closed_decided start end ss ms fs item more t deep apart o says shown =
         ended_decided start end c fs (annotated ss (payloads.Fields ms))
         (λ e none i j k. bad_table (front ++ (item ++ t ∷ [])) c ss ms e shown
-        (struct_ends g l c front vs ss ms item more t pieces (subst (λ y. Deep l.depth (frames.Fields ss ms ∷ y)) none deep) apart
-        (subst (λ y. Opened c (frames.Fields ss ms ∷ y) item more) none o) says) i j)
+        (struct_ends g l c front vs ss ms item more t pieces (subst (λ y. Deep l.depth (Frame.Fields ss ms ∷ y)) none deep) apart
+        (subst (λ y. Opened c (Frame.Fields ss ms ∷ y) item more) none o) says) i j)
 
     module _ (t : Placed) (start end : ℕ) (item : List Placed) (apart : (ends_long front && begins_as_long item) ≡ false) where
       abbrev ts : List Placed
@@ -214,7 +181,7 @@ module _ (g : Catalog) (l : Limits) (sight : Sight) where
       ready_decided fs ss (Id id) deep d says shown = go (resolve c id) refl
         where
           go : (r : Result (Option (List ℕ)) Reason) → resolve c id ≡ r
-              → TurnDecided (resolved r (λ s. goes (at start c fs ss (nows.Pending (helds.Symbol s) end))))
+              → TurnDecided (resolved r (λ s. goes (at start c fs ss (Now.Pending (Held.Symbol s) end))))
           go (Ok s) e = tt
           go (Err e) f = λ i. no_symbol ts c (containers fs) id e shown (value_comes g l c front vs pieces t (Id id) fs ss item deep apart d says) f
       ready_decided fs ss (Quoted x) deep d says shown = tt
@@ -226,19 +193,19 @@ module _ (g : Catalog) (l : Limits) (sight : Sight) where
           (ap (λ y. is_fields (layer_kind y)) (views.outs-Symbol (Some x)))
       ready_decided fs ss (Clob x) deep d says shown = flat_decided start end c fs ss (payloads.Clob x) (ap (λ y. is_fields (layer_kind y)) (views.outs-Clob x))
       ready_decided fs ss (Blob x) deep d says shown = flat_decided start end c fs ss (payloads.Blob x) (ap (λ y. is_fields (layer_kind y)) (views.outs-Blob x))
-      ready_decided fs ss (Mark' marks.ListOpen) deep d says shown =
-          deeper_decided fs _ _ tt (λ k i. too_deep ts c (containers fs) (Mark' marks.ListOpen) shown
-          (value_comes g l c front vs pieces t (Mark' marks.ListOpen) fs ss item deep apart d says) (takes_value fs d.receives) (inl refl) k)
-      ready_decided fs ss (Mark' marks.SexpOpen) deep d says shown =
-          deeper_decided fs _ _ tt (λ k i. too_deep ts c (containers fs) (Mark' marks.SexpOpen) shown
-          (value_comes g l c front vs pieces t (Mark' marks.SexpOpen) fs ss item deep apart d says) (takes_value fs d.receives) (inr refl) k)
-      ready_decided fs ss (Mark' marks.FieldsOpen) deep d says shown =
+      ready_decided fs ss (Mark' Mark.ListOpen) deep d says shown =
+          deeper_decided fs _ _ tt (λ k i. too_deep ts c (containers fs) (Mark' Mark.ListOpen) shown
+          (value_comes g l c front vs pieces t (Mark' Mark.ListOpen) fs ss item deep apart d says) (takes_value fs d.receives) (inl refl) k)
+      ready_decided fs ss (Mark' Mark.SexpOpen) deep d says shown =
+          deeper_decided fs _ _ tt (λ k i. too_deep ts c (containers fs) (Mark' Mark.SexpOpen) shown
+          (value_comes g l c front vs pieces t (Mark' Mark.SexpOpen) fs ss item deep apart d says) (takes_value fs d.receives) (inr refl) k)
+      ready_decided fs ss (Mark' Mark.FieldsOpen) deep d says shown =
           deeper_decided fs _ _ tt (λ k i. struct_too_deep ts c (containers fs) shown
-          (value_comes g l c front vs pieces t (Mark' marks.FieldsOpen) fs ss item deep apart d says) (takes_value fs d.receives) k)
-      ready_decided fs [] (Mark' marks.ListClose) deep d says shown = items_decided start end c listings.List fs
-      ready_decided fs (s ∷ ss) (Mark' marks.ListClose) deep d says shown = λ i. absurd i
-      ready_decided fs [] (Mark' marks.SexpClose) deep d says shown = items_decided start end c listings.Sexp fs
-      ready_decided fs (s ∷ ss) (Mark' marks.SexpClose) deep d says shown = λ i. absurd i
+          (value_comes g l c front vs pieces t (Mark' Mark.FieldsOpen) fs ss item deep apart d says) (takes_value fs d.receives) k)
+      ready_decided fs [] (Mark' Mark.ListClose) deep d says shown = items_decided start end c Listing.List fs
+      ready_decided fs (s ∷ ss) (Mark' Mark.ListClose) deep d says shown = λ i. absurd i
+      ready_decided fs [] (Mark' Mark.SexpClose) deep d says shown = items_decided start end c Listing.Sexp fs
+      ready_decided fs (s ∷ ss) (Mark' Mark.SexpClose) deep d says shown = λ i. absurd i
       ready_decided fs ss (Mark' _) deep d says shown = λ i. absurd i
 
       before_apart : (fs : List Frame) (ss : Symbols) (h : Held) (d : PendingFor c fs ss h item) → (ends_long front && begins_as_long d.before) ≡ false
@@ -247,7 +214,7 @@ module _ (g : Catalog) (l : Limits) (sight : Sight) where
       -- behind what may be an annotation
       pending_decided : (fs : List Frame) (ss : Symbols) (h : Held) (said : Content) → Deep l.depth fs → PendingFor c fs ss h item
           → Says (value_place fs) t said → Shown sight ts said → TurnDecided (on_pending start c fs ss h said)
-      pending_decided fs ss h (Mark' marks.Colons) deep d says shown = go (held_symbol h) refl
+      pending_decided fs ss h (Mark' Mark.Colons) deep d says shown = go (held_symbol h) refl
         where
           whole : ts ≡ (front ++ (d.before ++ d.token ∷ [])) ++ t ∷ []
           whole = sym (append_assoc front item (t ∷ [])) ∙ ap (λ x. (front ++ x) ++ t ∷ []) d.whole
@@ -259,50 +226,50 @@ module _ (g : Catalog) (l : Limits) (sight : Sight) where
               subst Decided k.1
               (λ i. keyword_as_annotation (front ++ (d.before ++ d.token ∷ [])) t c (containers fs) d.said (subst sight.mark whole shown)
               (value_comes g l c front vs pieces d.token d.said fs ss d.before deep (before_apart fs ss h d) d.ready d.says) (takes_value fs d.ready.receives)
-              k.0 (says_there fs t (Mark' marks.Colons) says))
+              k.0 (says_there fs t (Mark' Mark.Colons) says))
       pending_decided fs ss h _ deep d says shown = λ i. absurd i
 
       comma_decided : (fs : List Frame) → TurnDecided (on_comma start c fs)
-      comma_decided (frames.Items listings.List ss vs ∷ fs) = tt
-      comma_decided (frames.Fields ss ms ∷ fs) = tt
-      comma_decided (frames.Items listings.Sexp ss vs ∷ fs) = λ i. absurd i
-      comma_decided (frames.Named ss ms s ∷ fs) = λ i. absurd i
+      comma_decided (Frame.Items Listing.List ss vs ∷ fs) = tt
+      comma_decided (Frame.Fields ss ms ∷ fs) = tt
+      comma_decided (Frame.Items Listing.Sexp ss vs ∷ fs) = λ i. absurd i
+      comma_decided (Frame.Named ss ms s ∷ fs) = λ i. absurd i
       comma_decided [] = λ i. absurd i
 
       -- behind an element or a field
-      after_decided : (fs : List Frame) (said : Content) → Deep l.depth fs → Opened c fs item false → Says (place_in fs nows.After) t said → Shown sight ts said
+      after_decided : (fs : List Frame) (said : Content) → Deep l.depth fs → Opened c fs item false → Says (place_in fs Now.After) t said → Shown sight ts said
           → TurnDecided (on_after (under g l) (spot_at end start c) fs said)
-      after_decided fs (Mark' marks.Comma) deep o says shown = comma_decided fs
-      after_decided fs (Mark' marks.ListClose) deep o says shown = items_decided start end c listings.List fs
-      after_decided (frames.Fields ss ms ∷ fs) (Mark' marks.FieldsClose) deep o says shown =
+      after_decided fs (Mark' Mark.Comma) deep o says shown = comma_decided fs
+      after_decided fs (Mark' Mark.ListClose) deep o says shown = items_decided start end c Listing.List fs
+      after_decided (Frame.Fields ss ms ∷ fs) (Mark' Mark.FieldsClose) deep o says shown =
           closed_decided start end ss ms fs item false t deep apart o says shown
-      after_decided (frames.Items listing ss vs ∷ fs) (Mark' marks.FieldsClose) deep o says shown = λ i. absurd i
-      after_decided (frames.Named ss ms s ∷ fs) (Mark' marks.FieldsClose) deep o says shown = λ i. absurd i
-      after_decided [] (Mark' marks.FieldsClose) deep o says shown = λ i. absurd i
+      after_decided (Frame.Items listing ss vs ∷ fs) (Mark' Mark.FieldsClose) deep o says shown = λ i. absurd i
+      after_decided (Frame.Named ss ms s ∷ fs) (Mark' Mark.FieldsClose) deep o says shown = λ i. absurd i
+      after_decided [] (Mark' Mark.FieldsClose) deep o says shown = λ i. absurd i
       after_decided fs _ deep o says shown = λ i. absurd i
 
       -- where a name may come
-      name_decided : (ss : Symbols) (ms : List Field) (fs : List Frame) (said : Content) → Deep l.depth (frames.Fields ss ms ∷ fs)
-          → Opened c (frames.Fields ss ms ∷ fs) item true → Says places.Name t said → Shown sight ts said
-          → TurnDecided (on_name (under g l) (spot_at end start c) (frames.Fields ss ms ∷ fs) said)
+      name_decided : (ss : Symbols) (ms : List Field) (fs : List Frame) (said : Content) → Deep l.depth (Frame.Fields ss ms ∷ fs)
+          → Opened c (Frame.Fields ss ms ∷ fs) item true → Says Place.Name t said → Shown sight ts said
+          → TurnDecided (on_name (under g l) (spot_at end start c) (Frame.Fields ss ms ∷ fs) said)
       name_decided ss ms fs (Word x) deep o says shown = go (is_keyword x) refl
         where
-          go : (b : Bool) → is_keyword x ≡ b → TurnDecided (if b then late reasons.KeywordAsName (keyed start c (frames.Fields ss ms ∷ fs) (Some x)) else goes
-              (keyed start c (frames.Fields ss ms ∷ fs) (Some x)))
+          go : (b : Bool) → is_keyword x ≡ b → TurnDecided (if b then late Reason.KeywordAsName (keyed start c (Frame.Fields ss ms ∷ fs) (Some x)) else goes
+              (keyed start c (Frame.Fields ss ms ∷ fs) (Some x)))
           go true e = λ i. keyword_as_name ts c (containers fs) (Word x) shown (name_comes g l c front vs pieces t (Word x) ss ms fs item deep apart o says) e
           go false e = tt
       name_decided ss ms fs (TypedNull k) deep o says shown =
           λ i. keyword_as_name ts c (containers fs) (TypedNull k) shown (name_comes g l c front vs pieces t (TypedNull k) ss ms fs item deep apart o says) tt
       name_decided ss ms fs (Id id) deep o says shown = go (resolve c id) refl
         where
-          go : (r : Result (Option (List ℕ)) Reason) → resolve c id ≡ r → TurnDecided (resolved r (λ s. goes (keyed start c (frames.Fields ss ms ∷ fs) s)))
+          go : (r : Result (Option (List ℕ)) Reason) → resolve c id ≡ r → TurnDecided (resolved r (λ s. goes (keyed start c (Frame.Fields ss ms ∷ fs) s)))
           go (Ok s) e = tt
           go (Err e) f = λ i. no_symbol ts c (InStruct ∷ containers fs) id e shown (name_comes g l c front vs pieces t (Id id) ss ms fs item deep apart o says)
               f
       name_decided ss ms fs (Quoted x) deep o says shown = tt
       name_decided ss ms fs (Short x) deep o says shown = tt
       name_decided ss ms fs (Long x) deep o says shown = tt
-      name_decided ss ms fs (Mark' marks.FieldsClose) deep o says shown = closed_decided start end ss ms fs item true t deep apart o says shown
+      name_decided ss ms fs (Mark' Mark.FieldsClose) deep o says shown = closed_decided start end ss ms fs item true t deep apart o says shown
       name_decided ss ms fs _ deep o says shown = λ i. absurd i
 
       -- behind a segment of a long name
@@ -311,13 +278,13 @@ module _ (g : Catalog) (l : Limits) (sight : Sight) where
       long_name_decided fs v _ = λ i. absurd i
 
       named_decided : (fs : List Frame) (s : Option (List ℕ)) → TurnDecided (named start c fs s)
-      named_decided (frames.Fields ss ms ∷ fs) s = tt
-      named_decided (frames.Items listing ss vs ∷ fs) s = λ i. absurd i
-      named_decided (frames.Named ss ms x ∷ fs) s = λ i. absurd i
+      named_decided (Frame.Fields ss ms ∷ fs) s = tt
+      named_decided (Frame.Items listing ss vs ∷ fs) s = λ i. absurd i
+      named_decided (Frame.Named ss ms x ∷ fs) s = λ i. absurd i
       named_decided [] s = λ i. absurd i
 
       keyed_decided : (fs : List Frame) (s : Option (List ℕ)) (said : Content) → TurnDecided (on_keyed start c fs s said)
-      keyed_decided fs s (Mark' marks.Colon) = named_decided fs s
+      keyed_decided fs s (Mark' Mark.Colon) = named_decided fs s
       keyed_decided fs s _ = λ i. absurd i
 
       long_decided : (fs : List Frame) (ss : Symbols) (v : List ℕ) (said : Content) → TurnDecided (on_long (spot_at end start c) fs ss v said)
@@ -328,25 +295,25 @@ module _ (g : Catalog) (l : Limits) (sight : Sight) where
     pub token_decided : (t : Placed) (begin end start : ℕ) (item : List Placed) (fs : List Frame) (ss : Symbols) (said : Content) (now : Now) → Deep l.depth fs
         → (ends_long front && begins_as_long item) ≡ false → NowStands c fs ss item now → Says (place_in fs now) t said
         → Shown sight (front ++ (item ++ t ∷ [])) said → TurnDecided (turn_now (under g l) (at start c fs ss now) (token_at begin end said) now)
-    token_decided t begin end start item fs ss said nows.Ready deep apart d says shown =
+    token_decided t begin end start item fs ss said Now.Ready deep apart d says shown =
         ready_decided t (begun_at start begin fs ss) end item apart fs ss said deep d says shown
-    token_decided t begin end start item fs ss said (nows.Pending h e) deep apart d says shown =
+    token_decided t begin end start item fs ss said (Now.Pending h e) deep apart d says shown =
         pending_decided t start end item apart fs ss h said deep d (subst (λ p. Says p t said) (pending_at fs h e) says) shown
-    token_decided t begin end start item fs ss said (nows.Long v e) deep apart d says shown = long_decided t start end item apart fs ss v said
-    token_decided t begin end start item fs ss said nows.After deep apart d says shown = after_decided t start end item apart fs said deep d.0 says shown
-    token_decided t begin end start item (frames.Fields rs ms ∷ fs) ss said nows.Name deep apart d says shown =
+    token_decided t begin end start item fs ss said (Now.Long v e) deep apart d says shown = long_decided t start end item apart fs ss v said
+    token_decided t begin end start item fs ss said Now.After deep apart d says shown = after_decided t start end item apart fs said deep d.0 says shown
+    token_decided t begin end start item (Frame.Fields rs ms ∷ fs) ss said Now.Name deep apart d says shown =
         name_decided t start end item apart rs ms fs said deep d.0 says shown
-    token_decided t begin end start item [] ss said nows.Name deep apart d says shown = absurd d.1
-    token_decided t begin end start item (frames.Items listing rs xs ∷ fs) ss said nows.Name deep apart d says shown = absurd d.1
-    token_decided t begin end start item (frames.Named rs ms x ∷ fs) ss said nows.Name deep apart d says shown = absurd d.1
-    token_decided t begin end start item fs ss said (nows.LongName v) deep apart d says shown = long_name_decided t start end item apart fs v said
-    token_decided t begin end start item fs ss said (nows.Keyed x) deep apart d says shown = keyed_decided t start end item apart fs x said
+    token_decided t begin end start item [] ss said Now.Name deep apart d says shown = absurd d.1
+    token_decided t begin end start item (Frame.Items listing rs xs ∷ fs) ss said Now.Name deep apart d says shown = absurd d.1
+    token_decided t begin end start item (Frame.Named rs ms x ∷ fs) ss said Now.Name deep apart d says shown = absurd d.1
+    token_decided t begin end start item fs ss said (Now.LongName v) deep apart d says shown = long_name_decided t start end item apart fs v said
+    token_decided t begin end start item fs ss said (Now.Keyed x) deep apart d says shown = keyed_decided t start end item apart fs x said
 
     -- 3. What waited.
 
     module _ (start end : ℕ) (item : List Placed) (apart : (ends_long front && begins_as_long item) ≡ false) where
       -- a null of structs may be a local symbol table
-      null_decided : (ss : Symbols) (k : Kind) → PendingFor c [] ss (helds.Null k) item → sight.alone (front ++ item)
+      null_decided : (ss : Symbols) (k : Kind) → PendingFor c [] ss (Held.Null k) item → sight.alone (front ++ item)
           → TurnDecided (ended (under g l) (spot_at end start c) [] (annotated ss (payloads.Null k)))
       null_decided ss k d shown = ended_decided start end c [] v (λ e i j f h. null_table (front ++ item) c ss k e shown there j f)
         where
@@ -364,18 +331,18 @@ module _ (g : Catalog) (l : Limits) (sight : Sight) where
             parts = refl;
             pieces = pieces;
             means =
-                subst (λ x. Means c places.Top x v) alone
-                (means places.Top d.ready.notes (d.token ∷ []) ss (payloads.Null k) d.ready.noted
-                (one_token places.Top d.token d.said (payloads.Null k) d.says (d.stood.value (payloads.Null k) refl)));
+                subst (λ x. Means c Place.Top x v) alone
+                (means Place.Top d.ready.notes (d.token ∷ []) ss (payloads.Null k) d.ready.noted
+                (one_token Place.Top d.token d.said (payloads.Null k) d.says (d.stood.value (payloads.Null k) refl)));
             deep = let flat = flat_null ss k in omega (arith, flat);
             apart = apart;
           }
 
-      version_decided : (s : Option (List ℕ)) → PendingFor c [] [] (helds.Version false s) item → sight.alone (front ++ item) → Decided reasons.Version
+      version_decided : (s : Option (List ℕ)) → PendingFor c [] [] (Held.Version false s) item → sight.alone (front ++ item) → Decided Reason.Version
       version_decided s d shown i =
           let x = held_other c d.said s d.named d.known in
-          let says = subst (Says places.Top d.token) x.is d.says in
-          let none : d.ready.notes ≡ [] = none_noted c places.Top d.ready.notes [] d.ready.noted refl in
+          let says = subst (Says Place.Top d.token) x.is d.says in
+          let none : d.ready.notes ≡ [] = none_noted c Place.Top d.ready.notes [] d.ready.noted refl in
           other_version (front ++ (d.before ++ d.token ∷ [])) c x.word (subst sight.alone (ap (λ y. front ++ y) d.whole) shown)
           (value_comes g l c front vs pieces d.token (Word x.word) [] [] d.before tt
           (begins_so (ends_long front) d.before (d.token ∷ []) (subst (λ y. (ends_long front && begins_as_long y) ≡ false) d.whole apart)) d.ready says)
@@ -383,36 +350,36 @@ module _ (g : Catalog) (l : Limits) (sight : Sight) where
 
       released_decided : (fs : List Frame) (ss : Symbols) (h : Held) → PendingFor c fs ss h item → (fs ≡ [] → sight.alone (front ++ item))
           → TurnDecided (released (under g l) (spot_at end start c) fs ss h)
-      released_decided [] [] (helds.Version true s) d f = within_decided l.item start end (goes (fresh system_slots)) tt
-      released_decided [] [] (helds.Version false s) d f = version_decided s d (f refl)
-      released_decided [] [] (helds.Symbol s) d f = flat_decided start end c [] [] (payloads.Symbol s)
+      released_decided [] [] (Held.Version true s) d f = within_decided l.item start end (goes (fresh system_slots)) tt
+      released_decided [] [] (Held.Version false s) d f = version_decided s d (f refl)
+      released_decided [] [] (Held.Symbol s) d f = flat_decided start end c [] [] (payloads.Symbol s)
           (ap (λ y. is_fields (layer_kind y)) (views.outs-Symbol s))
-      released_decided [] [] (helds.Null k) d f = null_decided [] k d (f refl)
-      released_decided [] [] (helds.Truth b) d f = flat_decided start end c [] [] (payloads.Truth b) (ap (λ y. is_fields (layer_kind y)) (views.outs-Truth b))
-      released_decided [] [] helds.Nan d f = λ i. absurd i
-      released_decided [] (x ∷ ss) (helds.Version b s) d f =
+      released_decided [] [] (Held.Null k) d f = null_decided [] k d (f refl)
+      released_decided [] [] (Held.Truth b) d f = flat_decided start end c [] [] (payloads.Truth b) (ap (λ y. is_fields (layer_kind y)) (views.outs-Truth b))
+      released_decided [] [] Held.Nan d f = λ i. absurd i
+      released_decided [] (x ∷ ss) (Held.Version b s) d f =
           flat_decided start end c [] (x ∷ ss) (payloads.Symbol s) (ap (λ y. is_fields (layer_kind y)) (views.outs-Symbol s))
-      released_decided [] (x ∷ ss) (helds.Symbol s) d f = flat_decided start end c [] (x ∷ ss) (payloads.Symbol s)
+      released_decided [] (x ∷ ss) (Held.Symbol s) d f = flat_decided start end c [] (x ∷ ss) (payloads.Symbol s)
           (ap (λ y. is_fields (layer_kind y)) (views.outs-Symbol s))
-      released_decided [] (x ∷ ss) (helds.Null k) d f = null_decided (x ∷ ss) k d (f refl)
-      released_decided [] (x ∷ ss) (helds.Truth b) d f = flat_decided start end c [] (x ∷ ss) (payloads.Truth b)
+      released_decided [] (x ∷ ss) (Held.Null k) d f = null_decided (x ∷ ss) k d (f refl)
+      released_decided [] (x ∷ ss) (Held.Truth b) d f = flat_decided start end c [] (x ∷ ss) (payloads.Truth b)
           (ap (λ y. is_fields (layer_kind y)) (views.outs-Truth b))
-      released_decided [] (x ∷ ss) helds.Nan d f = λ i. absurd i
-      released_decided (y ∷ fs) ss (helds.Version b s) d f = inside_decided start end c y fs (annotated ss (payloads.Symbol s))
-      released_decided (y ∷ fs) ss (helds.Symbol s) d f = inside_decided start end c y fs (annotated ss (payloads.Symbol s))
-      released_decided (y ∷ fs) ss (helds.Null k) d f = inside_decided start end c y fs (annotated ss (payloads.Null k))
-      released_decided (y ∷ fs) ss (helds.Truth b) d f = inside_decided start end c y fs (annotated ss (payloads.Truth b))
-      released_decided (y ∷ fs) ss helds.Nan d f = λ i. absurd i
+      released_decided [] (x ∷ ss) Held.Nan d f = λ i. absurd i
+      released_decided (y ∷ fs) ss (Held.Version b s) d f = inside_decided start end c y fs (annotated ss (payloads.Symbol s))
+      released_decided (y ∷ fs) ss (Held.Symbol s) d f = inside_decided start end c y fs (annotated ss (payloads.Symbol s))
+      released_decided (y ∷ fs) ss (Held.Null k) d f = inside_decided start end c y fs (annotated ss (payloads.Null k))
+      released_decided (y ∷ fs) ss (Held.Truth b) d f = inside_decided start end c y fs (annotated ss (payloads.Truth b))
+      released_decided (y ∷ fs) ss Held.Nan d f = λ i. absurd i
 
     -- What is refused of what waited is a row.
     pub settled_decided : (start : ℕ) (item : List Placed) (fs : List Frame) (ss : Symbols) (now : Now) → (ends_long front && begins_as_long item) ≡ false
-        → NowStands c fs ss item now → ((h : Held) (end : ℕ) → now ≡ nows.Pending h end → fs ≡ [] → sight.alone (front ++ item))
+        → NowStands c fs ss item now → ((h : Held) (end : ℕ) → now ≡ Now.Pending h end → fs ≡ [] → sight.alone (front ++ item))
         → TurnDecided (settle g l (at start c fs ss now))
-    settled_decided start item fs ss (nows.Pending h end) apart d f = released_decided start end item apart fs ss h d (f h end refl)
-    settled_decided start item fs ss (nows.Long v end) apart d f =
+    settled_decided start item fs ss (Now.Pending h end) apart d f = released_decided start end item apart fs ss h d (f h end refl)
+    settled_decided start item fs ss (Now.Long v end) apart d f =
         flat_decided start end c fs ss (payloads.Str v) (ap (λ y. is_fields (layer_kind y)) (views.outs-Str v))
-    settled_decided start item fs ss (nows.LongName v) apart d f = tt
-    settled_decided start item fs ss nows.Ready apart d f = tt
-    settled_decided start item fs ss nows.After apart d f = tt
-    settled_decided start item fs ss nows.Name apart d f = tt
-    settled_decided start item fs ss (nows.Keyed x) apart d f = tt
+    settled_decided start item fs ss (Now.LongName v) apart d f = tt
+    settled_decided start item fs ss Now.Ready apart d f = tt
+    settled_decided start item fs ss Now.After apart d f = tt
+    settled_decided start item fs ss Now.Name apart d f = tt
+    settled_decided start item fs ss (Now.Keyed x) apart d f = tt

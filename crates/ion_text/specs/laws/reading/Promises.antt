@@ -1,20 +1,11 @@
 -- The promises of the reader of text, over the grammar.
 use Rattle.std.proofs.Common.{◌≡◌, ◌↔◌, ℕ, List, ◌++◌, Result, Ok, Err, Option, ap, sym, ◌∙◌, option_to_list, ◌⊎◌, inl, inr, subst, Some}
-use Rattle.ion_model.specs.declared.value.Value.{Value}
-use Rattle.ion_atoms.specs.declared.refusal.Refusal.{Refusal}
-use Rattle.ion_symtab.specs.declared.limits.Limits.{Limits}
-use Rattle.ion_symtab.specs.declared.catalog.Catalog.{Catalog}
-use Rattle.ion_symtab.specs.Trace.{Trace, Streams, plain}
-use Rattle.ion_text.specs.Grammar.{Document}
-use Rattle.ion_text.specs.machine.Run.{trace}
-use Rattle.ion_text.specs.laws.reading.sound.Admits.{admits}
-use Rattle.ion_text.specs.laws.reading.complete.Accepts.{accepts}
-use Rattle.ion_atoms.specs.declared.refusal.Reason.{Reason}
-use Rattle.ion_atoms.specs.declared.refusal.Reason.TheVariants as reasons
-use Rattle.ion_symtab.specs.Decided.{IsDecided}
-use Rattle.ion_symtab.specs.Promises.{IsReadersReason, HasReasons}
-use Rattle.ion_text.specs.laws.reading.Reasons.{step_reason, end_reason}
 use Rattle.std.specs.Prelude.{◌≢◌}
+use Rattle.ion_text.specs.Names.{Catalog, Document, HasReasons, IsReadersReason, Limits, Reason, Refusal, Streams, Trace, Value, plain, trace}
+use Rattle.ion_symtab.specs.Decided.{IsDecided}
+use Rattle.ion_text.specs.laws.reading.Reasons.{end_reason, step_reason}
+use Rattle.ion_text.specs.laws.reading.complete.Accepts.{accepts}
+use Rattle.ion_text.specs.laws.reading.sound.Admits.{admits}
 
 -- Octets denote a stream exactly where they end well.
 pub exact : (g : Catalog) (l : Limits) (u : List ℕ) (s : List Value) → Streams (trace g l u) s ↔ Document g l u s
@@ -39,7 +30,7 @@ readers_reason reason d = record {
   no_bad_table = λ e. subst IsDecided e d;
 }
 
-end_reason_is : (reason : Reason) → IsDecided reason ⊎ (reason ≡ reasons.Incomplete) → IsReadersReason reason
+end_reason_is : (reason : Reason) → IsDecided reason ⊎ (reason ≡ Reason.Incomplete) → IsReadersReason reason
 end_reason_is reason (inl d) = readers_reason reason d
 end_reason_is reason (inr e) = subst IsReadersReason (sym e) (record { whole_memory = λ h. cc; no_duplicate = λ h. cc; no_bad_table = λ h. cc })
 
@@ -51,5 +42,5 @@ has_reasons g l u = record {
 }
 
 -- An octet isn't refused because there aren't more.
-pub before_end : (g : Catalog) (l : Limits) (u : List ℕ) (r : Refusal) → (trace g l u).refused ≡ Some r → r.reason ≢ reasons.Incomplete
+pub before_end : (g : Catalog) (l : Limits) (u : List ℕ) (r : Refusal) → (trace g l u).refused ≡ Some r → r.reason ≢ Reason.Incomplete
 before_end g l u r h = λ e. subst IsDecided e (step_reason g l u r h)

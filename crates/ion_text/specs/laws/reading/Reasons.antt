@@ -1,52 +1,12 @@
 -- Why octets are refused: for their own sake.
 use Rattle.std.proofs.Common.{◌≡◌, ℕ, zero, suc, ◌+◌, nat_le, nat_lt, List, [], ◌∷◌, length, Bool, true, false, cond, ◌&&◌, not, Result, Ok, Err, Option, Some, None, refl, ap, sym, subst, if◌then◌else◌, ◌⊎◌, inl, inr}
 use Rattle.std.specs.Prelude.{◌==◌}
-use Rattle.ion_model.specs.declared.value.Value.{Value}
-use Rattle.ion_model.specs.declared.value.Payload.{Payload}
-use Rattle.ion_atoms.specs.declared.kind.Kind.{Kind}
-use Rattle.ion_atoms.specs.declared.refusal.Reason.{Reason}
-use Rattle.ion_atoms.specs.declared.refusal.Reason.TheVariants as reasons
-use Rattle.ion_atoms.specs.declared.refusal.Refusal.{Refusal}
-use Rattle.ion_atoms.specs.Reasons.{reason_number}
-use Rattle.ion_model.specs.Kinds.{is_table}
-use Rattle.ion_scalar.specs.text.Numbers.{ReadsNumber}
-use Rattle.ion_symtab.specs.declared.limits.Limits.{Limits}
-use Rattle.ion_symtab.specs.declared.catalog.Catalog.{Catalog}
-use Rattle.ion_symtab.specs.Slots.{Slot, resolve}
-use Rattle.ion_symtab.specs.Next.{next}
-use Rattle.ion_symtab.specs.laws.Decided.{resolve_decides, next_decides}
-use Rattle.ion_symtab.specs.Decided.{IsDecided, Decides}
-use Rattle.ion_tokens.specs.declared.mode.Mark.TheVariants as marks
-use Rattle.ion_tokens.specs.declared.mode.Mode.{Mode}
-use Rattle.ion_tokens.specs.declared.mode.Mode.TheVariants as modes
-use Rattle.ion_tokens.specs.declared.mode.Place.{Place}
-use Rattle.ion_tokens.specs.declared.mode.Keep.{Keep}
-use Rattle.ion_tokens.specs.declared.mode.Keep.TheVariants as keeps
-use Rattle.ion_tokens.specs.declared.mode.End.TheVariants as ends'
-use Rattle.ion_tokens.specs.declared.mode.TokenKind.{TokenKind}
-use Rattle.ion_tokens.specs.declared.mode.TokenKind.TheVariants as kinds
-use Rattle.ion_tokens.specs.machine.Table.{end_of}
-use Rattle.ion_tokens.specs.Places.{is_sexp}
-use Rattle.ion_tokens.specs.machine.Bounds.{is_idle}
-use Rattle.ion_tokens.specs.Bodies.{Content, Word, Id, Quoted, Short, Long, Number', TypedNull, Operator, Clob, Blob, Mark', IsBody, IsWordBody, id_of, kind_named, null_of}
-use Rattle.ion_tokens.specs.machine.Said.{said, says}
-use Rattle.ion_tokens.specs.machine.Scanning.{Known, Outcome, Next, Given, Left, Refused, feed, follow, at_end, ends_at}
-use Rattle.ion_tokens.specs.Lexemes.{Lexeme}
-use Rattle.ion_tokens.proofs.bounds.Fits.{is_octet_reason}
+use Rattle.ion_text.specs.Names.{Blob, Bracket, Catalog, Clob, Content, Effect, End, Frame, Given, Held, Id, IsBody, IsWordBody, Keep, Kind, Known, Left, Lexeme, Limits, Listing, Long, Mark, Mark', Mode, Next, Now, Number', Operator, Outcome, Payload, Place, Quoted, Reading, ReadsNumber, Reason, Refusal, Refused, Run, Setting, Short, Slot, Spot, State, Symbols, Token, TokenKind, Turn, TypedNull, Value, Word, at, at_end, bare_close, begun, begun_at, behind_given, behind_left, closed, cut_short, deeper, eats, end_late, end_now, end_of, end_ready, end_said, end_settled, end_turned, end_waiting, ended, ends_at, ends_of, fails, feed, follow, fresh, gives, goes, held_payload, held_symbol, id_of, is_fresh, is_idle, is_keyword, is_sexp, is_table, keyed, kind_named, late, leaves, lesser, named, next, noted, noticed, null_of, on_after, on_comma, on_keyed, on_long, on_long_name, on_name, on_pending, on_ready, on_said, on_scan, on_settled, once_more, or_worse, paid, place, reaches, reason_number, refused_of, refuses, released, resolve, resolved, run, run_on, said, says, settle, shut, spot_at, spot_in, takes, tells, token_at, token_of, trace, turn, turn_now, turned, under, unsettled, uses, with_scan, within}
 use Rattle.ion_tokens.proofs.bounds.Causes.{IsFair, run_fair}
-use Rattle.ion_text.specs.declared.state.Held.{Held}
-use Rattle.ion_text.specs.declared.state.Held.TheVariants as helds
-use Rattle.ion_text.specs.declared.state.Now.{Now}
-use Rattle.ion_text.specs.declared.state.Now.TheVariants as nows
-use Rattle.ion_text.specs.declared.state.Frame.{Frame}
-use Rattle.ion_text.specs.declared.state.Frame.TheVariants as frames
-use Rattle.ion_visiting.specs.declared.bracket.Bracket.TheVariants as brackets
-use Rattle.ion_text.specs.declared.state.Listing.TheVariants as listings
-use Rattle.ion_text.specs.Grammar.{is_keyword}
-use Rattle.ion_text.specs.machine.EachToken.{Setting, Spot, under, spot_at, spot_in, token_at, Reading, Turn, goes, gives, refuses, late, Token, Symbols, at, fresh, place, settle, turn, turn_now, ended, within, turned, held_symbol, held_payload, released, begun_at, on_ready, on_after, on_name, on_pending, on_long, on_long_name, on_keyed, on_comma, closed, bare_close, deeper, paid, noted, resolved, keyed, named}
-use Rattle.ion_text.specs.machine.Run.{State, Effect, uses, tells, leaves, fails, begun, eats, takes, unsettled, noticed, shut, reaches, lesser, or_worse, on_scan, on_settled, on_said, behind_given, behind_left, with_scan, token_of, Run, run, run_on, once_more, trace, ends_of, refused_of, cut_short, end_late, end_settled, end_turned, end_said, end_waiting, end_ready, end_now, is_fresh}
-use Rattle.ion_text.specs.laws.reading.Brackets.{Closes, ends_list, ends_sexp, ends_struct, ends_none, closes_or_not}
-use Rattle.ion_visiting.specs.declared.bracket.Bracket.{Bracket}
+use Rattle.ion_tokens.proofs.bounds.Fits.{is_octet_reason}
+use Rattle.ion_symtab.specs.Decided.{Decides, IsDecided}
+use Rattle.ion_symtab.specs.laws.Decided.{next_decides, resolve_decides}
+use Rattle.ion_text.specs.laws.reading.Brackets.{Closes, closes_or_not, ends_list, ends_none, ends_sexp, ends_struct}
 
 abbrev pub TurnDecides : Turn → Type 0
 TurnDecides (goes r) = Unit {0}
@@ -57,7 +17,7 @@ TurnDecides (late e r) = IsDecided e
 within_decides : (item start end : ℕ) (t : Turn) → TurnDecides t → TurnDecides (within item start end t)
 within_decides item start end t h = go (nat_le end (start + item))
   where
-    go : (b : Bool) → TurnDecides (if b then t else refuses reasons.ItemTooLong)
+    go : (b : Bool) → TurnDecides (if b then t else refuses Reason.ItemTooLong)
     go true = h
     go false = tt
 
@@ -70,23 +30,23 @@ top_decides item start end c v d false h = within_decides item start end (gives 
 ended_decides : (setting : Setting) (spot : Spot) (fs : List Frame) (v : Value) → TurnDecides (ended setting spot fs v)
 ended_decides setting spot [] v = top_decides setting.limits.item spot.start spot.end spot.context v (next spot.context v setting.catalog) (is_table v)
     (next_decides spot.context v setting.catalog)
-ended_decides setting spot (frames.Items listing ss vs ∷ fs) v = tt
-ended_decides setting spot (frames.Named ss ms s ∷ fs) v = tt
-ended_decides setting spot (frames.Fields ss ms ∷ fs) v = tt
+ended_decides setting spot (Frame.Items listing ss vs ∷ fs) v = tt
+ended_decides setting spot (Frame.Named ss ms s ∷ fs) v = tt
+ended_decides setting spot (Frame.Fields ss ms ∷ fs) v = tt
 
 payload_decides : (h : Held) → Decides (held_payload h)
-payload_decides (helds.Symbol s) = tt
-payload_decides (helds.Version b s) = tt
-payload_decides (helds.Null k) = tt
-payload_decides (helds.Truth b) = tt
-payload_decides helds.Nan = tt
+payload_decides (Held.Symbol s) = tt
+payload_decides (Held.Version b s) = tt
+payload_decides (Held.Null k) = tt
+payload_decides (Held.Truth b) = tt
+payload_decides Held.Nan = tt
 
 symbol_decides : (h : Held) → Decides (held_symbol h)
-symbol_decides (helds.Symbol s) = tt
-symbol_decides (helds.Version b s) = tt
-symbol_decides (helds.Null k) = tt
-symbol_decides (helds.Truth b) = tt
-symbol_decides helds.Nan = tt
+symbol_decides (Held.Symbol s) = tt
+symbol_decides (Held.Version b s) = tt
+symbol_decides (Held.Null k) = tt
+symbol_decides (Held.Truth b) = tt
+symbol_decides Held.Nan = tt
 
 paid_decides : (setting : Setting) (spot : Spot) (fs : List Frame) (ss : Symbols) (q : Result Payload Reason) → Decides q
     → TurnDecides (paid setting spot fs ss q)
@@ -94,12 +54,12 @@ paid_decides setting spot fs ss (Ok q) h = ended_decides setting spot fs _
 paid_decides setting spot fs ss (Err e) h = h
 
 released_decides : (setting : Setting) (spot : Spot) (fs : List Frame) (ss : Symbols) (h : Held) → TurnDecides (released setting spot fs ss h)
-released_decides setting spot [] [] (helds.Version true s) = within_decides setting.limits.item spot.start spot.end _ tt
-released_decides setting spot [] [] (helds.Version false s) = tt
-released_decides setting spot [] [] (helds.Symbol s) = paid_decides setting spot [] [] (held_payload (helds.Symbol s)) tt
-released_decides setting spot [] [] (helds.Null k) = paid_decides setting spot [] [] (held_payload (helds.Null k)) tt
-released_decides setting spot [] [] (helds.Truth b) = paid_decides setting spot [] [] (held_payload (helds.Truth b)) tt
-released_decides setting spot [] [] helds.Nan = tt
+released_decides setting spot [] [] (Held.Version true s) = within_decides setting.limits.item spot.start spot.end _ tt
+released_decides setting spot [] [] (Held.Version false s) = tt
+released_decides setting spot [] [] (Held.Symbol s) = paid_decides setting spot [] [] (held_payload (Held.Symbol s)) tt
+released_decides setting spot [] [] (Held.Null k) = paid_decides setting spot [] [] (held_payload (Held.Null k)) tt
+released_decides setting spot [] [] (Held.Truth b) = paid_decides setting spot [] [] (held_payload (Held.Truth b)) tt
+released_decides setting spot [] [] Held.Nan = tt
 released_decides setting spot [] (s ∷ ss) h = paid_decides setting spot [] (s ∷ ss) (held_payload h) (payload_decides h)
 released_decides setting spot (f ∷ fs) ss h = paid_decides setting spot (f ∷ fs) ss (held_payload h) (payload_decides h)
 
@@ -140,11 +100,11 @@ module _ (g : Catalog) (l : Limits) where
   ready_decides spot fs ss (Operator w) = ended_decides (under g l) spot fs _
   ready_decides spot fs ss (Clob w) = ended_decides (under g l) spot fs _
   ready_decides spot fs ss (Blob w) = ended_decides (under g l) spot fs _
-  ready_decides spot fs ss (Mark' marks.ListOpen) = deeper_decides l.depth fs _ _ tt tt
-  ready_decides spot fs ss (Mark' marks.SexpOpen) = deeper_decides l.depth fs _ _ tt tt
-  ready_decides spot fs ss (Mark' marks.FieldsOpen) = deeper_decides l.depth fs _ _ tt tt
-  ready_decides spot fs ss (Mark' marks.ListClose) = bare_decides ss _ (closed_decides (under g l) spot brackets.List fs)
-  ready_decides spot fs ss (Mark' marks.SexpClose) = bare_decides ss _ (closed_decides (under g l) spot brackets.Sexp fs)
+  ready_decides spot fs ss (Mark' Mark.ListOpen) = deeper_decides l.depth fs _ _ tt tt
+  ready_decides spot fs ss (Mark' Mark.SexpOpen) = deeper_decides l.depth fs _ _ tt tt
+  ready_decides spot fs ss (Mark' Mark.FieldsOpen) = deeper_decides l.depth fs _ _ tt tt
+  ready_decides spot fs ss (Mark' Mark.ListClose) = bare_decides ss _ (closed_decides (under g l) spot Bracket.List fs)
+  ready_decides spot fs ss (Mark' Mark.SexpClose) = bare_decides ss _ (closed_decides (under g l) spot Bracket.Sexp fs)
   ready_decides spot fs ss (Mark' _) = tt
 
   noted_decides : (start : ℕ) (c : List Slot) (fs : List Frame) (ss : Symbols) (r : Result (Option (List ℕ)) Reason) → Decides r
@@ -153,7 +113,7 @@ module _ (g : Catalog) (l : Limits) where
   noted_decides start c fs ss (Err e) h = h
 
   pending_decides : (start : ℕ) (c : List Slot) (fs : List Frame) (ss : Symbols) (h : Held) (x : Content) → TurnDecides (on_pending start c fs ss h x)
-  pending_decides start c fs ss h (Mark' marks.Colons) = noted_decides start c fs ss (held_symbol h) (symbol_decides h)
+  pending_decides start c fs ss h (Mark' Mark.Colons) = noted_decides start c fs ss (held_symbol h) (symbol_decides h)
   pending_decides start c fs ss h _ = tt
 
   long_decides : (spot : Spot) (fs : List Frame) (ss : Symbols) (v : List ℕ) (x : Content) → TurnDecides (on_long spot fs ss v x)
@@ -161,22 +121,22 @@ module _ (g : Catalog) (l : Limits) where
   long_decides spot fs ss v _ = tt
 
   comma_decides : (start : ℕ) (c : List Slot) (fs : List Frame) → TurnDecides (on_comma start c fs)
-  comma_decides start c (frames.Items listings.List ss vs ∷ fs) = tt
-  comma_decides start c (frames.Fields ss ms ∷ fs) = tt
-  comma_decides start c (frames.Items listings.Sexp ss vs ∷ fs) = tt
-  comma_decides start c (frames.Named ss ms s ∷ fs) = tt
+  comma_decides start c (Frame.Items Listing.List ss vs ∷ fs) = tt
+  comma_decides start c (Frame.Fields ss ms ∷ fs) = tt
+  comma_decides start c (Frame.Items Listing.Sexp ss vs ∷ fs) = tt
+  comma_decides start c (Frame.Named ss ms s ∷ fs) = tt
   comma_decides start c [] = tt
 
   after_decides : (spot : Spot) (fs : List Frame) (x : Content) → TurnDecides (on_after (under g l) spot fs x)
-  after_decides spot fs (Mark' marks.Comma) = comma_decides spot.start spot.context fs
-  after_decides spot fs (Mark' marks.ListClose) = closed_decides (under g l) spot brackets.List fs
-  after_decides spot fs (Mark' marks.FieldsClose) = closed_decides (under g l) spot brackets.Fields fs
+  after_decides spot fs (Mark' Mark.Comma) = comma_decides spot.start spot.context fs
+  after_decides spot fs (Mark' Mark.ListClose) = closed_decides (under g l) spot Bracket.List fs
+  after_decides spot fs (Mark' Mark.FieldsClose) = closed_decides (under g l) spot Bracket.Fields fs
   after_decides spot fs _ = tt
 
   name_decides : (spot : Spot) (fs : List Frame) (x : Content) → TurnDecides (on_name (under g l) spot fs x)
   name_decides spot fs (Word w) = go (is_keyword w)
     where
-      go : (b : Bool) → TurnDecides (if b then late reasons.KeywordAsName (keyed spot.start spot.context fs (Some w)) else goes
+      go : (b : Bool) → TurnDecides (if b then late Reason.KeywordAsName (keyed spot.start spot.context fs (Some w)) else goes
           (keyed spot.start spot.context fs (Some w)))
       go true = tt
       go false = tt
@@ -185,7 +145,7 @@ module _ (g : Catalog) (l : Limits) where
   name_decides spot fs (Quoted w) = tt
   name_decides spot fs (Short w) = tt
   name_decides spot fs (Long w) = tt
-  name_decides spot fs (Mark' marks.FieldsClose) = closed_decides (under g l) spot brackets.Fields fs
+  name_decides spot fs (Mark' Mark.FieldsClose) = closed_decides (under g l) spot Bracket.Fields fs
   name_decides spot fs _ = tt
 
   long_name_decides : (start : ℕ) (c : List Slot) (fs : List Frame) (v : List ℕ) (x : Content) → TurnDecides (on_long_name start c fs v x)
@@ -193,24 +153,24 @@ module _ (g : Catalog) (l : Limits) where
   long_name_decides start c fs v _ = tt
 
   named_decides : (start : ℕ) (c : List Slot) (fs : List Frame) (s : Option (List ℕ)) → TurnDecides (named start c fs s)
-  named_decides start c (frames.Fields ss ms ∷ fs) s = tt
-  named_decides start c (frames.Items listing ss vs ∷ fs) s = tt
-  named_decides start c (frames.Named ss ms x ∷ fs) s = tt
+  named_decides start c (Frame.Fields ss ms ∷ fs) s = tt
+  named_decides start c (Frame.Items listing ss vs ∷ fs) s = tt
+  named_decides start c (Frame.Named ss ms x ∷ fs) s = tt
   named_decides start c [] s = tt
 
   keyed_decides : (start : ℕ) (c : List Slot) (fs : List Frame) (s : Option (List ℕ)) (x : Content) → TurnDecides (on_keyed start c fs s x)
-  keyed_decides start c fs s (Mark' marks.Colon) = named_decides start c fs s
+  keyed_decides start c fs s (Mark' Mark.Colon) = named_decides start c fs s
   keyed_decides start c fs s _ = tt
 
   now_decides : (begin end start : ℕ) (c : List Slot) (fs : List Frame) (ss : Symbols) (x : Content) (now : Now)
       → TurnDecides (turn_now (under g l) (at start c fs ss now) (token_at begin end x) now)
-  now_decides begin end start c fs ss x nows.Ready = ready_decides (spot_at end (begun_at start begin fs ss) c) fs ss x
-  now_decides begin end start c fs ss x (nows.Pending h e) = pending_decides start c fs ss h x
-  now_decides begin end start c fs ss x (nows.Long w e) = long_decides (spot_at end start c) fs ss w x
-  now_decides begin end start c fs ss x nows.After = after_decides (spot_at end start c) fs x
-  now_decides begin end start c fs ss x nows.Name = name_decides (spot_at end start c) fs x
-  now_decides begin end start c fs ss x (nows.LongName w) = long_name_decides start c fs w x
-  now_decides begin end start c fs ss x (nows.Keyed s) = keyed_decides start c fs s x
+  now_decides begin end start c fs ss x Now.Ready = ready_decides (spot_at end (begun_at start begin fs ss) c) fs ss x
+  now_decides begin end start c fs ss x (Now.Pending h e) = pending_decides start c fs ss h x
+  now_decides begin end start c fs ss x (Now.Long w e) = long_decides (spot_at end start c) fs ss w x
+  now_decides begin end start c fs ss x Now.After = after_decides (spot_at end start c) fs x
+  now_decides begin end start c fs ss x Now.Name = name_decides (spot_at end start c) fs x
+  now_decides begin end start c fs ss x (Now.LongName w) = long_name_decides start c fs w x
+  now_decides begin end start c fs ss x (Now.Keyed s) = keyed_decides start c fs s x
 
   turn_decides : (r : Reading) (t : Token) → TurnDecides (turn g l r t)
   turn_decides r t = now_decides t.start t.end r.start r.context r.frames r.notes t.said r.now
@@ -219,21 +179,21 @@ module _ (g : Catalog) (l : Limits) where
   settle_decides r = go r.now
     where
       go : (n : Now) → TurnDecides (settle g l (at r.start r.context r.frames r.notes n))
-      go (nows.Pending h e) = released_decides (under g l) (spot_in r e) r.frames r.notes h
-      go (nows.Long w e) = ended_decides (under g l) (spot_in r e) r.frames _
-      go (nows.LongName w) = tt
-      go nows.Ready = tt
-      go nows.After = tt
-      go nows.Name = tt
-      go (nows.Keyed s) = tt
+      go (Now.Pending h e) = released_decides (under g l) (spot_in r e) r.frames r.notes h
+      go (Now.Long w e) = ended_decides (under g l) (spot_in r e) r.frames _
+      go (Now.LongName w) = tt
+      go Now.Ready = tt
+      go Now.After = tt
+      go Now.Name = tt
+      go (Now.Keyed s) = tt
 
   -- what a scanner refuses for, and what a token that says nothing is refused for
 
   octet_decided : (e : Reason) → is_octet_reason e ≡ true → IsDecided e
-  octet_decided reasons.Memory h = absurd cc
-  octet_decided reasons.Incomplete h = absurd cc
-  octet_decided reasons.DuplicateTable h = absurd cc
-  octet_decided reasons.BadTable h = absurd cc
+  octet_decided Reason.Memory h = absurd cc
+  octet_decided Reason.Incomplete h = absurd cc
+  octet_decided Reason.DuplicateTable h = absurd cc
+  octet_decided Reason.BadTable h = absurd cc
   octet_decided _ h = tt
 
   fair_decided : (n : ℕ) (e : Reason) → IsFair (Refused n e) → is_octet_reason e ≡ true
@@ -244,10 +204,10 @@ module _ (g : Catalog) (l : Limits) where
   feed_decided p s o n e h = octet_decided e (fair_decided n e (subst IsFair (ap (λ y. follow y (λ t. Next t)) h) (run_fair p (o ∷ []) s)))
 
   number_decided : (octets : List ℕ) (e : Reason) → ReadsNumber octets (Err e) → IsDecided e
-  number_decided octets reasons.Memory h = absurd h
-  number_decided octets reasons.Incomplete h = absurd h
-  number_decided octets reasons.DuplicateTable h = absurd h
-  number_decided octets reasons.BadTable h = absurd h
+  number_decided octets Reason.Memory h = absurd h
+  number_decided octets Reason.Incomplete h = absurd h
+  number_decided octets Reason.DuplicateTable h = absurd h
+  number_decided octets Reason.BadTable h = absurd h
   number_decided octets _ h = tt
 
   word_decided : (octets : List ℕ) (id : Option ℕ) (e : Reason) → IsWordBody octets id (Err e) → IsDecided e
@@ -255,20 +215,20 @@ module _ (g : Catalog) (l : Limits) where
   word_decided octets (Some id) e h = absurd cc
 
   null_decided : (kind : Option Kind) (e : Reason) → Err e ≡ null_of kind → IsDecided e
-  null_decided None e h = let k : reasons.Malformed ≡ e = cc in subst IsDecided k tt
+  null_decided None e h = let k : Reason.Malformed ≡ e = cc in subst IsDecided k tt
   null_decided (Some kind) e h = absurd cc
 
   body_decided : (k : TokenKind) (octets : List ℕ) (e : Reason) → IsBody k octets (Err e) → IsDecided e
-  body_decided kinds.Word octets e h = word_decided octets (id_of octets) e h
-  body_decided kinds.KindName octets e h = null_decided (kind_named octets) e h
-  body_decided kinds.Number octets e h = number_decided octets e h
-  body_decided kinds.Operator octets e h = subst IsDecided (sym h.0) tt
-  body_decided kinds.QuotedSymbol octets e h = subst IsDecided (sym h.0) tt
-  body_decided kinds.ShortString octets e h = subst IsDecided (sym h.0) tt
-  body_decided kinds.LongString octets e h = subst IsDecided (sym h.0) tt
-  body_decided kinds.Clob octets e h = absurd cc
-  body_decided kinds.Blob octets e h = absurd cc
-  body_decided (kinds.Mark m) octets e h = absurd cc
+  body_decided TokenKind.Word octets e h = word_decided octets (id_of octets) e h
+  body_decided TokenKind.KindName octets e h = null_decided (kind_named octets) e h
+  body_decided TokenKind.Number octets e h = number_decided octets e h
+  body_decided TokenKind.Operator octets e h = subst IsDecided (sym h.0) tt
+  body_decided TokenKind.QuotedSymbol octets e h = subst IsDecided (sym h.0) tt
+  body_decided TokenKind.ShortString octets e h = subst IsDecided (sym h.0) tt
+  body_decided TokenKind.LongString octets e h = subst IsDecided (sym h.0) tt
+  body_decided TokenKind.Clob octets e h = absurd cc
+  body_decided TokenKind.Blob octets e h = absurd cc
+  body_decided (TokenKind.Mark m) octets e h = absurd cc
 
   said_decided : (k : TokenKind) (octets : List ℕ) (e : Reason) → said k octets ≡ Err e → IsDecided e
   said_decided k octets e h = body_decided k octets e (subst (IsBody k octets) h (says k octets))
@@ -281,8 +241,8 @@ module _ (g : Catalog) (l : Limits) where
   noticed_decides : (r : Reading) (s : Known) → EffectDecides (noticed l r s)
   noticed_decides r s = go (shut r.now && not (is_idle s.mode)) (nat_le (reaches r.frames r s) l.item)
     where
-      go : (a b : Bool) → EffectDecides (if a then fails reasons.Unexpected else
-          (if b then uses (record { scan = s; reading = r }) else fails reasons.ItemTooLong))
+      go : (a b : Bool) → EffectDecides (if a then fails Reason.Unexpected else
+          (if b then uses (record { scan = s; reading = r }) else fails Reason.ItemTooLong))
       go true b = tt
       go false true = tt
       go false false = tt
@@ -376,14 +336,14 @@ module _ (g : Catalog) (l : Limits) where
 
   -- The end refuses for such a reason, or for want of more octets.
   abbrev pub IsEndReason : Reason → Type 0
-  IsEndReason e = IsDecided e ⊎ (e ≡ reasons.Incomplete)
+  IsEndReason e = IsDecided e ⊎ (e ≡ Reason.Incomplete)
 
   abbrev AnswersAtEnd : Result (Option Value) Refusal → Type 0
   AnswersAtEnd (Ok v) = Unit {0}
   AnswersAtEnd (Err r) = IsEndReason r.reason
 
   late_ends : (used : ℕ) (e : Reason) → IsDecided e → AnswersAtEnd (end_late used e)
-  late_ends used reasons.Depth h = inr refl
+  late_ends used Reason.Depth h = inr refl
   late_ends used _ h = inl h
 
   fresh_ends : (used : ℕ) (b : Bool) → AnswersAtEnd (if b then Ok None else cut_short used)
@@ -412,36 +372,36 @@ module _ (g : Catalog) (l : Limits) where
   EndsWell (Ok x) = Unit {0}
   EndsWell (Err e) = IsEndReason e
 
-  operator_well : (s : Known) (b : Bool) (k : Keep) → EndsWell (ends_at s (cond b (ends'.Token kinds.Operator k) (ends'.Refuse reasons.Incomplete)))
+  operator_well : (s : Known) (b : Bool) (k : Keep) → EndsWell (ends_at s (cond b (End.Token TokenKind.Operator k) (End.Refuse Reason.Incomplete)))
   unfolding EndsWell
   operator_well s true k = tt
   operator_well s false k = inr refl
 
-  float_well : (s : Known) (b : Bool) → EndsWell (ends_at s (ends'.Refuse (if b then reasons.Float else reasons.Incomplete)))
+  float_well : (s : Known) (b : Bool) → EndsWell (ends_at s (End.Refuse (if b then Reason.Float else Reason.Incomplete)))
   unfolding EndsWell
   float_well s true = inl tt
   float_well s false = inr refl
 
   mode_well : (p : Place) (s : Known) (m : Mode) → EndsWell (ends_at s (end_of p m))
   unfolding EndsWell
-  mode_well p s modes.Blank = tt
-  mode_well p s modes.LineComment = tt
-  mode_well p s modes.Slash = operator_well s (is_sexp p) (keeps.One 47)
-  mode_well p s modes.OperatorSlash = operator_well s (is_sexp p) (keeps.One 47)
-  mode_well p s (modes.Operator e) = operator_well s (is_sexp p) keeps.Nothing
-  mode_well p s modes.Colon = tt
-  mode_well p s modes.Word = tt
-  mode_well p s modes.KindName = tt
-  mode_well p s modes.Number = tt
-  mode_well p s modes.NumberSlash = tt
-  mode_well p s modes.Quotes = tt
-  mode_well p s modes.Brace = tt
-  mode_well p s (modes.Infinity n) = float_well s (n == 3)
-  mode_well p s modes.BlockComment = inr refl
-  mode_well p s modes.BlockCommentStar = inr refl
-  mode_well p s modes.Quote = inr refl
-  mode_well p s (modes.Text t w) = inr refl
-  mode_well p s (modes.Lob k) = inr refl
+  mode_well p s Mode.Blank = tt
+  mode_well p s Mode.LineComment = tt
+  mode_well p s Mode.Slash = operator_well s (is_sexp p) (Keep.One 47)
+  mode_well p s Mode.OperatorSlash = operator_well s (is_sexp p) (Keep.One 47)
+  mode_well p s (Mode.Operator e) = operator_well s (is_sexp p) Keep.Nothing
+  mode_well p s Mode.Colon = tt
+  mode_well p s Mode.Word = tt
+  mode_well p s Mode.KindName = tt
+  mode_well p s Mode.Number = tt
+  mode_well p s Mode.NumberSlash = tt
+  mode_well p s Mode.Quotes = tt
+  mode_well p s Mode.Brace = tt
+  mode_well p s (Mode.Infinity n) = float_well s (n == 3)
+  mode_well p s Mode.BlockComment = inr refl
+  mode_well p s Mode.BlockCommentStar = inr refl
+  mode_well p s Mode.Quote = inr refl
+  mode_well p s (Mode.Text t w) = inr refl
+  mode_well p s (Mode.Lob k) = inr refl
 
   waiting_ends : (used : ℕ) (x : Result (Option Lexeme) Reason) (t : Turn) → TurnDecides t → AnswersAtEnd (end_waiting g l used x t)
   waiting_ends used (Ok None) t h = settled_ends used t h
@@ -461,13 +421,13 @@ module _ (g : Catalog) (l : Limits) where
   ready_ends used r (Err e) h = h
 
   ends_decide : (used : ℕ) (r : Reading) (x : Result (Option Lexeme) Reason) (n : Now) → EndsWell x → AnswersAtEnd (end_now g l used r x n)
-  ends_decide used r x (nows.Pending h e) w = waiting_ends used x (settle g l r) (settle_decides r)
-  ends_decide used r x (nows.Long v e) w = waiting_ends used x (settle g l r) (settle_decides r)
-  ends_decide used r x (nows.LongName v) w = inr refl
-  ends_decide used r x nows.Ready w = ready_ends used r x w
-  ends_decide used r x nows.After w = ready_ends used r x w
-  ends_decide used r x nows.Name w = ready_ends used r x w
-  ends_decide used r x (nows.Keyed s) w = ready_ends used r x w
+  ends_decide used r x (Now.Pending h e) w = waiting_ends used x (settle g l r) (settle_decides r)
+  ends_decide used r x (Now.Long v e) w = waiting_ends used x (settle g l r) (settle_decides r)
+  ends_decide used r x (Now.LongName v) w = inr refl
+  ends_decide used r x Now.Ready w = ready_ends used r x w
+  ends_decide used r x Now.After w = ready_ends used r x w
+  ends_decide used r x Now.Name w = ready_ends used r x w
+  ends_decide used r x (Now.Keyed s) w = ready_ends used r x w
 
   of_now : (now : Result State Refusal) → NowDecides now → AnswersAtEnd (ends_of g l now)
   of_now (Ok m) h = ends_decide m.scan.used m.reading (at_end (place m.reading) m.scan) m.reading.now (mode_well (place m.reading) m.scan m.scan.mode)

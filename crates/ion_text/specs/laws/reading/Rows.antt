@@ -4,19 +4,13 @@ use Rattle.std.specs.Prelude.{codes}
 use Rattle.std.specs.Str as str
 use lib.Utf8 as utf8
 use denote.Hole.Carrier as carrier
-use Rattle.ion_model.specs.declared.value.Value.{Value}
-use Rattle.ion_model.specs.declared.value.Payload.TheVariants as payloads
-use Rattle.ion_model.specs.Measures.{bare, annotated}
-use Rattle.ion_symtab.specs.declared.catalog.Catalog.{Catalog}
-use Rattle.ion_symtab.specs.declared.limits.Limits.{Limits}
-use Rattle.ion_model.specs.declared.value.Payload.TheViews as views
+use Rattle.ion_text.specs.Names.{Catalog, Document, Limits, Pieces, Placed, Slot, Value, annotated, bare, begins, holds, marked, turns}
 use Rattle.ion_model.specs.declared.value.Payload.TheBlock as block
+use Rattle.ion_model.specs.declared.value.Payload.TheVariants as payloads
+use Rattle.ion_model.specs.declared.value.Payload.TheViews as views
+use Rattle.ion_tokens.specs.machine.Said as said_by
 use Rattle.ion_symtab.specs.Next as next_by
 use Rattle.ion_symtab.specs.Slots as slots
-use Rattle.ion_symtab.specs.Slots.{Slot}
-use Rattle.ion_tokens.specs.Lexed.{Placed}
-use Rattle.ion_tokens.specs.machine.Said as said_by
-use Rattle.ion_text.specs.Grammar.{Pieces, begins, marked, turns, holds, Document}
 use Rattle.ion_text.specs.laws.reading.Promises.{exact}
 
 -- 1. Wider limits admit what narrower ones do.

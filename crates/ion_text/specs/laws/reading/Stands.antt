@@ -2,13 +2,9 @@
 use Rattle.std.proofs.Common.{◌≡◌, ℕ, ◌+◌, List, [], ◌∷◌, ◌++◌, length, true, Option, Some, None, refl, ap, sym, ◌∙◌, arith, append_assoc}
 use Rattle.std.specs.Option.{is_some}
 use Rattle.std.specs.Prelude.{IsNone, IfSome}
-use Rattle.ion_model.specs.declared.value.Value.{Value}
-use Rattle.ion_symtab.specs.declared.limits.Limits.{Limits}
-use Rattle.ion_symtab.specs.declared.catalog.Catalog.{Catalog}
-use Rattle.ion_symtab.specs.Trace.{IsFront}
-use Rattle.ion_text.specs.machine.Run.{State, Run, run, run_on, eats, ends, begun, trace, trace_of}
-use Rattle.ion_text.specs.machine.Pieces.{then_run, run-append}
-use Rattle.ion_text.specs.machine.Progress.{Ran, BeginsWith, resumed}
+use Rattle.ion_text.specs.Names.{Catalog, IsFront, Limits, Ran, Run, State, Value, begun, eats, resumed, run, run-append, run_on, then_run, trace, trace_of}
+use Rattle.ion_text.specs.machine.Progress.{BeginsWith}
+use Rattle.ion_text.specs.machine.Run.{ends}
 
 -- the values in front of what a run gives
 abbrev pub behind : List (Value × ℕ) → Run → Run

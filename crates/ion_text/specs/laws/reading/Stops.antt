@@ -1,32 +1,14 @@
 -- Where a run is refused, and what the refusal says.
 use Rattle.std.proofs.Common.{◌≡◌, ℕ, ◌+◌, ◌≤◌, List, [], ◌∷◌, ◌++◌, length, take, Bool, true, false, Result, Ok, Err, Option, Some, None, refl, ap, sym, ◌∙◌, subst, arith, append_assoc, append-nil, length-append, if◌then◌else◌}
 use Rattle.std.proofs.Math.Seq.{take-append-add}
-use Rattle.ion_model.specs.declared.value.Value.{Value}
-use Rattle.ion_atoms.specs.declared.refusal.Reason.{Reason}
-use Rattle.ion_atoms.specs.declared.refusal.Reason.TheVariants as reasons
-use Rattle.ion_atoms.specs.declared.refusal.Refusal.{Refusal}
-use Rattle.ion_model.specs.Kinds.{is_table}
-use Rattle.ion_symtab.specs.declared.limits.Limits.{Limits}
-use Rattle.ion_symtab.specs.declared.catalog.Catalog.{Catalog}
-use Rattle.ion_symtab.specs.Trace.{plain}
-use Rattle.ion_symtab.specs.Promises.{BeginsNone, IsFirst, NoTables, GivesNoTable}
-use Rattle.ion_symtab.specs.laws.Promises.{first_refused}
-use Rattle.ion_tokens.specs.Bodies.{Content}
-use Rattle.ion_tokens.specs.machine.Scanning.{at_end}
-use Rattle.ion_tokens.specs.Lexemes.{Lexeme}
-use Rattle.ion_tokens.proofs.runs.Runs.{next_used}
-use Rattle.ion_tokens.specs.machine.Said.{said}
-use Rattle.ion_text.specs.declared.state.Now.{Now}
-use Rattle.ion_text.specs.declared.state.Now.TheVariants as nows
-use Rattle.ion_text.specs.Grammar.{Document}
-use Rattle.ion_text.specs.machine.EachToken.{Reading, Turn, goes, gives, refuses, late, place, settle, turn}
-use Rattle.ion_text.specs.machine.Run.{State, Effect, uses, tells, leaves, fails, begun, eats, Run, run, run_on, once_more, trace, ends_of, refused_of, cut_short, end_late, end_settled, end_turned, end_said, end_waiting, end_ready, end_now, is_fresh, token_of}
-use Rattle.ion_text.specs.machine.Pieces.{run-append, on_now, grows}
-use Rattle.ion_text.specs.laws.reading.sound.Steps.{Stood, StoodBehind, run_ran, begun_stood}
-use Rattle.ion_text.specs.laws.reading.sound.Admits.{stood_accepted}
-use Rattle.ion_text.specs.laws.reading.complete.Accepts.{accepts}
-use Rattle.ion_text.specs.laws.reading.ValuesKept.{pieces_values}
+use Rattle.ion_text.specs.Names.{BeginsNone, Catalog, Content, Document, Effect, GivesNoTable, IsFirst, Lexeme, Limits, NoTables, Now, Reading, Reason, Refusal, Run, State, Turn, Value, at_end, begun, cut_short, eats, end_late, end_now, end_ready, end_said, end_settled, end_turned, end_waiting, ends_of, fails, gives, goes, grows, is_fresh, is_table, late, leaves, on_now, once_more, place, plain, refused_of, refuses, run, run-append, run_on, said, settle, tells, token_of, trace, turn, uses}
 use Rattle.ion_tokens.proofs.histories.Ended.{stands_used}
+use Rattle.ion_tokens.proofs.runs.Runs.{next_used}
+use Rattle.ion_symtab.specs.laws.Promises.{first_refused}
+use Rattle.ion_text.specs.laws.reading.ValuesKept.{pieces_values}
+use Rattle.ion_text.specs.laws.reading.complete.Accepts.{accepts}
+use Rattle.ion_text.specs.laws.reading.sound.Admits.{stood_accepted}
+use Rattle.ion_text.specs.laws.reading.sound.Steps.{Stood, StoodBehind, begun_stood, run_ran}
 
 end_offset : Result (Option Value) Refusal → ℕ → ℕ
 end_offset (Err r) d = r.offset
@@ -155,7 +137,7 @@ module _ (g : Catalog) (l : Limits) where
   -- what the end refuses is at the octets used
   late_offset : (used : ℕ) (e : Reason) (r : Refusal) → end_late used e ≡ Err r → r.offset ≡ used
   unfolding end_offset
-  late_offset used reasons.Depth r h = sym (ap (λ z. end_offset z 0) h)
+  late_offset used Reason.Depth r h = sym (ap (λ z. end_offset z 0) h)
   late_offset used _ r h = sym (ap (λ z. end_offset z 0) h)
 
   fresh_offset : (used : ℕ) (b : Bool) (r : Refusal) → (if b then Ok None else cut_short used) ≡ Err r → r.offset ≡ used
@@ -202,13 +184,13 @@ module _ (g : Catalog) (l : Limits) where
 
   now_offset : (used : ℕ) (n : Reading) (x : Result (Option Lexeme) Reason) (now : Now) (r : Refusal) → end_now g l used n x now ≡ Err r → r.offset ≡ used
   unfolding end_offset
-  now_offset used n x (nows.Pending k e) r h = waiting_offset used x (settle g l n) r h
-  now_offset used n x (nows.Long w e) r h = waiting_offset used x (settle g l n) r h
-  now_offset used n x (nows.LongName w) r h = sym (ap (λ z. end_offset z 0) h)
-  now_offset used n x nows.Ready r h = ready_offset used n x r h
-  now_offset used n x nows.After r h = ready_offset used n x r h
-  now_offset used n x nows.Name r h = ready_offset used n x r h
-  now_offset used n x (nows.Keyed k) r h = ready_offset used n x r h
+  now_offset used n x (Now.Pending k e) r h = waiting_offset used x (settle g l n) r h
+  now_offset used n x (Now.Long w e) r h = waiting_offset used x (settle g l n) r h
+  now_offset used n x (Now.LongName w) r h = sym (ap (λ z. end_offset z 0) h)
+  now_offset used n x Now.Ready r h = ready_offset used n x r h
+  now_offset used n x Now.After r h = ready_offset used n x r h
+  now_offset used n x Now.Name r h = ready_offset used n x r h
+  now_offset used n x (Now.Keyed k) r h = ready_offset used n x r h
 
   unfinished_now : (u : List ℕ) (given : List (Value × ℕ)) (now : Result State Refusal) (r : Refusal)
       → StoodBehind g l u [] (record { given = given; now = now }) → refused_of now ≡ None → ends_of g l now ≡ Err r → r.offset ≡ length u

@@ -1,24 +1,10 @@
 -- What is known of a reader that told what it did, and of one that built what it was told.
 use Rattle.std.proofs.Common.{◌≡◌, ℕ, ◌≤◌, List, [], ◌∷◌, ◌++◌, length, Option, Some, None, Result, Ok, Err, ap, arith, refl, subst}
-use Rattle.ion_model.specs.declared.value.Value.{Value}
-use Rattle.ion_atoms.specs.declared.refusal.Refusal.{Refusal}
-use Rattle.ion_symtab.specs.declared.catalog.Catalog.{Catalog}
-use Rattle.ion_symtab.specs.declared.limits.Limits.{Limits}
-use Rattle.ion_symtab.specs.Walks.{HasTold}
-use Rattle.ion_tokens.specs.machine.Views.{looks}
-use Rattle.ion_visiting.specs.Building.{Built, built, builds, fresh}
-use Rattle.ion_visiting.specs.Events.{Event, Led}
-use Rattle.ion_visiting.specs.Tables.{heard}
-use Rattle.ion_text.specs.declared.reader.TextReader.{TextReader}
-use Rattle.ion_text.specs.declared.walk.TextWalk.{TextWalk}
+use Rattle.ion_text.specs.Names.{Built, Catalog, Event, HasTold, Led, Limits, Ran, Refusal, Run, State, TextReader, TextWalk, Told, Value, builds, built, failed, heard, looks, octets_kept, octets_used, state_of, told, trace}
+use Rattle.ion_visiting.specs.Building.{fresh}
+use Rattle.ion_text.specs.walk.Builds.{HasBuilt}
 use Rattle.ion_text.specs.laws.reading.Stands.{ran_front, ran_given, ran_unrefused}
 use Rattle.ion_text.specs.laws.reading.small.Bounded.{ran_kept}
-use Rattle.ion_text.specs.machine.Progress.{Ran}
-use Rattle.ion_text.specs.machine.Run.{Run, State, trace}
-use Rattle.ion_text.specs.walk.Builds.{HasBuilt}
-use Rattle.ion_text.specs.walk.Ends.{failed, octets_used}
-use Rattle.ion_text.specs.walk.Holds.{state_of, told}
-use Rattle.ion_text.specs.walk.Runs.{Told, octets_kept}
 
 -- 1. What a walk told is so.
 pub walk_told : (r : TextWalk) (u : List ℕ) (s : List (Value × ℕ)) (es : List Event) → Told r u s es

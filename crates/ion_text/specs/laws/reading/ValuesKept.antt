@@ -1,25 +1,12 @@
 -- The values of a document are such as the types keep, where the texts of the catalog are UTF-8; so they may be written.
 use Rattle.std.proofs.Common.{◌≡◌, ℕ, Bool, true, false, List, [], ◌∷◌, ◌++◌, Option, Some, subst, IsUtf8}
 use Rattle.std.proofs.lemmas.Str.{IsUtf8-append}
-use Rattle.ion_model.specs.declared.value.Value.{Value}
-use Rattle.ion_model.specs.declared.value.Field.{Field}
-use Rattle.ion_model.specs.declared.value.Payload.{Payload}
-use Rattle.ion_atoms.specs.declared.kind.Kind.TheVariants as values
-use Rattle.ion_model.specs.Kinds.{is_table}
-use Rattle.ion_model.specs.Kept.{IsText, AreTexts, IsKept, kept, KeptPayload, kept_null, kept_truth, kept_int, kept_decimal, kept_timestamp, kept_symbol, kept_string, kept_clob, kept_blob, kept_list, kept_sexp, kept_fields, KeptItems, no_items, KeptFields, no_fields, AreKept}
-use Rattle.ion_model.specs.laws.Kept.{texts_last, items_last, fields_last, kept_last}
-use Rattle.ion_symtab.specs.declared.limits.Limits.{Limits}
-use Rattle.ion_symtab.specs.Slots.{Slot}
-use Rattle.ion_symtab.specs.Tables.{Table}
-use Rattle.ion_symtab.specs.Promises.{NoTables}
-use Rattle.ion_symtab.specs.laws.ContextTexts.{AreTextSlots, AreTextTables, TextAnswer, system_are_texts, resolved_text, next_texts}
-use Rattle.ion_tokens.specs.declared.mode.Place.{Place}
-use Rattle.ion_tokens.specs.Bodies.{Content}
-use Rattle.ion_tokens.specs.Lexed.{Placed}
-use Rattle.ion_text.specs.Grammar.{Says, IsSymbol, is_word, is_id, is_quoted, IsScalar, is_null, is_typed_null, is_true, is_false, is_int, is_decimal, is_timestamp, is_symbol, is_operator, is_short, is_clob, is_blob, Annotations, no_annotation, one_annotation, Segments, segment, joined, IsName, by_symbol, by_short, by_long, Plain, one_token, long_string, is_list, is_sexp, is_struct, Means, means, Elements, no_element, element, comma, Row, no_item, item, Members, no_field, field, field_comma, Pieces, begins, marked, turns, holds, Document}
-use Rattle.ion_text.specs.Output.{text_of, FitsIn}
+use Rattle.ion_text.specs.Names.{Annotations, AreKept, AreTexts, Content, Document, Elements, Field, FitsIn, IsKept, IsName, IsScalar, IsSymbol, IsText, KeptFields, KeptItems, KeptPayload, Kind, Limits, Means, Members, NoTables, Payload, Pieces, Place, Placed, Plain, Row, Says, Segments, Slot, Table, Value, begins, by_long, by_short, by_symbol, comma, element, field, field_comma, holds, is_blob, is_clob, is_decimal, is_false, is_id, is_int, is_list, is_null, is_operator, is_short, is_struct, is_symbol, is_table, is_timestamp, is_true, is_typed_null, is_word, item, joined, kept, kept_blob, kept_clob, kept_decimal, kept_fields, kept_int, kept_list, kept_null, kept_sexp, kept_string, kept_symbol, kept_timestamp, kept_truth, long_string, marked, means, no_annotation, no_element, no_field, no_fields, no_item, no_items, one_annotation, one_token, segment, text_of, turns}
+use Rattle.ion_model.specs.laws.Kept.{fields_last, items_last, kept_last, texts_last}
+use Rattle.ion_tokens.specs.laws.TokensKept.{AreLobsKept, IsContentKept, IsLobKept, body_kept, lexes_lobs, lobs_front, lobs_rest}
+use Rattle.ion_symtab.specs.laws.ContextTexts.{AreTextSlots, AreTextTables, TextAnswer, next_texts, resolved_text, system_are_texts}
+use Rattle.ion_text.specs.Grammar.{is_quoted, is_sexp}
 use Rattle.ion_text.specs.laws.writing.RoundTrip.{round_trip}
-use Rattle.ion_tokens.specs.laws.TokensKept.{IsLobKept, IsContentKept, body_kept, AreLobsKept, lobs_front, lobs_rest, lexes_lobs}
 
 -- 1. The tokens of octets: what their lobs hold are octets.
 
@@ -45,7 +32,7 @@ module _ (c : List Slot) (texts : AreTextSlots c) where
   name_kept _ _ l (by_long ts w h) = segments_kept _ ts w l h
 
   scalar_kept : (said : Content) (x : Payload) → IsContentKept said → IsScalar c said x → KeptPayload x
-  scalar_kept _ _ k is_null = kept_null values.Null
+  scalar_kept _ _ k is_null = kept_null Kind.Null
   scalar_kept _ _ k (is_typed_null n) = kept_null n
   scalar_kept _ _ k is_true = kept_truth true
   scalar_kept _ _ k is_false = kept_truth false

@@ -1,14 +1,8 @@
 -- The text of a value, by one level.
 use Rattle.std.proofs.Common.{◌≡◌, ℕ, Option, List, [], ◌∷◌, ◌++◌, map, refl, ap, ◌∙◌}
 use Rattle.std.specs.Prelude.{codes}
-use Rattle.ion_model.specs.declared.value.Value.{Value}
-use Rattle.ion_model.specs.declared.value.Field.{Field}
-use Rattle.ion_model.specs.declared.value.Payload.{Payload}
+use Rattle.ion_text.specs.Names.{Field, Layer, Payload, Payload-F, Value, annotated, enclosed, field_text, fold-Field, fold-Payload, fold_out-Field, fold_out-Payload, fold_out-Value, layer_text, map-Payload, named_text, notes_text, text_step, value_text}
 use Rattle.ion_model.specs.declared.value.Payload.TheViews as views
-use Rattle.ion_model.specs.declared.value.Payload.TheOpen.{Payload-F}
-use Rattle.ion_model.specs.declared.value.Payload.TheFolds.{fold_out-Payload, fold_out-Value, fold_out-Field, fold-Payload, fold-Field, map-Payload}
-use Rattle.ion_model.specs.Measures.{Layer, annotated}
-use Rattle.ion_text.specs.Output.{notes_text, enclosed, named_text, text_step, value_text, field_text, layer_text}
 
 abbrev payload_fold : Payload → List ℕ
 payload_fold = fold-Payload (List ℕ) (List ℕ) (List ℕ) text_step (λ f. named_text f.name f.value) (λ v. notes_text v.annotations ++ v.payload)

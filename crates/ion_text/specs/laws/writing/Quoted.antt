@@ -7,14 +7,10 @@ use Rattle.std.proofs.lemmas.Bool.Decides.{nat_tests}
 use Rattle.std.proofs.lemmas.Grind.{flat_map-append}
 use Rattle.std.proofs.lemmas.Str.{IsUtf8-append, IsUtf8-nil, IsUtf8-encode, encode_ascii, inside_one}
 use lib.Utf8.{scalar, scalars, encode, encodes, low_scalar}
-use Rattle.ion_tokens.specs.declared.mode.Style.{Style}
-use Rattle.ion_tokens.specs.declared.mode.Style.TheVariants as styles
-use Rattle.ion_tokens.specs.Octets.{escaped, hexadecimal_digit}
-use Rattle.ion_tokens.specs.Styles.{is_long, is_clob, quote_of}
-use Rattle.ion_tokens.specs.Quoted.{Element, Raw, Simple, Hex, IsElement, IsRaw, spelling, meaning, ends_in_cr, CrTakesLf, ClosesFirst, IsQuoted}
-use Rattle.ion_atoms.specs.Octets.{AreOctets}
-use Rattle.ion_text.specs.declared.escape.Quotes.{Quotes}
-use Rattle.ion_text.specs.Output.{of_symbol, of_clob, hexadecimal_of, hexadecimal_escape, letter_for, stands_raw, escape_by, escape, escaped_text, quoted, is_unquoted, known_text}
+use Rattle.ion_text.specs.Names.{AreOctets, Quotes, Style, escape, escape_by, escaped_text, hexadecimal_digit, hexadecimal_escape, hexadecimal_of, is_unquoted, known_text, letter_for, of_clob, of_symbol, quoted, stands_raw}
+use Rattle.ion_tokens.specs.Octets.{escaped}
+use Rattle.ion_tokens.specs.Quoted.{ClosesFirst, CrTakesLf, Element, Hex, IsElement, IsQuoted, IsRaw, Raw, Simple, ends_in_cr, meaning, spelling}
+use Rattle.ion_tokens.specs.Styles.{is_clob, is_long, quote_of}
 
 -- 1. Octets.
 
@@ -121,37 +117,37 @@ module _ (s : Style) (q : ℕ) (ascii : Bool) (b : Between s q ascii) where
 
 -- 4. Clobs.
 
-meant_octet : (c : ℕ) (l : Option ℕ) → meaning styles.ShortClob (element_by true c l) ≡ c ∷ []
+meant_octet : (c : ℕ) (l : Option ℕ) → meaning Style.ShortClob (element_by true c l) ≡ c ∷ []
 meant_octet c (Some letter) = refl
 meant_octet c None = by (stands_raw true c) refl where
-  by : (x : Bool) → stands_raw true c ≡ x → meaning styles.ShortClob (cond x (Raw c) (Hex 120 (hexadecimal_of (c / 16) ∷ hexadecimal_of (c % 16) ∷ []) c)) ≡ c
+  by : (x : Bool) → stands_raw true c ≡ x → meaning Style.ShortClob (cond x (Raw c) (Hex 120 (hexadecimal_of (c / 16) ∷ hexadecimal_of (c % 16) ∷ []) c)) ≡ c
       ∷ []
   by true f = encode_ascii c (raw_high c f)
   by false f = refl
 
-clob_between : Between styles.ShortClob 34 true
+clob_between : Between Style.ShortClob 34 true
 clob_between = record { quote = refl; either = inl refl; short = refl; clob = refl }
 
-clob_each : (octets : List ℕ) → AreOctets octets → AllByRecursion (IsElement styles.ShortClob) (map (element_of 34 true) octets)
+clob_each : (octets : List ℕ) → AreOctets octets → AllByRecursion (IsElement Style.ShortClob) (map (element_of 34 true) octets)
 clob_each [] h = tt
-clob_each (c ∷ cs) h = (element_is styles.ShortClob 34 true clob_between c (low_scalar c (omega (arith, h.0))) (λ f. h.0), clob_each cs h.1)
+clob_each (c ∷ cs) h = (element_is Style.ShortClob 34 true clob_between c (low_scalar c (omega (arith, h.0))) (λ f. h.0), clob_each cs h.1)
 
 clob_spelled : (octets : List ℕ) → flat_map (escape of_clob) octets ≡ flat_map spelling (map (element_of 34 true) octets)
 clob_spelled [] = refl
 clob_spelled (c ∷ cs) = ap₂ (λ (a b : List ℕ). a ++ b) (sym
-    (spelled_by styles.ShortClob 34 true clob_between c (λ f. encode_ascii c (raw_high c f)) (letter_for 34 c))) (clob_spelled cs)
+    (spelled_by Style.ShortClob 34 true clob_between c (λ f. encode_ascii c (raw_high c f)) (letter_for 34 c))) (clob_spelled cs)
 
-clob_means : (octets : List ℕ) → octets ≡ flat_map (meaning styles.ShortClob) (map (element_of 34 true) octets)
+clob_means : (octets : List ℕ) → octets ≡ flat_map (meaning Style.ShortClob) (map (element_of 34 true) octets)
 clob_means [] = refl
 clob_means (c ∷ cs) = ap₂ (λ (a b : List ℕ). a ++ b) (sym (meant_octet c (letter_for 34 c))) (clob_means cs)
 
 -- the octets of a clob, written between quotes
-pub clob_quoted : (octets : List ℕ) → AreOctets octets → IsQuoted styles.ShortClob (escaped_text of_clob octets) octets
+pub clob_quoted : (octets : List ℕ) → AreOctets octets → IsQuoted Style.ShortClob (escaped_text of_clob octets) octets
 clob_quoted octets h = record {
   elements = map (element_of 34 true) octets;
   each = clob_each octets h;
-  crs = no_crs styles.ShortClob 34 true clob_between octets;
-  close = no_close styles.ShortClob 34 true clob_between (map (element_of 34 true) octets);
+  crs = no_crs Style.ShortClob 34 true clob_between octets;
+  close = no_close Style.ShortClob 34 true clob_between (map (element_of 34 true) octets);
   spelled = clob_spelled octets;
   means = clob_means octets;
 }
@@ -223,11 +219,11 @@ module _ (s : Style) (q : ℕ) (b : Between s q false) where
   }
 
 -- the quotes of a string are double, and characters beyond ASCII may stand between them
-pub string_between : Between styles.ShortString 34 false
+pub string_between : Between Style.ShortString 34 false
 string_between = record { quote = refl; either = inl refl; short = refl; clob = refl }
 
 -- the quotes of a symbol are single, and characters beyond ASCII may stand between them
-pub symbol_between : Between styles.QuotedSymbol 39 false
+pub symbol_between : Between Style.QuotedSymbol 39 false
 symbol_between = record { quote = refl; either = inr refl; short = refl; clob = refl }
 
 -- 6. What is written of a text is UTF-8.
@@ -264,7 +260,7 @@ module _ (s : Style) (q : ℕ) (b : Between s q false) where
 -- a symbol between quotes
 pub quoted_utf8 : (text : List ℕ) → IsUtf8 text → IsUtf8 (quoted of_symbol text)
 quoted_utf8 text (cs, h) =
-    let whole = subst (λ (w : List ℕ). IsUtf8 (escaped_text of_symbol w)) h.1 (chars_utf8 styles.QuotedSymbol 39 symbol_between cs h.0) in
+    let whole = subst (λ (w : List ℕ). IsUtf8 (escaped_text of_symbol w)) h.1 (chars_utf8 Style.QuotedSymbol 39 symbol_between cs h.0) in
     ascii_then 39 _ (omega arith) (IsUtf8-append (escaped_text of_symbol text) (39 ∷ []) whole (ascii_then 39 [] (omega arith) IsUtf8-nil))
 
 -- a symbol of a known text

@@ -7,8 +7,7 @@ use Rattle.std.proofs.lemmas.Bool.{and_parts}
 use Rattle.std.proofs.lemmas.Bool.Decides.{nat_tests}
 use Rattle.std.proofs.lemmas.Grind.{flat_map-append}
 use Rattle.std.proofs.lemmas.List.{take-append-drop}
-use Rattle.ion_text.specs.declared.escape.Quotes.{Quotes}
-use Rattle.ion_text.specs.Output.{letter_for, is_raw, escape_by, escape, escaped_text, hexadecimal_escape}
+use Rattle.ion_text.specs.Names.{Quotes, escape, escape_by, escaped_text, hexadecimal_escape, is_raw, letter_for}
 
 abbrev pub AreRaw : Quotes → List ℕ → Type 0
 AreRaw quotes octets = AllByRecursion (λ o. is_raw quotes o ≡ true) octets

@@ -4,25 +4,9 @@ use Rattle.std.specs.Prelude.{◌==◌, ◌||◌, ◌&&◌}
 use Rattle.std.specs.List.{flat_map, AllByRecursion}
 use Rattle.std.proofs.lemmas.Bool.{false≢true}
 use Rattle.std.proofs.lemmas.Bool.Decides.{nat_tests}
-use Rattle.ion_model.specs.declared.value.Value.{Value}
-use Rattle.ion_model.specs.Kinds.{is_table}
-use Rattle.ion_symtab.specs.declared.limits.Limits.{Limits}
-use Rattle.ion_symtab.specs.declared.catalog.Catalog.{Catalog}
-use Rattle.ion_symtab.specs.Slots.{system_slots}
-use Rattle.ion_symtab.specs.Promises.{NoTables}
-use Rattle.ion_tokens.specs.declared.mode.Place.{Place}
-use Rattle.ion_tokens.specs.declared.mode.Place.TheVariants as places
-use Rattle.ion_tokens.specs.declared.mode.TokenKind.{TokenKind}
-use Rattle.ion_tokens.specs.declared.mode.TokenKind.TheVariants as kinds
-use Rattle.ion_tokens.specs.Octets.{is_white}
-use Rattle.ion_tokens.specs.Blanks.{BlankPiece, IsBlank, IsBlankPiece, blank_spelling, IsLastBlank, White, LineComment, BlockComment}
-use Rattle.ion_tokens.specs.Lexemes.{IsLexeme}
-use Rattle.ion_tokens.specs.Lexed.{Placed, LexesTo, Lexes}
-use Rattle.ion_text.specs.Grammar.{Means, ends_long, begins_as_long, is_version, is_version_word, Pieces, begins, holds, Document}
-use Rattle.ion_text.specs.Output.{value_text, text_of, ValueFits, FitsIn}
-use Rattle.ion_model.specs.Kept.{IsKept, AreKept}
-use Rattle.ion_text.specs.laws.writing.Written.{NoneLong, none_long, Written, tokens, span_within, white_before, lexes_end}
-use Rattle.ion_text.specs.laws.writing.ValuesWritten.{value_written, value_no_colon, starts_badly, bad_octet, either_false, nothing_stops, line_stops}
+use Rattle.ion_text.specs.Names.{AreKept, BlankPiece, BlockComment, Catalog, Document, FitsIn, IsBlank, IsBlankPiece, IsKept, IsLastBlank, IsLexeme, Lexes, LexesTo, Limits, LineComment, Means, NoTables, Pieces, Place, Placed, TokenKind, Value, ValueFits, White, begins, begins_as_long, blank_spelling, ends_long, holds, is_table, is_version, is_version_word, is_white, system_slots, text_of, value_text}
+use Rattle.ion_text.specs.laws.writing.ValuesWritten.{bad_octet, either_false, line_stops, nothing_stops, starts_badly, value_no_colon, value_written}
+use Rattle.ion_text.specs.laws.writing.Written.{NoneLong, Written, lexes_end, none_long, span_within, tokens, white_before}
 
 -- 1. No value is written as the marker of a version.
 
@@ -71,16 +55,16 @@ placed_token p start end kind octets = record { place = p; lexeme = record { sta
 -- the octets of a token at the front
 word_of : (p : Place) (start end : ℕ) (kind : TokenKind) (octets : List ℕ) (colon : Bool) (w r : List ℕ) → IsLexeme p colon w r kind octets
     → starts_badly (w ++ r) ≡ false → is_version_word (placed_token p start end kind octets ∷ []) ≡ false
-word_of p start end kinds.Word octets colon w r h g = no_version octets (subst (λ (x : List ℕ). starts_badly x ≡ false) (sym h.0) (bad_front w r g))
-word_of p start end kinds.KindName octets colon w r h g = refl
-word_of p start end kinds.Number octets colon w r h g = refl
-word_of p start end kinds.Operator octets colon w r h g = refl
-word_of p start end kinds.QuotedSymbol octets colon w r h g = refl
-word_of p start end kinds.ShortString octets colon w r h g = refl
-word_of p start end kinds.LongString octets colon w r h g = refl
-word_of p start end kinds.Clob octets colon w r h g = refl
-word_of p start end kinds.Blob octets colon w r h g = refl
-word_of p start end (kinds.Mark m) octets colon w r h g = refl
+word_of p start end TokenKind.Word octets colon w r h g = no_version octets (subst (λ (x : List ℕ). starts_badly x ≡ false) (sym h.0) (bad_front w r g))
+word_of p start end TokenKind.KindName octets colon w r h g = refl
+word_of p start end TokenKind.Number octets colon w r h g = refl
+word_of p start end TokenKind.Operator octets colon w r h g = refl
+word_of p start end TokenKind.QuotedSymbol octets colon w r h g = refl
+word_of p start end TokenKind.ShortString octets colon w r h g = refl
+word_of p start end TokenKind.LongString octets colon w r h g = refl
+word_of p start end TokenKind.Clob octets colon w r h g = refl
+word_of p start end TokenKind.Blob octets colon w r h g = refl
+word_of p start end (TokenKind.Mark m) octets colon w r h g = refl
 
 no_marker : (colon : Bool) (before : ℕ) (octets : List ℕ) (t : Placed) (ts : List Placed) (after : Bool) (end : ℕ) (rest : List ℕ)
     → LexesTo colon before octets (t ∷ ts) after end rest → starts_badly octets ≡ false → is_version_word (t ∷ ts) ≡ false
@@ -125,7 +109,7 @@ module _ (g : Catalog) (l : Limits) where
     pieces : Pieces g l (us ++ tokens) (done ++ vs) system_slots
 
   abbrev MeansAtTop : Value → List Placed → Type 0
-  MeansAtTop v ts = Means system_slots places.Top ts v
+  MeansAtTop v ts = Means system_slots Place.Top ts v
 
   -- one value more
   value_holds : (us : List Placed) (done : List Value) (v : Value) (at : ℕ) (rest : List ℕ) → WrittenPieces us done → IsKept v → is_table v ≡ false
@@ -149,7 +133,7 @@ module _ (g : Catalog) (l : Limits) where
   }
   lines us done w (v ∷ vs) k n f colon before =
       let rest = 10 ∷ text_of vs in
-      let h = value_written system_slots v k.0 places.Top refl (before + 1) rest (line_stops (text_of vs)) in
+      let h = value_written system_slots v k.0 Place.Top refl (before + 1) rest (line_stops (text_of vs)) in
       let ts = tokens h in
       let more = lines (us ++ ts) (done ++ v ∷ []) (value_holds us done v (before + 1) rest w k.0 n.0 f.0 h) vs k.1 n.1 f.1 h.after
       (before + 1 + length (value_text v)) in
@@ -168,7 +152,7 @@ module _ (g : Catalog) (l : Limits) where
   round_trip [] k n f = record { tokens = []; context = system_slots; lexed = no_more; pieces = begins }
   round_trip (v ∷ vs) k n f =
       let rest = 10 ∷ text_of vs in
-      let h = value_written system_slots v k.0 places.Top refl 0 rest (line_stops (text_of vs)) in
+      let h = value_written system_slots v k.0 Place.Top refl 0 rest (line_stops (text_of vs)) in
       let ts = tokens h in
       let more = lines ts (v ∷ []) (value_holds [] [] v 0 rest (record { pieces = begins; short = tt }) k.0 n.0 f.0 h) vs k.1 n.1 f.1 h.after
       (0 + length (value_text v)) in
@@ -184,7 +168,7 @@ module _ (g : Catalog) (l : Limits) where
   -- the text of one value, without its line's end, is a document with this value
   pub value_alone : (v : Value) → AreKept (v ∷ []) → NoTables (v ∷ []) → FitsIn l (v ∷ []) → Document g l (value_text v) (v ∷ [])
   value_alone v k n f =
-      let h = value_written system_slots v k.0 places.Top refl 0 [] nothing_stops in
+      let h = value_written system_slots v k.0 Place.Top refl 0 [] nothing_stops in
       let ts = tokens h in
       record {
         tokens = ts;

@@ -1,16 +1,12 @@
 -- What is written of worked values.
 use Rattle.std.proofs.Common.{◌≡◌, pos, negsuc, true, false, List, [], ◌∷◌, Some, None, refl, ◌∙◌}
 use Rattle.std.specs.Prelude.{codes}
-use Rattle.ion_atoms.specs.declared.kind.Kind.TheVariants as kinds
-use Rattle.ion_model.specs.declared.value.Value.{Value}
-use Rattle.ion_model.specs.declared.value.Field.{Field}
-use Rattle.ion_model.specs.declared.value.Payload.TheVariants as payloads
-use Rattle.ion_model.specs.declared.value.Payload.TheViews as views
-use Rattle.ion_atoms.specs.declared.timestamp.Precision.TheVariants as precisions
+use Rattle.ion_text.specs.Names.{Field, Kind, Value, annotated, bare, field_of, symbol_text, text_of, value_text}
 use Rattle.ion_atoms.specs.Decimals.{DecimalParts}
 use Rattle.ion_atoms.specs.Timestamps.{TimestampParts}
-use Rattle.ion_model.specs.Measures.{bare, annotated, field_of}
-use Rattle.ion_text.specs.Output.{symbol_text, value_text, text_of}
+use Rattle.ion_atoms.specs.declared.timestamp.Precision.{Precision}
+use Rattle.ion_model.specs.declared.value.Payload.TheVariants as payloads
+use Rattle.ion_model.specs.declared.value.Payload.TheViews as views
 use Rattle.ion_text.specs.laws.writing.Output.{text_layer}
 
 -- 1. The values.
@@ -26,7 +22,7 @@ minus_zero = record { negative = true; magnitude = 0; exponent = pos 0 }
 abbrev in_2007 : TimestampParts
 in_2007 = record {
   local = record { year = 2007; month = 1; day = 1; hour = 0; minute = 0; second = 0; fraction = 0 };
-  precision = precisions.Year;
+  precision = Precision.Year;
   offset = None;
 }
 
@@ -45,7 +41,7 @@ abbrev operator_and_word : List Value
 operator_and_word = bare (payloads.Symbol (Some (codes "+"))) ∷ bare (payloads.Symbol (Some (codes "b"))) ∷ []
 
 abbrev list_items : List Value
-list_items = bare (payloads.Null kinds.Int) ∷ bare (payloads.Sexp operator_and_word) ∷ []
+list_items = bare (payloads.Null Kind.Int) ∷ bare (payloads.Sexp operator_and_word) ∷ []
 
 -- the list of these, annotated with `a`
 abbrev nested : Value
@@ -105,8 +101,8 @@ word_text : value_text (bare (payloads.Symbol (Some (codes "b")))) ≡ codes "b"
 unfolding symbol_text
 word_text = text_layer [] (payloads.Symbol (Some (codes "b"))) _ (views.outs-Symbol (Some (codes "b")))
 
-null_int_text : value_text (bare (payloads.Null kinds.Int)) ≡ codes "null.int"
-null_int_text = text_layer [] (payloads.Null kinds.Int) _ (views.outs-Null kinds.Int)
+null_int_text : value_text (bare (payloads.Null Kind.Int)) ≡ codes "null.int"
+null_int_text = text_layer [] (payloads.Null Kind.Int) _ (views.outs-Null Kind.Int)
 
 sexp_text : value_text (bare (payloads.Sexp operator_and_word)) ≡ codes "('+' b)"
 sexp_text = text_layer [] (payloads.Sexp operator_and_word) _ (views.outs-Sexp operator_and_word) ∙ rw (operator_text, word_text) refl

@@ -6,29 +6,12 @@ use Rattle.std.proofs.lemmas.Bool.{and_parts, false≢true}
 use Rattle.std.proofs.lemmas.Bool.Decides.{nat_tests}
 use Rattle.std.proofs.lemmas.Str.{IsUtf8-append, IsUtf8-nil, IsUtf8-encode, encode_ascii}
 use lib.Utf8.{low_scalar}
-use Rattle.ion_atoms.specs.Kinds.{kind_name}
-use Rattle.ion_atoms.specs.Octets.{AreOctets}
-use Rattle.ion_atoms.specs.declared.kind.Kind.{Kind}
-use Rattle.ion_atoms.specs.declared.kind.Kind.TheVariants as values
-use Rattle.ion_scalar.specs.declared.number.Number.{Number}
-use Rattle.ion_scalar.specs.text.Numbers.{ReadsNumber}
-use Rattle.ion_scalar.specs.text.Texts.{number_text}
-use Rattle.ion_symtab.specs.Slots.{Slot, resolve}
-use Rattle.ion_tokens.specs.Octets.{is_letter, is_digit, begins_word, is_word_octet, is_stop, is_white, is_base64}
-use Rattle.ion_tokens.specs.declared.mode.Place.{Place}
-use Rattle.ion_tokens.specs.declared.mode.TokenKind.{TokenKind}
-use Rattle.ion_tokens.specs.declared.mode.TokenKind.TheVariants as kinds
-use Rattle.ion_tokens.specs.declared.mode.Style.TheVariants as styles
-use Rattle.ion_tokens.specs.Places.{is_name}
-use Rattle.ion_tokens.specs.Blobs.{base64_of, IsBase64}
+use Rattle.ion_text.specs.Names.{AreOctets, Blob, Clob, Content, Each, Id, IsBase64, IsBody, IsLexeme, IsSymbol, IsText, Kind, Number, Number', Place, Quoted, ReadsNumber, Short, ShortText, Slot, Style, TokenKind, TypedNull, Word, base64_of, begins_comment, begins_word, blob_text, clob_text, escaped_text, id_of, is_base64, is_digit, is_id, is_identifier, is_keyword, is_letter, is_name, is_segment, is_stop, is_unquoted, is_white, is_word, is_word_octet, kind_name, kind_named, null_text, number_text, of_clob, of_string, of_symbol, quoted, resolve, symbol_text, takes_colon, truth_text}
+use Rattle.ion_tokens.specs.Lexemes.{begins}
 use Rattle.ion_tokens.specs.laws.Blobs.{base64_each}
 use Rattle.ion_tokens.specs.laws.Numerals.{numeric_run}
-use Rattle.ion_tokens.specs.Bodies.{Content, Word, Id, Quoted, Short, Number', TypedNull, Clob, Blob, IsBody, id_of, kind_named}
-use Rattle.ion_tokens.specs.Lexemes.{IsLexeme, Each, begins, begins_comment, ShortText, takes_colon, is_segment}
-use Rattle.ion_text.specs.Grammar.{is_keyword, IsSymbol, is_word, is_id, is_quoted}
-use Rattle.ion_text.specs.Output.{of_string, of_symbol, of_clob, is_identifier, is_unquoted, symbol_text, quoted, escaped_text, null_text, truth_text, clob_text, blob_text}
-use Rattle.ion_model.specs.Kept.{IsText}
-use Rattle.ion_text.specs.laws.writing.Quoted.{text_quoted, clob_quoted, string_between, symbol_between}
+use Rattle.ion_text.specs.Grammar.{is_quoted}
+use Rattle.ion_text.specs.laws.writing.Quoted.{clob_quoted, string_between, symbol_between, text_quoted}
 
 -- 1. What may follow.
 
@@ -78,7 +61,7 @@ all_each : (class : ℕ → Bool) (os : List ℕ) → list_all class os ≡ true
 all_each class [] h = tt
 all_each class (o ∷ os) h = let p = and_parts _ _ h in (p.0, all_each class os p.1)
 
-word_is : (p : Place) (w r : List ℕ) → is_identifier w ≡ true → EndsWords r → (colon : Bool) → IsLexeme p colon w r kinds.Word w
+word_is : (p : Place) (w r : List ℕ) → is_identifier w ≡ true → EndsWords r → (colon : Bool) → IsLexeme p colon w r TokenKind.Word w
 word_is p [] r h a colon = absurd (false≢true h)
 word_is p (o ∷ os) r h a colon =
     let q = and_parts _ _ h in
@@ -93,12 +76,12 @@ not_true : (b : Bool) → not b ≡ true → b ≡ false
 not_true false h = refl
 not_true true h = absurd (false≢true h)
 
-quoted_is : (p : Place) (w r : List ℕ) → IsUtf8 w → EndsWords r → (colon : Bool) → IsLexeme p colon (quoted of_symbol w) r kinds.QuotedSymbol w
-quoted_is p w r u a colon = (escaped_text of_symbol w, text_quoted styles.QuotedSymbol 39 symbol_between w u, refl, λ e. a.quote)
+quoted_is : (p : Place) (w r : List ℕ) → IsUtf8 w → EndsWords r → (colon : Bool) → IsLexeme p colon (quoted of_symbol w) r TokenKind.QuotedSymbol w
+quoted_is p w r u a colon = (escaped_text of_symbol w, text_quoted Style.QuotedSymbol 39 symbol_between w u, refl, λ e. a.quote)
 
 word_spelled : (p : Place) (w r : List ℕ) → is_identifier w ≡ true → IsUtf8 w → EndsWords r → Spelling p w r (Word w)
 word_spelled p w r h u a = record {
-  kind = kinds.Word;
+  kind = TokenKind.Word;
   octets = w;
   lexeme = λ colon. word_is p w r h a colon;
   body = rw (no_id w h) (refl, u);
@@ -112,7 +95,7 @@ unquoted_spelled c p w r u a h =
     record {
       said = Word w;
       token = record {
-        kind = kinds.Word;
+        kind = TokenKind.Word;
         octets = w;
         lexeme = λ colon. rw h (word_is p w r q.0 a colon);
         body = rw (no_id w q.0) (refl, u);
@@ -127,7 +110,7 @@ unfolding symbol_text
 quoted_spelled c p w r u a h = record {
   said = Quoted w;
   token = record {
-    kind = kinds.QuotedSymbol;
+    kind = TokenKind.QuotedSymbol;
     octets = w;
     lexeme = λ colon. rw h (quoted_is p w r u a colon);
     body = (refl, u);
@@ -142,7 +125,7 @@ unfolding symbol_text resolve
 unknown_spelled c p r a = record {
   said = Id 0;
   token = record {
-    kind = kinds.Word;
+    kind = TokenKind.Word;
     octets = codes "$0";
     lexeme = λ colon. (refl, (refl, (refl, (refl, tt))), a.word, λ e. a.dot);
     body = refl;
@@ -168,7 +151,7 @@ pub number_spelled : (p : Place) (n : Number) (r : List ℕ) → is_name p ≡ f
 number_spelled p n r place h s =
     let run = numeric_run (number_text n) n h in
     record {
-      kind = kinds.Number;
+      kind = TokenKind.Number;
       octets = number_text n;
       lexeme = λ colon. (refl, place, record { begun = run.begun; each = run.each; longest = longest r s.stop });
       body = h;
@@ -195,13 +178,13 @@ truth_spelled p true r a = word_spelled p (codes "true") r refl (ascii_text (cod
 
 -- what the token of a null says
 abbrev pub null_said : Kind → Content
-null_said values.Null = Word (codes "null")
+null_said Kind.Null = Word (codes "null")
 null_said k = TypedNull k
 
 typed_null : (p : Place) (k : Kind) (r : List ℕ) → Each is_word_octet (kind_name k) → kind_named (kind_name k) ≡ Some k → EndsWords r
     → Spelling p (codes "null." ++ kind_name k) r (TypedNull k)
 typed_null p k r e f a = record {
-  kind = kinds.KindName;
+  kind = TokenKind.KindName;
   octets = kind_name k;
   lexeme = λ colon. (refl, e, a.word);
   body = rw f refl;
@@ -210,26 +193,26 @@ typed_null p k r e f a = record {
 
 -- what is written of a null is one token that says it, where nothing follows that goes on with words
 pub null_spelled : (p : Place) (k : Kind) (r : List ℕ) → EndsWords r → Spelling p (null_text k) r (null_said k)
-null_spelled p values.Null r a = word_spelled p (codes "null") r refl (ascii_text (codes "null") refl) a
-null_spelled p values.Bool r a = typed_null p values.Bool r (all_each is_word_octet (kind_name values.Bool) refl) refl a
-null_spelled p values.Int r a = typed_null p values.Int r (all_each is_word_octet (kind_name values.Int) refl) refl a
-null_spelled p values.Float r a = typed_null p values.Float r (all_each is_word_octet (kind_name values.Float) refl) refl a
-null_spelled p values.Decimal r a = typed_null p values.Decimal r (all_each is_word_octet (kind_name values.Decimal) refl) refl a
-null_spelled p values.Timestamp r a = typed_null p values.Timestamp r (all_each is_word_octet (kind_name values.Timestamp) refl) refl a
-null_spelled p values.Symbol r a = typed_null p values.Symbol r (all_each is_word_octet (kind_name values.Symbol) refl) refl a
-null_spelled p values.Str r a = typed_null p values.Str r (all_each is_word_octet (kind_name values.Str) refl) refl a
-null_spelled p values.Clob r a = typed_null p values.Clob r (all_each is_word_octet (kind_name values.Clob) refl) refl a
-null_spelled p values.Blob r a = typed_null p values.Blob r (all_each is_word_octet (kind_name values.Blob) refl) refl a
-null_spelled p values.List r a = typed_null p values.List r (all_each is_word_octet (kind_name values.List) refl) refl a
-null_spelled p values.Sexp r a = typed_null p values.Sexp r (all_each is_word_octet (kind_name values.Sexp) refl) refl a
-null_spelled p values.Fields r a = typed_null p values.Fields r (all_each is_word_octet (kind_name values.Fields) refl) refl a
+null_spelled p Kind.Null r a = word_spelled p (codes "null") r refl (ascii_text (codes "null") refl) a
+null_spelled p Kind.Bool r a = typed_null p Kind.Bool r (all_each is_word_octet (kind_name Kind.Bool) refl) refl a
+null_spelled p Kind.Int r a = typed_null p Kind.Int r (all_each is_word_octet (kind_name Kind.Int) refl) refl a
+null_spelled p Kind.Float r a = typed_null p Kind.Float r (all_each is_word_octet (kind_name Kind.Float) refl) refl a
+null_spelled p Kind.Decimal r a = typed_null p Kind.Decimal r (all_each is_word_octet (kind_name Kind.Decimal) refl) refl a
+null_spelled p Kind.Timestamp r a = typed_null p Kind.Timestamp r (all_each is_word_octet (kind_name Kind.Timestamp) refl) refl a
+null_spelled p Kind.Symbol r a = typed_null p Kind.Symbol r (all_each is_word_octet (kind_name Kind.Symbol) refl) refl a
+null_spelled p Kind.Str r a = typed_null p Kind.Str r (all_each is_word_octet (kind_name Kind.Str) refl) refl a
+null_spelled p Kind.Clob r a = typed_null p Kind.Clob r (all_each is_word_octet (kind_name Kind.Clob) refl) refl a
+null_spelled p Kind.Blob r a = typed_null p Kind.Blob r (all_each is_word_octet (kind_name Kind.Blob) refl) refl a
+null_spelled p Kind.List r a = typed_null p Kind.List r (all_each is_word_octet (kind_name Kind.List) refl) refl a
+null_spelled p Kind.Sexp r a = typed_null p Kind.Sexp r (all_each is_word_octet (kind_name Kind.Sexp) refl) refl a
+null_spelled p Kind.Fields r a = typed_null p Kind.Fields r (all_each is_word_octet (kind_name Kind.Fields) refl) refl a
 
 -- what is written of a string is one token of a short string that says its text
 pub string_spelled : (p : Place) (text r : List ℕ) → IsUtf8 text → Spelling p (quoted of_string text) r (Short text)
 string_spelled p text r u = record {
-  kind = kinds.ShortString;
+  kind = TokenKind.ShortString;
   octets = text;
-  lexeme = λ colon. (escaped_text of_string text, text_quoted styles.ShortString 34 string_between text u, refl);
+  lexeme = λ colon. (escaped_text of_string text, text_quoted Style.ShortString 34 string_between text u, refl);
   body = (refl, u);
   short = refl;
 }
@@ -239,7 +222,7 @@ string_spelled p text r u = record {
 -- what is written of a clob is one token that says its octets
 pub clob_spelled : (p : Place) (octets r : List ℕ) → is_name p ≡ false → AreOctets octets → Spelling p (clob_text octets) r (Clob octets)
 clob_spelled p octets r place h = record {
-  kind = kinds.Clob;
+  kind = TokenKind.Clob;
   octets = octets;
   lexeme = λ colon. (place, quoted of_clob octets, ShortText [] (escaped_text of_clob octets) [] tt (clob_quoted octets h) tt refl, refl);
   body = refl;
@@ -269,7 +252,7 @@ blob_spelled p octets r place h =
     let e = base64_each octets h in
     let is : IsBase64 (filter (λ o. not (is_white o)) (base64_of octets)) octets = record { octets_are = h; spelled = unfiltered (base64_of octets) e } in
     record {
-      kind = kinds.Blob;
+      kind = TokenKind.Blob;
       octets = octets;
       lexeme = λ colon. (place, base64_of octets, (stand_all (base64_of octets) e, is), refl);
       body = refl;

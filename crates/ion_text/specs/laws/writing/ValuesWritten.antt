@@ -4,37 +4,17 @@ use Rattle.std.specs.Prelude.{◌==◌, ◌||◌, ◌&&◌, codes}
 use Rattle.std.specs.List.{flat_map}
 use Rattle.std.proofs.lemmas.Bool.{and_parts, false≢true}
 use Rattle.std.proofs.lemmas.Bool.Decides.{nat_tests}
-use Rattle.ion_atoms.specs.declared.kind.Kind.{Kind}
-use Rattle.ion_atoms.specs.declared.kind.Kind.TheVariants as kinds
-use Rattle.ion_model.specs.declared.value.Value.{Value}
-use Rattle.ion_model.specs.declared.value.Field.{Field}
-use Rattle.ion_model.specs.declared.value.Payload.{Payload}
+use Rattle.ion_text.specs.Names.{Annotations, AreTexts, Blob, Clob, Content, Elements, Field, IsKept, IsName, IsScalar, IsSymbol, IsText, KeptFields, KeptItems, KeptPayload, Kind, Layer, LexesTo, Mark, Mark', MarkEnds, MarkStands, Means, Members, Number, Number', Payload, Place, Placed, Plain, ReadsNumber, Row, Says, Short, Slot, Value, Word, a_field, an_item, annotated, begins_long, begins_number, blob_text, by_symbol, clob_text, close_place, comma, element, ends_long, escaped_text, field, field_comma, field_of, field_text, is_blob, is_clob, is_decimal, is_digit, is_false, is_identifier, is_int, is_letter, is_list, is_long, is_name, is_null, is_short, is_struct, is_symbol, is_timestamp, is_true, is_typed_null, is_unquoted, is_white, item, kept, kept_blob, kept_clob, kept_decimal, kept_fields, kept_int, kept_list, kept_null, kept_sexp, kept_string, kept_symbol, kept_timestamp, kept_truth, known_text, layer_text, mark_spelling, means, named_text, no_annotation, no_element, no_field, no_fields, no_item, no_items, notes_text, null_text, number_text, of_string, of_symbol, one_annotation, one_token, quoted, separated, symbol_text, truth_text, value_text}
 use Rattle.ion_model.specs.declared.value.Payload.TheVariants as payloads
 use Rattle.ion_model.specs.declared.value.Payload.TheViews as views
-use Rattle.ion_model.specs.Measures.{Layer, annotated, field_of}
-use Rattle.ion_scalar.specs.declared.number.Number.{Number}
-use Rattle.ion_scalar.specs.declared.number.Number.TheVariants as numbers
-use Rattle.ion_scalar.specs.text.Numbers.{ReadsNumber}
-use Rattle.ion_scalar.specs.text.Texts.{number_text}
-use Rattle.ion_scalar.specs.text.laws.Texts.{int_reads, decimal_reads}
+use Rattle.ion_scalar.specs.text.laws.Texts.{decimal_reads, int_reads}
 use Rattle.ion_scalar.specs.text.laws.TimestampTexts.{timestamp_reads}
-use Rattle.ion_symtab.specs.Slots.{Slot}
-use Rattle.ion_tokens.specs.Octets.{is_letter, is_digit, is_white}
-use Rattle.ion_tokens.specs.declared.mode.Place.{Place}
-use Rattle.ion_tokens.specs.declared.mode.Place.TheVariants as places
-use Rattle.ion_tokens.specs.declared.mode.Mark.{Mark}
-use Rattle.ion_tokens.specs.declared.mode.Mark.TheVariants as marks
-use Rattle.ion_tokens.specs.Places.{is_name}
-use Rattle.ion_tokens.specs.Bodies.{Content, Word, Number', Short, Clob, Blob, Mark'}
-use Rattle.ion_tokens.specs.Lexemes.{begins, begins_number, mark_spelling, MarkStands, MarkEnds}
-use Rattle.ion_tokens.specs.Lexed.{Placed, LexesTo}
-use Rattle.ion_text.specs.Grammar.{Says, IsSymbol, IsName, by_symbol, IsScalar, is_null, is_typed_null, is_true, is_false, is_int, is_decimal, is_timestamp, is_symbol, is_short, is_clob, is_blob, Annotations, no_annotation, one_annotation, is_long, ends_long, begins_long, close_place, Plain, one_token, is_list, is_sexp, is_struct, Means, means, Elements, no_element, element, comma, Row, no_item, item, Members, no_field, field, field_comma}
-use Rattle.ion_text.specs.Output.{of_string, of_symbol, symbol_text, known_text, is_identifier, is_unquoted, quoted, escaped_text, null_text, truth_text, clob_text, blob_text, notes_text, separated, named_text, value_text, field_text, layer_text}
-use Rattle.ion_text.specs.laws.writing.Output.{text-out}
-use Rattle.ion_model.specs.Kept.{IsText, AreTexts, IsKept, kept, KeptPayload, kept_null, kept_truth, kept_int, kept_decimal, kept_timestamp, kept_symbol, kept_string, kept_clob, kept_blob, kept_list, kept_sexp, kept_fields, KeptItems, no_items, an_item, KeptFields, no_fields, a_field}
+use Rattle.ion_tokens.specs.Lexemes.{begins}
 use Rattle.ion_tokens.specs.laws.Numerals.{numeric_run}
-use Rattle.ion_text.specs.laws.writing.Spelled.{EndsWords, EndsNumbers, Spelling, symbol_spelled, number_spelled, string_spelled, truth_spelled, null_said, null_spelled, clob_spelled, blob_spelled}
-use Rattle.ion_text.specs.laws.writing.Written.{Written, tokens, both, written_as, white_written, One, one, placed, token_lexes, free_mark, both_lex, mark_written, mark_then, one_written}
+use Rattle.ion_text.specs.Grammar.{is_sexp}
+use Rattle.ion_text.specs.laws.writing.Output.{text-out}
+use Rattle.ion_text.specs.laws.writing.Spelled.{EndsNumbers, EndsWords, Spelling, blob_spelled, clob_spelled, null_said, null_spelled, number_spelled, string_spelled, symbol_spelled, truth_spelled}
+use Rattle.ion_text.specs.laws.writing.Written.{One, Written, both, both_lex, free_mark, mark_then, mark_written, one, one_written, placed, token_lexes, tokens, white_written, written_as}
 
 -- 1. First octets: neither `:` nor `{`.
 
@@ -146,8 +126,8 @@ colon_apart : (r : List ℕ) → EndsWords (codes ":" ++ r)
 colon_apart r = record { word = refl; dot = refl; quote = refl }
 
 note_written : (c : List Slot) (p : Place) (s : Option (List ℕ)) (before : ℕ) (rest : List ℕ) → IsText s
-    → Written (Marked p marks.Colons (λ said. IsSymbol c said s)) before (symbol_text s ++ codes "::") rest
-note_written c p s before rest t = symbol_marked c p marks.Colons s before rest t (colons_apart rest) refl tt
+    → Written (Marked p Mark.Colons (λ said. IsSymbol c said s)) before (symbol_text s ++ codes "::") rest
+note_written c p s before rest t = symbol_marked c p Mark.Colons s before rest t (colons_apart rest) refl tt
 
 -- 3. Annotations before a payload.
 
@@ -158,7 +138,7 @@ abbrev MeansBehind : List Slot → Place → List Placed → List (Option (List 
 MeansBehind c p us ss x ts = Means c p (us ++ ts) (annotated ss x)
 
 with_note : (c : List Slot) (p : Place) (us ts : List Placed) (ss : List (Option (List ℕ))) (s : Option (List ℕ)) → Annotations c p us ss
-    → Marked p marks.Colons (λ said. IsSymbol c said s) ts → Annotations c p (us ++ ts) (ss ++ s ∷ [])
+    → Marked p Mark.Colons (λ said. IsSymbol c said s) ts → Annotations c p (us ++ ts) (ss ++ s ∷ [])
 with_note c p us _ ss s h (marked t mark said a b d) = one_annotation us ss t mark said s h a b d
 
 behind_notes : (c : List Slot) (p : Place) (us : List Placed) (done ss : List (Option (List ℕ))) (x : Payload) (w : List ℕ) (before : ℕ) (rest : List ℕ)
@@ -179,7 +159,7 @@ behind_notes c p us done (s ∷ ss) x w before rest h t k =
     let is : MeansBehind c p us (done ++ s ∷ ss) x (ts ++ us') =
     subst (λ (os : List Placed). Means c p os (annotated (done ++ s ∷ ss) x)) (append_assoc us ts us')
     (subst (λ (l : List (Option (List ℕ))). Means c p ((us ++ ts) ++ us') (annotated l x)) (append_assoc done (s ∷ []) ss) tail.is) in
-    let all = both (Marked p marks.Colons (λ said. IsSymbol c said s)) (MeansBehind c p (us ++ ts) ((done ++ s ∷ []) ++ ss) x)
+    let all = both (Marked p Mark.Colons (λ said. IsSymbol c said s)) (MeansBehind c p (us ++ ts) ((done ++ s ∷ []) ++ ss) x)
     (MeansBehind c p us (done ++ s ∷ ss) x) before note more rest one tail is in
     subst (λ (o : List ℕ). Written (MeansBehind c p us (done ++ s ∷ ss) x) before o rest) (sym (append_assoc note (notes_text ss) w)) all
 
@@ -195,19 +175,19 @@ scalar_written c p said x at w rest h k =
     written_as (One p said) (IsPlain c p x) at w rest token (plain_of c p said x h (tokens token) token.is)
 
 null_scalar : (c : List Slot) (k : Kind) → IsScalar c (null_said k) (payloads.Null k)
-null_scalar c kinds.Null = is_null
-null_scalar c kinds.Bool = is_typed_null kinds.Bool
-null_scalar c kinds.Int = is_typed_null kinds.Int
-null_scalar c kinds.Float = is_typed_null kinds.Float
-null_scalar c kinds.Decimal = is_typed_null kinds.Decimal
-null_scalar c kinds.Timestamp = is_typed_null kinds.Timestamp
-null_scalar c kinds.Symbol = is_typed_null kinds.Symbol
-null_scalar c kinds.Str = is_typed_null kinds.Str
-null_scalar c kinds.Clob = is_typed_null kinds.Clob
-null_scalar c kinds.Blob = is_typed_null kinds.Blob
-null_scalar c kinds.List = is_typed_null kinds.List
-null_scalar c kinds.Sexp = is_typed_null kinds.Sexp
-null_scalar c kinds.Fields = is_typed_null kinds.Fields
+null_scalar c Kind.Null = is_null
+null_scalar c Kind.Bool = is_typed_null Kind.Bool
+null_scalar c Kind.Int = is_typed_null Kind.Int
+null_scalar c Kind.Float = is_typed_null Kind.Float
+null_scalar c Kind.Decimal = is_typed_null Kind.Decimal
+null_scalar c Kind.Timestamp = is_typed_null Kind.Timestamp
+null_scalar c Kind.Symbol = is_typed_null Kind.Symbol
+null_scalar c Kind.Str = is_typed_null Kind.Str
+null_scalar c Kind.Clob = is_typed_null Kind.Clob
+null_scalar c Kind.Blob = is_typed_null Kind.Blob
+null_scalar c Kind.List = is_typed_null Kind.List
+null_scalar c Kind.Sexp = is_typed_null Kind.Sexp
+null_scalar c Kind.Fields = is_typed_null Kind.Fields
 
 truth_scalar : (c : List Slot) (b : Bool) → IsScalar c (Word (truth_text b)) (payloads.Truth b)
 truth_scalar c false = is_false
@@ -252,52 +232,52 @@ struct_stops r = record { apart = record { word = refl; dot = refl; quote = refl
 -- 6. The contents of lists, s-expressions and structs, up to the mark that closes them.
 
 pub data ClosedList (c : List Slot) : List Placed → List Value → Type 0 where
-  closed_list : (ts : List Placed) (vs : List Value) (more : Bool) (close : Placed) → Elements c ts vs more → Says places.List close (Mark' marks.ListClose)
+  closed_list : (ts : List Placed) (vs : List Value) (more : Bool) (close : Placed) → Elements c ts vs more → Says Place.List close (Mark' Mark.ListClose)
       → ClosedList c (ts ++ close ∷ []) vs
 
 pub data ClosedSexp (c : List Slot) : List Placed → List Value → Type 0 where
-  closed_sexp : (ts : List Placed) (vs : List Value) (close : Placed) → Row c ts vs → Says places.Sexp close (Mark' marks.SexpClose)
+  closed_sexp : (ts : List Placed) (vs : List Value) (close : Placed) → Row c ts vs → Says Place.Sexp close (Mark' Mark.SexpClose)
       → ClosedSexp c (ts ++ close ∷ []) vs
 
 pub data ClosedFields (c : List Slot) : List Placed → List Field → Type 0 where
   closed_fields : (ts : List Placed) (ms : List Field) (more : Bool) (close : Placed) → Members c ts ms more
-      → Says (close_place more) close (Mark' marks.FieldsClose) → ClosedFields c (ts ++ close ∷ []) ms
+      → Says (close_place more) close (Mark' Mark.FieldsClose) → ClosedFields c (ts ++ close ∷ []) ms
 
-list_plain : (c : List Slot) (p : Place) (ts us : List Placed) (vs : List Value) → One p (Mark' marks.ListOpen) ts → ClosedList c us vs
+list_plain : (c : List Slot) (p : Place) (ts us : List Placed) (vs : List Value) → One p (Mark' Mark.ListOpen) ts → ClosedList c us vs
     → Plain c p (ts ++ us) (payloads.List vs)
 list_plain c p _ _ _ (one t h) (closed_list us vs more close i k) = is_list p t close us vs more h i k
 
-sexp_plain : (c : List Slot) (p : Place) (ts us : List Placed) (vs : List Value) → One p (Mark' marks.SexpOpen) ts → ClosedSexp c us vs
+sexp_plain : (c : List Slot) (p : Place) (ts us : List Placed) (vs : List Value) → One p (Mark' Mark.SexpOpen) ts → ClosedSexp c us vs
     → Plain c p (ts ++ us) (payloads.Sexp vs)
 sexp_plain c p _ _ _ (one t h) (closed_sexp us vs close i k) = is_sexp p t close us vs h i k
 
-struct_plain : (c : List Slot) (p : Place) (ts us : List Placed) (ms : List Field) → One p (Mark' marks.FieldsOpen) ts → ClosedFields c us ms
+struct_plain : (c : List Slot) (p : Place) (ts us : List Placed) (ms : List Field) → One p (Mark' Mark.FieldsOpen) ts → ClosedFields c us ms
     → Plain c p (ts ++ us) (payloads.Fields ms)
 struct_plain c p _ _ _ (one t h) (closed_fields us ms more close i k) = is_struct p t close us ms more h i k
 
 close_list : (c : List Slot) (us : List Placed) (vs : List Value) (more : Bool) → Elements c us vs more → (ts : List Placed)
-    → One places.List (Mark' marks.ListClose) ts → ClosedList c (us ++ ts) vs
+    → One Place.List (Mark' Mark.ListClose) ts → ClosedList c (us ++ ts) vs
 close_list c us vs more i _ (one t k) = closed_list us vs more t i k
 
-close_sexp : (c : List Slot) (us : List Placed) (vs : List Value) → Row c us vs → (ts : List Placed) → One places.Sexp (Mark' marks.SexpClose) ts
+close_sexp : (c : List Slot) (us : List Placed) (vs : List Value) → Row c us vs → (ts : List Placed) → One Place.Sexp (Mark' Mark.SexpClose) ts
     → ClosedSexp c (us ++ ts) vs
 close_sexp c us vs i _ (one t k) = closed_sexp us vs t i k
 
 close_fields : (c : List Slot) (us : List Placed) (ms : List Field) (more : Bool) → Members c us ms more → (ts : List Placed)
-    → One (close_place more) (Mark' marks.FieldsClose) ts → ClosedFields c (us ++ ts) ms
+    → One (close_place more) (Mark' Mark.FieldsClose) ts → ClosedFields c (us ++ ts) ms
 close_fields c us ms more i _ (one t k) = closed_fields us ms more t i k
 
 -- a name, a colon and a value
 pub data OneField (c : List Slot) : List Placed → Field → Type 0 where
-  one_field : (ns us : List Placed) (colon : Placed) (s : Option (List ℕ)) (v : Value) → IsName c ns s → Says places.Name colon (Mark' marks.Colon)
-      → Means c places.FieldValue us v → OneField c (ns ++ colon ∷ us) (field_of s v)
+  one_field : (ns us : List Placed) (colon : Placed) (s : Option (List ℕ)) (v : Value) → IsName c ns s → Says Place.Name colon (Mark' Mark.Colon)
+      → Means c Place.FieldValue us v → OneField c (ns ++ colon ∷ us) (field_of s v)
 
 with_field : (c : List Slot) (ts us : List Placed) (ms : List Field) (m : Field) → Members c ts ms true → OneField c us m
     → Members c (ts ++ us) (ms ++ m ∷ []) false
 with_field c ts _ ms _ i (one_field ns us colon s v n k h) = field ts ns us colon ms s v i n k h
 
-field_tokens : (c : List Slot) (s : Option (List ℕ)) (v : Value) (ts us : List Placed) → Marked places.Name marks.Colon (λ said. IsSymbol c said s) ts
-    → Means c places.FieldValue us v → OneField c (ts ++ us) (field_of s v)
+field_tokens : (c : List Slot) (s : Option (List ℕ)) (v : Value) (ts us : List Placed) → Marked Place.Name Mark.Colon (λ said. IsSymbol c said s) ts
+    → Means c Place.FieldValue us v → OneField c (ts ++ us) (field_of s v)
 field_tokens c s v _ us (marked t mark said a b d) h = one_field (t ∷ []) us mark s v (by_symbol t said s a b) d h
 
 -- what is no long string goes on in none
@@ -306,7 +286,7 @@ apart_from false t h = refl
 apart_from true t h = h
 
 with_item : (c : List Slot) (ts us : List Placed) (vs : List Value) (v : Value) → Row c ts vs → (t : Placed) (others : List Placed) → us ≡ t ∷ others
-    → is_long t ≡ false → Means c places.Sexp us v → Row c (ts ++ us) (vs ++ v ∷ [])
+    → is_long t ≡ false → Means c Place.Sexp us v → Row c (ts ++ us) (vs ++ v ∷ [])
 with_item c ts us vs v i t others e short h = item ts us vs v i h
     (subst (λ (x : List Placed). (ends_long ts && begins_long x) ≡ false) (sym e) (apart_from (ends_long ts) t short))
 
@@ -330,19 +310,19 @@ level_no_colon : (x : Payload) (d : Layer) (r : List ℕ) → views.out-Payload 
 level_no_colon x d r e h = subst (λ (d : Layer). starts_badly (layer_text d ++ r) ≡ false) (sym e) h
 
 null_no_colon : (k : Kind) (r : List ℕ) → starts_badly (null_text k ++ r) ≡ false
-null_no_colon kinds.Null r = refl
-null_no_colon kinds.Bool r = refl
-null_no_colon kinds.Int r = refl
-null_no_colon kinds.Float r = refl
-null_no_colon kinds.Decimal r = refl
-null_no_colon kinds.Timestamp r = refl
-null_no_colon kinds.Symbol r = refl
-null_no_colon kinds.Str r = refl
-null_no_colon kinds.Clob r = refl
-null_no_colon kinds.Blob r = refl
-null_no_colon kinds.List r = refl
-null_no_colon kinds.Sexp r = refl
-null_no_colon kinds.Fields r = refl
+null_no_colon Kind.Null r = refl
+null_no_colon Kind.Bool r = refl
+null_no_colon Kind.Int r = refl
+null_no_colon Kind.Float r = refl
+null_no_colon Kind.Decimal r = refl
+null_no_colon Kind.Timestamp r = refl
+null_no_colon Kind.Symbol r = refl
+null_no_colon Kind.Str r = refl
+null_no_colon Kind.Clob r = refl
+null_no_colon Kind.Blob r = refl
+null_no_colon Kind.List r = refl
+null_no_colon Kind.Sexp r = refl
+null_no_colon Kind.Fields r = refl
 
 truth_no_colon : (b : Bool) (r : List ℕ) → starts_badly (truth_text b ++ r) ≡ false
 truth_no_colon false r = refl
@@ -360,11 +340,11 @@ payload_no_colon : (x : Payload) → KeptPayload x → (r : List ℕ) → starts
 payload_no_colon _ (kept_null k) r = level_no_colon (payloads.Null k) _ r (views.outs-Null k) (null_no_colon k r)
 payload_no_colon _ (kept_truth b) r = level_no_colon (payloads.Truth b) _ r (views.outs-Truth b) (truth_no_colon b r)
 payload_no_colon _ (kept_int z h) r = level_no_colon (payloads.Int z) _ r (views.outs-Int z)
-    (number_no_colon (number_text (numbers.Int z)) r (numeric_run (number_text (numbers.Int z)) (numbers.Int z) (int_reads z h)).begun)
+    (number_no_colon (number_text (Number.Int z)) r (numeric_run (number_text (Number.Int z)) (Number.Int z) (int_reads z h)).begun)
 payload_no_colon _ (kept_decimal d h) r = level_no_colon (payloads.Decimal d) _ r (views.outs-Decimal d)
-    (number_no_colon (number_text (numbers.Decimal d)) r (numeric_run (number_text (numbers.Decimal d)) (numbers.Decimal d) (decimal_reads d h)).begun)
+    (number_no_colon (number_text (Number.Decimal d)) r (numeric_run (number_text (Number.Decimal d)) (Number.Decimal d) (decimal_reads d h)).begun)
 payload_no_colon _ (kept_timestamp t h) r = level_no_colon (payloads.Timestamp t) _ r (views.outs-Timestamp t)
-    (number_no_colon (number_text (numbers.Timestamp t)) r (numeric_run (number_text (numbers.Timestamp t)) (numbers.Timestamp t) (timestamp_reads t h)).begun)
+    (number_no_colon (number_text (Number.Timestamp t)) r (numeric_run (number_text (Number.Timestamp t)) (Number.Timestamp t) (timestamp_reads t h)).begun)
 payload_no_colon _ (kept_symbol s t) r = level_no_colon (payloads.Symbol s) _ r (views.outs-Symbol s) (symbol_no_colon s r)
 payload_no_colon _ (kept_string text u) r = level_no_colon (payloads.Str text) _ r (views.outs-Str text)
     (plain_start 34 ((escaped_text of_string text ++ 34 ∷ []) ++ r) refl refl)
@@ -412,15 +392,15 @@ tails_more by close w ws = ap (λ (x : List ℕ). by ∷ x) (append_assoc w (fla
 
 -- a field, where its value is written
 field_by : (c : List Slot) (s : Option (List ℕ)) (v : Value) → IsText s → IsKept v → (at : ℕ) (rest : List ℕ)
-    → ((here : ℕ) → Written (λ ts. Means c places.FieldValue ts v) here (value_text v) rest)
+    → ((here : ℕ) → Written (λ ts. Means c Place.FieldValue ts v) here (value_text v) rest)
     → Written (λ ts. OneField c ts (field_of s v)) at (named_text s (value_text v)) rest
 field_by c s v t k at rest written =
     let w = value_text v in
     let name = symbol_text s ++ codes ":" in
-    let h = symbol_marked c places.Name marks.Colon s at (w ++ rest) t (colon_apart (w ++ rest)) refl (no_colon_start (w ++ rest) (value_no_colon v k rest)) in
+    let h = symbol_marked c Place.Name Mark.Colon s at (w ++ rest) t (colon_apart (w ++ rest)) refl (no_colon_start (w ++ rest) (value_no_colon v k rest)) in
     let x = written (at + length name) in
     subst (λ (o : List ℕ). Written (λ ts. OneField c ts (field_of s v)) at o rest) (append_assoc (symbol_text s) (codes ":") w)
-    (both (Marked places.Name marks.Colon (λ said. IsSymbol c said s)) (λ ts. Means c places.FieldValue ts v) (λ ts. OneField c ts (field_of s v)) at name w
+    (both (Marked Place.Name Mark.Colon (λ said. IsSymbol c said s)) (λ ts. Means c Place.FieldValue ts v) (λ ts. OneField c ts (field_of s v)) at name w
     rest h x
     (field_tokens c s v (tokens h) (tokens x) h.is x.is))
 
@@ -440,11 +420,11 @@ module _ (c : List Slot) where
     payload_written _ (kept_truth b) p n at rest s = by_level c p (payloads.Truth b) _ at rest (views.outs-Truth b)
         (scalar_written c p (Word (truth_text b)) (payloads.Truth b) at (truth_text b) rest (truth_scalar c b) (truth_spelled p b rest s.apart))
     payload_written _ (kept_int z h) p n at rest s = by_level c p (payloads.Int z) _ at rest (views.outs-Int z)
-        (number_written c p (numbers.Int z) (payloads.Int z) at rest (is_int z) n (int_reads z h) s)
+        (number_written c p (Number.Int z) (payloads.Int z) at rest (is_int z) n (int_reads z h) s)
     payload_written _ (kept_decimal d h) p n at rest s = by_level c p (payloads.Decimal d) _ at rest (views.outs-Decimal d)
-        (number_written c p (numbers.Decimal d) (payloads.Decimal d) at rest (is_decimal d) n (decimal_reads d h) s)
+        (number_written c p (Number.Decimal d) (payloads.Decimal d) at rest (is_decimal d) n (decimal_reads d h) s)
     payload_written _ (kept_timestamp t h) p n at rest s = by_level c p (payloads.Timestamp t) _ at rest (views.outs-Timestamp t)
-        (number_written c p (numbers.Timestamp t) (payloads.Timestamp t) at rest (is_timestamp t) n (timestamp_reads t h) s)
+        (number_written c p (Number.Timestamp t) (payloads.Timestamp t) at rest (is_timestamp t) n (timestamp_reads t h) s)
     payload_written _ (kept_symbol x t) p n at rest s = by_level c p (payloads.Symbol x) _ at rest (views.outs-Symbol x)
         (symbol_written c p x at rest t s.apart)
     payload_written _ (kept_string text u) p n at rest s = by_level c p (payloads.Str text) _ at rest (views.outs-Str text)
@@ -455,89 +435,89 @@ module _ (c : List Slot) where
         (scalar_written c p (Blob body) (payloads.Blob body) at (blob_text body) rest (is_blob body) (blob_spelled p body rest n h))
     payload_written _ (kept_list vs k) p n at rest s =
         let more = separated (codes ",") (map value_text vs) ++ 93 ∷ [] in
-        let front = free_mark p marks.ListOpen at (more ++ rest) (λ colon. n) tt in
+        let front = free_mark p Mark.ListOpen at (more ++ rest) (λ colon. n) tt in
         let back = list_closed vs k (at + 1) rest in
         by_level c p (payloads.List vs) _ at rest (views.outs-List vs)
-        (both (One p (Mark' marks.ListOpen)) (λ ts. ClosedList c ts vs) (IsPlain c p (payloads.List vs)) at (91 ∷ []) more rest front back
+        (both (One p (Mark' Mark.ListOpen)) (λ ts. ClosedList c ts vs) (IsPlain c p (payloads.List vs)) at (91 ∷ []) more rest front back
         (list_plain c p (tokens front) (tokens back) vs front.is back.is))
     payload_written _ (kept_sexp vs k) p n at rest s =
         let more = separated (codes " ") (map value_text vs) ++ 41 ∷ [] in
-        let front = free_mark p marks.SexpOpen at (more ++ rest) (λ colon. n) tt in
+        let front = free_mark p Mark.SexpOpen at (more ++ rest) (λ colon. n) tt in
         let back = sexp_closed vs k (at + 1) rest in
         by_level c p (payloads.Sexp vs) _ at rest (views.outs-Sexp vs)
-        (both (One p (Mark' marks.SexpOpen)) (λ ts. ClosedSexp c ts vs) (IsPlain c p (payloads.Sexp vs)) at (40 ∷ []) more rest front back
+        (both (One p (Mark' Mark.SexpOpen)) (λ ts. ClosedSexp c ts vs) (IsPlain c p (payloads.Sexp vs)) at (40 ∷ []) more rest front back
         (sexp_plain c p (tokens front) (tokens back) vs front.is back.is))
     payload_written _ (kept_fields ms k) p n at rest s =
         let more = separated (codes ",") (map field_text ms) ++ 125 ∷ [] in
-        let front = free_mark p marks.FieldsOpen at (more ++ rest) (λ colon. n) (fields_no_brace ms rest) in
+        let front = free_mark p Mark.FieldsOpen at (more ++ rest) (λ colon. n) (fields_no_brace ms rest) in
         let back = fields_closed ms k (at + 1) rest in
         by_level c p (payloads.Fields ms) _ at rest (views.outs-Fields ms)
-        (both (One p (Mark' marks.FieldsOpen)) (λ ts. ClosedFields c ts ms) (IsPlain c p (payloads.Fields ms)) at (123 ∷ []) more rest front back
+        (both (One p (Mark' Mark.FieldsOpen)) (λ ts. ClosedFields c ts ms) (IsPlain c p (payloads.Fields ms)) at (123 ∷ []) more rest front back
         (struct_plain c p (tokens front) (tokens back) ms front.is back.is))
 
     list_closed : (vs : List Value) → KeptItems vs → (at : ℕ) (rest : List ℕ)
         → Written (λ ts. ClosedList c ts vs) at (separated (codes ",") (map value_text vs) ++ 93 ∷ []) rest
     list_closed _ no_items at rest =
-        let close = free_mark places.List marks.ListClose at rest (λ colon. refl) tt in
-        written_as (One places.List (Mark' marks.ListClose)) (λ ts. ClosedList c ts []) at (93 ∷ []) rest close
+        let close = free_mark Place.List Mark.ListClose at rest (λ colon. refl) tt in
+        written_as (One Place.List (Mark' Mark.ListClose)) (λ ts. ClosedList c ts []) at (93 ∷ []) rest close
         (close_list c [] [] true no_element (tokens close) close.is)
     list_closed _ (an_item v vs k ks) at rest =
         let w = value_text v in
         let more = tails 44 93 (map value_text vs) in
-        let h = value_written v k places.List refl at (more ++ rest) (close_stops 44 93 rest (comma_stops []) (list_stops []) (map value_text vs)) in
+        let h = value_written v k Place.List refl at (more ++ rest) (close_stops 44 93 rest (comma_stops []) (list_stops []) (map value_text vs)) in
         let t = list_tail (tokens h) (v ∷ []) (element [] (tokens h) [] v no_element h.is) vs ks (at + length w) rest in
         subst (λ (x : List ℕ). Written (λ ts. ClosedList c ts (v ∷ vs)) at x rest)
         (sym (append_assoc w (flat_map (λ (x : List ℕ). 44 ∷ x) (map value_text vs)) (93 ∷ [])))
-        (both (λ ts. Means c places.List ts v) (λ ts. ClosedList c (tokens h ++ ts) (v ∷ vs)) (λ ts. ClosedList c ts (v ∷ vs)) at w more rest h t t.is)
+        (both (λ ts. Means c Place.List ts v) (λ ts. ClosedList c (tokens h ++ ts) (v ∷ vs)) (λ ts. ClosedList c ts (v ∷ vs)) at w more rest h t t.is)
 
     list_tail : (us : List Placed) (done : List Value) → Elements c us done false → (vs : List Value) → KeptItems vs → (at : ℕ) (rest : List ℕ)
         → Written (λ ts. ClosedList c (us ++ ts) (done ++ vs)) at (tails 44 93 (map value_text vs)) rest
     list_tail us done i _ no_items at rest =
-        let close = free_mark places.List marks.ListClose at rest (λ colon. refl) tt in
-        written_as (One places.List (Mark' marks.ListClose)) (λ ts. ClosedList c (us ++ ts) (done ++ [])) at (93 ∷ []) rest close
+        let close = free_mark Place.List Mark.ListClose at rest (λ colon. refl) tt in
+        written_as (One Place.List (Mark' Mark.ListClose)) (λ ts. ClosedList c (us ++ ts) (done ++ [])) at (93 ∷ []) rest close
         (subst (λ (x : List Value). ClosedList c (us ++ tokens close) x) (sym (append-nil done)) (close_list c us done false i (tokens close) close.is))
     list_tail us done i _ (an_item u vs k ks) at rest =
         let w = value_text u in
         let more = tails 44 93 (map value_text vs) in
-        let mark = mark_written places.List marks.Comma at ((w ++ more) ++ rest) tt in
-        let h = value_written u k places.List refl (at + 1) (more ++ rest) (close_stops 44 93 rest (comma_stops []) (list_stops []) (map value_text vs)) in
+        let mark = mark_written Place.List Mark.Comma at ((w ++ more) ++ rest) tt in
+        let h = value_written u k Place.List refl (at + 1) (more ++ rest) (close_stops 44 93 rest (comma_stops []) (list_stops []) (map value_text vs)) in
         let us' = us ++ mark.token ∷ [] in
         let t = list_tail (us' ++ tokens h) (done ++ u ∷ []) (element us' (tokens h) done u (comma us done mark.token i mark.is) h.is) vs ks (at + 1 + length w)
         rest in
         let is : ClosedList c (us ++ mark.token ∷ (tokens h ++ tokens t)) (done ++ u ∷ vs) =
         subst (λ (x : List Value). ClosedList c (us ++ mark.token ∷ (tokens h ++ tokens t)) x) (append_assoc done (u ∷ []) vs)
         (subst (λ (x : List Placed). ClosedList c x ((done ++ u ∷ []) ++ vs)) (regroup us (tokens h) (tokens t) mark.token) t.is) in
-        let inner = both (λ ts. Means c places.List ts u) (λ ts. ClosedList c ((us' ++ tokens h) ++ ts) ((done ++ u ∷ []) ++ vs))
+        let inner = both (λ ts. Means c Place.List ts u) (λ ts. ClosedList c ((us' ++ tokens h) ++ ts) ((done ++ u ∷ []) ++ vs))
         (λ ts. ClosedList c (us ++ mark.token ∷ ts) (done ++ u ∷ vs)) (at + 1) w more rest h t is in
         subst (λ (x : List ℕ). Written (λ ts. ClosedList c (us ++ ts) (done ++ u ∷ vs)) at x rest) (sym (tails_more 44 93 w (map value_text vs)))
-        (mark_then places.List marks.Comma (λ ts. ClosedList c (us ++ mark.token ∷ ts) (done ++ u ∷ vs))
+        (mark_then Place.List Mark.Comma (λ ts. ClosedList c (us ++ mark.token ∷ ts) (done ++ u ∷ vs))
         (λ ts. ClosedList c (us ++ ts) (done ++ u ∷ vs)) at (w ++ more) rest (λ colon. tt) mark inner inner.is)
 
     sexp_closed : (vs : List Value) → KeptItems vs → (at : ℕ) (rest : List ℕ)
         → Written (λ ts. ClosedSexp c ts vs) at (separated (codes " ") (map value_text vs) ++ 41 ∷ []) rest
     sexp_closed _ no_items at rest =
-        let close = free_mark places.Sexp marks.SexpClose at rest (λ colon. refl) tt in
-        written_as (One places.Sexp (Mark' marks.SexpClose)) (λ ts. ClosedSexp c ts []) at (41 ∷ []) rest close
+        let close = free_mark Place.Sexp Mark.SexpClose at rest (λ colon. refl) tt in
+        written_as (One Place.Sexp (Mark' Mark.SexpClose)) (λ ts. ClosedSexp c ts []) at (41 ∷ []) rest close
         (close_sexp c [] [] no_item (tokens close) close.is)
     sexp_closed _ (an_item v vs k ks) at rest =
         let w = value_text v in
         let more = tails 32 41 (map value_text vs) in
-        let h = value_written v k places.Sexp refl at (more ++ rest) (close_stops 32 41 rest (space_stops []) (sexp_stops []) (map value_text vs)) in
+        let h = value_written v k Place.Sexp refl at (more ++ rest) (close_stops 32 41 rest (space_stops []) (sexp_stops []) (map value_text vs)) in
         let t = sexp_tail (tokens h) (v ∷ []) (with_item c [] (tokens h) [] v no_item h.first h.others refl h.short.0 h.is) vs ks (at + length w) rest in
         subst (λ (x : List ℕ). Written (λ ts. ClosedSexp c ts (v ∷ vs)) at x rest)
         (sym (append_assoc w (flat_map (λ (x : List ℕ). 32 ∷ x) (map value_text vs)) (41 ∷ [])))
-        (both (λ ts. Means c places.Sexp ts v) (λ ts. ClosedSexp c (tokens h ++ ts) (v ∷ vs)) (λ ts. ClosedSexp c ts (v ∷ vs)) at w more rest h t t.is)
+        (both (λ ts. Means c Place.Sexp ts v) (λ ts. ClosedSexp c (tokens h ++ ts) (v ∷ vs)) (λ ts. ClosedSexp c ts (v ∷ vs)) at w more rest h t t.is)
 
     sexp_tail : (us : List Placed) (done : List Value) → Row c us done → (vs : List Value) → KeptItems vs → (at : ℕ) (rest : List ℕ)
         → Written (λ ts. ClosedSexp c (us ++ ts) (done ++ vs)) at (tails 32 41 (map value_text vs)) rest
     sexp_tail us done i _ no_items at rest =
-        let close = free_mark places.Sexp marks.SexpClose at rest (λ colon. refl) tt in
-        written_as (One places.Sexp (Mark' marks.SexpClose)) (λ ts. ClosedSexp c (us ++ ts) (done ++ [])) at (41 ∷ []) rest close
+        let close = free_mark Place.Sexp Mark.SexpClose at rest (λ colon. refl) tt in
+        written_as (One Place.Sexp (Mark' Mark.SexpClose)) (λ ts. ClosedSexp c (us ++ ts) (done ++ [])) at (41 ∷ []) rest close
         (subst (λ (x : List Value). ClosedSexp c (us ++ tokens close) x) (sym (append-nil done)) (close_sexp c us done i (tokens close) close.is))
     sexp_tail us done i _ (an_item u vs k ks) at rest =
         let w = value_text u in
         let more = tails 32 41 (map value_text vs) in
-        let h = value_written u k places.Sexp refl (at + 1) (more ++ rest) (close_stops 32 41 rest (space_stops []) (sexp_stops []) (map value_text vs)) in
+        let h = value_written u k Place.Sexp refl (at + 1) (more ++ rest) (close_stops 32 41 rest (space_stops []) (sexp_stops []) (map value_text vs)) in
         let t = sexp_tail (us ++ tokens h) (done ++ u ∷ []) (with_item c us (tokens h) done u i h.first h.others refl h.short.0 h.is) vs ks (at + 1 + length w)
         rest in
         let is : ClosedSexp c (us ++ (tokens h ++ tokens t)) (done ++ u ∷ vs) =
@@ -545,21 +525,21 @@ module _ (c : List Slot) where
         (subst (λ (x : List Placed). ClosedSexp c x ((done ++ u ∷ []) ++ vs)) (append_assoc us (tokens h) (tokens t)) t.is) in
         subst (λ (x : List ℕ). Written (λ ts. ClosedSexp c (us ++ ts) (done ++ u ∷ vs)) at x rest) (sym (tails_more 32 41 w (map value_text vs)))
         (white_written 32 refl (λ ts. ClosedSexp c (us ++ ts) (done ++ u ∷ vs)) at (w ++ more) rest
-        (both (λ ts. Means c places.Sexp ts u) (λ ts. ClosedSexp c ((us ++ tokens h) ++ ts) ((done ++ u ∷ []) ++ vs))
+        (both (λ ts. Means c Place.Sexp ts u) (λ ts. ClosedSexp c ((us ++ tokens h) ++ ts) ((done ++ u ∷ []) ++ vs))
         (λ ts. ClosedSexp c (us ++ ts) (done ++ u ∷ vs)) (at + 1) w more rest h t is))
 
     fields_closed : (ms : List Field) → KeptFields ms → (at : ℕ) (rest : List ℕ)
         → Written (λ ts. ClosedFields c ts ms) at (separated (codes ",") (map field_text ms) ++ 125 ∷ []) rest
     fields_closed _ no_fields at rest =
-        let close = free_mark places.Name marks.FieldsClose at rest (λ colon. tt) tt in
-        written_as (One places.Name (Mark' marks.FieldsClose)) (λ ts. ClosedFields c ts []) at (125 ∷ []) rest close
+        let close = free_mark Place.Name Mark.FieldsClose at rest (λ colon. tt) tt in
+        written_as (One Place.Name (Mark' Mark.FieldsClose)) (λ ts. ClosedFields c ts []) at (125 ∷ []) rest close
         (close_fields c [] [] true no_field (tokens close) close.is)
     fields_closed _ (a_field s v ms t k ks) at rest =
         let m = field_of s v in
         let w = named_text s (value_text v) in
         let more = tails 44 125 (map field_text ms) in
         let e = close_stops 44 125 rest (comma_stops []) (struct_stops []) (map field_text ms) in
-        let h = field_by c s v t k at (more ++ rest) (λ here. value_written v k places.FieldValue refl here (more ++ rest) e) in
+        let h = field_by c s v t k at (more ++ rest) (λ here. value_written v k Place.FieldValue refl here (more ++ rest) e) in
         let x = fields_tail (tokens h) (m ∷ []) (with_field c [] (tokens h) [] m no_field h.is) ms ks (at + length w) rest in
         subst (λ (o : List ℕ). Written (λ ts. ClosedFields c ts (m ∷ ms)) at o rest)
         (sym (append_assoc w (flat_map (λ (x : List ℕ). 44 ∷ x) (map field_text ms)) (125 ∷ [])))
@@ -568,16 +548,16 @@ module _ (c : List Slot) where
     fields_tail : (us : List Placed) (done : List Field) → Members c us done false → (ms : List Field) → KeptFields ms → (at : ℕ) (rest : List ℕ)
         → Written (λ ts. ClosedFields c (us ++ ts) (done ++ ms)) at (tails 44 125 (map field_text ms)) rest
     fields_tail us done i _ no_fields at rest =
-        let close = free_mark places.FieldValue marks.FieldsClose at rest (λ colon. tt) tt in
-        written_as (One places.FieldValue (Mark' marks.FieldsClose)) (λ ts. ClosedFields c (us ++ ts) (done ++ [])) at (125 ∷ []) rest close
+        let close = free_mark Place.FieldValue Mark.FieldsClose at rest (λ colon. tt) tt in
+        written_as (One Place.FieldValue (Mark' Mark.FieldsClose)) (λ ts. ClosedFields c (us ++ ts) (done ++ [])) at (125 ∷ []) rest close
         (subst (λ (x : List Field). ClosedFields c (us ++ tokens close) x) (sym (append-nil done)) (close_fields c us done false i (tokens close) close.is))
     fields_tail us done i _ (a_field s v ms t k ks) at rest =
         let m = field_of s v in
         let w = named_text s (value_text v) in
         let more = tails 44 125 (map field_text ms) in
-        let mark = mark_written places.FieldValue marks.Comma at ((w ++ more) ++ rest) tt in
+        let mark = mark_written Place.FieldValue Mark.Comma at ((w ++ more) ++ rest) tt in
         let e = close_stops 44 125 rest (comma_stops []) (struct_stops []) (map field_text ms) in
-        let h = field_by c s v t k (at + 1) (more ++ rest) (λ here. value_written v k places.FieldValue refl here (more ++ rest) e) in
+        let h = field_by c s v t k (at + 1) (more ++ rest) (λ here. value_written v k Place.FieldValue refl here (more ++ rest) e) in
         let us' = us ++ mark.token ∷ [] in
         let x = fields_tail (us' ++ tokens h) (done ++ m ∷ []) (with_field c us' (tokens h) done m (field_comma us done mark.token i mark.is) h.is) ms ks
         (at + 1 + length w) rest in
@@ -587,5 +567,5 @@ module _ (c : List Slot) where
         let inner = both (λ ts. OneField c ts m) (λ ts. ClosedFields c ((us' ++ tokens h) ++ ts) ((done ++ m ∷ []) ++ ms))
         (λ ts. ClosedFields c (us ++ mark.token ∷ ts) (done ++ m ∷ ms)) (at + 1) w more rest h x is in
         subst (λ (o : List ℕ). Written (λ ts. ClosedFields c (us ++ ts) (done ++ m ∷ ms)) at o rest) (sym (tails_more 44 125 w (map field_text ms)))
-        (mark_then places.FieldValue marks.Comma (λ ts. ClosedFields c (us ++ mark.token ∷ ts) (done ++ m ∷ ms))
+        (mark_then Place.FieldValue Mark.Comma (λ ts. ClosedFields c (us ++ mark.token ∷ ts) (done ++ m ∷ ms))
         (λ ts. ClosedFields c (us ++ ts) (done ++ m ∷ ms)) at (w ++ more) rest (λ colon. tt) mark inner inner.is)

@@ -1,16 +1,8 @@
 -- Octets that are written one behind the other are tokens one behind the other.
 use Rattle.std.proofs.Common.{◌≡◌, ℕ, ◌+◌, ◌-◌, ◌≤◌, Bool, true, false, List, [], ◌∷◌, ◌++◌, length, refl, sym, ap, subst, arith, append_assoc, length-append}
 use Rattle.std.specs.List.{AllByRecursion}
-use Rattle.ion_tokens.specs.declared.mode.Place.{Place}
-use Rattle.ion_tokens.specs.declared.mode.Mark.{Mark}
-use Rattle.ion_tokens.specs.declared.mode.TokenKind.{TokenKind}
-use Rattle.ion_tokens.specs.declared.mode.TokenKind.TheVariants as kinds
-use Rattle.ion_tokens.specs.Octets.{is_white}
-use Rattle.ion_tokens.specs.Blanks.{IsBlank, White}
-use Rattle.ion_tokens.specs.Bodies.{Content, Mark'}
-use Rattle.ion_tokens.specs.Lexemes.{IsLexeme, mark_spelling, MarkStands, MarkEnds, takes_colon}
-use Rattle.ion_tokens.specs.Lexed.{Placed, LexesBefore, LexesTo}
-use Rattle.ion_text.specs.Grammar.{Says, is_long, end_of, span}
+use Rattle.ion_text.specs.Names.{Content, IsBlank, IsLexeme, LexesBefore, LexesTo, Mark, Mark', MarkEnds, MarkStands, Place, Placed, Says, TokenKind, White, is_long, is_white, mark_spelling, span, takes_colon}
+use Rattle.ion_text.specs.Grammar.{end_of}
 use Rattle.ion_text.specs.laws.writing.Spelled.{Spelling}
 
 -- 1. Tokens of octets.
@@ -169,7 +161,7 @@ pub free_mark : (p : Place) (m : Mark) (before : ℕ) (rest : List ℕ) → ((co
     → Written (One p (Mark' m)) before (mark_spelling m) rest
 free_mark p m before rest stands ends =
     one_written p before (mark_spelling m) rest (Mark' m) (record {
-      kind = kinds.Mark m;
+      kind = TokenKind.Mark m;
       octets = [];
       lexeme =
           λ colon. (refl, refl, stands colon, ends);
@@ -187,10 +179,10 @@ pub record MarkWritten (p : Place) (m : Mark) (before : ℕ) (rest : List ℕ) :
 -- a mark before octets that don't make it longer is written as one token
 pub mark_written : (p : Place) (m : Mark) (before : ℕ) (rest : List ℕ) → MarkEnds m rest → MarkWritten p m before rest
 mark_written p m before rest ends = record {
-  token = placed p before (mark_spelling m) (kinds.Mark m) [];
+  token = placed p before (mark_spelling m) (TokenKind.Mark m) [];
   is = record { place = refl; body = refl };
   short = refl;
-  lexes = λ colon stands. token_lexes p colon before (mark_spelling m) rest (kinds.Mark m) [] (refl, refl, stands, ends);
+  lexes = λ colon stands. token_lexes p colon before (mark_spelling m) rest (TokenKind.Mark m) [] (refl, refl, stands, ends);
 }
 
 -- a mark, and what is written behind it

@@ -1,7 +1,7 @@
 use Rattle.std.proofs.Common.{ℕ, Some, ◌∙◌, ap, drop}
 use Rattle.std.specs.Result.{result_ok}
 use Rattle.base64.specs.GeneralPurpose.{decoded_of}
-use Rattle.ion_tokens.specs.Blobs.{blob_of}
+use Rattle.ion_tokens.specs.Names.{blob_of}
 use Rattle.ion_tokens.proofs.blob.decoded.Goals as goal
 
 pub returns-in-Ok-clause-some : goal.returns-in-Ok-clause-some

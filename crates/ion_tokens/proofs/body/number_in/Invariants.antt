@@ -1,5 +1,5 @@
 use Rattle.std.proofs.Common.{◌≡◌, ◌≤◌, ◌^◌, ◌-◌, min, drop}
-use Rattle.ion_tokens.specs.Bodies.{number_in}
+use Rattle.ion_tokens.specs.Names.{number_in}
 use Rattle.ion_tokens.proofs.body.number_in.Given as goal
 
 -- what is left leads on from the number so far, where both are bounded

@@ -1,6 +1,6 @@
 use Rattle.std.proofs.Common.{◌-◌, length, take, drop, sym, subst}
 use Rattle.std.proofs.lemmas.List.{take_rest}
-use Rattle.ion_tokens.specs.machine.Rests.{RestsBehind}
+use Rattle.ion_tokens.specs.Names.{RestsBehind}
 use Rattle.ion_tokens.proofs.runs.WholeComments.{rests_on, white_rests}
 use Rattle.ion_tokens.proofs.comments.blank_with_comments.Goals as goal
 

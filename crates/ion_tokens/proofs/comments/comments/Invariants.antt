@@ -1,4 +1,4 @@
-use Rattle.ion_tokens.specs.machine.Rests.{RestsBehind}
+use Rattle.ion_tokens.specs.Names.{RestsBehind}
 use Rattle.ion_tokens.proofs.comments.comments.Given as goal
 
 -- behind the octets before `at` the scanner rests there

@@ -2,23 +2,21 @@ use Rattle.std.proofs.Common.{◌≡◌, ◌≢◌, ℕ, suc, ◌+◌, ◌-◌, 
 use Rattle.std.specs.Prelude.{◌==◌, not}
 use Rattle.std.specs.List.{take_while}
 use Rattle.std.proofs.lemmas.Bool.Decides.{nat_tests}
-use Rattle.ion_tokens.specs.Blanks.{HasNoClose}
-use Rattle.ion_tokens.specs.declared.mode.Mode.TheVariants as modes
-use Rattle.ion_tokens.specs.machine.AtOnce.{goes_on}
+use Rattle.ion_tokens.specs.Names.{HasNoClose, Mode, goes_on}
 use Rattle.ion_tokens.proofs.runs.GoesOn.{rest_is}
-use Rattle.ion_tokens.proofs.runs.WholeTokens.{front_each, front_stops}
 use Rattle.ion_tokens.proofs.runs.WholeComments.{fewer_open, star_open, stars_open}
+use Rattle.ion_tokens.proofs.runs.WholeTokens.{front_each, front_stops}
 use Rattle.ion_tokens.proofs.comments.of_block.Goals as goal
 
 -- so many octets go on a block comment
-counted : (octets : List ℕ) (at n : ℕ) → n ≡ length (take_while (goes_on modes.BlockComment) (take (length octets - at) (drop at octets)))
-    → n ≡ length (take_while (goes_on modes.BlockComment) (drop at octets))
-counted octets at n e = e ∙ ap (λ w. length (take_while (goes_on modes.BlockComment) w)) (rest_is octets at)
+counted : (octets : List ℕ) (at n : ℕ) → n ≡ length (take_while (goes_on Mode.BlockComment) (take (length octets - at) (drop at octets)))
+    → n ≡ length (take_while (goes_on Mode.BlockComment) (drop at octets))
+counted octets at n e = e ∙ ap (λ w. length (take_while (goes_on Mode.BlockComment) w)) (rest_is octets at)
 
 open_up_to : (octets : List ℕ) (at n : ℕ) → HasNoClose (take (at + 1) octets)
-    → n ≡ length (take_while (goes_on modes.BlockComment) (take (length octets - at) (drop at octets))) → HasNoClose (take (at + n + 1) octets)
+    → n ≡ length (take_while (goes_on Mode.BlockComment) (take (length octets - at) (drop at octets))) → HasNoClose (take (at + n + 1) octets)
 open_up_to octets at n none e =
-    stars_open octets at n none (front_each (goes_on modes.BlockComment) (drop at octets) n (counted octets at n e))
+    stars_open octets at n none (front_each (goes_on Mode.BlockComment) (drop at octets) n (counted octets at n e))
 
 pub returns-then-octets-star-eq47-clause-open : goal.returns-then-octets-star-eq47-clause-open
 returns-then-octets-star-eq47-clause-open c =
@@ -36,7 +34,7 @@ returns-then-octets-star-eq47-clause-star c =
     let n = c.of_comment.result in
     let size = length-drop at octets in
     sym (get_or-drop at octets n 0)
-    ∙ is_star (get_or (drop at octets) n 0) (front_stops (goes_on modes.BlockComment) (drop at octets) n (counted octets at n c.of_comment.ensures)
+    ∙ is_star (get_or (drop at octets) n 0) (front_stops (goes_on Mode.BlockComment) (drop at octets) n (counted octets at n c.of_comment.ensures)
     (omega (arith, c.if-octets-star-lt2.false)))
   where
     is_star : (o : ℕ) → not (o == 42) ≡ false → o ≡ 42

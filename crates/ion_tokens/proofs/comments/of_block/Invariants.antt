@@ -1,5 +1,5 @@
 use Rattle.std.proofs.Common.{◌+◌, ◌≤◌, length, take}
-use Rattle.ion_tokens.specs.Blanks.{HasNoClose}
+use Rattle.ion_tokens.specs.Names.{HasNoClose}
 use Rattle.ion_tokens.proofs.comments.of_block.Given as goal
 
 -- no `*/` stands in front of `at` or begins before it

@@ -1,5 +1,5 @@
 use Rattle.std.proofs.Common.{◌≤◌, ◌-◌, length, take}
-use Rattle.ion_tokens.specs.machine.Contents.{LeadsOn}
+use Rattle.ion_tokens.specs.Names.{LeadsOn}
 use Rattle.ion_tokens.proofs.escaped_texts.before_quote.Given as goal
 
 -- the octets so far lead on

@@ -1,5 +1,5 @@
 use Rattle.std.proofs.Common.{ℕ, ◌≤◌, ◌-◌, length, drop}
-use Rattle.ion_tokens.specs.Quoted.{IsHexAfter}
+use Rattle.ion_tokens.specs.Names.{IsHexAfter}
 use Rattle.ion_tokens.proofs.escapes.number_of.Given as goal
 
 -- the digits left over make of the number what all make of 0

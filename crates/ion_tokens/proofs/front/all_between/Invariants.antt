@@ -1,5 +1,5 @@
 use Rattle.std.proofs.Common.{◌-◌, length}
-use Rattle.ion_tokens.specs.machine.AtOnce.{is_between}
+use Rattle.ion_tokens.specs.Names.{is_between}
 use Rattle.ion_tokens.proofs.masks.LaneRuns.{GoesOnTo}
 use Rattle.ion_tokens.proofs.front.all_between.Given as goal
 

@@ -1,5 +1,5 @@
 use Rattle.std.proofs.Common.{◌-◌, length}
-use Rattle.ion_tokens.specs.machine.AtOnce.{is_raw}
+use Rattle.ion_tokens.specs.Names.{is_raw}
 use Rattle.ion_tokens.proofs.masks.LaneRuns.{GoesOnTo}
 use Rattle.ion_tokens.proofs.front.all_raw.Given as goal
 

@@ -1,8 +1,8 @@
 use Rattle.std.proofs.Common.{◌∙◌, take, sym}
-use Rattle.ion_tokens.specs.machine.AtOnce.{is_plain}
-use Rattle.ion_tokens.proofs.texts.Characters.{plain_kept, behind_kept}
+use Rattle.ion_tokens.specs.Names.{is_plain}
 use Rattle.ion_tokens.proofs.runs.GoesOn.{rest_is}
 use Rattle.ion_tokens.proofs.runs.WholeTokens.{front_each}
+use Rattle.ion_tokens.proofs.texts.Characters.{behind_kept, plain_kept}
 use Rattle.ion_tokens.proofs.front.beyond_ascii.Goals as goal
 
 -- ASCII characters alone

@@ -1,9 +1,8 @@
 use Rattle.std.proofs.Common.{◌≤◌, sym, subst, arith}
 use Rattle.std.proofs.lemmas.List.{length-take}
-use Rattle.ion_tokens.specs.Lexemes.{Each}
-use Rattle.ion_tokens.specs.machine.AtOnce.{is_raw}
-use Rattle.ion_tokens.proofs.texts.Characters.{each_shorter}
+use Rattle.ion_tokens.specs.Names.{Each, is_raw}
 use Rattle.ion_tokens.proofs.runs.GoesOn.{each_front, front_all}
+use Rattle.ion_tokens.proofs.texts.Characters.{each_shorter}
 use Rattle.ion_tokens.proofs.front.characters_between.Goals as goal
 
 pub returns-then-is_utf8-clause-raw : goal.returns-then-is_utf8-clause-raw

@@ -1,5 +1,5 @@
 use Rattle.std.proofs.Common.{arith}
-use Rattle.ion_tokens.specs.Octets.{is_digit}
+use Rattle.ion_tokens.specs.Names.{is_digit}
 use Rattle.ion_tokens.proofs.masks.LaneRuns.{at_start, stops_at}
 use Rattle.ion_tokens.proofs.front.few_digits.Goals as goal
 

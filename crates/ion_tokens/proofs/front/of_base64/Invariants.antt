@@ -1,5 +1,5 @@
 use Rattle.std.proofs.Common.{◌-◌, length}
-use Rattle.ion_tokens.specs.Octets.{is_base64}
+use Rattle.ion_tokens.specs.Names.{is_base64}
 use Rattle.ion_tokens.proofs.masks.LaneRuns.{GoesOnTo}
 use Rattle.ion_tokens.proofs.front.of_base64.Given as goal
 

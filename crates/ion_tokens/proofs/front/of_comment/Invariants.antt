@@ -1,11 +1,10 @@
 use Rattle.std.proofs.Common.{◌-◌, length}
-use Rattle.ion_tokens.specs.declared.mode.Mode.TheVariants as modes
-use Rattle.ion_tokens.specs.machine.AtOnce.{goes_on}
+use Rattle.ion_tokens.specs.Names.{Mode, goes_on}
 use Rattle.ion_tokens.proofs.masks.LaneRuns.{GoesOnTo}
 use Rattle.ion_tokens.proofs.front.of_comment.Given as goal
 
 abbrev pub invariant-loop-at : goal.invariant-loop-at
-invariant-loop-at l = GoesOnTo (goes_on modes.BlockComment) l.octets l.at
+invariant-loop-at l = GoesOnTo (goes_on Mode.BlockComment) l.octets l.at
 
 abbrev pub decreases-loop-at : goal.decreases-loop-at
 decreases-loop-at l = length l.octets - l.at

@@ -1,8 +1,8 @@
 use Rattle.std.proofs.Common.{◌∙◌, ap, length, arith}
 use Rattle.std.specs.List.{take_while}
-use Rattle.ion_tokens.specs.machine.AtOnce.{is_numeric}
-use Rattle.ion_tokens.proofs.runs.GoesOn.{rest_is}
+use Rattle.ion_tokens.specs.Names.{is_numeric}
 use Rattle.ion_tokens.proofs.masks.LaneRuns.{at_start, goes_through, stops_at, then_each}
+use Rattle.ion_tokens.proofs.runs.GoesOn.{rest_is}
 use Rattle.ion_tokens.proofs.front.of_number.Goals as goal
 
 pub loop-at-init : goal.loop-at-init

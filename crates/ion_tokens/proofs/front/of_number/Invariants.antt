@@ -1,5 +1,5 @@
 use Rattle.std.proofs.Common.{◌-◌, length}
-use Rattle.ion_tokens.specs.machine.AtOnce.{is_numeric}
+use Rattle.ion_tokens.specs.Names.{is_numeric}
 use Rattle.ion_tokens.proofs.masks.LaneRuns.{GoesOnTo}
 use Rattle.ion_tokens.proofs.front.of_number.Given as goal
 

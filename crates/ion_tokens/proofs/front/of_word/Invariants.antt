@@ -1,5 +1,5 @@
 use Rattle.std.proofs.Common.{◌-◌, length}
-use Rattle.ion_tokens.specs.Octets.{is_word_octet}
+use Rattle.ion_tokens.specs.Names.{is_word_octet}
 use Rattle.ion_tokens.proofs.masks.LaneRuns.{GoesOnTo}
 use Rattle.ion_tokens.proofs.front.of_word.Given as goal
 

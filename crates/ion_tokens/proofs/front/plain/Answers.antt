@@ -1,7 +1,6 @@
 use Rattle.std.proofs.Common.{Bool, ℕ, length, ap, ◌∙◌}
 use Rattle.std.specs.List.{take_while}
-use Rattle.ion_tokens.specs.machine.Table.{is_long}
-use Rattle.ion_tokens.specs.machine.AtOnce.{is_between}
+use Rattle.ion_tokens.specs.Names.{is_between, is_long}
 use Rattle.ion_tokens.proofs.front.plain.Goals as goal
 
 pub returns : goal.returns

@@ -1,8 +1,8 @@
 use Rattle.std.proofs.Common.{ℕ, true, not, arith}
 use Rattle.std.proofs.lemmas.Simd.{zip2_splat, zip2_of_maps, splat_is_map}
 use lib.Bits.{bit_and, bit_or}
-use Rattle.ion_tokens.specs.Octets.{is_base64}
-use Rattle.ion_tokens.proofs.masks.LaneMasks.{isnt, at_most, lane_minus, masked_by}
+use Rattle.ion_tokens.specs.Names.{is_base64}
+use Rattle.ion_tokens.proofs.masks.LaneMasks.{at_most, isnt, lane_minus, masked_by}
 use Rattle.ion_tokens.proofs.lanes.base64_ends.Goals as goal
 
 -- what the operations say of an octet

@@ -1,6 +1,6 @@
 use Rattle.std.proofs.Common.{true, not, arith}
 use Rattle.std.proofs.lemmas.Simd.{zip2_splat, zip2_of_maps, splat_is_map}
-use Rattle.ion_tokens.specs.Octets.{is_digit}
+use Rattle.ion_tokens.specs.Names.{is_digit}
 use Rattle.ion_tokens.proofs.masks.LaneMasks.{at_most, lane_minus, masked_by}
 use Rattle.ion_tokens.proofs.lanes.digit_ends.Goals as goal
 

@@ -1,8 +1,8 @@
 use Rattle.std.proofs.Common.{ℕ, true, not, arith}
 use Rattle.std.proofs.lemmas.Simd.{zip2_splat, zip2_of_maps, splat_is_map}
 use lib.Bits.{bit_or}
-use Rattle.ion_tokens.specs.machine.AtOnce.{is_numeric}
-use Rattle.ion_tokens.proofs.masks.LaneMasks.{is, below, lane_minus, masked_by}
+use Rattle.ion_tokens.specs.Names.{is_numeric}
+use Rattle.ion_tokens.proofs.masks.LaneMasks.{below, is, lane_minus, masked_by}
 use Rattle.ion_tokens.proofs.lanes.number_ends.Goals as goal
 
 -- what the operations say of an octet

@@ -3,9 +3,9 @@ use Rattle.std.specs.Prelude.{◌&&◌, ◌||◌, ◌==◌}
 use Rattle.std.proofs.lemmas.Simd.{zip2_splat, zip2_splat_left, zip2_of_maps, splat_is_map}
 use lib.Bits.{bit_or}
 use lib.Lanes.{top}
-use Rattle.ion_tokens.specs.machine.Table.{stands}
+use Rattle.ion_tokens.specs.Names.{stands}
 use Rattle.ion_tokens.proofs.masks.ByOctet.{holds_below, same}
-use Rattle.ion_tokens.proofs.masks.LaneMasks.{is, below, at_most, lane_minus, masked_by}
+use Rattle.ion_tokens.proofs.masks.LaneMasks.{at_most, below, is, lane_minus, masked_by}
 use Rattle.ion_tokens.proofs.lanes.text_ends.Goals as goal
 
 -- what the operations say of an octet, which is the quote or not

@@ -1,6 +1,6 @@
-use Rattle.ion_tokens.specs.machine.Rests.{resting, past_blank}
-use Rattle.ion_tokens.proofs.histories.Stepped.{goes_on}
 use Rattle.std.proofs.Common.{take, refl}
+use Rattle.ion_tokens.specs.Names.{past_blank, resting}
+use Rattle.ion_tokens.proofs.histories.Stepped.{goes_on}
 use Rattle.ion_tokens.proofs.runs.Moved.{blank_moves, token_moves, trace_moves}
 use Rattle.ion_tokens.proofs.traces.Traced.{next_stands}
 use Rattle.ion_tokens.proofs.laws.moved.Goals as goal

@@ -1,5 +1,5 @@
 use Rattle.std.proofs.Common.{◌≤◌, ◌-◌, length, take}
-use Rattle.ion_tokens.specs.machine.Contents.{AddsBase64}
+use Rattle.ion_tokens.specs.Names.{AddsBase64}
 use Rattle.ion_tokens.proofs.lobs_at_once.before_brace.Given as goal
 
 -- the octets so far are content, and its base64 is kept

@@ -1,5 +1,5 @@
 use Rattle.std.proofs.Common.{◌≤◌, ◌-◌, length, take}
-use Rattle.ion_tokens.specs.machine.Contents.{AddsSegments}
+use Rattle.ion_tokens.specs.Names.{AddsSegments}
 use Rattle.ion_tokens.proofs.lobs_at_once.clob_segments.Given as goal
 
 -- the octets so far are segments, and what they mean is kept

@@ -1,5 +1,5 @@
 use Rattle.std.proofs.Common.{arith, ◌<◌, length}
-use Rattle.ion_tokens.specs.declared.mode.Style.TheVariants as styles
+use Rattle.ion_tokens.specs.Names.{Style}
 use Rattle.ion_tokens.proofs.runs.WholeTokens.{quoted_found, quoted_text}
 use Rattle.ion_tokens.proofs.plain_tokens.quoted_symbol.Goals as goal
 
@@ -10,4 +10,4 @@ returns-clause-found c =
     c.if-count-content.false c.if-content-count-ne39.false
 
 pub returns-clause-text : goal.returns-clause-text
-returns-clause-text c = quoted_text styles.QuotedSymbol c.args.octets.now c.characters-count.result c.characters-count.ensures.kept
+returns-clause-text c = quoted_text Style.QuotedSymbol c.args.octets.now c.characters-count.result c.characters-count.ensures.kept

@@ -1,6 +1,6 @@
 use Rattle.std.proofs.Common.{arith, ◌<◌, length}
-use Rattle.ion_tokens.specs.declared.mode.Style.TheVariants as styles
-use Rattle.ion_tokens.proofs.runs.WholeTokens.{short_found, quoted_text}
+use Rattle.ion_tokens.specs.Names.{Style}
+use Rattle.ion_tokens.proofs.runs.WholeTokens.{quoted_text, short_found}
 use Rattle.ion_tokens.proofs.plain_tokens.short_string.Goals as goal
 
 pub returns-clause-found : goal.returns-clause-found
@@ -10,4 +10,4 @@ returns-clause-found c =
     c.if-content-count-ne34.false
 
 pub returns-clause-text : goal.returns-clause-text
-returns-clause-text c = quoted_text styles.ShortString c.args.octets.now c.characters-count.result c.characters-count.ensures.kept
+returns-clause-text c = quoted_text Style.ShortString c.args.octets.now c.characters-count.result c.characters-count.ensures.kept

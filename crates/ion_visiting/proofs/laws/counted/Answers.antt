@@ -1,5 +1,5 @@
 use Rattle.std.proofs.Common.{arith}
-use Rattle.ion_visiting.specs.Count.{no_values}
+use Rattle.ion_visiting.specs.Names.{no_values}
 use Rattle.ion_visiting.specs.laws.Counted.{value_uncounted, values_counted}
 use Rattle.ion_visiting.proofs.laws.counted.Goals as goal
 

@@ -1,5 +1,5 @@
 use Rattle.std.proofs.Common.{refl}
-use Rattle.ion_model.specs.declared.value.Payload.TheViews.{outs-Int, outs-Decimal, outs-Timestamp}
+use Rattle.ion_visiting.specs.Names.{outs-Decimal, outs-Int, outs-Timestamp}
 use Rattle.ion_visiting.proofs.outlining.number_kind.Goals as goal
 
 pub returns-in-Int : goal.returns-in-Int

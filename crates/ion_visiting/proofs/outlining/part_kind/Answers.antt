@@ -1,5 +1,5 @@
 use Rattle.std.proofs.Common.{Some, refl}
-use Rattle.ion_model.specs.declared.value.Payload.TheViews.{outs-Null, outs-Truth, outs-Symbol, outs-Str, outs-Clob, outs-Blob}
+use Rattle.ion_visiting.specs.Names.{outs-Blob, outs-Clob, outs-Null, outs-Str, outs-Symbol, outs-Truth}
 use Rattle.ion_visiting.proofs.outlining.part_kind.Goals as goal
 
 pub returns-in-Null : goal.returns-in-Null

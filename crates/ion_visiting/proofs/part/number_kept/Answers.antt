@@ -1,7 +1,6 @@
 use Rattle.std.proofs.Common.{sym, subst}
+use Rattle.ion_visiting.specs.Names.{KeptPayload, kept_decimal, kept_int, kept_timestamp, number_payload}
 use Rattle.ion_atoms.specs.Ranges.{IsWhole}
-use Rattle.ion_model.specs.Kept.{KeptPayload, kept_int, kept_decimal, kept_timestamp}
-use Rattle.ion_visiting.specs.Parts.{number_payload}
 use Rattle.ion_visiting.proofs.part.number_kept.Goals as goal
 
 pub returns-in-Int : goal.returns-in-Int

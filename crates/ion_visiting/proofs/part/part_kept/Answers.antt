@@ -1,6 +1,5 @@
 use Rattle.std.proofs.Common.{Some, sym, subst}
-use Rattle.ion_model.specs.Kept.{KeptPayload, kept_null, kept_truth, kept_symbol, kept_string, kept_clob, kept_blob}
-use Rattle.ion_visiting.specs.Parts.{payload_of}
+use Rattle.ion_visiting.specs.Names.{KeptPayload, kept_blob, kept_clob, kept_null, kept_string, kept_symbol, kept_truth, payload_of}
 use Rattle.ion_visiting.proofs.part.part_kept.Goals as goal
 
 pub returns-in-Null : goal.returns-in-Null

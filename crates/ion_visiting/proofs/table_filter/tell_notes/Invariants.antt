@@ -1,5 +1,5 @@
 use Rattle.std.proofs.Common.{map, take}
-use Rattle.ion_visiting.specs.Events.{Led, annotation}
+use Rattle.ion_visiting.specs.Names.{Led, annotation}
 use Rattle.ion_visiting.proofs.table_filter.tell_notes.Given as goal
 
 abbrev pub invariant-loop-note : goal.invariant-loop-note

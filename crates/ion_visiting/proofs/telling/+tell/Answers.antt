@@ -2,10 +2,8 @@ use Rattle.std.proofs.Common.{map, sym, subst}
 use Rattle.std.specs.List.{flat_map}
 use Rattle.std.proofs.lemmas.List.{append-nil}
 use Rattle.std.proofs.lemmas.Grind.{flat_map-append}
-use Rattle.ion_model.specs.declared.value.Payload.TheViews.{out-Payload}
-use Rattle.ion_visiting.specs.declared.bracket.Bracket.TheVariants.{Fields}
-use Rattle.ion_visiting.specs.Events.{Led, annotation, events_of, field_events, layer_events}
-use Rattle.ion_visiting.specs.laws.Led.{led_both, events_out}
+use Rattle.ion_visiting.specs.Names.{Fields, Led, annotation, events_of, field_events, layer_events, out-Payload}
+use Rattle.ion_visiting.specs.laws.Led.{events_out, led_both}
 use Rattle.ion_visiting.proofs.ToldItems.{told_next, told_within}
 use Rattle.ion_visiting.proofs.telling.+tell.Goals as goal
 

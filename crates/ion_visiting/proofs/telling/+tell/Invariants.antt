@@ -1,7 +1,6 @@
 use Rattle.std.proofs.Common.{◌∷◌, take}
 use Rattle.std.specs.List.{flat_map}
-use Rattle.ion_visiting.specs.declared.bracket.Bracket.TheVariants.{Fields}
-use Rattle.ion_visiting.specs.Events.{Led, opens, events_of, field_events}
+use Rattle.ion_visiting.specs.Names.{Fields, Led, events_of, field_events, opens}
 use Rattle.ion_visiting.proofs.telling.+tell.Given as goal
 
 abbrev pub invariant-tell_items-loop-item : goal.invariant-tell_items-loop-item

@@ -1,6 +1,6 @@
 use Rattle.std.proofs.Common.{map, refl}
 use Rattle.std.proofs.lemmas.List.{map-append}
-use Rattle.ion_visiting.specs.Events.{annotation}
+use Rattle.ion_visiting.specs.Names.{annotation}
 use Rattle.ion_visiting.proofs.ToldItems.{told_next}
 use Rattle.ion_visiting.proofs.telling.tell_annotations.Goals as goal
 

@@ -1,5 +1,5 @@
 use Rattle.std.proofs.Common.{map, take}
-use Rattle.ion_visiting.specs.Events.{Led, annotation}
+use Rattle.ion_visiting.specs.Names.{Led, annotation}
 use Rattle.ion_visiting.proofs.telling.tell_annotations.Given as goal
 
 abbrev pub invariant-loop-symbol : goal.invariant-loop-symbol

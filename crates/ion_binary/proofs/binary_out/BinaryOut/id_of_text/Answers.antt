@@ -1,6 +1,6 @@
 use Rattle.std.proofs.Common.{◌≡◌, ◌∙◌, Some, ap, sym, subst}
+use Rattle.ion_binary.specs.Names.{IsLater}
 use Rattle.ion_binary.specs.visiting.BinaryOut.{Encoded}
-use Rattle.ion_binary.specs.writer.Later.{IsLater}
 use Rattle.ion_binary.proofs.Later.{id_later}
 use Rattle.ion_binary.proofs.binary_out.BinaryOut.id_of_text.Goals as goal
 

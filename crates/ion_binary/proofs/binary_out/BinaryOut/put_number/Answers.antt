@@ -1,9 +1,6 @@
 use Rattle.std.proofs.Common.{rules, ◌≡◌, ◌++◌, ◌∙◌, ap, refl}
+use Rattle.ion_binary.specs.Names.{decimal_octets, framed, number_payload, timestamp_octets, whole_octets}
 use Rattle.ion_model.specs.declared.value.Payload.TheViews as views
-use Rattle.ion_scalar.specs.binary.Spellings.{decimal_octets}
-use Rattle.ion_scalar.specs.binary.TimestampSpellings.{timestamp_octets}
-use Rattle.ion_visiting.specs.Parts.{number_payload}
-use Rattle.ion_binary.specs.Output.{framed, whole_octets}
 use Rattle.ion_binary.specs.visiting.BinaryOut.{Encoded}
 use Rattle.ion_binary.proofs.BinaryTold.{scalar_put}
 use Rattle.ion_binary.proofs.binary_out.BinaryOut.put_number.Goals as goal

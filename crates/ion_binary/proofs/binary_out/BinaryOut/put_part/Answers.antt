@@ -1,7 +1,6 @@
 use Rattle.std.proofs.Common.{rules, ◌≡◌, ◌∷◌, [], ◌++◌, ◌∙◌, ap, refl}
+use Rattle.ion_binary.specs.Names.{framed, null_octet, payload_of, truth_octet}
 use Rattle.ion_model.specs.declared.value.Payload.TheViews as views
-use Rattle.ion_visiting.specs.Parts.{payload_of}
-use Rattle.ion_binary.specs.Output.{framed, null_octet, truth_octet}
 use Rattle.ion_binary.specs.visiting.BinaryOut.{Encoded}
 use Rattle.ion_binary.proofs.BinaryTold.{scalar_put}
 use Rattle.ion_binary.proofs.binary_out.BinaryOut.put_part.Goals as goal

@@ -1,5 +1,5 @@
 use Rattle.std.proofs.Common.{rules, ◌≡◌, ◌++◌}
-use Rattle.ion_scalar.specs.binary.Spellings.{var_uint_octets}
+use Rattle.ion_binary.specs.Names.{var_uint_octets}
 use Rattle.ion_binary.proofs.BinaryTold.{id_put}
 use Rattle.ion_binary.proofs.binary_out.BinaryOut.put_symbol_id.Goals as goal
 

@@ -1,6 +1,5 @@
 use Rattle.std.proofs.Common.{rules, ◌≡◌, ◌++◌}
-use Rattle.ion_scalar.specs.binary.Spellings.{uint_octets}
-use Rattle.ion_binary.specs.Output.{framed}
+use Rattle.ion_binary.specs.Names.{framed, uint_octets}
 use Rattle.ion_binary.proofs.BinaryTold.{symbol_put}
 use Rattle.ion_binary.proofs.binary_out.BinaryOut.put_symbol_value.Goals as goal
 

@@ -1,5 +1,5 @@
 use Rattle.std.proofs.Common.{rules, None}
-use Rattle.ion_model.specs.Kept.{kept_symbol}
+use Rattle.ion_binary.specs.Names.{kept_symbol}
 use Rattle.ion_binary.proofs.binary_out.BinaryOutVisitor.unknown_symbol.Goals as goal
 
 pub returns-then-put_symbol_value : goal.returns-then-put_symbol_value

@@ -1,7 +1,5 @@
 use Rattle.std.proofs.Common.{Bool, Ok, subst}
-use Rattle.ion_symtab.specs.Walks.{EndsOn}
-use Rattle.ion_visiting.specs.Building.{builds}
-use Rattle.ion_binary.specs.machine.Run.{trace}
+use Rattle.ion_binary.specs.Names.{EndsOn, builds, trace}
 use Rattle.ion_binary.proofs.reader.BinaryReaderItems.finish.Goals as goal
 
 pub returns-in-Ok-clause-ends : goal.returns-in-Ok-clause-ends

@@ -1,5 +1,5 @@
+use Rattle.ion_binary.specs.Names.{Told}
 use Rattle.ion_symtab.specs.laws.Builds.{tells_held}
-use Rattle.ion_binary.specs.walking.Runs.{Told}
 use Rattle.ion_binary.proofs.reader.BinaryReaderItems.walk.Goals as goal
 
 pub returns-clause-tells : goal.returns-clause-tells

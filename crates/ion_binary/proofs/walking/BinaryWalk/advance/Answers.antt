@@ -1,8 +1,7 @@
 use Rattle.std.proofs.Common.{rules, ◌-◌, Ok, length, take, drop, arith, subst}
-use Rattle.ion_binary.specs.declared.state.Effect.{Effect}
-use Rattle.ion_binary.specs.walking.Holds.{told}
-use Rattle.ion_binary.specs.walking.Runs.{Took, run_of}
-use Rattle.ion_binary.proofs.WalkRuns.{led_on_none, led_on_more, led_on_gives, led_on_refused, led_on_end}
+use Rattle.ion_binary.specs.Names.{Effect, run_of, told}
+use Rattle.ion_binary.specs.walking.Runs.{Took}
+use Rattle.ion_binary.proofs.WalkRuns.{led_on_end, led_on_gives, led_on_more, led_on_none, led_on_refused}
 use Rattle.ion_binary.proofs.walking.BinaryWalk.advance.Goals as goal
 
 pub loop-i-init : goal.loop-i-init

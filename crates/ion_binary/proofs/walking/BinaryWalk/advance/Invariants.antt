@@ -1,6 +1,5 @@
 use Rattle.std.proofs.Common.{◌≡◌, ◌+◌, ◌-◌, ◌≤◌, List, length}
-use Rattle.ion_binary.specs.machine.Frames.{Frame}
-use Rattle.ion_binary.specs.walking.Holds.{Holds, SameSetting}
+use Rattle.ion_binary.specs.Names.{Frame, Holds, SameSetting}
 use Rattle.ion_binary.proofs.WalkRuns.{LedOn}
 use Rattle.ion_binary.proofs.walking.BinaryWalk.advance.Given as goal
 

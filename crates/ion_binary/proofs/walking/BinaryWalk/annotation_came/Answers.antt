@@ -1,5 +1,5 @@
 use Rattle.std.proofs.Common.{refl}
-use Rattle.ion_symtab.specs.Slots.{resolve}
+use Rattle.ion_binary.specs.Names.{resolve}
 use Rattle.ion_binary.proofs.VarUInts.{note_does}
 use Rattle.ion_binary.proofs.walking.BinaryWalk.annotation_came.Goals as goal
 

@@ -1,7 +1,5 @@
 use Rattle.std.proofs.Common.{ap, subst}
-use Rattle.ion_binary.specs.declared.form.Form.{Form}
-use Rattle.ion_binary.specs.machine.EachOctet.{begin}
-use Rattle.ion_binary.specs.walking.Holds.{MayBegin, setting_of, spot_of, told}
+use Rattle.ion_binary.specs.Names.{Form, MayBegin, begin, setting_of, spot_of, told}
 use Rattle.ion_binary.proofs.Ending.{does_same}
 use Rattle.ion_binary.proofs.walking.BinaryWalk.begin.Goals as goal
 

@@ -1,16 +1,8 @@
 use Rattle.std.proofs.Common.{List, [], ◌∷◌, ◌++◌, refl, ap, sym, subst, ◌∙◌}
 use Rattle.std.specs.Prelude.{◌+◌, if◌then◌else◌}
-use Rattle.ion_atoms.specs.declared.refusal.Reason.TheVariants.{Depth}
-use Rattle.ion_visiting.specs.declared.bracket.Bracket.{Bracket}
-use Rattle.ion_visiting.specs.Events.{Event, opens}
+use Rattle.ion_binary.specs.Names.{BinaryWalk, Bracket, Container, Depth, Event, Hears, Ready, WasTold, bracket_of, heard, open_containers, proceed, refuses, setting_of, spot_of}
+use Rattle.ion_visiting.specs.Events.{opens}
 use Rattle.ion_binary.specs.machine.Frames as frames
-use Rattle.ion_binary.specs.declared.state.Phase.TheVariants.{Ready}
-use Rattle.ion_binary.specs.declared.walking.BinaryWalk.{BinaryWalk}
-use Rattle.ion_binary.specs.declared.walking.Container.TheVariants as containers
-use Rattle.ion_binary.specs.visiting.Brackets.{bracket_of}
-use Rattle.ion_binary.specs.machine.EachOctet.{proceed, refuses}
-use Rattle.ion_visiting.specs.Tables.{Hears, WasTold, heard}
-use Rattle.ion_binary.specs.walking.Holds.{open_containers, setting_of, spot_of}
 use Rattle.ion_binary.proofs.Beginning.{front_does}
 use Rattle.ion_binary.proofs.Ending.{pushed}
 use Rattle.ion_binary.proofs.Shells.{deepens}
@@ -32,8 +24,8 @@ returns-clause-does g c = λ fs h around.
     c.proceed.result c.open.new.visitor c.proceed.new.visitor (subst (λ (x : Bracket). (es : List Event) → WasTold s.filter es → WasTold c.open.new.self (es ++ opens x ∷ [])
     × Hears g.V.Visitor.takes (heard es) (heard (es ++ opens x ∷ [])) c.begin_value.new.visitor c.open.new.visitor) c.bracket_of-bracket.ensures
     (c.open.ensures c.in_ok-heard.ensures.ok)) refl around around tt tt
-    (pushed s.frames.items c.push.new.self.items (containers.Items (s.used + c.args.size) c.args.listing) c.in_ok-push.ensures.items
-    ∙ ap (λ (w : BinaryWalk). containers.Items (s.used + c.args.size) c.args.listing ∷ open_containers w) e)
+    (pushed s.frames.items c.push.new.self.items (Container.Items (s.used + c.args.size) c.args.listing) c.in_ok-push.ensures.items
+    ∙ ap (λ (w : BinaryWalk). Container.Items (s.used + c.args.size) c.args.listing ∷ open_containers w) e)
     (ap (λ b. if b then proceed (setting_of r) (spot_of r) (frames.Items (r.used + c.args.size) c.args.listing [] ∷ fs) else refuses Depth)
     (deepens r fs c.may_deepen.result h c.may_deepen.ensures ∙ c.if-not-may_deepen.false)
     ∙ ap (λ (w : BinaryWalk). proceed (setting_of w) (spot_of w) (frames.Items (w.used + c.args.size) c.args.listing [] ∷ fs)) (sym e))

@@ -1,11 +1,6 @@
 use Rattle.std.proofs.Common.{◌-◌, [], Ok, ap, sym, ◌∙◌, refl}
 use Rattle.std.specs.Prelude.{if◌then◌else◌}
-use Rattle.ion_binary.specs.Judge.{judge}
-use Rattle.ion_binary.specs.declared.form.Form.TheVariants as forms
-use Rattle.ion_binary.specs.declared.state.Effect.TheVariants.{Goes}
-use Rattle.ion_binary.specs.declared.state.Phase.TheVariants.{InBody}
-use Rattle.ion_binary.specs.machine.EachOctet.{begin, goes, in_body, judged}
-use Rattle.ion_binary.specs.walking.Holds.{setting_of, spot_of, told}
+use Rattle.ion_binary.specs.Names.{Form, Goes, InBody, begin, goes, in_body, judge, judged, setting_of, spot_of, told}
 use Rattle.ion_binary.proofs.Beginning.{goes_alone}
 use Rattle.ion_binary.proofs.Ending.{does_same, is_at, isnt_at}
 use Rattle.ion_binary.proofs.Tellings.{does_alone}
@@ -24,8 +19,8 @@ returns-clause-does g c = λ fs h around.
     let r = c.args.self.now in
     let ended = judged (setting_of r) (spot_of r) fs (judge r.context c.args.scalar []) in
     let new = record r { body = c.clear.new.self; phase = InBody c.args.scalar (c.args.size - 1) } in
-    does_alone g.V.Visitor.takes (told fs) (begin (setting_of r) (spot_of r) fs (forms.Scalar c.args.scalar) c.args.size) (Ok Goes) new c.args.visitor.now
-    (goes_alone r new fs (begin (setting_of r) (spot_of r) fs (forms.Scalar c.args.scalar) c.args.size)
+    does_alone g.V.Visitor.takes (told fs) (begin (setting_of r) (spot_of r) fs (Form.Scalar c.args.scalar) c.args.size) (Ok Goes) new c.args.visitor.now
+    (goes_alone r new fs (begin (setting_of r) (spot_of r) fs (Form.Scalar c.args.scalar) c.args.size)
     (ap (λ b. if b then ended else goes (in_body (spot_of r) fs c.args.scalar (c.args.size - 1) [])) (isnt_at c.args.size 0 c.if-size-eq0.false)
     ∙ ap (λ w. goes (in_body (spot_of r) fs c.args.scalar (c.args.size - 1) w)) (sym c.clear.ensures.items))
     refl refl refl around h)

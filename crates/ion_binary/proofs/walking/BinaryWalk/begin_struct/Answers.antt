@@ -1,13 +1,7 @@
 use Rattle.std.proofs.Common.{[], ◌∷◌, refl, ap, sym, ◌∙◌}
 use Rattle.std.specs.Prelude.{◌+◌, if◌then◌else◌}
-use Rattle.ion_atoms.specs.declared.refusal.Reason.TheVariants.{Depth}
-use Rattle.ion_visiting.specs.declared.bracket.Bracket.TheVariants as brackets
+use Rattle.ion_binary.specs.Names.{BinaryWalk, Bracket, Container, Depth, Ready, open_containers, proceed, refuses, setting_of, spot_of}
 use Rattle.ion_binary.specs.machine.Frames as frames
-use Rattle.ion_binary.specs.declared.state.Phase.TheVariants.{Ready}
-use Rattle.ion_binary.specs.declared.walking.BinaryWalk.{BinaryWalk}
-use Rattle.ion_binary.specs.declared.walking.Container.TheVariants as containers
-use Rattle.ion_binary.specs.machine.EachOctet.{proceed, refuses}
-use Rattle.ion_binary.specs.walking.Holds.{open_containers, setting_of, spot_of}
 use Rattle.ion_binary.proofs.Beginning.{front_does}
 use Rattle.ion_binary.proofs.Ending.{pushed}
 use Rattle.ion_binary.proofs.Shells.{deepens}
@@ -25,10 +19,10 @@ returns-clause-does g c = λ fs h around.
     let s = c.begin_value.new.self in
     let e = c.begin_value.ensures.same in
     front_does g.V.Visitor.takes r s.filter fs h around c.args.visitor.now c.begin_value.new.visitor (c.in_ok-begin_value.ensures.told fs h around)
-    (record s { filter = c.open.new.self; frames = c.push.new.self; phase = Ready }) c.proceed.new.self (frames.Fields (s.used + c.args.size) []) brackets.Fields _
+    (record s { filter = c.open.new.self; frames = c.push.new.self; phase = Ready }) c.proceed.new.self (frames.Fields (s.used + c.args.size) []) Bracket.Fields _
     c.proceed.result c.open.new.visitor c.proceed.new.visitor (c.open.ensures c.in_ok-heard.ensures.ok) refl around around tt tt
-    (pushed s.frames.items c.push.new.self.items (containers.Fields (s.used + c.args.size)) c.in_ok-push.ensures.items
-    ∙ ap (λ (w : BinaryWalk). containers.Fields (s.used + c.args.size) ∷ open_containers w) e)
+    (pushed s.frames.items c.push.new.self.items (Container.Fields (s.used + c.args.size)) c.in_ok-push.ensures.items
+    ∙ ap (λ (w : BinaryWalk). Container.Fields (s.used + c.args.size) ∷ open_containers w) e)
     (ap (λ b. if b then proceed (setting_of r) (spot_of r) (frames.Fields (r.used + c.args.size) [] ∷ fs) else refuses Depth)
     (deepens r fs c.may_deepen.result h c.may_deepen.ensures ∙ c.if-not-may_deepen.false)
     ∙ ap (λ (w : BinaryWalk). proceed (setting_of w) (spot_of w) (frames.Fields (w.used + c.args.size) [] ∷ fs)) (sym e))

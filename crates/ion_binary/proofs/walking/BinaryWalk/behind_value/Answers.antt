@@ -1,5 +1,5 @@
 use Rattle.std.proofs.Common.{refl}
-use Rattle.ion_binary.specs.walking.Holds.{setting_of, spot_of}
+use Rattle.ion_binary.specs.Names.{setting_of, spot_of}
 use Rattle.ion_binary.proofs.Ending.{items_behind, named_behind, wrapper_behind}
 use Rattle.ion_binary.proofs.walking.BinaryWalk.behind_value.Goals as goal
 

@@ -1,8 +1,6 @@
 use Rattle.std.proofs.Common.{refl}
-use Rattle.ion_binary.specs.declared.state.Phase.TheVariants.{InNumber}
-use Rattle.ion_binary.specs.declared.state.Purpose.TheVariants as purposes
-use Rattle.ion_binary.specs.declared.walking.Container.TheVariants as containers
-use Rattle.ion_binary.proofs.Ending.{fields_go, fields_close, is_at, isnt_at, pushed}
+use Rattle.ion_binary.specs.Names.{Container, InNumber, Purpose}
+use Rattle.ion_binary.proofs.Ending.{fields_close, fields_go, is_at, isnt_at, pushed}
 use Rattle.ion_binary.proofs.walking.BinaryWalk.close_fields.Goals as goal
 
 pub returns-then-self-end-clause-does : goal.returns-then-self-end-clause-does
@@ -14,6 +12,6 @@ returns-then-self-end-clause-does g c = λ fs ms same around was.
 pub returns-clause-does : goal.returns-clause-does
 returns-clause-does g c = λ fs ms same around was.
     let r = c.args.self.now in
-    fields_go g.V.Visitor.takes r c.args.end fs same around ms was (record r { phase = InNumber purposes.FieldName 0; frames = c.push.new.self }) c.args.visitor.now
+    fields_go g.V.Visitor.takes r c.args.end fs same around ms was (record r { phase = InNumber Purpose.FieldName 0; frames = c.push.new.self }) c.args.visitor.now
     (isnt_at r.used c.args.end c.if-self-end.false) refl
-    (pushed r.frames.items c.push.new.self.items (containers.Fields c.args.end) c.in_ok-push.ensures.items) refl refl
+    (pushed r.frames.items c.push.new.self.items (Container.Fields c.args.end) c.in_ok-push.ensures.items) refl refl

@@ -1,10 +1,6 @@
 use Rattle.std.proofs.Common.{List, [], ◌∷◌, ◌++◌, refl, subst}
-use Rattle.ion_visiting.specs.declared.bracket.Bracket.{Bracket}
-use Rattle.ion_visiting.specs.Events.{Event, closes}
-use Rattle.ion_visiting.specs.Tables.{Hears, WasTold, heard}
-use Rattle.ion_binary.specs.declared.state.Phase.TheVariants.{Ready}
-use Rattle.ion_binary.specs.declared.walking.Container.TheVariants as containers
-use Rattle.ion_binary.proofs.Ending.{items_go, items_end, is_at, isnt_at, pushed}
+use Rattle.ion_binary.specs.Names.{Bracket, Container, Event, Hears, Ready, WasTold, closes, heard}
+use Rattle.ion_binary.proofs.Ending.{is_at, isnt_at, items_end, items_go, pushed}
 use Rattle.ion_binary.proofs.walking.BinaryWalk.close_items.Goals as goal
 
 pub returns-then-self-end-clause-does : goal.returns-then-self-end-clause-does
@@ -21,4 +17,4 @@ returns-clause-does g c = λ fs vs same around was.
     let r = c.args.self.now in
     items_go g.V.Visitor.takes r c.args.end fs same around c.args.listing vs was (record r { phase = Ready; frames = c.push.new.self }) c.args.visitor.now
     (isnt_at r.used c.args.end c.if-self-end.false) refl
-    (pushed r.frames.items c.push.new.self.items (containers.Items c.args.end c.args.listing) c.in_ok-push.ensures.items) refl refl
+    (pushed r.frames.items c.push.new.self.items (Container.Items c.args.end c.args.listing) c.in_ok-push.ensures.items) refl refl

@@ -1,10 +1,8 @@
 use Rattle.std.proofs.Common.{◌≡◌, [], ◌++◌, Bool, Ok, refl, ap, reverse, rules, subst}
-use Rattle.ion_visiting.specs.Events.{events_of}
-use Rattle.ion_binary.specs.machine.EachOctet.{deliver}
-use Rattle.ion_binary.specs.walking.Holds.{Closes, setting_of, spot_of, told_in}
-use Rattle.ion_visiting.specs.Tables.{heard}
+use Rattle.ion_binary.specs.Names.{Closes, deliver, events_of, heard, setting_of, spot_of}
 use Rattle.ion_visiting.specs.laws.Filters.{hears_none}
-use Rattle.ion_binary.proofs.Ending.{left_behind, left_at_top, pushed}
+use Rattle.ion_binary.specs.walking.Holds.{told_in}
+use Rattle.ion_binary.proofs.Ending.{left_at_top, left_behind, pushed}
 use Rattle.ion_binary.proofs.walking.BinaryWalk.containers_end.Goals as goal
 
 pub loop-container-init : goal.loop-container-init

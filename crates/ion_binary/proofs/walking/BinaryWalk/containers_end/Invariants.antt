@@ -1,9 +1,6 @@
 use Rattle.std.proofs.Common.{◌≡◌, ◌++◌, List, length}
-use Rattle.ion_model.specs.declared.value.Value.{Value}
-use Rattle.ion_visiting.specs.Events.{events_of}
-use Rattle.ion_binary.specs.machine.Frames.{Frame}
-use Rattle.ion_binary.specs.machine.EachOctet.{deliver}
-use Rattle.ion_binary.specs.walking.Holds.{IsBehind, SameSetting, setting_of, spot_of, told_in}
+use Rattle.ion_binary.specs.Names.{Frame, IsBehind, SameSetting, Value, deliver, events_of, setting_of, spot_of}
+use Rattle.ion_binary.specs.walking.Holds.{told_in}
 use Rattle.ion_binary.proofs.Ending.{IsLeft}
 use Rattle.ion_binary.proofs.walking.BinaryWalk.containers_end.Given as goal
 

@@ -1,8 +1,6 @@
 use Rattle.std.proofs.Common.{◌++◌, Ok}
-use Rattle.ion_visiting.specs.Events.{events_of}
-use Rattle.ion_binary.specs.declared.state.Effect.TheVariants.{Goes}
-use Rattle.ion_binary.specs.machine.EachOctet.{deliver}
-use Rattle.ion_binary.specs.walking.Holds.{setting_of, spot_of, told_in}
+use Rattle.ion_binary.specs.Names.{Goes, deliver, events_of, setting_of, spot_of}
+use Rattle.ion_binary.specs.walking.Holds.{told_in}
 use Rattle.ion_binary.proofs.Tellings.{does_alone}
 use Rattle.ion_binary.proofs.walking.BinaryWalk.ended.Goals as goal
 

@@ -1,7 +1,5 @@
 use Rattle.std.proofs.Common.{◌+◌, ◌∙◌, ap, refl, subst, sym}
-use Rattle.ion_binary.specs.declared.state.Phase.{Phase}
-use Rattle.ion_binary.specs.machine.EachOctet.{counted, on_descriptor, on_phase}
-use Rattle.ion_binary.specs.walking.Holds.{IsInside, machine_of, setting_of, spot_of, told}
+use Rattle.ion_binary.specs.Names.{IsInside, Phase, counted, machine_of, on_descriptor, on_phase, setting_of, spot_of, told}
 use Rattle.ion_binary.proofs.Beginning.{stays}
 use Rattle.ion_binary.proofs.Ending.{does_same}
 use Rattle.ion_binary.proofs.Tellings.{does_alone}

@@ -1,10 +1,5 @@
 use Rattle.std.proofs.Common.{[], Ok, refl, sym, subst}
-use Rattle.ion_visiting.specs.Events.{events_of}
-use Rattle.ion_binary.specs.declared.state.Phase.TheVariants.{Ready}
-use Rattle.ion_binary.specs.declared.state.Effect.TheVariants.{Goes}
-use Rattle.ion_binary.specs.declared.walking.BinaryWalk.{BinaryWalk}
-use Rattle.ion_binary.specs.machine.EachOctet.{deliver}
-use Rattle.ion_binary.specs.walking.Holds.{DoesAlone, setting_of, spot_of}
+use Rattle.ion_binary.specs.Names.{BinaryWalk, DoesAlone, Goes, Ready, deliver, events_of, setting_of, spot_of}
 use Rattle.ion_binary.proofs.Giving.{gives_out, table_goes, table_is}
 use Rattle.ion_binary.proofs.walking.BinaryWalk.give.Goals as goal
 

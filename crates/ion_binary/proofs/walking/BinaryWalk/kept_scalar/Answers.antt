@@ -1,8 +1,5 @@
 use Rattle.std.proofs.Common.{List, ℕ, ap, subst, ◌∙◌}
-use Rattle.ion_binary.specs.Judge.{judge}
-use Rattle.ion_binary.specs.declared.walking.BinaryWalk.{BinaryWalk}
-use Rattle.ion_binary.specs.machine.EachOctet.{judged}
-use Rattle.ion_binary.specs.walking.Holds.{Does, setting_of, spot_of, told}
+use Rattle.ion_binary.specs.Names.{BinaryWalk, Does, judge, judged, setting_of, spot_of, told}
 use Rattle.ion_binary.proofs.Beginning.{scalar_does}
 use Rattle.ion_binary.proofs.walking.BinaryWalk.kept_scalar.Goals as goal
 

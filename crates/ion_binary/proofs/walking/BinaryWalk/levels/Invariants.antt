@@ -1,6 +1,5 @@
 use Rattle.std.proofs.Common.{◌≡◌, ◌≤◌, map, reverse, take}
-use Rattle.ion_binary.specs.machine.EachOctet.{levels}
-use Rattle.ion_binary.specs.walking.Holds.{shell, name_of}
+use Rattle.ion_binary.specs.Names.{levels, name_of, shell}
 use Rattle.ion_binary.proofs.walking.BinaryWalk.levels.Given as goal
 
 abbrev pub invariant-loop-frame : goal.invariant-loop-frame

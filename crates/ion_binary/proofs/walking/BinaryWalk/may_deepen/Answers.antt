@@ -1,7 +1,6 @@
 use Rattle.std.proofs.Common.{arith, sym, lt-ltb}
 use Rattle.std.proofs.lemmas.List.{length-reverse, length-map}
-use Rattle.ion_binary.specs.machine.EachOctet.{levels}
-use Rattle.ion_binary.specs.walking.Holds.{shell, shells, name_of, open_containers}
+use Rattle.ion_binary.specs.Names.{levels, name_of, open_containers, shell, shells}
 use Rattle.ion_binary.proofs.Levels.{levels_few}
 use Rattle.ion_binary.proofs.walking.BinaryWalk.may_deepen.Goals as goal
 

@@ -1,8 +1,5 @@
 use Rattle.std.proofs.Common.{ap, refl}
-use Rattle.ion_binary.specs.declared.state.Phase.TheVariants.{Ready}
-use Rattle.ion_binary.specs.declared.walking.BinaryWalk.{BinaryWalk}
-use Rattle.ion_binary.specs.walking.Holds.{spot_of}
-use Rattle.ion_symtab.specs.Slots.{resolve}
+use Rattle.ion_binary.specs.Names.{BinaryWalk, Ready, resolve, spot_of}
 use Rattle.ion_binary.proofs.VarUInts.{name_does}
 use Rattle.ion_binary.proofs.walking.BinaryWalk.name_came.Goals as goal
 

@@ -1,7 +1,5 @@
 use Rattle.std.proofs.Common.{ap, ◌∙◌}
-use Rattle.ion_binary.specs.declared.form.Opening.TheVariants.{Sized}
-use Rattle.ion_binary.specs.machine.EachOctet.{on_descriptor}
-use Rattle.ion_binary.specs.walking.Holds.{setting_of, spot_of, told}
+use Rattle.ion_binary.specs.Names.{Sized, on_descriptor, setting_of, spot_of, told}
 use Rattle.ion_binary.proofs.Ending.{does_same}
 use Rattle.ion_binary.proofs.Tellings.{does_alone}
 use Rattle.ion_binary.proofs.walking.BinaryWalk.on_descriptor.Goals as goal

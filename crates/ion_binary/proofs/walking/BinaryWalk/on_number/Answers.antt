@@ -1,6 +1,5 @@
 use Rattle.std.proofs.Common.{◌+◌, ◌*◌, ◌∙◌, ap, arith, sym}
-use Rattle.ion_binary.specs.machine.EachOctet.{longer, number_came}
-use Rattle.ion_binary.specs.walking.Holds.{setting_of, spot_of, told}
+use Rattle.ion_binary.specs.Names.{longer, number_came, setting_of, spot_of, told}
 use Rattle.ion_binary.proofs.Ending.{does_same}
 use Rattle.ion_binary.proofs.Tellings.{does_alone}
 use Rattle.ion_binary.proofs.VarUInts.{number_ends, number_goes_on, number_large}

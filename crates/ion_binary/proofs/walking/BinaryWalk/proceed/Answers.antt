@@ -1,7 +1,5 @@
 use Rattle.std.proofs.Common.{Ok}
-use Rattle.ion_binary.specs.declared.state.Effect.TheVariants.{Goes}
-use Rattle.ion_binary.specs.machine.EachOctet.{proceed}
-use Rattle.ion_binary.specs.walking.Holds.{setting_of, spot_of, told}
+use Rattle.ion_binary.specs.Names.{Goes, proceed, setting_of, spot_of, told}
 use Rattle.ion_binary.proofs.Tellings.{does_alone}
 use Rattle.ion_binary.proofs.walking.BinaryWalk.proceed.Goals as goal
 

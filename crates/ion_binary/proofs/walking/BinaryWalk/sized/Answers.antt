@@ -1,6 +1,5 @@
 use Rattle.std.proofs.Common.{ap, sym, ◌∙◌, ◌+◌}
-use Rattle.ion_binary.specs.machine.EachOctet.{begin, unfit, unless}
-use Rattle.ion_binary.specs.walking.Holds.{setting_of, spot_of, told}
+use Rattle.ion_binary.specs.Names.{begin, setting_of, spot_of, told, unfit, unless}
 use Rattle.ion_binary.proofs.Ending.{does_same}
 use Rattle.ion_binary.proofs.Shells.{fits, may_begin, unfit_refused}
 use Rattle.ion_binary.proofs.walking.BinaryWalk.sized.Goals as goal

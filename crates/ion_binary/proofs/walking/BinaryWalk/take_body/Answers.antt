@@ -1,8 +1,6 @@
 use Rattle.std.proofs.Common.{◌+◌, ◌-◌, ◌∙◌, ap, sym, refl, arith}
-use Rattle.ion_binary.specs.declared.state.Phase.TheVariants.{InBody}
-use Rattle.ion_binary.specs.machine.EachOctet.{moved, in_body}
-use Rattle.ion_binary.specs.machine.Pieces.{led}
-use Rattle.ion_binary.specs.walking.Holds.{spot_of}
+use Rattle.ion_binary.specs.Names.{InBody, in_body, led, spot_of}
+use Rattle.ion_binary.specs.machine.EachOctet.{moved}
 use Rattle.ion_binary.proofs.Beginning.{stays}
 use Rattle.ion_binary.proofs.Insides.{body_led}
 use Rattle.ion_binary.proofs.WalkRuns.{around_body}

@@ -1,8 +1,7 @@
 use Rattle.std.proofs.Common.{◌+◌, ◌++◌, List, ℕ, ap, length, refl, sym, ◌∙◌}
 use Rattle.std.specs.Prelude.{◌==◌}
-use Rattle.ion_binary.specs.Judge.{judge}
-use Rattle.ion_binary.specs.machine.EachOctet.{judged, moved}
-use Rattle.ion_binary.specs.walking.Holds.{setting_of, spot_of, told}
+use Rattle.ion_binary.specs.Names.{judge, judged, setting_of, spot_of, told}
+use Rattle.ion_binary.specs.machine.EachOctet.{moved}
 use Rattle.ion_binary.proofs.Beginning.{stays}
 use Rattle.ion_binary.proofs.Ending.{does_same}
 use Rattle.ion_binary.proofs.WalkRuns.{empty_where}

@@ -1,8 +1,8 @@
 use Rattle.std.proofs.Common.{Ok, Err, arith}
 use Rattle.std.proofs.lemmas.Result.{err_from_is_err_and}
-use Rattle.ion_binary.specs.walking.Holds.{told}
+use Rattle.ion_binary.specs.Names.{told}
 use Rattle.ion_binary.proofs.Tellings.{does_alone}
-use Rattle.ion_binary.proofs.WalkRuns.{front_took, front_refused}
+use Rattle.ion_binary.proofs.WalkRuns.{front_refused, front_took}
 use Rattle.ion_binary.proofs.WholeFields.{came_run, field_does}
 use Rattle.ion_binary.proofs.walking.BinaryWalk.take_field.Goals as goal
 

@@ -1,8 +1,8 @@
 use Rattle.std.proofs.Common.{◌+◌, ◌≤◌, length, subst, arith}
 use Rattle.std.proofs.lemmas.Result.{err_from_is_err_and}
-use Rattle.ion_binary.specs.walking.Runs.{Opens}
+use Rattle.ion_binary.specs.Names.{Opens}
 use Rattle.ion_binary.proofs.Shells.{may_begin}
-use Rattle.ion_binary.proofs.WalkRuns.{front_took, front_refused}
+use Rattle.ion_binary.proofs.WalkRuns.{front_refused, front_took}
 use Rattle.ion_binary.proofs.WholeHeaders.{front_run, scalar_around, scalar_whole}
 use Rattle.ion_binary.proofs.walking.BinaryWalk.take_header.Goals as goal
 

@@ -1,6 +1,5 @@
 use Rattle.std.proofs.Common.{◌+◌, ◌-◌, refl, arith}
-use Rattle.ion_binary.specs.declared.state.Phase.TheVariants.{InPad}
-use Rattle.ion_binary.specs.walking.Holds.{spot_of}
+use Rattle.ion_binary.specs.Names.{InPad, spot_of}
 use Rattle.ion_binary.proofs.Beginning.{stays}
 use Rattle.ion_binary.proofs.Insides.{pad_led}
 use Rattle.ion_binary.proofs.walking.BinaryWalk.take_pad.Goals as goal

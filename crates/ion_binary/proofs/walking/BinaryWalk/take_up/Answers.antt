@@ -1,7 +1,7 @@
 use Rattle.std.proofs.Common.{Ok, Err, arith}
 use Rattle.std.proofs.lemmas.Result.{err_from_is_err_and}
+use Rattle.ion_binary.specs.Names.{machine_of}
 use Rattle.ion_binary.proofs.WalkRuns.{ends_does, ends_run, ends_used, front_refused, front_took, inside_took, octet_run}
-use Rattle.ion_binary.specs.walking.Holds.{machine_of}
 use Rattle.ion_binary.proofs.walking.BinaryWalk.take_up.Goals as goal
 
 pub returns-in_err-effect-clause-does : goal.returns-in_err-effect-clause-does

@@ -1,4 +1,4 @@
-use Rattle.ion_visiting.specs.Parts.{payload_of}
+use Rattle.ion_binary.specs.Names.{payload_of}
 use Rattle.ion_binary.proofs.Beginning.{whole_does}
 use Rattle.ion_binary.proofs.Judged.{part_leaf}
 use Rattle.ion_binary.proofs.walking.BinaryWalk.whole.Goals as goal

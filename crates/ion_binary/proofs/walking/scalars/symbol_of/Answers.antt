@@ -1,5 +1,5 @@
 use Rattle.std.proofs.Common.{◌∙◌, sym, arith}
-use Rattle.ion_scalar.specs.binary.Fields.{uint_field}
+use Rattle.ion_binary.specs.Names.{uint_field}
 use Rattle.ion_binary.proofs.Scalars.{symbol_past}
 use Rattle.ion_binary.proofs.walking.scalars.symbol_of.Goals as goal
 

@@ -1,5 +1,5 @@
-use Rattle.ion_visiting.specs.Parts.{number_payload}
-use Rattle.ion_binary.proofs.Judged.{on_ok, number_leaf}
+use Rattle.ion_binary.specs.Names.{number_payload}
+use Rattle.ion_binary.proofs.Judged.{number_leaf, on_ok}
 use Rattle.ion_binary.proofs.walking.scalars.tell_number.Goals as goal
 
 pub returns-clause-told : goal.returns-clause-told

@@ -1,5 +1,5 @@
 use Rattle.std.proofs.Common.{arith}
-use Rattle.ion_scalar.specs.Positional.{positional_more}
+use Rattle.ion_binary.specs.Names.{positional_more}
 use Rattle.ion_binary.proofs.walking.unread.small_uint_of_any.Goals as goal
 
 pub loop-octet-preserved : goal.loop-octet-preserved

@@ -1,5 +1,5 @@
 use Rattle.std.proofs.Common.{◌≡◌, take}
-use Rattle.ion_scalar.specs.binary.Fields.{positional}
+use Rattle.ion_binary.specs.Names.{positional}
 use Rattle.ion_binary.proofs.walking.unread.small_uint_of_any.Given as goal
 
 abbrev pub invariant-loop-octet : goal.invariant-loop-octet

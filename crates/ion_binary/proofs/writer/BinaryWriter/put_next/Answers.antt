@@ -1,8 +1,5 @@
 use Rattle.std.proofs.Common.{◌≤◌, List, ℕ, Result, Ok, Err, OnOk, OnErr, ap, subst, ◌∙◌, length, suc, MatchBool}
-use Rattle.ion_symtab.specs.Slots.{greatest_id}
-use Rattle.ion_symtab.specs.Took.{Took, TookFront}
-use Rattle.ion_binary.specs.Output.{Names, Progress}
-use Rattle.ion_binary.specs.Writing.{NeedsLargeId, Writing}
+use Rattle.ion_binary.specs.Names.{Names, NeedsLargeId, Progress, Took, TookFront, Writing, greatest_id}
 use Rattle.ion_binary.specs.visiting.BinaryOut.{Encoded}
 use Rattle.ion_binary.proofs.BinaryTold.{end_told, names_told, value_kept}
 use Rattle.ion_binary.proofs.writer.BinaryWriter.put_next.Goals as goal

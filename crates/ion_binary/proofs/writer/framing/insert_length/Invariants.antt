@@ -1,6 +1,6 @@
 use Rattle.std.proofs.Common.{◌≡◌, ◌≤◌, ◌++◌, take, drop, length}
 use Rattle.std.specs.Int.Digits.{digits_of}
-use Rattle.ion_scalar.specs.binary.Spellings.{var_uint_octets}
+use Rattle.ion_binary.specs.Names.{var_uint_octets}
 use Rattle.ion_binary.proofs.writer.framing.insert_length.Given as goal
 
 -- with the digits that are left, the octets are those with all

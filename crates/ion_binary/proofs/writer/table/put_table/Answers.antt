@@ -1,8 +1,7 @@
 use Rattle.std.proofs.Common.{rules, ◌≡◌, [], ◌∷◌, ◌++◌, Some, codes, drop, length, ap, ◌∙◌, append_assoc}
 use Rattle.std.specs.List.{flat_map}
 use Rattle.std.proofs.lemmas.Result.{on_ok_weaker}
-use Rattle.ion_scalar.specs.binary.Spellings.{uint_octets, var_uint_octets}
-use Rattle.ion_binary.specs.Output.{with_count, framed, named_octets, name_text}
+use Rattle.ion_binary.specs.Names.{framed, name_text, named_octets, uint_octets, var_uint_octets, with_count}
 use Rattle.ion_binary.proofs.Encoded.{framed_at}
 use Rattle.ion_binary.proofs.Tabled.{table_is}
 use Rattle.ion_binary.proofs.writer.table.put_table.Goals as goal

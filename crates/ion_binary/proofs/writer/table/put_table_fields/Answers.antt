@@ -2,8 +2,7 @@ use Rattle.std.proofs.Common.{◌++◌, Some, codes, drop, ap, ◌∙◌}
 use Rattle.std.specs.List.{flat_map}
 use Rattle.std.specs.Vec.{vec_len}
 use Rattle.std.proofs.lemmas.Result.{on_ok_weaker}
-use Rattle.ion_scalar.specs.binary.Spellings.{uint_octets, var_uint_octets}
-use Rattle.ion_binary.specs.Output.{Names, framed, named_octets, name_text}
+use Rattle.ion_binary.specs.Names.{Names, framed, name_text, named_octets, uint_octets, var_uint_octets}
 use Rattle.ion_binary.proofs.Appended.{appended_four, stands_before}
 use Rattle.ion_binary.proofs.Encoded.{framed_at}
 use Rattle.ion_binary.proofs.writer.table.put_table_fields.Goals as goal

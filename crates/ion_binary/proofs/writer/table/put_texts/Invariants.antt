@@ -1,6 +1,6 @@
 use Rattle.std.proofs.Common.{◌≡◌, ◌≤◌, ◌++◌, drop, length}
 use Rattle.std.specs.List.{flat_map}
-use Rattle.ion_binary.specs.Output.{framed, name_text}
+use Rattle.ion_binary.specs.Names.{framed, name_text}
 use Rattle.ion_binary.proofs.writer.table.put_texts.Given as goal
 
 -- the texts so far and those that are left are all

@@ -1,29 +1,18 @@
 -- What an octet of a scalar's body or of a pad leaves stands for the octets.
 use Rattle.std.proofs.Common.{◌≡◌, ℕ, zero, suc, List, [], ◌∷◌, ◌++◌, length, refl, ap, sym, ◌∙◌, subst, arith, length-append, append_assoc}
-use Rattle.ion_model.specs.declared.value.Value.{Value}
-use Rattle.ion_model.specs.Measures.{bare}
-use Rattle.ion_symtab.specs.declared.limits.Limits.{Limits}
-use Rattle.ion_symtab.specs.declared.catalog.Catalog.{Catalog}
-use Rattle.ion_binary.specs.declared.form.Form.TheVariants as forms
-use Rattle.ion_binary.specs.declared.form.Scalar.{Scalar}
-use Rattle.ion_binary.specs.machine.Frames.{Frame}
-use Rattle.ion_binary.specs.Grammar.{Header, skipped, is_scalar}
-use Rattle.ion_binary.specs.Judge.{judge}
-use Rattle.ion_binary.specs.Deciding.{Decides, bad_body}
-use Rattle.ion_binary.specs.laws.reading.Openings.{opened_open, may_begin, may_reach, ends_inside}
-use Rattle.ion_binary.specs.laws.reading.Judged.{judge_sound, scalar_flat}
-use Rattle.ion_binary.specs.machine.EachOctet.{Spot, under, deliver, proceed, on_body, on_pad}
-use Rattle.ion_binary.specs.laws.reading.Stands.{BodyMayEnd, BodyStands, Leaves}
-use Rattle.ion_binary.specs.machine.Pieces.{length-one}
+use Rattle.ion_binary.specs.Names.{Catalog, Decides, Form, Frame, Header, Limits, Scalar, Spot, Value, bad_body, bare, deliver, is_scalar, judge, length-one, on_body, on_pad, proceed, skipped, under}
 use Rattle.ion_binary.specs.machine.AtOnce.{body_more, pad_more}
 use Rattle.ion_binary.specs.laws.reading.Complete.{header_some}
-use Rattle.ion_binary.specs.laws.reading.sound.Bounds.{ends_back, named_struct, judged_leaves}
-use Rattle.ion_binary.specs.laws.reading.sound.Containers.{plain_comes, regroup, length_3, deliver_stands, skip_stands, shallow}
+use Rattle.ion_binary.specs.laws.reading.Judged.{judge_sound, scalar_flat}
+use Rattle.ion_binary.specs.laws.reading.Openings.{ends_inside, may_begin, may_reach, opened_open}
+use Rattle.ion_binary.specs.laws.reading.Stands.{BodyMayEnd, BodyStands, Leaves}
+use Rattle.ion_binary.specs.laws.reading.sound.Bounds.{ends_back, judged_leaves, named_struct}
+use Rattle.ion_binary.specs.laws.reading.sound.Containers.{deliver_stands, length_3, plain_comes, regroup, shallow, skip_stands}
 
 module _ (g : Catalog) (l : Limits) where
   -- on an octet of a body
   pub body_stands : (spot : Spot) (s : List Value) (fs : List Frame) (u : List ℕ) (b : ℕ) (t : Scalar) (n : ℕ) (came : List ℕ)
-      → BodyStands g l spot.start spot.context s fs (forms.Scalar t) n came u → spot.used ≡ length (u ++ b ∷ [])
+      → BodyStands g l spot.start spot.context s fs (Form.Scalar t) n came u → spot.used ≡ length (u ++ b ∷ [])
       → Leaves g l (u ++ b ∷ []) s (on_body (under g l) spot fs t n (came ++ b ∷ []))
   body_stands spot s fs u b t zero came o e =
       let whole : u ++ b ∷ [] ≡ o.before ++ (o.header ++ (came ++ b ∷ [])) = ap (λ x. x ++ b ∷ []) o.whole ∙ regroup o.before o.header came (b ∷ []) in
@@ -33,10 +22,10 @@ module _ (g : Catalog) (l : Limits) where
       let sizes = o.sizes in
       let ends = o.ends in
       let sh = shallow g l spot.start spot.context s fs o.before o.outer in
-      let some = header_some (forms.Scalar t) o.size o.header o.head in
+      let some = header_some (Form.Scalar t) o.size o.header o.head in
       let k3 = length-append o.before o.header in
       let sp = opened_open g l spot.start spot.context s fs o.before o.outer
-      (ends_inside l spot.start fs (forms.Scalar t) o.end (length o.before) o.room (omega arith)) in
+      (ends_inside l spot.start fs (Form.Scalar t) o.end (length o.before) o.room (omega arith)) in
       judged_leaves g l (u ++ b ∷ []) s spot fs (judge spot.context t (came ++ b ∷ []))
       (λ x j. subst (λ y. Decides g l y x) (append_assoc o.before o.header (came ++ b ∷ []) ∙ sym whole)
       (bad_body spot.context spot.start o.end sp.ks t (o.before ++ o.header) (came ++ b ∷ []) x
@@ -47,11 +36,11 @@ module _ (g : Catalog) (l : Limits) where
         parts = refl;
         outer = sp.open';
         begins =
-            may_begin spot.context fs sp.ks (forms.Scalar t) sp.match o.admits;
+            may_begin spot.context fs sp.ks (Form.Scalar t) sp.match o.admits;
         head = o.head;
         ends = omega arith;
         reaches =
-            may_reach l spot.start spot.context fs sp.ks (forms.Scalar t) o.end sp.match o.room;
+            may_reach l spot.start spot.context fs sp.ks (Form.Scalar t) o.end sp.match o.room;
       })
       (omega arith) (omega arith) j)) (λ p j.
       let is = judge_sound spot.context t (came ++ b ∷ []) p j in
@@ -60,9 +49,9 @@ module _ (g : Catalog) (l : Limits) where
       let here : o.end ≡ spot.used = omega arith in
       subst (λ y. Leaves g l y s (deliver (under g l) spot fs (bare p))) (sym whole)
       (deliver_stands g l spot s fs o.before (o.header ++ (came ++ b ∷ [])) (bare p) o.outer
-      (plain_comes spot.context fs _ _ (is_scalar o.header (came ++ b ∷ []) t p (subst (λ n. Header (forms.Scalar t) n o.header) full o.head) is))
-      (e ∙ ap length whole) (omega arith) (ends_back l spot.start fs (forms.Scalar t) spot.used refl
-      (subst (BodyMayEnd l spot.start fs (forms.Scalar t)) here o.room)) o.admits.receives (named_struct fs (forms.Scalar t) refl o.admits.named)))
+      (plain_comes spot.context fs _ _ (is_scalar o.header (came ++ b ∷ []) t p (subst (λ n. Header (Form.Scalar t) n o.header) full o.head) is))
+      (e ∙ ap length whole) (omega arith) (ends_back l spot.start fs (Form.Scalar t) spot.used refl
+      (subst (BodyMayEnd l spot.start fs (Form.Scalar t)) here o.room)) o.admits.receives (named_struct fs (Form.Scalar t) refl o.admits.named)))
   body_stands spot s fs u b t (suc n) came o e =
       let one = length-one came b in
       let sizes = o.sizes in
@@ -89,7 +78,7 @@ module _ (g : Catalog) (l : Limits) where
 
   -- what an octet of a pad leads to stands for the octets
   pub pad_stands : (spot : Spot) (s : List Value) (fs : List Frame) (u : List ℕ) (b n : ℕ) (came : List ℕ)
-      → BodyStands g l spot.start spot.context s fs forms.Pad n came u → spot.used ≡ length (u ++ b ∷ [])
+      → BodyStands g l spot.start spot.context s fs Form.Pad n came u → spot.used ≡ length (u ++ b ∷ [])
       → Leaves g l (u ++ b ∷ []) s (on_pad (under g l) spot fs n)
   pad_stands spot s fs u b zero came o e =
       let whole : u ++ b ∷ [] ≡ o.before ++ (o.header ++ (came ++ b ∷ [])) = ap (λ x. x ++ b ∷ []) o.whole ∙ regroup o.before o.header came (b ∷ []) in
@@ -102,8 +91,8 @@ module _ (g : Catalog) (l : Limits) where
       let here : o.end ≡ spot.used = omega arith in
       subst (λ y. Leaves g l y s (proceed (under g l) spot fs)) (sym whole)
       (skip_stands g l spot s fs o.before (o.header ++ (came ++ b ∷ [])) o.outer o.accepts.0 o.accepts.1
-      (skipped o.header (came ++ b ∷ []) (subst (λ n. Header forms.Pad n o.header) full o.head))
-      (e ∙ ap length whole) (subst (BodyMayEnd l spot.start fs forms.Pad) here o.room))
+      (skipped o.header (came ++ b ∷ []) (subst (λ n. Header Form.Pad n o.header) full o.head))
+      (e ∙ ap length whole) (subst (BodyMayEnd l spot.start fs Form.Pad) here o.room))
   pad_stands spot s fs u b (suc n) came o e =
       let one = length-one came b in
       let sizes = o.sizes in

@@ -1,25 +1,13 @@
 -- Octets that pass a test of the machine fit, in the grammar's words; for those that don't, a row of the table decides.
 use Rattle.std.proofs.Common.{◌≡◌, ℕ, ◌+◌, ◌≤◌, List, [], ◌∷◌, Result, Ok, Err, Option, Some, None, refl, sym, ◌∙◌, Bool, true, false, ◌||◌, cond, leb-true, ltb-true, eqb-true, nat_le}
-use Rattle.ion_model.specs.declared.value.Value.{Value}
-use Rattle.ion_model.specs.declared.value.Payload.{Payload}
-use Rattle.ion_atoms.specs.declared.refusal.Reason.{Reason}
-use Rattle.ion_atoms.specs.declared.refusal.Reason.TheVariants.{Malformed, ItemTooLong}
-use Rattle.ion_model.specs.Measures.{bare}
-use Rattle.ion_symtab.specs.declared.limits.Limits.{Limits}
-use Rattle.ion_symtab.specs.declared.catalog.Catalog.{Catalog}
-use Rattle.ion_binary.specs.declared.form.Form.{Form}
-use Rattle.ion_binary.specs.declared.form.Form.TheVariants as forms
-use Rattle.ion_binary.specs.machine.Frames.{Frame}
+use Rattle.ion_binary.specs.Names.{Catalog, Decides, Form, Frame, ItemTooLong, Limits, Malformed, Outcome, Payload, Reason, Spot, Value, bare, deliver, end_of, is_pad, is_wrapper, judged, misfits, nameless, or_else, stray, under, unending, unless}
 use Rattle.ion_binary.specs.machine.Frames as frames
-use Rattle.ion_binary.specs.Opening.{is_pad, is_wrapper}
-use Rattle.ion_binary.specs.Deciding.{Decides}
-use Rattle.ion_binary.specs.machine.EachOctet.{Spot, under, Outcome, end_of, deliver, unless, or_else, misfits, stray, nameless, unending, judged}
-use Rattle.ion_binary.specs.laws.reading.Stands.{BodyMayEnd, IsStructOf, IsBare, Receives, Accepts, Going, Leaves}
 use Rattle.ion_binary.specs.laws.reading.Openings.{some_none}
+use Rattle.ion_binary.specs.laws.reading.Stands.{Accepts, BodyMayEnd, Going, IsBare, IsStructOf, Leaves, Receives}
 
 -- all forms but a pad may end at the same places
 pub ends_back : (l : Limits) (start : ℕ) (fs : List Frame) (form : Form) (to : ℕ) → is_pad form ≡ false → BodyMayEnd l start fs form to
-    → BodyMayEnd l start fs forms.Struct to
+    → BodyMayEnd l start fs Form.Struct to
 ends_back l start [] form to i r = λ p. r i
 ends_back l start (frames.Annotated end ss ∷ fs) form to i r = r
 ends_back l start (frames.Items end x vs ∷ fs) form to i r = r
@@ -28,12 +16,12 @@ ends_back l start (frames.Named end ms name ∷ fs) form to i r = r
 
 -- a struct is no pad
 pub struct_sized : (form : Form) (n : ℕ) → IsStructOf form n → is_pad form ≡ false
-struct_sized forms.Pad n h = absurd h
-struct_sized (forms.Scalar t) n h = refl
-struct_sized (forms.Listing x) n h = refl
-struct_sized forms.Struct n h = refl
-struct_sized forms.OrderedStruct n h = refl
-struct_sized forms.Wrapper n h = refl
+struct_sized Form.Pad n h = absurd h
+struct_sized (Form.Scalar t) n h = refl
+struct_sized (Form.Listing x) n h = refl
+struct_sized Form.Struct n h = refl
+struct_sized Form.OrderedStruct n h = refl
+struct_sized Form.Wrapper n h = refl
 
 -- where a reason would be given unless a test held, and none is, the test holds
 pub cond_none : (b : Bool) (x : Reason) → cond b None (Some x) ≡ None → b ≡ true
@@ -72,15 +60,15 @@ stray_bare (frames.Named end ms name ∷ fs) form i h = tt
 
 -- where values may come and a form is not astray, the innermost container accepts it
 pub stray_accepts : (fs : List Frame) (form : Form) → Receives fs → stray fs form ≡ None → Accepts form fs
-stray_accepts fs forms.Pad r h = (r, stray_bare fs forms.Pad refl h)
-stray_accepts fs forms.Wrapper r h = stray_bare fs forms.Wrapper refl h
-stray_accepts fs (forms.Scalar t) r h = tt
-stray_accepts fs (forms.Listing x) r h = tt
-stray_accepts fs forms.Struct r h = tt
-stray_accepts fs forms.OrderedStruct r h = tt
+stray_accepts fs Form.Pad r h = (r, stray_bare fs Form.Pad refl h)
+stray_accepts fs Form.Wrapper r h = stray_bare fs Form.Wrapper refl h
+stray_accepts fs (Form.Scalar t) r h = tt
+stray_accepts fs (Form.Listing x) r h = tt
+stray_accepts fs Form.Struct r h = tt
+stray_accepts fs Form.OrderedStruct r h = tt
 
 -- what is no pad needs the same of a name
-pub named_struct : (fs : List Frame) (form : Form) → is_pad form ≡ false → nameless fs form ≡ None → nameless fs forms.Struct ≡ None
+pub named_struct : (fs : List Frame) (form : Form) → is_pad form ≡ false → nameless fs form ≡ None → nameless fs Form.Struct ≡ None
 named_struct [] form p h = refl
 named_struct (frames.Annotated end ss ∷ fs) form p h = refl
 named_struct (frames.Items end x vs ∷ fs) form p h = refl

@@ -1,30 +1,13 @@
 -- A value or a pad that ends, and each container that ends with it, stands for its octets.
 use Rattle.std.proofs.Common.{◌≡◌, ℕ, ◌+◌, ◌≤◌, List, [], ◌∷◌, ◌++◌, length, Result, Ok, Err, Some, None, refl, ap, sym, ◌∙◌, subst, arith, length-append, true, append_assoc, append-nil, eqb-true, ◌==◌}
 use Rattle.std.proofs.lemmas.Bool.{cond_both, eqb-false}
-use Rattle.ion_model.specs.declared.value.Value.{Value}
-use Rattle.ion_model.specs.declared.value.Field.{Field}
-use Rattle.ion_model.specs.declared.value.Payload.{Payload}
+use Rattle.ion_binary.specs.Names.{Binary, Catalog, Field, Fields, Form, Frame, Header, IsPad, Limits, Listing, Payload, Pieces, Plain, Reason, Slot, Spot, Value, annotated, bad_table, bare, deliver, depth, field_of, holds, is_listing, is_ordered, is_struct, is_table, levels, listed, nameless, next, none, one_field, one_more, padded, padded_field, proceed, skips, turned, turns, unannotated, under, wrapped}
 use Rattle.ion_model.specs.declared.value.Payload.TheVariants as payloads
-use Rattle.ion_atoms.specs.declared.refusal.Reason.{Reason}
-use Rattle.ion_model.specs.Measures.{depth, bare, annotated, field_of}
 use Rattle.ion_model.specs.laws.Measures.{deepest-more, depth-out}
-use Rattle.ion_model.specs.Kinds.{is_table}
-use Rattle.ion_symtab.specs.declared.limits.Limits.{Limits}
-use Rattle.ion_symtab.specs.declared.catalog.Catalog.{Catalog}
-use Rattle.ion_symtab.specs.Slots.{Slot}
-use Rattle.ion_symtab.specs.Next.{next}
-use Rattle.ion_scalar.specs.binary.Fields.{none}
-use Rattle.ion_binary.specs.declared.form.Form.{Form}
-use Rattle.ion_binary.specs.declared.form.Form.TheVariants as forms
-use Rattle.ion_binary.specs.declared.form.Listing.{Listing}
-use Rattle.ion_binary.specs.machine.Frames.{Frame}
 use Rattle.ion_binary.specs.machine.Frames as frames
-use Rattle.ion_binary.specs.Grammar.{Header, IsPad, listed, Plain, is_listing, is_struct, is_ordered, Binary, unannotated, wrapped, one_more, padded, Fields, one_field, padded_field, Pieces, skips, turns, holds}
-use Rattle.ion_binary.specs.Deciding.{bad_table}
-use Rattle.ion_binary.specs.machine.EachOctet.{Spot, under, levels, turned, deliver, proceed, nameless}
-use Rattle.ion_binary.specs.laws.reading.Stands.{BodyMayEnd, IsStructOf, InFields, IsBare, Opened, Receives, Leaves}
-use Rattle.ion_binary.specs.laws.reading.Complete.{depth-listed, depth-fields, field_deepest-more}
-use Rattle.ion_binary.specs.laws.reading.sound.Bounds.{ends_back, struct_sized, named_struct}
+use Rattle.ion_binary.specs.laws.reading.Complete.{depth-fields, depth-listed, field_deepest-more}
+use Rattle.ion_binary.specs.laws.reading.Stands.{BodyMayEnd, InFields, IsBare, IsStructOf, Leaves, Opened, Receives}
+use Rattle.ion_binary.specs.laws.reading.sound.Bounds.{ends_back, named_struct, struct_sized}
 
 -- a value that may come in these frames: in a wrapper one without annotations
 abbrev Comes : List Slot → List Frame → List ℕ → Value → Type 0
@@ -49,12 +32,12 @@ binary_comes c (frames.Named end ms name ∷ fs) w v i h = h
 -- a whole struct
 struct_is : (c : List Slot) (form : Form) (n : ℕ) (h body : List ℕ) (ms : List Field) → IsStructOf form n → Header form n h → n ≡ length body → Fields c body ms
     → Plain c (h ++ body) (payloads.Fields ms)
-struct_is c forms.Struct n h body ms i d e b = is_struct h body ms (subst (λ n. Header forms.Struct n h) e d) b
-struct_is c forms.OrderedStruct n h body ms i d e b = is_ordered h body ms (subst (λ n. Header forms.OrderedStruct n h) e d) (omega arith) b
-struct_is c forms.Pad n h body ms i d e b = absurd i
-struct_is c (forms.Scalar t) n h body ms i d e b = absurd i
-struct_is c (forms.Listing x) n h body ms i d e b = absurd i
-struct_is c forms.Wrapper n h body ms i d e b = absurd i
+struct_is c Form.Struct n h body ms i d e b = is_struct h body ms (subst (λ n. Header Form.Struct n h) e d) b
+struct_is c Form.OrderedStruct n h body ms i d e b = is_ordered h body ms (subst (λ n. Header Form.OrderedStruct n h) e d) (omega arith) b
+struct_is c Form.Pad n h body ms i d e b = absurd i
+struct_is c (Form.Scalar t) n h body ms i d e b = absurd i
+struct_is c (Form.Listing x) n h body ms i d e b = absurd i
+struct_is c Form.Wrapper n h body ms i d e b = absurd i
 
 -- three pieces, bracketed from the right
 pub regroup : (a b c d : List ℕ) → a ++ (b ++ c) ++ d ≡ a ++ (b ++ (c ++ d))
@@ -77,7 +60,7 @@ module _ (g : Catalog) (l : Limits) where
   -- the adding of a value, in these frames
   abbrev Adds : Spot → List Value → List Frame → Type 0
   Adds spot s fs = (u w : List ℕ) (v : Value) → Opened g l spot.start spot.context s fs u → Comes spot.context fs w v → spot.used ≡ length (u ++ w)
-      → depth v + levels fs ≤ l.depth → BodyMayEnd l spot.start fs forms.Struct spot.used → Receives fs → nameless fs forms.Struct ≡ None
+      → depth v + levels fs ≤ l.depth → BodyMayEnd l spot.start fs Form.Struct spot.used → Receives fs → nameless fs Form.Struct ≡ None
       → Leaves g l (u ++ w) s (deliver (under g l) spot fs v)
 
   -- a list or s-expression goes on, or ends here
@@ -98,10 +81,10 @@ module _ (g : Catalog) (l : Limits) where
       o.whole ∙ (ap (λ y. y ++ o.body) o.box.whole ∙ append_assoc o.box.before o.box.header o.body) in
       subst (λ y. Leaves g l y s (deliver (under g l) spot fs (bare (listed x vs)))) (sym outside)
       (k o.box.before (o.box.header ++ o.body) (bare (listed x vs)) o.box.outer
-      (plain_comes spot.context fs _ _ (is_listing o.box.header o.body x vs (subst (λ n. Header (forms.Listing x) n o.box.header) full o.box.head) o.items))
-      (e ∙ ap length outside) (omega arith) (ends_back l spot.start fs (forms.Listing x) spot.used refl
-      (subst (BodyMayEnd l spot.start fs (forms.Listing x)) (sym here) o.box.room)) o.box.admits.receives
-      (named_struct fs (forms.Listing x) refl o.box.admits.named)))
+      (plain_comes spot.context fs _ _ (is_listing o.box.header o.body x vs (subst (λ n. Header (Form.Listing x) n o.box.header) full o.box.head) o.items))
+      (e ∙ ap length outside) (omega arith) (ends_back l spot.start fs (Form.Listing x) spot.used refl
+      (subst (BodyMayEnd l spot.start fs (Form.Listing x)) (sym here) o.box.room)) o.box.admits.receives
+      (named_struct fs (Form.Listing x) refl o.box.admits.named)))
       (λ h. let apart = eqb-false spot.used end h in let in_it = o.within in
       record { used = e; standing = record { opened = o; receives = tt; more = omega arith } })
 
@@ -159,9 +142,9 @@ module _ (g : Catalog) (l : Limits) where
       subst (λ y. Leaves g l y s (deliver (under g l) spot fs (annotated ss v.payload))) (sym outside)
       (deliver_stands spot s fs o.box.before (o.box.header ++ (o.count ++ (o.ids ++ w))) (annotated ss v.payload) o.box.outer
       (binary_comes spot.context fs _ _ o.bare (wrapped o.box.header o.count o.ids w ss v.payload
-      (subst (λ n. Header forms.Wrapper n o.box.header) full o.box.head) o.number o.some o.symbols b))
-      (e ∙ ap length outside) (omega arith) (ends_back l spot.start fs forms.Wrapper spot.used refl
-      (subst (BodyMayEnd l spot.start fs forms.Wrapper) (sym r) o.box.room)) o.box.admits.receives (named_struct fs forms.Wrapper refl o.box.admits.named))
+      (subst (λ n. Header Form.Wrapper n o.box.header) full o.box.head) o.number o.some o.symbols b))
+      (e ∙ ap length outside) (omega arith) (ends_back l spot.start fs Form.Wrapper spot.used refl
+      (subst (BodyMayEnd l spot.start fs Form.Wrapper) (sym r) o.box.room)) o.box.admits.receives (named_struct fs Form.Wrapper refl o.box.admits.named))
   deliver_stands spot s (frames.Named end ms (Err x) ∷ fs) u w v o b e d r rc nm = absurd (let q : Some x ≡ None = nm in cc)
   deliver_stands spot s (frames.Named end ms (Ok n) ∷ fs) u w v o b e d r rc nm =
       let i = o.inside in
@@ -199,7 +182,7 @@ module _ (g : Catalog) (l : Limits) where
 
   -- a pad ends here
   pub skip_stands : (spot : Spot) (s : List Value) (fs : List Frame) (u w : List ℕ) → Opened g l spot.start spot.context s fs u → Receives fs → IsBare fs
-      → IsPad w → spot.used ≡ length (u ++ w) → BodyMayEnd l spot.start fs forms.Pad spot.used
+      → IsPad w → spot.used ≡ length (u ++ w) → BodyMayEnd l spot.start fs Form.Pad spot.used
       → Leaves g l (u ++ w) s (proceed (under g l) spot fs)
   skip_stands spot s [] u w o i y b e r = record { used = e; standing = record { opened = (skips u w s spot.context o.0 b, sym e); receives = tt; more = tt } }
   skip_stands spot s (frames.Fields end ms ∷ fs) u w o i y b e r = absurd i

@@ -1,37 +1,17 @@
 -- What a descriptor leaves stands for the octets, and so does what the end of a header begins.
 use Rattle.std.proofs.Common.{◌≡◌, ℕ, zero, suc, ◌+◌, ◌≤◌, List, [], ◌∷◌, ◌++◌, length, Some, None, refl, ap, sym, ◌∙◌, subst, inr, arith, length-append, false, append-nil, ltb-true, ltb-false, nat_lt}
 use Rattle.std.proofs.lemmas.Bool.{cond_both}
-use Rattle.ion_model.specs.declared.value.Value.{Value}
-use Rattle.ion_model.specs.declared.value.Payload.{Payload}
+use Rattle.ion_binary.specs.Names.{Catalog, Decides, Depth, Follows, Form, Frame, Header, IsPad, Known, Limits, Malformed, Marker, Null, Opening, Payload, Plain, Reason, Refused, Sized, Slot, Spot, Truth, Value, a_null, a_truth, bad_empty_body, bare, begin, by_descriptor, deliver, depth, hollow, is_null, is_scalar, is_truth, judge, length-one, levels, misfits, nameless, no_descriptor, no_fields, none, nothing, on_descriptor, one_octet, open_struct, opening_of, or_else, short, sized, skipped, stray, under, unending, unfit}
 use Rattle.ion_model.specs.declared.value.Payload.TheVariants as payloads
-use Rattle.ion_atoms.specs.declared.refusal.Reason.{Reason}
-use Rattle.ion_atoms.specs.declared.refusal.Reason.TheVariants.{Malformed, Depth}
-use Rattle.ion_model.specs.Measures.{depth, bare}
 use Rattle.ion_model.specs.laws.Measures.{depth-Null, depth-Truth}
-use Rattle.ion_symtab.specs.declared.limits.Limits.{Limits}
-use Rattle.ion_symtab.specs.declared.catalog.Catalog.{Catalog}
-use Rattle.ion_symtab.specs.Slots.{Slot}
-use Rattle.ion_scalar.specs.declared.descriptor.Size.TheVariants.{Known, Follows}
-use Rattle.ion_scalar.specs.binary.Fields.{none}
-use Rattle.ion_binary.specs.declared.form.Form.{Form}
-use Rattle.ion_binary.specs.declared.form.Form.TheVariants as forms
-use Rattle.ion_binary.specs.declared.form.Opening.{Opening}
-use Rattle.ion_binary.specs.declared.form.Opening.TheVariants.{Refused, Marker, Null, Truth, Sized}
-use Rattle.ion_binary.specs.machine.Frames.{Frame}
-use Rattle.ion_binary.specs.Opening.{opening_of}
-use Rattle.ion_binary.specs.Grammar.{Header, short, IsPad, skipped, Plain, is_null, is_truth, is_scalar, nothing, no_fields}
-use Rattle.ion_binary.specs.Judge.{judge}
 use Rattle.ion_binary.specs.Deciding as deciding
-use Rattle.ion_binary.specs.Deciding.{Decides, bad_empty_body, no_descriptor, a_null, a_truth, by_descriptor}
-use Rattle.ion_binary.specs.laws.reading.Openings.{opened_open, takes}
-use Rattle.ion_binary.specs.laws.reading.RefusedRows.{HeaderEnds, hollow_row, short_row, one_row, unending_row, follows_stray, follows_name, marker_row, deep_row}
+use Rattle.ion_binary.specs.laws.reading.Complete.{begin_ordered, begin_pad, begin_scalar, begin_wrapper}
 use Rattle.ion_binary.specs.laws.reading.Judged.{judge_sound, scalar_flat}
-use Rattle.ion_binary.specs.machine.EachOctet.{Spot, under, levels, deliver, or_else, misfits, stray, nameless, unending, unfit, hollow, open_struct, begin, sized, one_octet, on_descriptor}
-use Rattle.ion_binary.specs.laws.reading.Stands.{Inside, Fitting, BodyMayEnd, Box, IsStructOf, Opened, Receives, Accepts, AwaitsDescriptor, Going, Leaves}
-use Rattle.ion_binary.specs.machine.Pieces.{length-one}
-use Rattle.ion_binary.specs.laws.reading.Complete.{begin_scalar, begin_pad, begin_ordered, begin_wrapper}
-use Rattle.ion_binary.specs.laws.reading.sound.Bounds.{ends_back, misfits_ends, unending_going, or_none, stray_accepts, named_struct, unless_leaves, judged_leaves}
-use Rattle.ion_binary.specs.laws.reading.sound.Containers.{plain_comes, items_stand, fields_stand, deliver_stands, skip_stands, shallow}
+use Rattle.ion_binary.specs.laws.reading.Openings.{opened_open, takes}
+use Rattle.ion_binary.specs.laws.reading.RefusedRows.{HeaderEnds, deep_row, follows_name, follows_stray, hollow_row, marker_row, one_row, short_row, unending_row}
+use Rattle.ion_binary.specs.laws.reading.Stands.{Accepts, AwaitsDescriptor, BodyMayEnd, Box, Fitting, Going, Inside, IsStructOf, Leaves, Opened, Receives}
+use Rattle.ion_binary.specs.laws.reading.sound.Bounds.{ends_back, judged_leaves, misfits_ends, named_struct, or_none, stray_accepts, unending_going, unless_leaves}
+use Rattle.ion_binary.specs.laws.reading.sound.Containers.{deliver_stands, fields_stand, items_stand, plain_comes, shallow, skip_stands}
 use Rattle.ion_binary.specs.laws.reading.sound.Markers.{marker_is}
 
 module _ (g : Catalog) (l : Limits) where
@@ -68,9 +48,9 @@ module _ (g : Catalog) (l : Limits) where
       → Accepts form fs → Header form n h → spot.used ≡ length (u ++ h) → BodyMayEnd l spot.start fs form (spot.used + n) → Fitting fs form
       → HeaderEnds g l spot.context spot.start fs form n (u ++ h) → hollow form n ≡ None
       → Leaves g l (u ++ h) s (begin (under g l) spot fs form n)
-  begin_stands spot s fs u h forms.Pad zero o a d e r ad hr h0 =
-      skip_stands g l spot s fs u h o a.0 a.1 (subst IsPad (append-nil h) (skipped h [] d)) e (subst (BodyMayEnd l spot.start fs forms.Pad) (omega arith) r)
-  begin_stands spot s fs u h forms.Pad (suc n) o a d e r ad hr h0 =
+  begin_stands spot s fs u h Form.Pad zero o a d e r ad hr h0 =
+      skip_stands g l spot s fs u h o a.0 a.1 (subst IsPad (append-nil h) (skipped h [] d)) e (subst (BodyMayEnd l spot.start fs Form.Pad) (omega arith) r)
+  begin_stands spot s fs u h Form.Pad (suc n) o a d e r ad hr h0 =
       let k = length-append u h in
       subst (Leaves g l (u ++ h) s) (sym (begin_pad g l spot fs n))
       (record {
@@ -94,16 +74,16 @@ module _ (g : Catalog) (l : Limits) where
           },
         );
       })
-  begin_stands spot s fs u h (forms.Scalar t) zero o a d e r ad hr h0 =
+  begin_stands spot s fs u h (Form.Scalar t) zero o a d e r ad hr h0 =
       let sh = shallow g l spot.start spot.context s fs u o in
       judged_leaves g l (u ++ h) s spot fs (judge spot.context t []) (λ x j. bad_empty_body spot.context spot.start hr.ks t (u ++ h) x hr.ends j) (λ p j.
       let is = judge_sound spot.context t [] p j in
       let flat = scalar_flat spot.context [] t p is in
       deliver_stands g l spot s fs u h (bare p) o (plain_comes spot.context fs h p (subst (λ x. Plain spot.context x p) (append-nil h)
       (is_scalar h [] t p d is))) e (omega arith)
-      (ends_back l spot.start fs (forms.Scalar t) spot.used refl (subst (BodyMayEnd l spot.start fs (forms.Scalar t)) (omega arith) r)) ad.receives
-      (named_struct fs (forms.Scalar t) refl ad.named))
-  begin_stands spot s fs u h (forms.Scalar t) (suc n) o a d e r ad hr h0 =
+      (ends_back l spot.start fs (Form.Scalar t) spot.used refl (subst (BodyMayEnd l spot.start fs (Form.Scalar t)) (omega arith) r)) ad.receives
+      (named_struct fs (Form.Scalar t) refl ad.named))
+  begin_stands spot s fs u h (Form.Scalar t) (suc n) o a d e r ad hr h0 =
       let k = length-append u h in
       subst (Leaves g l (u ++ h) s) (sym (begin_scalar g l spot fs t n))
       (record {
@@ -124,7 +104,7 @@ module _ (g : Catalog) (l : Limits) where
           room = r;
         };
       })
-  begin_stands spot s fs u h (forms.Listing x) n o a d e r ad hr h0 =
+  begin_stands spot s fs u h (Form.Listing x) n o a d e r ad hr h0 =
       cond_both (nat_lt (levels fs) l.depth) _ _ (Leaves g l (u ++ h) s)
       (λ j. let deep = ltb-true (levels fs) l.depth j in
       items_stand g l spot s fs (u ++ h) (spot.used + n) x [] (deliver_stands g l spot s fs)
@@ -133,22 +113,22 @@ module _ (g : Catalog) (l : Limits) where
         body = [];
         whole = sym (append-nil (u ++ h));
         box =
-            boxed spot.start spot.context s fs u h (forms.Listing x) n (spot.used + n) o d (omega arith) r ad;
+            boxed spot.start spot.context s fs u h (Form.Listing x) n (spot.used + n) o d (omega arith) r ad;
         items = nothing;
         deep = omega arith;
         within =
             omega arith;
       }) e)
-      (λ j. deep_row g l spot.context spot.start fs (forms.Listing x) n (u ++ h) hr tt (ltb-false (levels fs) l.depth j))
-  begin_stands spot s fs u h forms.Struct n o a d e r ad hr h0 =
-      struct_begins spot s fs u h forms.Struct n tt o d e r ad (λ j. deep_row g l spot.context spot.start fs forms.Struct n (u ++ h) hr tt j)
-  begin_stands spot s fs u h forms.OrderedStruct zero o a d e r ad hr h0 = let q : Some Malformed ≡ None = h0 in absurd cc
-  begin_stands spot s fs u h forms.OrderedStruct (suc n) o a d e r ad hr h0 =
+      (λ j. deep_row g l spot.context spot.start fs (Form.Listing x) n (u ++ h) hr tt (ltb-false (levels fs) l.depth j))
+  begin_stands spot s fs u h Form.Struct n o a d e r ad hr h0 =
+      struct_begins spot s fs u h Form.Struct n tt o d e r ad (λ j. deep_row g l spot.context spot.start fs Form.Struct n (u ++ h) hr tt j)
+  begin_stands spot s fs u h Form.OrderedStruct zero o a d e r ad hr h0 = let q : Some Malformed ≡ None = h0 in absurd cc
+  begin_stands spot s fs u h Form.OrderedStruct (suc n) o a d e r ad hr h0 =
       subst (Leaves g l (u ++ h) s) (sym (begin_ordered g l spot fs (suc n)))
-      (struct_begins spot s fs u h forms.OrderedStruct (suc n) (omega arith) o d e r ad
-      (λ j. deep_row g l spot.context spot.start fs forms.OrderedStruct (suc n) (u ++ h) hr tt j))
-  begin_stands spot s fs u h forms.Wrapper zero o a d e r ad hr h0 = let q : Some Malformed ≡ None = h0 in absurd cc
-  begin_stands spot s fs u h forms.Wrapper (suc n) o a d e r ad hr h0 =
+      (struct_begins spot s fs u h Form.OrderedStruct (suc n) (omega arith) o d e r ad
+      (λ j. deep_row g l spot.context spot.start fs Form.OrderedStruct (suc n) (u ++ h) hr tt j))
+  begin_stands spot s fs u h Form.Wrapper zero o a d e r ad hr h0 = let q : Some Malformed ≡ None = h0 in absurd cc
+  begin_stands spot s fs u h Form.Wrapper (suc n) o a d e r ad hr h0 =
       subst (Leaves g l (u ++ h) s) (sym (begin_wrapper g l spot fs (suc n)))
       (record {
         used = e;
@@ -157,7 +137,7 @@ module _ (g : Catalog) (l : Limits) where
           digits = [];
           whole = sym (append-nil (u ++ h));
           box =
-              boxed spot.start spot.context s fs u h forms.Wrapper (suc n) (spot.used + suc n) o d (omega arith) r ad;
+              boxed spot.start spot.context s fs u h Form.Wrapper (suc n) (spot.used + suc n) o d (omega arith) r ad;
           bare = a;
           none_yet = refl;
           small =
@@ -187,18 +167,18 @@ module _ (g : Catalog) (l : Limits) where
   one_stands : (spot : Spot) (s : List Value) (fs : List Frame) (u : List ℕ) (b : ℕ) (p : Payload) → Opened g l spot.start spot.context s fs u
       → spot.used ≡ length (u ++ b ∷ []) → Plain spot.context (b ∷ []) p → depth (bare p) ≡ 0 → Receives fs → Inside fs (length u)
       → ((ks : _) → deciding.Open g l spot.context spot.start ks u → deciding.TakesValue ks
-      → deciding.Reaches g l spot.context spot.start ks false (length u + 1) (u ++ b ∷ [])) → ((size : _) → opening_of b ≡ Sized forms.Pad size → ⊥)
+      → deciding.Reaches g l spot.context spot.start ks false (length u + 1) (u ++ b ∷ [])) → ((size : _) → opening_of b ≡ Sized Form.Pad size → ⊥)
       → Leaves g l (u ++ b ∷ []) s (one_octet (under g l) spot fs p)
   one_stands spot s fs u b p o e is flat rc inner reach nopad =
       let sh = shallow g l spot.start spot.context s fs u o in
       let sp = opened_open g l spot.start spot.context s fs u o inner in
-      unless_leaves g l (u ++ b ∷ []) s (deliver (under g l) spot fs (bare p)) (unfit l.item spot.start fs forms.Struct spot.used)
+      unless_leaves g l (u ++ b ∷ []) s (deliver (under g l) spot fs (bare p)) (unfit l.item spot.start fs Form.Struct spot.used)
       (λ x i. one_row g l spot.context spot.start fs sp.ks u b sp.match sp.open' (reach sp.ks sp.open' (takes spot.context fs sp.ks sp.match rc)) nopad x
-      (ap (λ k. unfit l.item spot.start fs forms.Struct k) (sym (e ∙ length-one u b)) ∙ i)) (λ j.
-      let j1 = or_none (stray fs forms.Struct) (or_else (misfits l.item spot.start fs forms.Struct spot.used) (nameless fs forms.Struct)) j in
-      let j2 = or_none (misfits l.item spot.start fs forms.Struct spot.used) (nameless fs forms.Struct) j1.1 in
+      (ap (λ k. unfit l.item spot.start fs Form.Struct k) (sym (e ∙ length-one u b)) ∙ i)) (λ j.
+      let j1 = or_none (stray fs Form.Struct) (or_else (misfits l.item spot.start fs Form.Struct spot.used) (nameless fs Form.Struct)) j in
+      let j2 = or_none (misfits l.item spot.start fs Form.Struct spot.used) (nameless fs Form.Struct) j1.1 in
       deliver_stands g l spot s fs u (b ∷ []) (bare p) o (plain_comes spot.context fs (b ∷ []) p is) e (omega arith)
-      (misfits_ends l spot.start fs forms.Struct spot.used j2.0) rc j2.1)
+      (misfits_ends l spot.start fs Form.Struct spot.used j2.0) rc j2.1)
 
   -- on a descriptor
   pub descriptor_stands : (spot : Spot) (s : List Value) (fs : List Frame) (u : List ℕ) (b : ℕ) (d : Opening) → opening_of b ≡ d
@@ -227,9 +207,9 @@ module _ (g : Catalog) (l : Limits) where
       let sp = opened_open g l spot.start spot.context s (f ∷ fs) u o.opened o.more in
       marker_row g l spot.context spot.start f fs sp.ks u b sp.match sp.open' (takes spot.context (f ∷ fs) sp.ks sp.match o.receives) i
   descriptor_stands spot s fs u b (Null k) i o e = one_stands spot s fs u b (payloads.Null k) o.opened e (is_null b k i) (depth-Null k) o.receives o.more
-      (λ ks x t. a_null u b k x t i) (λ size q. let z : Null k ≡ Sized forms.Pad size = sym i ∙ q in cc)
+      (λ ks x t. a_null u b k x t i) (λ size q. let z : Null k ≡ Sized Form.Pad size = sym i ∙ q in cc)
   descriptor_stands spot s fs u b (Truth k) i o e = one_stands spot s fs u b (payloads.Truth k) o.opened e (is_truth b k i) (depth-Truth k) o.receives o.more
-      (λ ks x t. a_truth u b k x t i) (λ size q. let z : Truth k ≡ Sized forms.Pad size = sym i ∙ q in cc)
+      (λ ks x t. a_truth u b k x t i) (λ size q. let z : Truth k ≡ Sized Form.Pad size = sym i ∙ q in cc)
   descriptor_stands spot s fs u b (Sized form (Known n)) i o e =
       let sp = opened_open g l spot.start spot.context s fs u o.opened o.more in
       let t = takes spot.context fs sp.ks sp.match o.receives in

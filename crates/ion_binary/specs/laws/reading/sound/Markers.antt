@@ -1,43 +1,17 @@
 -- What an octet of a version marker leaves stands for the octets.
 use Rattle.std.proofs.Common.{◌≡◌, ℕ, ◌+◌, ◌/◌, ◌%◌, List, [], ◌∷◌, ◌++◌, length, Result, Ok, Err, refl, ap, sym, ◌∙◌, subst, subst₂, inl, inr, arith, Bool, true, false, ◌&&◌, ◌||◌, cond, append_assoc, eqb-true, eq-eqb, ◌==◌}
 use Rattle.std.proofs.lemmas.Bool.{cond_both, eqb-false}
-use Rattle.ion_model.specs.declared.value.Value.{Value}
-use Rattle.ion_atoms.specs.declared.refusal.Reason.{Reason}
-use Rattle.ion_atoms.specs.declared.refusal.Reason.TheVariants.{Malformed, Float, Version}
-use Rattle.ion_symtab.specs.declared.limits.Limits.{Limits}
-use Rattle.ion_symtab.specs.declared.catalog.Catalog.{Catalog}
-use Rattle.ion_symtab.specs.Slots.{Slot, system_slots}
-use Rattle.ion_scalar.specs.declared.descriptor.Size.{Size}
-use Rattle.ion_scalar.specs.declared.descriptor.Size.TheVariants.{Known, Follows}
-use Rattle.ion_scalar.specs.declared.descriptor.Descriptor.{Descriptor}
-use Rattle.ion_scalar.specs.declared.descriptor.Descriptor.TheVariants as descriptors
-use Rattle.ion_scalar.specs.binary.Descriptor.{descriptor_of, typed, size, kind}
-use Rattle.ion_binary.specs.declared.form.Form.{Form}
-use Rattle.ion_binary.specs.declared.form.Form.TheVariants as forms
-use Rattle.ion_binary.specs.declared.form.Listing.TheVariants as listings
-use Rattle.ion_binary.specs.declared.form.Scalar.{Scalar}
-use Rattle.ion_binary.specs.declared.form.Scalar.TheVariants as scalars
-use Rattle.ion_binary.specs.declared.form.Opening.{Opening}
-use Rattle.ion_binary.specs.declared.form.Opening.TheVariants.{Refused, Marker, Sized}
-use Rattle.ion_binary.specs.machine.Frames.{Frame}
-use Rattle.ion_binary.specs.declared.state.Mark.{Mark}
-use Rattle.ion_binary.specs.declared.state.Mark.TheVariants.{First, Second, Third, Fourth}
-use Rattle.ion_binary.specs.declared.state.Phase.TheVariants.{Ready}
-use Rattle.ion_binary.specs.Opening.{opening_of, opens, body_of, with_octets}
-use Rattle.ion_binary.specs.Grammar.{Pieces, begins, marked, the_marker}
-use Rattle.ion_binary.specs.Deciding as deciding
-use Rattle.ion_binary.specs.Deciding.{Decides, no_marker, other_marker, other_version}
-use Rattle.ion_binary.specs.machine.EachOctet.{Spot, anew, goes, refuses, at, on_marker}
-use Rattle.ion_binary.specs.laws.reading.Stands.{MarkCame, AtFirst, marker_front, Front, marker_place, IfGood, MarkerStands, MachineStands, Leaves}
-use Rattle.ion_binary.specs.machine.Pieces.{length-one}
+use Rattle.ion_binary.specs.Names.{Catalog, Decides, Descriptor, First, Float, Follows, Form, Fourth, Frame, Known, Limits, Listing, Malformed, Mark, Marker, Opening, Pieces, Ready, Reason, Refused, Scalar, Second, Size, Sized, Slot, Spot, Third, Value, Version, anew, at, begins, body_of, descriptor_of, goes, kind, length-one, marked, no_marker, on_marker, opening_of, opens, other_marker, other_version, refuses, size, system_slots, the_marker, typed, with_octets}
 use Rattle.ion_symtab.specs.laws.Reasons.{either}
+use Rattle.ion_binary.specs.Deciding as deciding
+use Rattle.ion_binary.specs.laws.reading.Stands.{AtFirst, Front, IfGood, Leaves, MachineStands, MarkCame, MarkerStands, marker_front, marker_place}
 
 -- no descriptor but E0 is the marker
 
 with_marker : (t : Scalar) (z : Size) → with_octets t z ≡ Marker → ⊥
 with_marker t (Known n) =
     let P : Opening → Type 0 = λ o. o ≡ Marker → ⊥ in
-    let sized_no : P (Sized (forms.Scalar t) (Known n)) = λ e. cc in
+    let sized_no : P (Sized (Form.Scalar t) (Known n)) = λ e. cc in
     let refused_no : P (Refused Malformed) = λ e. cc in
     either P (n == 0) _ _ refused_no sized_no
 with_marker t Follows = λ e. cc
@@ -47,35 +21,35 @@ body_no_marker code z =
     let P : Opening → Type 0 = λ o. o ≡ Marker → ⊥ in
     let no : (form : Form) → P (Sized form z) = λ form e. cc in
     let refused_no : P (Refused Malformed) = λ e. cc in
-    either P (code == 2) _ _ (no (forms.Scalar scalars.Int))
-    (either P (code == 3) _ _ (with_marker scalars.NegativeInt z)
-    (either P (code == 5) _ _ (no (forms.Scalar scalars.Decimal)) (either P (code == 6) _ _ (with_marker scalars.Timestamp z)
-    (either P (code == 7) _ _ (no (forms.Scalar scalars.Symbol))
-    (either P (code == 8) _ _ (no (forms.Scalar scalars.Str))
-    (either P (code == 9) _ _ (no (forms.Scalar scalars.Clob)) (either P (code == 10) _ _ (no (forms.Scalar scalars.Blob))
-    (either P (code == 11) _ _ (no (forms.Listing listings.List))
-    (either P (code == 12) _ _ (no (forms.Listing listings.Sexp))
-    (either P (code == 13) _ _ (no forms.Struct) (either P (code == 14) _ _ (no forms.Wrapper) refused_no)))))))))))
+    either P (code == 2) _ _ (no (Form.Scalar Scalar.Int))
+    (either P (code == 3) _ _ (with_marker Scalar.NegativeInt z)
+    (either P (code == 5) _ _ (no (Form.Scalar Scalar.Decimal)) (either P (code == 6) _ _ (with_marker Scalar.Timestamp z)
+    (either P (code == 7) _ _ (no (Form.Scalar Scalar.Symbol))
+    (either P (code == 8) _ _ (no (Form.Scalar Scalar.Str))
+    (either P (code == 9) _ _ (no (Form.Scalar Scalar.Clob)) (either P (code == 10) _ _ (no (Form.Scalar Scalar.Blob))
+    (either P (code == 11) _ _ (no (Form.Listing Listing.List))
+    (either P (code == 12) _ _ (no (Form.Listing Listing.Sexp))
+    (either P (code == 13) _ _ (no Form.Struct) (either P (code == 14) _ _ (no Form.Wrapper) refused_no)))))))))))
 
-opens_marker : (d : Result Descriptor Reason) → opens d ≡ Marker → d ≡ Ok descriptors.Marker
+opens_marker : (d : Result Descriptor Reason) → opens d ≡ Marker → d ≡ Ok Descriptor.Marker
 opens_marker (Err e) h = absurd cc
-opens_marker (Ok descriptors.Marker) h = refl
-opens_marker (Ok (descriptors.Null k)) h = absurd cc
-opens_marker (Ok (descriptors.Truth t)) h = absurd cc
-opens_marker (Ok (descriptors.Pad z)) h = absurd cc
-opens_marker (Ok descriptors.Ordered) h = absurd cc
-opens_marker (Ok (descriptors.Body code z)) h = absurd (body_no_marker code z h)
+opens_marker (Ok Descriptor.Marker) h = refl
+opens_marker (Ok (Descriptor.Null k)) h = absurd cc
+opens_marker (Ok (Descriptor.Truth t)) h = absurd cc
+opens_marker (Ok (Descriptor.Pad z)) h = absurd cc
+opens_marker (Ok Descriptor.Ordered) h = absurd cc
+opens_marker (Ok (Descriptor.Body code z)) h = absurd (body_no_marker code z h)
 
 -- only type code 14 with length code 0 is the marker's descriptor
-typed_marker : (t n : ℕ) → typed t n ≡ Ok descriptors.Marker → (t ≡ 14) × (n ≡ 0)
+typed_marker : (t n : ℕ) → typed t n ≡ Ok Descriptor.Marker → (t ≡ 14) × (n ≡ 0)
 typed_marker t n =
-    let P : Result Descriptor Reason → Type 0 = λ d. d ≡ Ok descriptors.Marker → (t ≡ 14) × (n ≡ 0) in
+    let P : Result Descriptor Reason → Type 0 = λ d. d ≡ Ok Descriptor.Marker → (t ≡ 14) × (n ≡ 0) in
     let err : (e : Reason) → P (Err e) = λ e h. absurd cc in
-    let nil : P (Ok (descriptors.Null (kind t))) = λ h. absurd cc in
-    let pad : P (Ok (descriptors.Pad (size n))) = λ h. absurd cc in
-    let truth : (b : Bool) → P (Ok (descriptors.Truth b)) = λ b h. absurd cc in
-    let ordered : P (Ok descriptors.Ordered) = λ h. absurd cc in
-    let body : P (Ok (descriptors.Body t (size n))) = λ h. absurd cc in
+    let nil : P (Ok (Descriptor.Null (kind t))) = λ h. absurd cc in
+    let pad : P (Ok (Descriptor.Pad (size n))) = λ h. absurd cc in
+    let truth : (b : Bool) → P (Ok (Descriptor.Truth b)) = λ b h. absurd cc in
+    let ordered : P (Ok Descriptor.Ordered) = λ h. absurd cc in
+    let body : P (Ok (Descriptor.Body t (size n))) = λ h. absurd cc in
     either P (t == 15) _ _ (err Malformed)
     (cond_both (t == 14) _ _ P
     (λ e. cond_both (n == 0) _ _ P (λ f h. (eqb-true t 14 e, eqb-true n 0 f)) (λ f. either P ((n == 1) || (n == 2) || (n == 15)) _ _ (err Malformed) body))

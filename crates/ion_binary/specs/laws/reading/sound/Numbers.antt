@@ -1,25 +1,12 @@
 -- What an octet of a VarUInt leaves stands for the octets: of a length, a field's name, or annotations.
 use Rattle.std.proofs.Common.{◌≡◌, ℕ, ◌+◌, ◌-◌, ◌*◌, ◌^◌, ◌<◌, ◌≤◌, List, [], ◌∷◌, ◌++◌, length, Result, Ok, Err, Option, None, refl, ap, sym, ◌∙◌, subst, arith, length-append, Bool, true, false, cond, append_assoc, append-nil, leb-true, ltb-true, ltb-false, eqb-true, nat_lt, ◌==◌}
 use Rattle.std.proofs.lemmas.Bool.{cond_both, eqb-false, leb-false}
-use Rattle.ion_model.specs.declared.value.Value.{Value}
-use Rattle.ion_atoms.specs.declared.refusal.Reason.{Reason}
-use Rattle.ion_symtab.specs.declared.limits.Limits.{Limits}
-use Rattle.ion_symtab.specs.declared.catalog.Catalog.{Catalog}
-use Rattle.ion_symtab.specs.Slots.{Slot, resolve}
-use Rattle.ion_scalar.specs.binary.Fields.{positional, Digits128, none, more, VarUInt, seven_bits, is_last}
-use Rattle.ion_scalar.specs.Positional.{positional_push}
-use Rattle.ion_binary.specs.machine.Frames.{Frame}
-use Rattle.ion_binary.specs.machine.Frames as frames
-use Rattle.ion_binary.specs.declared.state.Purpose.{Purpose}
-use Rattle.ion_binary.specs.declared.state.Purpose.TheVariants as purposes
-use Rattle.ion_binary.specs.Grammar.{long, Ids, no_ids, one_id}
+use Rattle.ion_binary.specs.Names.{Catalog, Digits128, EndsNumber, Frame, Ids, Limits, Purpose, Reason, Slot, Spot, Value, VarUInt, annotation_came, at, is_last, length-one, long, longer, more, no_ids, none, number_came, on_number, one_id, past, positional, positional_push, resolve, seven_bits, sized, under}
 use Rattle.ion_binary.specs.Deciding as deciding
-use Rattle.ion_binary.specs.Deciding.{EndsNumber}
+use Rattle.ion_binary.specs.machine.Frames as frames
 use Rattle.ion_binary.specs.laws.reading.Openings.{Numbered, numbered}
-use Rattle.ion_binary.specs.laws.reading.RefusedRows.{HeaderEnds, long_row, number_row, header_here, value_row, count_row, none_row, annotation_row}
-use Rattle.ion_binary.specs.machine.EachOctet.{Spot, under, at, past, sized, longer, annotation_came, number_came, on_number}
-use Rattle.ion_binary.specs.laws.reading.Stands.{Going, NumberStands, MachineStands, Leaves}
-use Rattle.ion_binary.specs.machine.Pieces.{length-one}
+use Rattle.ion_binary.specs.laws.reading.RefusedRows.{HeaderEnds, annotation_row, count_row, header_here, long_row, none_row, number_row, value_row}
+use Rattle.ion_binary.specs.laws.reading.Stands.{Going, Leaves, MachineStands, NumberStands}
 use Rattle.ion_binary.specs.laws.reading.sound.Bounds.{cond_none, unending_going, unless_leaves}
 use Rattle.ion_binary.specs.laws.reading.sound.Containers.{length_3}
 use Rattle.ion_binary.specs.laws.reading.sound.Headers.{sized_stands}
@@ -58,7 +45,7 @@ module _ (g : Catalog) (l : Limits) where
 
       more_number : (fs : List Frame) (p : Purpose) → NumberStands g l spot.start spot.context s fs p a u → past l.item spot.start fs p spot.used ≡ None
           → NumberStands g l spot.start spot.context s fs p (128 * a + b) (u ++ b ∷ [])
-      more_number fs (purposes.Length form) o j = record {
+      more_number fs (Purpose.Length form) o j = record {
         before = o.before;
         b = o.b;
         digits = o.digits ++ b ∷ [];
@@ -76,7 +63,7 @@ module _ (g : Catalog) (l : Limits) where
         going =
             subst (Going l spot.start fs form) e (unending_going l spot.start fs form spot.used j);
       }
-      more_number (frames.Fields end ms ∷ fs) purposes.FieldName o j = let k = ltb-true spot.used end (cond_none _ _ j) in
+      more_number (frames.Fields end ms ∷ fs) Purpose.FieldName o j = let k = ltb-true spot.used end (cond_none _ _ j) in
           record {
             front = o.front;
             digits = o.digits ++ b ∷ [];
@@ -88,7 +75,7 @@ module _ (g : Catalog) (l : Limits) where
             bound = bound;
             going = omega arith;
           }
-      more_number (frames.Annotated end ss ∷ fs) purposes.AnnotationsLength o j = let k = ltb-true spot.used end (cond_none _ _ j) in
+      more_number (frames.Annotated end ss ∷ fs) Purpose.AnnotationsLength o j = let k = ltb-true spot.used end (cond_none _ _ j) in
           record {
             front = o.front;
             digits = o.digits ++ b ∷ [];
@@ -103,7 +90,7 @@ module _ (g : Catalog) (l : Limits) where
             going =
                 omega arith;
           }
-      more_number (frames.Annotated end ss ∷ fs) (purposes.Annotation stop) o j =
+      more_number (frames.Annotated end ss ∷ fs) (Purpose.Annotation stop) o j =
           let k = ltb-true spot.used stop (cond_none _ _ j) in
           let i : (o.count ++ (o.ids ++ o.digits)) ++ b ∷ [] ≡ o.count ++ (o.ids ++ (o.digits ++ b ∷ [])) = append_assoc o.count (o.ids ++ o.digits) (b ∷ [])
           ∙ ap (λ x. o.count ++ x) (append_assoc o.ids o.digits (b ∷ [])) in
@@ -136,7 +123,7 @@ module _ (g : Catalog) (l : Limits) where
       → (w : Numbered g l spot.start spot.context s fs p a u) → EndsNumber g l spot.context spot.start w.ks w.q n (u ++ b ∷ [])
       → ((ds : List ℕ) → Digits128 ds → a ≡ positional 128 ds → VarUInt (ds ++ b ∷ []) n) → spot.used ≡ length (u ++ b ∷ [])
       → Leaves g l (u ++ b ∷ []) s (number_came (under g l) spot fs p n)
-  came_stands spot s fs u (purposes.Length form) a b n o w en v e =
+  came_stands spot s fs u (Purpose.Length form) a b n o w en v e =
       let whole : u ++ b ∷ [] ≡ o.before ++ (o.b ∷ (o.digits ++ b ∷ [])) = ap (λ x. x ++ b ∷ []) o.whole ∙ append_assoc o.before (o.b ∷ o.digits) (b ∷ []) in
       let here = subst (HeaderEnds g l spot.context spot.start fs form n) whole
       (header_here g l spot.context spot.start w.ks w.q fs form n (u ++ b ∷ []) w.frames' w.same en) in
@@ -144,7 +131,7 @@ module _ (g : Catalog) (l : Limits) where
       (sized_stands g l spot s fs o.before (o.b ∷ (o.digits ++ b ∷ [])) form n o.outer (λ i. o.accepts)
       (long o.b (o.digits ++ b ∷ []) o.head (v o.digits o.small o.value)) (e ∙ ap length whole) o.admits.receives here
       (long_row g l spot.context spot.start fs form n _ here o.admits.fitting o.admits.named))
-  came_stands spot s (frames.Fields end ms ∷ fs) u purposes.FieldName a b n o w en v e =
+  came_stands spot s (frames.Fields end ms ∷ fs) u Purpose.FieldName a b n o w en v e =
       cond_both (nat_lt spot.used end) _ _ (Leaves g l (u ++ b ∷ []) s)
       (λ j.
       let room = ltb-true spot.used end j in
@@ -167,7 +154,7 @@ module _ (g : Catalog) (l : Limits) where
       })
       (λ j. let late = ltb-false spot.used end j in value_row g l spot.context spot.start w.ks w.q (frames.Fields end ms ∷ fs) fs end n ms (u ++ b ∷ [])
       w.frames' refl w.same en (omega arith))
-  came_stands spot s (frames.Annotated end ss ∷ fs) u purposes.AnnotationsLength a b n o w en v e =
+  came_stands spot s (frames.Annotated end ss ∷ fs) u Purpose.AnnotationsLength a b n o w en v e =
       let whole : u ++ b ∷ [] ≡ o.front ++ (o.digits ++ b ∷ []) = ap (λ x. x ++ b ∷ []) o.whole ∙ append_assoc o.front o.digits (b ∷ []) in
       let k1 = ap length whole in
       let k2 = length-append o.front (o.digits ++ b ∷ []) in
@@ -202,7 +189,7 @@ module _ (g : Catalog) (l : Limits) where
       })
       (λ j. let late = ltb-false (spot.used + n) end j in count_row g l spot.context spot.start w.ks w.q (frames.Annotated end ss ∷ fs) fs end n ss
       (u ++ b ∷ []) w.frames' refl w.same en (omega arith)))
-  came_stands spot s (frames.Annotated end ss ∷ fs) u (purposes.Annotation stop) a b n o w en v e = go (resolve spot.context n) refl
+  came_stands spot s (frames.Annotated end ss ∷ fs) u (Purpose.Annotation stop) a b n o w en v e = go (resolve spot.context n) refl
     where
       id : List ℕ
       id = o.digits ++ b ∷ []
@@ -276,10 +263,10 @@ module _ (g : Catalog) (l : Limits) where
   -- a number so far is below 2^63
   pub number_bound : (start : ℕ) (c : List Slot) (s : List Value) (fs : List Frame) (p : Purpose) (a : ℕ) (u : List ℕ) → NumberStands g l start c s fs p a u
       → a < 2 ^ 63
-  number_bound start c s fs (purposes.Length form) a u o = o.bound
-  number_bound start c s (frames.Fields end ms ∷ fs) purposes.FieldName a u o = o.bound
-  number_bound start c s (frames.Annotated end ss ∷ fs) purposes.AnnotationsLength a u o = o.bound
-  number_bound start c s (frames.Annotated end ss ∷ fs) (purposes.Annotation stop) a u o = o.bound
+  number_bound start c s fs (Purpose.Length form) a u o = o.bound
+  number_bound start c s (frames.Fields end ms ∷ fs) Purpose.FieldName a u o = o.bound
+  number_bound start c s (frames.Annotated end ss ∷ fs) Purpose.AnnotationsLength a u o = o.bound
+  number_bound start c s (frames.Annotated end ss ∷ fs) (Purpose.Annotation stop) a u o = o.bound
   number_bound start c s _ _ a u o = absurd o
 
   -- what an octet of a number leads to stands for the octets

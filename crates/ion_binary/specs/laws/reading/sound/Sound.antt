@@ -1,21 +1,11 @@
 -- What a run of the machine leaves stands for the octets, and for the values that it gave.
 use Rattle.std.proofs.Common.{◌≡◌, ℕ, ◌+◌, List, [], ◌∷◌, ◌++◌, length, Result, Ok, Err, refl, sym, subst, subst₂, inl, arith, append_assoc, append-nil}
-use Rattle.ion_model.specs.declared.value.Value.{Value}
-use Rattle.ion_atoms.specs.declared.refusal.Refusal.{Refusal}
-use Rattle.ion_symtab.specs.declared.limits.Limits.{Limits}
-use Rattle.ion_symtab.specs.declared.catalog.Catalog.{Catalog}
-use Rattle.ion_symtab.specs.Trace.{plain}
-use Rattle.ion_binary.specs.declared.state.Phase.{Phase}
-use Rattle.ion_binary.specs.declared.state.Phase.TheVariants.{InMarker, Ready, InNumber, InBody, InPad}
-use Rattle.ion_binary.specs.Opening.{opening_of}
-use Rattle.ion_binary.specs.machine.EachOctet.{under, counted, Machine, Outcome, goes, gives, refuses, on_phase, feed, initial}
-use Rattle.ion_binary.specs.machine.Run.{run, run_on}
-use Rattle.ion_binary.specs.laws.reading.Stands.{Standing, MachineStands, Leaves}
-use Rattle.ion_binary.specs.machine.Pieces.{length-one}
-use Rattle.ion_binary.specs.laws.reading.sound.Markers.{marker_stands}
-use Rattle.ion_binary.specs.laws.reading.sound.Headers.{descriptor_stands}
-use Rattle.ion_binary.specs.laws.reading.sound.Numbers.{number_bound, number_stands}
+use Rattle.ion_binary.specs.Names.{Catalog, InBody, InMarker, InNumber, InPad, Limits, Machine, Outcome, Phase, Ready, Refusal, Value, counted, feed, gives, goes, initial, length-one, on_phase, opening_of, plain, refuses, run, run_on, under}
+use Rattle.ion_binary.specs.laws.reading.Stands.{Leaves, MachineStands, Standing}
 use Rattle.ion_binary.specs.laws.reading.sound.Bodies.{body_stands, pad_stands}
+use Rattle.ion_binary.specs.laws.reading.sound.Headers.{descriptor_stands}
+use Rattle.ion_binary.specs.laws.reading.sound.Markers.{marker_stands}
+use Rattle.ion_binary.specs.laws.reading.sound.Numbers.{number_bound, number_stands}
 
 module _ (g : Catalog) (l : Limits) where
   -- on any octet

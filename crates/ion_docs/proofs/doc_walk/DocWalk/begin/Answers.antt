@@ -1,11 +1,10 @@
 use Rattle.std.proofs.Common.{◌∙◌, refl, sym, subst, true, false}
+use Rattle.ion_docs.specs.Names.{DocTold, DocWalk}
 use Rattle.ion_binary.specs.walking.Runs as binary
 use Rattle.ion_text.specs.walk.Ends as ends
 use Rattle.ion_text.specs.walk.Runs as text
-use Rattle.ion_docs.specs.declared.doc_walk.DocWalk.{DocWalk}
-use Rattle.ion_docs.specs.reading.DocTold.{DocTold}
 use Rattle.ion_docs.proofs.Chosen.{binary_at_first, other_at_first}
-use Rattle.ion_docs.proofs.Walks.{first_tells, first_says, first_walked}
+use Rattle.ion_docs.proofs.Walks.{first_says, first_tells, first_walked}
 use Rattle.ion_docs.proofs.doc_walk.DocWalk.begin.Goals as goal
 
 pub returns-in-Ok-clause-tells : goal.returns-in-Ok-clause-tells

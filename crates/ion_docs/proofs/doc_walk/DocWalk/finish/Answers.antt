@@ -1,7 +1,5 @@
 use Rattle.std.proofs.Common.{Bool, Ok, subst}
-use Rattle.ion_symtab.specs.Walks.{EndsOn}
-use Rattle.ion_visiting.specs.Building.{builds}
-use Rattle.ion_docs.specs.reading.Chosen.{chosen}
+use Rattle.ion_docs.specs.Names.{EndsOn, builds, chosen}
 use Rattle.ion_symtab.specs.laws.Builds.{built_end}
 use Rattle.ion_docs.proofs.doc_walk.DocWalk.finish.Goals as goal
 

@@ -1,8 +1,8 @@
 use Rattle.std.proofs.Common.{true, false}
+use Rattle.ion_docs.specs.Names.{Binary, Text}
 use Rattle.ion_binary.specs.walking.Runs as binary
 use Rattle.ion_text.specs.walk.Runs as text
-use Rattle.ion_docs.specs.declared.doc_walk.Encoding.TheVariants.{Binary, Text}
-use Rattle.ion_docs.proofs.Walks.{inside, ends_forward}
+use Rattle.ion_docs.proofs.Walks.{ends_forward, inside}
 use Rattle.ion_docs.proofs.doc_walk.DocWalk.finish_by.Goals as goal
 
 pub returns-in-Binary-clause-ends : goal.returns-in-Binary-clause-ends

@@ -1,7 +1,5 @@
 use Rattle.std.proofs.Common.{Bool, subst}
-use Rattle.ion_symtab.specs.Walks.{WalksOn}
-use Rattle.ion_visiting.specs.Building.{builds}
-use Rattle.ion_docs.specs.reading.DocTold.{DocTold}
+use Rattle.ion_docs.specs.Names.{DocTold, WalksOn, builds}
 use Rattle.ion_symtab.specs.laws.Builds.{built_on, built_taken}
 use Rattle.ion_docs.proofs.doc_walk.DocWalk.step.Goals as goal
 

@@ -1,8 +1,6 @@
 use Rattle.std.proofs.Common.{Bool, sym, subst}
 use Rattle.std.proofs.lemmas.Result.{on_err_weaker, on_ok_weaker}
-use Rattle.ion_symtab.specs.Took.{Took, TookFront}
-use Rattle.ion_binary.specs.Output.{nothing_yet, opening}
-use Rattle.ion_binary.specs.writer.Puts.{behind}
+use Rattle.ion_docs.specs.Names.{Took, TookFront, behind, nothing_yet, opening}
 use Rattle.ion_docs.specs.laws.Encodings.{binary_ends}
 use Rattle.ion_docs.proofs.HandedOver.{begun_some}
 use Rattle.ion_docs.proofs.writers.BinaryOutEncoder.finish.Goals as goal

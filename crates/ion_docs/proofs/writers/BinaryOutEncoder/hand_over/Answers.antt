@@ -1,13 +1,9 @@
 use Rattle.std.proofs.Common.{rules, ◌≡◌, List, ℕ, true, subst, ◌∙◌}
 use Rattle.std.specs.Prelude.{MatchBool, ◌≤◌, suc, length}
-use Rattle.ion_symtab.specs.Slots.{greatest_id}
-use Rattle.ion_symtab.specs.Took.{Took, TookFront}
-use Rattle.ion_binary.specs.Output.{nothing_yet, adds}
-use Rattle.ion_binary.specs.Writing.{NeedsLargeId}
-use Rattle.ion_binary.specs.writer.Puts.{behind}
+use Rattle.ion_docs.specs.Names.{NeedsLargeId, Took, TookFront, adds, behind, greatest_id, nothing_yet}
 use Rattle.ion_streams.proofs.Steps.{on_err}
 use Rattle.ion_docs.specs.laws.Encodings.{puts_one}
-use Rattle.ion_docs.proofs.HandedOver.{took_none, binary_kept, binary_large, binary_ended}
+use Rattle.ion_docs.proofs.HandedOver.{binary_ended, binary_kept, binary_large, took_none}
 use Rattle.ion_docs.proofs.writers.BinaryOutEncoder.hand_over.Goals as goal
 
 pub returns-then-needs_large_id-clause-front : goal.returns-then-needs_large_id-clause-front

@@ -1,6 +1,6 @@
 use Rattle.std.proofs.Common.{[], append-nil}
 use Rattle.std.proofs.lemmas.Result.{on_ok_weaker}
-use Rattle.ion_text.specs.Output.{text_of}
+use Rattle.ion_docs.specs.Names.{text_of}
 use Rattle.ion_streams.proofs.Steps.{on_err}
 use Rattle.ion_docs.proofs.writers.TextOutEncoder.finish.Goals as goal
 

@@ -1,9 +1,9 @@
 use Rattle.std.proofs.Common.{rules, ◌≡◌, List, ℕ, true, subst, ◌∙◌}
-use Rattle.ion_symtab.specs.Took.{Took, TookFront}
+use Rattle.ion_docs.specs.Names.{Took, TookFront}
 use Rattle.ion_text.specs.Output.{adds}
 use Rattle.ion_streams.proofs.Steps.{on_err}
 use Rattle.ion_docs.specs.laws.Encodings.{text_one}
-use Rattle.ion_docs.proofs.HandedOver.{took_none, text_kept, text_ended}
+use Rattle.ion_docs.proofs.HandedOver.{text_ended, text_kept, took_none}
 use Rattle.ion_docs.proofs.writers.TextOutEncoder.hand_over.Goals as goal
 
 pub returns-then-not-ended-clause-front : goal.returns-then-not-ended-clause-front

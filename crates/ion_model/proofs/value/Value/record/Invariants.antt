@@ -1,5 +1,5 @@
 use Rattle.std.proofs.Common.{◌≡◌, ◌++◌, Some, map}
-use Rattle.ion_model.specs.Measures.{field_of}
+use Rattle.ion_model.specs.Names.{field_of}
 use Rattle.ion_model.proofs.value.Value.record.Given as goal
 
 -- what is named and what is left are all

@@ -1,6 +1,6 @@
 use Rattle.std.proofs.Common.{◌≡◌, ◌<◌, ◌≤◌, ◌+◌, ◌-◌, ◌^◌, ◌++◌, drop, length}
 use Rattle.std.specs.Fmt.{decimal}
-use Rattle.ion_scalar.specs.declared.backward.TheConstants.{ROOM}
+use Rattle.ion_scalar.specs.Names.{ROOM}
 use Rattle.ion_scalar.proofs.backward.Backward.push_decimal.Given as goal
 
 abbrev pub invariant-loop-rest : goal.invariant-loop-rest

@@ -1,7 +1,7 @@
 use Rattle.std.proofs.Common.{◌≡◌, ◌+◌, ◌-◌, ◌%◌, drop, length, length-set, ◌∙◌, arith}
-use Rattle.ion_scalar.proofs.DigitSteps.{places, step, last}
+use Rattle.ion_scalar.specs.Names.{ROOM}
+use Rattle.ion_scalar.proofs.DigitSteps.{last, places, step}
 use Rattle.ion_scalar.proofs.Places.{put_front}
-use Rattle.ion_scalar.specs.declared.backward.TheConstants.{ROOM}
 use Rattle.ion_scalar.proofs.backward.Backward.push_long_decimal.Goals as goal
 
 pub loop-rest-preserved : goal.loop-rest-preserved

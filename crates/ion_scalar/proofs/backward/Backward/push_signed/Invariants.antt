@@ -1,7 +1,6 @@
 use Rattle.std.proofs.Common.{◌≡◌, ◌-◌, ◌/◌, ◌<◌, ◌≤◌, ◌^◌, ◌++◌, drop, length}
 use Rattle.std.specs.Int.Digits.{digits_of}
-use Rattle.ion_scalar.specs.binary.Spellings.{signed_digits}
-use Rattle.ion_scalar.specs.declared.backward.TheConstants.{ROOM}
+use Rattle.ion_scalar.specs.Names.{ROOM, signed_digits}
 use Rattle.ion_scalar.proofs.backward.Backward.push_signed.Given as goal
 
 abbrev pub invariant-loop-rest : goal.invariant-loop-rest

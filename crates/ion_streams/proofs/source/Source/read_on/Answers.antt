@@ -1,11 +1,10 @@
 use Rattle.std.proofs.Common.{inl, inr, rules, ◌≢◌, arith, Some}
-use Rattle.ion_atoms.specs.declared.refusal.Reason.TheVariants as reasons
 use Rattle.std.proofs.lemmas.Result.{err_from_is_err_and}
-use Rattle.ion_streams.specs.reading.Read.{left_of}
-use Rattle.ion_streams.proofs.Refilled.{ended_unasked, ended_heard}
-use Rattle.ion_streams.proofs.Steps.{gave_so_far, kept_so_far, reads_none, reads_failed, reads_refilled, reads_went, within_kept, on_err}
+use Rattle.ion_streams.specs.Names.{Reason, left_of}
 use Rattle.ion_streams.proofs.Passes.{none_went}
-use Rattle.ion_streams.proofs.Unfailed.{was_asked, gave_some}
+use Rattle.ion_streams.proofs.Refilled.{ended_heard, ended_unasked}
+use Rattle.ion_streams.proofs.Steps.{gave_so_far, kept_so_far, on_err, reads_failed, reads_none, reads_refilled, reads_went, within_kept}
+use Rattle.ion_streams.proofs.Unfailed.{gave_some, was_asked}
 use Rattle.ion_streams.proofs.source.Source.read_on.Goals as goal
 
 pub returns-in-Err-Memory-clause-kept : goal.returns-in-Err-Memory-clause-kept
@@ -16,7 +15,7 @@ returns-in-Err-Memory-clause-kept g c = λ catalog limits first s h.
 
 pub returns-in-Err-clause-gives : goal.returns-in-Err-clause-gives
 returns-in-Err-clause-gives g c =
-    let other : c.in-Err.refusal.reason ≢ reasons.Memory = search rules in
+    let other : c.in-Err.refusal.reason ≢ Reason.Memory = search rules in
     let refuses = c.in-Err.ensures.refuses other in
     λ catalog limits first given h.
     let r = c.loop-refusal.invariant.reads catalog limits first given h in
@@ -105,7 +104,7 @@ returns-in-Ok-Some-clause-no_read_failed g c = λ h.
 
 pub returns-in-Err-clause-no_read_failed : goal.returns-in-Err-clause-no_read_failed
 returns-in-Err-clause-no_read_failed g c =
-    let other : c.in-Err.refusal.reason ≢ reasons.Memory = search rules in
+    let other : c.in-Err.refusal.reason ≢ Reason.Memory = search rules in
     λ h. was_asked g.R.Inlet g.I.Items c.loop-refusal.reader c.loop-refusal.self (c.in-Err.ensures.none_refused other) (c.loop-refusal.invariant.heard h)
 
 pub returns-then-not-branch-clause-unasked : goal.returns-then-not-branch-clause-unasked

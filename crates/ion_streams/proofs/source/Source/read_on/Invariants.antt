@@ -1,8 +1,5 @@
 use Rattle.std.proofs.Common.{◌+◌, ◌≤◌, ℕ, List, length, ◌*◌}
-use Rattle.ion_model.specs.declared.value.Value.{Value}
-use Rattle.ion_symtab.specs.declared.catalog.Catalog.{Catalog}
-use Rattle.ion_symtab.specs.declared.limits.Limits.{Limits}
-use Rattle.ion_streams.specs.reading.Read.{IsReady, NoneFailed, NoReadFailed, IsWithin, work, ReadsEach}
+use Rattle.ion_streams.specs.Names.{Catalog, IsReady, IsWithin, Limits, NoReadFailed, NoneFailed, ReadsEach, Value, work}
 use Rattle.ion_streams.proofs.source.Source.read_on.Given as goal
 
 -- nothing was given yet

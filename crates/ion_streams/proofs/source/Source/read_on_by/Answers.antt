@@ -1,8 +1,8 @@
 use Rattle.std.proofs.Common.{inl, inr, rules, ◌≢◌, arith}
-use Rattle.ion_atoms.specs.declared.refusal.Reason.TheVariants as reasons
 use Rattle.std.proofs.lemmas.Result.{err_from_is_err_and}
-use Rattle.ion_streams.proofs.Steps.{within_kept, on_err}
-use Rattle.ion_streams.proofs.Telling.{tells_more, tells_value, tells_refilled, tells_failed, tells_so_far, tells_kept, tells_asked}
+use Rattle.ion_streams.specs.Names.{Reason}
+use Rattle.ion_streams.proofs.Steps.{on_err, within_kept}
+use Rattle.ion_streams.proofs.Telling.{tells_asked, tells_failed, tells_kept, tells_more, tells_refilled, tells_so_far, tells_value}
 use Rattle.ion_streams.proofs.Turns.{on_more}
 use Rattle.ion_streams.proofs.Unfailed.{was_asked}
 use Rattle.ion_streams.proofs.source.Source.read_on_by.Goals as goal
@@ -14,7 +14,7 @@ returns-in-Err-Memory-clause-kept g c = λ catalog limits first s es h.
 
 pub returns-in-Err-clause-tells : goal.returns-in-Err-clause-tells
 returns-in-Err-clause-tells g c =
-    let other : c.in-Err.refusal.reason ≢ reasons.Memory = search rules in
+    let other : c.in-Err.refusal.reason ≢ Reason.Memory = search rules in
     let refuses = c.in-Err.ensures.refuses other in
     λ catalog limits first given es h.
     let r = c.loop-refusal.invariant.reads catalog limits first given es h in
@@ -23,7 +23,7 @@ returns-in-Err-clause-tells g c =
 
 pub returns-in-Err-clause-no_read_failed : goal.returns-in-Err-clause-no_read_failed
 returns-in-Err-clause-no_read_failed g c =
-    let other : c.in-Err.refusal.reason ≢ reasons.Memory = search rules in
+    let other : c.in-Err.refusal.reason ≢ Reason.Memory = search rules in
     λ h. was_asked g.R.Inlet g.I.Items c.loop-refusal.reader c.loop-refusal.self (c.in-Err.ensures.none_refused other)
     (c.loop-refusal.invariant.heard h)
 

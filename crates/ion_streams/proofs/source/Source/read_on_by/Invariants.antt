@@ -1,11 +1,5 @@
 use Rattle.std.proofs.Common.{◌+◌, ◌≤◌, ℕ, List, length, ◌*◌}
-use Rattle.ion_model.specs.declared.value.Value.{Value}
-use Rattle.ion_visiting.specs.Events.{Event}
-use Rattle.ion_symtab.specs.declared.catalog.Catalog.{Catalog}
-use Rattle.ion_symtab.specs.declared.limits.Limits.{Limits}
-use Rattle.ion_streams.specs.Formats.{format_of}
-use Rattle.ion_streams.specs.reading.Read.{IsReady, NoneFailed, NoReadFailed, IsWithin, work, Reads, ReadsEach, HandedOn, Sought}
-use Rattle.ion_streams.specs.reading.Telling.{telling}
+use Rattle.ion_streams.specs.Names.{Catalog, Event, HandedOn, IsReady, IsWithin, Limits, NoReadFailed, NoneFailed, Reads, ReadsEach, Sought, Value, format_of, telling, work}
 use Rattle.ion_streams.proofs.Telling.{TellsOn}
 use Rattle.ion_streams.proofs.source.Source.read_on_by.Given as goal
 

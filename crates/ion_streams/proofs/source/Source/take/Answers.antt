@@ -1,9 +1,8 @@
 use Rattle.std.proofs.Common.{ℕ, ◌+◌, ◌-◌, ◌≤◌, ◌++◌, length, refl, arith, length-take, length-drop}
-use Rattle.ion_streams.specs.Formats.{format_of}
-use Rattle.ion_streams.specs.reading.Read.{left_of}
-use Rattle.ion_streams.proofs.Pieces.{went, begins_drop}
+use Rattle.ion_streams.specs.Names.{format_of, left_of}
 use Rattle.ion_streams.proofs.Endings.{refused_early}
-use Rattle.ion_streams.proofs.Unfailed.{none_there, none_failed}
+use Rattle.ion_streams.proofs.Pieces.{begins_drop, went}
+use Rattle.ion_streams.proofs.Unfailed.{none_failed, none_there}
 use Rattle.ion_streams.proofs.source.Source.take.Goals as goal
 
 pub returns-in-Err-clause-refuses : goal.returns-in-Err-clause-refuses

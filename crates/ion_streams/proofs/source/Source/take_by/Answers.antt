@@ -1,8 +1,7 @@
 use Rattle.std.proofs.Common.{ℕ, ◌-◌, ◌≤◌, ◌++◌, refl, arith, length-take, length-drop}
-use Rattle.ion_streams.specs.Formats.{format_of}
-use Rattle.ion_streams.specs.reading.Read.{left_of}
-use Rattle.ion_streams.proofs.Pieces.{begins_drop}
+use Rattle.ion_streams.specs.Names.{format_of, left_of}
 use Rattle.ion_streams.proofs.Endings.{refused_early}
+use Rattle.ion_streams.proofs.Pieces.{begins_drop}
 use Rattle.ion_streams.proofs.Telling.{went_by}
 use Rattle.ion_streams.proofs.source.Source.take_by.Goals as goal
 

@@ -1,7 +1,7 @@
 use Rattle.std.proofs.Common.{true}
-use Rattle.ion_streams.specs.reading.Read.{left_of, Reads, ReadsEach}
-use Rattle.ion_streams.proofs.Steps.{gave_so_far, last_gives, last_refused, on_err}
+use Rattle.ion_streams.specs.Names.{Reads, ReadsEach, left_of}
 use Rattle.ion_streams.proofs.Passes.{gave_last, ok_by}
+use Rattle.ion_streams.proofs.Steps.{gave_so_far, last_gives, last_refused, on_err}
 use Rattle.ion_streams.proofs.source.Standing.advance.Goals as goal
 
 pub returns-in-Ok-Value-clause-gives : goal.returns-in-Ok-Value-clause-gives

@@ -1,8 +1,7 @@
 use Rattle.std.proofs.Common.{true, []}
-use Rattle.ion_streams.specs.reading.Read.{left_of, Reads, ReadsEach}
-use Rattle.ion_streams.specs.reading.Telling.{telling}
-use Rattle.ion_streams.proofs.Steps.{gave_so_far, on_err}
+use Rattle.ion_streams.specs.Names.{Reads, ReadsEach, left_of, telling}
 use Rattle.ion_streams.proofs.Passes.{ok_by}
+use Rattle.ion_streams.proofs.Steps.{gave_so_far, on_err}
 use Rattle.ion_streams.proofs.Telling.{led_by, tells_end}
 use Rattle.ion_streams.proofs.source.Standing.advance_by.Goals as goal
 

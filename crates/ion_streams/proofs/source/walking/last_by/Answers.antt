@@ -1,6 +1,5 @@
 use Rattle.std.proofs.Common.{rules, ◌≢◌, ◌∙◌, sym}
-use Rattle.ion_atoms.specs.declared.refusal.Reason.TheVariants as reasons
-use Rattle.ion_streams.specs.Formats.{format_of}
+use Rattle.ion_streams.specs.Names.{Reason, format_of}
 use Rattle.ion_streams.proofs.Endings.{refused_late}
 use Rattle.ion_streams.proofs.Telling.{ended_by}
 use Rattle.ion_streams.proofs.source.walking.last_by.Goals as goal
@@ -16,7 +15,7 @@ returns-in-Ok-true-clause-ends g c = λ u given es h.
 
 pub returns-clause-ends : goal.returns-clause-ends
 returns-clause-ends g c = λ u given es h.
-    let other : c.in-Err.refusal.reason ≢ reasons.Memory = search rules in
+    let other : c.in-Err.refusal.reason ≢ Reason.Memory = search rules in
     let catalog = g.I.Items.catalog c.args.source.items in
     let limits = g.I.Items.limits c.args.source.items in
     let was = g.met.I.Items.has_told c.args.source.items u given es h in

@@ -1,10 +1,7 @@
-use Rattle.std.proofs.Common.{◌≡◌, None, Some, [], ◌∷◌, ◌++◌, ◌&&◌, ◌==◌, inl, inr, cond, length, ℕ, List, Bool, true, false}
-use Rattle.std.proofs.Common.{Option, Bor, is_some, option_copied, refl, sym, subst, arith, rules}
+use Rattle.std.proofs.Common.{◌≡◌, None, Some, [], ◌∷◌, ◌++◌, ◌&&◌, ◌==◌, inl, inr, cond, length, ℕ, List, Bool, true, false, Option, Bor, is_some, option_copied, refl, sym, subst, arith, rules}
 use Rattle.std.specs.Str.{bytes_eq}
 use Rattle.std.specs.Option.{IsSome}
-use Rattle.ion_symtab.specs.kept.Places.{Indexes, newest_place, newest_of, place_of}
-use Rattle.ion_symtab.specs.Tables.{AreApart, Table, find, newest}
-use Rattle.ion_symtab.specs.declared.catalog_index.Places.{Places}
+use Rattle.ion_symtab.specs.Names.{AreApart, Indexes, Places, Table, find, newest, newest_of, newest_place, place_of}
 use Rattle.ion_symtab.specs.laws.Tables.{apart_more}
 use Rattle.ion_symtab.proofs.Indexing.{indexes_more}
 use Rattle.ion_symtab.proofs.catalog.Catalog.add.Goals as goal

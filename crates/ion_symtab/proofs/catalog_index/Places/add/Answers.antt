@@ -4,8 +4,8 @@ use Rattle.std.specs.Str.{bytes_eq}
 use Rattle.std.specs.Map.{update}
 use Rattle.std.specs.String.{string_bytes}
 use Rattle.std.proofs.lemmas.Map.Text.{btree_map_updates_text}
-use Rattle.ion_symtab.specs.kept.Places.{version_kept, newest_among}
-use Rattle.ion_symtab.proofs.Placing.{placed, noted, places_stay, newest_stays, on_refusal}
+use Rattle.ion_symtab.specs.Names.{newest_among, version_kept}
+use Rattle.ion_symtab.proofs.Placing.{newest_stays, noted, on_refusal, placed, places_stay}
 use Rattle.ion_symtab.proofs.catalog_index.Places.add.Goals as goal
 
 pub returns-in_err-add-in-Some-clause-places_kept : goal.returns-in_err-add-in-Some-clause-places_kept

@@ -1,6 +1,5 @@
 use Rattle.std.proofs.Common.{◌≡◌, length, take, drop}
-use Rattle.ion_symtab.specs.Next.{imported}
-use Rattle.ion_symtab.specs.kept.Segments.{slots_of}
+use Rattle.ion_symtab.specs.Names.{imported, slots_of}
 use Rattle.ion_symtab.proofs.segments.Segments.push_imports.Given as goal
 
 abbrev pub invariant-loop-element : goal.invariant-loop-element

@@ -1,5 +1,5 @@
 use Rattle.std.proofs.Common.{drop}
-use Rattle.ion_model.specs.Symbols.{AreTexts}
+use Rattle.ion_symtab.specs.Names.{AreTexts}
 use Rattle.ion_symtab.proofs.symbols.Symbols.from_vec.Given as goal
 
 -- where the texts of the symbols that are left are UTF-8, all are

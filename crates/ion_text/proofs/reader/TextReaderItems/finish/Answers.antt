@@ -1,7 +1,5 @@
 use Rattle.std.proofs.Common.{Bool, Ok, subst}
-use Rattle.ion_symtab.specs.Walks.{EndsOn}
-use Rattle.ion_visiting.specs.Building.{builds}
-use Rattle.ion_text.specs.machine.Run.{trace}
+use Rattle.ion_text.specs.Names.{EndsOn, builds, trace}
 use Rattle.ion_symtab.specs.laws.Builds.{built_end}
 use Rattle.ion_text.proofs.reader.TextReaderItems.finish.Goals as goal
 

@@ -1,10 +1,6 @@
 use Rattle.std.proofs.Common.{Bool, Some, None, subst, refl}
 use Rattle.std.proofs.lemmas.Result.{err_from_is_err_and}
-use Rattle.ion_symtab.specs.Walks.{WalksOn, if_ended}
-use Rattle.ion_symtab.specs.Steps.{StepsOver}
-use Rattle.ion_visiting.specs.Building.{builds}
-use Rattle.ion_text.specs.walk.Ends.{failed, octets_used}
-use Rattle.ion_text.specs.walk.Runs.{Told, pending}
+use Rattle.ion_text.specs.Names.{StepsOver, Told, WalksOn, builds, failed, if_ended, octets_used, pending}
 use Rattle.ion_symtab.specs.laws.Builds.{built_on, built_taken}
 use Rattle.ion_text.proofs.Builds.{step_answers}
 use Rattle.ion_text.proofs.reader.TextReaderItems.step.Goals as goal

@@ -1,4 +1,4 @@
-use Rattle.ion_text.specs.walk.Runs.{Told}
+use Rattle.ion_text.specs.Names.{Told}
 use Rattle.ion_symtab.specs.laws.Builds.{tells_held}
 use Rattle.ion_text.proofs.reader.TextReaderItems.walk.Goals as goal
 

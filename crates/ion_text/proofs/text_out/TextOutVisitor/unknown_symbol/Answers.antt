@@ -1,8 +1,6 @@
 use Rattle.std.proofs.Common.{rules, arith, ◌≡◌, ◌++◌, None}
+use Rattle.ion_text.specs.Names.{KeptPayload, front, kept_symbol, symbol_text}
 use Rattle.ion_model.specs.declared.value.Payload.TheVariants as payloads
-use Rattle.ion_model.specs.Kept.{KeptPayload, kept_symbol}
-use Rattle.ion_text.specs.Output.{symbol_text}
-use Rattle.ion_text.specs.visiting.TextOut.{front}
 use Rattle.ion_text.proofs.Transcribed.{unknown_level}
 use Rattle.ion_text.proofs.text_out.TextOutVisitor.unknown_symbol.Goals as goal
 

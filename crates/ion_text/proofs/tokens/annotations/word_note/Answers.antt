@@ -1,6 +1,6 @@
 use Rattle.std.proofs.Common.{◌≡◌, ◌≢◌, ◌∙◌, ap, sym, arith, take, get_or, Some, false}
+use Rattle.ion_text.specs.Names.{is_keyword}
 use Rattle.ion_model.specs.declared.value.Payload.TheVariants as payloads
-use Rattle.ion_text.specs.Grammar.{is_keyword}
 use Rattle.ion_text.proofs.Notes.{no_table, word_first}
 use Rattle.ion_text.proofs.Symbols as symbols
 use Rattle.ion_text.proofs.Walks.{word_free}

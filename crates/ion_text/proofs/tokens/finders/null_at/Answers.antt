@@ -1,10 +1,7 @@
 use Rattle.std.proofs.Common.{refl, ap, subst}
 use Rattle.std.specs.Prelude.{◌≡◌, false, IfSome, Option}
-use Rattle.ion_tokens.specs.Bodies.{TypedNull, null_of}
-use Rattle.ion_tokens.specs.machine.Said.{said}
+use Rattle.ion_text.specs.Names.{Held, TypedNull, is_marker, null_of, said}
 use Rattle.ion_model.specs.declared.value.Payload.TheVariants as payloads
-use Rattle.ion_text.specs.declared.state.Held.{Held}
-use Rattle.ion_text.specs.machine.FrontTokens.{is_marker}
 use Rattle.ion_text.proofs.tokens.finders.null_at.Goals as goal
 
 pub returns : goal.returns

@@ -1,10 +1,8 @@
 use Rattle.std.proofs.Common.{◌≡◌, ◌-◌, ◌∙◌, Option, take, drop, false, Some, ap, sym, subst, refl}
 use Rattle.std.specs.Prelude.{IfSome}
 use Rattle.std.proofs.lemmas.List.{take_rest}
+use Rattle.ion_text.specs.Names.{Held, Quoted, is_marker}
 use Rattle.ion_model.specs.declared.value.Payload.TheVariants as payloads
-use Rattle.ion_tokens.specs.Bodies.{Quoted}
-use Rattle.ion_text.specs.declared.state.Held.{Held}
-use Rattle.ion_text.specs.machine.FrontTokens.{is_marker}
 use Rattle.ion_text.proofs.Symbols.{quoted_says}
 use Rattle.ion_text.proofs.tokens.finders.quoted_at.Goals as goal
 

@@ -1,9 +1,8 @@
 use Rattle.std.proofs.Common.{ap, sym, subst, Some, true, false, refl}
 use Rattle.std.specs.Cow.{cow_str_bytes}
+use Rattle.ion_text.specs.Names.{IsValue, Pays, held_of, on_ready}
 use Rattle.ion_model.specs.declared.value.Payload.TheVariants as payloads
 use Rattle.ion_tokens.specs.Bodies.{content}
-use Rattle.ion_text.specs.machine.FrontTokens.{held_of, Pays, IsValue}
-use Rattle.ion_text.specs.machine.EachToken.{on_ready}
 use Rattle.ion_text.proofs.tokens.finders.rare_part.Goals as goal
 
 pub returns-in-Quoted : goal.returns-in-Quoted

@@ -1,6 +1,6 @@
 use Rattle.std.proofs.Common.{◌-◌, ◌∙◌, Some, ap, sym, subst, take}
 use Rattle.std.proofs.lemmas.List.{take_rest}
-use Rattle.ion_text.specs.machine.FrontTokens.{BeginsName}
+use Rattle.ion_text.specs.Names.{BeginsName}
 use Rattle.ion_text.proofs.tokens.finders.text_name.Goals as goal
 
 pub returns : goal.returns

@@ -1,10 +1,6 @@
 use Rattle.std.proofs.Common.{◌≡◌, ◌≢◌, ◌∙◌, Option, Ok, false, ap, sym, subst, arith, take, get_or, refl}
 use Rattle.std.specs.Prelude.{IfSome}
-use Rattle.ion_tokens.specs.Bodies.{Word}
-use Rattle.ion_text.specs.machine.EachToken.{held_payload, held_word}
-use Rattle.ion_visiting.specs.Parts.{payload_of}
-use Rattle.ion_text.specs.declared.state.Held.{Held}
-use Rattle.ion_text.specs.machine.FrontTokens.{is_marker}
+use Rattle.ion_text.specs.Names.{Held, Word, held_payload, held_word, is_marker, payload_of}
 use Rattle.ion_text.proofs.Arms.{first_of}
 use Rattle.ion_text.proofs.Symbols.{word_said}
 use Rattle.ion_text.proofs.Walks.{word_unmarked}

@@ -1,6 +1,6 @@
 use Rattle.std.proofs.Common.{◌+◌, arith, [], refl, ap, sym, ◌∙◌, subst}
 use Rattle.std.proofs.lemmas.List.{take_rest}
-use Rattle.ion_tokens.specs.machine.Rests.{past_blank, IsPassed}
+use Rattle.ion_text.specs.Names.{IsPassed, past_blank}
 use Rattle.ion_text.specs.machine.LongStrings.{PassedSegment}
 use Rattle.ion_text.proofs.LongStrings.{first_segment}
 use Rattle.ion_text.proofs.tokens.long_strings.one_segment.Goals as goal

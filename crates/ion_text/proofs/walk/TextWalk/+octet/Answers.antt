@@ -1,12 +1,7 @@
 use Rattle.std.proofs.Common.{rules, ◌≡◌, ◌+◌, ◌<◌, ◌^◌, ℕ, Ok, IfOk, sym, ap, ◌∙◌, subst, arith}
-use Rattle.ion_tokens.specs.machine.Views.{scanned}
-use Rattle.ion_text.specs.declared.state.Effect.{Effect}
-use Rattle.ion_text.specs.machine.EachToken.{settle}
-use Rattle.ion_text.specs.machine.Views.{comes_again, count_of}
-use Rattle.ion_text.specs.walk.Holds.{Does, reading_of, state_of, told}
-use Rattle.ion_text.specs.walk.Takes.{IsFine}
+use Rattle.ion_text.specs.Names.{Does, IsFine, Turned as Effect, comes_again, count_of, reading_of, scanned, settle, state_of, told}
 use Rattle.ion_text.proofs.Octets.{one_left, one_used}
-use Rattle.ion_text.proofs.Taking.{uses_octet, tells_octet, leaves_octet, err_octet, again_octet, late_octet, goes_on_octet, settles_err, settles_gives, settles_goes, settles_late}
+use Rattle.ion_text.proofs.Taking.{again_octet, err_octet, goes_on_octet, late_octet, leaves_octet, settles_err, settles_gives, settles_goes, settles_late, tells_octet, uses_octet}
 use Rattle.ion_text.proofs.walk.TextWalk.+octet.Goals as goal
 
 pub scan_octet-take_octet-requires : goal.scan_octet-take_octet-requires

@@ -2,13 +2,8 @@ use Rattle.std.proofs.Common.{rules, ◌≡◌, ◌-◌, ◌+◌, ◌<◌, ℕ, 
 use Rattle.std.proofs.lemmas.List.{take_rest}
 use Rattle.std.proofs.Math.Seq.{drop-cons}
 use Rattle.std.specs.Option.{is_some}
-use Rattle.ion_atoms.specs.declared.refusal.Refusal.{Refusal}
-use Rattle.ion_atoms.specs.declared.refusal.Reason.TheVariants as reasons
-use Rattle.ion_tokens.specs.machine.Views.{scanned}
-use Rattle.ion_text.specs.declared.state.Taken.{Taken}
-use Rattle.ion_text.specs.walk.Fronts.{IsWithin, Reached}
-use Rattle.ion_text.specs.walk.Holds.{state_of, told}
-use Rattle.ion_text.proofs.Advancing.{led_none, led_on, led_tells, led_leaves, led_second, led_refused, led_end}
+use Rattle.ion_text.specs.Names.{IsWithin, Reached, Reason, Refusal, Taken, scanned, state_of, told}
+use Rattle.ion_text.proofs.Advancing.{led_end, led_leaves, led_none, led_on, led_refused, led_second, led_tells}
 use Rattle.ion_text.proofs.Leading.{begins_some, onward_where}
 use Rattle.ion_text.proofs.WalkRuns.{still_pending}
 use Rattle.ion_text.proofs.walk.TextWalk.advance.Goals as goal
@@ -103,7 +98,7 @@ returns-then-used-eq0-clause-does g c = λ fs ss holds other.
     (subst (λ (t : Taken). Reached g.V.Visitor.takes (told x.frames x.notes) m.catalog.now m.limits (scanned m.scanner).used
     (state_of m x.frames x.notes) rest k t n c.loop-i.visitor c.take_up.new.visitor) c.in-Ok-default-Leaves.field-0-1-is
     (c.in-Ok-default-Leaves.ensures.took x.frames x.notes x.went.holds))
-    ∙ ap (λ j. record { given = []; now = Err (record { offset = j + 1; reason = reasons.Unexpected }) }) (sym c.used-before.ensures)
+    ∙ ap (λ j. record { given = []; now = Err (record { offset = j + 1; reason = Reason.Unexpected }) }) (sym c.used-before.ensures)
 
 pub returns-in-Ok-default-Leaves-clause-does : goal.returns-in-Ok-default-Leaves-clause-does
 returns-in-Ok-default-Leaves-clause-does g c = λ fs ss holds.

@@ -1,10 +1,6 @@
 use Rattle.std.proofs.Common.{◌≡◌, ◌+◌, ◌-◌, ◌≤◌, List, None, length}
-use Rattle.ion_tokens.specs.machine.Views.{scanned}
-use Rattle.ion_text.specs.declared.state.Frame.{Frame}
-use Rattle.ion_text.specs.machine.EachToken.{Symbols}
+use Rattle.ion_text.specs.Names.{Frame, Holds, IsFine, StaysSteady, Symbols, scanned}
 use Rattle.ion_text.specs.walk.Advances.{SameSettings}
-use Rattle.ion_text.specs.walk.Holds.{Holds}
-use Rattle.ion_text.specs.walk.Takes.{IsFine, StaysSteady}
 use Rattle.ion_text.proofs.Advancing.{LedSo}
 use Rattle.ion_text.proofs.walk.TextWalk.advance.Given as goal
 

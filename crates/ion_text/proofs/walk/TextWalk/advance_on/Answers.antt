@@ -1,5 +1,5 @@
 use Rattle.std.proofs.Common.{◌≡◌, None, refl}
-use Rattle.ion_text.specs.walk.Ends.{failed}
+use Rattle.ion_text.specs.Names.{failed}
 use Rattle.ion_text.proofs.WalkRuns.{fine_behind, leaves_behind, walk_answers, walks_behind}
 use Rattle.ion_text.proofs.walk.TextWalk.advance_on.Goals as goal
 

@@ -1,5 +1,5 @@
 use Rattle.std.proofs.Common.{reverse, sym, ◌∙◌, arith}
-use Rattle.ion_text.specs.walk.Holds.{setting_of, spot_of}
+use Rattle.ion_text.specs.Names.{setting_of, spot_of}
 use Rattle.ion_text.proofs.Opened.{closes_does, popped}
 use Rattle.ion_text.proofs.walk.TextWalk.close.Goals as goal
 

@@ -1,13 +1,8 @@
 use Rattle.std.proofs.Common.{subst}
 use Rattle.std.specs.Prelude.{IsNone}
-use Rattle.ion_tokens.specs.declared.mode.Place.{Place}
-use Rattle.ion_tokens.specs.declared.scanner.Scanner.{Scanner}
-use Rattle.ion_tokens.specs.machine.Scanning.{at_end}
+use Rattle.ion_text.specs.Names.{Place, Scanner, at_end, end_ready, failure, place, reading_of, scanned, state_of, told}
 use Rattle.ion_tokens.specs.machine.Steps.{Ends}
-use Rattle.ion_tokens.specs.machine.Views.{scanned, failure}
-use Rattle.ion_text.specs.machine.EachToken.{place}
-use Rattle.ion_text.specs.machine.Run.{end_ready, ends}
-use Rattle.ion_text.specs.walk.Holds.{reading_of, state_of, told}
+use Rattle.ion_text.specs.machine.Run.{ends}
 use Rattle.ion_text.proofs.Endings.{now_ready}
 use Rattle.ion_text.proofs.Ends.{ended_same}
 use Rattle.ion_text.proofs.walk.TextWalk.end.Goals as goal

@@ -1,13 +1,11 @@
 use Rattle.std.proofs.Common.{ap, refl, sym, ◌∙◌, subst}
-use Rattle.ion_tokens.specs.Bodies.{content, Quoted}
-use Rattle.ion_tokens.specs.declared.mode.Place.TheVariants as places
-use Rattle.ion_visiting.specs.Parts.{payload_of}
-use Rattle.ion_text.specs.walk.Rare.{SaysThere}
+use Rattle.ion_text.specs.Names.{Place, Quoted, SaysThere, payload_of}
+use Rattle.ion_tokens.specs.Bodies.{content}
 use Rattle.ion_text.proofs.walk.TextWalk.end_body.Goals as goal
 
 pub end_quoted-requires-clause-says : goal.end_quoted-requires-clause-says
 end_quoted-requires-clause-says g c =
-    subst (λ x. SaysThere places.Top c.args.rest.now c.args.octets.now c.args.token x) (ap content c.in-Quoted.is ∙ ap Quoted (sym c.as_str.ensures))
+    subst (λ x. SaysThere Place.Top c.args.rest.now c.args.octets.now c.args.token x) (ap content c.in-Quoted.is ∙ ap Quoted (sym c.as_str.ensures))
     c.requires.says
 
 pub end_string-requires-clause-found : goal.end_string-requires-clause-found

@@ -1,13 +1,5 @@
 use Rattle.std.proofs.Common.{◌+◌, List, [], Ok, ap, sym, ◌∙◌, subst}
-use Rattle.ion_tokens.specs.declared.mode.TokenKind.TheVariants as kinds
-use Rattle.ion_tokens.specs.declared.plain_tokens.Rest.{Rest}
-use Rattle.ion_tokens.specs.machine.Rests.{past_token}
-use Rattle.ion_text.specs.declared.state.Effect.{Effect}
-use Rattle.ion_text.specs.declared.state.Frame.{Frame}
-use Rattle.ion_text.specs.declared.state.Taken.TheVariants as taken
-use Rattle.ion_text.specs.machine.EachToken.{closed}
-use Rattle.ion_text.specs.walk.Holds.{Does, Holds, setting_of, spot_of, told}
-use Rattle.ion_text.specs.walk.Strides.{EndsBy}
+use Rattle.ion_text.specs.Names.{Does, EndsBy, Frame, Holds, Rest, Taken, TokenKind, Turned as Effect, closed, past_token, setting_of, spot_of, told}
 use Rattle.ion_text.proofs.LastTokens.{container_answer}
 use Rattle.ion_text.proofs.walk.TextWalk.end_container.Goals as goal
 
@@ -19,8 +11,8 @@ returns-in-Ok-Gives g c =
     let octets = c.args.octets.now in
     let here = c.place-here.result in
     let bracket = c.in-Some.bracket in
-    subst (λ (r : Rest). EndsBy g.V.Visitor.takes old new rest r octets (Ok (1, taken.Tells)) c.args.visitor.now c.close.new.visitor)
-    (sym (c.past_token.ensures ∙ ap (λ m. past_token here rest (kinds.Mark m) 1) c.close_mark.ensures))
+    subst (λ (r : Rest). EndsBy g.V.Visitor.takes old new rest r octets (Ok (1, Taken.Tells)) c.args.visitor.now c.close.new.visitor)
+    (sym (c.past_token.ensures ∙ ap (λ m. past_token here rest (TokenKind.Mark m) 1) c.close_mark.ensures))
     (container_answer g.V.Visitor.takes old new rest octets c.args.visitor.now c.close.new.visitor c.in-Ok-Gives.ensures.setting here bracket
     c.requires.more c.in-Some.ensures.octet c.in-Some.ensures.closes c.place-here.ensures
     (subst (λ (e : Effect). (fs : List Frame) → Holds old fs [] → Does g.V.Visitor.takes (told fs [])

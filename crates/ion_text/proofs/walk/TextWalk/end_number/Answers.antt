@@ -1,14 +1,5 @@
 use Rattle.std.proofs.Common.{◌+◌, Ok, refl, sym, subst}
-use Rattle.ion_model.specs.Measures.{annotated}
-use Rattle.ion_tokens.specs.declared.mode.Place.TheVariants as places
-use Rattle.ion_tokens.specs.declared.plain_tokens.Rest.{Rest}
-use Rattle.ion_visiting.specs.Parts.{number_payload}
-use Rattle.ion_text.specs.declared.state.Effect.{Effect}
-use Rattle.ion_text.specs.declared.state.Effect.TheVariants.{Gives}
-use Rattle.ion_text.specs.declared.state.Taken.TheVariants as taken
-use Rattle.ion_text.specs.machine.EachToken.{ended, spot_at}
-use Rattle.ion_text.specs.walk.Holds.{Does, SameSetting, setting_of, told}
-use Rattle.ion_text.specs.walk.Strides.{EndsBy}
+use Rattle.ion_text.specs.Names.{Does, EndsBy, Gives, Place, Rest, SameSetting, Taken, Turned as Effect, annotated, ended, number_payload, setting_of, spot_at, told}
 use Rattle.ion_text.proofs.Holding.{number_layer}
 use Rattle.ion_text.proofs.LastTokens.{leaves_answer}
 use Rattle.ion_text.proofs.SaidThere.{number_begins}
@@ -27,9 +18,9 @@ returns-in-Ok-Gives g c =
     let s = c.in-Ok-Gives.ensures.setting in
     let same : SameSetting old new =
     record { catalog = s.catalog; limits = s.limits; scanner = s.scanner; awaited = s.awaited; failed = s.failed } in
-    subst (λ (r : Rest). EndsBy g.V.Visitor.takes old new rest r octets (Ok (token.count, taken.Leaves)) v v) (sym c.past_token.ensures)
+    subst (λ (r : Rest). EndsBy g.V.Visitor.takes old new rest r octets (Ok (token.count, Taken.Leaves)) v v) (sym c.past_token.ensures)
     (leaves_answer g.V.Visitor.takes old new rest octets v v same token payload c.in-Some.ensures.left c.in-Some.ensures.within
-    c.requires.now c.requires.top (number_begins places.Top rest octets token number (c.in-Some.ensures.found.1 places.Top rest refl))
+    c.requires.now c.requires.top (number_begins Place.Top rest octets token number (c.in-Some.ensures.found.1 Place.Top rest refl))
     (λ fs ss h. subst (λ k. Does g.V.Visitor.takes (told fs ss) (ended (setting_of old) (spot_at (rest.used + token.count) k old.context) fs
     (annotated ss payload)) (Ok Gives) new v v) (c.begun_at-self.ensures fs ss h)
     (subst (λ (e : Effect). Does g.V.Visitor.takes (told fs ss) (ended (setting_of old) (spot_at (rest.used + token.count) c.begun_at-self.result old.context) fs

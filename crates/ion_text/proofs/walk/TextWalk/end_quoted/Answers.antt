@@ -1,9 +1,7 @@
 use Rattle.std.proofs.Common.{◌≡◌, Option, Some, false, refl, subst}
 use Rattle.std.specs.Prelude.{IfSome}
+use Rattle.ion_text.specs.Names.{Held, Quoted, is_marker}
 use Rattle.ion_model.specs.declared.value.Payload.TheVariants as payloads
-use Rattle.ion_tokens.specs.Bodies.{Quoted}
-use Rattle.ion_text.specs.declared.state.Held.{Held}
-use Rattle.ion_text.specs.machine.FrontTokens.{is_marker}
 use Rattle.ion_text.proofs.walk.TextWalk.end_quoted.Goals as goal
 
 pub end_word-requires-clause-found : goal.end_word-requires-clause-found

@@ -1,8 +1,8 @@
 use Rattle.std.proofs.Common.{Ok, ap, sym, ◌∙◌, subst}
+use Rattle.ion_text.specs.Names.{reading_of, told}
 use Rattle.ion_tokens.specs.machine.Steps.{Ends}
-use Rattle.ion_text.specs.walk.Holds.{reading_of, told}
 use Rattle.ion_text.proofs.Endings.{ready_refused}
-use Rattle.ion_text.proofs.Ends.{ready_fresh, ready_cut, readies_token}
+use Rattle.ion_text.proofs.Ends.{readies_token, ready_cut, ready_fresh}
 use Rattle.ion_text.proofs.walk.TextWalk.end_ready.Goals as goal
 
 pub returns-in-Err : goal.returns-in-Err

@@ -1,7 +1,5 @@
 use Rattle.std.proofs.Common.{Ok, subst}
-use Rattle.ion_text.specs.declared.state.Effect.{Effect}
-use Rattle.ion_text.specs.machine.EachToken.{settle}
-use Rattle.ion_text.specs.walk.Holds.{Does, reading_of, told}
+use Rattle.ion_text.specs.Names.{Does, Turned as Effect, reading_of, settle, told}
 use Rattle.ion_text.proofs.Ends.{settled_gives}
 use Rattle.ion_text.proofs.walk.TextWalk.end_settled.Goals as goal
 

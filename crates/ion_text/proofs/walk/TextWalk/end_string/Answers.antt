@@ -1,14 +1,5 @@
 use Rattle.std.proofs.Common.{◌+◌, ◌<◌, Ok, false, length, arith, sym, subst}
-use Rattle.ion_model.specs.Measures.{annotated}
-use Rattle.ion_tokens.specs.declared.mode.Place.TheVariants as places
-use Rattle.ion_tokens.specs.declared.plain_tokens.Rest.{Rest}
-use Rattle.ion_visiting.specs.Parts.{payload_of}
-use Rattle.ion_text.specs.declared.state.Effect.{Effect}
-use Rattle.ion_text.specs.declared.state.Effect.TheVariants.{Gives}
-use Rattle.ion_text.specs.declared.state.Taken.TheVariants as taken
-use Rattle.ion_text.specs.machine.EachToken.{ended, spot_at}
-use Rattle.ion_text.specs.walk.Holds.{Does, SameSetting, setting_of, told}
-use Rattle.ion_text.specs.walk.Strides.{EndsBy}
+use Rattle.ion_text.specs.Names.{Does, EndsBy, Gives, Place, Rest, SameSetting, Taken, Turned as Effect, annotated, ended, payload_of, setting_of, spot_at, told}
 use Rattle.ion_text.proofs.LastTokens.{tells_answer}
 use Rattle.ion_text.proofs.SaidThere.{part_begins}
 use Rattle.ion_text.proofs.walk.TextWalk.end_string.Goals as goal
@@ -26,9 +17,9 @@ returns-in-Ok-Gives g c =
     let same : SameSetting old new =
     record { catalog = s.catalog; limits = s.limits; scanner = s.scanner; awaited = s.awaited; failed = s.failed } in
     let more : token.count < length octets = omega (arith, c.if-token-octets.false) in
-    subst (λ (r : Rest). EndsBy g.V.Visitor.takes old new rest r octets (Ok (token.count, taken.Tells)) c.args.visitor.now b) (sym c.past_token.ensures)
+    subst (λ (r : Rest). EndsBy g.V.Visitor.takes old new rest r octets (Ok (token.count, Taken.Tells)) c.args.visitor.now b) (sym c.past_token.ensures)
     (tells_answer g.V.Visitor.takes old new rest octets c.args.visitor.now b same token payload c.requires.given more c.requires.now c.requires.top
-    (part_begins false places.Top rest octets c.args.scalar payload c.requires.found c.requires.waits)
+    (part_begins false Place.Top rest octets c.args.scalar payload c.requires.found c.requires.waits)
     (λ fs ss h. subst (λ k. Does g.V.Visitor.takes (told fs ss) (ended (setting_of old) (spot_at (rest.used + token.count) k old.context) fs
     (annotated ss payload)) (Ok Gives) new c.args.visitor.now b) (c.begun_at-self.ensures fs ss h)
     (subst (λ (e : Effect). Does g.V.Visitor.takes (told fs ss) (ended (setting_of old) (spot_at (rest.used + token.count) c.begun_at-self.result old.context) fs

@@ -1,10 +1,6 @@
 use Rattle.std.proofs.Common.{Ok, subst}
-use Rattle.ion_model.specs.Measures.{annotated}
+use Rattle.ion_text.specs.Names.{Does, Gives, SameSetting, Turned as Effect, annotated, ended, setting_of, spot_at, told}
 use Rattle.ion_model.specs.declared.value.Payload.TheVariants as payloads
-use Rattle.ion_text.specs.declared.state.Effect.{Effect}
-use Rattle.ion_text.specs.declared.state.Effect.TheVariants.{Gives}
-use Rattle.ion_text.specs.machine.EachToken.{ended, spot_at}
-use Rattle.ion_text.specs.walk.Holds.{Does, SameSetting, setting_of, told}
 use Rattle.ion_text.proofs.LastTokens.{long_ends_answer}
 use Rattle.ion_text.proofs.walk.TextWalk.end_text.Goals as goal
 

@@ -1,8 +1,6 @@
 use Rattle.std.proofs.Common.{Ok, ap, subst}
-use Rattle.ion_text.specs.declared.state.Effect.{Effect}
-use Rattle.ion_text.specs.machine.EachToken.{turn}
+use Rattle.ion_text.specs.Names.{Does, Turned as Effect, reading_of, told, turn}
 use Rattle.ion_text.specs.machine.Views.{token_in}
-use Rattle.ion_text.specs.walk.Holds.{Does, reading_of, told}
 use Rattle.ion_text.proofs.Ends.{turned_gives, turned_settles}
 use Rattle.ion_text.proofs.walk.TextWalk.end_turned.Goals as goal
 

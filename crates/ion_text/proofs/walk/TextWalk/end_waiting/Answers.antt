@@ -1,8 +1,7 @@
 use Rattle.std.proofs.Common.{Ok, ap, subst, ◌∙◌}
+use Rattle.ion_text.specs.Names.{reading_of, settle, told}
 use Rattle.ion_tokens.specs.machine.Steps.{Ends}
-use Rattle.ion_text.specs.machine.EachToken.{settle}
-use Rattle.ion_text.specs.walk.Holds.{reading_of, told}
-use Rattle.ion_text.proofs.Ends.{waits_none, waits_token, waits_refused}
+use Rattle.ion_text.proofs.Ends.{waits_none, waits_refused, waits_token}
 use Rattle.ion_text.proofs.walk.TextWalk.end_waiting.Goals as goal
 
 pub returns-in_default : goal.returns-in_default

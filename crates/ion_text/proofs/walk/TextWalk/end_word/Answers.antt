@@ -1,14 +1,5 @@
 use Rattle.std.proofs.Common.{◌+◌, Ok, ap, sym, ◌∙◌, subst}
-use Rattle.ion_model.specs.Measures.{annotated}
-use Rattle.ion_tokens.specs.declared.plain_tokens.Rest.{Rest}
-use Rattle.ion_tokens.specs.machine.Rests.{past_blank}
-use Rattle.ion_visiting.specs.Parts.{payload_of}
-use Rattle.ion_text.specs.declared.state.Effect.{Effect}
-use Rattle.ion_text.specs.declared.state.Effect.TheVariants.{Gives}
-use Rattle.ion_text.specs.declared.state.Taken.TheVariants as taken
-use Rattle.ion_text.specs.machine.EachToken.{ended, spot_at}
-use Rattle.ion_text.specs.walk.Holds.{Does, SameSetting, setting_of, told}
-use Rattle.ion_text.specs.walk.Strides.{EndsBy}
+use Rattle.ion_text.specs.Names.{Does, EndsBy, Gives, Rest, SameSetting, Taken, Turned as Effect, annotated, ended, past_blank, payload_of, setting_of, spot_at, told}
 use Rattle.ion_text.proofs.LastTokens.{word_ends_answer}
 use Rattle.ion_text.proofs.walk.TextWalk.end_word.Goals as goal
 
@@ -25,7 +16,7 @@ returns-in-Ok-Gives g c =
     let same : SameSetting old new =
     record { catalog = s.catalog; limits = s.limits; scanner = s.scanner; awaited = s.awaited; failed = s.failed } in
     let m = c.args.between in
-    subst (λ (r : Rest). EndsBy g.V.Visitor.takes old new rest r octets (Ok (token.count + m, taken.Leaves)) c.args.visitor.now b) (sym (c.past_blank.ensures ∙ ap (λ r. past_blank r m) c.past_token.ensures))
+    subst (λ (r : Rest). EndsBy g.V.Visitor.takes old new rest r octets (Ok (token.count + m, Taken.Leaves)) c.args.visitor.now b) (sym (c.past_blank.ensures ∙ ap (λ r. past_blank r m) c.past_token.ensures))
     (word_ends_answer g.V.Visitor.takes old new rest octets c.args.visitor.now b same c.args.scalar m payload c.requires.found c.requires.some
     c.requires.within c.requires.now c.requires.top c.requires.passed c.requires.ends
     (λ fs ss h. subst (λ k. Does g.V.Visitor.takes (told fs ss) (ended (setting_of old) (spot_at (rest.used + token.count) k old.context) fs

@@ -1,7 +1,6 @@
 use Rattle.std.proofs.Common.{sym, ap, ◌∙◌}
-use Rattle.ion_text.specs.machine.EachToken.{ended}
-use Rattle.ion_text.specs.walk.Holds.{open_brackets, setting_of, spot_of}
-use Rattle.ion_text.proofs.Ended.{top_ends, inner_ends, behind_in}
+use Rattle.ion_text.specs.Names.{ended, open_brackets, setting_of, spot_of}
+use Rattle.ion_text.proofs.Ended.{behind_in, inner_ends, top_ends}
 use Rattle.ion_text.proofs.walk.TextWalk.ended.Goals as goal
 
 pub returns-then-not-is_inside-clause-does : goal.returns-then-not-is_inside-clause-does

@@ -1,11 +1,7 @@
 use Rattle.std.proofs.Common.{◌≡◌, ◌+◌, ◌≤◌, true, Ok, reverse, [], refl, ap, sym, subst, ◌∙◌, arith}
 use Rattle.std.specs.Prelude.{nat_le}
 use Rattle.std.proofs.lemmas.Bool.Decides.{nat_tests}
-use Rattle.ion_symtab.specs.Next.{next}
-use Rattle.ion_visiting.specs.Events.{events_of}
-use Rattle.ion_visiting.specs.Tables.{WasTold}
-use Rattle.ion_text.specs.declared.walk.TextWalk.{TextWalk}
-use Rattle.ion_text.specs.walk.Holds.{setting_of, spot_of}
+use Rattle.ion_text.specs.Names.{TextWalk, WasTold, events_of, next, setting_of, spot_of}
 use Rattle.ion_text.proofs.Ended.{given, gives_out, table_out}
 use Rattle.ion_text.proofs.walk.TextWalk.give_table.Goals as goal
 

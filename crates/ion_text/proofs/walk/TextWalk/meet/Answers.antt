@@ -1,10 +1,7 @@
 use Rattle.std.proofs.Common.{◌≡◌, [], None, Some, Ok, refl, sym, ap, ◌∙◌, true, false}
-use Rattle.ion_tokens.specs.machine.Scanning.{run}
-use Rattle.ion_tokens.specs.machine.Steps.{stepped}
-use Rattle.ion_tokens.specs.machine.Views.{scanned, left_in}
-use Rattle.ion_text.specs.walk.Holds.{reading_of, told}
-use Rattle.ion_text.proofs.Meetings.{scan_refused, blank_refused, ended_refused, before_refused}
-use Rattle.ion_text.proofs.Taking.{with_scanner, no_token_meets, given_token_meets, left_token_meets, no_token_met, given_token_met, left_token_met}
+use Rattle.ion_text.specs.Names.{left_in, reading_of, scan as run, scanned, stepped, told}
+use Rattle.ion_text.proofs.Meetings.{before_refused, blank_refused, ended_refused, scan_refused}
+use Rattle.ion_text.proofs.Taking.{given_token_meets, given_token_met, left_token_meets, left_token_met, no_token_meets, no_token_met, with_scanner}
 use Rattle.ion_text.proofs.walk.TextWalk.meet.Goals as goal
 
 pub returns-in-Err-clause-met : goal.returns-in-Err-clause-met

@@ -1,9 +1,6 @@
 use Rattle.std.proofs.Common.{Ok, ap, subst}
-use Rattle.ion_tokens.specs.machine.Views.{scanned}
-use Rattle.ion_text.specs.declared.state.Effect.{Effect}
-use Rattle.ion_text.specs.machine.EachToken.{turn}
+use Rattle.ion_text.specs.Names.{Does, Turned as Effect, reading_of, scanned, told, turn}
 use Rattle.ion_text.specs.machine.Views.{token_in}
-use Rattle.ion_text.specs.walk.Holds.{Does, reading_of, told}
 use Rattle.ion_text.proofs.Taking.{given_gives}
 use Rattle.ion_text.proofs.walk.TextWalk.meet_given.Goals as goal
 

@@ -1,7 +1,5 @@
 use Rattle.std.proofs.Common.{Some, ap, sym, subst}
-use Rattle.ion_visiting.specs.Events.{name}
-use Rattle.ion_visiting.specs.Tables.{Tells}
-use Rattle.ion_text.specs.declared.walk.TextWalk.{TextWalk}
+use Rattle.ion_text.specs.Names.{Tells, TextWalk, name}
 use Rattle.ion_text.proofs.Opened.{names_does}
 use Rattle.ion_text.proofs.walk.TextWalk.named_by.Goals as goal
 

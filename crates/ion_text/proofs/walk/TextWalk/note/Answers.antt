@@ -1,5 +1,5 @@
 use Rattle.std.proofs.Common.{[], ◌∷◌, ◌++◌, refl, ap, sym}
-use Rattle.ion_text.specs.machine.EachToken.{at, goes}
+use Rattle.ion_text.specs.Names.{at, goes}
 use Rattle.ion_text.proofs.Opened.{notes_went}
 use Rattle.ion_text.proofs.walk.TextWalk.note.Goals as goal
 

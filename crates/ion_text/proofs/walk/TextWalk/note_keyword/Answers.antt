@@ -1,8 +1,5 @@
 use Rattle.std.proofs.Common.{[], ◌∷◌, ◌++◌, None, refl, ap, sym, subst}
-use Rattle.ion_atoms.specs.declared.refusal.Reason.TheVariants as reasons
-use Rattle.ion_visiting.specs.Events.{annotation}
-use Rattle.ion_visiting.specs.Tables.{Tells}
-use Rattle.ion_text.specs.machine.EachToken.{at, late}
+use Rattle.ion_text.specs.Names.{Reason, Tells, annotation, at, late}
 use Rattle.ion_text.proofs.Opened.{notes_went}
 use Rattle.ion_text.proofs.walk.TextWalk.note_keyword.Goals as goal
 
@@ -11,7 +8,7 @@ returns-clause-does g c = λ fs ss h.
     let r = c.args.self.now in (
       fs,
       ss ++ None ∷ [],
-      ap (λ n. late reasons.KeywordAsName (at r.start r.context fs (ss ++ None ∷ []) n)) (sym c.requires),
+      ap (λ n. late Reason.KeywordAsName (at r.start r.context fs (ss ++ None ∷ []) n)) (sym c.requires),
       notes_went g.V.Visitor.takes r _ None c.args.visitor.now c.annotation.new.visitor c.requires refl refl refl
           (subst (λ s. Tells g.V.Visitor.takes (annotation s) r.filter c.annotation.new.self c.args.visitor.now c.annotation.new.visitor) c.unknown.ensures (c.annotation.ensures c.in_ok-heard.ensures.ok)) fs ss h,
     )

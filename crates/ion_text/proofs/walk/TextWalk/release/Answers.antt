@@ -1,8 +1,6 @@
 use Rattle.std.proofs.Common.{[], sym, subst, ◌∙◌}
-use Rattle.ion_text.specs.declared.state.Held.{Held}
-use Rattle.ion_text.specs.machine.EachToken.{released}
-use Rattle.ion_text.specs.walk.Holds.{Does, Holds, setting_of, spot_of, told}
-use Rattle.ion_text.proofs.Ended.{top_alone, bare_alone}
+use Rattle.ion_text.specs.Names.{Does, Held, Holds, released, setting_of, spot_of, told}
+use Rattle.ion_text.proofs.Ended.{bare_alone, top_alone}
 use Rattle.ion_text.proofs.Taking.{does_alone}
 use Rattle.ion_text.proofs.walk.TextWalk.release.Goals as goal
 

@@ -1,6 +1,5 @@
 use Rattle.std.proofs.Common.{◌≡◌, ◌<◌, length, arith, ap}
-use Rattle.ion_tokens.specs.machine.Scanning.{Known}
-use Rattle.ion_tokens.specs.machine.Views.{scanned}
+use Rattle.ion_text.specs.Names.{Known, scanned}
 use Rattle.ion_text.proofs.LastTokens.{took_there}
 use Rattle.ion_text.proofs.walk.TextWalk.stride.Goals as goal
 

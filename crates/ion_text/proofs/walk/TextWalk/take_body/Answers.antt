@@ -1,6 +1,6 @@
 use Rattle.std.proofs.Common.{refl}
+use Rattle.ion_text.specs.Names.{payload_of}
 use Rattle.ion_tokens.specs.Bodies.{content}
-use Rattle.ion_visiting.specs.Parts.{payload_of}
 use Rattle.ion_text.proofs.walk.TextWalk.take_body.Goals as goal
 
 pub take_whole-requires-clause-found : goal.take_whole-requires-clause-found

@@ -1,12 +1,5 @@
 use Rattle.std.proofs.Common.{◌+◌, ◌<◌, List, [], Ok, length, arith, ap, sym, ◌∙◌, subst}
-use Rattle.ion_tokens.specs.declared.mode.TokenKind.TheVariants as kinds
-use Rattle.ion_tokens.specs.declared.plain_tokens.Rest.{Rest}
-use Rattle.ion_tokens.specs.machine.Rests.{past_token}
-use Rattle.ion_text.specs.declared.state.Effect.{Effect}
-use Rattle.ion_text.specs.declared.state.Frame.{Frame}
-use Rattle.ion_text.specs.machine.EachToken.{closed}
-use Rattle.ion_text.specs.walk.Holds.{Does, Holds, setting_of, spot_of, told}
-use Rattle.ion_text.specs.walk.Strides.{StridesBy}
+use Rattle.ion_text.specs.Names.{Does, Frame, Holds, Rest, StridesBy, TokenKind, Turned as Effect, closed, past_token, setting_of, spot_of, told}
 use Rattle.ion_text.proofs.Strides.{close_answer}
 use Rattle.ion_text.proofs.walk.TextWalk.take_close.Goals as goal
 
@@ -20,7 +13,7 @@ returns-in-Ok-Goes g c =
     let bracket = c.in-Some.bracket in
     let nested : 1 < length old.frames.items = omega (arith, c.if-len-lt2.false, c.len.ensures) in
     subst (λ (r : Rest). StridesBy g.V.Visitor.takes old new rest r octets (Ok 1) c.args.visitor.now c.close.new.visitor)
-    (sym (c.past_token.ensures ∙ ap (λ m. past_token here rest (kinds.Mark m) 1) c.close_mark.ensures))
+    (sym (c.past_token.ensures ∙ ap (λ m. past_token here rest (TokenKind.Mark m) 1) c.close_mark.ensures))
     (close_answer g.V.Visitor.takes old new rest octets c.args.visitor.now c.close.new.visitor c.in-Ok-Goes.ensures.setting here bracket c.requires.more
     c.in-Some.ensures.octet c.in-Some.ensures.closes c.place-here.ensures nested
     (subst (λ (e : Effect). (fs : List Frame) → Holds old fs [] → Does g.V.Visitor.takes (told fs [])

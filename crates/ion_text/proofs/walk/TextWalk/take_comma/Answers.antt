@@ -1,10 +1,5 @@
 use Rattle.std.proofs.Common.{List, [], Ok, refl, sym, subst}
-use Rattle.ion_tokens.specs.declared.plain_tokens.Rest.{Rest}
-use Rattle.ion_text.specs.declared.state.Effect.{Effect}
-use Rattle.ion_text.specs.declared.state.Frame.{Frame}
-use Rattle.ion_text.specs.machine.EachToken.{on_comma}
-use Rattle.ion_text.specs.walk.Holds.{DoesAlone, Holds, told}
-use Rattle.ion_text.specs.walk.Strides.{StridesBy}
+use Rattle.ion_text.specs.Names.{DoesAlone, Frame, Holds, Rest, StridesBy, Turned as Effect, on_comma, told}
 use Rattle.ion_text.proofs.Strides.{comma_answer}
 use Rattle.ion_text.proofs.walk.TextWalk.take_comma.Goals as goal
 

@@ -1,10 +1,6 @@
 use Rattle.std.proofs.Common.{◌+◌, List, Ok, subst}
-use Rattle.ion_model.specs.Measures.{annotated}
+use Rattle.ion_text.specs.Names.{Does, Frame, Holds, SameSetting, Symbols, Turned as Effect, annotated, ended, setting_of, spot_of, told}
 use Rattle.ion_model.specs.declared.value.Payload.TheVariants as payloads
-use Rattle.ion_text.specs.declared.state.Effect.{Effect}
-use Rattle.ion_text.specs.declared.state.Frame.{Frame}
-use Rattle.ion_text.specs.machine.EachToken.{Symbols, ended}
-use Rattle.ion_text.specs.walk.Holds.{Does, Holds, SameSetting, setting_of, spot_of, told}
 use Rattle.ion_text.proofs.Ended.{whole_does}
 use Rattle.ion_text.proofs.Holding.{symbol_layer}
 use Rattle.ion_text.proofs.SaidThere.{id_waits}

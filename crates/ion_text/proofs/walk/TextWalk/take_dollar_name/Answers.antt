@@ -1,14 +1,5 @@
 use Rattle.std.proofs.Common.{◌+◌, Ok, ap, sym, ◌∙◌, subst}
-use Rattle.ion_tokens.specs.declared.mode.Mark.TheVariants as marks
-use Rattle.ion_tokens.specs.declared.mode.Place.TheVariants as places
-use Rattle.ion_tokens.specs.declared.mode.TokenKind.TheVariants as kinds
-use Rattle.ion_tokens.specs.declared.plain_tokens.Rest.{Rest}
-use Rattle.ion_tokens.specs.machine.Rests.{past_blank, past_token}
-use Rattle.ion_visiting.specs.Events.{name}
-use Rattle.ion_visiting.specs.Tables.{Tells}
-use Rattle.ion_text.specs.declared.walk.TextWalk.{TextWalk}
-use Rattle.ion_text.specs.walk.Holds.{SameSetting}
-use Rattle.ion_text.specs.walk.Strides.{StridesBy}
+use Rattle.ion_text.specs.Names.{Mark, Place, Rest, SameSetting, StridesBy, Tells, TextWalk, TokenKind, name, past_blank, past_token}
 use Rattle.ion_text.proofs.Opened.{names_does}
 use Rattle.ion_text.proofs.SaidThere.{id_names}
 use Rattle.ion_text.proofs.Strides.{key_answer}
@@ -37,9 +28,9 @@ returns g c =
     } in
     subst (λ (r : Rest). StridesBy g.V.Visitor.takes old new rest r octets (Ok (token.count + m + 1)) a b)
     (sym (c.past_token-2.ensures
-    ∙ ap (λ r. past_token places.Name r (kinds.Mark marks.Colon) 1) (c.past_blank.ensures ∙ ap (λ r. past_blank r m) c.past_token.ensures)))
+    ∙ ap (λ r. past_token Place.Name r (TokenKind.Mark Mark.Colon) 1) (c.past_blank.ensures ∙ ap (λ r. past_blank r m) c.past_token.ensures)))
     (key_answer g.V.Visitor.takes old new rest octets a b same token m s behind.ensures.within c.requires.now
-    (id_names old.context rest octets token c.in-Some.id s c.in-Some.ensures.word c.in-Ok.ensures (c.in-Some.ensures.says places.Name rest))
+    (id_names old.context rest octets token c.in-Some.id s c.in-Some.ensures.word c.in-Ok.ensures (c.in-Some.ensures.says Place.Name rest))
     behind.ensures.passed behind.ensures.colon behind.ensures.one
     (names_does g.V.Visitor.takes old new s a b c.requires.now (ap (λ (w : TextWalk). w.frames) e) (ap (λ (w : TextWalk). w.noted) e)
     (ap (λ (w : TextWalk). w.stage) e) (ap (λ (w : TextWalk). w.start) e) (ap (λ (w : TextWalk). w.context) e)

@@ -1,5 +1,4 @@
-use Rattle.ion_text.specs.walk.Holds.{SameSetting}
-use Rattle.ion_text.specs.walk.Strides.{Strode}
+use Rattle.ion_text.specs.Names.{SameSetting, Strode}
 use Rattle.ion_text.proofs.walk.TextWalk.take_each.Given as goal
 
 -- the octets before `at` were taken up

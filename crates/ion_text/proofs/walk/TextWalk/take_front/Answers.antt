@@ -1,12 +1,7 @@
 use Rattle.std.proofs.Common.{ℕ, Ok, sym, refl, subst, arith, get_or}
 use Rattle.std.proofs.lemmas.List.{length-take-le}
-use Rattle.ion_tokens.specs.machine.Views.{scanned}
-use Rattle.ion_text.specs.declared.state.Taken.{Taken}
-use Rattle.ion_text.specs.machine.Run.{eats}
-use Rattle.ion_text.specs.machine.Views.{IsLull}
-use Rattle.ion_text.specs.walk.Holds.{reading_of, state_of, told}
-use Rattle.ion_text.specs.walk.Takes.{DidTake}
-use Rattle.ion_text.proofs.Advancing.{prefix_took, lull_reached, octet_uses, octet_tells, octet_leaves, octet_refused}
+use Rattle.ion_text.specs.Names.{DidTake, IsLull, Taken, eats, reading_of, scanned, state_of, told}
+use Rattle.ion_text.proofs.Advancing.{lull_reached, octet_leaves, octet_refused, octet_tells, octet_uses, prefix_took}
 use Rattle.ion_text.proofs.walk.TextWalk.take_front.Goals as goal
 
 pub returns-then-stretch-gt0-clause-took : goal.returns-then-stretch-gt0-clause-took

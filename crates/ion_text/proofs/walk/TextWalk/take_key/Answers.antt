@@ -1,14 +1,5 @@
 use Rattle.std.proofs.Common.{◌+◌, List, [], Some, Ok, ap, sym, ◌∙◌, subst}
-use Rattle.ion_tokens.specs.declared.mode.Mark.TheVariants as marks
-use Rattle.ion_tokens.specs.declared.mode.Place.TheVariants as places
-use Rattle.ion_tokens.specs.declared.mode.TokenKind.TheVariants as kinds
-use Rattle.ion_tokens.specs.declared.plain_tokens.Rest.{Rest}
-use Rattle.ion_tokens.specs.machine.Rests.{past_blank, past_token}
-use Rattle.ion_text.specs.declared.state.Effect.{Effect}
-use Rattle.ion_text.specs.declared.state.Frame.{Frame}
-use Rattle.ion_text.specs.machine.EachToken.{named}
-use Rattle.ion_text.specs.walk.Holds.{Does, Holds, told}
-use Rattle.ion_text.specs.walk.Strides.{StridesBy}
+use Rattle.ion_text.specs.Names.{Does, Frame, Holds, Mark, Place, Rest, StridesBy, TokenKind, Turned as Effect, named, past_blank, past_token, told}
 use Rattle.ion_text.proofs.SaidThere.{begins_name}
 use Rattle.ion_text.proofs.Strides.{key_answer}
 use Rattle.ion_text.proofs.walk.TextWalk.take_key.Goals as goal
@@ -24,7 +15,7 @@ returns-in-Ok-Goes g c =
     let name = Some c.args.text.now in
     subst (λ (r : Rest). StridesBy g.V.Visitor.takes old new rest r octets (Ok (token.count + m + 1)) c.args.visitor.now c.named_by.new.visitor)
     (sym (c.past_token-in-Ok-Goes.ensures
-    ∙ ap (λ r. past_token places.Name r (kinds.Mark marks.Colon) 1) (c.past_blank.ensures ∙ ap (λ r. past_blank r m) c.past_token.ensures)))
+    ∙ ap (λ r. past_token Place.Name r (TokenKind.Mark Mark.Colon) 1) (c.past_blank.ensures ∙ ap (λ r. past_blank r m) c.past_token.ensures)))
     (key_answer g.V.Visitor.takes old new rest octets c.args.visitor.now c.named_by.new.visitor c.in-Ok-Goes.ensures.setting token m name
     c.in-Some.ensures.within c.requires.now (begins_name old.context rest octets token name c.requires.token)
     c.in-Some.ensures.passed c.in-Some.ensures.colon c.in-Some.ensures.one

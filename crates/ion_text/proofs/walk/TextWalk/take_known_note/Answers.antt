@@ -1,14 +1,5 @@
 use Rattle.std.proofs.Common.{◌∷◌, ◌++◌, ◌+◌, List, [], Ok, ap, sym, ◌∙◌, subst}
-use Rattle.ion_tokens.specs.declared.mode.Mark.TheVariants as marks
-use Rattle.ion_tokens.specs.declared.mode.TokenKind.TheVariants as kinds
-use Rattle.ion_tokens.specs.declared.plain_tokens.Rest.{Rest}
-use Rattle.ion_tokens.specs.machine.Rests.{past_blank, past_token}
-use Rattle.ion_text.specs.declared.state.Effect.{Effect}
-use Rattle.ion_text.specs.declared.state.Frame.{Frame}
-use Rattle.ion_text.specs.declared.state.Now.TheVariants as nows
-use Rattle.ion_text.specs.machine.EachToken.{Symbols, at, goes}
-use Rattle.ion_text.specs.walk.Holds.{Does, Holds, told}
-use Rattle.ion_text.specs.walk.Strides.{StridesBy}
+use Rattle.ion_text.specs.Names.{Does, Frame, Holds, Mark, Now, Rest, StridesBy, Symbols, TokenKind, Turned as Effect, at, goes, past_blank, past_token, told}
 use Rattle.ion_text.proofs.Strides.{symbol_note_answer}
 use Rattle.ion_text.proofs.walk.TextWalk.take_known_note.Goals as goal
 
@@ -24,10 +15,10 @@ returns-in-Ok-Goes g c =
     let m = c.in-Some.between in
     subst (λ (r : Rest). StridesBy g.V.Visitor.takes old new rest r octets (Ok (token.count + m + 2)) c.args.visitor.now c.note.new.visitor)
     (sym (c.past_token-in-Ok-Goes.ensures
-    ∙ ap (λ r. past_token here r (kinds.Mark marks.Colons) 2) (c.past_blank.ensures ∙ ap (λ r. past_blank r m) c.past_token.ensures)))
+    ∙ ap (λ r. past_token here r (TokenKind.Mark Mark.Colons) 2) (c.past_blank.ensures ∙ ap (λ r. past_blank r m) c.past_token.ensures)))
     (symbol_note_answer g.V.Visitor.takes old new rest octets c.args.visitor.now c.note.new.visitor c.in-Ok-Goes.ensures.setting here token m s
     c.in-Some.ensures.within c.requires.now c.requires.inner c.requires.here c.requires.there c.in-Some.ensures.passed c.in-Some.ensures.one
     c.in-Some.ensures.two
     (subst (λ (e : Effect). (fs : List Frame) (ss : Symbols) → Holds old fs ss → Does g.V.Visitor.takes (told fs ss)
-    (goes (at old.start old.context fs (ss ++ s ∷ []) nows.Ready)) (Ok e) new c.args.visitor.now c.note.new.visitor)
+    (goes (at old.start old.context fs (ss ++ s ∷ []) Now.Ready)) (Ok e) new c.args.visitor.now c.note.new.visitor)
     c.in-Ok-Goes.field-0-is c.in-Ok-Goes.ensures.does))

@@ -1,9 +1,6 @@
 use Rattle.std.proofs.Common.{[], Result, Ok, Err}
 use Rattle.std.specs.Result.{OnOk}
-use Rattle.ion_atoms.specs.declared.refusal.Refusal.{Refusal}
-use Rattle.ion_tokens.specs.machine.Views.{scanned}
-use Rattle.ion_text.specs.machine.EachToken.{place}
-use Rattle.ion_text.specs.walk.Holds.{reading_of}
+use Rattle.ion_text.specs.Names.{Refusal, place, reading_of, scanned}
 use Rattle.ion_text.proofs.Lulls.{led_by_lull, used_by_lull}
 use Rattle.ion_text.proofs.walk.TextWalk.take_lull.Goals as goal
 

@@ -1,9 +1,9 @@
 use Rattle.std.proofs.Common.{◌-◌, ◌<◌, length, take, drop, arith, sym, subst}
 use Rattle.std.proofs.lemmas.List.{take_rest}
-use Rattle.ion_tokens.specs.machine.Rests.{RestsBehind}
+use Rattle.ion_text.specs.Names.{RestsBehind}
 use Rattle.ion_tokens.proofs.runs.WholeComments.{white_rests}
-use Rattle.ion_text.proofs.Strides.{blank_strode, settings_none, strides_ok}
 use Rattle.ion_text.proofs.LastTokens.{ends_none, ends_on, strides_ends}
+use Rattle.ion_text.proofs.Strides.{blank_strode, settings_none, strides_ok}
 use Rattle.ion_text.proofs.walk.TextWalk.take_next.Goals as goal
 
 pub returns-then-blank-octets : goal.returns-then-blank-octets

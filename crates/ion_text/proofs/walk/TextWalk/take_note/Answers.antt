@@ -1,11 +1,5 @@
 use Rattle.std.proofs.Common.{◌∷◌, ◌++◌, ◌+◌, [], Ok, ap, sym, ◌∙◌, subst}
-use Rattle.ion_model.specs.Kinds.{names_table}
-use Rattle.ion_tokens.specs.declared.mode.Mark.TheVariants as marks
-use Rattle.ion_tokens.specs.declared.mode.TokenKind.TheVariants as kinds
-use Rattle.ion_tokens.specs.declared.plain_tokens.Rest.{Rest}
-use Rattle.ion_tokens.specs.machine.Rests.{past_blank, past_token}
-use Rattle.ion_text.specs.walk.Holds.{SameSetting, WentOn, told}
-use Rattle.ion_text.specs.walk.Strides.{StridesBy}
+use Rattle.ion_text.specs.Names.{Mark, Rest, SameSetting, StridesBy, TokenKind, WentOn, names_table, past_blank, past_token, told}
 use Rattle.ion_text.proofs.Strides.{note_answer}
 use Rattle.ion_text.proofs.walk.TextWalk.take_note.Goals as goal
 
@@ -28,7 +22,7 @@ returns g c =
     record { catalog = s.setting.catalog; limits = s.setting.limits; scanner = s.setting.scanner; awaited = s.setting.awaited; failed = s.setting.failed } in
     subst (λ (r : Rest). StridesBy g.V.Visitor.takes old new rest r octets (Ok (token.count + m + 2)) c.args.visitor.now c.note_by.new.visitor)
     (sym (c.past_token-2.ensures
-    ∙ ap (λ r. past_token here r (kinds.Mark marks.Colons) 2) (c.past_blank.ensures ∙ ap (λ r. past_blank r m) c.past_token.ensures)))
+    ∙ ap (λ r. past_token here r (TokenKind.Mark Mark.Colons) 2) (c.past_blank.ensures ∙ ap (λ r. past_blank r m) c.past_token.ensures)))
     (note_answer g.V.Visitor.takes old new rest octets c.args.visitor.now c.note_by.new.visitor same here token x.token m x.within c.requires.now
     c.note_by.ensures.stage c.place-here.ensures (λ fs ss h. s.start ∙ c.begun_at-self.ensures fs ss h) s.context x.passed x.one x.two
     (λ fs ss h. subst (λ t. WentOn g.V.Visitor.takes (told fs ss) new fs (ss ++ t ∷ []) c.args.visitor.now c.note_by.new.visitor) (sym x.is)

@@ -1,13 +1,5 @@
 use Rattle.std.proofs.Common.{◌+◌, List, Ok, ap, sym, ◌∙◌, subst}
-use Rattle.ion_model.specs.Measures.{annotated}
-use Rattle.ion_tokens.specs.Places.{is_name}
-use Rattle.ion_tokens.specs.declared.plain_tokens.Rest.{Rest}
-use Rattle.ion_visiting.specs.Parts.{number_payload}
-use Rattle.ion_text.specs.declared.state.Effect.{Effect}
-use Rattle.ion_text.specs.declared.state.Frame.{Frame}
-use Rattle.ion_text.specs.machine.EachToken.{Symbols, ended}
-use Rattle.ion_text.specs.walk.Holds.{Does, Holds, setting_of, spot_of, told}
-use Rattle.ion_text.specs.walk.Strides.{StridesBy}
+use Rattle.ion_text.specs.Names.{Does, Frame, Holds, Rest, StridesBy, Symbols, Turned as Effect, annotated, ended, is_name, number_payload, setting_of, spot_of, told}
 use Rattle.ion_text.proofs.Holding.{number_layer}
 use Rattle.ion_text.proofs.SaidThere.{number_begins}
 use Rattle.ion_text.proofs.Strides.{value_answer, value_place}

@@ -1,12 +1,5 @@
 use Rattle.std.proofs.Common.{Ok, ap, sym, ◌∙◌, subst}
-use Rattle.ion_tokens.specs.declared.mode.TokenKind.TheVariants as kinds
-use Rattle.ion_tokens.specs.declared.plain_tokens.Rest.{Rest}
-use Rattle.ion_tokens.specs.machine.Rests.{past_token}
-use Rattle.ion_text.specs.declared.state.Effect.{Effect}
-use Rattle.ion_text.specs.declared.state.Effect.TheVariants.{Goes}
-use Rattle.ion_text.specs.machine.EachToken.{opening}
-use Rattle.ion_text.specs.walk.Holds.{Does, SameSetting, told}
-use Rattle.ion_text.specs.walk.Strides.{StridesBy}
+use Rattle.ion_text.specs.Names.{Does, Goes, Rest, SameSetting, StridesBy, TokenKind, Turned as Effect, opening, past_token, told}
 use Rattle.ion_text.proofs.Strides.{open_answer}
 use Rattle.ion_text.proofs.walk.TextWalk.take_open.Goals as goal
 
@@ -22,7 +15,7 @@ returns-in-Ok-Goes g c =
     let same : SameSetting old new =
     record { catalog = s.catalog; limits = s.limits; scanner = s.scanner; awaited = s.awaited; failed = s.failed } in
     subst (λ (r : Rest). StridesBy g.V.Visitor.takes old new rest r octets (Ok 1) c.args.visitor.now c.open.new.visitor)
-    (sym (c.past_token.ensures ∙ ap (λ m. past_token here rest (kinds.Mark m) 1) c.open_mark.ensures))
+    (sym (c.past_token.ensures ∙ ap (λ m. past_token here rest (TokenKind.Mark m) 1) c.open_mark.ensures))
     (open_answer g.V.Visitor.takes old new rest octets c.args.visitor.now c.open.new.visitor same here bracket c.requires.more c.requires.opens c.requires.now
     c.place-here.ensures (λ fs ss h. sym (c.may_deepen.ensures fs ss h) ∙ c.if-not-may_deepen.false)
     (λ fs ss h. subst (λ k. Does g.V.Visitor.takes (told fs ss) (opening bracket old.limits.depth k old.context fs ss) (Ok Goes) new c.args.visitor.now

@@ -1,6 +1,6 @@
 use Rattle.std.proofs.Common.{Ok, ap, sym, ◌∙◌}
+use Rattle.ion_text.specs.Names.{payload_of}
 use Rattle.ion_model.specs.declared.value.Payload.TheVariants as payloads
-use Rattle.ion_visiting.specs.Parts.{payload_of}
 use Rattle.ion_text.proofs.SaidThere.{begins_waits}
 use Rattle.ion_text.proofs.walk.TextWalk.take_rare_note.Goals as goal
 

@@ -1,8 +1,6 @@
 use Rattle.std.proofs.Common.{Ok, ap, ◌∙◌, arith}
-use Rattle.ion_tokens.specs.machine.Views.{scanned}
-use Rattle.ion_text.specs.machine.Views.{comes_again}
-use Rattle.ion_text.specs.walk.Holds.{reading_of, told}
-use Rattle.ion_text.proofs.Reaching.{used_within, left_within, uses_reached, tells_reached, leaves_reached, refused_reached, again_uses_reached, again_tells_reached, again_leaves_reached, again_refused_reached, late_reached}
+use Rattle.ion_text.specs.Names.{comes_again, reading_of, scanned, told}
+use Rattle.ion_text.proofs.Reaching.{again_leaves_reached, again_refused_reached, again_tells_reached, again_uses_reached, late_reached, leaves_reached, left_within, refused_reached, tells_reached, used_within, uses_reached}
 use Rattle.ion_text.proofs.walk.TextWalk.take_stretch.Goals as goal
 
 pub bounds-piece-count : goal.bounds-piece-count

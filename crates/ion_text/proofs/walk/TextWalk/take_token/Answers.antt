@@ -1,5 +1,5 @@
 use Rattle.std.proofs.Common.{◌≡◌, Ok, arith, subst}
-use Rattle.ion_text.specs.walk.Strides.{StridesBy}
+use Rattle.ion_text.specs.Names.{StridesBy}
 use Rattle.ion_text.proofs.LastTokens.{ends_none, ends_there, strides_ends}
 use Rattle.ion_text.proofs.walk.TextWalk.take_token.Goals as goal
 

@@ -1,9 +1,8 @@
 use Rattle.std.proofs.Common.{◌-◌, ◌<◌, ap, subst, arith, length, take, drop}
 use Rattle.std.proofs.lemmas.List.{take_rest}
 use Rattle.std.proofs.lemmas.Result.{err_from_is_err_and}
-use Rattle.ion_text.specs.declared.state.Taken.{Taken}
-use Rattle.ion_text.specs.walk.Strides.{TookSo}
-use Rattle.ion_text.proofs.Advancing.{both_reached, both_refused, told_reached, left_reached}
+use Rattle.ion_text.specs.Names.{Taken, TookSo}
+use Rattle.ion_text.proofs.Advancing.{both_reached, both_refused, left_reached, told_reached}
 use Rattle.ion_text.proofs.walk.TextWalk.take_up.Goals as goal
 
 pub returns-in_ok-more-in-Ok-default-Uses-clause-took : goal.returns-in_ok-more-in-Ok-default-Uses-clause-took

@@ -1,12 +1,5 @@
 use Rattle.std.proofs.Common.{◌+◌, ◌<◌, List, Ok, false, length, arith, sym, subst}
-use Rattle.ion_model.specs.Measures.{annotated}
-use Rattle.ion_tokens.specs.declared.plain_tokens.Rest.{Rest}
-use Rattle.ion_visiting.specs.Parts.{payload_of}
-use Rattle.ion_text.specs.declared.state.Effect.{Effect}
-use Rattle.ion_text.specs.declared.state.Frame.{Frame}
-use Rattle.ion_text.specs.machine.EachToken.{Symbols, ended}
-use Rattle.ion_text.specs.walk.Holds.{Does, Holds, setting_of, spot_of, told}
-use Rattle.ion_text.specs.walk.Strides.{StridesBy}
+use Rattle.ion_text.specs.Names.{Does, Frame, Holds, Rest, StridesBy, Symbols, Turned as Effect, annotated, ended, payload_of, setting_of, spot_of, told}
 use Rattle.ion_text.proofs.SaidThere.{part_begins}
 use Rattle.ion_text.proofs.Strides.{value_answer}
 use Rattle.ion_text.proofs.walk.TextWalk.take_whole.Goals as goal

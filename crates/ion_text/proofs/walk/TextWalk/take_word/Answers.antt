@@ -1,10 +1,5 @@
 use Rattle.std.proofs.Common.{◌+◌, List, Ok, true, subst}
-use Rattle.ion_model.specs.Measures.{annotated}
-use Rattle.ion_visiting.specs.Parts.{payload_of}
-use Rattle.ion_text.specs.declared.state.Effect.{Effect}
-use Rattle.ion_text.specs.declared.state.Frame.{Frame}
-use Rattle.ion_text.specs.machine.EachToken.{Symbols, ended}
-use Rattle.ion_text.specs.walk.Holds.{Does, Holds, setting_of, spot_of, told}
+use Rattle.ion_text.specs.Names.{Does, Frame, Holds, Symbols, Turned as Effect, annotated, ended, payload_of, setting_of, spot_of, told}
 use Rattle.ion_text.proofs.SaidThere.{begins_waits, part_begins}
 use Rattle.ion_text.proofs.Strides.{word_answer}
 use Rattle.ion_text.proofs.walk.TextWalk.take_word.Goals as goal

@@ -1,10 +1,7 @@
 use Rattle.std.proofs.Common.{[], sym, subst, ◌∙◌}
+use Rattle.ion_text.specs.Names.{Does, Now, TextWalk, calm, on_long_name, on_pending, reading_of, setting_of, told, turn, turn_now}
 use Rattle.ion_tokens.specs.Bodies.{content}
-use Rattle.ion_text.specs.declared.state.Now.{Now}
-use Rattle.ion_text.specs.declared.walk.TextWalk.{TextWalk}
-use Rattle.ion_text.specs.machine.EachToken.{on_long_name, on_pending, turn, turn_now}
 use Rattle.ion_text.specs.machine.Views.{token_in}
-use Rattle.ion_text.specs.walk.Holds.{Does, calm, reading_of, setting_of, told}
 use Rattle.ion_text.proofs.Ended.{IsBare, bare_does, holds_calm}
 use Rattle.ion_text.proofs.Taking.{does_alone}
 use Rattle.ion_text.proofs.walk.TextWalk.turn.Goals as goal

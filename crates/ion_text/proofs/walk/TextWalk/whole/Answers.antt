@@ -1,4 +1,4 @@
-use Rattle.ion_visiting.specs.Parts.{payload_of}
+use Rattle.ion_text.specs.Names.{payload_of}
 use Rattle.ion_text.proofs.Holding.{part_layer}
 use Rattle.ion_text.proofs.walk.TextWalk.whole.Goals as goal
 

@@ -1,8 +1,7 @@
+use Rattle.ion_text.specs.Names.{ended, setting_of, spot_of}
 use Rattle.ion_model.specs.declared.value.Payload.TheVariants as payloads
-use Rattle.ion_text.specs.machine.EachToken.{ended}
-use Rattle.ion_text.specs.walk.Holds.{setting_of, spot_of}
-use Rattle.ion_text.proofs.Holding.{symbol_layer}
 use Rattle.ion_text.proofs.Ended.{whole_does}
+use Rattle.ion_text.proofs.Holding.{symbol_layer}
 use Rattle.ion_text.proofs.walk.TextWalk.whole_symbol.Goals as goal
 
 pub returns-clause-does : goal.returns-clause-does

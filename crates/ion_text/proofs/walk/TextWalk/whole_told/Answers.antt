@@ -1,8 +1,6 @@
-use Rattle.ion_visiting.specs.Parts.{payload_of}
-use Rattle.ion_text.specs.machine.EachToken.{ended}
-use Rattle.ion_text.specs.walk.Holds.{setting_of, spot_of}
-use Rattle.ion_text.proofs.Holding.{part_layer}
+use Rattle.ion_text.specs.Names.{ended, payload_of, setting_of, spot_of}
 use Rattle.ion_text.proofs.Ended.{whole_does}
+use Rattle.ion_text.proofs.Holding.{part_layer}
 use Rattle.ion_text.proofs.walk.TextWalk.whole_told.Goals as goal
 
 pub returns-clause-does : goal.returns-clause-does

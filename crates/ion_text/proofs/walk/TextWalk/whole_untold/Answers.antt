@@ -1,7 +1,5 @@
 use Rattle.std.proofs.Common.{true}
-use Rattle.ion_visiting.specs.Tables.{is_of_table}
-use Rattle.ion_text.specs.machine.EachToken.{ended}
-use Rattle.ion_text.specs.walk.Holds.{setting_of, spot_of}
+use Rattle.ion_text.specs.Names.{ended, is_of_table, setting_of, spot_of}
 use Rattle.ion_text.proofs.Ended.{whole_does}
 use Rattle.ion_text.proofs.Untold.{let_by, untold_tells}
 use Rattle.ion_text.proofs.walk.TextWalk.whole_untold.Goals as goal

@@ -1,6 +1,6 @@
 use Rattle.std.proofs.Common.{Some, ap, sym, subst}
+use Rattle.ion_text.specs.Names.{Names}
 use Rattle.ion_tokens.specs.Bodies.{content}
-use Rattle.ion_text.specs.machine.FrontTokens.{Names}
 use Rattle.ion_text.proofs.walk.rare_tokens.name_text.Goals as goal
 
 pub returns-in-Quoted : goal.returns-in-Quoted

@@ -1,4 +1,4 @@
-use Rattle.ion_tokens.specs.machine.Views.{octets_in}
+use Rattle.ion_text.specs.Names.{octets_in}
 use Rattle.ion_text.proofs.walk.rare_tokens.rare_at.Goals as goal
 
 pub returns-in-Ok : goal.returns-in-Ok

@@ -1,8 +1,7 @@
 use Rattle.std.proofs.Common.{ap, sym, subst, false}
+use Rattle.ion_text.specs.Names.{IsValue, on_ready}
 use Rattle.ion_model.specs.declared.value.Payload.TheVariants as payloads
 use Rattle.ion_tokens.specs.Bodies.{content}
-use Rattle.ion_text.specs.machine.FrontTokens.{IsValue}
-use Rattle.ion_text.specs.machine.EachToken.{on_ready}
 use Rattle.ion_text.proofs.walk.rare_tokens.value_part.Goals as goal
 
 pub returns-in-Clob : goal.returns-in-Clob

@@ -1,5 +1,5 @@
 use Rattle.std.proofs.Common.{◌≡◌, Some, take}
-use Rattle.ion_tokens.specs.Bodies.{id_of}
+use Rattle.ion_text.specs.Names.{id_of}
 use Rattle.ion_text.proofs.SaidThere.{id_said}
 use Rattle.ion_text.proofs.walk.symbol_ids.id_at.Goals as goal
 

@@ -1,91 +1,53 @@
 -- The reader of octets accepts each document, and gives its values.
 use Rattle.std.proofs.Common.{◌≡◌, ℕ, ◌+◌, ◌≤◌, ◌==◌, nat_le, List, [], ◌∷◌, ◌++◌, Bool, true, false, ◌&&◌, ◌||◌, Result, Ok, Err, Option, Some, None, refl, ap, sym, ◌∙◌, subst, arith, option_to_list, if◌then◌else◌, ◌⊎◌, inl, inr}
 use Rattle.std.proofs.lemmas.Bool.Decides.{nat_tests}
-use Rattle.ion_model.specs.declared.value.Value.{Value}
-use Rattle.ion_atoms.specs.declared.refusal.Reason.{Reason}
-use Rattle.ion_atoms.specs.declared.refusal.Reason.TheVariants as reasons
-use Rattle.ion_symtab.specs.declared.limits.Limits.{Limits}
-use Rattle.ion_symtab.specs.declared.catalog.Catalog.{Catalog}
-use Rattle.ion_symtab.specs.Slots.{Slot, system_slots}
-use Rattle.ion_symtab.specs.Trace.{plain, Streams}
-use Rattle.ion_tokens.specs.declared.mode.Place.{Place}
-use Rattle.ion_tokens.specs.declared.mode.Place.TheVariants as places
-use Rattle.ion_tokens.specs.declared.mode.Mode.{Mode}
-use Rattle.ion_tokens.specs.declared.mode.Mode.TheVariants as modes
-use Rattle.ion_tokens.specs.declared.mode.Mark.{Mark}
-use Rattle.ion_tokens.specs.declared.mode.Mark.TheVariants as marks
-use Rattle.ion_tokens.specs.declared.mode.TokenKind.{TokenKind}
-use Rattle.ion_tokens.specs.declared.mode.TokenKind.TheVariants as kinds
-use Rattle.ion_tokens.specs.machine.Table.{end_of}
-use Rattle.ion_tokens.specs.machine.Bounds.{is_idle}
-use Rattle.ion_tokens.specs.Bodies.{Content, Word, Id, Quoted, Short, Long, Number', TypedNull, Operator, Clob, Blob, Mark', IsBody}
-use Rattle.ion_tokens.specs.machine.Scanning.{Known, Outcome, Next, Given, Left, start_of, feed, at_end, initial, follow}
-use Rattle.ion_tokens.specs.Lexemes.{Lexeme, is_segment}
-use Rattle.ion_tokens.specs.Lexed.{Placed}
-use Rattle.ion_tokens.proofs.runs.Runs.{feed_used, given_used}
-use Rattle.ion_text.specs.declared.state.Held.{Held}
-use Rattle.ion_text.specs.declared.state.Now.{Now}
-use Rattle.ion_text.specs.declared.state.Now.TheVariants as nows
-use Rattle.ion_text.specs.declared.state.Frame.{Frame}
-use Rattle.ion_text.specs.Grammar.{is_two_quotes, Document}
-use Rattle.ion_tokens.specs.machine.Said.{said}
-use Rattle.ion_text.specs.machine.EachToken.{Spot, under, spot_at, token_at, Reading, Turn, goes, gives, refuses, late, Symbols, at, fresh, place, settle, turn, released, ended, paid, held_payload, turned, within, turn_now}
-use Rattle.ion_text.specs.machine.Run.{State, Effect, uses, tells, eats, takes, waits, waits_now, unsettled, on_scan, on_settled, on_said, behind_given, behind_left, with_scan, token_of, is_top, is_fresh, Run, run, run_on, once_more, with_value, ends, ends_of, end_now, end_ready, end_waiting, end_settled, end_said, end_turned, cut_short, trace}
-use Rattle.ion_text.specs.laws.reading.complete.Segments.{NotRefused, settles_then, waits_unsettled}
-use Rattle.ion_text.specs.machine.TokenLists.{continues, continues_now}
-use Rattle.ion_text.specs.machine.Places.{Leading, settle_same, settle_still}
-use Rattle.ion_tokens.specs.machine.Ahead.{is_quoting, is_sane, is_colons, is_quoted}
-use Rattle.ion_text.specs.laws.reading.sound.Quotes.{Fine, Finely, given_far}
-use Rattle.ion_text.specs.laws.reading.complete.Exact.{Exact, Exactly, feed_exact}
-use Rattle.ion_text.specs.machine.Passed.{said_body}
-use Rattle.ion_text.specs.laws.reading.sound.StandsOpen.{start_now}
-use Rattle.ion_text.specs.laws.reading.sound.Spans.{IsClose, Spans, IsTopNow, turn_spans}
-use Rattle.ion_text.specs.laws.reading.complete.Meets.{Meets, at_blank, at_token, in_blank, goes_on, is_given, is_left, meets_next, finely_as, follows_as, IdleLeft, idle_left, end_spans}
-use Rattle.ion_text.specs.laws.reading.complete.Going.{Operators, Going, TurnGoes, TurnEnds, TopOk, Direct, going_said, going_turn, going_settle, going_ends, inside_end, inside_token, InsideNext, stays, closed, top_place, no_operator, closes_kind, gives_top}
-use Rattle.ion_text.specs.laws.reading.complete.Quiet.{CalmNow, Calm, EndedIn, ended_more, ended_at, calm_ok, blank_idle, quiet, calm_now}
-use Rattle.ion_text.specs.laws.reading.complete.Fuel.{UsedHere, Leaving, feed_leaves, twice_fuel, eats_stays, more_same}
-use Rattle.ion_model.specs.Measures.{bare}
+use Rattle.ion_text.specs.Names.{Blob, Catalog, Clob, Content, Document, Effect, Frame, Given, Held, Id, IsBody, IsLastBlank, Known, Leading, Left, Lexeme, Limits, Long, Mark, Mark', Mode, Next, Now, Number', Operator, Outcome, Payload, Place, Placed, Quoted, Reading, Reason, Run, Short, Slot, Spot, State, Streams, Symbols, TokenKind, Turn, TypedNull, Value, Word, at, at_end, bare, behind_given, behind_left, continues, continues_now, cut_short, eats, end_now, end_of, end_ready, end_said, end_settled, end_turned, end_waiting, ended, ends_of, feed, follow, fresh, gives, goes, held_payload, initial, is_colons, is_fresh, is_idle, is_quoted, is_quoting, is_sane, is_segment, is_table, is_top, is_two_quotes, late, next as next_slots, on_said, on_scan, on_settled, once_more, paid, place, plain, refuses, released, run, run_on, said, said_body, settle, settle_same, settle_still, spot_at, start_of, system_slots, takes, tells, token_at, token_of, trace, turn, turn_now, turned, under, unsettled, uses, waits, waits_now, with_scan, with_value, within}
 use Rattle.ion_model.specs.declared.value.Payload.TheVariants as payloads
-use Rattle.ion_symtab.specs.Next.{next as next_slots}
-use Rattle.ion_model.specs.declared.value.Payload.{Payload}
-use Rattle.ion_model.specs.Kinds.{is_table}
-use Rattle.ion_tokens.specs.Blanks.{IsLastBlank}
-use Rattle.ion_text.specs.declared.state.Held.TheVariants as helds
-use Rattle.ion_text.specs.declared.state.Frame.TheVariants as frames
+use Rattle.ion_tokens.proofs.runs.Runs.{feed_used, given_used}
+use Rattle.ion_text.specs.machine.Run.{ends}
+use Rattle.ion_text.specs.laws.reading.complete.Exact.{Exact, Exactly, feed_exact}
+use Rattle.ion_text.specs.laws.reading.complete.Found.{finds_met, lexes_finds, lexes_operators}
+use Rattle.ion_text.specs.laws.reading.complete.Fuel.{Leaving, UsedHere, eats_stays, feed_leaves, more_same, twice_fuel}
+use Rattle.ion_text.specs.laws.reading.complete.Going.{Direct, Going, InsideNext, Operators, TopOk, TurnEnds, TurnGoes, closed, closes_kind, gives_top, going_ends, going_said, going_settle, going_turn, inside_end, inside_token, no_operator, stays, top_place}
+use Rattle.ion_text.specs.laws.reading.complete.Meets.{IdleLeft, Meets, at_blank, at_token, end_spans, finely_as, follows_as, goes_on, idle_left, in_blank, is_given, is_left, meets_next}
 use Rattle.ion_text.specs.laws.reading.complete.Pieces.{pieces_read}
-use Rattle.ion_text.specs.laws.reading.complete.Found.{lexes_finds, finds_met, lexes_operators}
-use Rattle.ion_text.specs.laws.reading.complete.Tokens.{is_long_said, colons_agree, long_goes, quotes_end, next_agrees, given_agrees, left_agrees, left_two, left_colons, quoting_left, segment_agree}
+use Rattle.ion_text.specs.laws.reading.complete.Quiet.{Calm, CalmNow, EndedIn, blank_idle, calm_now, calm_ok, ended_at, ended_more, quiet}
+use Rattle.ion_text.specs.laws.reading.complete.Segments.{NotRefused, settles_then, waits_unsettled}
+use Rattle.ion_text.specs.laws.reading.complete.Tokens.{colons_agree, given_agrees, is_long_said, left_agrees, left_colons, left_two, long_goes, next_agrees, quotes_end, quoting_left, segment_agree}
 use Rattle.ion_text.specs.laws.reading.sound.Admits.{at_end_fine}
+use Rattle.ion_text.specs.laws.reading.sound.Quotes.{Fine, Finely, given_far}
+use Rattle.ion_text.specs.laws.reading.sound.Spans.{IsClose, IsTopNow, Spans, turn_spans}
+use Rattle.ion_text.specs.laws.reading.sound.StandsOpen.{start_now}
 
 -- nothing waits at the top level behind what was settled, and what waits is calm where no token has begun
 
 -- where no token has begun, what waits at the top level is calm
 pub idle_calm : (n : Now) (m : Mode) → IsTopNow n → is_idle m ≡ true → CalmNow n m
-idle_calm nows.Ready m k i = tt
-idle_calm (nows.Pending h e) m k i = i
-idle_calm (nows.Long w e) m k i = ap (λ b. b || is_quoting m) i
-idle_calm nows.After m k i = k
-idle_calm nows.Name m k i = k
-idle_calm (nows.LongName w) m k i = k
-idle_calm (nows.Keyed s) m k i = k
+idle_calm Now.Ready m k i = tt
+idle_calm (Now.Pending h e) m k i = i
+idle_calm (Now.Long w e) m k i = ap (λ b. b || is_quoting m) i
+idle_calm Now.After m k i = k
+idle_calm Now.Name m k i = k
+idle_calm (Now.LongName w) m k i = k
+idle_calm (Now.Keyed s) m k i = k
 
 -- behind a whole value a value may come
-pub fresh_top : (r : Reading) → is_fresh r ≡ true → r.now ≡ nows.Ready
+pub fresh_top : (r : Reading) → is_fresh r ≡ true → r.now ≡ Now.Ready
 fresh_top r h = go r.frames r.notes r.now h
   where
-    go : (fs : List Frame) (ss : Symbols) (n : Now) → is_fresh (at r.start r.context fs ss n) ≡ true → n ≡ nows.Ready
-    go [] [] nows.Ready h = refl
-    go [] [] (nows.Pending k e) h = absurd cc
-    go [] [] (nows.Long w e) h = absurd cc
-    go [] [] nows.After h = absurd cc
-    go [] [] nows.Name h = absurd cc
-    go [] [] (nows.LongName w) h = absurd cc
-    go [] [] (nows.Keyed s) h = absurd cc
+    go : (fs : List Frame) (ss : Symbols) (n : Now) → is_fresh (at r.start r.context fs ss n) ≡ true → n ≡ Now.Ready
+    go [] [] Now.Ready h = refl
+    go [] [] (Now.Pending k e) h = absurd cc
+    go [] [] (Now.Long w e) h = absurd cc
+    go [] [] Now.After h = absurd cc
+    go [] [] Now.Name h = absurd cc
+    go [] [] (Now.LongName w) h = absurd cc
+    go [] [] (Now.Keyed s) h = absurd cc
     go [] (s ∷ ss) n h = absurd cc
     go (f ∷ fs) ss n h = absurd cc
 
 -- a mark's kind says the mark
-pub mark_said : (k : TokenKind) (octets : List ℕ) (m : Mark) (c : Content) → k ≡ kinds.Mark m → IsBody k octets (Ok c) → c ≡ Mark' m
+pub mark_said : (k : TokenKind) (octets : List ℕ) (m : Mark) (c : Content) → k ≡ TokenKind.Mark m → IsBody k octets (Ok c) → c ≡ Mark' m
 mark_said k octets m c e h = let b : Ok c ≡ Ok (Mark' m) = subst (λ x. IsBody x octets (Ok c)) e h in cc
 
 module _ (g : Catalog) (l : Limits) where
@@ -96,7 +58,7 @@ module _ (g : Catalog) (l : Limits) where
   within_settled : (item start end : ℕ) (t : Turn) → SettledCalm t → SettledCalm (within item start end t)
   within_settled item start end t h = go (nat_le end (start + item))
     where
-      go : (b : Bool) → SettledCalm (if b then t else refuses reasons.ItemTooLong)
+      go : (b : Bool) → SettledCalm (if b then t else refuses Reason.ItemTooLong)
       go true = h
       go false = tt
 
@@ -108,48 +70,48 @@ module _ (g : Catalog) (l : Limits) where
 
   ended_settled : (spot : Spot) (fs : List Frame) (v : Value) → SettledCalm (ended (under g l) spot fs v)
   ended_settled spot [] v = top_settled l.item spot.start spot.end spot.context v (next_slots spot.context v g) (is_table v)
-  ended_settled spot (frames.Items listing ss vs ∷ fs) v = λ m h. absurd cc
-  ended_settled spot (frames.Named ss ms s ∷ fs) v = λ m h. absurd cc
-  ended_settled spot (frames.Fields ss ms ∷ fs) v = tt
+  ended_settled spot (Frame.Items listing ss vs ∷ fs) v = λ m h. absurd cc
+  ended_settled spot (Frame.Named ss ms s ∷ fs) v = λ m h. absurd cc
+  ended_settled spot (Frame.Fields ss ms ∷ fs) v = tt
 
   paid_settled : (spot : Spot) (fs : List Frame) (ss : Symbols) (q : Result Payload Reason) → SettledCalm (paid (under g l) spot fs ss q)
   paid_settled spot fs ss (Ok q) = ended_settled spot fs _
   paid_settled spot fs ss (Err e) = tt
 
   released_settled : (spot : Spot) (fs : List Frame) (ss : Symbols) (h : Held) → SettledCalm (released (under g l) spot fs ss h)
-  released_settled spot [] [] (helds.Version true s) = within_settled l.item spot.start spot.end (goes (fresh system_slots)) (λ m h. tt)
-  released_settled spot [] [] (helds.Version false s) = tt
-  released_settled spot [] [] (helds.Symbol s) = paid_settled spot [] [] (held_payload (helds.Symbol s))
-  released_settled spot [] [] (helds.Null k) = paid_settled spot [] [] (held_payload (helds.Null k))
-  released_settled spot [] [] (helds.Truth b) = paid_settled spot [] [] (held_payload (helds.Truth b))
-  released_settled spot [] [] helds.Nan = tt
+  released_settled spot [] [] (Held.Version true s) = within_settled l.item spot.start spot.end (goes (fresh system_slots)) (λ m h. tt)
+  released_settled spot [] [] (Held.Version false s) = tt
+  released_settled spot [] [] (Held.Symbol s) = paid_settled spot [] [] (held_payload (Held.Symbol s))
+  released_settled spot [] [] (Held.Null k) = paid_settled spot [] [] (held_payload (Held.Null k))
+  released_settled spot [] [] (Held.Truth b) = paid_settled spot [] [] (held_payload (Held.Truth b))
+  released_settled spot [] [] Held.Nan = tt
   released_settled spot [] (s ∷ ss) h = paid_settled spot [] (s ∷ ss) (held_payload h)
   released_settled spot (f ∷ fs) ss h = paid_settled spot (f ∷ fs) ss (held_payload h)
 
   -- behind what was settled at the top level it is calm, whatever token has begun
   pub settle_settled : (start : ℕ) (c : List Slot) (fs : List Frame) (ss : Symbols) (now : Now) → (is_top fs ≡ true → IsTopNow now)
       → SettledCalm (settle g l (at start c fs ss now))
-  settle_settled start c fs ss (nows.Pending h end) k = released_settled (spot_at end start c) fs ss h
-  settle_settled start c fs ss (nows.Long w end) k = ended_settled (spot_at end start c) fs _
-  settle_settled start c fs ss (nows.LongName w) k = λ m h. k h
-  settle_settled start c fs ss nows.Ready k = λ m h. tt
-  settle_settled start c fs ss nows.After k = λ m h. k h
-  settle_settled start c fs ss nows.Name k = λ m h. k h
-  settle_settled start c fs ss (nows.Keyed s) k = λ m h. k h
+  settle_settled start c fs ss (Now.Pending h end) k = released_settled (spot_at end start c) fs ss h
+  settle_settled start c fs ss (Now.Long w end) k = ended_settled (spot_at end start c) fs _
+  settle_settled start c fs ss (Now.LongName w) k = λ m h. k h
+  settle_settled start c fs ss Now.Ready k = λ m h. tt
+  settle_settled start c fs ss Now.After k = λ m h. k h
+  settle_settled start c fs ss Now.Name k = λ m h. k h
+  settle_settled start c fs ss (Now.Keyed s) k = λ m h. k h
 
   -- where nothing waits it is calm, whatever token has begun
   pub still_calm : (r : Reading) (m : Mode) → TopOk g l r → settle g l r ≡ goes r → is_top r.frames ≡ true → CalmNow r.now m
   still_calm r m k e = subst SettledCalm e (settle_settled r.start r.context r.frames r.notes r.now k) m
 
   -- what is calm in each mode isn't waiting
-  pub always_calm : (n : Now) → ((m : Mode) → CalmNow n m) → n ≡ nows.Ready
-  always_calm nows.Ready h = refl
-  always_calm (nows.Pending k e) h = absurd (let n : false ≡ true = h modes.Word in cc)
-  always_calm (nows.Long w e) h = absurd (let n : false ≡ true = h modes.Word in cc)
-  always_calm nows.After h = absurd (h modes.Blank)
-  always_calm nows.Name h = absurd (h modes.Blank)
-  always_calm (nows.LongName w) h = absurd (h modes.Blank)
-  always_calm (nows.Keyed s) h = absurd (h modes.Blank)
+  pub always_calm : (n : Now) → ((m : Mode) → CalmNow n m) → n ≡ Now.Ready
+  always_calm Now.Ready h = refl
+  always_calm (Now.Pending k e) h = absurd (let n : false ≡ true = h Mode.Word in cc)
+  always_calm (Now.Long w e) h = absurd (let n : false ≡ true = h Mode.Word in cc)
+  always_calm Now.After h = absurd (h Mode.Blank)
+  always_calm Now.Name h = absurd (h Mode.Blank)
+  always_calm (Now.LongName w) h = absurd (h Mode.Blank)
+  always_calm (Now.Keyed s) h = absurd (h Mode.Blank)
 
   -- what was settled doesn't wait
   settled_ended : (k : Reading) (used : ℕ) → ((m : Mode) → is_top k.frames ≡ true → CalmNow k.now m) → is_top k.frames ≡ true → EndedIn used k.now
@@ -232,12 +194,12 @@ module _ (g : Catalog) (l : Limits) where
             eats_settled r x (goes k) e told w f ∙ sym (eats_direct k x (ap (λ q. feed q s o) a.0 ∙ e) (inr b)) in
             subst (λ y. Streamed (run_on to (λ n. eats g l n o) rest y) all) (sym scan)
             (went_run to (λ n. eats g l n o) rest (eats g l (with_scan s k) o) all
-            (direct k all a.0 (λ h. calm_now k.now modes.Blank (c modes.Blank h)) (settled_ended k s.used c) i (inr b)))
+            (direct k all a.0 (λ h. calm_now k.now Mode.Blank (c Mode.Blank h)) (settled_ended k s.used c) i (inr b)))
         by (gives v k) f w a b c i =
             subst (λ y. Streamed (run_on to (λ n. eats g l n o) rest y) all) (sym (eats_settled r x (gives v k) e told w f))
             (with_streamed v to (once_more to rest (eats g l (with_scan s k) o)) i.0 all
             (went_more to rest (eats g l (with_scan s k) o) i.0
-            (direct k i.0 a.0 (λ h. calm_now k.now modes.Blank (c modes.Blank h)) (settled_ended k s.used c) i.2 (inr b))) i.1)
+            (direct k i.0 a.0 (λ h. calm_now k.now Mode.Blank (c Mode.Blank h)) (settled_ended k s.used c) i.2 (inr b))) i.1)
         by (refuses y) f w a b c i = absurd i
         by (late y k) f w a b c i = absurd i
 
@@ -249,13 +211,13 @@ module _ (g : Catalog) (l : Limits) where
   -- what goes on to wait at the top level at an octet that ends no token is calm
   pub waits_calm : (fs : List Frame) (now : Now) (s : Known) → (is_top fs ≡ true → IsTopNow now) → waits_now (is_top fs) now (Next s) ≡ true → is_top fs ≡ true
       → CalmNow now s.mode
-  waits_calm fs (nows.Pending h e) s k w top = w
-  waits_calm fs (nows.Long v e) s k w top = w
-  waits_calm fs (nows.LongName v) s k w top = k top
-  waits_calm fs nows.Ready s k w top = tt
-  waits_calm fs nows.After s k w top = k top
-  waits_calm fs nows.Name s k w top = k top
-  waits_calm fs (nows.Keyed y) s k w top = k top
+  waits_calm fs (Now.Pending h e) s k w top = w
+  waits_calm fs (Now.Long v e) s k w top = w
+  waits_calm fs (Now.LongName v) s k w top = k top
+  waits_calm fs Now.Ready s k w top = tt
+  waits_calm fs Now.After s k w top = k top
+  waits_calm fs Now.Name s k w top = k top
+  waits_calm fs (Now.Keyed y) s k w top = k top
 
   -- where the scanner goes on
   next_went : (s s' : Known) (os : List ℕ) (ts : List Placed) (o : ℕ) (rest : State → Run) → Meets s' os ts → is_sane s'.mode ≡ true → Fine s'
@@ -309,22 +271,22 @@ module _ (g : Catalog) (l : Limits) where
       by (late y n) h e = absurd e
 
   -- where a value may come, settling changes nothing
-  pub ready_still : (r : Reading) → r.now ≡ nows.Ready → settle g l r ≡ goes r
+  pub ready_still : (r : Reading) → r.now ≡ Now.Ready → settle g l r ≡ goes r
   ready_still r e = subst (λ n. settle g l (at r.start r.context r.frames r.notes n) ≡ goes (at r.start r.context r.frames r.notes n)) (sym e) refl
 
   -- no colon stands where a value may come
-  no_colon : (k : Reading) (t : Placed) (ts : List Placed) (all : List Value) → k.now ≡ nows.Ready → Going g l k (t ∷ ts) all
-      → t.lexeme.kind ≡ kinds.Mark marks.Colon → ⊥
+  no_colon : (k : Reading) (t : Placed) (ts : List Placed) (all : List Value) → k.now ≡ Now.Ready → Going g l k (t ∷ ts) all
+      → t.lexeme.kind ≡ TokenKind.Mark Mark.Colon → ⊥
   no_colon k t ts all e d i =
       let p = going_said g l k t ts all d in
-      let c = mark_said t.lexeme.kind t.lexeme.octets marks.Colon p.1 i (said_body t.lexeme.kind t.lexeme.octets p.1 p.2) in
+      let c = mark_said t.lexeme.kind t.lexeme.octets Mark.Colon p.1 i (said_body t.lexeme.kind t.lexeme.octets p.1 p.2) in
       let d' = going_turn g l k t ts all p.1 d p.2 (inr (ready_still k e)) in
-      subst (λ n. TurnGoes g l (turn_now (under g l) k (token_at t.lexeme.start t.lexeme.end (Mark' marks.Colon)) n) ts all) e
+      subst (λ n. TurnGoes g l (turn_now (under g l) k (token_at t.lexeme.start t.lexeme.end (Mark' Mark.Colon)) n) ts all) e
       (subst (λ y. TurnGoes g l (turn g l k (token_of t.lexeme y)) ts all) c d')
 
   -- where something waited at the top level, a colon doesn't follow
   settled_colon : (r : Reading) (t : Placed) (ts : List Placed) (all : List Value) → is_top r.frames ≡ true → TopOk g l r
-      → TurnGoes g l (settle g l r) (t ∷ ts) all → t.lexeme.kind ≡ kinds.Mark marks.Colon → ⊥
+      → TurnGoes g l (settle g l r) (t ∷ ts) all → t.lexeme.kind ≡ TokenKind.Mark Mark.Colon → ⊥
   settled_colon r t ts all top ok d i = by (settle g l r) (settle_same g l r.start r.context r.frames r.notes r.now)
       (settle_settled r.start r.context r.frames r.notes r.now ok) d
     where
@@ -336,7 +298,7 @@ module _ (g : Catalog) (l : Limits) where
 
   -- a long string goes on with its segments alone
   pub long_refused : (begin end start : ℕ) (slots : List Slot) (fs : List Frame) (ss : Symbols) (c : Content) (w : List ℕ) (e : ℕ) → is_long_said c ≡ false
-      → turn_now (under g l) (at start slots fs ss (nows.Long w e)) (token_at begin end c) (nows.Long w e) ≡ refuses reasons.Unexpected
+      → turn_now (under g l) (at start slots fs ss (Now.Long w e)) (token_at begin end c) (Now.Long w e) ≡ refuses Reason.Unexpected
   long_refused begin end start slots fs ss (Long v) w e h = absurd cc
   long_refused begin end start slots fs ss (Word v) w e h = refl
   long_refused begin end start slots fs ss (Id v) w e h = refl
@@ -350,7 +312,7 @@ module _ (g : Catalog) (l : Limits) where
   long_refused begin end start slots fs ss (Mark' v) w e h = refl
 
   -- a token that goes on with a long string is a segment
-  long_turn : (r : Reading) (t : Placed) (c : Content) (w : List ℕ) (e : ℕ) (ts : List Placed) (all : List Value) → r.now ≡ nows.Long w e
+  long_turn : (r : Reading) (t : Placed) (c : Content) (w : List ℕ) (e : ℕ) (ts : List Placed) (all : List Value) → r.now ≡ Now.Long w e
       → is_segment t.lexeme.kind ≡ false → IsBody t.lexeme.kind t.lexeme.octets (Ok c) → TurnGoes g l (turn g l r (token_of t.lexeme c)) ts all → ⊥
   long_turn r t c w e ts all n h b d =
       subst (λ y. TurnGoes g l y ts all)
@@ -428,7 +390,7 @@ module _ (g : Catalog) (l : Limits) where
               | inr i ↦ absurd (by' (is_top k.frames) refl i)
             ]
               where
-                by' : (b : Bool) → is_top k.frames ≡ b → t.lexeme.kind ≡ kinds.Operator → ⊥
+                by' : (b : Bool) → is_top k.frames ≡ b → t.lexeme.kind ≡ TokenKind.Operator → ⊥
                 by' true j i = no_operator g l k t j q.0 ops.0 i
                 by' false j i = no_close q.1 q.2 (subst (λ b. IsClose b q.1) j h.1)
 
@@ -447,14 +409,14 @@ module _ (g : Catalog) (l : Limits) where
 
         -- nothing that waits at the top level is ended by a token that is left
         never_gives : (n : Now) → r.now ≡ n → is_top r.frames ≡ true → waits r (Left t.lexeme s') ≡ false → TurnGoes g l (settle g l r) (t ∷ ts) all
-            → CalmNow n s.mode → (n ≡ nows.Ready → ⊥) → ⊥
-        never_gives nows.Ready x top w y c z = z refl
-        never_gives (nows.Pending h b) x top w y c z = idle (subst (IdleLeft (place r) s.used) e (idle_left (place r) s o c))
+            → CalmNow n s.mode → (n ≡ Now.Ready → ⊥) → ⊥
+        never_gives Now.Ready x top w y c z = z refl
+        never_gives (Now.Pending h b) x top w y c z = idle (subst (IdleLeft (place r) s.used) e (idle_left (place r) s o c))
           where
             idle : IdleLeft (place r) s.used (Left t.lexeme s') → ⊥
             idle (inl i) = settled_colon r t ts all top ok y i.0
             idle (inr i) = no_operator g l r t top p.0 ops.0 i.0
-        never_gives (nows.Long v b) x top w y c z = by (is_idle s.mode) refl
+        never_gives (Now.Long v b) x top w y c z = by (is_idle s.mode) refl
           where
             idle : IdleLeft (place r) s.used (Left t.lexeme s') → ⊥
             idle (inl i) = settled_colon r t ts all top ok y i.0
@@ -467,16 +429,16 @@ module _ (g : Catalog) (l : Limits) where
                 let k = quoting_left (place r) s s' o t.lexeme exactly q e in
                 let n : true ≡ false = sym (ap is_quoted k.0) ∙ (sym (ap (λ b. b && is_quoted t.lexeme.kind) top)
                 ∙ (ap (λ b. waits_now (is_top r.frames) b (Left t.lexeme s')) (sym x) ∙ w)) in cc
-        never_gives nows.After x top w y c z = c
-        never_gives nows.Name x top w y c z = c
-        never_gives (nows.LongName v) x top w y c z = c
-        never_gives (nows.Keyed v) x top w y c z = c
+        never_gives Now.After x top w y c z = c
+        never_gives Now.Name x top w y c z = c
+        never_gives (Now.LongName v) x top w y c z = c
+        never_gives (Now.Keyed v) x top w y c z = c
 
         settled : (x : Turn) → settle g l r ≡ x → waits r (Left t.lexeme s') ≡ false
             → Leading g l (λ n. (place n ≡ place r) × (is_top n.frames ≡ is_top r.frames)) x → Leading g l (λ n. settle g l n ≡ goes n) x → SettledCalm x
             → TurnGoes g l x (t ∷ ts) all → Streamed (run g l to (with_scan s r) (o ∷ os)) all
         settled (goes k) i w a b c y =
-            behind k all a.0 (λ h. calm_now k.now modes.Blank (c modes.Blank h)) b y (eats g l (with_scan s r) o)
+            behind k all a.0 (λ h. calm_now k.now Mode.Blank (c Mode.Blank h)) b y (eats g l (with_scan s r) o)
             (eats_settled s o r (Left t.lexeme s') (goes k) e tt w i)
         settled (gives v k) i w a b c y = absurd (never r.now refl)
           where
@@ -494,13 +456,13 @@ module _ (g : Catalog) (l : Limits) where
         settled (late z k) i w a b c y = absurd y
 
         waited : (n : Now) → r.now ≡ n → waits_now (is_top r.frames) n (Left t.lexeme s') ≡ true → TurnGoes g l (turn g l r (token_of t.lexeme p.1)) ts all → ⊥
-        waited (nows.Long v b) x w y = long_turn r t p.1 v b ts all x f.1 body y
-        waited (nows.Pending h b) x w y = absurd cc
-        waited (nows.LongName v) x w y = absurd cc
-        waited nows.Ready x w y = absurd cc
-        waited nows.After x w y = absurd cc
-        waited nows.Name x w y = absurd cc
-        waited (nows.Keyed v) x w y = absurd cc
+        waited (Now.Long v b) x w y = long_turn r t p.1 v b ts all x f.1 body y
+        waited (Now.Pending h b) x w y = absurd cc
+        waited (Now.LongName v) x w y = absurd cc
+        waited Now.Ready x w y = absurd cc
+        waited Now.After x w y = absurd cc
+        waited Now.Name x w y = absurd cc
+        waited (Now.Keyed v) x w y = absurd cc
 
         go : (b : Bool) → waits r (Left t.lexeme s') ≡ b → Streamed (run g l to (with_scan s r) (o ∷ os)) all
         go true w = absurd (waited r.now refl w (going_turn g l r t ts all p.1 d p.2 (inl (sym agree ∙ w))))
@@ -553,25 +515,25 @@ module _ (g : Catalog) (l : Limits) where
     ok_here = calm_ok g l s r calm
 
     -- nothing that waits is followed by a last token
-    no_waiting : (n : Now) → r.now ≡ n → CalmNow n s.mode → n ≡ nows.Ready
-    no_waiting nows.Ready x c = refl
-    no_waiting (nows.Pending h y) x c = absurd (by ((at_end_fine t.place s t.lexeme e).4 c))
+    no_waiting : (n : Now) → r.now ≡ n → CalmNow n s.mode → n ≡ Now.Ready
+    no_waiting Now.Ready x c = refl
+    no_waiting (Now.Pending h y) x c = absurd (by ((at_end_fine t.place s t.lexeme e).4 c))
       where
-        by : (t.lexeme.kind ≡ kinds.Mark marks.Colon) ⊎ (t.lexeme.kind ≡ kinds.Operator) → ⊥
+        by : (t.lexeme.kind ≡ TokenKind.Mark Mark.Colon) ⊎ (t.lexeme.kind ≡ TokenKind.Operator) → ⊥
         by (inl k) =
             let shut : continues r (token_of t.lexeme said_here.1) ≡ false = ap (λ z. continues_now (is_top r.frames) z (token_of t.lexeme said_here.1)) x
             ∙ (sym (colons_agree (is_top r.frames) h y t.lexeme.start t.lexeme.end t.lexeme.kind t.lexeme.octets said_here.1 body_here)
             ∙ ap is_colons k) in
             settled_colon r t [] all top_here ok_here (going_settle g l r t [] all said_here.1 d said_here.2 shut) k
         by (inr k) = no_operator g l r t top_here said_here.0 ops.0 k
-    no_waiting (nows.Long w y) x c = absurd (mode (is_idle s.mode) refl)
+    no_waiting (Now.Long w y) x c = absurd (mode (is_idle s.mode) refl)
       where
         long : continues r (token_of t.lexeme said_here.1) ≡ (is_segment t.lexeme.kind ||
             (is_top r.frames && is_two_quotes t.lexeme.kind t.lexeme.start t.lexeme.end))
         long = ap (λ z. continues_now (is_top r.frames) z (token_of t.lexeme said_here.1)) x
             ∙ long_goes (is_top r.frames) w y t.lexeme.start t.lexeme.end t.lexeme.kind t.lexeme.octets said_here.1 body_here
 
-        by : (t.lexeme.kind ≡ kinds.Mark marks.Colon) ⊎ (t.lexeme.kind ≡ kinds.Operator) → ⊥
+        by : (t.lexeme.kind ≡ TokenKind.Mark Mark.Colon) ⊎ (t.lexeme.kind ≡ TokenKind.Operator) → ⊥
         by (inl k) =
             let shut : continues r (token_of t.lexeme said_here.1) ≡ false =
             long ∙ (ap (λ z. is_segment z || (is_top r.frames && is_two_quotes z t.lexeme.start t.lexeme.end)) k ∙ none (is_top r.frames)) in
@@ -603,12 +565,12 @@ module _ (g : Catalog) (l : Limits) where
         mode : (b : Bool) → is_idle s.mode ≡ b → ⊥
         mode true i = by ((at_end_fine t.place s t.lexeme e).4 i)
         mode false i = quoted (sym (ap (λ b. b || is_quoting s.mode) i) ∙ c)
-    no_waiting nows.After x c = absurd c
-    no_waiting nows.Name x c = absurd c
-    no_waiting (nows.LongName w) x c = absurd c
-    no_waiting (nows.Keyed y) x c = absurd c
+    no_waiting Now.After x c = absurd c
+    no_waiting Now.Name x c = absurd c
+    no_waiting (Now.LongName w) x c = absurd c
+    no_waiting (Now.Keyed y) x c = absurd c
 
-    ready_here : r.now ≡ nows.Ready
+    ready_here : r.now ≡ Now.Ready
     ready_here = no_waiting r.now refl (calm top_here).0
 
     token_ends : (last : Option Value) × (ends g l (with_scan s r) ≡ Ok last) × (all ≡ option_to_list last)
@@ -630,7 +592,7 @@ module _ (g : Catalog) (l : Limits) where
       by true h = refl
       by false h = absurd (inside_end g l r all h d)
 
-  blank_ends : (s : Known) (r : Reading) (all : List Value) → Calm s r → Going g l r [] all → at_end places.Top s ≡ Ok None → (last : Option Value)
+  blank_ends : (s : Known) (r : Reading) (all : List Value) → Calm s r → Going g l r [] all → at_end Place.Top s ≡ Ok None → (last : Option Value)
       × (ends g l (with_scan s r) ≡ Ok last) × (all ≡ option_to_list last)
   blank_ends s r all calm d e = by r.now refl (calm top).0
     where
@@ -641,21 +603,21 @@ module _ (g : Catalog) (l : Limits) where
       here = ap (λ p. at_end p s) (top_place r.frames r.now top) ∙ e
 
       by : (n : Now) → r.now ≡ n → CalmNow n s.mode → (last : Option Value) × (ends g l (with_scan s r) ≡ Ok last) × (all ≡ option_to_list last)
-      by (nows.Pending h y) x c = let z = settled_ends s.used all (settle g l r) (going_ends g l r all d) in
+      by (Now.Pending h y) x c = let z = settled_ends s.used all (settle g l r) (going_ends g l r all d) in
           (z.0, ap (λ n. end_now g l s.used r (at_end (place r) s) n) x ∙ (ap (λ w. end_waiting g l s.used w (settle g l r)) here ∙ z.1), z.2)
-      by (nows.Long w y) x c = let z = settled_ends s.used all (settle g l r) (going_ends g l r all d) in
+      by (Now.Long w y) x c = let z = settled_ends s.used all (settle g l r) (going_ends g l r all d) in
           (z.0, ap (λ n. end_now g l s.used r (at_end (place r) s) n) x ∙ (ap (λ w. end_waiting g l s.used w (settle g l r)) here ∙ z.1), z.2)
-      by nows.Ready x c =
+      by Now.Ready x c =
           let z = subst (λ y. TurnEnds g l y all) (ready_still r x) (going_ends g l r all d) in (
             None,
             ap (λ n. end_now g l s.used r (at_end (place r) s) n) x
                 ∙ (ap (end_ready g l s.used r) here ∙ ap (λ b. if b then Ok None else cut_short s.used) (ap is_fresh z.0.1)),
             z.1,
           )
-      by nows.After x c = absurd c
-      by nows.Name x c = absurd c
-      by (nows.LongName w) x c = absurd c
-      by (nows.Keyed y) x c = absurd c
+      by Now.After x c = absurd c
+      by Now.Name x c = absurd c
+      by (Now.LongName w) x c = absurd c
+      by (Now.Keyed y) x c = absurd c
 
   -- a blank octet doesn't settle what waits
   blank_settled : (r : Reading) (s : Known) (all : List Value) → TopOk g l r → Going g l r [] all → is_idle s.mode ≡ true → waits r (Next s) ≡ false
@@ -663,14 +625,14 @@ module _ (g : Catalog) (l : Limits) where
   blank_settled r s all ok d i w = by r.now refl (ok (nothing_top r all d))
     where
       by : (n : Now) → r.now ≡ n → IsTopNow n → TurnGoes g l (settle g l r) [] all
-      by nows.Ready x k = subst (λ t. TurnGoes g l t [] all) (sym (ready_still r x)) d
-      by (nows.Pending h y) x k = absurd (let n : true ≡ false = sym i ∙ (sym (ap (λ z. waits_now (is_top r.frames) z (Next s)) x) ∙ w) in cc)
-      by (nows.Long v y) x k = absurd (let n : true ≡ false = sym (ap (λ b. b || is_quoting s.mode) i)
+      by Now.Ready x k = subst (λ t. TurnGoes g l t [] all) (sym (ready_still r x)) d
+      by (Now.Pending h y) x k = absurd (let n : true ≡ false = sym i ∙ (sym (ap (λ z. waits_now (is_top r.frames) z (Next s)) x) ∙ w) in cc)
+      by (Now.Long v y) x k = absurd (let n : true ≡ false = sym (ap (λ b. b || is_quoting s.mode) i)
           ∙ (sym (ap (λ z. waits_now (is_top r.frames) z (Next s)) x) ∙ w) in cc)
-      by nows.After x k = absurd k
-      by nows.Name x k = absurd k
-      by (nows.LongName v) x k = absurd k
-      by (nows.Keyed v) x k = absurd k
+      by Now.After x k = absurd k
+      by Now.Name x k = absurd k
+      by (Now.LongName v) x k = absurd k
+      by (Now.Keyed v) x k = absurd k
 
   one_more : (p : Place) (s s' : Known) (o : ℕ) (x : Lexeme) → feed p s o ≡ Given x s' → 1 ≤ s'.used
   one_more p s s' o x e = let k = given_used p (o ∷ []) s s' x (sym (ap (λ y. follow y (λ t. Next t)) e)) in omega (arith, k.0)

@@ -2,42 +2,11 @@
 use Rattle.std.proofs.Common.{◌≡◌, ◌≢◌, ℕ, suc, max, ◌+◌, ◌≤◌, ◌<◌, List, [], ◌∷◌, ◌++◌, length, map, Bool, true, false, ◌&&◌, ◌||◌, Ok, Option, Some, None, refl, ap, sym, ◌∙◌, subst, arith, append_assoc, if◌then◌else◌, ◌⊎◌, inl, inr, codes}
 use Rattle.std.proofs.lemmas.Bool.{cond-true, cond-false, lt-ltb}
 use Rattle.std.specs.Str.{bytes_eq}
-use Rattle.ion_model.specs.declared.value.Value.{Value}
-use Rattle.ion_model.specs.declared.value.Field.{Field}
-use Rattle.ion_model.specs.declared.value.Payload.{Payload}
+use Rattle.ion_text.specs.Names.{Annotations, Blob, Bracket, Catalog, Clob, Content, Elements, Field, Frame, Held, Id, IsBody, IsName, IsScalar, IsSymbol, IsWordBody, Kind, Limits, Listing, Long, Mark, Mark', Means, Members, Now, Number', Operator, Payload, Place, Placed, Plain, Quoted, Reading, Row, Says, Segments, Short, Slot, Spells, Symbols, Token, TokenKind, Turn, TypedNull, Value, Word, adds_none, annotated, at, begins_long, begun_at, behind_waiting, by_long, by_short, by_symbol, close_place, comma, continues, continues_now, depth, done, element, ended, ends_long, field, field_comma, field_of, first_now, first_token, goes, greatest, held_payload, held_symbol, held_word, id_of, is_blob, is_clob, is_decimal, is_false, is_id, is_int, is_keyword, is_list, is_null, is_operator, is_segment, is_short, is_struct, is_symbol, is_timestamp, is_top, is_true, is_typed_null, is_version, is_version_word, is_word, item, joined, kind_named, long_at, long_string, means, name_at, no_annotation, no_element, no_field, no_item, noted, null_of, on_name, on_ready, on_turn, one_annotation, one_token, open_mark, opened, paid, pending_at, place, place_in, reads, reads-append, released, resolved, segment, settle, spot_at, the_marker, then_walk, token_of, turn, under}
 use Rattle.ion_model.specs.declared.value.Payload.TheVariants as payloads
-use Rattle.ion_atoms.specs.declared.kind.Kind.TheVariants as values
-use Rattle.ion_model.specs.Measures.{depth, annotated, greatest, field_of}
-use Rattle.ion_model.specs.laws.Measures.{depth-at-List, depth-at-Sexp, depth-at-Fields, deepest-more}
-use Rattle.ion_symtab.specs.declared.limits.Limits.{Limits}
-use Rattle.ion_symtab.specs.declared.catalog.Catalog.{Catalog}
-use Rattle.ion_symtab.specs.Slots.{Slot}
-use Rattle.ion_tokens.specs.declared.mode.Mark.{Mark}
-use Rattle.ion_tokens.specs.declared.mode.Mark.TheVariants as marks
-use Rattle.ion_tokens.specs.declared.mode.Place.{Place}
-use Rattle.ion_tokens.specs.declared.mode.Place.TheVariants as places
-use Rattle.ion_tokens.specs.declared.mode.TokenKind.{TokenKind}
-use Rattle.ion_tokens.specs.declared.mode.TokenKind.TheVariants as kinds
-use Rattle.ion_tokens.specs.Bodies.{Content, Word, Id, Quoted, Short, Long, Number', TypedNull, Operator, Clob, Blob, Mark', IsBody, Spells, IsWordBody, id_of, kind_named, null_of}
-use Rattle.ion_atoms.specs.declared.kind.Kind.{Kind}
-use Rattle.ion_tokens.specs.Lexed.{Placed}
-use Rattle.ion_tokens.specs.Lexemes.{is_segment}
-use Rattle.ion_text.specs.declared.state.Held.{Held}
-use Rattle.ion_text.specs.declared.state.Held.TheVariants as helds
-use Rattle.ion_text.specs.declared.state.Now.{Now}
-use Rattle.ion_text.specs.declared.state.Now.TheVariants as nows
-use Rattle.ion_text.specs.declared.state.Frame.{Frame}
-use Rattle.ion_text.specs.declared.state.Frame.TheVariants as frames
-use Rattle.ion_text.specs.declared.state.Listing.TheVariants as listings
-use Rattle.ion_visiting.specs.declared.bracket.Bracket.{Bracket}
-use Rattle.ion_visiting.specs.declared.bracket.Bracket.TheVariants as brackets
-use Rattle.ion_text.specs.machine.Nested.{open_mark}
+use Rattle.ion_model.specs.laws.Measures.{deepest-more, depth-at-Fields, depth-at-List, depth-at-Sexp}
+use Rattle.ion_text.specs.Grammar.{end_of, is_quoted, is_sexp}
 use Rattle.ion_text.specs.laws.reading.Brackets.{open_turns}
-use Rattle.ion_text.specs.Grammar.{Says, IsSymbol, is_word, is_id, is_quoted, IsScalar, is_null, is_typed_null, is_true, is_false, is_int, is_decimal, is_timestamp, is_symbol, is_operator, is_short, is_clob, is_blob, Annotations, no_annotation, one_annotation, Segments, segment, joined, Plain, one_token, long_string, is_list, is_sexp, is_struct, Means, means, Elements, no_element, element, comma, Row, no_item, item, Members, no_field, field, field_comma, IsName, by_symbol, by_short, by_long, close_place, is_keyword, is_version, the_marker, is_version_word, ends_long, begins_long, end_of}
-use Rattle.ion_text.specs.machine.EachToken.{under, spot_at, Reading, Turn, goes, Token, Symbols, at, place, place_in, settle, turn, ended, held_word, held_symbol, held_payload, released, begun_at, on_ready, on_name, resolved, noted, paid, opened, first_now}
-use Rattle.ion_text.specs.machine.Run.{token_of, is_top}
-use Rattle.ion_text.specs.machine.Places.{pending_at, long_at, name_at}
-use Rattle.ion_text.specs.machine.TokenLists.{done, on_turn, then_walk, continues, continues_now, reads, reads-append, first_token, behind_waiting, adds_none}
 
 -- how deep the deepest of these values is
 abbrev pub depths : List Value → ℕ
@@ -87,24 +56,24 @@ spelled_other said octets w n h = n (sym h.0)
 
 -- what says a segment is a token of one
 pub segment_kind : (k : TokenKind) (octets w : List ℕ) → IsBody k octets (Ok (Long w)) → is_segment k ≡ true
-segment_kind kinds.Word octets w h = absurd (go (id_of octets) h)
+segment_kind TokenKind.Word octets w h = absurd (go (id_of octets) h)
   where
     go : (id : Option ℕ) → IsWordBody octets id (Ok (Long w)) → ⊥
     go None h = spelled_other (Word octets) octets w (λ e. cc) h
     go (Some id) h = cc
-segment_kind kinds.KindName octets w h = absurd (go (kind_named octets) h)
+segment_kind TokenKind.KindName octets w h = absurd (go (kind_named octets) h)
   where
     go : (k : Option Kind) → Ok (Long w) ≡ null_of k → ⊥
     go None h = cc
     go (Some k) h = cc
-segment_kind kinds.Number octets w h = absurd h
-segment_kind kinds.Operator octets w h = absurd (spelled_other (Operator octets) octets w (λ e. cc) h)
-segment_kind kinds.QuotedSymbol octets w h = absurd (spelled_other (Quoted octets) octets w (λ e. cc) h)
-segment_kind kinds.ShortString octets w h = absurd (spelled_other (Short octets) octets w (λ e. cc) h)
-segment_kind kinds.LongString octets w h = refl
-segment_kind kinds.Clob octets w h = absurd cc
-segment_kind kinds.Blob octets w h = absurd cc
-segment_kind (kinds.Mark m) octets w h = absurd cc
+segment_kind TokenKind.Number octets w h = absurd h
+segment_kind TokenKind.Operator octets w h = absurd (spelled_other (Operator octets) octets w (λ e. cc) h)
+segment_kind TokenKind.QuotedSymbol octets w h = absurd (spelled_other (Quoted octets) octets w (λ e. cc) h)
+segment_kind TokenKind.ShortString octets w h = absurd (spelled_other (Short octets) octets w (λ e. cc) h)
+segment_kind TokenKind.LongString octets w h = refl
+segment_kind TokenKind.Clob octets w h = absurd cc
+segment_kind TokenKind.Blob octets w h = absurd cc
+segment_kind (TokenKind.Mark m) octets w h = absurd cc
 
 -- the segments of a long string end in a long string
 pub segments_long : (p : Place) (ts : List Placed) (w : List ℕ) → Segments p ts w → ends_long ts ≡ true
@@ -117,37 +86,37 @@ segments_long p _ _ (joined ts v w t d h) = ends_long_more ts t ∙ segment_kind
     ends_long_more (u ∷ v ∷ ts) t = ends_long_more (v ∷ ts) t
 
 -- what says a word is the token of a word, of these octets
-pub word_token : (k : TokenKind) (octets w : List ℕ) → IsBody k octets (Ok (Word w)) → (k ≡ kinds.Word) × (octets ≡ w)
-word_token kinds.Word octets w h = (refl, go (id_of octets) h)
+pub word_token : (k : TokenKind) (octets w : List ℕ) → IsBody k octets (Ok (Word w)) → (k ≡ TokenKind.Word) × (octets ≡ w)
+word_token TokenKind.Word octets w h = (refl, go (id_of octets) h)
   where
     go : (id : Option ℕ) → IsWordBody octets id (Ok (Word w)) → octets ≡ w
     go None h = let e : Word w ≡ Word octets = h.0 in cc
     go (Some id) h = absurd cc
-word_token kinds.KindName octets w h = absurd (go (kind_named octets) h)
+word_token TokenKind.KindName octets w h = absurd (go (kind_named octets) h)
   where
     go : (k : Option Kind) → Ok (Word w) ≡ null_of k → ⊥
     go None h = cc
     go (Some k) h = cc
-word_token kinds.Number octets w h = absurd h
-word_token kinds.Operator octets w h = absurd (let e : Word w ≡ Operator octets = h.0 in cc)
-word_token kinds.QuotedSymbol octets w h = absurd (let e : Word w ≡ Quoted octets = h.0 in cc)
-word_token kinds.ShortString octets w h = absurd (let e : Word w ≡ Short octets = h.0 in cc)
-word_token kinds.LongString octets w h = absurd (let e : Word w ≡ Long octets = h.0 in cc)
-word_token kinds.Clob octets w h = absurd cc
-word_token kinds.Blob octets w h = absurd cc
-word_token (kinds.Mark m) octets w h = absurd cc
+word_token TokenKind.Number octets w h = absurd h
+word_token TokenKind.Operator octets w h = absurd (let e : Word w ≡ Operator octets = h.0 in cc)
+word_token TokenKind.QuotedSymbol octets w h = absurd (let e : Word w ≡ Quoted octets = h.0 in cc)
+word_token TokenKind.ShortString octets w h = absurd (let e : Word w ≡ Short octets = h.0 in cc)
+word_token TokenKind.LongString octets w h = absurd (let e : Word w ≡ Long octets = h.0 in cc)
+word_token TokenKind.Clob octets w h = absurd cc
+word_token TokenKind.Blob octets w h = absurd cc
+word_token (TokenKind.Mark m) octets w h = absurd cc
 
 -- an unannotated word of the form of a marker is held as one, and nothing else
 abbrev not_version : Held → Bool
-not_version (helds.Version ours s) = false
+not_version (Held.Version ours s) = false
 not_version _ = true
 
 word_not_version : (w : List ℕ) → is_version w ≡ false → not_version (held_word w) ≡ true
 word_not_version w h = go (bytes_eq w (codes "null")) (bytes_eq w (codes "true")) (bytes_eq w (codes "false")) (bytes_eq w (codes "nan")) (is_version w) h
   where
-    go : (a b c d e : Bool) → e ≡ false → not_version (if a then helds.Null values.Null else
-        (if b then helds.Truth true else (if c then helds.Truth false else
-        (if d then helds.Nan else (if e then helds.Version (bytes_eq w the_marker) (Some w) else helds.Symbol (Some w)))))) ≡ true
+    go : (a b c d e : Bool) → e ≡ false → not_version (if a then Held.Null Kind.Null else
+        (if b then Held.Truth true else (if c then Held.Truth false else
+        (if d then Held.Nan else (if e then Held.Version (bytes_eq w the_marker) (Some w) else Held.Symbol (Some w)))))) ≡ true
     go true b c d e h = refl
     go false true c d e h = refl
     go false false true d e h = refl
@@ -168,8 +137,8 @@ word_held : (w : List ℕ) → is_keyword w ≡ false → IsHeldAs (held_word w)
 word_held w h = go (bytes_eq w (codes "null")) (bytes_eq w (codes "true")) (bytes_eq w (codes "false")) (bytes_eq w (codes "nan")) (is_version w) h
   where
     go : (a b c d e : Bool) → ((a || b) || (c || d)) ≡ false
-        → IsHeldAs (if a then helds.Null values.Null else (if b then helds.Truth true else
-        (if c then helds.Truth false else (if d then helds.Nan else (if e then helds.Version (bytes_eq w the_marker) (Some w) else helds.Symbol (Some w))))))
+        → IsHeldAs (if a then Held.Null Kind.Null else (if b then Held.Truth true else
+        (if c then Held.Truth false else (if d then Held.Nan else (if e then Held.Version (bytes_eq w the_marker) (Some w) else Held.Symbol (Some w))))))
         (Some w)
     go true b c d e h = absurd cc
     go false true c d e h = absurd cc
@@ -187,19 +156,19 @@ module _ (g : Catalog) (l : Limits) where
   -- a symbol, where a value may come, waits for `::`
   record Holds (end start : ℕ) (c : List Slot) (fs : List Frame) (ss : Symbols) (said : Content) (s : Option (List ℕ)) : Type 0 where
     held : Held
-    waits : on_ready (under g l) (spot_at end start c) fs ss said ≡ goes (at start c fs ss (nows.Pending held end))
+    waits : on_ready (under g l) (spot_at end start c) fs ss said ≡ goes (at start c fs ss (Now.Pending held end))
     is : IsHeldAs held s
 
   symbol_held : (end start : ℕ) (c : List Slot) (fs : List Frame) (ss : Symbols) (said : Content) (s : Option (List ℕ)) → IsSymbol c said s
       → Holds end start c fs ss said s
   symbol_held end start c fs ss _ _ (is_word w h) = record { held = held_word w; waits = refl; is = word_held w h }
   symbol_held end start c fs ss _ _ (is_id id s h) = record {
-    held = helds.Symbol s;
+    held = Held.Symbol s;
     waits =
-        ap (λ r. resolved r (λ s. goes (at start c fs ss (nows.Pending (helds.Symbol s) end)))) h;
+        ap (λ r. resolved r (λ s. goes (at start c fs ss (Now.Pending (Held.Symbol s) end)))) h;
     is = (refl, refl);
   }
-  symbol_held end start c fs ss _ _ (is_quoted w) = record { held = helds.Symbol (Some w); waits = refl; is = (refl, refl) }
+  symbol_held end start c fs ss _ _ (is_quoted w) = record { held = Held.Symbol (Some w); waits = refl; is = (refl, refl) }
 
   -- where the item begins once these tokens have come
   abbrev pub starts : ℕ → List Frame → List Placed → ℕ
@@ -225,42 +194,42 @@ module _ (g : Catalog) (l : Limits) where
       begun_some _ t.lexeme.start fs ss s ∙ starts_more start fs ts (t ∷ us) u (colons ∷ [])
 
   -- Annotations are read.
-  pub notes_read : (c : List Slot) (p : Place) (start : ℕ) (fs : List Frame) (ts : List Placed) (ss : Symbols) → p ≡ place_in fs nows.Ready
-      → Annotations c p ts ss → reads g l (at start c fs [] nows.Ready) ts ≡ done (at (starts start fs ts) c fs ss nows.Ready)
+  pub notes_read : (c : List Slot) (p : Place) (start : ℕ) (fs : List Frame) (ts : List Placed) (ss : Symbols) → p ≡ place_in fs Now.Ready
+      → Annotations c p ts ss → reads g l (at start c fs [] Now.Ready) ts ≡ done (at (starts start fs ts) c fs ss Now.Ready)
   notes_read c p start fs _ _ here no_annotation = refl
   notes_read c p start fs _ _ here (one_annotation ts ss t colons said s d h i j) =
       let w = symbol_held t.lexeme.end (begun_at (starts start fs ts) t.lexeme.start fs ss) c fs ss said s i in
-      reads-append g l ts (t ∷ colons ∷ []) (at start c fs [] nows.Ready)
+      reads-append g l ts (t ∷ colons ∷ []) (at start c fs [] Now.Ready)
       ∙ (ap (λ x. then_walk x (λ k. reads g l k (t ∷ colons ∷ []))) (notes_read c p start fs ts ss here d)
       ∙ (adds_none g l _
-      ∙ (first_token g l p (at (starts start fs ts) c fs ss nows.Ready) t said (colons ∷ []) h here (inr refl)
+      ∙ (first_token g l p (at (starts start fs ts) c fs ss Now.Ready) t said (colons ∷ []) h here (inr refl)
       ∙ (ap (λ x. on_turn x (λ k. reads g l k (colons ∷ []))) w.waits
-      ∙ (first_token g l p (at (begun_at (starts start fs ts) t.lexeme.start fs ss) c fs ss (nows.Pending w.held t.lexeme.end)) colons (Mark' marks.Colons) [] j
+      ∙ (first_token g l p (at (begun_at (starts start fs ts) t.lexeme.start fs ss) c fs ss (Now.Pending w.held t.lexeme.end)) colons (Mark' Mark.Colons) [] j
       (here ∙ sym (pending_at fs w.held t.lexeme.end)) (inl refl)
       ∙ (ap (λ x. on_turn (noted (begun_at (starts start fs ts) t.lexeme.start fs ss) c fs ss x) (λ k. reads g l k [])) w.is.0
-      ∙ ap (λ x. done (at x c fs (ss ++ s ∷ []) nows.Ready)) (begun_behind c p start fs ts ss t (colons ∷ []) d)))))))
+      ∙ ap (λ x. done (at x c fs (ss ++ s ∷ []) Now.Ready)) (begun_behind c p start fs ts ss t (colons ∷ []) d)))))))
 
   -- The tokens lead to this turn: with the last of them, or once it is known that nothing of what waits goes on.
   pub data LeadsToTurn (c : List Slot) (fs : List Frame) (r : Reading) (ts : List Placed) (t : Turn) : Type 0 where
     at_once : reads g l r ts ≡ on_turn t done → LeadsToTurn c fs r ts t
-    by_held : (start : ℕ) (ss : Symbols) (h : Held) (end : ℕ) → reads g l r ts ≡ done (at start c fs ss (nows.Pending h end))
+    by_held : (start : ℕ) (ss : Symbols) (h : Held) (end : ℕ) → reads g l r ts ≡ done (at start c fs ss (Now.Pending h end))
         → released (under g l) (spot_at end start c) fs ss h ≡ t → LeadsToTurn c fs r ts t
-    by_long' : (start : ℕ) (ss : Symbols) (w : List ℕ) (end : ℕ) → reads g l r ts ≡ done (at start c fs ss (nows.Long w end))
+    by_long' : (start : ℕ) (ss : Symbols) (w : List ℕ) (end : ℕ) → reads g l r ts ≡ done (at start c fs ss (Now.Long w end))
         → ended (under g l) (spot_at end start c) fs (annotated ss (payloads.Str w)) ≡ t → ends_long ts ≡ true → LeadsToTurn c fs r ts t
 
   -- Segments of a long string are read.
-  pub segments_read : (c : List Slot) (p : Place) (start : ℕ) (fs : List Frame) (ss : Symbols) (ts : List Placed) (w : List ℕ) → p ≡ place_in fs nows.Ready
+  pub segments_read : (c : List Slot) (p : Place) (start : ℕ) (fs : List Frame) (ss : Symbols) (ts : List Placed) (w : List ℕ) → p ≡ place_in fs Now.Ready
       → Segments p ts w
-      → reads g l (at start c fs ss nows.Ready) ts ≡ done (at (begun_at start (first_start 0 ts) fs ss) c fs ss (nows.Long w (end_of 0 ts)))
-  segments_read c p start fs ss _ _ here (segment t w h) = first_token g l p (at start c fs ss nows.Ready) t (Long w) [] h here (inr refl)
+      → reads g l (at start c fs ss Now.Ready) ts ≡ done (at (begun_at start (first_start 0 ts) fs ss) c fs ss (Now.Long w (end_of 0 ts)))
+  segments_read c p start fs ss _ _ here (segment t w h) = first_token g l p (at start c fs ss Now.Ready) t (Long w) [] h here (inr refl)
   segments_read c p start fs ss _ _ here (joined ts v w t d h) =
-      reads-append g l ts (t ∷ []) (at start c fs ss nows.Ready)
+      reads-append g l ts (t ∷ []) (at start c fs ss Now.Ready)
       ∙ (ap (λ x. then_walk x (λ k. reads g l k (t ∷ []))) (segments_read c p start fs ss ts v here d)
       ∙ (adds_none g l _
-      ∙ (first_token g l p (at (begun_at start (first_start 0 ts) fs ss) c fs ss (nows.Long v (end_of 0 ts))) t (Long w) [] h
+      ∙ (first_token g l p (at (begun_at start (first_start 0 ts) fs ss) c fs ss (Now.Long v (end_of 0 ts))) t (Long w) [] h
       (here ∙ sym (long_at fs v (end_of 0 ts))) (inl refl)
-      ∙ (ap (λ x. done (at (begun_at start (first_start 0 ts) fs ss) c fs ss (nows.Long (v ++ w) x))) (sym (end_more ts t 0))
-      ∙ ap (λ x. done (at (begun_at start x fs ss) c fs ss (nows.Long (v ++ w) (end_of 0 (ts ++ t ∷ []))))) (first_more ts (segments_some ts v d))))))
+      ∙ (ap (λ x. done (at (begun_at start (first_start 0 ts) fs ss) c fs ss (Now.Long (v ++ w) x))) (sym (end_more ts t 0))
+      ∙ ap (λ x. done (at (begun_at start x fs ss) c fs ss (Now.Long (v ++ w) (end_of 0 (ts ++ t ∷ []))))) (first_more ts (segments_some ts v d))))))
     where
       first_more : (ts : List Placed) → (first : Placed) × (more : List Placed) × (ts ≡ first ∷ more) → first_start 0 ts ≡ first_start 0 (ts ++ t ∷ [])
       first_more [] h = absurd cc
@@ -274,25 +243,25 @@ module _ (g : Catalog) (l : Limits) where
   -- what was held is taken for a value unless it is a bare word of a marker's form at the top level
   pub released_paid : (end start : ℕ) (c : List Slot) (fs : List Frame) (ss : Symbols) (h : Held) → (fs ≡ [] → ss ≡ [] → not_version h ≡ true)
       → released (under g l) (spot_at end start c) fs ss h ≡ paid (under g l) (spot_at end start c) fs ss (held_payload h)
-  released_paid end start c [] [] (helds.Version b s) n = absurd (let e : false ≡ true = n refl refl in cc)
-  released_paid end start c [] [] (helds.Symbol s) n = refl
-  released_paid end start c [] [] (helds.Null k) n = refl
-  released_paid end start c [] [] (helds.Truth b) n = refl
-  released_paid end start c [] [] helds.Nan n = refl
+  released_paid end start c [] [] (Held.Version b s) n = absurd (let e : false ≡ true = n refl refl in cc)
+  released_paid end start c [] [] (Held.Symbol s) n = refl
+  released_paid end start c [] [] (Held.Null k) n = refl
+  released_paid end start c [] [] (Held.Truth b) n = refl
+  released_paid end start c [] [] Held.Nan n = refl
   released_paid end start c [] (s ∷ ss) h n = refl
   released_paid end start c (f ∷ fs) ss h n = refl
 
   -- a token of which it isn't known whether `::` follows
   held_leads : (c : List Slot) (p : Place) (start : ℕ) (fs : List Frame) (ss : Symbols) (t : Placed) (said : Content) (h : Held) (q : Payload)
-      → p ≡ place_in fs nows.Ready → Says p t said
+      → p ≡ place_in fs Now.Ready → Says p t said
       → on_ready (under g l) (spot_at t.lexeme.end (begun_at start t.lexeme.start fs ss) c) fs ss said
-      ≡ goes (at (begun_at start t.lexeme.start fs ss) c fs ss (nows.Pending h t.lexeme.end))
+      ≡ goes (at (begun_at start t.lexeme.start fs ss) c fs ss (Now.Pending h t.lexeme.end))
       → held_payload h ≡ Ok q → (fs ≡ [] → ss ≡ [] → not_version h ≡ true)
-      → LeadsToTurn c fs (at start c fs ss nows.Ready) (t ∷ [])
+      → LeadsToTurn c fs (at start c fs ss Now.Ready) (t ∷ [])
       (ended (under g l) (spot_at t.lexeme.end (begun_at start t.lexeme.start fs ss) c) fs (annotated ss q))
   held_leads c p start fs ss t said h q here i w e n =
       by_held (begun_at start t.lexeme.start fs ss) ss h t.lexeme.end
-      (first_token g l p (at start c fs ss nows.Ready) t said [] i here (inr refl) ∙ ap (λ x. on_turn x done) w)
+      (first_token g l p (at start c fs ss Now.Ready) t said [] i here (inr refl) ∙ ap (λ x. on_turn x done) w)
       (released_paid t.lexeme.end (begun_at start t.lexeme.start fs ss) c fs ss h n
       ∙ ap (paid (under g l) (spot_at t.lexeme.end (begun_at start t.lexeme.start fs ss) c) fs ss) e)
 
@@ -306,24 +275,24 @@ module _ (g : Catalog) (l : Limits) where
 
   -- One token that is a value is read.
   pub scalar_read : (c : List Slot) (p : Place) (start : ℕ) (fs : List Frame) (ss : Symbols) (t : Placed) (said : Content) (q : Payload)
-      → p ≡ place_in fs nows.Ready → Says p t said → IsScalar c said q → (fs ≡ [] → ss ≡ [] → is_version_word (t ∷ []) ≡ false)
-      → LeadsToTurn c fs (at start c fs ss nows.Ready) (t ∷ [])
+      → p ≡ place_in fs Now.Ready → Says p t said → IsScalar c said q → (fs ≡ [] → ss ≡ [] → is_version_word (t ∷ []) ≡ false)
+      → LeadsToTurn c fs (at start c fs ss Now.Ready) (t ∷ [])
       (ended (under g l) (spot_at t.lexeme.end (begun_at start t.lexeme.start fs ss) c) fs (annotated ss q))
-  scalar_read c p start fs ss t _ _ here h is_null v = held_leads c p start fs ss t _ (helds.Null values.Null) _ here h refl refl (λ i j. refl)
-  scalar_read c p start fs ss t _ _ here h (is_typed_null k) v = held_leads c p start fs ss t _ (helds.Null k) _ here h refl refl (λ i j. refl)
-  scalar_read c p start fs ss t _ _ here h is_true v = held_leads c p start fs ss t _ (helds.Truth true) _ here h refl refl (λ i j. refl)
-  scalar_read c p start fs ss t _ _ here h is_false v = held_leads c p start fs ss t _ (helds.Truth false) _ here h refl refl (λ i j. refl)
+  scalar_read c p start fs ss t _ _ here h is_null v = held_leads c p start fs ss t _ (Held.Null Kind.Null) _ here h refl refl (λ i j. refl)
+  scalar_read c p start fs ss t _ _ here h (is_typed_null k) v = held_leads c p start fs ss t _ (Held.Null k) _ here h refl refl (λ i j. refl)
+  scalar_read c p start fs ss t _ _ here h is_true v = held_leads c p start fs ss t _ (Held.Truth true) _ here h refl refl (λ i j. refl)
+  scalar_read c p start fs ss t _ _ here h is_false v = held_leads c p start fs ss t _ (Held.Truth false) _ here h refl refl (λ i j. refl)
   scalar_read c p start fs ss t _ _ here h (is_symbol said s d) v =
       let w = symbol_held t.lexeme.end (begun_at start t.lexeme.start fs ss) c fs ss said s d in
       held_leads c p start fs ss t said w.held _ here h w.waits w.is.1
       (λ i j. symbol_not_version c p (begun_at start t.lexeme.start fs ss) fs ss t said s h d (v i j))
-  scalar_read c p start fs ss t _ _ here h (is_int z) v = at_once (first_token g l p (at start c fs ss nows.Ready) t _ [] h here (inr refl))
-  scalar_read c p start fs ss t _ _ here h (is_decimal z) v = at_once (first_token g l p (at start c fs ss nows.Ready) t _ [] h here (inr refl))
-  scalar_read c p start fs ss t _ _ here h (is_timestamp z) v = at_once (first_token g l p (at start c fs ss nows.Ready) t _ [] h here (inr refl))
-  scalar_read c p start fs ss t _ _ here h (is_operator w) v = at_once (first_token g l p (at start c fs ss nows.Ready) t _ [] h here (inr refl))
-  scalar_read c p start fs ss t _ _ here h (is_short w) v = at_once (first_token g l p (at start c fs ss nows.Ready) t _ [] h here (inr refl))
-  scalar_read c p start fs ss t _ _ here h (is_clob w) v = at_once (first_token g l p (at start c fs ss nows.Ready) t _ [] h here (inr refl))
-  scalar_read c p start fs ss t _ _ here h (is_blob w) v = at_once (first_token g l p (at start c fs ss nows.Ready) t _ [] h here (inr refl))
+  scalar_read c p start fs ss t _ _ here h (is_int z) v = at_once (first_token g l p (at start c fs ss Now.Ready) t _ [] h here (inr refl))
+  scalar_read c p start fs ss t _ _ here h (is_decimal z) v = at_once (first_token g l p (at start c fs ss Now.Ready) t _ [] h here (inr refl))
+  scalar_read c p start fs ss t _ _ here h (is_timestamp z) v = at_once (first_token g l p (at start c fs ss Now.Ready) t _ [] h here (inr refl))
+  scalar_read c p start fs ss t _ _ here h (is_operator w) v = at_once (first_token g l p (at start c fs ss Now.Ready) t _ [] h here (inr refl))
+  scalar_read c p start fs ss t _ _ here h (is_short w) v = at_once (first_token g l p (at start c fs ss Now.Ready) t _ [] h here (inr refl))
+  scalar_read c p start fs ss t _ _ here h (is_clob w) v = at_once (first_token g l p (at start c fs ss Now.Ready) t _ [] h here (inr refl))
+  scalar_read c p start fs ss t _ _ here h (is_blob w) v = at_once (first_token g l p (at start c fs ss Now.Ready) t _ [] h here (inr refl))
 
   end_of_front : (ts us : List Placed) (t : Placed) (d : ℕ) → end_of d (ts ++ t ∷ us) ≡ end_of 0 (t ∷ us)
   end_of_front [] us t d = refl
@@ -346,23 +315,23 @@ module _ (g : Catalog) (l : Limits) where
     pub read : reads g l r ts ≡ done now
     pub settles : settle g l now ≡ goes n
     -- what may go on
-    pub shuts : (t : Token) → continues now t ≡ true → (t.said ≡ Mark' marks.Colons) ⊎ ((ends_long ts ≡ true) × (w : List ℕ) × (t.said ≡ Long w))
+    pub shuts : (t : Token) → continues now t ≡ true → (t.said ≡ Mark' Mark.Colons) ⊎ ((ends_long ts ≡ true) × (w : List ℕ) × (t.said ≡ Long w))
 
   -- a symbol that waits goes on with `::` alone
   pub pending_goes : (start : ℕ) (c : List Slot) (fs : List Frame) (ss : Symbols) (h : Held) (end : ℕ) (t : Token)
-      → continues (at start c fs ss (nows.Pending h end)) t ≡ true → t.said ≡ Mark' marks.Colons
+      → continues (at start c fs ss (Now.Pending h end)) t ≡ true → t.said ≡ Mark' Mark.Colons
   pending_goes start c fs ss h end t e = go t.said e
     where
-      go : (s : Content) → continues_now (is_top fs) (nows.Pending h end) (record { start = 0; end = 0; said = s }) ≡ true → s ≡ Mark' marks.Colons
-      go (Mark' marks.Colons) e = refl
-      go (Mark' marks.FieldsOpen) e = absurd cc
-      go (Mark' marks.FieldsClose) e = absurd cc
-      go (Mark' marks.ListOpen) e = absurd cc
-      go (Mark' marks.ListClose) e = absurd cc
-      go (Mark' marks.SexpOpen) e = absurd cc
-      go (Mark' marks.SexpClose) e = absurd cc
-      go (Mark' marks.Comma) e = absurd cc
-      go (Mark' marks.Colon) e = absurd cc
+      go : (s : Content) → continues_now (is_top fs) (Now.Pending h end) (record { start = 0; end = 0; said = s }) ≡ true → s ≡ Mark' Mark.Colons
+      go (Mark' Mark.Colons) e = refl
+      go (Mark' Mark.FieldsOpen) e = absurd cc
+      go (Mark' Mark.FieldsClose) e = absurd cc
+      go (Mark' Mark.ListOpen) e = absurd cc
+      go (Mark' Mark.ListClose) e = absurd cc
+      go (Mark' Mark.SexpOpen) e = absurd cc
+      go (Mark' Mark.SexpClose) e = absurd cc
+      go (Mark' Mark.Comma) e = absurd cc
+      go (Mark' Mark.Colon) e = absurd cc
       go (Word w) e = absurd cc
       go (Id k) e = absurd cc
       go (Quoted w) e = absurd cc
@@ -375,10 +344,10 @@ module _ (g : Catalog) (l : Limits) where
       go (Blob w) e = absurd cc
 
   long_goes : (start : ℕ) (c : List Slot) (f : Frame) (fs : List Frame) (ss : Symbols) (w : List ℕ) (end : ℕ) (t : Token)
-      → continues (at start c (f ∷ fs) ss (nows.Long w end)) t ≡ true → (v : List ℕ) × (t.said ≡ Long v)
+      → continues (at start c (f ∷ fs) ss (Now.Long w end)) t ≡ true → (v : List ℕ) × (t.said ≡ Long v)
   long_goes start c f fs ss w end t e = go t.said e
     where
-      go : (s : Content) → continues_now false (nows.Long w end) (record { start = t.start; end = t.end; said = s }) ≡ true → (v : List ℕ) × (s ≡ Long v)
+      go : (s : Content) → continues_now false (Now.Long w end) (record { start = t.start; end = t.end; said = s }) ≡ true → (v : List ℕ) × (s ≡ Long v)
       go (Long v) e = (v, refl)
       go (Mark' m) e = absurd cc
       go (Word w) e = absurd cc
@@ -395,10 +364,10 @@ module _ (g : Catalog) (l : Limits) where
       → LeadsToTurn c (f ∷ fs) r ts (goes n) → Reached c r ts n
   reached c f fs r n ts s k (at_once h) = record { now = n; read = h; settles = s; shuts = λ t e. absurd (let i : true ≡ false = sym e ∙ k t in cc) }
   reached c f fs r n ts s k (by_held start ss h end i j) =
-      record { now = at start c (f ∷ fs) ss (nows.Pending h end); read = i; settles = j; shuts = λ t e. inl (pending_goes start c (f ∷ fs) ss h end t e) }
+      record { now = at start c (f ∷ fs) ss (Now.Pending h end); read = i; settles = j; shuts = λ t e. inl (pending_goes start c (f ∷ fs) ss h end t e) }
   reached c f fs r n ts s k (by_long' start ss w end i j m) =
       record {
-        now = at start c (f ∷ fs) ss (nows.Long w end);
+        now = at start c (f ∷ fs) ss (Now.Long w end);
         read = i;
         settles = j;
         shuts = λ t e. let x = long_goes start c f fs ss w end t e in
@@ -406,27 +375,27 @@ module _ (g : Catalog) (l : Limits) where
       }
 
   -- a mark that is no `::` ends what waits
-  mark_shut : (top : Bool) (n : Now) (start end : ℕ) (m : Mark) → (m ≡ marks.Colons → ⊥)
+  mark_shut : (top : Bool) (n : Now) (start end : ℕ) (m : Mark) → (m ≡ Mark.Colons → ⊥)
       → continues_now top n (record { start = start; end = end; said = Mark' m }) ≡ false
-  mark_shut top (nows.Pending h e) start end marks.Colons k = absurd (k refl)
-  mark_shut top (nows.Pending h e) start end marks.Colon k = refl
-  mark_shut top (nows.Pending h e) start end marks.Comma k = refl
-  mark_shut top (nows.Pending h e) start end marks.FieldsOpen k = refl
-  mark_shut top (nows.Pending h e) start end marks.FieldsClose k = refl
-  mark_shut top (nows.Pending h e) start end marks.ListOpen k = refl
-  mark_shut top (nows.Pending h e) start end marks.ListClose k = refl
-  mark_shut top (nows.Pending h e) start end marks.SexpOpen k = refl
-  mark_shut top (nows.Pending h e) start end marks.SexpClose k = refl
-  mark_shut top (nows.Long w e) start end m k = refl
-  mark_shut top (nows.LongName w) start end m k = refl
-  mark_shut top nows.Ready start end m k = refl
-  mark_shut top nows.After start end m k = refl
-  mark_shut top nows.Name start end m k = refl
-  mark_shut top (nows.Keyed s) start end m k = refl
+  mark_shut top (Now.Pending h e) start end Mark.Colons k = absurd (k refl)
+  mark_shut top (Now.Pending h e) start end Mark.Colon k = refl
+  mark_shut top (Now.Pending h e) start end Mark.Comma k = refl
+  mark_shut top (Now.Pending h e) start end Mark.FieldsOpen k = refl
+  mark_shut top (Now.Pending h e) start end Mark.FieldsClose k = refl
+  mark_shut top (Now.Pending h e) start end Mark.ListOpen k = refl
+  mark_shut top (Now.Pending h e) start end Mark.ListClose k = refl
+  mark_shut top (Now.Pending h e) start end Mark.SexpOpen k = refl
+  mark_shut top (Now.Pending h e) start end Mark.SexpClose k = refl
+  mark_shut top (Now.Long w e) start end m k = refl
+  mark_shut top (Now.LongName w) start end m k = refl
+  mark_shut top Now.Ready start end m k = refl
+  mark_shut top Now.After start end m k = refl
+  mark_shut top Now.Name start end m k = refl
+  mark_shut top (Now.Keyed s) start end m k = refl
 
   -- behind what was reached, a mark is read where nothing waits
   mark_behind : (c : List Slot) (p : Place) (r n : Reading) (ts : List Placed) (t : Placed) (m : Mark) → p ≡ place n → Reached c r ts n → Says p t (Mark' m)
-      → (m ≡ marks.Colons → ⊥) → reads g l r (ts ++ t ∷ []) ≡ on_turn (turn g l n (token_of t.lexeme (Mark' m))) done
+      → (m ≡ Mark.Colons → ⊥) → reads g l r (ts ++ t ∷ []) ≡ on_turn (turn g l n (token_of t.lexeme (Mark' m))) done
   mark_behind c p r n ts t m here d h k =
       read_behind r d.now ts (t ∷ []) d.read
       ∙ behind_waiting g l p d.now n t (Mark' m) [] h here (mark_shut (is_top d.now.frames) d.now.now t.lexeme.start t.lexeme.end m k) d.settles
@@ -442,15 +411,15 @@ module _ (g : Catalog) (l : Limits) where
     pub said : Content
     pub cut : ts ≡ first ∷ later
     pub says : Says p first said
-    pub no_colons : said ≡ Mark' marks.Colons → ⊥
+    pub no_colons : said ≡ Mark' Mark.Colons → ⊥
 
   -- no symbol is `::`
-  pub symbol_no_colons : (c : List Slot) (said : Content) (s : Option (List ℕ)) → IsSymbol c said s → said ≡ Mark' marks.Colons → ⊥
+  pub symbol_no_colons : (c : List Slot) (said : Content) (s : Option (List ℕ)) → IsSymbol c said s → said ≡ Mark' Mark.Colons → ⊥
   symbol_no_colons c _ _ (is_word w h) e = cc
   symbol_no_colons c _ _ (is_id id s h) e = cc
   symbol_no_colons c _ _ (is_quoted w) e = cc
 
-  scalar_no_colons : (c : List Slot) (said : Content) (q : Payload) → IsScalar c said q → said ≡ Mark' marks.Colons → ⊥
+  scalar_no_colons : (c : List Slot) (said : Content) (q : Payload) → IsScalar c said q → said ≡ Mark' Mark.Colons → ⊥
   scalar_no_colons c _ _ is_null e = cc
   scalar_no_colons c _ _ (is_typed_null k) e = cc
   scalar_no_colons c _ _ is_true e = cc
@@ -523,7 +492,7 @@ module _ (g : Catalog) (l : Limits) where
       segment_first w h = ap begins_long b.cut ∙ segment_kind b.first.lexeme.kind b.first.lexeme.octets w
           (subst (λ x. IsBody b.first.lexeme.kind b.first.lexeme.octets (Ok x)) h b.says.body)
 
-      none : (t : Token) → t ≡ token_of b.first.lexeme b.said → (t.said ≡ Mark' marks.Colons) ⊎ ((ends_long ts ≡ true) × (w : List ℕ) × (t.said ≡ Long w)) → ⊥
+      none : (t : Token) → t ≡ token_of b.first.lexeme b.said → (t.said ≡ Mark' Mark.Colons) ⊎ ((ends_long ts ≡ true) × (w : List ℕ) × (t.said ≡ Long w)) → ⊥
       none t k (inl h) = b.no_colons (sym (ap (λ (x : Token). x.said) k) ∙ h)
       none t k (inr (long, w, h)) =
           let first = segment_first w (sym (ap (λ (x : Token). x.said) k) ∙ h) in
@@ -563,22 +532,22 @@ module _ (g : Catalog) (l : Limits) where
 
   -- notes and a payload behind them
   noted_leads : (c : List Slot) (p : Place) (start : ℕ) (fs : List Frame) (notes : List Placed) (t : Placed) (us : List Placed) (ss : Symbols) (q : Payload)
-      → p ≡ place_in fs nows.Ready → Annotations c p notes ss
-      → LeadsToTurn c fs (at (starts start fs notes) c fs ss nows.Ready) (t ∷ us)
+      → p ≡ place_in fs Now.Ready → Annotations c p notes ss
+      → LeadsToTurn c fs (at (starts start fs notes) c fs ss Now.Ready) (t ∷ us)
       (ended (under g l) (spot_at (end_of 0 (t ∷ us)) (begun_at (starts start fs notes) t.lexeme.start fs ss) c) fs (annotated ss q))
-      → LeadsToTurn c fs (at start c fs [] nows.Ready) (notes ++ t ∷ us)
+      → LeadsToTurn c fs (at start c fs [] Now.Ready) (notes ++ t ∷ us)
       (ended (under g l) (spot_at (end_of 0 (notes ++ t ∷ us)) (starts start fs (notes ++ t ∷ us)) c) fs (annotated ss q))
   noted_leads c p start fs notes t us ss q here a d =
-      subst (λ (n : ℕ). LeadsToTurn c fs (at start c fs [] nows.Ready) (notes ++ t ∷ us)
+      subst (λ (n : ℕ). LeadsToTurn c fs (at start c fs [] Now.Ready) (notes ++ t ∷ us)
       (ended (under g l) (spot_at n (starts start fs (notes ++ t ∷ us)) c) fs (annotated ss q))) (sym (end_of_front notes us t 0))
-      (subst (λ (n : ℕ). LeadsToTurn c fs (at start c fs [] nows.Ready) (notes ++ t ∷ us)
+      (subst (λ (n : ℕ). LeadsToTurn c fs (at start c fs [] Now.Ready) (notes ++ t ∷ us)
       (ended (under g l) (spot_at (end_of 0 (t ∷ us)) n c) fs (annotated ss q))) (begun_behind c p start fs notes ss t us a)
-      (leads_behind c fs (at start c fs [] nows.Ready) (at (starts start fs notes) c fs ss nows.Ready) notes (t ∷ us) _
+      (leads_behind c fs (at start c fs [] Now.Ready) (at (starts start fs notes) c fs ss Now.Ready) notes (t ∷ us) _
       (notes_read c p start fs notes ss here a) d))
 
   -- what stands between brackets, and the close
   closed_by : (c : List Slot) (p : Place) (r n : Reading) (ts : List Placed) (t : Placed) (m : Mark) (x : Turn) → p ≡ place n → Reached c r ts n
-      → Says p t (Mark' m) → (m ≡ marks.Colons → ⊥) → turn g l n (token_of t.lexeme (Mark' m)) ≡ x → reads g l r (ts ++ t ∷ []) ≡ on_turn x done
+      → Says p t (Mark' m) → (m ≡ Mark.Colons → ⊥) → turn g l n (token_of t.lexeme (Mark' m)) ≡ x → reads g l r (ts ++ t ∷ []) ≡ on_turn x done
   closed_by c p r n ts t m x here d h k e = mark_behind c p r n ts t m here d h k ∙ ap (λ y. on_turn y done) e
 
   -- tokens behind which nothing waits lead to the state that they are read to
@@ -588,87 +557,87 @@ module _ (g : Catalog) (l : Limits) where
 
   -- in a list: where another element may come, or behind one
   abbrev pub InList : List Slot → ℕ → List Frame → Symbols → List Placed → List Value → Bool → Type 0
-  InList c start fs ss ts vs true = reads g l (at start c (opened brackets.List ss ∷ fs) [] nows.Ready) ts
-      ≡ done (at start c (frames.Items listings.List ss vs ∷ fs) [] nows.Ready)
-  InList c start fs ss ts vs false = Reached c (at start c (opened brackets.List ss ∷ fs) [] nows.Ready) ts
-      (at start c (frames.Items listings.List ss vs ∷ fs) [] nows.After)
+  InList c start fs ss ts vs true = reads g l (at start c (opened Bracket.List ss ∷ fs) [] Now.Ready) ts
+      ≡ done (at start c (Frame.Items Listing.List ss vs ∷ fs) [] Now.Ready)
+  InList c start fs ss ts vs false = Reached c (at start c (opened Bracket.List ss ∷ fs) [] Now.Ready) ts
+      (at start c (Frame.Items Listing.List ss vs ∷ fs) [] Now.After)
 
   list_ends : (c : List Slot) (start : ℕ) (fs : List Frame) (ss : Symbols) (ts : List Placed) (vs : List Value) (more : Bool) (t : Placed)
-      → InList c start fs ss ts vs more → Says places.List t (Mark' marks.ListClose)
-      → reads g l (at start c (opened brackets.List ss ∷ fs) [] nows.Ready) (ts ++ t ∷ [])
+      → InList c start fs ss ts vs more → Says Place.List t (Mark' Mark.ListClose)
+      → reads g l (at start c (opened Bracket.List ss ∷ fs) [] Now.Ready) (ts ++ t ∷ [])
       ≡ on_turn (ended (under g l) (spot_at t.lexeme.end start c) fs (annotated ss (payloads.List vs))) done
-  list_ends c start fs ss ts vs true t h i = closed_by c places.List (at start c (opened brackets.List ss ∷ fs) [] nows.Ready)
-      (at start c (frames.Items listings.List ss vs ∷ fs) [] nows.Ready) ts t marks.ListClose _ refl
-      (ready_reached c (at start c (opened brackets.List ss ∷ fs) [] nows.Ready) (at start c (frames.Items listings.List ss vs ∷ fs) [] nows.Ready) ts refl
+  list_ends c start fs ss ts vs true t h i = closed_by c Place.List (at start c (opened Bracket.List ss ∷ fs) [] Now.Ready)
+      (at start c (Frame.Items Listing.List ss vs ∷ fs) [] Now.Ready) ts t Mark.ListClose _ refl
+      (ready_reached c (at start c (opened Bracket.List ss ∷ fs) [] Now.Ready) (at start c (Frame.Items Listing.List ss vs ∷ fs) [] Now.Ready) ts refl
       (λ t. refl) h) i (λ e. cc) refl
-  list_ends c start fs ss ts vs false t h i = closed_by c places.List (at start c (opened brackets.List ss ∷ fs) [] nows.Ready)
-      (at start c (frames.Items listings.List ss vs ∷ fs) [] nows.After) ts t marks.ListClose _ refl h i (λ e. cc) refl
+  list_ends c start fs ss ts vs false t h i = closed_by c Place.List (at start c (opened Bracket.List ss ∷ fs) [] Now.Ready)
+      (at start c (Frame.Items Listing.List ss vs ∷ fs) [] Now.After) ts t Mark.ListClose _ refl h i (λ e. cc) refl
 
   -- the open of a container is read
   pub open_read : (bracket : Bracket) (c : List Slot) (p : Place) (start s : ℕ) (fs : List Frame) (ss : Symbols) (o : Placed) (us : List Placed)
-      → p ≡ place_in fs nows.Ready → length fs < l.depth → Says p o (Mark' (open_mark bracket)) → begun_at start o.lexeme.start fs ss ≡ s
-      → reads g l (at start c fs ss nows.Ready) (o ∷ us) ≡ reads g l (at s c (opened bracket ss ∷ fs) [] (first_now bracket)) us
+      → p ≡ place_in fs Now.Ready → length fs < l.depth → Says p o (Mark' (open_mark bracket)) → begun_at start o.lexeme.start fs ss ≡ s
+      → reads g l (at start c fs ss Now.Ready) (o ∷ us) ≡ reads g l (at s c (opened bracket ss ∷ fs) [] (first_now bracket)) us
   open_read bracket c p start s fs ss o us here deep h e =
-      first_token g l p (at start c fs ss nows.Ready) o (Mark' (open_mark bracket)) us h here (inr refl)
+      first_token g l p (at start c fs ss Now.Ready) o (Mark' (open_mark bracket)) us h here (inr refl)
       ∙ (ap (λ x. on_turn x (λ k. reads g l k us)) (open_turns bracket (under g l) (spot_at o.lexeme.end (begun_at start o.lexeme.start fs ss) c) fs ss
       ∙ cond-true _ _ _ (lt-ltb (length fs) l.depth deep))
       ∙ ap (λ x. reads g l (at x c (opened bracket ss ∷ fs) [] (first_now bracket)) us) e)
 
   -- in a struct: where a name may come, or behind a field
   abbrev pub InStruct : List Slot → ℕ → List Frame → Symbols → List Placed → List Field → Bool → Type 0
-  InStruct c start fs ss ts ms true = reads g l (at start c (frames.Fields ss [] ∷ fs) [] nows.Name) ts
-      ≡ done (at start c (frames.Fields ss ms ∷ fs) [] nows.Name)
-  InStruct c start fs ss ts ms false = Reached c (at start c (frames.Fields ss [] ∷ fs) [] nows.Name) ts (at start c (frames.Fields ss ms ∷ fs) [] nows.After)
+  InStruct c start fs ss ts ms true = reads g l (at start c (Frame.Fields ss [] ∷ fs) [] Now.Name) ts
+      ≡ done (at start c (Frame.Fields ss ms ∷ fs) [] Now.Name)
+  InStruct c start fs ss ts ms false = Reached c (at start c (Frame.Fields ss [] ∷ fs) [] Now.Name) ts (at start c (Frame.Fields ss ms ∷ fs) [] Now.After)
 
   -- the `}` behind the fields of a struct ends it with these fields
   pub struct_ends : (c : List Slot) (start : ℕ) (fs : List Frame) (ss : Symbols) (ts : List Placed) (ms : List Field) (more : Bool) (t : Placed)
-      → InStruct c start fs ss ts ms more → Says (close_place more) t (Mark' marks.FieldsClose)
-      → reads g l (at start c (frames.Fields ss [] ∷ fs) [] nows.Name) (ts ++ t ∷ [])
+      → InStruct c start fs ss ts ms more → Says (close_place more) t (Mark' Mark.FieldsClose)
+      → reads g l (at start c (Frame.Fields ss [] ∷ fs) [] Now.Name) (ts ++ t ∷ [])
       ≡ on_turn (ended (under g l) (spot_at t.lexeme.end start c) fs (annotated ss (payloads.Fields ms))) done
-  struct_ends c start fs ss ts ms true t h i = closed_by c places.Name (at start c (frames.Fields ss [] ∷ fs) [] nows.Name)
-      (at start c (frames.Fields ss ms ∷ fs) [] nows.Name) ts t marks.FieldsClose _ refl
-      (ready_reached c (at start c (frames.Fields ss [] ∷ fs) [] nows.Name) (at start c (frames.Fields ss ms ∷ fs) [] nows.Name) ts refl (λ t. refl) h) i
+  struct_ends c start fs ss ts ms true t h i = closed_by c Place.Name (at start c (Frame.Fields ss [] ∷ fs) [] Now.Name)
+      (at start c (Frame.Fields ss ms ∷ fs) [] Now.Name) ts t Mark.FieldsClose _ refl
+      (ready_reached c (at start c (Frame.Fields ss [] ∷ fs) [] Now.Name) (at start c (Frame.Fields ss ms ∷ fs) [] Now.Name) ts refl (λ t. refl) h) i
       (λ e. cc) refl
-  struct_ends c start fs ss ts ms false t h i = closed_by c places.FieldValue (at start c (frames.Fields ss [] ∷ fs) [] nows.Name)
-      (at start c (frames.Fields ss ms ∷ fs) [] nows.After) ts t marks.FieldsClose _ refl h i (λ e. cc) refl
+  struct_ends c start fs ss ts ms false t h i = closed_by c Place.FieldValue (at start c (Frame.Fields ss [] ∷ fs) [] Now.Name)
+      (at start c (Frame.Fields ss ms ∷ fs) [] Now.After) ts t Mark.FieldsClose _ refl h i (λ e. cc) refl
 
   -- a symbol is a name
   pub symbol_named : (c : List Slot) (start end : ℕ) (fs : List Frame) (said : Content) (s : Option (List ℕ)) → IsSymbol c said s
-      → on_name (under g l) (spot_at end start c) fs said ≡ goes (at start c fs [] (nows.Keyed s))
+      → on_name (under g l) (spot_at end start c) fs said ≡ goes (at start c fs [] (Now.Keyed s))
   symbol_named c start end fs _ _ (is_word w h) = cond-false _ _ _ h
-  symbol_named c start end fs _ _ (is_id id s h) = ap (λ r. resolved r (λ s. goes (at start c fs [] (nows.Keyed s)))) h
+  symbol_named c start end fs _ _ (is_id id s h) = ap (λ r. resolved r (λ s. goes (at start c fs [] (Now.Keyed s)))) h
   symbol_named c start end fs _ _ (is_quoted w) = refl
 
   -- segments where a field's name may come are read as a long name, which waits
-  pub long_named : (c : List Slot) (start : ℕ) (fs : List Frame) (ts : List Placed) (w : List ℕ) → places.Name ≡ place_in fs nows.Name
-      → Segments places.Name ts w → reads g l (at start c fs [] nows.Name) ts ≡ done (at start c fs [] (nows.LongName w))
-  long_named c start fs _ _ here (segment t w h) = first_token g l places.Name (at start c fs [] nows.Name) t (Long w) [] h here (inr refl)
+  pub long_named : (c : List Slot) (start : ℕ) (fs : List Frame) (ts : List Placed) (w : List ℕ) → Place.Name ≡ place_in fs Now.Name
+      → Segments Place.Name ts w → reads g l (at start c fs [] Now.Name) ts ≡ done (at start c fs [] (Now.LongName w))
+  long_named c start fs _ _ here (segment t w h) = first_token g l Place.Name (at start c fs [] Now.Name) t (Long w) [] h here (inr refl)
   long_named c start fs _ _ here (joined ts v w t d h) =
-      read_behind (at start c fs [] nows.Name) (at start c fs [] (nows.LongName v)) ts (t ∷ []) (long_named c start fs ts v here d)
-      ∙ first_token g l places.Name (at start c fs [] (nows.LongName v)) t (Long w) [] h (here ∙ sym (name_at fs v)) (inl refl)
+      read_behind (at start c fs [] Now.Name) (at start c fs [] (Now.LongName v)) ts (t ∷ []) (long_named c start fs ts v here d)
+      ∙ first_token g l Place.Name (at start c fs [] (Now.LongName v)) t (Long w) [] h (here ∙ sym (name_at fs v)) (inl refl)
 
   -- A name and its colon are read.
   pub name_read : (c : List Slot) (start : ℕ) (fs : List Frame) (ss : Symbols) (ms : List Field) (ns : List Placed) (s : Option (List ℕ)) (colon : Placed)
-      (us : List Placed) → IsName c ns s → Says places.Name colon (Mark' marks.Colon)
-      → reads g l (at start c (frames.Fields ss ms ∷ fs) [] nows.Name) (ns ++ colon ∷ us) ≡ reads g l (at start c (frames.Named ss ms s ∷ fs) [] nows.Ready) us
+      (us : List Placed) → IsName c ns s → Says Place.Name colon (Mark' Mark.Colon)
+      → reads g l (at start c (Frame.Fields ss ms ∷ fs) [] Now.Name) (ns ++ colon ∷ us) ≡ reads g l (at start c (Frame.Named ss ms s ∷ fs) [] Now.Ready) us
   name_read c start fs ss ms _ _ colon us (by_symbol t said s h i) k =
-      first_token g l places.Name (at start c (frames.Fields ss ms ∷ fs) [] nows.Name) t said (colon ∷ us) h refl (inr refl)
-      ∙ (ap (λ x. on_turn x (λ k. reads g l k (colon ∷ us))) (symbol_named c start t.lexeme.end (frames.Fields ss ms ∷ fs) said s i)
-      ∙ first_token g l places.Name (at start c (frames.Fields ss ms ∷ fs) [] (nows.Keyed s)) colon (Mark' marks.Colon) us k refl (inr refl))
+      first_token g l Place.Name (at start c (Frame.Fields ss ms ∷ fs) [] Now.Name) t said (colon ∷ us) h refl (inr refl)
+      ∙ (ap (λ x. on_turn x (λ k. reads g l k (colon ∷ us))) (symbol_named c start t.lexeme.end (Frame.Fields ss ms ∷ fs) said s i)
+      ∙ first_token g l Place.Name (at start c (Frame.Fields ss ms ∷ fs) [] (Now.Keyed s)) colon (Mark' Mark.Colon) us k refl (inr refl))
   name_read c start fs ss ms _ _ colon us (by_short t w h) k =
-      first_token g l places.Name (at start c (frames.Fields ss ms ∷ fs) [] nows.Name) t (Short w) (colon ∷ us) h refl (inr refl)
-      ∙ first_token g l places.Name (at start c (frames.Fields ss ms ∷ fs) [] (nows.Keyed (Some w))) colon (Mark' marks.Colon) us k refl (inr refl)
+      first_token g l Place.Name (at start c (Frame.Fields ss ms ∷ fs) [] Now.Name) t (Short w) (colon ∷ us) h refl (inr refl)
+      ∙ first_token g l Place.Name (at start c (Frame.Fields ss ms ∷ fs) [] (Now.Keyed (Some w))) colon (Mark' Mark.Colon) us k refl (inr refl)
   name_read c start fs ss ms _ _ colon us (by_long ts w d) k =
-      read_behind (at start c (frames.Fields ss ms ∷ fs) [] nows.Name) (at start c (frames.Fields ss ms ∷ fs) [] (nows.LongName w)) ts (colon ∷ us)
-      (long_named c start (frames.Fields ss ms ∷ fs) ts w refl d)
-      ∙ behind_waiting g l places.Name (at start c (frames.Fields ss ms ∷ fs) [] (nows.LongName w))
-      (at start c (frames.Fields ss ms ∷ fs) [] (nows.Keyed (Some w))) colon (Mark' marks.Colon) us k refl refl refl
+      read_behind (at start c (Frame.Fields ss ms ∷ fs) [] Now.Name) (at start c (Frame.Fields ss ms ∷ fs) [] (Now.LongName w)) ts (colon ∷ us)
+      (long_named c start (Frame.Fields ss ms ∷ fs) ts w refl d)
+      ∙ behind_waiting g l Place.Name (at start c (Frame.Fields ss ms ∷ fs) [] (Now.LongName w))
+      (at start c (Frame.Fields ss ms ∷ fs) [] (Now.Keyed (Some w))) colon (Mark' Mark.Colon) us k refl refl refl
 
   mutual
     -- A value without annotations is read.
-    plain_read : (c : List Slot) (p : Place) (start : ℕ) (fs : List Frame) (ss : Symbols) (ts : List Placed) (q : Payload) → p ≡ place_in fs nows.Ready
+    plain_read : (c : List Slot) (p : Place) (start : ℕ) (fs : List Frame) (ss : Symbols) (ts : List Placed) (q : Payload) → p ≡ place_in fs Now.Ready
         → Plain c p ts q → (fs ≡ [] → ss ≡ [] → is_version_word ts ≡ false) → depth (annotated ss q) + length fs ≤ l.depth
-        → LeadsToTurn c fs (at start c fs ss nows.Ready) ts (ended (under g l) (spot_at (end_of 0 ts) (begun_at start (first_start 0 ts) fs ss) c) fs
+        → LeadsToTurn c fs (at start c fs ss Now.Ready) ts (ended (under g l) (spot_at (end_of 0 ts) (begun_at start (first_start 0 ts) fs ss) c) fs
         (annotated ss q))
     plain_read c p start fs ss _ _ here (one_token p' t said q h i) v deep = scalar_read c p start fs ss t said q here h i v
     plain_read c p start fs ss ts _ here (long_string p' _ w d) v deep =
@@ -676,33 +645,33 @@ module _ (g : Catalog) (l : Limits) where
     plain_read c p start fs ss _ _ here (is_list p' o e ts vs more h d i) v deep =
         let s = begun_at start o.lexeme.start fs ss in
         let dl = depth-list ss vs in
-        at_once (open_read brackets.List c p start s fs ss o (ts ++ e ∷ []) here (omega arith) h refl
+        at_once (open_read Bracket.List c p start s fs ss o (ts ++ e ∷ []) here (omega arith) h refl
         ∙ (list_ends c s fs ss ts vs more e (elements_read c s fs ss ts vs more d (omega arith)) i
         ∙ ap (λ (n : ℕ). on_turn (ended (under g l) (spot_at n s c) fs (annotated ss (payloads.List vs))) done) (sym (end_of_front (o ∷ ts) [] e 0))))
     plain_read c p start fs ss _ _ here (is_sexp p' o e ts vs h d i) v deep =
         let s = begun_at start o.lexeme.start fs ss in
         let dl = depth-sexp ss vs in
-        at_once (open_read brackets.Sexp c p start s fs ss o (ts ++ e ∷ []) here (omega arith) h refl
-        ∙ (closed_by c places.Sexp (at s c (opened brackets.Sexp ss ∷ fs) [] nows.Ready) (at s c (frames.Items listings.Sexp ss vs ∷ fs) [] nows.Ready) ts e
-        marks.SexpClose _ refl (row_read c s fs ss ts vs d (omega arith)) i (λ e. cc) refl
+        at_once (open_read Bracket.Sexp c p start s fs ss o (ts ++ e ∷ []) here (omega arith) h refl
+        ∙ (closed_by c Place.Sexp (at s c (opened Bracket.Sexp ss ∷ fs) [] Now.Ready) (at s c (Frame.Items Listing.Sexp ss vs ∷ fs) [] Now.Ready) ts e
+        Mark.SexpClose _ refl (row_read c s fs ss ts vs d (omega arith)) i (λ e. cc) refl
         ∙ ap (λ (n : ℕ). on_turn (ended (under g l) (spot_at n s c) fs (annotated ss (payloads.Sexp vs))) done) (sym (end_of_front (o ∷ ts) [] e 0))))
     plain_read c p start fs ss _ _ here (is_struct p' o e ts ms more h d i) v deep =
         let s = begun_at start o.lexeme.start fs ss in
         let dl = depth-struct ss ms in
-        at_once (open_read brackets.Fields c p start s fs ss o (ts ++ e ∷ []) here (omega arith) h refl
+        at_once (open_read Bracket.Fields c p start s fs ss o (ts ++ e ∷ []) here (omega arith) h refl
         ∙ (struct_ends c s fs ss ts ms more e (members_read c s fs ss ts ms more d (omega arith)) i
         ∙ ap (λ (n : ℕ). on_turn (ended (under g l) (spot_at n s c) fs (annotated ss (payloads.Fields ms))) done) (sym (end_of_front (o ∷ ts) [] e 0))))
 
     -- A value is read.
-    pub means_read : (c : List Slot) (p : Place) (start : ℕ) (fs : List Frame) (ts : List Placed) (v : Value) → p ≡ place_in fs nows.Ready → Means c p ts v
+    pub means_read : (c : List Slot) (p : Place) (start : ℕ) (fs : List Frame) (ts : List Placed) (v : Value) → p ≡ place_in fs Now.Ready → Means c p ts v
         → (fs ≡ [] → is_version_word ts ≡ false) → depth v + length fs ≤ l.depth
-        → LeadsToTurn c fs (at start c fs [] nows.Ready) ts (ended (under g l) (spot_at (end_of 0 ts) (starts start fs ts) c) fs v)
+        → LeadsToTurn c fs (at start c fs [] Now.Ready) ts (ended (under g l) (spot_at (end_of 0 ts) (starts start fs ts) c) fs v)
     means_read c p start fs _ _ here (means p' notes ts ss q a d) v deep =
         let b = plain_begins c p ts q d in
-        subst (λ x. LeadsToTurn c fs (at start c fs [] nows.Ready) (notes ++ x)
+        subst (λ x. LeadsToTurn c fs (at start c fs [] Now.Ready) (notes ++ x)
         (ended (under g l) (spot_at (end_of 0 (notes ++ x)) (starts start fs (notes ++ x)) c) fs (annotated ss q))) (sym b.cut)
         (noted_leads c p start fs notes b.first b.later ss q here a
-        (subst (λ x. LeadsToTurn c fs (at (starts start fs notes) c fs ss nows.Ready) x
+        (subst (λ x. LeadsToTurn c fs (at (starts start fs notes) c fs ss Now.Ready) x
         (ended (under g l) (spot_at (end_of 0 x) (begun_at (starts start fs notes) (first_start 0 x) fs ss) c) fs (annotated ss q))) b.cut
         (plain_read c p (starts start fs notes) fs ss ts q here d (unnoted c p notes ts ss fs a v) deep)))
 
@@ -712,36 +681,36 @@ module _ (g : Catalog) (l : Limits) where
     elements_read c start fs ss _ _ _ no_element deep = refl
     elements_read c start fs ss _ _ _ (element ts us vs v d m) deep =
         let k = deepest-more vs v in
-        let f = frames.Items listings.List ss vs in
-        let r = at start c (opened brackets.List ss ∷ fs) [] nows.Ready in
-        let before = at start c (f ∷ fs) [] nows.Ready in
-        let n = at start c (frames.Items listings.List ss (vs ++ v ∷ []) ∷ fs) [] nows.After in
+        let f = Frame.Items Listing.List ss vs in
+        let r = at start c (opened Bracket.List ss ∷ fs) [] Now.Ready in
+        let before = at start c (f ∷ fs) [] Now.Ready in
+        let n = at start c (Frame.Items Listing.List ss (vs ++ v ∷ []) ∷ fs) [] Now.After in
         reached c f fs r n (ts ++ us) refl (λ t. refl)
         (leads_behind c (f ∷ fs) r before ts us (goes n) (elements_read c start fs ss ts vs true d (omega arith))
-        (subst (λ (x : ℕ). LeadsToTurn c (f ∷ fs) before us (goes (at x c (frames.Items listings.List ss (vs ++ v ∷ []) ∷ fs) [] nows.After)))
-        (starts_in start f fs us) (means_read c places.List start (f ∷ fs) us v refl m (λ e. absurd cc) (omega arith))))
+        (subst (λ (x : ℕ). LeadsToTurn c (f ∷ fs) before us (goes (at x c (Frame.Items Listing.List ss (vs ++ v ∷ []) ∷ fs) [] Now.After)))
+        (starts_in start f fs us) (means_read c Place.List start (f ∷ fs) us v refl m (λ e. absurd cc) (omega arith))))
     elements_read c start fs ss _ _ _ (comma ts vs t d h) deep =
-        mark_behind c places.List (at start c (opened brackets.List ss ∷ fs) [] nows.Ready)
-        (at start c (frames.Items listings.List ss vs ∷ fs) [] nows.After) ts t
-        marks.Comma refl (elements_read c start fs ss ts vs false d deep) h (λ e. cc)
+        mark_behind c Place.List (at start c (opened Bracket.List ss ∷ fs) [] Now.Ready)
+        (at start c (Frame.Items Listing.List ss vs ∷ fs) [] Now.After) ts t
+        Mark.Comma refl (elements_read c start fs ss ts vs false d deep) h (λ e. cc)
 
     -- the elements of an s-expression lead the reader from its `(` to an s-expression of them
     pub row_read : (c : List Slot) (start : ℕ) (fs : List Frame) (ss : Symbols) (ts : List Placed) (vs : List Value) → Row c ts vs
         → depths vs + suc (length fs) ≤ l.depth
-        → Reached c (at start c (opened brackets.Sexp ss ∷ fs) [] nows.Ready) ts (at start c (frames.Items listings.Sexp ss vs ∷ fs) [] nows.Ready)
-    row_read c start fs ss _ _ no_item deep = ready_reached c (at start c (opened brackets.Sexp ss ∷ fs) [] nows.Ready)
-        (at start c (opened brackets.Sexp ss ∷ fs) [] nows.Ready) [] refl (λ t. refl) refl
+        → Reached c (at start c (opened Bracket.Sexp ss ∷ fs) [] Now.Ready) ts (at start c (Frame.Items Listing.Sexp ss vs ∷ fs) [] Now.Ready)
+    row_read c start fs ss _ _ no_item deep = ready_reached c (at start c (opened Bracket.Sexp ss ∷ fs) [] Now.Ready)
+        (at start c (opened Bracket.Sexp ss ∷ fs) [] Now.Ready) [] refl (λ t. refl) refl
     row_read c start fs ss _ _ (item ts us vs v d m apart) deep =
         let k = deepest-more vs v in
-        let f = frames.Items listings.Sexp ss vs in
-        let r = at start c (opened brackets.Sexp ss ∷ fs) [] nows.Ready in
-        let before = at start c (f ∷ fs) [] nows.Ready in
-        let n = at start c (frames.Items listings.Sexp ss (vs ++ v ∷ []) ∷ fs) [] nows.Ready in
+        let f = Frame.Items Listing.Sexp ss vs in
+        let r = at start c (opened Bracket.Sexp ss ∷ fs) [] Now.Ready in
+        let before = at start c (f ∷ fs) [] Now.Ready in
+        let n = at start c (Frame.Items Listing.Sexp ss (vs ++ v ∷ []) ∷ fs) [] Now.Ready in
         reached c f fs r n (ts ++ us) refl (λ t. refl)
         (leads_as c (f ∷ fs) r before ts us (goes n)
-        (item_behind c places.Sexp r before ts us refl refl (row_read c start fs ss ts vs d (omega arith)) (means_begins c places.Sexp us v m) apart)
-        (subst (λ (x : ℕ). LeadsToTurn c (f ∷ fs) before us (goes (at x c (frames.Items listings.Sexp ss (vs ++ v ∷ []) ∷ fs) [] nows.Ready)))
-        (starts_in start f fs us) (means_read c places.Sexp start (f ∷ fs) us v refl m (λ e. absurd cc) (omega arith))))
+        (item_behind c Place.Sexp r before ts us refl refl (row_read c start fs ss ts vs d (omega arith)) (means_begins c Place.Sexp us v m) apart)
+        (subst (λ (x : ℕ). LeadsToTurn c (f ∷ fs) before us (goes (at x c (Frame.Items Listing.Sexp ss (vs ++ v ∷ []) ∷ fs) [] Now.Ready)))
+        (starts_in start f fs us) (means_read c Place.Sexp start (f ∷ fs) us v refl m (λ e. absurd cc) (omega arith))))
 
     -- the fields of a struct lead the reader from its `{` to a struct of them
     pub members_read : (c : List Slot) (start : ℕ) (fs : List Frame) (ss : Symbols) (ts : List Placed) (ms : List Field) (more : Bool) → Members c ts ms more
@@ -749,20 +718,20 @@ module _ (g : Catalog) (l : Limits) where
     members_read c start fs ss _ _ _ no_field deep = refl
     members_read c start fs ss _ _ _ (field ts ns us colon ms s v d m i w) deep =
         let k = field_deepest-more ms (field_of s v) in
-        let n = at start c (frames.Fields ss (ms ++ field_of s v ∷ []) ∷ fs) [] nows.After in
-        let r = at start c (frames.Fields ss [] ∷ fs) [] nows.Name in
-        let before = at start c (frames.Named ss ms s ∷ fs) [] nows.Ready in
+        let n = at start c (Frame.Fields ss (ms ++ field_of s v ∷ []) ∷ fs) [] Now.After in
+        let r = at start c (Frame.Fields ss [] ∷ fs) [] Now.Name in
+        let before = at start c (Frame.Named ss ms s ∷ fs) [] Now.Ready in
         let cut : ts ++ (ns ++ colon ∷ us) ≡ (ts ++ (ns ++ colon ∷ [])) ++ us = ap (λ x. ts ++ x) (sym (append_assoc ns (colon ∷ []) us))
         ∙ sym (append_assoc ts (ns ++ colon ∷ []) us) in
         subst (λ x. Reached c r x n) (sym cut)
-        (reached c (frames.Named ss ms s) fs r n ((ts ++ (ns ++ colon ∷ [])) ++ us) refl (λ t. refl)
-        (leads_as c (frames.Named ss ms s ∷ fs) r before (ts ++ (ns ++ colon ∷ [])) us (goes n)
+        (reached c (Frame.Named ss ms s) fs r n ((ts ++ (ns ++ colon ∷ [])) ++ us) refl (λ t. refl)
+        (leads_as c (Frame.Named ss ms s ∷ fs) r before (ts ++ (ns ++ colon ∷ [])) us (goes n)
         (ap (reads g l r) (sym cut)
-        ∙ (read_behind r (at start c (frames.Fields ss ms ∷ fs) [] nows.Name) ts (ns ++ colon ∷ us) (members_read c start fs ss ts ms true d (omega arith))
+        ∙ (read_behind r (at start c (Frame.Fields ss ms ∷ fs) [] Now.Name) ts (ns ++ colon ∷ us) (members_read c start fs ss ts ms true d (omega arith))
         ∙ name_read c start fs ss ms ns s colon us m i))
-        (subst (λ (x : ℕ). LeadsToTurn c (frames.Named ss ms s ∷ fs) before us (goes (at x c (frames.Fields ss (ms ++ field_of s v ∷ []) ∷ fs) [] nows.After)))
-        (starts_in start (frames.Named ss ms s) fs us)
-        (means_read c places.FieldValue start (frames.Named ss ms s ∷ fs) us v refl w (λ e. absurd cc) (omega arith)))))
+        (subst (λ (x : ℕ). LeadsToTurn c (Frame.Named ss ms s ∷ fs) before us (goes (at x c (Frame.Fields ss (ms ++ field_of s v ∷ []) ∷ fs) [] Now.After)))
+        (starts_in start (Frame.Named ss ms s) fs us)
+        (means_read c Place.FieldValue start (Frame.Named ss ms s ∷ fs) us v refl w (λ e. absurd cc) (omega arith)))))
     members_read c start fs ss _ _ _ (field_comma ts ms t d h) deep =
-        mark_behind c places.FieldValue (at start c (frames.Fields ss [] ∷ fs) [] nows.Name) (at start c (frames.Fields ss ms ∷ fs) [] nows.After) ts t
-        marks.Comma refl (members_read c start fs ss ts ms false d deep) h (λ e. cc)
+        mark_behind c Place.FieldValue (at start c (Frame.Fields ss [] ∷ fs) [] Now.Name) (at start c (Frame.Fields ss ms ∷ fs) [] Now.After) ts t
+        Mark.Comma refl (members_read c start fs ss ts ms false d deep) h (λ e. cc)

@@ -1,32 +1,15 @@
 -- The scanner meets the tokens that octets are.
 use Rattle.std.proofs.Common.{◌≡◌, ℕ, ◌+◌, ◌-◌, Bool, true, false, List, [], ◌∷◌, ◌++◌, length, drop, refl, sym, ap, ◌∙◌, subst, arith, Ok, Some, None, ◌⊎◌, inl, inr}
-use Rattle.ion_model.specs.declared.value.Value.{Value}
-use Rattle.ion_symtab.specs.declared.limits.Limits.{Limits}
-use Rattle.ion_symtab.specs.declared.catalog.Catalog.{Catalog}
-use Rattle.ion_tokens.specs.declared.mode.Place.{Place}
-use Rattle.ion_tokens.specs.declared.mode.Place.TheVariants as places
-use Rattle.ion_tokens.specs.declared.mode.TokenKind.TheVariants as kinds
-use Rattle.ion_tokens.specs.machine.Table.{is_sexp}
-use Rattle.ion_tokens.specs.Bodies.{Content}
-use Rattle.ion_tokens.specs.machine.Scanning.{Known, Outcome, Next, Given, Left, Refused, feed, follow, run, at_end, initial}
-use Rattle.ion_tokens.specs.Lexed.{Placed, Lexes, LexesBefore}
+use Rattle.ion_text.specs.Names.{Catalog, Content, Given, IsLexeme, Known, Leading, Left, Lexeme, Lexes, LexesBefore, Limits, Next, Outcome, Place, Placed, Reading, Refused, TokenKind, Turn, Value, at_end, continues, feed, follow, followed, gives, goes, initial, is_sexp, is_top, late, refuses, said, said_body, scan as run, settle, settle_still, token_of, turn}
 use Rattle.ion_tokens.specs.machine.Told.{Begun}
 use Rattle.ion_tokens.proofs.complete.Found as found
-use Rattle.ion_tokens.proofs.histories.Histories.{stands_finds, behind_front}
+use Rattle.ion_tokens.proofs.histories.Histories.{behind_front, stands_finds}
 use Rattle.ion_tokens.proofs.runs.Runs.{feed_used}
-use Rattle.ion_tokens.proofs.runs.Splits.{GivenSplit, given_split, LeftSplit, left_split}
-use Rattle.ion_text.specs.machine.EachToken.{Reading, Turn, goes, gives, refuses, late, settle, turn}
-use Rattle.ion_text.specs.machine.Run.{is_top, token_of}
-use Rattle.ion_text.specs.machine.TokenLists.{continues}
-use Rattle.ion_text.specs.machine.Places.{Leading, settle_still}
-use Rattle.ion_text.specs.laws.reading.sound.Spans.{IsClose}
-use Rattle.ion_tokens.specs.Lexemes.{IsLexeme, Lexeme}
-use Rattle.ion_tokens.specs.machine.Said.{said}
+use Rattle.ion_tokens.proofs.runs.Splits.{GivenSplit, LeftSplit, given_split, left_split}
+use Rattle.ion_text.specs.laws.reading.complete.Going.{Going, InsideNext, Operators, TurnGoes, closed, closes_kind, going_said, going_settle, going_turn, inside_end, inside_token, stays, top_place}
+use Rattle.ion_text.specs.laws.reading.complete.Meets.{Meets, at_blank, at_token, goes_on, in_blank, is_given, is_left}
 use Rattle.ion_text.specs.laws.reading.sound.Quotes.{is_close}
-use Rattle.ion_text.specs.machine.Passed.{said_body}
-use Rattle.ion_text.specs.laws.reading.complete.Meets.{Meets, at_blank, at_token, in_blank, goes_on, is_given, is_left}
-use Rattle.ion_text.specs.laws.reading.complete.Going.{Operators, Going, InsideNext, stays, closed, TurnGoes, going_said, going_turn, going_settle, inside_token, inside_end, top_place, closes_kind}
-use Rattle.ion_text.specs.machine.Pieces.{followed}
+use Rattle.ion_text.specs.laws.reading.sound.Spans.{IsClose}
 
 -- What the scanner finds in octets up to the end of the input. An operator before a last word that begins as `inf` is told by neither.
 pub data Finds : Known → List ℕ → List Placed → Type 0 where
@@ -37,7 +20,7 @@ pub data Finds : Known → List ℕ → List Placed → Type 0 where
       → Finds s' (drop (s'.used - s.used) octets) ts → Finds s octets (t ∷ ts)
   leaves' : (s : Known) (octets : List ℕ) (t : Placed) (ts : List Placed) (s' : Known) → run t.place octets s ≡ Left t.lexeme s'
       → Finds s' (drop (s'.used - s.used) octets) ts → Finds s octets (t ∷ ts)
-  unclosed : (s : Known) (octets : List ℕ) (t w : Placed) → t.lexeme.kind ≡ kinds.Operator → w.lexeme.kind ≡ kinds.Word → Finds s octets (t ∷ w ∷ [])
+  unclosed : (s : Known) (octets : List ℕ) (t w : Placed) → t.lexeme.kind ≡ TokenKind.Operator → w.lexeme.kind ≡ TokenKind.Word → Finds s octets (t ∷ w ∷ [])
 
 -- where the same outcome goes on, the scanner knows the same
 pub next_is : (s t : Known) → Next s ≡ Next t → s ≡ t
@@ -49,12 +32,12 @@ next_is s t e = ap (state_in s) e
 
 -- Behind letters of a word, at the end of the input, there is no token, or that word alone.
 pub alone_word : (letters : List ℕ) (colon : Bool) (start used : ℕ) (ts : List Placed) → found.Finds (found.in_word letters colon start used) [] ts → (ts ≡ [])
-    ⊎ ((w : Placed) × (ts ≡ w ∷ []) × (w.lexeme.kind ≡ kinds.Word))
+    ⊎ ((w : Placed) × (ts ≡ w ∷ []) × (w.lexeme.kind ≡ TokenKind.Word))
 alone_word letters colon start used _ (found.Nothing _ _ f) = inl refl
 alone_word letters colon start used _ (found.Last _ _ t s' e f) =
     inr (t, refl, kind_of t.lexeme (ap (at_end t.place) (next_is (found.in_word letters colon start used) s' e) ∙ f))
   where
-    kind_of : (x : Lexeme) → at_end t.place (found.in_word letters colon start used) ≡ Ok (Some x) → x.kind ≡ kinds.Word
+    kind_of : (x : Lexeme) → at_end t.place (found.in_word letters colon start used) ≡ Ok (Some x) → x.kind ≡ TokenKind.Word
     kind_of x h = cc
 alone_word letters colon start used _ (found.Gives _ _ t ts s' e f) = absurd cc
 alone_word letters colon start used _ (found.Leaves _ _ t ts s' e f) = absurd cc
@@ -68,7 +51,7 @@ lexes_found _ _ _ (found.Gives s octets t ts s' e f) = gives' s octets t ts s' e
 lexes_found _ _ _ (found.Leaves s octets t ts s' e f) = leaves' s octets t ts s' e (lexes_found s' (drop (s'.used - s.used) octets) ts f)
 lexes_found _ _ _ (found.Unclosed s octets t ts s' colon letters bare e f first operator rest) = by (alone_word letters colon t.lexeme.end s'.used ts rest)
   where
-    by : (ts ≡ []) ⊎ ((w : Placed) × (ts ≡ w ∷ []) × (w.lexeme.kind ≡ kinds.Word)) → Finds s octets (t ∷ ts)
+    by : (ts ≡ []) ⊎ ((w : Placed) × (ts ≡ w ∷ []) × (w.lexeme.kind ≡ TokenKind.Word)) → Finds s octets (t ∷ ts)
     by (inl none) = absurd (bare none)
     by (inr (w, alone, word)) = subst (λ y. Finds s octets (t ∷ y)) (sym alone) (unclosed s octets t w operator word)
 
@@ -76,10 +59,10 @@ lexes_found _ _ _ (found.Unclosed s octets t ts s' colon letters bare e f first 
 pub lexes_finds : (octets : List ℕ) (ts : List Placed) → Lexes false 0 octets ts → Finds initial octets ts
 lexes_finds octets ts h = lexes_found initial octets ts (stands_finds initial [] [] [] octets ts Begun octets refl h)
 
-blank_met : (os : List ℕ) (s s' : Known) → run places.Top os s ≡ Next s' → at_end places.Top s' ≡ Ok None → Meets s os []
-blank_met [] s s' e f = at_blank s (ap (at_end places.Top) (next_is s s' e) ∙ f)
+blank_met : (os : List ℕ) (s s' : Known) → run Place.Top os s ≡ Next s' → at_end Place.Top s' ≡ Ok None → Meets s os []
+blank_met [] s s' e f = at_blank s (ap (at_end Place.Top) (next_is s s' e) ∙ f)
 blank_met (o ∷ os) s s' e f =
-    let h = followed (feed places.Top s o) (λ k. run places.Top os k) s' e in
+    let h = followed (feed Place.Top s o) (λ k. run Place.Top os k) s' e in
     in_blank s o os h.0 h.1 (blank_met os h.0 s' h.2 f)
 
 last_met : (os : List ℕ) (s s' : Known) (t : Placed) → run t.place os s ≡ Next s' → at_end t.place s' ≡ Ok (Some t.lexeme) → Meets s os (t ∷ [])
@@ -179,7 +162,7 @@ module _ (g : Catalog) (l : Limits) where
           (going_settle g l r t ts all p.1 d p.2 w)
 
   -- an s-expression is closed behind its operators
-  pub never_unclosed : (t w : Placed) → Operators (t ∷ w ∷ []) → t.lexeme.kind ≡ kinds.Operator → w.lexeme.kind ≡ kinds.Word → Goes (t ∷ w ∷ []) → ⊥
+  pub never_unclosed : (t w : Placed) → Operators (t ∷ w ∷ []) → t.lexeme.kind ≡ TokenKind.Operator → w.lexeme.kind ≡ TokenKind.Word → Goes (t ∷ w ∷ []) → ⊥
   never_unclosed t w ops k j (r, all, d) = by (is_top r.frames) refl
     where
       no_close : (x : Placed) (c : Content) → said x.lexeme.kind x.lexeme.octets ≡ Ok c → is_close x.lexeme.kind ≡ false → IsClose false c → ⊥
@@ -199,7 +182,7 @@ module _ (g : Catalog) (l : Limits) where
 
   -- Of a document the scanner meets the tokens octet by octet.
   pub finds_met : (s : Known) (os : List ℕ) (ts : List Placed) → Finds s os ts → Operators ts → Goes ts → Meets s os ts
-  finds_met _ _ _ (nothing s os f) ops d = let h = f places.Top in blank_met os s h.0 h.1 h.2
+  finds_met _ _ _ (nothing s os f) ops d = let h = f Place.Top in blank_met os s h.0 h.1 h.2
   finds_met _ _ _ (last s os t s' e f) ops d = last_met os s s' t e f
   finds_met _ _ _ (gives' s os t ts s' e f) ops d =
       let x = given_split t.place os s s' t.lexeme e in

@@ -1,22 +1,7 @@
 -- An octet that is left is taken up at most twice more, so that three tries are enough.
 use Rattle.std.proofs.Common.{◌≡◌, ℕ, suc, Bool, true, false, refl, sym, ap, subst, Result, Ok, Err, if◌then◌else◌, ◌⊎◌, inl, inr}
 use Rattle.std.specs.Prelude.{◌&&◌, not, nat_le}
-use Rattle.ion_atoms.specs.declared.refusal.Reason.{Reason}
-use Rattle.ion_atoms.specs.declared.refusal.Reason.TheVariants as reasons
-use Rattle.ion_tokens.specs.machine.Bounds.{is_idle}
-use Rattle.ion_symtab.specs.declared.limits.Limits.{Limits}
-use Rattle.ion_symtab.specs.declared.catalog.Catalog.{Catalog}
-use Rattle.ion_tokens.specs.declared.mode.Place.{Place}
-use Rattle.ion_tokens.specs.declared.mode.Mode.{Mode}
-use Rattle.ion_tokens.specs.declared.mode.Mode.TheVariants as modes
-use Rattle.ion_tokens.specs.declared.mode.TokenKind.TheVariants as kinds
-use Rattle.ion_tokens.specs.Bodies.{Content}
-use Rattle.ion_tokens.specs.machine.Scanning.{Known, Outcome, Next, Given, Left, Refused, feed}
-use Rattle.ion_tokens.specs.Lexemes.{Lexeme}
-use Rattle.ion_tokens.specs.machine.Said.{said}
-use Rattle.ion_text.specs.machine.EachToken.{Reading, Turn, goes, gives, refuses, late, place, settle, turn}
-use Rattle.ion_text.specs.machine.Run.{State, Effect, uses, tells, leaves, fails, eats, takes, unsettled, shut, reaches, noticed, on_octet, on_scan, on_settled, on_said, behind_given, behind_left, or_worse, with_scan, token_of, Run, run_on, once_more}
-use Rattle.ion_tokens.specs.machine.Ahead.{IsUsed, LeftIn, LeavesIn}
+use Rattle.ion_text.specs.Names.{Catalog, Content, Effect, Given, IsUsed, Known, LeavesIn, Left, LeftIn, Lexeme, Limits, Mode, Next, Outcome, Place, Reading, Reason, Refused, Run, State, TokenKind, Turn, behind_given, behind_left, eats, fails, feed, gives, goes, is_idle, late, leaves, noticed, on_octet, on_said, on_scan, on_settled, once_more, or_worse, place, reaches, refuses, run_on, said, settle, shut, takes, tells, token_of, turn, unsettled, uses, with_scan}
 use Rattle.ion_tokens.specs.laws.Again as again
 use Rattle.ion_tokens.specs.laws.Again.{blank_uses, slash_uses, word_leaves}
 use Rattle.ion_text.specs.laws.reading.sound.Quotes.{Fine, Finely, feed_fine}
@@ -36,7 +21,7 @@ Twice s o = (p : Place) → UsedThen o (feed p s o)
 
 -- what comes of an octet that ended a token before it
 abbrev pub Leaving : ℕ → Outcome → Type 0
-Leaving o (Left x s) = (UsedHere s o ⊎ (x.kind ≡ kinds.Operator)) × Twice s o
+Leaving o (Left x s) = (UsedHere s o ⊎ (x.kind ≡ TokenKind.Operator)) × Twice s o
 Leaving o _ = Unit {0}
 
 used_then : (o : ℕ) (x : Outcome) → IsUsed x → UsedThen o x
@@ -48,7 +33,7 @@ used_then o (Refused n e) u = tt
 used_twice : (s : Known) (o : ℕ) → UsedHere s o → Twice s o
 used_twice s o h p = used_then o (feed p s o) (h p)
 
-word_twice : (s : Known) (o : ℕ) → s.mode ≡ modes.Word → Twice s o
+word_twice : (s : Known) (o : ℕ) → s.mode ≡ Mode.Word → Twice s o
 word_twice s o e p = go (feed p s o) refl
   where
     go : (x : Outcome) → feed p s o ≡ x → UsedThen o x
@@ -57,32 +42,32 @@ word_twice s o e p = go (feed p s o) refl
     go (Given x t) f = tt
     go (Refused n y) f = tt
 
-by_mode : (s : Known) (x : Lexeme) (o : ℕ) → LeftIn o s.mode → (is_idle s.mode ≡ true) ⊎ (x.kind ≡ kinds.Operator) → Leaving o (Left x s)
+by_mode : (s : Known) (x : Lexeme) (o : ℕ) → LeftIn o s.mode → (is_idle s.mode ≡ true) ⊎ (x.kind ≡ TokenKind.Operator) → Leaving o (Left x s)
 by_mode s x o = go s.mode refl
   where
     once : UsedHere s o → Leaving o (Left x s)
     once f = (inl f, used_twice s o f)
 
-    go : (m : Mode) → s.mode ≡ m → LeftIn o m → (is_idle m ≡ true) ⊎ (x.kind ≡ kinds.Operator) → Leaving o (Left x s)
-    go modes.Blank e h i = once (λ p. blank_uses p s o e)
-    go modes.Slash e h i = once (λ p. slash_uses p s o e h)
-    go modes.Word e h (inl i) = absurd cc
-    go modes.Word e h (inr i) = (inr i, word_twice s o e)
-    go modes.LineComment e h i = absurd h
-    go modes.BlockComment e h i = absurd h
-    go modes.BlockCommentStar e h i = absurd h
-    go modes.Colon e h i = absurd h
-    go modes.KindName e h i = absurd h
-    go modes.Number e h i = absurd h
-    go modes.NumberSlash e h i = absurd h
-    go (modes.Operator n) e h i = absurd h
-    go modes.OperatorSlash e h i = absurd h
-    go (modes.Infinity n) e h i = absurd h
-    go modes.Quote e h i = absurd h
-    go modes.Quotes e h i = absurd h
-    go (modes.Text t w) e h i = absurd h
-    go modes.Brace e h i = absurd h
-    go (modes.Lob t) e h i = absurd h
+    go : (m : Mode) → s.mode ≡ m → LeftIn o m → (is_idle m ≡ true) ⊎ (x.kind ≡ TokenKind.Operator) → Leaving o (Left x s)
+    go Mode.Blank e h i = once (λ p. blank_uses p s o e)
+    go Mode.Slash e h i = once (λ p. slash_uses p s o e h)
+    go Mode.Word e h (inl i) = absurd cc
+    go Mode.Word e h (inr i) = (inr i, word_twice s o e)
+    go Mode.LineComment e h i = absurd h
+    go Mode.BlockComment e h i = absurd h
+    go Mode.BlockCommentStar e h i = absurd h
+    go Mode.Colon e h i = absurd h
+    go Mode.KindName e h i = absurd h
+    go Mode.Number e h i = absurd h
+    go Mode.NumberSlash e h i = absurd h
+    go (Mode.Operator n) e h i = absurd h
+    go Mode.OperatorSlash e h i = absurd h
+    go (Mode.Infinity n) e h i = absurd h
+    go Mode.Quote e h i = absurd h
+    go Mode.Quotes e h i = absurd h
+    go (Mode.Text t w) e h i = absurd h
+    go Mode.Brace e h i = absurd h
+    go (Mode.Lob t) e h i = absurd h
 
 -- an octet that is left is used next, or behind an operator left once more at most
 pub feed_leaves : (p : Place) (s : Known) (o : ℕ) → Fine s → Leaving o (feed p s o)
@@ -155,7 +140,7 @@ module _ (g : Catalog) (l : Limits) where
   pub noticed_stays : (r : Reading) (s : Known) → NotLeaves (noticed l r s)
   noticed_stays r s = go (shut r.now && not (is_idle s.mode)) (nat_le (reaches r.frames r s) l.item)
     where
-      go : (a b : Bool) → NotLeaves (if a then fails reasons.Unexpected else (if b then uses (record { scan = s; reading = r }) else fails reasons.ItemTooLong))
+      go : (a b : Bool) → NotLeaves (if a then fails Reason.Unexpected else (if b then uses (record { scan = s; reading = r }) else fails Reason.ItemTooLong))
       go true b = tt
       go false true = tt
       go false false = tt

@@ -1,92 +1,67 @@
 -- Tokens that go on to the end of a document, read one by one, and that the reader of octets has no reason to refuse before.
 use Rattle.std.proofs.Common.{◌≡◌, ℕ, ◌+◌, ◌≤◌, List, [], ◌∷◌, ◌++◌, Bool, true, false, Result, Ok, Err, Option, Some, None, refl, ap, sym, ◌∙◌, subst, arith, ◌⊎◌, inl, inr}
 use Rattle.std.proofs.lemmas.Bool.{cond-false}
-use Rattle.ion_model.specs.declared.value.Value.{Value}
-use Rattle.ion_atoms.specs.declared.refusal.Reason.{Reason}
-use Rattle.ion_symtab.specs.declared.limits.Limits.{Limits}
-use Rattle.ion_symtab.specs.declared.catalog.Catalog.{Catalog}
-use Rattle.ion_symtab.specs.Slots.{Slot}
-use Rattle.ion_tokens.specs.declared.mode.Place.{Place}
-use Rattle.ion_tokens.specs.declared.mode.Place.TheVariants as places
-use Rattle.ion_tokens.specs.declared.mode.Mark.TheVariants as marks
-use Rattle.ion_tokens.specs.declared.mode.TokenKind.{TokenKind}
-use Rattle.ion_tokens.specs.declared.mode.TokenKind.TheVariants as kinds
-use Rattle.ion_tokens.specs.machine.Table.{end_of}
-use Rattle.ion_tokens.specs.Places.{is_sexp}
-use Rattle.ion_tokens.specs.machine.Bounds.{is_idle}
-use Rattle.ion_tokens.specs.Bodies.{Content, Word, Id, Quoted, Short, Long, Number', TypedNull, Operator, Clob, Blob, Mark', IsBody, IsWordBody, id_of, kind_named, null_of}
-use Rattle.ion_tokens.specs.machine.Scanning.{Known, Next, Given, Left, feed, follow}
-use Rattle.ion_tokens.specs.Lexemes.{Lexeme}
-use Rattle.ion_tokens.specs.Lexed.{Placed}
+use Rattle.ion_text.specs.Names.{Blob, Catalog, Clob, Content, Frame, Given, Id, IsBody, IsWordBody, Known, Leading, Left, Lexeme, Limits, Long, Mark, Mark', Next, Now, Number', Operator, Place, Placed, Quoted, Reading, Reason, Says, Short, Slot, Symbols, Token, TokenKind, Turn, TypedNull, Value, Walk, Word, adds_values, at, begun_at, continues, done, end_of, feed, first_token, follow, fresh, gives, goes, id_of, in_place, is_fresh, is_idle, is_sexp, is_top, kind_named, late, null_of, on_judged, on_placed, on_turn, place, place_in, reads, refuses, said, said_body, same_is, same_place, settle, settle_same, settle_still, stopped, token_of, turn}
 use Rattle.ion_tokens.proofs.runs.Runs.{feed_used, left_used}
-use Rattle.ion_text.specs.declared.state.Now.{Now}
-use Rattle.ion_text.specs.declared.state.Now.TheVariants as nows
-use Rattle.ion_text.specs.declared.state.Frame.{Frame}
-use Rattle.ion_text.specs.Grammar.{Says}
-use Rattle.ion_tokens.specs.machine.Said.{said}
-use Rattle.ion_text.specs.machine.EachToken.{Reading, Turn, goes, gives, refuses, late, Token, Symbols, at, fresh, place, place_in, settle, turn, begun_at}
-use Rattle.ion_text.specs.machine.Run.{token_of, is_top, is_fresh}
-use Rattle.ion_text.specs.machine.TokenLists.{Walk, walked, stopped, adds_values, done, on_turn, on_placed, on_judged, continues, reads, first_token, in_place}
-use Rattle.ion_text.specs.machine.Places.{Leading, settle_same, settle_still, same_place, same_is}
+use Rattle.ion_text.specs.machine.TokenLists.{walked}
+use Rattle.ion_text.specs.laws.reading.complete.Meets.{Meets, at_blank, at_token, end_spans, finely_as, goes_on, idle_span, in_blank, is_given, is_left, one_given}
 use Rattle.ion_text.specs.laws.reading.sound.Quotes.{Fine, is_close}
-use Rattle.ion_text.specs.machine.Passed.{said_body}
-use Rattle.ion_text.specs.laws.reading.sound.StandsOpen.{EndsAt, start_now, end_of_now}
-use Rattle.ion_text.specs.laws.reading.sound.Spans.{IsClose, Spans, OpenAs, IsTopNow, IsWaiting, SettlesWithin, turn_spans, settle_spans}
-use Rattle.ion_text.specs.laws.reading.complete.Meets.{Meets, at_blank, at_token, in_blank, goes_on, is_given, is_left, idle_span, end_spans, finely_as, one_given}
+use Rattle.ion_text.specs.laws.reading.sound.Spans.{IsClose, IsTopNow, IsWaiting, OpenAs, SettlesWithin, Spans, settle_spans, turn_spans}
+use Rattle.ion_text.specs.laws.reading.sound.StandsOpen.{EndsAt, end_of_now, start_now}
 
 -- no operator stands outside an s-expression
 abbrev pub Operators : List Placed → Type 0
 Operators [] = Unit {0}
-Operators (t ∷ ts) = (t.lexeme.kind ≡ kinds.Operator → is_sexp t.place ≡ true) × Operators ts
+Operators (t ∷ ts) = (t.lexeme.kind ≡ TokenKind.Operator → is_sexp t.place ≡ true) × Operators ts
 
 -- where no container is open, the place is the top level
-pub top_place : (fs : List Frame) (now : Now) → is_top fs ≡ true → place_in fs now ≡ places.Top
+pub top_place : (fs : List Frame) (now : Now) → is_top fs ≡ true → place_in fs now ≡ Place.Top
 top_place [] now h = refl
 top_place (f ∷ fs) now h = absurd cc
 
 start_inside : (now : Now) (start begin : ℕ) (fs : List Frame) (ss : Symbols) → is_top fs ≡ false → start_now now start begin fs ss ≡ start
-start_inside nows.Ready start begin (f ∷ fs) [] h = refl
-start_inside nows.Ready start begin (f ∷ fs) (s ∷ ss) h = refl
-start_inside nows.Ready start begin [] ss h = absurd cc
-start_inside (nows.Pending k end) start begin fs ss h = refl
-start_inside (nows.Long w end) start begin fs ss h = refl
-start_inside nows.After start begin fs ss h = refl
-start_inside nows.Name start begin fs ss h = refl
-start_inside (nows.LongName w) start begin fs ss h = refl
-start_inside (nows.Keyed s) start begin fs ss h = refl
+start_inside Now.Ready start begin (f ∷ fs) [] h = refl
+start_inside Now.Ready start begin (f ∷ fs) (s ∷ ss) h = refl
+start_inside Now.Ready start begin [] ss h = absurd cc
+start_inside (Now.Pending k end) start begin fs ss h = refl
+start_inside (Now.Long w end) start begin fs ss h = refl
+start_inside Now.After start begin fs ss h = refl
+start_inside Now.Name start begin fs ss h = refl
+start_inside (Now.LongName w) start begin fs ss h = refl
+start_inside (Now.Keyed s) start begin fs ss h = refl
 
 -- a mark is said by a mark alone
-pub mark_kind : (k : TokenKind) (octets : List ℕ) (m : _) → IsBody k octets (Ok (Mark' m)) → k ≡ kinds.Mark m
-mark_kind (kinds.Mark n) octets m h = ap kinds.Mark (let e : n ≡ m = cc in e)
-mark_kind kinds.Word octets m h = absurd (go (id_of octets) h)
+pub mark_kind : (k : TokenKind) (octets : List ℕ) (m : _) → IsBody k octets (Ok (Mark' m)) → k ≡ TokenKind.Mark m
+mark_kind (TokenKind.Mark n) octets m h = ap TokenKind.Mark (let e : n ≡ m = cc in e)
+mark_kind TokenKind.Word octets m h = absurd (go (id_of octets) h)
   where
     go : (id : Option ℕ) → IsWordBody octets id (Ok (Mark' m)) → ⊥
     go None h = let e : Mark' m ≡ Word octets = h.0 in cc
     go (Some id) h = cc
-mark_kind kinds.KindName octets m h = absurd (go (kind_named octets) h)
+mark_kind TokenKind.KindName octets m h = absurd (go (kind_named octets) h)
   where
     go : (k : Option _) → Ok (Mark' m) ≡ null_of k → ⊥
     go None h = cc
     go (Some k) h = cc
-mark_kind kinds.Number octets m h = absurd h
-mark_kind kinds.Operator octets m h = absurd (let e : Mark' m ≡ Operator octets = h.0 in cc)
-mark_kind kinds.QuotedSymbol octets m h = absurd (let e : Mark' m ≡ Quoted octets = h.0 in cc)
-mark_kind kinds.ShortString octets m h = absurd (let e : Mark' m ≡ Short octets = h.0 in cc)
-mark_kind kinds.LongString octets m h = absurd (let e : Mark' m ≡ Long octets = h.0 in cc)
-mark_kind kinds.Clob octets m h = absurd cc
-mark_kind kinds.Blob octets m h = absurd cc
+mark_kind TokenKind.Number octets m h = absurd h
+mark_kind TokenKind.Operator octets m h = absurd (let e : Mark' m ≡ Operator octets = h.0 in cc)
+mark_kind TokenKind.QuotedSymbol octets m h = absurd (let e : Mark' m ≡ Quoted octets = h.0 in cc)
+mark_kind TokenKind.ShortString octets m h = absurd (let e : Mark' m ≡ Short octets = h.0 in cc)
+mark_kind TokenKind.LongString octets m h = absurd (let e : Mark' m ≡ Long octets = h.0 in cc)
+mark_kind TokenKind.Clob octets m h = absurd cc
+mark_kind TokenKind.Blob octets m h = absurd cc
 
 -- what closes a container is a close
 pub closes_kind : (k : TokenKind) (octets : List ℕ) (said : Content) → IsClose false said → IsBody k octets (Ok said) → is_close k ≡ true
-closes_kind k octets (Mark' marks.ListClose) c h = ap is_close (mark_kind k octets marks.ListClose h)
-closes_kind k octets (Mark' marks.SexpClose) c h = ap is_close (mark_kind k octets marks.SexpClose h)
-closes_kind k octets (Mark' marks.FieldsClose) c h = ap is_close (mark_kind k octets marks.FieldsClose h)
-closes_kind k octets (Mark' marks.FieldsOpen) c h = absurd c
-closes_kind k octets (Mark' marks.ListOpen) c h = absurd c
-closes_kind k octets (Mark' marks.SexpOpen) c h = absurd c
-closes_kind k octets (Mark' marks.Comma) c h = absurd c
-closes_kind k octets (Mark' marks.Colon) c h = absurd c
-closes_kind k octets (Mark' marks.Colons) c h = absurd c
+closes_kind k octets (Mark' Mark.ListClose) c h = ap is_close (mark_kind k octets Mark.ListClose h)
+closes_kind k octets (Mark' Mark.SexpClose) c h = ap is_close (mark_kind k octets Mark.SexpClose h)
+closes_kind k octets (Mark' Mark.FieldsClose) c h = ap is_close (mark_kind k octets Mark.FieldsClose h)
+closes_kind k octets (Mark' Mark.FieldsOpen) c h = absurd c
+closes_kind k octets (Mark' Mark.ListOpen) c h = absurd c
+closes_kind k octets (Mark' Mark.SexpOpen) c h = absurd c
+closes_kind k octets (Mark' Mark.Comma) c h = absurd c
+closes_kind k octets (Mark' Mark.Colon) c h = absurd c
+closes_kind k octets (Mark' Mark.Colons) c h = absurd c
 closes_kind k octets (Word w) c h = absurd c
 closes_kind k octets (Id n) c h = absurd c
 closes_kind k octets (Quoted w) c h = absurd c
@@ -247,15 +222,15 @@ module _ (g : Catalog) (l : Limits) where
       waited (late e r) end k = tt
 
       go : (n : Now) → now ≡ n → InsideTurn start (settle g l (at start c fs ss now))
-      go (nows.Pending x end) e = waited (settle g l (at start c fs ss now)) (end_of_now now 0)
+      go (Now.Pending x end) e = waited (settle g l (at start c fs ss now)) (end_of_now now 0)
           (settle_spans g l start c fs ss now 0 (subst (IsWaiting g l) (sym e) tt))
-      go (nows.Long w end) e = waited (settle g l (at start c fs ss now)) (end_of_now now 0)
+      go (Now.Long w end) e = waited (settle g l (at start c fs ss now)) (end_of_now now 0)
           (settle_spans g l start c fs ss now 0 (subst (IsWaiting g l) (sym e) tt))
-      go nows.Ready e = subst (λ n. InsideTurn start (settle g l (at start c fs ss n))) (sym e) (h, refl)
-      go nows.After e = subst (λ n. InsideTurn start (settle g l (at start c fs ss n))) (sym e) (h, refl)
-      go nows.Name e = subst (λ n. InsideTurn start (settle g l (at start c fs ss n))) (sym e) (h, refl)
-      go (nows.LongName w) e = subst (λ n. InsideTurn start (settle g l (at start c fs ss n))) (sym e) (h, refl)
-      go (nows.Keyed s) e = subst (λ n. InsideTurn start (settle g l (at start c fs ss n))) (sym e) (h, refl)
+      go Now.Ready e = subst (λ n. InsideTurn start (settle g l (at start c fs ss n))) (sym e) (h, refl)
+      go Now.After e = subst (λ n. InsideTurn start (settle g l (at start c fs ss n))) (sym e) (h, refl)
+      go Now.Name e = subst (λ n. InsideTurn start (settle g l (at start c fs ss n))) (sym e) (h, refl)
+      go (Now.LongName w) e = subst (λ n. InsideTurn start (settle g l (at start c fs ss n))) (sym e) (h, refl)
+      go (Now.Keyed s) e = subst (λ n. InsideTurn start (settle g l (at start c fs ss n))) (sym e) (h, refl)
 
   -- behind a token in a container the item is open still, or the token closed it
   pub data InsideNext (start : ℕ) (t : Placed) (c : Content) (ts : List Placed) : Type 0 where
@@ -348,27 +323,27 @@ module _ (g : Catalog) (l : Limits) where
   LimitFor (t ∷ ts) = (r : Reading) (all : List Value) (c : Content) → TopOk r → Going r (t ∷ ts) all → said t.lexeme.kind t.lexeme.octets ≡ Ok c
       → Direct r (token_of t.lexeme c) → t.lexeme.end ≤ start_now r.now r.start t.lexeme.start r.frames r.notes + l.item
 
-  noted_start : (start begin : ℕ) (c : List Slot) (ss : Symbols) → is_fresh (at start c [] ss nows.Ready) ≡ false → begun_at start begin [] ss ≡ start
+  noted_start : (start begin : ℕ) (c : List Slot) (ss : Symbols) → is_fresh (at start c [] ss Now.Ready) ≡ false → begun_at start begin [] ss ≡ start
   noted_start start begin c [] h = absurd cc
   noted_start start begin c (s ∷ ss) h = refl
 
   waiting_start : (now : Now) (start begin : ℕ) (fs : List Frame) (ss : Symbols) → IsWaiting g l now → start_now now start begin fs ss ≡ start
-  waiting_start (nows.Pending h end) start begin fs ss w = refl
-  waiting_start (nows.Long v end) start begin fs ss w = refl
-  waiting_start nows.Ready start begin fs ss w = absurd w
-  waiting_start nows.After start begin fs ss w = absurd w
-  waiting_start nows.Name start begin fs ss w = absurd w
-  waiting_start (nows.LongName v) start begin fs ss w = absurd w
-  waiting_start (nows.Keyed s) start begin fs ss w = absurd w
+  waiting_start (Now.Pending h end) start begin fs ss w = refl
+  waiting_start (Now.Long v end) start begin fs ss w = refl
+  waiting_start Now.Ready start begin fs ss w = absurd w
+  waiting_start Now.After start begin fs ss w = absurd w
+  waiting_start Now.Name start begin fs ss w = absurd w
+  waiting_start (Now.LongName v) start begin fs ss w = absurd w
+  waiting_start (Now.Keyed s) start begin fs ss w = absurd w
 
   waiting_end : (now : Now) (end d : ℕ) → IsWaiting g l now → EndsAt now end → end_of_now now d ≡ end
-  waiting_end (nows.Pending h e) end d w k = k
-  waiting_end (nows.Long v e) end d w k = k
-  waiting_end nows.Ready end d w k = absurd w
-  waiting_end nows.After end d w k = absurd w
-  waiting_end nows.Name end d w k = absurd w
-  waiting_end (nows.LongName v) end d w k = absurd w
-  waiting_end (nows.Keyed s) end d w k = absurd w
+  waiting_end (Now.Pending h e) end d w k = k
+  waiting_end (Now.Long v e) end d w k = k
+  waiting_end Now.Ready end d w k = absurd w
+  waiting_end Now.After end d w k = absurd w
+  waiting_end Now.Name end d w k = absurd w
+  waiting_end (Now.LongName v) end d w k = absurd w
+  waiting_end (Now.Keyed s) end d w k = absurd w
 
   -- what is settled at the top level, and then goes on or ends, is within the limit on items
   pub settled_bound : (start end : ℕ) (fs : List Frame) (t : Turn) (ts : List Placed) (all : List Value) → is_top fs ≡ true → SettlesWithin g l start end fs t
@@ -382,14 +357,14 @@ module _ (g : Catalog) (l : Limits) where
   settled_bound start end fs (late e r) ts all h k (inr d) = absurd d
 
   -- no operator at the top level
-  pub no_operator : (r : Reading) (t : Placed) → is_top r.frames ≡ true → t.place ≡ place r → (t.lexeme.kind ≡ kinds.Operator → is_sexp t.place ≡ true)
-      → t.lexeme.kind ≡ kinds.Operator → ⊥
+  pub no_operator : (r : Reading) (t : Placed) → is_top r.frames ≡ true → t.place ≡ place r → (t.lexeme.kind ≡ TokenKind.Operator → is_sexp t.place ≡ true)
+      → t.lexeme.kind ≡ TokenKind.Operator → ⊥
   no_operator r t h e f k = let n : true ≡ false = sym (f k) ∙ ap is_sexp (e ∙ top_place r.frames r.now h) in cc
 
   -- the first token ends behind these octets, unless it is an operator
   abbrev pub EndsPast : ℕ → List Placed → Type 0
   EndsPast used [] = Unit {0}
-  EndsPast used (t ∷ ts) = (used ≤ t.lexeme.end) ⊎ (t.lexeme.kind ≡ kinds.Operator)
+  EndsPast used (t ∷ ts) = (used ≤ t.lexeme.end) ⊎ (t.lexeme.kind ≡ TokenKind.Operator)
 
   -- where no token has begun, the next ends behind the octets used, unless it is an operator
   pub idle_past : (s : Known) (os : List ℕ) (ts : List Placed) → Meets s os ts → Fine s → is_idle s.mode ≡ true → EndsPast s.used ts
@@ -429,11 +404,11 @@ module _ (g : Catalog) (l : Limits) where
                     ]
                 one p c e false w' = bound (t ∷ ts) (inl (going_settle m t ts all c d e w'))
 
-        ready : m.now ≡ nows.Ready → (fs : List Frame) → m.frames ≡ fs → end ≤ m.start + l.item
+        ready : m.now ≡ Now.Ready → (fs : List Frame) → m.frames ≡ fs → end ≤ m.start + l.item
         ready e (x ∷ fs) k = absurd (let n : false ≡ true = sym (ap is_top k) ∙ h in cc)
         ready e [] k = by ts meets ops rest past d
           where
-            whole : m ≡ at m.start m.context [] m.notes nows.Ready
+            whole : m ≡ at m.start m.context [] m.notes Now.Ready
             whole = ap (λ x. at m.start m.context x m.notes m.now) k ∙ ap (λ x. at m.start m.context [] m.notes x) e
 
             none : settle g l m ≡ goes m
@@ -455,13 +430,13 @@ module _ (g : Catalog) (l : Limits) where
                 ]
 
         go : (n : Now) → m.now ≡ n → IsTopNow n → end ≤ m.start + l.item
-        go (nows.Pending k e) x y = waited (subst (IsWaiting g l) (sym x) tt)
-        go (nows.Long w e) x y = waited (subst (IsWaiting g l) (sym x) tt)
-        go nows.Ready x y = ready x m.frames refl
-        go nows.After x y = absurd y
-        go nows.Name x y = absurd y
-        go (nows.LongName w) x y = absurd y
-        go (nows.Keyed k) x y = absurd y
+        go (Now.Pending k e) x y = waited (subst (IsWaiting g l) (sym x) tt)
+        go (Now.Long w e) x y = waited (subst (IsWaiting g l) (sym x) tt)
+        go Now.Ready x y = ready x m.frames refl
+        go Now.After x y = absurd y
+        go Now.Name x y = absurd y
+        go (Now.LongName w) x y = absurd y
+        go (Now.Keyed k) x y = absurd y
 
     -- behind a token
     turn_limit : (r : Reading) (t : Placed) (c : Content) (ts : List Placed) (all : List Value) → t.lexeme.end ≡ end → Meets s os ts → Operators ts
@@ -495,18 +470,18 @@ module _ (g : Catalog) (l : Limits) where
     where
       ended : (n : Now) (start : ℕ) (c : List Slot) (ss : Symbols) → IsTopNow n → is_fresh (at start c [] ss n) ≡ false → EndsAt n t.lexeme.end
           → (all : List Value) → Going (at start c [] ss n) [] all → t.lexeme.end ≤ start + l.item
-      ended (nows.Pending h y) start c ss ok new at' all d = let k =
-          settled_bound start y [] (settle g l (at start c [] ss (nows.Pending h y))) [] all refl (settle_spans g l start c [] ss (nows.Pending h y) 0 tt)
-          (inr (going_ends (at start c [] ss (nows.Pending h y)) all d)) in omega (arith, k, at')
-      ended (nows.Long w y) start c ss ok new at' all d = let k =
-          settled_bound start y [] (settle g l (at start c [] ss (nows.Long w y))) [] all refl (settle_spans g l start c [] ss (nows.Long w y) 0 tt)
-          (inr (going_ends (at start c [] ss (nows.Long w y)) all d)) in omega (arith, k, at')
-      ended nows.Ready start c ss ok new at' all d = let y = going_ends (at start c [] ss nows.Ready) all d in
+      ended (Now.Pending h y) start c ss ok new at' all d = let k =
+          settled_bound start y [] (settle g l (at start c [] ss (Now.Pending h y))) [] all refl (settle_spans g l start c [] ss (Now.Pending h y) 0 tt)
+          (inr (going_ends (at start c [] ss (Now.Pending h y)) all d)) in omega (arith, k, at')
+      ended (Now.Long w y) start c ss ok new at' all d = let k =
+          settled_bound start y [] (settle g l (at start c [] ss (Now.Long w y))) [] all refl (settle_spans g l start c [] ss (Now.Long w y) 0 tt)
+          (inr (going_ends (at start c [] ss (Now.Long w y)) all d)) in omega (arith, k, at')
+      ended Now.Ready start c ss ok new at' all d = let y = going_ends (at start c [] ss Now.Ready) all d in
           absurd (let n : false ≡ true = sym new ∙ ap is_fresh y.0.1 in cc)
-      ended nows.After start c ss ok new at' all d = absurd ok
-      ended nows.Name start c ss ok new at' all d = absurd ok
-      ended (nows.LongName w) start c ss ok new at' all d = absurd ok
-      ended (nows.Keyed k) start c ss ok new at' all d = absurd ok
+      ended Now.After start c ss ok new at' all d = absurd ok
+      ended Now.Name start c ss ok new at' all d = absurd ok
+      ended (Now.LongName w) start c ss ok new at' all d = absurd ok
+      ended (Now.Keyed k) start c ss ok new at' all d = absurd ok
 
       open' : (m : Reading) (all : List Value) (fs : List Frame) → m.frames ≡ fs → OpenAs true m → EndsAt m.now t.lexeme.end → Going m [] all
           → t.lexeme.end ≤ m.start + l.item
@@ -538,7 +513,7 @@ module _ (g : Catalog) (l : Limits) where
       (turn g l r (token_of t.lexeme c)) (start_now r.now r.start t.lexeme.start r.frames r.notes) (turn_spans g l r (token_of t.lexeme c) ok)
       (going_turn r t ts all c d i w)
     where
-      idle : (is_idle s'.mode ≡ true) ⊎ (t.lexeme.kind ≡ kinds.Operator) → (r : Reading) → t.place ≡ place r → is_top r.frames ≡ true → is_idle s'.mode ≡ true
+      idle : (is_idle s'.mode ≡ true) ⊎ (t.lexeme.kind ≡ TokenKind.Operator) → (r : Reading) → t.place ≡ place r → is_top r.frames ≡ true → is_idle s'.mode ≡ true
       idle (inl h) r p k = h
       idle (inr h) r p k = absurd (no_operator r t k p ops.0 h)
 

@@ -1,45 +1,21 @@
 -- The tokens that a scanner meets in octets, octet by octet.
 use Rattle.std.proofs.Common.{◌≡◌, ℕ, ◌+◌, ◌-◌, ◌≤◌, Bool, true, false, List, [], ◌∷◌, refl, sym, ap, ◌∙◌, subst, arith, Result, Ok, Option, Some, None, ◌⊎◌, inl, inr}
 use Rattle.std.specs.Prelude.{◌||◌, not}
-use Rattle.ion_atoms.specs.declared.refusal.Reason.{Reason}
-use Rattle.ion_tokens.specs.declared.mode.Place.{Place}
-use Rattle.ion_tokens.specs.declared.mode.Place.TheVariants as places
-use Rattle.ion_tokens.specs.declared.mode.Style.{Style}
-use Rattle.ion_tokens.specs.declared.mode.Style.TheVariants as styles
-use Rattle.ion_tokens.specs.declared.mode.Within.{Within}
-use Rattle.ion_tokens.specs.declared.mode.Within.TheVariants as within
-use Rattle.ion_tokens.specs.declared.mode.Mode.{Mode}
-use Rattle.ion_tokens.specs.declared.mode.Mode.TheVariants as modes
-use Rattle.ion_tokens.specs.declared.mode.End.{End}
-use Rattle.ion_tokens.specs.declared.mode.End.TheVariants as ends'
-use Rattle.ion_tokens.specs.declared.mode.Mark.TheVariants as marks
-use Rattle.ion_tokens.specs.declared.mode.TokenKind.{TokenKind}
-use Rattle.ion_tokens.specs.declared.mode.TokenKind.TheVariants as kinds
-use Rattle.ion_tokens.specs.declared.mode.Action.{Action}
-use Rattle.ion_tokens.specs.declared.mode.Action.TheVariants as actions
-use Rattle.ion_tokens.specs.machine.Table.{next, end_of, in_text, raw}
-use Rattle.ion_tokens.specs.Places.{is_sexp}
-use Rattle.ion_tokens.specs.Blobs.{blob_of}
-use Rattle.ion_tokens.specs.machine.Bounds.{is_idle}
-use Rattle.ion_tokens.specs.machine.Views.{behind}
-use Rattle.ion_tokens.specs.machine.Scanning.{Known, Outcome, Next, Given, Left, Refused, start_of, acts, blob_ends, feed, follow, at_end, ends_at}
-use Rattle.ion_tokens.specs.Lexemes.{Lexeme, is_segment}
-use Rattle.ion_tokens.specs.Lexed.{Placed}
-use Rattle.ion_tokens.proofs.runs.Runs.{feed_used, given_used}
-use Rattle.ion_tokens.proofs.foreseen.Reaches.{Reaches, run_reaches, begun_stays}
-use Rattle.ion_text.specs.Grammar.{is_two_quotes}
-use Rattle.ion_tokens.specs.machine.Ahead.{is_sane, is_mark, is_closing, Follows}
-use Rattle.ion_tokens.specs.laws.Follows.{feed_follows}
+use Rattle.ion_text.specs.Names.{Action, End, Follows, Given, Known, Left, Lexeme, Mark, Mode, Next, Outcome, Place, Placed, Reason, Refused, Style, TokenKind, Within, acts, at_end, behind, blob_ends, blob_of, end_of, ends_at, feed, follow, in_text, is_closing, is_idle, is_mark, is_sane, is_segment, is_sexp, is_two_quotes, raw, start_of}
+use Rattle.ion_tokens.specs.machine.Table.{next}
 use Rattle.ion_tokens.specs.laws.ByRows.{by_rows_where}
-use Rattle.ion_text.specs.laws.reading.sound.Quotes.{Fine, Finely, feed_fine, given_far, left_none}
-use Rattle.ion_text.specs.laws.reading.sound.Held.{NoLongText}
+use Rattle.ion_tokens.specs.laws.Follows.{feed_follows}
+use Rattle.ion_tokens.proofs.foreseen.Reaches.{Reaches, begun_stays, run_reaches}
+use Rattle.ion_tokens.proofs.runs.Runs.{feed_used, given_used}
 use Rattle.ion_text.specs.laws.reading.sound.Admits.{at_end_fine}
+use Rattle.ion_text.specs.laws.reading.sound.Held.{NoLongText}
+use Rattle.ion_text.specs.laws.reading.sound.Quotes.{Fine, Finely, feed_fine, given_far, left_none}
 
 -- In these octets up to the end of the input the scanner meets these tokens, which are looked for in their places.
 pub data Meets : Known → List ℕ → List Placed → Type 0 where
-  at_blank : (s : Known) → at_end places.Top s ≡ Ok None → Meets s [] []
+  at_blank : (s : Known) → at_end Place.Top s ≡ Ok None → Meets s [] []
   at_token : (s : Known) (t : Placed) → at_end t.place s ≡ Ok (Some t.lexeme) → Meets s [] (t ∷ [])
-  in_blank : (s : Known) (o : ℕ) (os : List ℕ) (s' : Known) → feed places.Top s o ≡ Next s' → Meets s' os [] → Meets s (o ∷ os) []
+  in_blank : (s : Known) (o : ℕ) (os : List ℕ) (s' : Known) → feed Place.Top s o ≡ Next s' → Meets s' os [] → Meets s (o ∷ os) []
   goes_on : (s : Known) (o : ℕ) (os : List ℕ) (t : Placed) (ts : List Placed) (s' : Known) → feed t.place s o ≡ Next s' → Meets s' os (t ∷ ts)
       → Meets s (o ∷ os) (t ∷ ts)
   is_given : (s : Known) (o : ℕ) (os : List ℕ) (t : Placed) (ts : List Placed) (s' : Known) → feed t.place s o ≡ Given t.lexeme s' → Meets s' os ts
@@ -65,38 +41,38 @@ meets_next _ _ _ _ (is_left s o os t ts s' e m) = next_left s o t s' e
 
 -- the text of a long string is open
 abbrev pub is_long_text : Mode → Bool
-is_long_text (modes.Text styles.LongString w) = true
+is_long_text (Mode.Text Style.LongString w) = true
 is_long_text _ = false
 
 -- a text's octets end it or go on, a long one's as such
 abbrev pub text : Bool → Action → Bool
-text long (actions.Go m k) = not long || is_long_text m
-text long (actions.Give kind k) = not long || is_segment kind
-text long (actions.Refuse e) = true
+text long (Action.Go m k) = not long || is_long_text m
+text long (Action.Give kind k) = not long || is_segment kind
+text long (Action.Refuse e) = true
 text long _ = false
 
 pub record Text (long : Bool) (a : Action) : Type 0 where
   pub is : text long a ≡ true
 
 abbrev pub is_long_string : Style → Bool
-is_long_string styles.LongString = true
+is_long_string Style.LongString = true
 is_long_string _ = false
 
 abbrev is_text : Mode → Bool
-is_text (modes.Text s w) = true
+is_text (Mode.Text s w) = true
 is_text _ = false
 
 abbrev is_long_mode : Mode → Bool
-is_long_mode (modes.Text s w) = is_long_string s
+is_long_mode (Mode.Text s w) = is_long_string s
 is_long_mode _ = false
 
 -- an octet of a text goes on with it, ends it or is refused, in a long string as such
 pub text_text : (s : Style) (w : Within) (o : ℕ) → Text (is_long_string s) (in_text s w o)
-text_text s w o = record { is = by_rows_where is_text (λ sexp m. text (is_long_mode m)) (λ c t. refl) places.Top false (modes.Text s w) o refl }
+text_text s w o = record { is = by_rows_where is_text (λ sexp m. text (is_long_mode m)) (λ c t. refl) Place.Top false (Mode.Text s w) o refl }
 
 -- where no escape is open in a text, an octet goes on with it, ends it or is refused
 pub raw_text : (s : Style) (o : ℕ) → Text (is_long_string s) (raw s o)
-raw_text s o = text_text s within.Plain o
+raw_text s o = text_text s Within.Plain o
 
 -- what comes of an octet of a long text
 abbrev pub LongOn : Outcome → Type 0
@@ -106,13 +82,13 @@ LongOn (Left x s) = ⊥
 LongOn (Refused n e) = Unit {0}
 
 long_acts : (p : Place) (s : Known) (o : ℕ) (a : Action) → text true a ≡ true → LongOn (acts p s o a)
-long_acts p s o (actions.Go m k) h = h
-long_acts p s o (actions.Give kind k) h = h
-long_acts p s o (actions.Refuse e) h = tt
-long_acts p s o (actions.Before kind k m) h = absurd cc
-long_acts p s o actions.EndWord h = absurd cc
-long_acts p s o (actions.Split n) h = absurd cc
-long_acts p s o actions.EndBlob h = absurd cc
+long_acts p s o (Action.Go m k) h = h
+long_acts p s o (Action.Give kind k) h = h
+long_acts p s o (Action.Refuse e) h = tt
+long_acts p s o (Action.Before kind k m) h = absurd cc
+long_acts p s o Action.EndWord h = absurd cc
+long_acts p s o (Action.Split n) h = absurd cc
+long_acts p s o Action.EndBlob h = absurd cc
 
 -- an octet in a long string goes on with it, ends the segment or is refused
 pub long_feed : (p : Place) (s : Known) (o : ℕ) → is_long_text s.mode ≡ true → LongOn (feed p s o)
@@ -120,16 +96,16 @@ long_feed p s o h = long_acts p s o (next p s.colon s.mode o) (by_rows_where is_
 
 -- from where no token has begun a colon may be left, or in an s-expression an operator; from where quotes are open a quoted symbol
 abbrev leaves_idle : Bool → Action → Bool
-leaves_idle sexp (actions.Before (kinds.Mark marks.Colon) k modes.Blank) = true
-leaves_idle sexp (actions.Before kinds.Operator k m) = sexp
-leaves_idle sexp (actions.Before _ k m) = false
-leaves_idle sexp actions.EndWord = false
-leaves_idle sexp (actions.Split n) = false
+leaves_idle sexp (Action.Before (TokenKind.Mark Mark.Colon) k Mode.Blank) = true
+leaves_idle sexp (Action.Before TokenKind.Operator k m) = sexp
+leaves_idle sexp (Action.Before _ k m) = false
+leaves_idle sexp Action.EndWord = false
+leaves_idle sexp (Action.Split n) = false
 leaves_idle sexp _ = true
 
 -- what is left where no token has begun
 abbrev pub IdleLeft : Place → ℕ → Outcome → Type 0
-IdleLeft p n (Left x s) = ((x.kind ≡ kinds.Mark marks.Colon) × (n ≤ x.end)) ⊎ ((x.kind ≡ kinds.Operator) × (is_sexp p ≡ true))
+IdleLeft p n (Left x s) = ((x.kind ≡ TokenKind.Mark Mark.Colon) × (n ≤ x.end)) ⊎ ((x.kind ≡ TokenKind.Operator) × (is_sexp p ≡ true))
 IdleLeft p n _ = Unit {0}
 
 blob_leaves : (p : Place) (s : Known) (b : Option (List ℕ)) → IdleLeft p s.used (blob_ends s b)
@@ -137,15 +113,15 @@ blob_leaves p s None = tt
 blob_leaves p s (Some b) = tt
 
 idle_acts : (p : Place) (s : Known) (o : ℕ) (a : Action) → leaves_idle (is_sexp p) a ≡ true → IdleLeft p s.used (acts p s o a)
-idle_acts p s o (actions.Go m k) h = tt
-idle_acts p s o (actions.Give kind k) h = tt
-idle_acts p s o (actions.Refuse e) h = tt
-idle_acts p s o actions.EndBlob h = blob_leaves p s (blob_of s.kept)
-idle_acts p s o actions.EndWord h = absurd cc
-idle_acts p s o (actions.Split n) h = absurd cc
-idle_acts p s o (actions.Before kinds.Operator k m) h = inr (refl, h)
-idle_acts p s o (actions.Before (kinds.Mark marks.Colon) k modes.Blank) h = inl (refl, omega arith)
-idle_acts p s o (actions.Before _ k m) h = absurd cc
+idle_acts p s o (Action.Go m k) h = tt
+idle_acts p s o (Action.Give kind k) h = tt
+idle_acts p s o (Action.Refuse e) h = tt
+idle_acts p s o Action.EndBlob h = blob_leaves p s (blob_of s.kept)
+idle_acts p s o Action.EndWord h = absurd cc
+idle_acts p s o (Action.Split n) h = absurd cc
+idle_acts p s o (Action.Before TokenKind.Operator k m) h = inr (refl, h)
+idle_acts p s o (Action.Before (TokenKind.Mark Mark.Colon) k Mode.Blank) h = inl (refl, omega arith)
+idle_acts p s o (Action.Before _ k m) h = absurd cc
 
 -- where no token has begun, what is left is a colon, or in an s-expression an operator
 pub idle_left : (p : Place) (s : Known) (o : ℕ) → is_idle s.mode ≡ true → IdleLeft p s.used (feed p s o)
@@ -154,7 +130,7 @@ idle_left p s o h = idle_acts p s o (next p s.colon s.mode o) (by_rows_where is_
 -- of the next token that is met
 
 mark_closing : (k : TokenKind) → is_mark k ≡ false → is_closing k ≡ false
-mark_closing (kinds.Mark m) h = absurd cc
+mark_closing (TokenKind.Mark m) h = absurd cc
 mark_closing _ h = refl
 
 -- whatever outcome an octet has follows the mode before it as the table promises
@@ -185,13 +161,13 @@ begun_apart _ _ (next_left s o t s' e) h f k = let b = finely_as t.place s o (Le
 
 -- where the end ends a token
 pub end_spans : (s : Known) (e : End) (x : Lexeme) → ends_at s e ≡ Ok (Some x) → (x.start ≡ start_of s.mode s.start s.used) × (x.end ≡ s.used)
-end_spans s ends'.Blank x h = absurd (let n : Ok None ≡ Ok (Some x) = h in cc)
-end_spans s (ends'.Token kind k) x h = (sym (ap (λ y. (lexeme_in y x).start) h), sym (ap (λ y. (lexeme_in y x).end) h))
+end_spans s End.Blank x h = absurd (let n : Ok None ≡ Ok (Some x) = h in cc)
+end_spans s (End.Token kind k) x h = (sym (ap (λ y. (lexeme_in y x).start) h), sym (ap (λ y. (lexeme_in y x).end) h))
   where
     lexeme_in : Result (Option Lexeme) Reason → Lexeme → Lexeme
     lexeme_in (Ok (Some y)) d = y
     lexeme_in _ d = d
-end_spans s (ends'.Refuse e) x h = absurd cc
+end_spans s (End.Refuse e) x h = absurd cc
 
 one_reaches : (p : Place) (s : Known) (o start end : ℕ) (x : Outcome) → Reaches start end (Next s) → feed p s o ≡ x → Reaches start end (follow x (λ t. Next t))
 one_reaches p s o start end x h e = subst (λ y. Reaches start end (follow y (λ t. Next t))) e (run_reaches p (o ∷ []) s start end h)
@@ -199,7 +175,7 @@ one_reaches p s o start end x h e = subst (λ y. Reaches start end (follow y (λ
 -- one that has begun reaches over the octets that are surely its own, but for an operator
 begun_covers : (start end : ℕ) (s : Known) (os : List ℕ) (t : Placed) (ts : List Placed) → Meets s os (t ∷ ts) → (s.start ≡ start) × (is_idle s.mode ≡ false)
     × (end + behind s.mode ≤ s.used)
-    → (t.lexeme.start ≡ start) × ((end ≤ t.lexeme.end) ⊎ (t.lexeme.kind ≡ kinds.Operator))
+    → (t.lexeme.start ≡ start) × ((end ≤ t.lexeme.end) ⊎ (t.lexeme.kind ≡ TokenKind.Operator))
 unfolding Reaches
 begun_covers start end _ _ _ _ (at_token s t e) h =
     let x = end_spans s (end_of t.place s.mode) t.lexeme e in
@@ -209,14 +185,14 @@ begun_covers start end _ _ _ _ (goes_on s o os t ts s' e m) h = begun_covers sta
 begun_covers start end _ _ _ _ (is_given s o os t ts s' e m) h = let x = one_reaches t.place s o start end (Given t.lexeme s') h e in (x.0, inl x.1)
 begun_covers start end _ _ _ _ (is_left s o os t ts s' e m) h = let x = one_reaches t.place s o start end (Left t.lexeme s') h e in (x.0, less x.1)
   where
-    less : (end ≤ t.lexeme.end) ⊎ ((t.lexeme.kind ≡ kinds.Operator) × (s'.start ≡ t.lexeme.end) × (is_idle s'.mode ≡ false) × (end + behind s'.mode ≤ s'.used))
-        → (end ≤ t.lexeme.end) ⊎ (t.lexeme.kind ≡ kinds.Operator)
+    less : (end ≤ t.lexeme.end) ⊎ ((t.lexeme.kind ≡ TokenKind.Operator) × (s'.start ≡ t.lexeme.end) × (is_idle s'.mode ≡ false) × (end + behind s'.mode ≤ s'.used))
+        → (end ≤ t.lexeme.end) ⊎ (t.lexeme.kind ≡ TokenKind.Operator)
     less (inl k) = inl k
     less (inr k) = inr k.0
 
 behind_one : (m : Mode) → behind m ≤ 1
-behind_one modes.NumberSlash = omega arith
-behind_one modes.OperatorSlash = omega arith
+behind_one Mode.NumberSlash = omega arith
+behind_one Mode.OperatorSlash = omega arith
 behind_one _ = omega arith
 
 behind_used : (m : Mode) (used : ℕ) → 1 ≤ used → used - behind m + behind m ≤ used
@@ -224,7 +200,7 @@ behind_used m used h = let k = behind_one m in omega arith
 
 -- the token that has begun
 pub begun_span : (s : Known) (os : List ℕ) (t : Placed) (ts : List Placed) → Meets s os (t ∷ ts) → is_idle s.mode ≡ false → 1 ≤ s.used
-    → (t.lexeme.start ≡ s.start) × ((s.used - behind s.mode ≤ t.lexeme.end) ⊎ (t.lexeme.kind ≡ kinds.Operator))
+    → (t.lexeme.start ≡ s.start) × ((s.used - behind s.mode ≤ t.lexeme.end) ⊎ (t.lexeme.kind ≡ TokenKind.Operator))
 begun_span s os t ts m i u = begun_covers s.start (s.used - behind s.mode) s os t ts m (refl, i, behind_used s.mode s.used u)
 
 -- an octet that ends a token is used
@@ -233,15 +209,15 @@ one_given p s s' o x e = let k = given_used p (o ∷ []) s s' x (sym (ap (λ y. 
 
 -- where none has begun, the next one ends behind the octets used
 pub idle_span : (s : Known) (os : List ℕ) (t : Placed) (ts : List Placed) → Meets s os (t ∷ ts) → Fine s → is_idle s.mode ≡ true → (s.used ≤ t.lexeme.end)
-    ⊎ (t.lexeme.kind ≡ kinds.Operator)
+    ⊎ (t.lexeme.kind ≡ TokenKind.Operator)
 idle_span _ _ _ _ (at_token s t e) f i = let x = end_spans s (end_of t.place s.mode) t.lexeme e in inl (omega (arith, x.1))
 idle_span _ _ _ _ (goes_on s o os t ts s' e m) f i = go (λ j. idle_span s' os t ts m (finely_as t.place s o (Next s') f e) j) (is_idle s'.mode) refl
   where
     one : s'.used ≡ s.used + 1
     one = feed_used t.place s s' o e
 
-    go : (is_idle s'.mode ≡ true → (s'.used ≤ t.lexeme.end) ⊎ (t.lexeme.kind ≡ kinds.Operator)) → (b : Bool) → is_idle s'.mode ≡ b → (s.used ≤ t.lexeme.end)
-        ⊎ (t.lexeme.kind ≡ kinds.Operator)
+    go : (is_idle s'.mode ≡ true → (s'.used ≤ t.lexeme.end) ⊎ (t.lexeme.kind ≡ TokenKind.Operator)) → (b : Bool) → is_idle s'.mode ≡ b → (s.used ≤ t.lexeme.end)
+        ⊎ (t.lexeme.kind ≡ TokenKind.Operator)
     go rest true j = elim (rest j) [
       | inl k ↦ inl (omega (arith, one, k))
       | inr k ↦ inr k
@@ -254,8 +230,8 @@ idle_span _ _ _ _ (is_given s o os t ts s' e m) f i = let x = finely_as t.place 
     inl (omega (arith, x.4, one_given t.place s s' o t.lexeme e))
 idle_span _ _ _ _ (is_left s o os t ts s' e m) f i = go (subst (IdleLeft t.place s.used) e (idle_left t.place s o i))
   where
-    go : ((t.lexeme.kind ≡ kinds.Mark marks.Colon) × (s.used ≤ t.lexeme.end)) ⊎ ((t.lexeme.kind ≡ kinds.Operator) × (is_sexp t.place ≡ true))
-        → (s.used ≤ t.lexeme.end) ⊎ (t.lexeme.kind ≡ kinds.Operator)
+    go : ((t.lexeme.kind ≡ TokenKind.Mark Mark.Colon) × (s.used ≤ t.lexeme.end)) ⊎ ((t.lexeme.kind ≡ TokenKind.Operator) × (is_sexp t.place ≡ true))
+        → (s.used ≤ t.lexeme.end) ⊎ (t.lexeme.kind ≡ TokenKind.Operator)
     go (inl h) = inl h.1
     go (inr h) = inr h.0
 
@@ -265,7 +241,7 @@ pub long_segment : (s : Known) (os : List ℕ) (t : Placed) (ts : List Placed) �
 long_segment _ _ _ _ (at_token s t e) h = absurd (go s.mode h (ap (λ m. ends_at s (end_of t.place m)) refl ∙ e))
   where
     go : (m : Mode) → is_long_text m ≡ true → ends_at s (end_of t.place m) ≡ Ok (Some t.lexeme) → ⊥
-    go (modes.Text x w) h k = cc
+    go (Mode.Text x w) h k = cc
     go _ h k = cc
 long_segment _ _ _ _ (goes_on s o os t ts s' e m) h = long_segment s' os t ts m (subst LongOn e (long_feed t.place s o h))
 long_segment _ _ _ _ (is_given s o os t ts s' e m) h = subst LongOn e (long_feed t.place s o h)

@@ -1,73 +1,47 @@
 -- In octets that are a document the reader of octets finds no reason to refuse before a token has ended.
 use Rattle.std.proofs.Common.{◌≡◌, ℕ, ◌+◌, ◌-◌, ◌≤◌, ◌==◌, List, [], ◌∷◌, Bool, true, false, ◌&&◌, ◌||◌, not, Ok, Option, Some, None, refl, ap, sym, ◌∙◌, subst, arith, if◌then◌else◌, ◌⊎◌, inl, inr}
 use Rattle.std.proofs.lemmas.Bool.{cond-false, cond-true}
-use Rattle.ion_model.specs.declared.value.Value.{Value}
-use Rattle.ion_atoms.specs.declared.refusal.Reason.TheVariants as reasons
-use Rattle.ion_symtab.specs.declared.limits.Limits.{Limits}
-use Rattle.ion_symtab.specs.declared.catalog.Catalog.{Catalog}
-use Rattle.ion_symtab.specs.Slots.{Slot}
-use Rattle.ion_tokens.specs.declared.mode.Place.TheVariants as places
-use Rattle.ion_tokens.specs.declared.mode.Style.TheVariants as styles
-use Rattle.ion_tokens.specs.declared.mode.Mode.{Mode}
-use Rattle.ion_tokens.specs.declared.mode.Mode.TheVariants as modes
-use Rattle.ion_tokens.specs.declared.mode.Mark.{Mark}
-use Rattle.ion_tokens.specs.declared.mode.Mark.TheVariants as marks
-use Rattle.ion_tokens.specs.declared.mode.TokenKind.TheVariants as kinds
-use Rattle.ion_tokens.specs.machine.Bounds.{is_idle}
-use Rattle.ion_tokens.specs.machine.Views.{behind, form_of, begun_in}
-use Rattle.ion_tokens.specs.Bodies.{Content, Word, Id, Quoted, Short, Long, Number', TypedNull, Operator, Clob, Blob, Mark', IsBody}
-use Rattle.ion_tokens.specs.machine.Scanning.{Known, Next}
-use Rattle.ion_tokens.specs.Lexed.{Placed}
-use Rattle.ion_text.specs.declared.state.Held.{Held}
-use Rattle.ion_text.specs.declared.state.Now.{Now}
-use Rattle.ion_text.specs.declared.state.Now.TheVariants as nows
-use Rattle.ion_text.specs.declared.state.Frame.{Frame}
-use Rattle.ion_tokens.specs.machine.Said.{said}
-use Rattle.ion_text.specs.machine.EachToken.{under, token_at, Reading, goes, refuses, Symbols, at, settle, turn_now}
-use Rattle.ion_text.specs.machine.Run.{uses, noticed, shut, reaches, longest_top, is_long_begun, with_scan, token_of, is_top, is_fresh}
-use Rattle.ion_text.specs.machine.TokenLists.{continues}
-use Rattle.ion_tokens.specs.machine.Ahead.{is_quoting, is_sane, is_closing, is_long_form}
-use Rattle.ion_text.specs.laws.reading.sound.Quotes.{Fine, le_to}
-use Rattle.ion_text.specs.machine.Passed.{said_body}
-use Rattle.ion_text.specs.laws.reading.sound.Held.{segment_says}
-use Rattle.ion_text.specs.laws.reading.sound.StandsOpen.{EndsAt, start_now}
-use Rattle.ion_text.specs.laws.reading.sound.Spans.{IsTopNow, IsWaiting}
-use Rattle.ion_text.specs.laws.reading.complete.Meets.{Meets, at_blank, in_blank, meets_next, begun_closing, begun_span, idle_span, long_segment, is_long_text, follows_as}
-use Rattle.ion_text.specs.laws.reading.complete.Going.{Operators, Going, TurnGoes, TurnEnds, TopOk, Direct, EndsPast, going_said, going_turn, going_ends, limit, top_limit, idle_past, used_inside, mark_kind, no_operator}
+use Rattle.ion_text.specs.Names.{Blob, Catalog, Clob, Content, Frame, Held, Id, IsBody, Known, Limits, Long, Mark, Mark', Mode, Next, Now, Number', Operator, Place, Placed, Quoted, Reading, Reason, Short, Slot, Style, Symbols, TokenKind, TypedNull, Value, Word, at, begun_in, behind, continues, form_of, goes, is_closing, is_fresh, is_idle, is_long_begun, is_long_form, is_quoting, is_sane, is_top, longest_top, noticed, reaches, refuses, said, said_body, settle, shut, token_at, token_of, turn_now, under, uses, with_scan}
 use Rattle.ion_tokens.proofs.foreseen.Begins.{end_idle}
+use Rattle.ion_text.specs.laws.reading.complete.Going.{Direct, EndsPast, Going, Operators, TopOk, TurnEnds, TurnGoes, going_ends, going_said, going_turn, idle_past, limit, mark_kind, no_operator, top_limit, used_inside}
+use Rattle.ion_text.specs.laws.reading.complete.Meets.{Meets, at_blank, begun_closing, begun_span, follows_as, idle_span, in_blank, is_long_text, long_segment, meets_next}
+use Rattle.ion_text.specs.laws.reading.sound.Held.{segment_says}
+use Rattle.ion_text.specs.laws.reading.sound.Quotes.{Fine, le_to}
+use Rattle.ion_text.specs.laws.reading.sound.Spans.{IsTopNow, IsWaiting}
+use Rattle.ion_text.specs.laws.reading.sound.StandsOpen.{EndsAt, start_now}
 
 -- while something waits at the top level, no token has begun with which it doesn't go on
 abbrev pub CalmNow : Now → Mode → Type 0
-CalmNow nows.Ready m = Unit {0}
-CalmNow (nows.Pending h end) m = is_idle m ≡ true
-CalmNow (nows.Long w end) m = (is_idle m || is_quoting m) ≡ true
+CalmNow Now.Ready m = Unit {0}
+CalmNow (Now.Pending h end) m = is_idle m ≡ true
+CalmNow (Now.Long w end) m = (is_idle m || is_quoting m) ≡ true
 CalmNow _ m = ⊥
 
 -- what waits ended within these octets
 abbrev pub EndedIn : ℕ → Now → Type 0
-EndedIn used (nows.Pending h end) = end ≤ used
-EndedIn used (nows.Long w end) = end ≤ used
+EndedIn used (Now.Pending h end) = end ≤ used
+EndedIn used (Now.Long w end) = end ≤ used
 EndedIn used _ = Unit {0}
 
 -- what waits and ended within so many octets ended within more
 pub ended_more : (n : Now) (used more : ℕ) → used ≤ more → EndedIn used n → EndedIn more n
-ended_more (nows.Pending h end) used more le e = omega (arith, le, e)
-ended_more (nows.Long w end) used more le e = omega (arith, le, e)
-ended_more nows.Ready used more le e = tt
-ended_more nows.After used more le e = tt
-ended_more nows.Name used more le e = tt
-ended_more (nows.LongName w) used more le e = tt
-ended_more (nows.Keyed s) used more le e = tt
+ended_more (Now.Pending h end) used more le e = omega (arith, le, e)
+ended_more (Now.Long w end) used more le e = omega (arith, le, e)
+ended_more Now.Ready used more le e = tt
+ended_more Now.After used more le e = tt
+ended_more Now.Name used more le e = tt
+ended_more (Now.LongName w) used more le e = tt
+ended_more (Now.Keyed s) used more le e = tt
 
 -- what waits and ended at an octet ended within those up to it
 pub ended_at : (n : Now) (end : ℕ) → EndsAt n end → EndedIn end n
-ended_at (nows.Pending h e) end at' = omega (arith, at')
-ended_at (nows.Long w e) end at' = omega (arith, at')
-ended_at nows.Ready end at' = tt
-ended_at nows.After end at' = tt
-ended_at nows.Name end at' = tt
-ended_at (nows.LongName w) end at' = tt
-ended_at (nows.Keyed s) end at' = tt
+ended_at (Now.Pending h e) end at' = omega (arith, at')
+ended_at (Now.Long w e) end at' = omega (arith, at')
+ended_at Now.Ready end at' = tt
+ended_at Now.After end at' = tt
+ended_at Now.Name end at' = tt
+ended_at (Now.LongName w) end at' = tt
+ended_at (Now.Keyed s) end at' = tt
 
 -- at the top level no token has begun that could disturb what waits, which ended within the octets used
 abbrev pub Calm : Known → Reading → Type 0
@@ -75,13 +49,13 @@ Calm s r = is_top r.frames ≡ true → CalmNow r.now s.mode × EndedIn s.used r
 
 -- what is calm is what may be at the top level
 pub calm_now : (n : Now) (m : Mode) → CalmNow n m → IsTopNow n
-calm_now nows.Ready m c = tt
-calm_now (nows.Pending h end) m c = tt
-calm_now (nows.Long w end) m c = tt
-calm_now nows.After m c = c
-calm_now nows.Name m c = c
-calm_now (nows.LongName w) m c = c
-calm_now (nows.Keyed s) m c = c
+calm_now Now.Ready m c = tt
+calm_now (Now.Pending h end) m c = tt
+calm_now (Now.Long w end) m c = tt
+calm_now Now.After m c = c
+calm_now Now.Name m c = c
+calm_now (Now.LongName w) m c = c
+calm_now (Now.Keyed s) m c = c
 
 -- where it is calm, the reader is as it may be at the top level
 pub calm_ok : (g : Catalog) (l : Limits) (s : Known) (r : Reading) → Calm s r → TopOk g l r
@@ -89,82 +63,82 @@ calm_ok g l s r c h = calm_now r.now s.mode (c h).0
 
 -- a blank is no token that has begun
 pub blank_idle : (s : Known) (os : List ℕ) → Meets s os [] → is_sane s.mode ≡ true → is_idle s.mode ≡ true
-blank_idle _ _ (at_blank s e) h = end_idle places.Top s s.mode e
-blank_idle _ _ (in_blank s o os s' e m) h = go (is_idle s.mode) refl (blank_idle s' os m (follows_as places.Top s o (Next s') h e).0)
+blank_idle _ _ (at_blank s e) h = end_idle Place.Top s s.mode e
+blank_idle _ _ (in_blank s o os s' e m) h = go (is_idle s.mode) refl (blank_idle s' os m (follows_as Place.Top s o (Next s') h e).0)
   where
     go : (b : Bool) → is_idle s.mode ≡ b → is_idle s'.mode ≡ true → b ≡ true
     go true i j = refl
-    go false i j = absurd (let n : true ≡ false = sym j ∙ (follows_as places.Top s o (Next s') h e).1 i in cc)
+    go false i j = absurd (let n : true ≡ false = sym j ∙ (follows_as Place.Top s o (Next s') h e).1 i in cc)
 
 long_is : (m : Mode) → is_idle m ≡ false → is_long_form (form_of m) ≡ true → (is_long_begun (Some (record { start = 0; end = 0; form = form_of m })) == 0)
     ≡ false → is_long_text m ≡ true
-long_is (modes.Text styles.LongString w) i h k = refl
+long_is (Mode.Text Style.LongString w) i h k = refl
 long_is _ i h k = absurd cc
 
 module _ (g : Catalog) (l : Limits) where
   -- behind an element or a name a mark comes that is whole with its last octet, or a colon
   abbrev pub ClosingSaid : Content → Type 0
-  ClosingSaid c = (m : Mark) × (c ≡ Mark' m) × (is_closing (kinds.Mark m) ≡ true)
+  ClosingSaid c = (m : Mark) × (c ≡ Mark' m) × (is_closing (TokenKind.Mark m) ≡ true)
 
   -- and no other token does
   pub shut_said : (begin end start : ℕ) (slots : List Slot) (fs : List Frame) (ss : Symbols) (c : Content) (now : Now) → shut now ≡ true
-      → (ClosingSaid c) ⊎ (turn_now (under g l) (at start slots fs ss now) (token_at begin end c) now ≡ refuses reasons.Unexpected)
-  shut_said begin end start slots fs ss (Mark' marks.Comma) nows.After h = inl (marks.Comma, refl, refl)
-  shut_said begin end start slots fs ss (Mark' marks.ListClose) nows.After h = inl (marks.ListClose, refl, refl)
-  shut_said begin end start slots fs ss (Mark' marks.FieldsClose) nows.After h = inl (marks.FieldsClose, refl, refl)
-  shut_said begin end start slots fs ss (Mark' marks.FieldsOpen) nows.After h = inr refl
-  shut_said begin end start slots fs ss (Mark' marks.ListOpen) nows.After h = inr refl
-  shut_said begin end start slots fs ss (Mark' marks.SexpOpen) nows.After h = inr refl
-  shut_said begin end start slots fs ss (Mark' marks.SexpClose) nows.After h = inr refl
-  shut_said begin end start slots fs ss (Mark' marks.Colon) nows.After h = inr refl
-  shut_said begin end start slots fs ss (Mark' marks.Colons) nows.After h = inr refl
-  shut_said begin end start slots fs ss (Mark' marks.Colon) (nows.Keyed s) h = inl (marks.Colon, refl, refl)
-  shut_said begin end start slots fs ss (Mark' marks.Colons) (nows.Keyed s) h = inr refl
-  shut_said begin end start slots fs ss (Mark' marks.Comma) (nows.Keyed s) h = inr refl
-  shut_said begin end start slots fs ss (Mark' marks.FieldsOpen) (nows.Keyed s) h = inr refl
-  shut_said begin end start slots fs ss (Mark' marks.FieldsClose) (nows.Keyed s) h = inr refl
-  shut_said begin end start slots fs ss (Mark' marks.ListOpen) (nows.Keyed s) h = inr refl
-  shut_said begin end start slots fs ss (Mark' marks.ListClose) (nows.Keyed s) h = inr refl
-  shut_said begin end start slots fs ss (Mark' marks.SexpOpen) (nows.Keyed s) h = inr refl
-  shut_said begin end start slots fs ss (Mark' marks.SexpClose) (nows.Keyed s) h = inr refl
-  shut_said begin end start slots fs ss (Word w) nows.After h = inr refl
-  shut_said begin end start slots fs ss (Word w) (nows.Keyed s) h = inr refl
-  shut_said begin end start slots fs ss (Id n) nows.After h = inr refl
-  shut_said begin end start slots fs ss (Id n) (nows.Keyed s) h = inr refl
-  shut_said begin end start slots fs ss (Quoted w) nows.After h = inr refl
-  shut_said begin end start slots fs ss (Quoted w) (nows.Keyed s) h = inr refl
-  shut_said begin end start slots fs ss (Short w) nows.After h = inr refl
-  shut_said begin end start slots fs ss (Short w) (nows.Keyed s) h = inr refl
-  shut_said begin end start slots fs ss (Long w) nows.After h = inr refl
-  shut_said begin end start slots fs ss (Long w) (nows.Keyed s) h = inr refl
-  shut_said begin end start slots fs ss (Number' n) nows.After h = inr refl
-  shut_said begin end start slots fs ss (Number' n) (nows.Keyed s) h = inr refl
-  shut_said begin end start slots fs ss (TypedNull n) nows.After h = inr refl
-  shut_said begin end start slots fs ss (TypedNull n) (nows.Keyed s) h = inr refl
-  shut_said begin end start slots fs ss (Operator w) nows.After h = inr refl
-  shut_said begin end start slots fs ss (Operator w) (nows.Keyed s) h = inr refl
-  shut_said begin end start slots fs ss (Clob w) nows.After h = inr refl
-  shut_said begin end start slots fs ss (Clob w) (nows.Keyed s) h = inr refl
-  shut_said begin end start slots fs ss (Blob w) nows.After h = inr refl
-  shut_said begin end start slots fs ss (Blob w) (nows.Keyed s) h = inr refl
-  shut_said begin end start slots fs ss c nows.Ready h = absurd cc
-  shut_said begin end start slots fs ss c (nows.Pending k e) h = absurd cc
-  shut_said begin end start slots fs ss c (nows.Long w e) h = absurd cc
-  shut_said begin end start slots fs ss c nows.Name h = absurd cc
-  shut_said begin end start slots fs ss c (nows.LongName w) h = absurd cc
+      → (ClosingSaid c) ⊎ (turn_now (under g l) (at start slots fs ss now) (token_at begin end c) now ≡ refuses Reason.Unexpected)
+  shut_said begin end start slots fs ss (Mark' Mark.Comma) Now.After h = inl (Mark.Comma, refl, refl)
+  shut_said begin end start slots fs ss (Mark' Mark.ListClose) Now.After h = inl (Mark.ListClose, refl, refl)
+  shut_said begin end start slots fs ss (Mark' Mark.FieldsClose) Now.After h = inl (Mark.FieldsClose, refl, refl)
+  shut_said begin end start slots fs ss (Mark' Mark.FieldsOpen) Now.After h = inr refl
+  shut_said begin end start slots fs ss (Mark' Mark.ListOpen) Now.After h = inr refl
+  shut_said begin end start slots fs ss (Mark' Mark.SexpOpen) Now.After h = inr refl
+  shut_said begin end start slots fs ss (Mark' Mark.SexpClose) Now.After h = inr refl
+  shut_said begin end start slots fs ss (Mark' Mark.Colon) Now.After h = inr refl
+  shut_said begin end start slots fs ss (Mark' Mark.Colons) Now.After h = inr refl
+  shut_said begin end start slots fs ss (Mark' Mark.Colon) (Now.Keyed s) h = inl (Mark.Colon, refl, refl)
+  shut_said begin end start slots fs ss (Mark' Mark.Colons) (Now.Keyed s) h = inr refl
+  shut_said begin end start slots fs ss (Mark' Mark.Comma) (Now.Keyed s) h = inr refl
+  shut_said begin end start slots fs ss (Mark' Mark.FieldsOpen) (Now.Keyed s) h = inr refl
+  shut_said begin end start slots fs ss (Mark' Mark.FieldsClose) (Now.Keyed s) h = inr refl
+  shut_said begin end start slots fs ss (Mark' Mark.ListOpen) (Now.Keyed s) h = inr refl
+  shut_said begin end start slots fs ss (Mark' Mark.ListClose) (Now.Keyed s) h = inr refl
+  shut_said begin end start slots fs ss (Mark' Mark.SexpOpen) (Now.Keyed s) h = inr refl
+  shut_said begin end start slots fs ss (Mark' Mark.SexpClose) (Now.Keyed s) h = inr refl
+  shut_said begin end start slots fs ss (Word w) Now.After h = inr refl
+  shut_said begin end start slots fs ss (Word w) (Now.Keyed s) h = inr refl
+  shut_said begin end start slots fs ss (Id n) Now.After h = inr refl
+  shut_said begin end start slots fs ss (Id n) (Now.Keyed s) h = inr refl
+  shut_said begin end start slots fs ss (Quoted w) Now.After h = inr refl
+  shut_said begin end start slots fs ss (Quoted w) (Now.Keyed s) h = inr refl
+  shut_said begin end start slots fs ss (Short w) Now.After h = inr refl
+  shut_said begin end start slots fs ss (Short w) (Now.Keyed s) h = inr refl
+  shut_said begin end start slots fs ss (Long w) Now.After h = inr refl
+  shut_said begin end start slots fs ss (Long w) (Now.Keyed s) h = inr refl
+  shut_said begin end start slots fs ss (Number' n) Now.After h = inr refl
+  shut_said begin end start slots fs ss (Number' n) (Now.Keyed s) h = inr refl
+  shut_said begin end start slots fs ss (TypedNull n) Now.After h = inr refl
+  shut_said begin end start slots fs ss (TypedNull n) (Now.Keyed s) h = inr refl
+  shut_said begin end start slots fs ss (Operator w) Now.After h = inr refl
+  shut_said begin end start slots fs ss (Operator w) (Now.Keyed s) h = inr refl
+  shut_said begin end start slots fs ss (Clob w) Now.After h = inr refl
+  shut_said begin end start slots fs ss (Clob w) (Now.Keyed s) h = inr refl
+  shut_said begin end start slots fs ss (Blob w) Now.After h = inr refl
+  shut_said begin end start slots fs ss (Blob w) (Now.Keyed s) h = inr refl
+  shut_said begin end start slots fs ss c Now.Ready h = absurd cc
+  shut_said begin end start slots fs ss c (Now.Pending k e) h = absurd cc
+  shut_said begin end start slots fs ss c (Now.Long w e) h = absurd cc
+  shut_said begin end start slots fs ss c Now.Name h = absurd cc
+  shut_said begin end start slots fs ss c (Now.LongName w) h = absurd cc
 
   -- there nothing waits
   pub shut_still : (r : Reading) → shut r.now ≡ true → settle g l r ≡ goes r
   shut_still r h = go r.now refl
     where
       go : (n : Now) → r.now ≡ n → settle g l r ≡ goes r
-      go nows.After e = subst (λ n. settle g l (at r.start r.context r.frames r.notes n) ≡ goes (at r.start r.context r.frames r.notes n)) (sym e) refl
-      go (nows.Keyed s) e = subst (λ n. settle g l (at r.start r.context r.frames r.notes n) ≡ goes (at r.start r.context r.frames r.notes n)) (sym e) refl
-      go nows.Ready e = absurd (let n : false ≡ true = sym (ap shut e) ∙ h in cc)
-      go (nows.Pending k x) e = absurd (let n : false ≡ true = sym (ap shut e) ∙ h in cc)
-      go (nows.Long w x) e = absurd (let n : false ≡ true = sym (ap shut e) ∙ h in cc)
-      go nows.Name e = absurd (let n : false ≡ true = sym (ap shut e) ∙ h in cc)
-      go (nows.LongName w) e = absurd (let n : false ≡ true = sym (ap shut e) ∙ h in cc)
+      go Now.After e = subst (λ n. settle g l (at r.start r.context r.frames r.notes n) ≡ goes (at r.start r.context r.frames r.notes n)) (sym e) refl
+      go (Now.Keyed s) e = subst (λ n. settle g l (at r.start r.context r.frames r.notes n) ≡ goes (at r.start r.context r.frames r.notes n)) (sym e) refl
+      go Now.Ready e = absurd (let n : false ≡ true = sym (ap shut e) ∙ h in cc)
+      go (Now.Pending k x) e = absurd (let n : false ≡ true = sym (ap shut e) ∙ h in cc)
+      go (Now.Long w x) e = absurd (let n : false ≡ true = sym (ap shut e) ∙ h in cc)
+      go Now.Name e = absurd (let n : false ≡ true = sym (ap shut e) ∙ h in cc)
+      go (Now.LongName w) e = absurd (let n : false ≡ true = sym (ap shut e) ∙ h in cc)
 
   module _ (s : Known) (os : List ℕ) (sane : is_sane s.mode ≡ true) (fine : Fine s) (used : 1 ≤ s.used) (r : Reading) (all : List Value) (calm : Calm s r) where
     not_shut : (ts : List Placed) → Meets s os ts → Going g l r ts all → is_idle s.mode ≡ false → shut r.now ≡ true → ⊥
@@ -183,7 +157,7 @@ module _ (g : Catalog) (l : Limits) where
             let n : true ≡ false = sym k.2 ∙ (ap is_closing (sym kind) ∙ begun_closing s t (meets_next s os t ts m) sane i) in cc
 
         by : (c : Content) → said t.lexeme.kind t.lexeme.octets ≡ Ok c → TurnGoes g l (turn_now (under g l) r (token_of t.lexeme c) r.now) ts all
-            → (ClosingSaid c) ⊎ (turn_now (under g l) r (token_of t.lexeme c) r.now ≡ refuses reasons.Unexpected) → ⊥
+            → (ClosingSaid c) ⊎ (turn_now (under g l) r (token_of t.lexeme c) r.now ≡ refuses Reason.Unexpected) → ⊥
         by c e d (inl k) = closes c e k
         by c e d (inr n) = subst (λ x. TurnGoes g l x ts all) n d
 
@@ -198,7 +172,7 @@ module _ (g : Catalog) (l : Limits) where
     -- the token that has begun, or comes next
     module _ (t : Placed) (ts : List Placed) (m : Meets s os (t ∷ ts)) (ops : Operators (t ∷ ts)) (d : Going g l r (t ∷ ts) all)
         (top : is_top r.frames ≡ true) where
-      own : t.lexeme.kind ≡ kinds.Operator → ⊥
+      own : t.lexeme.kind ≡ TokenKind.Operator → ⊥
       own k = no_operator g l r t top (going_said g l r t ts all d).0 ops.0 k
 
       within' : (c : Content) → said t.lexeme.kind t.lexeme.octets ≡ Ok c → Direct g l r (token_of t.lexeme c)
@@ -208,18 +182,18 @@ module _ (g : Catalog) (l : Limits) where
       begun_end : is_idle s.mode ≡ false → (t.lexeme.start ≡ s.start) × (s.used - behind s.mode ≤ t.lexeme.end)
       begun_end i = let x = begun_span s os t ts m i used in (x.0, by x.1)
         where
-          by : (s.used - behind s.mode ≤ t.lexeme.end) ⊎ (t.lexeme.kind ≡ kinds.Operator) → s.used - behind s.mode ≤ t.lexeme.end
+          by : (s.used - behind s.mode ≤ t.lexeme.end) ⊎ (t.lexeme.kind ≡ TokenKind.Operator) → s.used - behind s.mode ≤ t.lexeme.end
           by (inl h) = h
           by (inr h) = absurd (own h)
 
       next_end : is_idle s.mode ≡ true → s.used ≤ t.lexeme.end
       next_end i = by (idle_span s os t ts m fine i)
         where
-          by : (s.used ≤ t.lexeme.end) ⊎ (t.lexeme.kind ≡ kinds.Operator) → s.used ≤ t.lexeme.end
+          by : (s.used ≤ t.lexeme.end) ⊎ (t.lexeme.kind ≡ TokenKind.Operator) → s.used ≤ t.lexeme.end
           by (inl h) = h
           by (inr h) = absurd (own h)
 
-    ready_same : (fs : List Frame) (ss : Symbols) → r.frames ≡ fs → r.notes ≡ ss → r.now ≡ nows.Ready → r ≡ at r.start r.context fs ss nows.Ready
+    ready_same : (fs : List Frame) (ss : Symbols) → r.frames ≡ fs → r.notes ≡ ss → r.now ≡ Now.Ready → r ≡ at r.start r.context fs ss Now.Ready
     ready_same fs ss a b c = ap (λ x. at r.start r.context x r.notes r.now) a
         ∙ (ap (λ x. at r.start r.context fs x r.now) b ∙ ap (λ x. at r.start r.context fs ss x) c)
 
@@ -228,13 +202,13 @@ module _ (g : Catalog) (l : Limits) where
       top = ap is_top none
 
       -- an item that begins
-      fresh_reaches : r.notes ≡ [] → r.now ≡ nows.Ready → (i : Bool) → is_idle s.mode ≡ i
-          → longest_top r.start s.used nows.Ready [] (if i then None else Some
+      fresh_reaches : r.notes ≡ [] → r.now ≡ Now.Ready → (i : Bool) → is_idle s.mode ≡ i
+          → longest_top r.start s.used Now.Ready [] (if i then None else Some
           (record { start = s.start; end = s.used - behind s.mode; form = form_of s.mode })) (is_long_begun (begun_in s)) ≤ l.item
       fresh_reaches a b true i = omega arith
       fresh_reaches a b false i = by ts m ops d
         where
-          same : r ≡ at r.start r.context [] [] nows.Ready
+          same : r ≡ at r.start r.context [] [] Now.Ready
           same = ready_same [] [] none a b
 
           still : settle g l r ≡ goes r
@@ -251,19 +225,19 @@ module _ (g : Catalog) (l : Limits) where
               omega (arith, k, x.0, x.1, e)
 
       -- behind annotations
-      noted_reaches : (n : Option (List ℕ)) (ns : Symbols) → r.notes ≡ n ∷ ns → r.now ≡ nows.Ready → (i : Bool) → is_idle s.mode ≡ i
-          → longest_top r.start s.used nows.Ready (n ∷ ns) (if i then None else Some
+      noted_reaches : (n : Option (List ℕ)) (ns : Symbols) → r.notes ≡ n ∷ ns → r.now ≡ Now.Ready → (i : Bool) → is_idle s.mode ≡ i
+          → longest_top r.start s.used Now.Ready (n ∷ ns) (if i then None else Some
           (record { start = s.start; end = s.used - behind s.mode; form = form_of s.mode })) (is_long_begun (begun_in s)) ≤ l.item
       noted_reaches n ns a b i e = by ts m ops d i e
         where
-          same : r ≡ at r.start r.context [] (n ∷ ns) nows.Ready
+          same : r ≡ at r.start r.context [] (n ∷ ns) Now.Ready
           same = ready_same [] (n ∷ ns) none a b
 
           still : settle g l r ≡ goes r
           still = ap (settle g l) same ∙ ap goes (sym same)
 
           by : (ts : List Placed) → Meets s os ts → Operators ts → Going g l r ts all → (i : Bool) → is_idle s.mode ≡ i
-              → longest_top r.start s.used nows.Ready (n ∷ ns) (if i then None else Some
+              → longest_top r.start s.used Now.Ready (n ∷ ns) (if i then None else Some
               (record { start = s.start; end = s.used - behind s.mode; form = form_of s.mode })) (is_long_begun (begun_in s)) ≤ l.item
           by [] m ops d i e =
               let x = subst (λ y. TurnEnds g l y all) still (going_ends g l r all d) in
@@ -283,7 +257,7 @@ module _ (g : Catalog) (l : Limits) where
               omega (arith, k, x.1, f)
 
       -- behind a long string, one more segment
-      long_reaches : (w : List ℕ) (end : ℕ) → r.now ≡ nows.Long w end → is_idle s.mode ≡ false → is_long_text s.mode ≡ true
+      long_reaches : (w : List ℕ) (end : ℕ) → r.now ≡ Now.Long w end → is_idle s.mode ≡ false → is_long_text s.mode ≡ true
           → s.used - behind s.mode - r.start ≤ l.item
       long_reaches w end a i h = by ts m ops d
         where
@@ -304,13 +278,13 @@ module _ (g : Catalog) (l : Limits) where
       ended = (calm top).1
 
       waiting_unfresh : (fs : List Frame) (ss : Symbols) (n : Now) → IsWaiting g l n → is_fresh (at r.start r.context fs ss n) ≡ false
-      waiting_unfresh [] [] (nows.Pending h e) w = refl
-      waiting_unfresh [] [] (nows.Long v e) w = refl
-      waiting_unfresh [] [] nows.Ready w = absurd w
-      waiting_unfresh [] [] nows.After w = absurd w
-      waiting_unfresh [] [] nows.Name w = absurd w
-      waiting_unfresh [] [] (nows.LongName v) w = absurd w
-      waiting_unfresh [] [] (nows.Keyed x) w = absurd w
+      waiting_unfresh [] [] (Now.Pending h e) w = refl
+      waiting_unfresh [] [] (Now.Long v e) w = refl
+      waiting_unfresh [] [] Now.Ready w = absurd w
+      waiting_unfresh [] [] Now.After w = absurd w
+      waiting_unfresh [] [] Now.Name w = absurd w
+      waiting_unfresh [] [] (Now.LongName v) w = absurd w
+      waiting_unfresh [] [] (Now.Keyed x) w = absurd w
       waiting_unfresh [] (x ∷ ss) n w = refl
       waiting_unfresh (f ∷ fs) ss n w = refl
 
@@ -319,21 +293,21 @@ module _ (g : Catalog) (l : Limits) where
           let k = top_limit g l s os end fine le ts m ops (limit g l s os ts m fine ops) past r all top (waiting_unfresh r.frames r.notes r.now w) ok at' d in
           omega (arith, k)
 
-      pending_reaches : (h : Held) (end : ℕ) → r.now ≡ nows.Pending h end → end - r.start ≤ l.item
+      pending_reaches : (h : Held) (end : ℕ) → r.now ≡ Now.Pending h end → end - r.start ≤ l.item
       pending_reaches h end e =
           waiting_reaches end (subst (EndedIn s.used) e ended) (subst (IsWaiting g l) (sym e) tt) (subst IsTopNow (sym e) tt)
           (subst (λ n. EndsAt n end) (sym e) refl)
           (idle_past g l s os ts m fine (subst (λ n. CalmNow n s.mode) e (calm top).0))
 
-      held_reaches : (w : List ℕ) (end : ℕ) → r.now ≡ nows.Long w end → end - r.start ≤ l.item
+      held_reaches : (w : List ℕ) (end : ℕ) → r.now ≡ Now.Long w end → end - r.start ≤ l.item
       held_reaches w end e =
           waiting_reaches end (subst (EndedIn s.used) e ended) (subst (IsWaiting g l) (sym e) tt) (subst IsTopNow (sym e) tt)
           (subst (λ n. EndsAt n end) (sym e) refl)
           (past (is_idle s.mode) refl ts m ops d)
         where
           quoting_behind : (k : Mode) → (is_idle k || is_quoting k) ≡ true → behind k ≡ 0
-          quoting_behind modes.NumberSlash q = absurd cc
-          quoting_behind modes.OperatorSlash q = absurd cc
+          quoting_behind Mode.NumberSlash q = absurd cc
+          quoting_behind Mode.OperatorSlash q = absurd cc
           quoting_behind _ q = refl
 
           past : (i : Bool) → is_idle s.mode ≡ i → (ts : List Placed) → Meets s os ts → Operators ts → Going g l r ts all → EndsPast g l s.used ts
@@ -344,8 +318,8 @@ module _ (g : Catalog) (l : Limits) where
               let k = quoting_behind s.mode (subst (λ n. CalmNow n s.mode) e (calm top).0) in
               inl (omega (arith, x.1, k))
 
-      long_longest : (w : List ℕ) (end : ℕ) → r.now ≡ nows.Long w end → (i : Bool) → is_idle s.mode ≡ i
-          → longest_top r.start s.used (nows.Long w end) r.notes
+      long_longest : (w : List ℕ) (end : ℕ) → r.now ≡ Now.Long w end → (i : Bool) → is_idle s.mode ≡ i
+          → longest_top r.start s.used (Now.Long w end) r.notes
           (if i then None else Some (record { start = s.start; end = s.used - behind s.mode; form = form_of s.mode }))
           (is_long_begun (if i then None else Some (record { start = s.start; end = s.used - behind s.mode; form = form_of s.mode }))) ≤ l.item
       long_longest w end a true i = held_reaches w end a
@@ -360,15 +334,15 @@ module _ (g : Catalog) (l : Limits) where
 
       top_reaches : (n : Now) → r.now ≡ n → (ss : Symbols) → r.notes ≡ ss → IsTopNow n
           → longest_top r.start s.used n ss (begun_in s) (is_long_begun (begun_in s)) ≤ l.item
-      top_reaches nows.Ready e [] f k = fresh_reaches f e (is_idle s.mode) refl
-      top_reaches nows.Ready e (x ∷ ss) f k = noted_reaches x ss f e (is_idle s.mode) refl
-      top_reaches (nows.Pending h end) e ss f k = pending_reaches h end e
-      top_reaches (nows.Long w end) e ss f k = subst (λ y. longest_top r.start s.used (nows.Long w end) y (begun_in s) (is_long_begun (begun_in s)) ≤ l.item) f
+      top_reaches Now.Ready e [] f k = fresh_reaches f e (is_idle s.mode) refl
+      top_reaches Now.Ready e (x ∷ ss) f k = noted_reaches x ss f e (is_idle s.mode) refl
+      top_reaches (Now.Pending h end) e ss f k = pending_reaches h end e
+      top_reaches (Now.Long w end) e ss f k = subst (λ y. longest_top r.start s.used (Now.Long w end) y (begun_in s) (is_long_begun (begun_in s)) ≤ l.item) f
           (long_longest w end e (is_idle s.mode) refl)
-      top_reaches nows.After e ss f k = absurd k
-      top_reaches nows.Name e ss f k = absurd k
-      top_reaches (nows.LongName w) e ss f k = absurd k
-      top_reaches (nows.Keyed x) e ss f k = absurd k
+      top_reaches Now.After e ss f k = absurd k
+      top_reaches Now.Name e ss f k = absurd k
+      top_reaches (Now.LongName w) e ss f k = absurd k
+      top_reaches (Now.Keyed x) e ss f k = absurd k
 
     reaches_within : (ts : List Placed) → Meets s os ts → Operators ts → Going g l r ts all → (fs : List Frame) → r.frames ≡ fs → reaches fs r s ≤ l.item
     reaches_within ts m ops d [] e = top_reaches ts m ops d e r.now refl r.notes refl (calm_ok g l s r calm (ap is_top e))

@@ -1,17 +1,6 @@
 -- Behind a long string that waits: while a segment of it is open, each octet goes on with it, or is refused.
 use Rattle.std.proofs.Common.{◌≡◌, ℕ, Bool, true, false, ◌||◌, refl, sym, ap, ◌∙◌, subst, Some, None, if◌then◌else◌, ◌-◌}
-use Rattle.ion_tokens.specs.declared.mode.Place.{Place}
-use Rattle.ion_tokens.specs.declared.mode.Mode.{Mode}
-use Rattle.ion_tokens.specs.declared.mode.Mode.TheVariants as modes
-use Rattle.ion_tokens.specs.declared.mode.Style.TheVariants as styles
-use Rattle.ion_tokens.specs.machine.Bounds.{is_idle}
-use Rattle.ion_tokens.specs.machine.Ahead.{is_quoting}
-use Rattle.ion_tokens.specs.machine.Views.{behind, form_of}
-use Rattle.ion_tokens.specs.machine.Scanning.{Known, Outcome, Next, Given, Left, Refused, feed}
-use Rattle.ion_text.specs.declared.state.Now.{Now}
-use Rattle.ion_text.specs.declared.state.Now.TheVariants as nows
-use Rattle.ion_text.specs.machine.EachToken.{Reading}
-use Rattle.ion_text.specs.machine.Run.{has_segment, in_segment, is_top, unsettled, waits, waits_now}
+use Rattle.ion_text.specs.Names.{Given, Known, Left, Mode, Next, Now, Outcome, Place, Reading, Refused, Style, behind, feed, form_of, has_segment, in_segment, is_idle, is_quoting, is_top, unsettled, waits, waits_now}
 use Rattle.ion_text.specs.laws.reading.complete.Meets.{LongOn, is_long_text, long_feed}
 
 -- no test holds and fails
@@ -21,9 +10,9 @@ never false e f = cc
 
 -- in the text of a long string quotes are open
 pub long_quoting : (m : Mode) → is_long_text m ≡ true → is_quoting m ≡ true
-long_quoting (modes.Text styles.LongString w) h = refl
-long_quoting modes.Quote h = refl
-long_quoting modes.Quotes h = refl
+long_quoting (Mode.Text Style.LongString w) h = refl
+long_quoting Mode.Quote h = refl
+long_quoting Mode.Quotes h = refl
 long_quoting _ h = absurd cc
 
 quoting_goes : (m : Mode) → is_quoting m ≡ true → (is_idle m || is_quoting m) ≡ true
@@ -36,40 +25,40 @@ quoting_goes m h = go (is_idle m) (is_quoting m) h
 segment_text : (m : Mode) (start used : ℕ) (b : Bool) → has_segment (if b then None else Some (record { start = start; end = used; form = form_of m })) ≡ true
     → is_long_text m ≡ true
 segment_text m start used true h = absurd cc
-segment_text (modes.Text styles.LongString w) start used false h = refl
-segment_text (modes.Text styles.ShortString w) start used false h = absurd cc
-segment_text (modes.Text styles.QuotedSymbol w) start used false h = absurd cc
-segment_text (modes.Text styles.ShortClob w) start used false h = absurd cc
-segment_text (modes.Text styles.LongClob w) start used false h = absurd cc
-segment_text modes.Blank start used false h = absurd cc
-segment_text modes.Slash start used false h = absurd cc
-segment_text modes.LineComment start used false h = absurd cc
-segment_text modes.BlockComment start used false h = absurd cc
-segment_text modes.BlockCommentStar start used false h = absurd cc
-segment_text modes.Colon start used false h = absurd cc
-segment_text modes.Word start used false h = absurd cc
-segment_text modes.KindName start used false h = absurd cc
-segment_text modes.Number start used false h = absurd cc
-segment_text modes.NumberSlash start used false h = absurd cc
-segment_text (modes.Operator e) start used false h = absurd cc
-segment_text modes.OperatorSlash start used false h = absurd cc
-segment_text (modes.Infinity n) start used false h = absurd cc
-segment_text modes.Quote start used false h = absurd cc
-segment_text modes.Quotes start used false h = absurd cc
-segment_text modes.Brace start used false h = absurd cc
-segment_text (modes.Lob l) start used false h = absurd cc
+segment_text (Mode.Text Style.LongString w) start used false h = refl
+segment_text (Mode.Text Style.ShortString w) start used false h = absurd cc
+segment_text (Mode.Text Style.QuotedSymbol w) start used false h = absurd cc
+segment_text (Mode.Text Style.ShortClob w) start used false h = absurd cc
+segment_text (Mode.Text Style.LongClob w) start used false h = absurd cc
+segment_text Mode.Blank start used false h = absurd cc
+segment_text Mode.Slash start used false h = absurd cc
+segment_text Mode.LineComment start used false h = absurd cc
+segment_text Mode.BlockComment start used false h = absurd cc
+segment_text Mode.BlockCommentStar start used false h = absurd cc
+segment_text Mode.Colon start used false h = absurd cc
+segment_text Mode.Word start used false h = absurd cc
+segment_text Mode.KindName start used false h = absurd cc
+segment_text Mode.Number start used false h = absurd cc
+segment_text Mode.NumberSlash start used false h = absurd cc
+segment_text (Mode.Operator e) start used false h = absurd cc
+segment_text Mode.OperatorSlash start used false h = absurd cc
+segment_text (Mode.Infinity n) start used false h = absurd cc
+segment_text Mode.Quote start used false h = absurd cc
+segment_text Mode.Quotes start used false h = absurd cc
+segment_text Mode.Brace start used false h = absurd cc
+segment_text (Mode.Lob l) start used false h = absurd cc
 
 -- where a segment is open, a long text is
-pub in_text : (s : Known) (w : _) (end : ℕ) → in_segment (nows.Long w end) s ≡ true → is_long_text s.mode ≡ true
+pub in_text : (s : Known) (w : _) (end : ℕ) → in_segment (Now.Long w end) s ≡ true → is_long_text s.mode ≡ true
 in_text s w end h = segment_text s.mode s.start (s.used - behind s.mode) (is_idle s.mode) h
 
 -- and where none is, none is
-pub no_text : (s : Known) (w : _) (end : ℕ) → in_segment (nows.Long w end) s ≡ false → is_long_text s.mode ≡ false
+pub no_text : (s : Known) (w : _) (end : ℕ) → in_segment (Now.Long w end) s ≡ false → is_long_text s.mode ≡ false
 no_text s w end h = go s.mode h
   where
     go : (m : Mode) → has_segment (if is_idle m then None else Some (record { start = s.start; end = s.used - behind m; form = form_of m })) ≡ false
         → is_long_text m ≡ false
-    go (modes.Text styles.LongString w) h = absurd cc
+    go (Mode.Text Style.LongString w) h = absurd cc
     go _ h = refl
 
 -- it is used, or left
@@ -77,7 +66,7 @@ abbrev pub NotRefused : Outcome → Type 0
 NotRefused (Refused n e) = ⊥
 NotRefused _ = Unit {0}
 
-long_text_goes : (top : Bool) (x : Outcome) → LongOn x → NotRefused x → (w : _) (end : ℕ) → waits_now top (nows.Long w end) x ≡ true
+long_text_goes : (top : Bool) (x : Outcome) → LongOn x → NotRefused x → (w : _) (end : ℕ) → waits_now top (Now.Long w end) x ≡ true
 long_text_goes top (Next t) h n w end = quoting_goes t.mode (long_quoting t.mode h)
 long_text_goes top (Given x t) h n w end = h
 long_text_goes top (Left x t) h n w end = absurd h
@@ -85,14 +74,14 @@ long_text_goes top (Refused i e) h n w end = absurd n
 
 segment_goes : (p : Place) (s : Known) (top : Bool) (now : Now) (o : ℕ) → in_segment now s ≡ true → NotRefused (feed p s o) → waits_now top now (feed p s o)
     ≡ true
-segment_goes p s top (nows.Long w end) o h n = long_text_goes top (feed p s o)
+segment_goes p s top (Now.Long w end) o h n = long_text_goes top (feed p s o)
     (long_feed p s o (segment_text s.mode s.start (s.used - behind s.mode) (is_idle s.mode) h)) n w end
-segment_goes p s top (nows.Pending k end) o h n = absurd cc
-segment_goes p s top nows.Ready o h n = absurd cc
-segment_goes p s top nows.After o h n = absurd cc
-segment_goes p s top nows.Name o h n = absurd cc
-segment_goes p s top (nows.LongName w) o h n = absurd cc
-segment_goes p s top (nows.Keyed k) o h n = absurd cc
+segment_goes p s top (Now.Pending k end) o h n = absurd cc
+segment_goes p s top Now.Ready o h n = absurd cc
+segment_goes p s top Now.After o h n = absurd cc
+segment_goes p s top Now.Name o h n = absurd cc
+segment_goes p s top (Now.LongName w) o h n = absurd cc
+segment_goes p s top (Now.Keyed k) o h n = absurd cc
 
 -- What stays at an octet that isn't refused waits for more.
 pub unsettled_waits : (p : Place) (s : Known) (r : Reading) (o : ℕ) → NotRefused (feed p s o) → unsettled s r (feed p s o) ≡ true → waits r (feed p s o) ≡ true

@@ -1,42 +1,16 @@
 -- Octets that are tokens lead the reader of octets where the tokens lead the reader of tokens.
 use Rattle.std.proofs.Common.{◌≡◌, ℕ, ◌+◌, ◌-◌, ◌≤◌, ◌==◌, List, Bool, true, false, cond, ◌&&◌, ◌||◌, Ok, Err, Some, refl, ap, sym, ◌∙◌, subst, arith, ◌⊎◌, inl, inr}
 use Rattle.std.proofs.lemmas.Bool.Decides.{nat_tests}
-use Rattle.ion_atoms.specs.declared.refusal.Reason.TheVariants as reasons
-use Rattle.ion_tokens.specs.declared.mode.Place.{Place}
-use Rattle.ion_tokens.specs.declared.mode.Mode.{Mode}
-use Rattle.ion_tokens.specs.declared.mode.Mode.TheVariants as modes
-use Rattle.ion_tokens.specs.declared.mode.Style.TheVariants as styles
-use Rattle.ion_tokens.specs.declared.mode.Mark.{Mark}
-use Rattle.ion_tokens.specs.declared.mode.Mark.TheVariants as marks
-use Rattle.ion_tokens.specs.declared.mode.TokenKind.{TokenKind}
-use Rattle.ion_tokens.specs.declared.mode.TokenKind.TheVariants as kinds
-use Rattle.ion_tokens.specs.declared.mode.Action.{Action}
-use Rattle.ion_tokens.specs.declared.mode.Action.TheVariants as actions
-use Rattle.ion_tokens.specs.declared.mode.Within.TheVariants as within
-use Rattle.ion_tokens.specs.declared.mode.Keep.TheVariants as keeps
-use Rattle.ion_tokens.specs.machine.Table.{end_of, next, before, raw, in_text}
-use Rattle.ion_tokens.specs.Places.{is_sexp}
-use Rattle.ion_tokens.specs.machine.Bounds.{is_idle}
-use Rattle.ion_tokens.specs.Bodies.{Content, Word, Id, Quoted, Short, Long, Number', TypedNull, Operator, Clob, Blob, Mark', IsBody}
-use Rattle.ion_tokens.specs.machine.Scanning.{Known, Outcome, Next, Given, Left, acts, start_of, feed, at_end, ends_at}
-use Rattle.ion_tokens.specs.Lexemes.{Lexeme, is_segment}
-use Rattle.ion_tokens.specs.Lexed.{Placed}
-use Rattle.ion_text.specs.declared.state.Held.{Held}
-use Rattle.ion_text.specs.declared.state.Now.{Now}
-use Rattle.ion_text.specs.declared.state.Now.TheVariants as nows
-use Rattle.ion_text.specs.declared.state.Frame.{Frame}
-use Rattle.ion_text.specs.Grammar.{is_two_quotes}
-use Rattle.ion_text.specs.machine.Run.{waits_now, token_of, is_top}
-use Rattle.ion_text.specs.machine.TokenLists.{continues_now}
+use Rattle.ion_text.specs.Names.{Action, Blob, Clob, Content, Frame, Given, Held, Id, IsBody, Keep, Known, Left, Lexeme, Long, Mark, Mark', Mode, Next, Now, Number', Operator, Outcome, Place, Placed, Quoted, Reason, Short, Style, TokenKind, TypedNull, Within, Word, acts, at_end, before, continues_now, end_of, ends_at, feed, in_text, is_closing, is_colons, is_idle, is_quoted, is_quoting, is_sane, is_segment, is_sexp, is_top, is_two_quotes, raw, start_of, token_of, waits_now}
+use Rattle.ion_tokens.specs.machine.Table.{next}
 use Rattle.ion_text.specs.laws.reading.complete.Complete.{segment_kind}
-use Rattle.ion_text.specs.laws.reading.complete.Pieces.{quoted_kind}
-use Rattle.ion_tokens.specs.machine.Ahead.{is_quoting, is_sane, is_closing, is_colons, is_quoted}
-use Rattle.ion_text.specs.laws.reading.sound.Quotes.{Fine, left_none}
 use Rattle.ion_text.specs.laws.reading.complete.Exact.{Exact, exact}
-use Rattle.ion_text.specs.laws.reading.sound.Held.{or_parts}
-use Rattle.ion_text.specs.laws.reading.sound.StandsOpen.{no_segment}
-use Rattle.ion_text.specs.laws.reading.complete.Meets.{MeetsNext, begun_closing, begun_apart, finely_as, follows_as, IdleLeft, idle_left, text, raw_text, text_text}
 use Rattle.ion_text.specs.laws.reading.complete.Going.{mark_kind}
+use Rattle.ion_text.specs.laws.reading.complete.Meets.{IdleLeft, MeetsNext, begun_apart, begun_closing, finely_as, follows_as, idle_left, raw_text, text, text_text}
+use Rattle.ion_text.specs.laws.reading.complete.Pieces.{quoted_kind}
+use Rattle.ion_text.specs.laws.reading.sound.Held.{or_parts}
+use Rattle.ion_text.specs.laws.reading.sound.Quotes.{Fine, left_none}
+use Rattle.ion_text.specs.laws.reading.sound.StandsOpen.{no_segment}
 
 -- what a token says that isn't a mark, and is no segment
 
@@ -47,32 +21,32 @@ is_mark_said _ = false
 -- the octet at which a token is given or left shows what waits to go on, or not, as the token does
 
 no_colons : (k : TokenKind) (octets : List ℕ) (c : Content) → is_mark_said c ≡ false → IsBody k octets (Ok c) → is_colons k ≡ false
-no_colons (kinds.Mark m) octets c h b = absurd (let e : c ≡ Mark' m = cc in let n : false ≡ true = sym h ∙ ap is_mark_said e in cc)
-no_colons kinds.Word octets c h b = refl
-no_colons kinds.KindName octets c h b = refl
-no_colons kinds.Number octets c h b = refl
-no_colons kinds.Operator octets c h b = refl
-no_colons kinds.QuotedSymbol octets c h b = refl
-no_colons kinds.ShortString octets c h b = refl
-no_colons kinds.LongString octets c h b = refl
-no_colons kinds.Clob octets c h b = refl
-no_colons kinds.Blob octets c h b = refl
+no_colons (TokenKind.Mark m) octets c h b = absurd (let e : c ≡ Mark' m = cc in let n : false ≡ true = sym h ∙ ap is_mark_said e in cc)
+no_colons TokenKind.Word octets c h b = refl
+no_colons TokenKind.KindName octets c h b = refl
+no_colons TokenKind.Number octets c h b = refl
+no_colons TokenKind.Operator octets c h b = refl
+no_colons TokenKind.QuotedSymbol octets c h b = refl
+no_colons TokenKind.ShortString octets c h b = refl
+no_colons TokenKind.LongString octets c h b = refl
+no_colons TokenKind.Clob octets c h b = refl
+no_colons TokenKind.Blob octets c h b = refl
 
-mark_colons : (m : Mark) (top : Bool) (h : Held) (e start end : ℕ) → is_colons (kinds.Mark m)
-    ≡ continues_now top (nows.Pending h e) (record { start = start; end = end; said = Mark' m })
-mark_colons marks.Colons top h e start end = refl
-mark_colons marks.Colon top h e start end = refl
-mark_colons marks.Comma top h e start end = refl
-mark_colons marks.FieldsOpen top h e start end = refl
-mark_colons marks.FieldsClose top h e start end = refl
-mark_colons marks.ListOpen top h e start end = refl
-mark_colons marks.ListClose top h e start end = refl
-mark_colons marks.SexpOpen top h e start end = refl
-mark_colons marks.SexpClose top h e start end = refl
+mark_colons : (m : Mark) (top : Bool) (h : Held) (e start end : ℕ) → is_colons (TokenKind.Mark m)
+    ≡ continues_now top (Now.Pending h e) (record { start = start; end = end; said = Mark' m })
+mark_colons Mark.Colons top h e start end = refl
+mark_colons Mark.Colon top h e start end = refl
+mark_colons Mark.Comma top h e start end = refl
+mark_colons Mark.FieldsOpen top h e start end = refl
+mark_colons Mark.FieldsClose top h e start end = refl
+mark_colons Mark.ListOpen top h e start end = refl
+mark_colons Mark.ListClose top h e start end = refl
+mark_colons Mark.SexpOpen top h e start end = refl
+mark_colons Mark.SexpClose top h e start end = refl
 
 -- a token is `::` just where a symbol that waits goes on with what it says
 pub colons_agree : (top : Bool) (h : Held) (e start end : ℕ) (k : TokenKind) (octets : List ℕ) (c : Content) → IsBody k octets (Ok c)
-    → is_colons k ≡ continues_now top (nows.Pending h e) (record { start = start; end = end; said = c })
+    → is_colons k ≡ continues_now top (Now.Pending h e) (record { start = start; end = end; said = c })
 colons_agree top h e start end k octets (Mark' m) b = ap is_colons (mark_kind k octets m b) ∙ mark_colons m top h e start end
 colons_agree top h e start end k octets (Word w) b = no_colons k octets (Word w) refl b
 colons_agree top h e start end k octets (Id n) b = no_colons k octets (Id n) refl b
@@ -111,20 +85,20 @@ both_no false = refl
 -- a token that says neither is neither a segment nor quoted
 pub neither : (top : Bool) (start end : ℕ) (k : TokenKind) (octets : List ℕ) (c : Content) → ((w : List ℕ) → c ≡ Long w → ⊥) → ((w : List ℕ) → c ≡ Quoted w → ⊥)
     → IsBody k octets (Ok c) → (is_segment k || (top && is_two_quotes k start end)) ≡ false
-neither top start end kinds.LongString octets c n m b = absurd (n octets b.0)
-neither top start end kinds.QuotedSymbol octets c n m b = absurd (m octets b.0)
-neither top start end kinds.Word octets c n m b = both_no top
-neither top start end kinds.KindName octets c n m b = both_no top
-neither top start end kinds.Number octets c n m b = both_no top
-neither top start end kinds.Operator octets c n m b = both_no top
-neither top start end kinds.ShortString octets c n m b = both_no top
-neither top start end kinds.Clob octets c n m b = both_no top
-neither top start end kinds.Blob octets c n m b = both_no top
-neither top start end (kinds.Mark x) octets c n m b = both_no top
+neither top start end TokenKind.LongString octets c n m b = absurd (n octets b.0)
+neither top start end TokenKind.QuotedSymbol octets c n m b = absurd (m octets b.0)
+neither top start end TokenKind.Word octets c n m b = both_no top
+neither top start end TokenKind.KindName octets c n m b = both_no top
+neither top start end TokenKind.Number octets c n m b = both_no top
+neither top start end TokenKind.Operator octets c n m b = both_no top
+neither top start end TokenKind.ShortString octets c n m b = both_no top
+neither top start end TokenKind.Clob octets c n m b = both_no top
+neither top start end TokenKind.Blob octets c n m b = both_no top
+neither top start end (TokenKind.Mark x) octets c n m b = both_no top
 
 -- a long string goes on with a segment, and at the top level with `''`
 pub long_goes : (top : Bool) (w : List ℕ) (e start end : ℕ) (k : TokenKind) (octets : List ℕ) (c : Content) → IsBody k octets (Ok c)
-    → continues_now top (nows.Long w e) (record { start = start; end = end; said = c }) ≡ (is_segment k || (top && is_two_quotes k start end))
+    → continues_now top (Now.Long w e) (record { start = start; end = end; said = c }) ≡ (is_segment k || (top && is_two_quotes k start end))
 long_goes top w e start end k octets (Long v) b = sym (ap (λ x. x || (top && is_two_quotes k start end)) (segment_kind k octets v b))
 long_goes top w e start end k octets (Quoted v) b = sym (ap (λ x. is_segment x || (top && is_two_quotes x start end)) (quoted_kind k octets v b))
 long_goes top w e start end k octets (Mark' m) b = sym (neither top start end k octets (Mark' m) (λ x y. cc) (λ x y. cc) b)
@@ -138,7 +112,7 @@ long_goes top w e start end k octets (Clob v) b = sym (neither top start end k o
 long_goes top w e start end k octets (Blob v) b = sym (neither top start end k octets (Blob v) (λ x y. cc) (λ x y. cc) b)
 
 name_goes : (top : Bool) (w : List ℕ) (start end : ℕ) (k : TokenKind) (octets : List ℕ) (c : Content) → IsBody k octets (Ok c)
-    → continues_now top (nows.LongName w) (record { start = start; end = end; said = c }) ≡ is_segment k
+    → continues_now top (Now.LongName w) (record { start = start; end = end; said = c }) ≡ is_segment k
 name_goes top w start end k octets (Long v) b = sym (segment_agree k octets (Long v) b)
 name_goes top w start end k octets (Mark' v) b = sym (segment_agree k octets (Mark' v) b)
 name_goes top w start end k octets (Word v) b = sym (segment_agree k octets (Word v) b)
@@ -152,7 +126,7 @@ name_goes top w start end k octets (Clob v) b = sym (segment_agree k octets (Clo
 name_goes top w start end k octets (Blob v) b = sym (segment_agree k octets (Blob v) b)
 
 closing_colons : (k : TokenKind) → is_closing k ≡ false → is_colons k ≡ false
-closing_colons (kinds.Mark marks.Colons) h = absurd cc
+closing_colons (TokenKind.Mark Mark.Colons) h = absurd cc
 closing_colons _ h = refl
 
 or_false : (a b top : Bool) → a ≡ false → b ≡ false → (a || (top && b)) ≡ false
@@ -168,63 +142,63 @@ or_none false b false h = refl
 pub next_agrees : (fs : List Frame) (now : Now) (s : Known) (t : Placed) (c : Content) → MeetsNext s t
     → is_sane s.mode ≡ true → Fine s → IsBody t.lexeme.kind t.lexeme.octets (Ok c) → waits_now (is_top fs) now (Next s) ≡ false
     → continues_now (is_top fs) now (token_of t.lexeme c) ≡ false
-next_agrees fs (nows.Pending h e) s t c m sane f b w = sym (colons_agree (is_top fs) h e t.lexeme.start t.lexeme.end t.lexeme.kind t.lexeme.octets c b)
+next_agrees fs (Now.Pending h e) s t c m sane f b w = sym (colons_agree (is_top fs) h e t.lexeme.start t.lexeme.end t.lexeme.kind t.lexeme.octets c b)
     ∙ closing_colons t.lexeme.kind (begun_closing s t m sane w)
-next_agrees fs (nows.Long v e) s t c m sane f b w =
+next_agrees fs (Now.Long v e) s t c m sane f b w =
     let x = begun_apart s t m sane f (or_parts (is_idle s.mode) (is_quoting s.mode) w) in
     long_goes (is_top fs) v e t.lexeme.start t.lexeme.end t.lexeme.kind t.lexeme.octets c b
     ∙ or_false (is_segment t.lexeme.kind) (is_two_quotes t.lexeme.kind t.lexeme.start t.lexeme.end) (is_top fs) x.0 x.1
-next_agrees fs (nows.LongName v) s t c m sane f b w =
+next_agrees fs (Now.LongName v) s t c m sane f b w =
     let x = begun_apart s t m sane f (or_parts (is_idle s.mode) (is_quoting s.mode) w) in
     name_goes (is_top fs) v t.lexeme.start t.lexeme.end t.lexeme.kind t.lexeme.octets c b ∙ x.0
-next_agrees fs nows.Ready s t c m sane f b w = refl
-next_agrees fs nows.After s t c m sane f b w = refl
-next_agrees fs nows.Name s t c m sane f b w = refl
-next_agrees fs (nows.Keyed x) s t c m sane f b w = refl
+next_agrees fs Now.Ready s t c m sane f b w = refl
+next_agrees fs Now.After s t c m sane f b w = refl
+next_agrees fs Now.Name s t c m sane f b w = refl
+next_agrees fs (Now.Keyed x) s t c m sane f b w = refl
 
 -- a token that is given
 pub given_agrees : (fs : List Frame) (now : Now) (s : Known) (x : Lexeme) (c : Content) → IsBody x.kind x.octets (Ok c) → is_two_quotes x.kind x.start x.end
     ≡ false → waits_now (is_top fs) now (Given x s) ≡ continues_now (is_top fs) now (token_of x c)
-given_agrees fs (nows.Pending h e) s x c b two = colons_agree (is_top fs) h e x.start x.end x.kind x.octets c b
-given_agrees fs (nows.Long v e) s x c b two = or_none (is_segment x.kind) (is_two_quotes x.kind x.start x.end) (is_top fs) two
+given_agrees fs (Now.Pending h e) s x c b two = colons_agree (is_top fs) h e x.start x.end x.kind x.octets c b
+given_agrees fs (Now.Long v e) s x c b two = or_none (is_segment x.kind) (is_two_quotes x.kind x.start x.end) (is_top fs) two
     ∙ sym (long_goes (is_top fs) v e x.start x.end x.kind x.octets c b)
-given_agrees fs (nows.LongName v) s x c b two = sym (name_goes (is_top fs) v x.start x.end x.kind x.octets c b)
-given_agrees fs nows.Ready s x c b two = refl
-given_agrees fs nows.After s x c b two = refl
-given_agrees fs nows.Name s x c b two = refl
-given_agrees fs (nows.Keyed y) s x c b two = refl
+given_agrees fs (Now.LongName v) s x c b two = sym (name_goes (is_top fs) v x.start x.end x.kind x.octets c b)
+given_agrees fs Now.Ready s x c b two = refl
+given_agrees fs Now.After s x c b two = refl
+given_agrees fs Now.Name s x c b two = refl
+given_agrees fs (Now.Keyed y) s x c b two = refl
 
 -- a token that is left
 pub left_agrees : (fs : List Frame) (now : Now) (s : Known) (x : Lexeme) (c : Content) → IsBody x.kind x.octets (Ok c) → is_colons x.kind ≡ false
     → is_segment x.kind ≡ false → is_two_quotes x.kind x.start x.end ≡ is_quoted x.kind → waits_now (is_top fs) now (Left x s)
     ≡ continues_now (is_top fs) now (token_of x c)
-left_agrees fs (nows.Pending h e) s x c b col seg two = sym col ∙ colons_agree (is_top fs) h e x.start x.end x.kind x.octets c b
-left_agrees fs (nows.Long v e) s x c b col seg two = ap (λ y. is_top fs && y) (sym two)
+left_agrees fs (Now.Pending h e) s x c b col seg two = sym col ∙ colons_agree (is_top fs) h e x.start x.end x.kind x.octets c b
+left_agrees fs (Now.Long v e) s x c b col seg two = ap (λ y. is_top fs && y) (sym two)
     ∙ (sym (ap (λ y. y || (is_top fs && is_two_quotes x.kind x.start x.end)) seg) ∙ sym (long_goes (is_top fs) v e x.start x.end x.kind x.octets c b))
-left_agrees fs (nows.LongName v) s x c b col seg two = sym (name_goes (is_top fs) v x.start x.end x.kind x.octets c b ∙ seg)
-left_agrees fs nows.Ready s x c b col seg two = refl
-left_agrees fs nows.After s x c b col seg two = refl
-left_agrees fs nows.Name s x c b col seg two = refl
-left_agrees fs (nows.Keyed y) s x c b col seg two = refl
+left_agrees fs (Now.LongName v) s x c b col seg two = sym (name_goes (is_top fs) v x.start x.end x.kind x.octets c b ∙ seg)
+left_agrees fs Now.Ready s x c b col seg two = refl
+left_agrees fs Now.After s x c b col seg two = refl
+left_agrees fs Now.Name s x c b col seg two = refl
+left_agrees fs (Now.Keyed y) s x c b col seg two = refl
 
 -- what is left where quotes are open
 text_no_left : (long : Bool) (p : Place) (s s' : Known) (o : ℕ) (x : Lexeme) (a : Action) → text long a ≡ true → acts p s o a ≡ Left x s' → ⊥
-text_no_left long p s s' o x (actions.Go m k) h e = cc
-text_no_left long p s s' o x (actions.Give m k) h e = cc
-text_no_left long p s s' o x (actions.Refuse y) h e = cc
-text_no_left long p s s' o x (actions.Before kind k m) h e = cc
-text_no_left long p s s' o x actions.EndWord h e = cc
-text_no_left long p s s' o x (actions.Split n) h e = cc
-text_no_left long p s s' o x actions.EndBlob h e = cc
+text_no_left long p s s' o x (Action.Go m k) h e = cc
+text_no_left long p s s' o x (Action.Give m k) h e = cc
+text_no_left long p s s' o x (Action.Refuse y) h e = cc
+text_no_left long p s s' o x (Action.Before kind k m) h e = cc
+text_no_left long p s s' o x Action.EndWord h e = cc
+text_no_left long p s s' o x (Action.Split n) h e = cc
+text_no_left long p s s' o x Action.EndBlob h e = cc
 
 lexeme_in : Lexeme → Outcome → Lexeme
 lexeme_in d (Left x s) = x
 lexeme_in d _ = d
 
 abbrev pub IsEmptyQuotes : Known → Lexeme → Type 0
-IsEmptyQuotes s x = (x.kind ≡ kinds.QuotedSymbol) × (x.end ≡ x.start + 2)
+IsEmptyQuotes s x = (x.kind ≡ TokenKind.QuotedSymbol) × (x.end ≡ x.start + 2)
 
-quotes_left : (p : Place) (s s' : Known) (o : ℕ) (x : Lexeme) → Exact s → s.mode ≡ modes.Quotes → feed p s o ≡ Left x s' → IsEmptyQuotes s x
+quotes_left : (p : Place) (s s' : Known) (o : ℕ) (x : Lexeme) → Exact s → s.mode ≡ Mode.Quotes → feed p s o ≡ Left x s' → IsEmptyQuotes s x
 unfolding lexeme_in
 quotes_left p s s' o x f e h = go (o == 39) (sym (ap (λ m. acts p s o (next p s.colon m o)) e) ∙ h)
   where
@@ -234,12 +208,12 @@ quotes_left p s s' o x f e h = go (o == 39) (sym (ap (λ m. acts p s o (next p s
     starts : start_of s.mode s.start s.used ≡ s.start
     starts = ap (λ m. start_of m s.start s.used) e
 
-    go : (b : Bool) → acts p s o (cond b (actions.Go (modes.Text styles.LongString within.Plain) keeps.Nothing) (before kinds.QuotedSymbol)) ≡ Left x s'
+    go : (b : Bool) → acts p s o (cond b (Action.Go (Mode.Text Style.LongString Within.Plain) Keep.Nothing) (before TokenKind.QuotedSymbol)) ≡ Left x s'
         → IsEmptyQuotes s x
     go true k = absurd cc
     go false k =
         let same = ap (lexeme_in x) k in
-        let kind : kinds.QuotedSymbol ≡ x.kind = ap (λ (y : Lexeme). y.kind) same in
+        let kind : TokenKind.QuotedSymbol ≡ x.kind = ap (λ (y : Lexeme). y.kind) same in
         let from : start_of s.mode s.start s.used ≡ x.start = ap (λ (y : Lexeme). y.start) same in
         let to : s.used - 0 ≡ x.end = ap (λ (y : Lexeme). y.end) same in
         (sym kind, omega (arith, from, to, span, starts))
@@ -249,33 +223,33 @@ pub quoting_left : (p : Place) (s s' : Known) (o : ℕ) (x : Lexeme) → Exact s
 quoting_left p s s' o x f q h = go s.mode refl q
   where
     go : (m : Mode) → s.mode ≡ m → is_quoting m ≡ true → IsEmptyQuotes s x
-    go modes.Quotes e k = quotes_left p s s' o x f e h
-    go modes.Quote e k = absurd (quote (o == 39) (sym (ap (λ m. acts p s o (next p s.colon m o)) e) ∙ h))
+    go Mode.Quotes e k = quotes_left p s s' o x f e h
+    go Mode.Quote e k = absurd (quote (o == 39) (sym (ap (λ m. acts p s o (next p s.colon m o)) e) ∙ h))
       where
-        quote : (b : Bool) → acts p s o (cond b (actions.Go modes.Quotes keeps.Nothing) (raw styles.QuotedSymbol o)) ≡ Left x s' → ⊥
+        quote : (b : Bool) → acts p s o (cond b (Action.Go Mode.Quotes Keep.Nothing) (raw Style.QuotedSymbol o)) ≡ Left x s' → ⊥
         quote true k = cc
-        quote false k = text_no_left false p s s' o x (raw styles.QuotedSymbol o) (raw_text styles.QuotedSymbol o).is k
-    go (modes.Text styles.LongString w) e k = absurd (text_no_left true p s s' o x (in_text styles.LongString w o) (text_text styles.LongString w o).is
+        quote false k = text_no_left false p s s' o x (raw Style.QuotedSymbol o) (raw_text Style.QuotedSymbol o).is k
+    go (Mode.Text Style.LongString w) e k = absurd (text_no_left true p s s' o x (in_text Style.LongString w o) (text_text Style.LongString w o).is
         (sym (ap (λ m. acts p s o (next p s.colon m o)) e) ∙ h))
-    go (modes.Text styles.ShortString w) e k = absurd cc
-    go (modes.Text styles.QuotedSymbol w) e k = absurd cc
-    go (modes.Text styles.ShortClob w) e k = absurd cc
-    go (modes.Text styles.LongClob w) e k = absurd cc
-    go modes.Blank e k = absurd cc
-    go modes.Slash e k = absurd cc
-    go modes.LineComment e k = absurd cc
-    go modes.BlockComment e k = absurd cc
-    go modes.BlockCommentStar e k = absurd cc
-    go modes.Colon e k = absurd cc
-    go modes.Word e k = absurd cc
-    go modes.KindName e k = absurd cc
-    go modes.Number e k = absurd cc
-    go modes.NumberSlash e k = absurd cc
-    go (modes.Operator y) e k = absurd cc
-    go modes.OperatorSlash e k = absurd cc
-    go (modes.Infinity n) e k = absurd cc
-    go modes.Brace e k = absurd cc
-    go (modes.Lob y) e k = absurd cc
+    go (Mode.Text Style.ShortString w) e k = absurd cc
+    go (Mode.Text Style.QuotedSymbol w) e k = absurd cc
+    go (Mode.Text Style.ShortClob w) e k = absurd cc
+    go (Mode.Text Style.LongClob w) e k = absurd cc
+    go Mode.Blank e k = absurd cc
+    go Mode.Slash e k = absurd cc
+    go Mode.LineComment e k = absurd cc
+    go Mode.BlockComment e k = absurd cc
+    go Mode.BlockCommentStar e k = absurd cc
+    go Mode.Colon e k = absurd cc
+    go Mode.Word e k = absurd cc
+    go Mode.KindName e k = absurd cc
+    go Mode.Number e k = absurd cc
+    go Mode.NumberSlash e k = absurd cc
+    go (Mode.Operator y) e k = absurd cc
+    go Mode.OperatorSlash e k = absurd cc
+    go (Mode.Infinity n) e k = absurd cc
+    go Mode.Brace e k = absurd cc
+    go (Mode.Lob y) e k = absurd cc
 
 two_test : (a b : ℕ) → b ≡ a + 2 → (b == a + 2) ≡ true
 two_test a b h = grind (arith, nat_tests)
@@ -296,7 +270,7 @@ left_two p s s' o x f e h = go (is_quoting s.mode) refl
 pub left_colons : (p : Place) (s s' : Known) (o : ℕ) (x : Lexeme) → is_sane s.mode ≡ true → feed p s o ≡ Left x s' → is_colons x.kind ≡ false
 left_colons p s s' o x h e = go (is_idle s.mode) refl
   where
-    idle : ((x.kind ≡ kinds.Mark marks.Colon) × (s.used ≤ x.end)) ⊎ ((x.kind ≡ kinds.Operator) × (is_sexp p ≡ true)) → is_colons x.kind ≡ false
+    idle : ((x.kind ≡ TokenKind.Mark Mark.Colon) × (s.used ≤ x.end)) ⊎ ((x.kind ≡ TokenKind.Operator) × (is_sexp p ≡ true)) → is_colons x.kind ≡ false
     idle (inl k) = ap is_colons k.0
     idle (inr k) = ap is_colons k.0
 
@@ -310,21 +284,21 @@ pub quotes_end : (p : Place) (s : Known) (x : Lexeme) → is_quoting s.mode ≡ 
 quotes_end p s x q f e = go s.mode refl q (ap (λ m. ends_at s (end_of p m)) refl ∙ e)
   where
     go : (m : Mode) → s.mode ≡ m → is_quoting m ≡ true → ends_at s (end_of p m) ≡ Ok (Some x) → s.used ≡ start_of s.mode s.start s.used + 2
-    go modes.Quotes h k y = subst (λ m. exact m s.start s.used) h f.is ∙ ap (λ m. start_of m s.start s.used + 2) (sym h)
-    go modes.Quote h k y = absurd (let n : Err reasons.Incomplete ≡ Ok (Some x) = y in cc)
-    go (modes.Text t w) h k y = absurd (let n : Err reasons.Incomplete ≡ Ok (Some x) = y in cc)
-    go modes.Blank h k y = absurd cc
-    go modes.Slash h k y = absurd cc
-    go modes.LineComment h k y = absurd cc
-    go modes.BlockComment h k y = absurd cc
-    go modes.BlockCommentStar h k y = absurd cc
-    go modes.Colon h k y = absurd cc
-    go modes.Word h k y = absurd cc
-    go modes.KindName h k y = absurd cc
-    go modes.Number h k y = absurd cc
-    go modes.NumberSlash h k y = absurd cc
-    go (modes.Operator z) h k y = absurd cc
-    go modes.OperatorSlash h k y = absurd cc
-    go (modes.Infinity n) h k y = absurd cc
-    go modes.Brace h k y = absurd cc
-    go (modes.Lob z) h k y = absurd cc
+    go Mode.Quotes h k y = subst (λ m. exact m s.start s.used) h f.is ∙ ap (λ m. start_of m s.start s.used + 2) (sym h)
+    go Mode.Quote h k y = absurd (let n : Err Reason.Incomplete ≡ Ok (Some x) = y in cc)
+    go (Mode.Text t w) h k y = absurd (let n : Err Reason.Incomplete ≡ Ok (Some x) = y in cc)
+    go Mode.Blank h k y = absurd cc
+    go Mode.Slash h k y = absurd cc
+    go Mode.LineComment h k y = absurd cc
+    go Mode.BlockComment h k y = absurd cc
+    go Mode.BlockCommentStar h k y = absurd cc
+    go Mode.Colon h k y = absurd cc
+    go Mode.Word h k y = absurd cc
+    go Mode.KindName h k y = absurd cc
+    go Mode.Number h k y = absurd cc
+    go Mode.NumberSlash h k y = absurd cc
+    go (Mode.Operator z) h k y = absurd cc
+    go Mode.OperatorSlash h k y = absurd cc
+    go (Mode.Infinity n) h k y = absurd cc
+    go Mode.Brace h k y = absurd cc
+    go (Mode.Lob z) h k y = absurd cc

@@ -2,35 +2,17 @@
 use Rattle.std.proofs.Common.{◌≡◌, ℕ, ◌+◌, ◌≤◌, ◌==◌, ◌&&◌, ◌||◌, Bool, true, false, List, [], ◌∷◌, ◌++◌, length, Ok, refl, sym, ap, ◌∙◌, subst, arith, append_assoc, append-nil, length-append, inl, inr, codes}
 use Rattle.std.proofs.lemmas.List.{append_cancel_left}
 use Rattle.std.proofs.lemmas.Bool.Decides.{nat_tests}
-use Rattle.ion_model.specs.declared.value.Value.{Value}
-use Rattle.ion_model.specs.Measures.{nodes}
-use Rattle.ion_symtab.specs.declared.limits.Limits.{Limits}
-use Rattle.ion_symtab.specs.declared.catalog.Catalog.{Catalog}
-use Rattle.ion_symtab.specs.Slots.{system_slots}
-use Rattle.ion_tokens.specs.declared.mode.Mark.TheVariants as marks
-use Rattle.ion_tokens.specs.declared.mode.Place.TheVariants as places
-use Rattle.ion_tokens.specs.declared.mode.TokenKind.{TokenKind}
-use Rattle.ion_tokens.specs.declared.mode.TokenKind.TheVariants as kinds
-use Rattle.ion_tokens.specs.Bodies.{Content, Mark', IsBody}
-use Rattle.ion_tokens.specs.Places.{is_sexp}
-use Rattle.ion_tokens.specs.machine.Said.{said}
-use Rattle.ion_tokens.specs.machine.Scanning.{initial}
-use Rattle.ion_tokens.specs.Lexed.{Placed, BeginsWith, LexesTo, colon_behind}
-use Rattle.ion_text.specs.Grammar.{Whole, ends_long, begins_as_long, is_two_quotes, is_long}
-use Rattle.ion_text.specs.machine.EachToken.{Reading, Turn, goes, gives, refuses, late, fresh, place, settle, turn}
-use Rattle.ion_text.specs.machine.Run.{token_of}
-use Rattle.ion_text.specs.machine.TokenLists.{walked, adds_values, done, on_turn, continues, reads}
-use Rattle.ion_text.specs.machine.Passed.{said_body}
-use Rattle.ion_text.specs.machine.Places.{Leading, settle_still}
+use Rattle.ion_text.specs.Names.{BeginsWith, Catalog, Content, IsBody, Leading, LexesTo, Limits, Mark, Mark', Place, Placed, Reading, TokenKind, Turn, Value, Whole, adds_values, begins_as_long, colon_behind, continues, done, ends_long, fresh, gives, goes, initial, is_long, is_sexp, is_two_quotes, late, nodes, on_turn, place, reads, refuses, said, said_body, settle, settle_still, system_slots, token_of, turn}
+use Rattle.ion_text.specs.machine.TokenLists.{walked}
 use Rattle.ion_text.specs.laws.reading.complete.Complete.{Begins}
-use Rattle.ion_text.specs.laws.reading.complete.Pieces.{ReadSoFar, pieces_read, walked_now, more_read}
-use Rattle.ion_text.specs.laws.reading.complete.Going.{Going, TurnGoes, going_said, going_turn, going_settle, mark_kind}
-use Rattle.ion_text.specs.laws.reading.small.Sizes.{open_nodes, wait_end, Weighs, turn_weighs, settle_weighs}
+use Rattle.ion_text.specs.laws.reading.complete.Going.{Going, TurnGoes, going_said, going_settle, going_turn, mark_kind}
+use Rattle.ion_text.specs.laws.reading.complete.Pieces.{ReadSoFar, more_read, pieces_read, walked_now}
+use Rattle.ion_text.specs.laws.reading.small.Sizes.{Weighs, open_nodes, settle_weighs, turn_weighs, wait_end}
+use Rattle.ion_text.specs.laws.showing.shown.Opened.{blank_token, colons_token, long_token, quoted_token, segment_is}
+use Rattle.ion_text.specs.laws.showing.tokens.Compare.{Compared, Found', begins_after, compare, lexes_once}
 use Rattle.ion_text.specs.laws.showing.tokens.Cuts.{Parted, parted}
-use Rattle.ion_text.specs.laws.showing.tokens.Compare.{Found', Compared, compare, lexes_once, begins_after}
-use Rattle.ion_text.specs.laws.showing.tokens.Once.{going_once, some_token, operator_inside, whole_going, whole_found, whole_operators, whole_ends}
-use Rattle.ion_text.specs.laws.showing.shown.Opened.{segment_is, blank_token, colons_token, long_token, quoted_token}
-use Rattle.ion_text.specs.laws.showing.tokens.Walks.{walking_said, adds_is, behind_read}
+use Rattle.ion_text.specs.laws.showing.tokens.Once.{going_once, operator_inside, some_token, whole_ends, whole_found, whole_going, whole_operators}
+use Rattle.ion_text.specs.laws.showing.tokens.Walks.{adds_is, behind_read, walking_said}
 
 -- 1. Tokens that give one value: it has at most as many nodes as they are, and as are open before them.
 
@@ -123,7 +105,7 @@ tokens_far (t ∷ ts) colon before octets after end rest (q, b, h) =
     )
 
 module _ (g : Catalog) (l : Limits) (front following : List ℕ) (s : List Value) (w : Whole g l front following s) (y : Placed) (ys : List Placed) (after : Bool)
-    (end : ℕ) (rest : List ℕ) (lexed : LexesTo false 0 (front ++ following) (w.tokens ++ y ∷ ys) after end rest) (top : y.place ≡ places.Top) where
+    (end : ℕ) (rest : List ℕ) (lexed : LexesTo false 0 (front ++ following) (w.tokens ++ y ∷ ys) after end rest) (top : y.place ≡ Place.Top) where
   parts : Parted false 0 (front ++ following) w.tokens (y ∷ ys) after end rest
   parts = parted w.tokens (y ∷ ys) false 0 (front ++ following) after end rest lexed
 
@@ -160,9 +142,9 @@ module _ (g : Catalog) (l : Limits) (front following : List ℕ) (s : List Value
     unfolding content is
     body = said_body y.lexeme.kind y.lexeme.octets content is.2
 
-    no_colons : content ≡ Mark' marks.Colons → ⊥
+    no_colons : content ≡ Mark' Mark.Colons → ⊥
     no_colons h =
-        let kind = mark_kind y.lexeme.kind y.lexeme.octets marks.Colons (subst (λ z. IsBody y.lexeme.kind y.lexeme.octets (Ok z)) h body) in
+        let kind = mark_kind y.lexeme.kind y.lexeme.octets Mark.Colons (subst (λ z. IsBody y.lexeme.kind y.lexeme.octets (Ok z)) h body) in
         let i = colons_token y.place parts.flag token.token (parts.second).0 y.lexeme.kind y.lexeme.octets token.is kind in
         w.no_annotation (sym one.0 ∙ i.1) (blank_token (codes "::") [] parts.left (w.blank ++ following) (parts.second).0 parts.flag parts.mid y token
         (i.0 ∙ sym (append-nil (codes "::"))) one.2)
@@ -171,20 +153,20 @@ module _ (g : Catalog) (l : Limits) (front following : List ℕ) (s : List Value
     quotes h z i = w.no_segment h (blank_token (codes "''") z parts.left (w.blank ++ following) (parts.second).0 parts.flag parts.mid y token i one.2)
 
     two_quotes : (k : TokenKind) → y.lexeme.kind ≡ k → is_two_quotes k y.lexeme.start y.lexeme.end ≡ true → token.token ≡ codes "''" ++ []
-    two_quotes kinds.QuotedSymbol e h = quoted_token y.place parts.flag token.token (parts.second).0 y.lexeme.kind y.lexeme.octets token.is e
+    two_quotes TokenKind.QuotedSymbol e h = quoted_token y.place parts.flag token.token (parts.second).0 y.lexeme.kind y.lexeme.octets token.is e
         (wide y.lexeme.start y.lexeme.end h (omega (arith, token.start, token.end)))
       where
         wide : (start end : ℕ) → (end == start + 2) ≡ true → end ≡ start + length token.token → length token.token ≡ 2
         wide start end h i = grind (arith, nat_tests)
-    two_quotes kinds.Word e h = absurd cc
-    two_quotes kinds.KindName e h = absurd cc
-    two_quotes kinds.Number e h = absurd cc
-    two_quotes kinds.Operator e h = absurd cc
-    two_quotes kinds.ShortString e h = absurd cc
-    two_quotes kinds.LongString e h = absurd cc
-    two_quotes kinds.Clob e h = absurd cc
-    two_quotes kinds.Blob e h = absurd cc
-    two_quotes (kinds.Mark m) e h = absurd cc
+    two_quotes TokenKind.Word e h = absurd cc
+    two_quotes TokenKind.KindName e h = absurd cc
+    two_quotes TokenKind.Number e h = absurd cc
+    two_quotes TokenKind.Operator e h = absurd cc
+    two_quotes TokenKind.ShortString e h = absurd cc
+    two_quotes TokenKind.LongString e h = absurd cc
+    two_quotes TokenKind.Clob e h = absurd cc
+    two_quotes TokenKind.Blob e h = absurd cc
+    two_quotes (TokenKind.Mark m) e h = absurd cc
 
     no_long : ends_long w.tokens ≡ true → begins_as_long (y ∷ ys) ≡ true → ⊥
     no_long h i = by (is_long y) refl
@@ -209,7 +191,7 @@ module _ (g : Catalog) (l : Limits) (front following : List ℕ) (s : List Value
     -- they are read where nothing is open, and give the values behind
     pub goes_behind : (more : List Value) × (all ≡ s ++ more) × Going g l (fresh w.context) (y ∷ ys) more
     goes_behind =
-        let first : Begins g l places.Top (y ∷ ys) = record {
+        let first : Begins g l Place.Top (y ∷ ys) = record {
           first = y;
           later = ys;
           said = content;

@@ -1,66 +1,32 @@
 -- No more octets are kept than an item may have.
 use Rattle.std.proofs.Common.{◌≡◌, ℕ, zero, suc, ◌+◌, ◌-◌, ◌≤◌, Bool, true, false, ◌&&◌, ◌||◌, not, nat_le, List, [], ◌∷◌, ◌++◌, length, Result, Ok, Err, Option, Some, None, refl, sym, ap, ◌∙◌, subst, arith, ◌⊎◌, inl, inr, if◌then◌else◌}
-use Rattle.ion_model.specs.declared.value.Value.{Value}
-use Rattle.ion_model.specs.declared.value.Payload.{Payload}
-use Rattle.ion_atoms.specs.declared.refusal.Reason.{Reason}
-use Rattle.ion_atoms.specs.declared.refusal.Reason.TheVariants as reasons
-use Rattle.ion_symtab.specs.declared.limits.Limits.{Limits}
-use Rattle.ion_symtab.specs.declared.catalog.Catalog.{Catalog}
-use Rattle.ion_symtab.specs.Slots.{Slot}
-use Rattle.ion_symtab.specs.Trace.{plain}
-use Rattle.ion_tokens.specs.declared.mode.Place.{Place}
-use Rattle.ion_tokens.specs.declared.mode.Mode.{Mode}
-use Rattle.ion_tokens.specs.declared.mode.Mode.TheVariants as modes
-use Rattle.ion_tokens.specs.declared.mode.Style.TheVariants as styles
-use Rattle.ion_tokens.specs.declared.mode.TokenKind.TheVariants as kinds
-use Rattle.ion_tokens.specs.declared.token.Begun.{Begun}
-use Rattle.ion_tokens.specs.declared.token.Form.{Form}
-use Rattle.ion_tokens.specs.declared.token.Form.TheVariants as forms
-use Rattle.ion_tokens.specs.machine.Ahead.{Follows, is_long_form, is_sane}
-use Rattle.ion_tokens.specs.Bodies.{Content, Operator, IsBody}
-use Rattle.ion_tokens.specs.machine.Bounds.{is_idle, unkept, IsSteady}
+use Rattle.ion_text.specs.Names.{Begun, Catalog, Content, Effect, Follows, Form, Frame, Given, Held, IsBody, IsSteady, Known, Leading, Left, Lexeme, LexesTo, Limits, Mode, Next, Now, Operator, Outcome, Payload, Place, Placed, Ran, Reading, Reason, Refused, Run, Slot, Spot, State, Style, Symbols, TokenKind, Turn, Value, at, begun, begun_in, behind, behind_given, behind_left, ended, fails, feed, form_of, gives, goes, held_in, held_payload, is_idle, is_long_begun, is_long_form, is_sane, is_sexp, is_top, late, leaves, longest_top, noticed, on_octet, on_said, on_scan, on_settled, or_worse, paid, place, place_in, plain, reaches, refuses, released, run, said, said_body, settle, settle_same, settled, shut, spot_at, takes, tells, token_at, token_of, turn, turn_now, under, unkept, unsettled, uses, with_scan}
 use Rattle.ion_tokens.specs.laws.Follows.{feed_follows}
-use Rattle.ion_tokens.specs.Lexed.{Placed, LexesTo}
-use Rattle.ion_tokens.specs.Places.{is_sexp}
-use Rattle.ion_tokens.specs.machine.Said.{said}
-use Rattle.ion_tokens.specs.machine.Scanning.{Known, Outcome, Next, Given, Left, Refused, feed}
-use Rattle.ion_tokens.specs.Lexemes.{Lexeme}
-use Rattle.ion_tokens.specs.machine.Views.{behind, form_of, begun_in, held_in}
-use Rattle.ion_tokens.proofs.sound.Holds.{InMode}
 use Rattle.ion_tokens.proofs.foreseen.Reaches.{begun_stays}
-use Rattle.ion_text.specs.declared.state.Held.{Held}
-use Rattle.ion_text.specs.declared.state.Now.{Now}
-use Rattle.ion_text.specs.declared.state.Now.TheVariants as nows
-use Rattle.ion_text.specs.declared.state.Frame.{Frame}
-use Rattle.ion_text.specs.declared.state.Frame.TheVariants as frames
-use Rattle.ion_text.specs.laws.reading.sound.Held.{IsFirst, none_open}
-use Rattle.ion_text.specs.machine.EachToken.{Spot, under, spot_at, token_at, Reading, Turn, goes, gives, refuses, late, Symbols, at, place, place_in, settle, settled, turn, turn_now, ended, paid, released, held_payload}
-use Rattle.ion_text.specs.machine.Passed.{said_body}
-use Rattle.ion_text.specs.machine.Places.{Leading, settle_same}
-use Rattle.ion_text.specs.machine.Progress.{Ran}
+use Rattle.ion_tokens.proofs.sound.Holds.{InMode}
 use Rattle.ion_text.specs.laws.reading.complete.Quiet.{CalmNow}
+use Rattle.ion_text.specs.laws.reading.sound.Held.{IsFirst, none_open}
 use Rattle.ion_text.specs.laws.reading.sound.Quotes.{Fine, Finely, feed_fine}
-use Rattle.ion_text.specs.machine.Run.{State, Effect, uses, tells, leaves, fails, begun, run, takes, unsettled, noticed, on_octet, on_scan, on_settled, on_said, behind_given, behind_left, or_worse, with_scan, token_of, shut, is_top, reaches, longest_top, is_long_begun, Run}
 use Rattle.ion_text.specs.laws.reading.sound.StandsOpen.{NowStands}
-use Rattle.ion_text.specs.laws.reading.sound.Steps.{Stood, run_ran, begun_stood, StoodBehind}
-use Rattle.ion_text.specs.laws.showing.tokens.Cuts.{OpenBehind, behind_tokens}
+use Rattle.ion_text.specs.laws.reading.sound.Steps.{Stood, StoodBehind, begun_stood, run_ran}
 use Rattle.ion_text.specs.laws.showing.shown.OpenRests.{start_before}
-use Rattle.ion_text.specs.laws.showing.shown.Within.{Within, EndsWithin, begun_within}
+use Rattle.ion_text.specs.laws.showing.shown.Within.{EndsWithin, Within, begun_within}
+use Rattle.ion_text.specs.laws.showing.tokens.Cuts.{OpenBehind, behind_tokens}
 
 -- 1. Where no octet is awaited, the open token is in the open item.
 
 -- where a `/` isn't counted, it isn't kept
 slash_unkept : (m : Mode) → behind m ≤ unkept m
-slash_unkept modes.NumberSlash = omega arith
-slash_unkept modes.OperatorSlash = omega arith
+slash_unkept Mode.NumberSlash = omega arith
+slash_unkept Mode.OperatorSlash = omega arith
 slash_unkept _ = omega arith
 
 -- nothing is kept of quotes of which it isn't known yet what they open
-quote_kept : (p : Place) (colon : Bool) (k : ℕ) (m : Mode) (kept : List ℕ) (start : ℕ) (since : List ℕ) → form_of m ≡ forms.Quote
+quote_kept : (p : Place) (colon : Bool) (k : ℕ) (m : Mode) (kept : List ℕ) (start : ℕ) (since : List ℕ) → form_of m ≡ Form.Quote
     → InMode p colon k m kept start since → kept ≡ []
-quote_kept p colon k modes.Quote kept start since e h = h.is.1
-quote_kept p colon k modes.Quotes kept start since e h = h.is.1
-quote_kept p colon k (modes.Text styles.LongString w) kept start since e h = absurd cc
+quote_kept p colon k Mode.Quote kept start since e h = h.is.1
+quote_kept p colon k Mode.Quotes kept start since e h = h.is.1
+quote_kept p colon k (Mode.Text Style.LongString w) kept start since e h = absurd cc
 quote_kept p colon k _ kept start since e h = absurd cc
 
 module _ (g : Catalog) (l : Limits) (u : List ℕ) (vs : List Value) (m : State) (b : Stood g l u vs m) (within : Within g l m) (looked : ℕ)
@@ -99,13 +65,13 @@ module _ (g : Catalog) (l : Limits) (u : List ℕ) (vs : List Value) (m : State)
     -- where no item is open
     none_kept : b.item ≡ [] → length s.kept ≤ l.item
     none_kept none =
-        let o : (r.frames ≡ []) × (r.notes ≡ []) × (r.now ≡ nows.Ready) =
+        let o : (r.frames ≡ []) × (r.notes ≡ []) × (r.now ≡ Now.Ready) =
         none_open r.context r.frames r.notes r.now (subst (λ x. NowStands r.context r.frames r.notes x r.now) none b.stands) in
-        let reach : longest_top r.start s.used nows.Ready [] (begun_in s) (is_long_begun (begun_in s)) ≤ l.item =
+        let reach : longest_top r.start s.used Now.Ready [] (begun_in s) (is_long_begun (begun_in s)) ≤ l.item =
         subst (λ n. longest_top r.start s.used n [] (begun_in s) (is_long_begun (begun_in s)) ≤ l.item) o.2
         (subst (λ n. longest_top r.start s.used r.now n (begun_in s) (is_long_begun (begun_in s)) ≤ l.item) o.1
         (subst (λ fs. reaches fs r s ≤ l.item) o.0 within.0)) in
-        counted s.start (omega arith) (seen (λ x. longest_top r.start s.used nows.Ready [] x (is_long_begun x) ≤ l.item) reach)
+        counted s.start (omega arith) (seen (λ x. longest_top r.start s.used Now.Ready [] x (is_long_begun x) ≤ l.item) reach)
 
     -- the item begins no later than the token
     begins_before : (t : Placed) (us : List Placed) → b.item ≡ t ∷ us → r.start ≤ s.start
@@ -115,26 +81,26 @@ module _ (g : Catalog) (l : Limits) (u : List ℕ) (vs : List Value) (m : State)
         omega (arith, start_before b.front t us false 0 (u ++ []) k.colon k.end (k.since ++ []) lexes, first, sizes.1)
 
     module _ (before : r.start ≤ s.start) where
-      ready_kept : (ss : Symbols) → longest_top r.start s.used nows.Ready ss (Some (token (form_of s.mode))) (is_long_begun (Some (token (form_of s.mode)))) ≤
+      ready_kept : (ss : Symbols) → longest_top r.start s.used Now.Ready ss (Some (token (form_of s.mode))) (is_long_begun (Some (token (form_of s.mode)))) ≤
           l.item → length s.kept ≤ l.item
       ready_kept [] h = counted s.start (omega arith) h
       ready_kept (x ∷ ss) h = counted r.start before h
 
       long_kept : (w : List ℕ) (last : ℕ) (ss : Symbols) (f : Form) → form_of s.mode ≡ f → is_long_form f ≡ true
-          → longest_top r.start s.used (nows.Long w last) ss (Some (token f)) (is_long_begun (Some (token f))) ≤ l.item → length s.kept ≤ l.item
-      long_kept w last ss forms.Quote e q h = omega (arith, ap length (quote_kept p k.colon k.end s.mode s.kept s.start k.since e k.holds.mode))
-      long_kept w last ss forms.Long e q h = counted r.start before h
-      long_kept w last ss forms.Other e q h = absurd cc
+          → longest_top r.start s.used (Now.Long w last) ss (Some (token f)) (is_long_begun (Some (token f))) ≤ l.item → length s.kept ≤ l.item
+      long_kept w last ss Form.Quote e q h = omega (arith, ap length (quote_kept p k.colon k.end s.mode s.kept s.start k.since e k.holds.mode))
+      long_kept w last ss Form.Long e q h = counted r.start before h
+      long_kept w last ss Form.Other e q h = absurd cc
 
       top_kept : (n : Now) (ss : Symbols) → CalmNow n s.mode
           → longest_top r.start s.used n ss (Some (token (form_of s.mode))) (is_long_begun (Some (token (form_of s.mode)))) ≤ l.item → length s.kept ≤ l.item
-      top_kept nows.Ready ss c h = ready_kept ss h
-      top_kept (nows.Pending x last) ss c h = absurd (let n : false ≡ true = sym open' ∙ c in cc)
-      top_kept (nows.Long w last) ss c h = long_kept w last ss (form_of s.mode) refl (sym (ap (λ i. i || is_long_form (form_of s.mode)) open') ∙ c) h
-      top_kept nows.After ss c h = absurd c
-      top_kept nows.Name ss c h = absurd c
-      top_kept (nows.LongName w) ss c h = absurd c
-      top_kept (nows.Keyed x) ss c h = absurd c
+      top_kept Now.Ready ss c h = ready_kept ss h
+      top_kept (Now.Pending x last) ss c h = absurd (let n : false ≡ true = sym open' ∙ c in cc)
+      top_kept (Now.Long w last) ss c h = long_kept w last ss (form_of s.mode) refl (sym (ap (λ i. i || is_long_form (form_of s.mode)) open') ∙ c) h
+      top_kept Now.After ss c h = absurd c
+      top_kept Now.Name ss c h = absurd c
+      top_kept (Now.LongName w) ss c h = absurd c
+      top_kept (Now.Keyed x) ss c h = absurd c
 
       some_kept : (fs : List Frame) → r.frames ≡ fs → length s.kept ≤ l.item
       some_kept (f ∷ fs) e = let h = subst (λ x. reaches x r s ≤ l.item) e within.0 in omega (arith, h, sizes.0, before)
@@ -162,8 +128,8 @@ sexp_open : (fs : List Frame) (now : Now) → is_sexp (place_in fs now) ≡ true
 sexp_open [] now h = absurd cc
 sexp_open (f ∷ fs) now h = refl
 
-operator_says : (x : Lexeme) (c : Content) → x.kind ≡ kinds.Operator → said x.kind x.octets ≡ Ok c → c ≡ Operator x.octets
-operator_says x c k e = let h : IsBody kinds.Operator x.octets (Ok c) = subst (λ y. IsBody y x.octets (Ok c)) k (said_body x.kind x.octets c e) in h.0
+operator_says : (x : Lexeme) (c : Content) → x.kind ≡ TokenKind.Operator → said x.kind x.octets ≡ Ok c → c ≡ Operator x.octets
+operator_says x c k e = let h : IsBody TokenKind.Operator x.octets (Ok c) = subst (λ y. IsBody y x.octets (Ok c)) k (said_body x.kind x.octets c e) in h.0
 
 idle_held : (s : Known) → is_idle s.mode ≡ true → held_in s ≡ 0
 idle_held s e = ap (λ (i : Bool). if i then 0 else length s.kept) e
@@ -182,9 +148,9 @@ module _ (g : Catalog) (l : Limits) where
 
   ended_top : (spot : Spot) (fs : List Frame) (v : Value) → TopGives fs (ended (under g l) spot fs v)
   ended_top spot [] v = at_top (ended (under g l) spot [] v)
-  ended_top spot (frames.Items listing ss vs ∷ fs) v = tt
-  ended_top spot (frames.Named ss ms x ∷ fs) v = tt
-  ended_top spot (frames.Fields ss ms ∷ fs) v = tt
+  ended_top spot (Frame.Items listing ss vs ∷ fs) v = tt
+  ended_top spot (Frame.Named ss ms x ∷ fs) v = tt
+  ended_top spot (Frame.Fields ss ms ∷ fs) v = tt
 
   paid_top : (spot : Spot) (fs : List Frame) (ss : Symbols) (q : Result Payload Reason) → TopGives fs (paid (under g l) spot fs ss q)
   paid_top spot fs ss (Ok q) = ended_top spot fs _
@@ -195,13 +161,13 @@ module _ (g : Catalog) (l : Limits) where
   released_top spot (f ∷ fs) ss h = paid_top spot (f ∷ fs) ss (held_payload h)
 
   settled_top : (start : ℕ) (c : List Slot) (fs : List Frame) (ss : Symbols) (now : Now) → TopGives fs (settled (under g l) start c fs ss now)
-  settled_top start c fs ss (nows.Pending h end) = released_top (spot_at end start c) fs ss h
-  settled_top start c fs ss (nows.Long w end) = ended_top (spot_at end start c) fs _
-  settled_top start c fs ss (nows.LongName w) = tt
-  settled_top start c fs ss nows.Ready = tt
-  settled_top start c fs ss nows.After = tt
-  settled_top start c fs ss nows.Name = tt
-  settled_top start c fs ss (nows.Keyed x) = tt
+  settled_top start c fs ss (Now.Pending h end) = released_top (spot_at end start c) fs ss h
+  settled_top start c fs ss (Now.Long w end) = ended_top (spot_at end start c) fs _
+  settled_top start c fs ss (Now.LongName w) = tt
+  settled_top start c fs ss Now.Ready = tt
+  settled_top start c fs ss Now.After = tt
+  settled_top start c fs ss Now.Name = tt
+  settled_top start c fs ss (Now.Keyed x) = tt
 
   -- in a container it stays open, and gives nothing
   abbrev StaysInside : Turn → Type 0
@@ -211,19 +177,19 @@ module _ (g : Catalog) (l : Limits) where
 
   ended_inside : (spot : Spot) (fs : List Frame) (v : Value) → is_top fs ≡ false → StaysInside (ended (under g l) spot fs v)
   ended_inside spot [] v h = absurd cc
-  ended_inside spot (frames.Items listing ss vs ∷ fs) v h = refl
-  ended_inside spot (frames.Named ss ms x ∷ fs) v h = refl
-  ended_inside spot (frames.Fields ss ms ∷ fs) v h = tt
+  ended_inside spot (Frame.Items listing ss vs ∷ fs) v h = refl
+  ended_inside spot (Frame.Named ss ms x ∷ fs) v h = refl
+  ended_inside spot (Frame.Fields ss ms ∷ fs) v h = tt
 
   operator_inside : (begin end start : ℕ) (c : List Slot) (fs : List Frame) (ss : Symbols) (w : List ℕ) (now : Now) → is_top fs ≡ false
       → StaysInside (turn_now (under g l) (at start c fs ss now) (token_at begin end (Operator w)) now)
-  operator_inside begin end start c fs ss w nows.Ready h = ended_inside _ fs _ h
-  operator_inside begin end start c fs ss w (nows.Pending x n) h = tt
-  operator_inside begin end start c fs ss w (nows.Long v n) h = tt
-  operator_inside begin end start c fs ss w nows.After h = tt
-  operator_inside begin end start c fs ss w nows.Name h = tt
-  operator_inside begin end start c fs ss w (nows.LongName v) h = tt
-  operator_inside begin end start c fs ss w (nows.Keyed x) h = tt
+  operator_inside begin end start c fs ss w Now.Ready h = ended_inside _ fs _ h
+  operator_inside begin end start c fs ss w (Now.Pending x n) h = tt
+  operator_inside begin end start c fs ss w (Now.Long v n) h = tt
+  operator_inside begin end start c fs ss w Now.After h = tt
+  operator_inside begin end start c fs ss w Now.Name h = tt
+  operator_inside begin end start c fs ss w (Now.LongName v) h = tt
+  operator_inside begin end start c fs ss w (Now.Keyed x) h = tt
 
   module _ (first : Known) where
     abbrev NoneOrFirst : Known → Type 0
@@ -239,8 +205,8 @@ module _ (g : Catalog) (l : Limits) where
     noticed_kept : (r : Reading) (s : Known) → KeptBehind (noticed l r s)
     noticed_kept r s = go (shut r.now && not (is_idle s.mode)) (nat_le (reaches r.frames r s) l.item)
       where
-        go : (a b : Bool) → KeptBehind (if a then fails reasons.Unexpected else
-            (if b then uses (record { scan = s; reading = r }) else fails reasons.ItemTooLong))
+        go : (a b : Bool) → KeptBehind (if a then fails Reason.Unexpected else
+            (if b then uses (record { scan = s; reading = r }) else fails Reason.ItemTooLong))
         go true b = tt
         go false true = tt
         go false false = tt
@@ -288,7 +254,7 @@ module _ (g : Catalog) (l : Limits) where
           idle : is_idle s.mode ≡ true → KeptBehind (behind_left again s (turn g l r (token_of x c)))
           idle i = left_idle again s (turn g l r (token_of x c)) f fi.3 fi.0 (idle_held s i)
 
-          by : (is_idle s.mode ≡ true) ⊎ (x.kind ≡ kinds.Operator) → (b : Bool) → is_sexp p ≡ b → KeptBehind (behind_left again s (turn g l r (token_of x c)))
+          by : (is_idle s.mode ≡ true) ⊎ (x.kind ≡ TokenKind.Operator) → (b : Bool) → is_sexp p ≡ b → KeptBehind (behind_left again s (turn g l r (token_of x c)))
           by (inl i) b q = idle i
           by (inr k) false q = idle (fo.0 q)
           by (inr k) true q =

@@ -3,64 +3,47 @@ use Rattle.std.proofs.Common.{◌≡◌, ℕ, zero, suc, ◌+◌, ◌-◌, ◌�
 use Rattle.std.specs.Prelude.{◌==◌, ◌&&◌, ◌||◌, not, nat_le, bytes_eq, codes}
 use Rattle.std.specs.List.{list_all}
 use Rattle.std.proofs.lemmas.Bool.{and_parts}
-use Rattle.ion_tokens.specs.declared.mode.Place.{Place}
-use Rattle.ion_tokens.specs.declared.mode.Mode.{Mode}
-use Rattle.ion_tokens.specs.declared.mode.Mode.TheVariants as modes
-use Rattle.ion_tokens.specs.declared.mode.Keep.{Keep}
-use Rattle.ion_tokens.specs.declared.mode.Keep.TheVariants as keeps
-use Rattle.ion_tokens.specs.declared.mode.TokenKind.{TokenKind}
-use Rattle.ion_tokens.specs.declared.mode.TokenKind.TheVariants as kinds
-use Rattle.ion_tokens.specs.declared.mode.Action.{Action}
-use Rattle.ion_tokens.specs.declared.mode.End.{End}
-use Rattle.ion_tokens.specs.declared.mode.End.TheVariants as ends'
-use Rattle.ion_atoms.specs.declared.refusal.Reason.TheVariants as reasons
-use Rattle.ion_tokens.specs.declared.mode.Action.TheVariants as actions
-use Rattle.ion_tokens.specs.machine.Table.{next, end_of}
-use Rattle.ion_tokens.specs.Places.{is_sexp}
-use Rattle.ion_tokens.specs.Blobs.{blob_of}
-use Rattle.ion_tokens.specs.machine.Bounds.{is_idle}
-use Rattle.ion_tokens.specs.machine.Ahead.{is_quoting, is_quoted}
+use Rattle.ion_text.specs.Names.{Action, End, Given, Keep, Known, Left, Lexeme, Mode, Next, Outcome, Place, Reason, Refused, TokenKind, acts, at_end, blob_ends, blob_of, cut, end_of, ends_at, feed, go_to, initial, is_idle, is_quoted, is_quoting, is_sexp, left_of, past, start_of}
 use Rattle.ion_tokens.specs.machine.Rows.{infinity_rows}
+use Rattle.ion_tokens.specs.machine.Table.{next}
 use Rattle.ion_tokens.specs.laws.ByRows.{by_mode, by_rows_where}
-use Rattle.ion_tokens.specs.machine.Scanning.{Known, Outcome, Next, Given, Left, Refused, start_of, left_of, acts, blob_ends, go_to, cut, past, feed, initial, at_end, ends_at}
-use Rattle.ion_tokens.specs.Lexemes.{Lexeme}
-use Rattle.ion_text.specs.laws.reading.sound.Quotes.{le_to, le_of, implies}
+use Rattle.ion_text.specs.laws.reading.sound.Quotes.{implies, le_of, le_to}
 
 -- At least so many octets were used since the open token began: one of its own, and those that may turn out to be no part of it.
 abbrev pub wants : Mode → ℕ
-wants modes.Blank = 0
-wants modes.LineComment = 0
-wants modes.BlockComment = 0
-wants modes.BlockCommentStar = 0
-wants modes.NumberSlash = 2
-wants modes.OperatorSlash = 2
-wants (modes.Infinity letters) = 1 + letters
+wants Mode.Blank = 0
+wants Mode.LineComment = 0
+wants Mode.BlockComment = 0
+wants Mode.BlockCommentStar = 0
+wants Mode.NumberSlash = 2
+wants Mode.OperatorSlash = 2
+wants (Mode.Infinity letters) = 1 + letters
 wants _ = 1
 
 -- behind one octet more it is that at most
 abbrev pub wants_next : Mode → ℕ
-wants_next modes.Number = 2
-wants_next (modes.Operator e) = 2
-wants_next (modes.Infinity letters) = 2 + letters
+wants_next Mode.Number = 2
+wants_next (Mode.Operator e) = 2
+wants_next (Mode.Infinity letters) = 2 + letters
 wants_next _ = 1
 
 -- the front of `inf` has a letter
 abbrev pub lettered : Mode → Bool
-lettered (modes.Infinity zero) = false
+lettered (Mode.Infinity zero) = false
 lettered _ = true
 
 abbrev is_left_in : Mode → Bool
-is_left_in modes.Blank = true
-is_left_in modes.Slash = true
+is_left_in Mode.Blank = true
+is_left_in Mode.Slash = true
 is_left_in _ = false
 
 -- in an s-expression or not, from a mode that wants n, and at most `more` behind an octet, and in which quotes are open or not
 abbrev length_fits : Bool → ℕ → ℕ → Bool → Action → Bool
-length_fits sexp n more q (actions.Go m k) = nat_le (wants m) more && lettered m
-length_fits sexp n more q (actions.Before kind k m) = (is_left_in m && nat_le (wants m + 1) n) && (not q || is_quoted kind)
-length_fits sexp n more q actions.EndWord = nat_le 1 n && not q
-length_fits sexp n more q (actions.Split letters) = (sexp && not q) && (nat_le 1 letters && nat_le (1 + letters) n)
-length_fits sexp n more q actions.EndBlob = nat_le 1 more
+length_fits sexp n more q (Action.Go m k) = nat_le (wants m) more && lettered m
+length_fits sexp n more q (Action.Before kind k m) = (is_left_in m && nat_le (wants m + 1) n) && (not q || is_quoted kind)
+length_fits sexp n more q Action.EndWord = nat_le 1 n && not q
+length_fits sexp n more q (Action.Split letters) = (sexp && not q) && (nat_le 1 letters && nat_le (1 + letters) n)
+length_fits sexp n more q Action.EndBlob = nat_le 1 more
 length_fits sexp n more q _ = true
 
 infinity_fits : (letters : ℕ) (sexp : Bool) → 1 ≤ letters
@@ -70,7 +53,7 @@ infinity_fits letters true h =
 infinity_fits letters false h = rw (le_to (1 + suc letters) (2 + letters) (omega arith)) refl
 
 abbrev is_infinity : Mode → Bool
-is_infinity (modes.Infinity letters) = true
+is_infinity (Mode.Infinity letters) = true
 is_infinity _ = false
 
 rows_fit : (p : Place) (colon : Bool) (m : Mode) (o : ℕ) → not (is_infinity m) ≡ true
@@ -79,9 +62,9 @@ rows_fit = by_rows_where (λ m. not (is_infinity m)) (λ sexp m. length_fits sex
 
 table_fits : (p : Place) (colon : Bool) (m : Mode) (o : ℕ) → lettered m ≡ true
     → length_fits (is_sexp p) (wants m) (wants_next m) (is_quoting m) (next p colon m o) ≡ true
-table_fits p colon (modes.Infinity zero) o h = absurd cc
-table_fits p colon (modes.Infinity (suc n)) o h =
-    by_mode (length_fits (is_sexp p) (1 + suc n) (2 + suc n) false) p colon (modes.Infinity (suc n)) o (λ t. infinity_fits (suc n) (is_sexp p) (omega arith))
+table_fits p colon (Mode.Infinity zero) o h = absurd cc
+table_fits p colon (Mode.Infinity (suc n)) o h =
+    by_mode (length_fits (is_sexp p) (1 + suc n) (2 + suc n) false) p colon (Mode.Infinity (suc n)) o (λ t. infinity_fits (suc n) (is_sexp p) (omega arith))
 table_fits p colon m o h = rows_fit p colon m o refl
 
 -- what a scanner knows that began with no octets
@@ -99,7 +82,7 @@ pub record EndedToken (p : Place) (s : Known) (x : Lexeme) (t : Known) : Type 0 
   pub some : x.start + 1 ≤ x.end
   pub behind : s.used + 1 ≤ x.end + wants s.mode
   pub rest : x.end + wants t.mode ≤ t.used
-  pub idle : (is_idle t.mode ≡ true) ⊎ ((x.kind ≡ kinds.Operator) × (is_sexp p ≡ true))
+  pub idle : (is_idle t.mode ≡ true) ⊎ ((x.kind ≡ TokenKind.Operator) × (is_sexp p ≡ true))
 
 -- what comes of an octet
 abbrev pub Measured : Place → Known → Outcome → Type 0
@@ -110,33 +93,33 @@ Measured p s (Refused n e) = Unit {0}
 
 -- an octet adds what it may
 pub next_wants : (m : Mode) → wants_next m ≤ wants m + 1
-next_wants modes.Number = omega arith
-next_wants (modes.Operator e) = omega arith
-next_wants (modes.Infinity letters) = omega arith
+next_wants Mode.Number = omega arith
+next_wants (Mode.Operator e) = omega arith
+next_wants (Mode.Infinity letters) = omega arith
 next_wants _ = omega arith
 
 -- where no token is open
 pub idle_next : (m : Mode) → is_idle m ≡ true → wants_next m ≡ 1
-idle_next modes.Number h = absurd cc
-idle_next (modes.Operator e) h = absurd cc
-idle_next (modes.Infinity letters) h = absurd cc
+idle_next Mode.Number h = absurd cc
+idle_next (Mode.Operator e) h = absurd cc
+idle_next (Mode.Infinity letters) h = absurd cc
 idle_next _ h = refl
 
 -- where quotes are
 pub quoting_next : (m : Mode) → is_quoting m ≡ true → wants_next m ≡ 1
-quoting_next modes.Number h = absurd cc
-quoting_next (modes.Operator e) h = absurd cc
-quoting_next (modes.Infinity letters) h = absurd cc
+quoting_next Mode.Number h = absurd cc
+quoting_next (Mode.Operator e) h = absurd cc
+quoting_next (Mode.Infinity letters) h = absurd cc
 quoting_next _ h = refl
 
 went : (m : Mode) (start used n : ℕ) → start + n ≤ used → wants m ≤ n + 1 → start_of m start (used + 1) + wants m ≤ used + 1
-went modes.Blank start used n h k = omega arith
-went modes.Slash start used n h k = omega arith
+went Mode.Blank start used n h k = omega arith
+went Mode.Slash start used n h k = omega arith
 went _ start used n h k = omega arith
 
 left_ends : (p : Place) (s : Known) (kind : TokenKind) (k : List ℕ) (m : Mode) → is_left_in m ≡ true → wants m + 1 ≤ wants s.mode → Sized s
     → EndedToken p s (cut s kind k (s.used - left_of m)) (past p kind m [] (s.used - left_of m) s.used)
-left_ends p s kind k modes.Blank h w z = let e = z.enough in
+left_ends p s kind k Mode.Blank h w z = let e = z.enough in
     record {
       sized = record { enough = omega arith; letters = refl };
       some = omega (arith, e, w);
@@ -145,7 +128,7 @@ left_ends p s kind k modes.Blank h w z = let e = z.enough in
       rest = omega arith;
       idle = inl refl;
     }
-left_ends p s kind k modes.Slash h w z = let e = z.enough in
+left_ends p s kind k Mode.Slash h w z = let e = z.enough in
     record {
       sized = record { enough = omega (arith, e, w); letters = refl };
       some = omega (arith, e, w);
@@ -163,21 +146,21 @@ not_open true b h e = absurd cc
 
 acts_measured : (p : Place) (s : Known) (o : ℕ) (a : Action)
     → length_fits (is_sexp p) (wants s.mode) (wants_next s.mode) (is_quoting s.mode) a ≡ true → Sized s → Measured p s (acts p s o a)
-acts_measured p s o (actions.Go m k) f z =
+acts_measured p s o (Action.Go m k) f z =
     let x = and_parts (nat_le (wants m) (wants_next s.mode)) (lettered m) f in
     let n = le_of (wants m) (wants_next s.mode) x.0 in
     (record { enough = went m (start_of s.mode s.start s.used) s.used (wants s.mode) z.enough (omega (arith, n, next_wants s.mode)); letters = x.1 }, refl, n)
-acts_measured p s o (actions.Give kind k) f z =
+acts_measured p s o (Action.Give kind k) f z =
     let e = z.enough in (
       record { sized = record { enough = omega arith; letters = refl }; some = omega (arith, e); behind = omega arith; rest = omega arith; idle = inl refl },
       refl,
       refl,
     )
-acts_measured p s o (actions.Before kind k m) f z =
+acts_measured p s o (Action.Before kind k m) f z =
     let x = and_parts (is_left_in m && nat_le (wants m + 1) (wants s.mode)) (not (is_quoting s.mode) || is_quoted kind) f in
     let y = and_parts (is_left_in m) (nat_le (wants m + 1) (wants s.mode)) x.0 in
     (left_ends p s kind _ m y.0 (le_of (wants m + 1) (wants s.mode) y.1) z, refl, implies (is_quoting s.mode) (is_quoted kind) x.1)
-acts_measured p s o actions.EndWord f z = word ((o == 46) && bytes_eq s.kept (codes "null"))
+acts_measured p s o Action.EndWord f z = word ((o == 46) && bytes_eq s.kept (codes "null"))
   where
     x : (nat_le 1 (wants s.mode) ≡ true) × (not (is_quoting s.mode) ≡ true)
     x = and_parts (nat_le 1 (wants s.mode)) (not (is_quoting s.mode)) f
@@ -186,13 +169,13 @@ acts_measured p s o actions.EndWord f z = word ((o == 46) && bytes_eq s.kept (co
     n = le_of 1 (wants s.mode) x.0
 
     less : (m : Mode) → 1 ≤ wants_next m
-    less modes.Number = omega arith
-    less (modes.Operator e) = omega arith
-    less (modes.Infinity letters) = omega arith
+    less Mode.Number = omega arith
+    less (Mode.Operator e) = omega arith
+    less (Mode.Infinity letters) = omega arith
     less _ = omega arith
 
-    word : (b : Bool) → Measured p s (cond b (Next (go_to s modes.KindName []))
-        (Left (cut s kinds.Word s.kept s.used) (past p kinds.Word modes.Blank [] s.used s.used)))
+    word : (b : Bool) → Measured p s (cond b (Next (go_to s Mode.KindName []))
+        (Left (cut s TokenKind.Word s.kept s.used) (past p TokenKind.Word Mode.Blank [] s.used s.used)))
     word true = let e = z.enough in (record { enough = omega (arith, e, n); letters = refl }, refl, less s.mode)
     word false = let e = z.enough in (
       record {
@@ -204,9 +187,9 @@ acts_measured p s o actions.EndWord f z = word ((o == 46) && bytes_eq s.kept (co
         idle = inl refl;
       },
       refl,
-      not_open (is_quoting s.mode) (is_quoted kinds.Word) x.1,
+      not_open (is_quoting s.mode) (is_quoted TokenKind.Word) x.1,
     )
-acts_measured p s o (actions.Split letters) f z =
+acts_measured p s o (Action.Split letters) f z =
     let x = and_parts (is_sexp p && not (is_quoting s.mode)) (nat_le 1 letters && nat_le (1 + letters) (wants s.mode)) f in
     let y = and_parts (is_sexp p) (not (is_quoting s.mode)) x.0 in
     let w = and_parts (nat_le 1 letters) (nat_le (1 + letters) (wants s.mode)) x.1 in
@@ -222,15 +205,15 @@ acts_measured p s o (actions.Split letters) f z =
         idle = inr (refl, y.0);
       },
       refl,
-      not_open (is_quoting s.mode) (is_quoted kinds.Operator) y.1,
+      not_open (is_quoting s.mode) (is_quoted TokenKind.Operator) y.1,
     )
-acts_measured p s o actions.EndBlob f z = blob (blob_of s.kept)
+acts_measured p s o Action.EndBlob f z = blob (blob_of s.kept)
   where
     blob : (b : Option (List ℕ)) → Measured p s (blob_ends s b)
     blob None = tt
     blob (Some octets) = let e = z.enough in let n = le_of 1 (wants_next s.mode) f in
         (record { enough = omega (arith, e, n, next_wants s.mode); letters = refl }, refl, n)
-acts_measured p s o (actions.Refuse e) f z = tt
+acts_measured p s o (Action.Refuse e) f z = tt
 
 -- What comes of an octet.
 pub feed_measured : (p : Place) (s : Known) (o : ℕ) → Sized s → Measured p s (feed p s o)
@@ -238,26 +221,26 @@ feed_measured p s o z = acts_measured p s o (next p s.colon s.mode o) (table_fit
 
 -- a token that the end ends has an octet
 abbrev EndWants : ℕ → End → Type 0
-EndWants n (ends'.Token kind k) = 1 ≤ n
+EndWants n (End.Token kind k) = 1 ≤ n
 EndWants n _ = Unit {0}
 
-operator_wants : (n : ℕ) (b : Bool) (k : Keep) → 1 ≤ n → EndWants n (cond b (ends'.Token kinds.Operator k) (ends'.Refuse reasons.Incomplete))
+operator_wants : (n : ℕ) (b : Bool) (k : Keep) → 1 ≤ n → EndWants n (cond b (End.Token TokenKind.Operator k) (End.Refuse Reason.Incomplete))
 operator_wants n true k h = h
 operator_wants n false k h = tt
 
 end_wants : (p : Place) (m : Mode) → EndWants (wants m) (end_of p m)
-end_wants p modes.Blank = tt
-end_wants p modes.LineComment = tt
-end_wants p modes.Slash = operator_wants 1 (is_sexp p) (keeps.One 47) (omega arith)
-end_wants p modes.OperatorSlash = operator_wants 2 (is_sexp p) (keeps.One 47) (omega arith)
-end_wants p (modes.Operator e) = operator_wants 1 (is_sexp p) keeps.Nothing (omega arith)
-end_wants p modes.Colon = omega arith
-end_wants p modes.Word = omega arith
-end_wants p modes.KindName = omega arith
-end_wants p modes.Number = omega arith
-end_wants p modes.NumberSlash = omega arith
-end_wants p modes.Quotes = omega arith
-end_wants p modes.Brace = omega arith
+end_wants p Mode.Blank = tt
+end_wants p Mode.LineComment = tt
+end_wants p Mode.Slash = operator_wants 1 (is_sexp p) (Keep.One 47) (omega arith)
+end_wants p Mode.OperatorSlash = operator_wants 2 (is_sexp p) (Keep.One 47) (omega arith)
+end_wants p (Mode.Operator e) = operator_wants 1 (is_sexp p) Keep.Nothing (omega arith)
+end_wants p Mode.Colon = omega arith
+end_wants p Mode.Word = omega arith
+end_wants p Mode.KindName = omega arith
+end_wants p Mode.Number = omega arith
+end_wants p Mode.NumberSlash = omega arith
+end_wants p Mode.Quotes = omega arith
+end_wants p Mode.Brace = omega arith
 end_wants p _ = tt
 
 -- where the end ends a token, this has an octet
@@ -265,6 +248,6 @@ pub token_wants : (p : Place) (s : Known) (x : Lexeme) → at_end p s ≡ Ok (So
 token_wants p s x h = by (end_of p s.mode) (end_wants p s.mode) h
   where
     by : (e : End) → EndWants (wants s.mode) e → ends_at s e ≡ Ok (Some x) → 1 ≤ wants s.mode
-    by ends'.Blank w h = absurd (let n : Ok None ≡ Ok (Some x) = h in cc)
-    by (ends'.Token kind k) w h = w
-    by (ends'.Refuse e) w h = absurd cc
+    by End.Blank w h = absurd (let n : Ok None ≡ Ok (Some x) = h in cc)
+    by (End.Token kind k) w h = w
+    by (End.Refuse e) w h = absurd cc

@@ -1,24 +1,15 @@
 -- A value of the grammar has at most as many nodes as tokens, and each token has an octet.
 use Rattle.std.proofs.Common.{ℕ, ◌+◌, ◌<◌, ◌≤◌, Bool, List, [], ◌∷◌, ◌++◌, length, Option, refl, ap, arith, length-append}
-use Rattle.ion_model.specs.declared.value.Value.{Value}
-use Rattle.ion_model.specs.declared.value.Field.{Field}
-use Rattle.ion_model.specs.declared.value.Payload.{Payload}
+use Rattle.ion_text.specs.Names.{Annotations, Content, Elements, Field, IsName, IsScalar, Kind, LexesTo, Means, Members, Payload, Place, Placed, Plain, Row, Segments, Slot, Symbols, Value, annotated, by_long, by_short, by_symbol, colon_behind, comma, element, field, field_comma, field_of, is_blob, is_clob, is_decimal, is_false, is_int, is_list, is_null, is_operator, is_short, is_struct, is_symbol, is_timestamp, is_true, is_typed_null, item, joined, layer_nodes, long_string, means, no_annotation, no_element, no_field, no_item, nodes, one_annotation, one_token, segment, span}
 use Rattle.ion_model.specs.declared.value.Payload.TheVariants as payloads
 use Rattle.ion_model.specs.declared.value.Payload.TheViews as views
-use Rattle.ion_atoms.specs.declared.kind.Kind.TheVariants as values
-use Rattle.ion_model.specs.Measures.{nodes, annotated, field_of}
-use Rattle.ion_model.specs.laws.Measures.{layer_nodes, nodes-at-List, nodes-at-Sexp, nodes-at-Fields, nodes-more}
-use Rattle.ion_symtab.specs.Slots.{Slot}
-use Rattle.ion_tokens.specs.declared.mode.Place.{Place}
-use Rattle.ion_tokens.specs.Bodies.{Content}
-use Rattle.ion_tokens.specs.Lexed.{Placed, LexesTo, colon_behind}
-use Rattle.ion_text.specs.Grammar.{IsScalar, is_null, is_typed_null, is_true, is_false, is_int, is_decimal, is_timestamp, is_symbol, is_operator, is_short, is_clob, is_blob, Annotations, no_annotation, one_annotation, Segments, segment, joined, IsName, by_symbol, by_short, by_long, Plain, one_token, long_string, is_list, is_sexp, is_struct, Means, means, Elements, no_element, element, comma, Row, no_item, item, Members, no_field, field, field_comma, end_of, span}
-use Rattle.ion_text.specs.machine.EachToken.{Symbols}
-use Rattle.ion_text.specs.laws.reading.small.Sizes.{IsNoContainer, many, many_fields, flat_nodes, fields_more}
+use Rattle.ion_model.specs.laws.Measures.{nodes-at-Fields, nodes-at-List, nodes-at-Sexp, nodes-more}
+use Rattle.ion_text.specs.Grammar.{end_of, is_sexp}
+use Rattle.ion_text.specs.laws.reading.small.Sizes.{IsNoContainer, fields_more, flat_nodes, many, many_fields}
 use Rattle.ion_text.specs.laws.showing.tokens.Once.{some_token}
 
 scalar_flat : (c : List Slot) (said : Content) (q : Payload) → IsScalar c said q → IsNoContainer q
-scalar_flat c _ _ is_null = ap layer_nodes (views.outs-Null values.Null)
+scalar_flat c _ _ is_null = ap layer_nodes (views.outs-Null Kind.Null)
 scalar_flat c _ _ (is_typed_null k) = ap layer_nodes (views.outs-Null k)
 scalar_flat c _ _ is_true = ap layer_nodes (views.outs-Truth Bool.true)
 scalar_flat c _ _ is_false = ap layer_nodes (views.outs-Truth Bool.false)

@@ -3,39 +3,12 @@ use Rattle.std.proofs.Common.{◌≡◌, ℕ, suc, ◌+◌, ◌≤◌, nat_le, n
 use Rattle.std.proofs.lemmas.Bool.Decides.{nat_tests}
 use Rattle.std.specs.List.{sum_by}
 use Rattle.std.proofs.lemmas.List.Sums.{sum-map, sum_by-append, sum_by-cons}
-use Rattle.ion_model.specs.declared.value.Value.{Value}
-use Rattle.ion_model.specs.declared.value.Field.{Field}
-use Rattle.ion_model.specs.declared.value.Payload.{Payload}
+use Rattle.ion_text.specs.Names.{Blob, Bracket, Catalog, Clob, Content, Field, Frame, Held, Id, Limits, Listing, Long, Mark, Mark', Now, Number, Number', Operator, Payload, Quoted, Reading, Reason, Setting, Short, Slot, Spot, Symbols, Token, Turn, TypedNull, Value, Word, annotated, at, bare_close, begun_at, closed, deeper, ended, field_of, fresh, gives, goes, held_payload, held_symbol, is_keyword, is_table, is_top, keyed, late, layer_nodes, named, next, nodes, noted, number_payload, on_after, on_comma, on_keyed, on_long, on_long_name, on_name, on_pending, on_ready, paid, refuses, released, resolve, resolved, settle, spot_at, token_at, turn, turn_now, turned, under, within}
 use Rattle.ion_model.specs.declared.value.Payload.TheVariants as payloads
 use Rattle.ion_model.specs.declared.value.Payload.TheViews as views
-use Rattle.ion_atoms.specs.declared.refusal.Reason.{Reason}
-use Rattle.ion_atoms.specs.declared.refusal.Reason.TheVariants as reasons
-use Rattle.ion_model.specs.Measures.{nodes, annotated, field_of}
-use Rattle.ion_model.specs.laws.Measures.{layer_nodes, nodes-out, nodes-at-List, nodes-at-Sexp, nodes-at-Fields, nodes-more}
-use Rattle.ion_model.specs.Kinds.{is_table}
-use Rattle.ion_scalar.specs.declared.number.Number.{Number}
-use Rattle.ion_scalar.specs.declared.number.Number.TheVariants as numbers
-use Rattle.ion_symtab.specs.declared.limits.Limits.{Limits}
-use Rattle.ion_symtab.specs.declared.catalog.Catalog.{Catalog}
-use Rattle.ion_symtab.specs.Slots.{Slot, resolve}
-use Rattle.ion_symtab.specs.Next.{next}
-use Rattle.ion_tokens.specs.declared.mode.Mark.TheVariants as marks
-use Rattle.ion_tokens.specs.Bodies.{Content, Word, Id, Quoted, Short, Long, Number', TypedNull, Operator, Clob, Blob, Mark'}
-use Rattle.ion_text.specs.declared.state.Held.{Held}
-use Rattle.ion_text.specs.declared.state.Held.TheVariants as helds
-use Rattle.ion_text.specs.declared.state.Now.{Now}
-use Rattle.ion_text.specs.declared.state.Now.TheVariants as nows
-use Rattle.ion_text.specs.declared.state.Frame.{Frame}
-use Rattle.ion_text.specs.declared.state.Frame.TheVariants as frames
-use Rattle.ion_visiting.specs.declared.bracket.Bracket.TheVariants as brackets
-use Rattle.ion_text.specs.declared.state.Listing.TheVariants as listings
-use Rattle.ion_text.specs.Grammar.{is_keyword}
-use Rattle.ion_text.specs.machine.EachToken.{Setting, Spot, under, spot_at, token_at, Reading, Turn, goes, gives, refuses, late, Token, Symbols, at, fresh, settle, turn, turn_now, ended, within, turned, held_symbol, held_payload, released, begun_at, on_ready, on_after, on_name, on_pending, on_long, on_long_name, on_keyed, on_comma, closed, bare_close, deeper, paid, noted, resolved, keyed, named}
-use Rattle.ion_visiting.specs.Parts.{number_payload}
-use Rattle.ion_text.specs.machine.Run.{is_top}
+use Rattle.ion_model.specs.laws.Measures.{nodes-at-Fields, nodes-at-List, nodes-at-Sexp, nodes-more, nodes-out}
+use Rattle.ion_text.specs.laws.reading.Brackets.{Closes, closes_or_not, ends_list, ends_none, ends_sexp, ends_struct}
 use Rattle.ion_text.specs.laws.reading.sound.StandsOpen.{start_now}
-use Rattle.ion_text.specs.laws.reading.Brackets.{Closes, ends_list, ends_sexp, ends_struct, ends_none, closes_or_not}
-use Rattle.ion_visiting.specs.declared.bracket.Bracket.{Bracket}
 
 -- the nodes of what is open so far: of the containers, of the annotations that wait, and of what waits itself
 
@@ -48,9 +21,9 @@ abbrev pub many_fields : List Field → ℕ
 many_fields ms = sum (map (λ f. suc (nodes f.value)) ms)
 
 abbrev pub frame_nodes : Frame → ℕ
-frame_nodes (frames.Items listing ss vs) = length ss + suc (many vs)
-frame_nodes (frames.Fields ss ms) = length ss + suc (many_fields ms)
-frame_nodes (frames.Named ss ms s) = suc (length ss + suc (many_fields ms))
+frame_nodes (Frame.Items listing ss vs) = length ss + suc (many vs)
+frame_nodes (Frame.Fields ss ms) = length ss + suc (many_fields ms)
+frame_nodes (Frame.Named ss ms s) = suc (length ss + suc (many_fields ms))
 
 -- how many nodes the open containers have so far
 abbrev pub frames_nodes : List Frame → ℕ
@@ -59,10 +32,10 @@ frames_nodes (f ∷ fs) = frame_nodes f + frames_nodes fs
 
 -- how many nodes what waits has: one, where something does
 abbrev pub now_nodes : Now → ℕ
-now_nodes (nows.Pending h end) = 1
-now_nodes (nows.Long w end) = 1
-now_nodes (nows.LongName w) = 1
-now_nodes (nows.Keyed s) = 1
+now_nodes (Now.Pending h end) = 1
+now_nodes (Now.Long w end) = 1
+now_nodes (Now.LongName w) = 1
+now_nodes (Now.Keyed s) = 1
 now_nodes _ = 0
 
 -- how many nodes have come of the open item
@@ -71,8 +44,8 @@ open_nodes r = frames_nodes r.frames + length r.notes + now_nodes r.now
 
 -- what waits at the top level ended so, and came of what was at the top level
 abbrev pub WaitsSince : ℕ → Bool → Now → Type 0
-WaitsSince end top (nows.Pending h e) = (e ≡ end) × (top ≡ true)
-WaitsSince end top (nows.Long w e) = (e ≡ end) × (top ≡ true)
+WaitsSince end top (Now.Pending h e) = (e ≡ end) × (top ≡ true)
+WaitsSince end top (Now.Long w e) = (e ≡ end) × (top ≡ true)
 WaitsSince end top _ = Unit {0}
 
 -- where a container is open nothing is said of what waits
@@ -82,8 +55,8 @@ TopWaits end top (f ∷ fs) now = Unit {0}
 
 -- where what waits ended
 abbrev pub wait_end : Now → ℕ
-wait_end (nows.Pending h end) = end
-wait_end (nows.Long w end) = end
+wait_end (Now.Pending h end) = end
+wait_end (Now.Long w end) = end
 wait_end _ = 0
 
 -- A turn leads to at most n nodes, of an item that begins at `start` or before; a value ends at `end`, within the limit on items.
@@ -112,9 +85,9 @@ pub flat_nodes : (ss : Symbols) (q : Payload) → IsNoContainer q → nodes (ann
 flat_nodes ss q h = let n = nodes-out (annotated ss q) in omega (arith, n, h)
 
 number_flat : (n : Number) → IsNoContainer (number_payload n)
-number_flat (numbers.Int z) = ap layer_nodes (views.outs-Int z)
-number_flat (numbers.Decimal d) = ap layer_nodes (views.outs-Decimal d)
-number_flat (numbers.Timestamp t) = ap layer_nodes (views.outs-Timestamp t)
+number_flat (Number.Int z) = ap layer_nodes (views.outs-Int z)
+number_flat (Number.Decimal d) = ap layer_nodes (views.outs-Decimal d)
+number_flat (Number.Timestamp t) = ap layer_nodes (views.outs-Timestamp t)
 
 -- what a held word or symbol is as a value
 abbrev AllFlat : Result Payload Reason → Type 0
@@ -122,11 +95,11 @@ AllFlat (Ok q) = IsNoContainer q
 AllFlat (Err e) = Unit {0}
 
 held_flat : (h : Held) → AllFlat (held_payload h)
-held_flat (helds.Symbol s) = ap layer_nodes (views.outs-Symbol s)
-held_flat (helds.Version b s) = ap layer_nodes (views.outs-Symbol s)
-held_flat (helds.Null k) = ap layer_nodes (views.outs-Null k)
-held_flat (helds.Truth b) = ap layer_nodes (views.outs-Truth b)
-held_flat helds.Nan = tt
+held_flat (Held.Symbol s) = ap layer_nodes (views.outs-Symbol s)
+held_flat (Held.Version b s) = ap layer_nodes (views.outs-Symbol s)
+held_flat (Held.Null k) = ap layer_nodes (views.outs-Null k)
+held_flat (Held.Truth b) = ap layer_nodes (views.outs-Truth b)
+held_flat Held.Nan = tt
 
 within_weighs : (n item start end : ℕ) (top : Bool) (t : Turn) → (end ≤ start + item → Weighs n item start end top t)
     → Weighs n item start end top (within item start end t)
@@ -135,7 +108,7 @@ within_weighs n item start end top t h = go (nat_le end (start + item)) refl
     fits : nat_le end (start + item) ≡ true → end ≤ start + item
     fits e = grind (arith, nat_tests)
 
-    go : (b : Bool) → nat_le end (start + item) ≡ b → Weighs n item start end top (if b then t else refuses reasons.ItemTooLong)
+    go : (b : Bool) → nat_le end (start + item) ≡ b → Weighs n item start end top (if b then t else refuses Reason.ItemTooLong)
     go true e = h (fits e)
     go false e = tt
 
@@ -150,10 +123,10 @@ ended_weighs : (setting : Setting) (spot : Spot) (fs : List Frame) (v : Value) (
     → Weighs n setting.limits.item spot.start spot.end top (ended setting spot fs v)
 ended_weighs setting spot [] v n top h = let k : 0 + nodes v ≤ n = h in
     top_weighs n setting.limits.item spot.start spot.end top spot.context v (next spot.context v setting.catalog) (is_table v) (omega (arith, k))
-ended_weighs setting spot (frames.Items listings.List ss vs ∷ fs) v n top h = (omega (arith, h, nodes-more vs v), omega arith, tt)
-ended_weighs setting spot (frames.Items listings.Sexp ss vs ∷ fs) v n top h = (omega (arith, h, nodes-more vs v), omega arith, tt)
-ended_weighs setting spot (frames.Named ss ms s ∷ fs) v n top h = (omega (arith, h, fields_more ms (field_of s v)), omega arith, tt)
-ended_weighs setting spot (frames.Fields ss ms ∷ fs) v n top h = tt
+ended_weighs setting spot (Frame.Items Listing.List ss vs ∷ fs) v n top h = (omega (arith, h, nodes-more vs v), omega arith, tt)
+ended_weighs setting spot (Frame.Items Listing.Sexp ss vs ∷ fs) v n top h = (omega (arith, h, nodes-more vs v), omega arith, tt)
+ended_weighs setting spot (Frame.Named ss ms s ∷ fs) v n top h = (omega (arith, h, fields_more ms (field_of s v)), omega arith, tt)
+ended_weighs setting spot (Frame.Fields ss ms ∷ fs) v n top h = tt
 
 -- a value of one node behind its annotations
 flat_weighs : (setting : Setting) (spot : Spot) (fs : List Frame) (ss : Symbols) (q : Payload) (n : ℕ) (top : Bool) → IsNoContainer q
@@ -169,14 +142,14 @@ paid_weighs setting spot fs ss (Err e) n top f h = tt
 
 released_weighs : (setting : Setting) (spot : Spot) (fs : List Frame) (ss : Symbols) (h : Held) (n : ℕ) (top : Bool) → frames_nodes fs + length ss + 1 ≤ n
     → Weighs n setting.limits.item spot.start spot.end top (released setting spot fs ss h)
-released_weighs setting spot [] [] (helds.Version true s) n top k =
+released_weighs setting spot [] [] (Held.Version true s) n top k =
     within_weighs n setting.limits.item spot.start spot.end top _ (λ i. (omega arith, omega arith, tt))
-released_weighs setting spot [] [] (helds.Version false s) n top k = tt
-released_weighs setting spot [] [] (helds.Symbol s) n top k =
-    paid_weighs setting spot [] [] (held_payload (helds.Symbol s)) n top (held_flat (helds.Symbol s)) k
-released_weighs setting spot [] [] (helds.Null x) n top k = paid_weighs setting spot [] [] (held_payload (helds.Null x)) n top (held_flat (helds.Null x)) k
-released_weighs setting spot [] [] (helds.Truth b) n top k = paid_weighs setting spot [] [] (held_payload (helds.Truth b)) n top (held_flat (helds.Truth b)) k
-released_weighs setting spot [] [] helds.Nan n top k = tt
+released_weighs setting spot [] [] (Held.Version false s) n top k = tt
+released_weighs setting spot [] [] (Held.Symbol s) n top k =
+    paid_weighs setting spot [] [] (held_payload (Held.Symbol s)) n top (held_flat (Held.Symbol s)) k
+released_weighs setting spot [] [] (Held.Null x) n top k = paid_weighs setting spot [] [] (held_payload (Held.Null x)) n top (held_flat (Held.Null x)) k
+released_weighs setting spot [] [] (Held.Truth b) n top k = paid_weighs setting spot [] [] (held_payload (Held.Truth b)) n top (held_flat (Held.Truth b)) k
+released_weighs setting spot [] [] Held.Nan n top k = tt
 released_weighs setting spot [] (s ∷ ss) h n top k = paid_weighs setting spot [] (s ∷ ss) (held_payload h) n top (held_flat h) k
 released_weighs setting spot (f ∷ fs) ss h n top k = paid_weighs setting spot (f ∷ fs) ss (held_payload h) n top (held_flat h) k
 
@@ -209,16 +182,16 @@ bare_weighs n item start end top [] t h = h
 bare_weighs n item start end top (s ∷ ss) t h = tt
 
 -- a token that waits where it stood
-waits_top : (end : ℕ) (fs : List Frame) (h : Held) → TopWaits end (is_top fs) fs (nows.Pending h end)
+waits_top : (end : ℕ) (fs : List Frame) (h : Held) → TopWaits end (is_top fs) fs (Now.Pending h end)
 waits_top end [] h = (refl, refl)
 waits_top end (f ∷ fs) h = tt
 
-long_top : (end : ℕ) (fs : List Frame) (w : List ℕ) → TopWaits end (is_top fs) fs (nows.Long w end)
+long_top : (end : ℕ) (fs : List Frame) (w : List ℕ) → TopWaits end (is_top fs) fs (Now.Long w end)
 long_top end [] w = (refl, refl)
 long_top end (f ∷ fs) w = tt
 
 -- what doesn't wait
-still_top : (end : ℕ) (top : Bool) (fs : List Frame) → TopWaits end top fs nows.Ready
+still_top : (end : ℕ) (top : Bool) (fs : List Frame) → TopWaits end top fs Now.Ready
 still_top end top [] = tt
 still_top end top (f ∷ fs) = tt
 
@@ -239,13 +212,13 @@ module _ (g : Catalog) (l : Limits) where
     ready_weighs ss (Operator w) h = flat_weighs (under g l) spot fs ss (payloads.Symbol (Some w)) n (is_top fs) (ap layer_nodes (views.outs-Symbol (Some w))) h
     ready_weighs ss (Clob w) h = flat_weighs (under g l) spot fs ss (payloads.Clob w) n (is_top fs) (ap layer_nodes (views.outs-Clob w)) h
     ready_weighs ss (Blob w) h = flat_weighs (under g l) spot fs ss (payloads.Blob w) n (is_top fs) (ap layer_nodes (views.outs-Blob w)) h
-    ready_weighs ss (Mark' marks.ListOpen) h = deeper_weighs n l.item spot.start spot.end (is_top fs) l.depth fs _ _ (omega (arith, h), omega arith, tt) tt
-    ready_weighs ss (Mark' marks.SexpOpen) h = deeper_weighs n l.item spot.start spot.end (is_top fs) l.depth fs _ _ (omega (arith, h), omega arith, tt) tt
-    ready_weighs ss (Mark' marks.FieldsOpen) h = deeper_weighs n l.item spot.start spot.end (is_top fs) l.depth fs _ _ (omega (arith, h), omega arith, tt) tt
-    ready_weighs ss (Mark' marks.ListClose) h = bare_weighs n l.item spot.start spot.end (is_top fs) ss _
-        (closed_weighs (under g l) spot brackets.List fs n (is_top fs) (omega (arith, h)))
-    ready_weighs ss (Mark' marks.SexpClose) h = bare_weighs n l.item spot.start spot.end (is_top fs) ss _
-        (closed_weighs (under g l) spot brackets.Sexp fs n (is_top fs) (omega (arith, h)))
+    ready_weighs ss (Mark' Mark.ListOpen) h = deeper_weighs n l.item spot.start spot.end (is_top fs) l.depth fs _ _ (omega (arith, h), omega arith, tt) tt
+    ready_weighs ss (Mark' Mark.SexpOpen) h = deeper_weighs n l.item spot.start spot.end (is_top fs) l.depth fs _ _ (omega (arith, h), omega arith, tt) tt
+    ready_weighs ss (Mark' Mark.FieldsOpen) h = deeper_weighs n l.item spot.start spot.end (is_top fs) l.depth fs _ _ (omega (arith, h), omega arith, tt) tt
+    ready_weighs ss (Mark' Mark.ListClose) h = bare_weighs n l.item spot.start spot.end (is_top fs) ss _
+        (closed_weighs (under g l) spot Bracket.List fs n (is_top fs) (omega (arith, h)))
+    ready_weighs ss (Mark' Mark.SexpClose) h = bare_weighs n l.item spot.start spot.end (is_top fs) ss _
+        (closed_weighs (under g l) spot Bracket.Sexp fs n (is_top fs) (omega (arith, h)))
     ready_weighs ss (Mark' _) h = tt
 
     noted_weighs : (ss : Symbols) (r : Result (Option (List ℕ)) Reason) → frames_nodes fs + length ss + 1 ≤ n
@@ -254,7 +227,7 @@ module _ (g : Catalog) (l : Limits) where
     noted_weighs ss (Err e) h = tt
 
     pending_weighs : (ss : Symbols) (k : Held) (x : Content) → frames_nodes fs + length ss + 1 ≤ n → WeighsHere (on_pending spot.start spot.context fs ss k x)
-    pending_weighs ss k (Mark' marks.Colons) h = noted_weighs ss (held_symbol k) h
+    pending_weighs ss k (Mark' Mark.Colons) h = noted_weighs ss (held_symbol k) h
     pending_weighs ss k _ h = tt
 
     long_weighs : (ss : Symbols) (v : List ℕ) (x : Content) → frames_nodes fs + length ss + 1 ≤ n → WeighsHere (on_long spot fs ss v x)
@@ -263,24 +236,24 @@ module _ (g : Catalog) (l : Limits) where
 
   module _ (spot : Spot) (n : ℕ) where
     comma_weighs : (fs : List Frame) (top : Bool) → frames_nodes fs ≤ n → Weighs n l.item spot.start spot.end top (on_comma spot.start spot.context fs)
-    comma_weighs (frames.Items listings.List ss vs ∷ fs) top h = (omega (arith, h), omega arith, tt)
-    comma_weighs (frames.Fields ss ms ∷ fs) top h = (omega (arith, h), omega arith, tt)
-    comma_weighs (frames.Items listings.Sexp ss vs ∷ fs) top h = tt
-    comma_weighs (frames.Named ss ms s ∷ fs) top h = tt
+    comma_weighs (Frame.Items Listing.List ss vs ∷ fs) top h = (omega (arith, h), omega arith, tt)
+    comma_weighs (Frame.Fields ss ms ∷ fs) top h = (omega (arith, h), omega arith, tt)
+    comma_weighs (Frame.Items Listing.Sexp ss vs ∷ fs) top h = tt
+    comma_weighs (Frame.Named ss ms s ∷ fs) top h = tt
     comma_weighs [] top h = tt
 
     after_weighs : (fs : List Frame) (top : Bool) (x : Content) → frames_nodes fs ≤ n → Weighs n l.item spot.start spot.end top (on_after (under g l) spot fs x)
-    after_weighs fs top (Mark' marks.Comma) h = comma_weighs fs top h
-    after_weighs fs top (Mark' marks.ListClose) h = closed_weighs (under g l) spot brackets.List fs n top h
-    after_weighs fs top (Mark' marks.FieldsClose) h = closed_weighs (under g l) spot brackets.Fields fs n top h
+    after_weighs fs top (Mark' Mark.Comma) h = comma_weighs fs top h
+    after_weighs fs top (Mark' Mark.ListClose) h = closed_weighs (under g l) spot Bracket.List fs n top h
+    after_weighs fs top (Mark' Mark.FieldsClose) h = closed_weighs (under g l) spot Bracket.Fields fs n top h
     after_weighs fs top _ h = tt
 
     -- what doesn't wait as a value
-    name_top : (fs : List Frame) (top : Bool) (s : Option (List ℕ)) → TopWaits spot.end top fs (nows.Keyed s)
+    name_top : (fs : List Frame) (top : Bool) (s : Option (List ℕ)) → TopWaits spot.end top fs (Now.Keyed s)
     name_top [] top s = tt
     name_top (f ∷ fs) top s = tt
 
-    text_top : (fs : List Frame) (top : Bool) (w : List ℕ) → TopWaits spot.end top fs (nows.LongName w)
+    text_top : (fs : List Frame) (top : Bool) (w : List ℕ) → TopWaits spot.end top fs (Now.LongName w)
     text_top [] top w = tt
     text_top (f ∷ fs) top w = tt
 
@@ -289,7 +262,7 @@ module _ (g : Catalog) (l : Limits) where
     name_weighs fs top (Word w) h = go (is_keyword w)
       where
         go : (b : Bool) → Weighs n l.item spot.start spot.end top
-            (if b then late reasons.KeywordAsName (keyed spot.start spot.context fs (Some w)) else goes (keyed spot.start spot.context fs (Some w)))
+            (if b then late Reason.KeywordAsName (keyed spot.start spot.context fs (Some w)) else goes (keyed spot.start spot.context fs (Some w)))
         go true = tt
         go false = (omega (arith, h), omega arith, name_top fs top (Some w))
     name_weighs fs top (TypedNull k) h = tt
@@ -298,7 +271,7 @@ module _ (g : Catalog) (l : Limits) where
     name_weighs fs top (Quoted w) h = (omega (arith, h), omega arith, name_top fs top (Some w))
     name_weighs fs top (Short w) h = (omega (arith, h), omega arith, name_top fs top (Some w))
     name_weighs fs top (Long w) h = (omega (arith, h), omega arith, text_top fs top w)
-    name_weighs fs top (Mark' marks.FieldsClose) h = closed_weighs (under g l) spot brackets.Fields fs n top (omega (arith, h))
+    name_weighs fs top (Mark' Mark.FieldsClose) h = closed_weighs (under g l) spot Bracket.Fields fs n top (omega (arith, h))
     name_weighs fs top _ h = tt
 
     long_name_weighs : (fs : List Frame) (top : Bool) (v : List ℕ) (x : Content) → frames_nodes fs + 1 ≤ n
@@ -308,26 +281,26 @@ module _ (g : Catalog) (l : Limits) where
 
     named_weighs : (fs : List Frame) (top : Bool) (s : Option (List ℕ)) → frames_nodes fs + 1 ≤ n
         → Weighs n l.item spot.start spot.end top (named spot.start spot.context fs s)
-    named_weighs (frames.Fields ss ms ∷ fs) top s h = (omega (arith, h), omega arith, tt)
-    named_weighs (frames.Items listing ss vs ∷ fs) top s h = tt
-    named_weighs (frames.Named ss ms x ∷ fs) top s h = tt
+    named_weighs (Frame.Fields ss ms ∷ fs) top s h = (omega (arith, h), omega arith, tt)
+    named_weighs (Frame.Items listing ss vs ∷ fs) top s h = tt
+    named_weighs (Frame.Named ss ms x ∷ fs) top s h = tt
     named_weighs [] top s h = tt
 
     keyed_weighs : (fs : List Frame) (top : Bool) (s : Option (List ℕ)) (x : Content) → frames_nodes fs + 1 ≤ n
         → Weighs n l.item spot.start spot.end top (on_keyed spot.start spot.context fs s x)
-    keyed_weighs fs top s (Mark' marks.Colon) h = named_weighs fs top s h
+    keyed_weighs fs top s (Mark' Mark.Colon) h = named_weighs fs top s h
     keyed_weighs fs top s _ h = tt
 
   now_weighs : (begin end start : ℕ) (c : List Slot) (fs : List Frame) (ss : Symbols) (x : Content) (now : Now)
       → Weighs (frames_nodes fs + length ss + now_nodes now + 1) l.item (start_now now start begin fs ss) end (is_top fs)
       (turn_now (under g l) (at start c fs ss now) (token_at begin end x) now)
-  now_weighs begin end start c fs ss x nows.Ready = ready_weighs (spot_at end (begun_at start begin fs ss) c) fs _ ss x (omega arith)
-  now_weighs begin end start c fs ss x (nows.Pending h e) = pending_weighs (spot_at end start c) fs _ ss h x (omega arith)
-  now_weighs begin end start c fs ss x (nows.Long w e) = long_weighs (spot_at end start c) fs _ ss w x (omega arith)
-  now_weighs begin end start c fs ss x nows.After = after_weighs (spot_at end start c) _ fs (is_top fs) x (omega arith)
-  now_weighs begin end start c fs ss x nows.Name = name_weighs (spot_at end start c) _ fs (is_top fs) x (omega arith)
-  now_weighs begin end start c fs ss x (nows.LongName w) = long_name_weighs (spot_at end start c) _ fs (is_top fs) w x (omega arith)
-  now_weighs begin end start c fs ss x (nows.Keyed s) = keyed_weighs (spot_at end start c) _ fs (is_top fs) s x (omega arith)
+  now_weighs begin end start c fs ss x Now.Ready = ready_weighs (spot_at end (begun_at start begin fs ss) c) fs _ ss x (omega arith)
+  now_weighs begin end start c fs ss x (Now.Pending h e) = pending_weighs (spot_at end start c) fs _ ss h x (omega arith)
+  now_weighs begin end start c fs ss x (Now.Long w e) = long_weighs (spot_at end start c) fs _ ss w x (omega arith)
+  now_weighs begin end start c fs ss x Now.After = after_weighs (spot_at end start c) _ fs (is_top fs) x (omega arith)
+  now_weighs begin end start c fs ss x Now.Name = name_weighs (spot_at end start c) _ fs (is_top fs) x (omega arith)
+  now_weighs begin end start c fs ss x (Now.LongName w) = long_name_weighs (spot_at end start c) _ fs (is_top fs) w x (omega arith)
+  now_weighs begin end start c fs ss x (Now.Keyed s) = keyed_weighs (spot_at end start c) _ fs (is_top fs) s x (omega arith)
 
   -- A token adds one node at most.
   pub turn_weighs : (r : Reading) (t : Token) → Weighs (open_nodes r + 1) l.item (start_now r.now r.start t.start r.frames r.notes) t.end (is_top r.frames)
@@ -336,28 +309,28 @@ module _ (g : Catalog) (l : Limits) where
 
   settled_weighs : (start : ℕ) (c : List Slot) (fs : List Frame) (ss : Symbols) (now : Now)
       → Weighs (frames_nodes fs + length ss + now_nodes now) l.item start (wait_end now) false (settle g l (at start c fs ss now))
-  settled_weighs start c fs ss (nows.Pending h end) = released_weighs (under g l) (spot_at end start c) fs ss h _ false (omega arith)
-  settled_weighs start c fs ss (nows.Long w end) = flat_weighs (under g l) (spot_at end start c) fs ss (payloads.Str w) _ false
+  settled_weighs start c fs ss (Now.Pending h end) = released_weighs (under g l) (spot_at end start c) fs ss h _ false (omega arith)
+  settled_weighs start c fs ss (Now.Long w end) = flat_weighs (under g l) (spot_at end start c) fs ss (payloads.Str w) _ false
       (ap layer_nodes (views.outs-Str w)) (omega arith)
-  settled_weighs start c fs ss (nows.LongName w) = (omega arith, omega arith, still fs)
+  settled_weighs start c fs ss (Now.LongName w) = (omega arith, omega arith, still fs)
     where
-      still : (fs : List Frame) → TopWaits 0 false fs (nows.Keyed (Some w))
+      still : (fs : List Frame) → TopWaits 0 false fs (Now.Keyed (Some w))
       still [] = tt
       still (f ∷ fs) = tt
-  settled_weighs start c fs ss nows.Ready = (omega arith, omega arith, still_top 0 false fs)
-  settled_weighs start c fs ss nows.After = (omega arith, omega arith, still fs)
+  settled_weighs start c fs ss Now.Ready = (omega arith, omega arith, still_top 0 false fs)
+  settled_weighs start c fs ss Now.After = (omega arith, omega arith, still fs)
     where
-      still : (fs : List Frame) → TopWaits 0 false fs nows.After
+      still : (fs : List Frame) → TopWaits 0 false fs Now.After
       still [] = tt
       still (f ∷ fs) = tt
-  settled_weighs start c fs ss nows.Name = (omega arith, omega arith, still fs)
+  settled_weighs start c fs ss Now.Name = (omega arith, omega arith, still fs)
     where
-      still : (fs : List Frame) → TopWaits 0 false fs nows.Name
+      still : (fs : List Frame) → TopWaits 0 false fs Now.Name
       still [] = tt
       still (f ∷ fs) = tt
-  settled_weighs start c fs ss (nows.Keyed s) = (omega arith, omega arith, still fs)
+  settled_weighs start c fs ss (Now.Keyed s) = (omega arith, omega arith, still fs)
     where
-      still : (fs : List Frame) → TopWaits 0 false fs (nows.Keyed s)
+      still : (fs : List Frame) → TopWaits 0 false fs (Now.Keyed s)
       still [] = tt
       still (f ∷ fs) = tt
 

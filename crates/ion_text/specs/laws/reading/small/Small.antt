@@ -1,52 +1,23 @@
 -- Each value has at most as many nodes as octets were used since the value before it, and as the limit on items allows octets.
 use Rattle.std.proofs.Common.{◌≡◌, ℕ, zero, suc, ◌+◌, ◌≤◌, max, nat_le, List, [], ◌∷◌, ◌++◌, length, Bool, true, false, ◌&&◌, ◌||◌, not, Result, Ok, Err, Option, Some, None, refl, ap, sym, ◌∙◌, subst, arith, if◌then◌else◌, ◌⊎◌, inl, inr}
-use Rattle.ion_model.specs.declared.value.Value.{Value}
-use Rattle.ion_atoms.specs.declared.refusal.Reason.{Reason}
-use Rattle.ion_atoms.specs.declared.refusal.Reason.TheVariants as reasons
-use Rattle.ion_atoms.specs.declared.refusal.Refusal.{Refusal}
-use Rattle.ion_symtab.specs.declared.limits.Limits.{Limits}
-use Rattle.ion_symtab.specs.declared.catalog.Catalog.{Catalog}
-use Rattle.ion_symtab.specs.Slots.{Slot}
-use Rattle.ion_symtab.specs.Promises.{HasSpan, Spaced, IsSmall}
-use Rattle.ion_tokens.specs.declared.mode.Place.{Place}
-use Rattle.ion_tokens.specs.declared.mode.Place.TheVariants as places
-use Rattle.ion_tokens.specs.declared.mode.Mode.{Mode}
-use Rattle.ion_tokens.specs.declared.mode.Mode.TheVariants as modes
-use Rattle.ion_tokens.specs.declared.mode.Mark.TheVariants as marks
-use Rattle.ion_tokens.specs.declared.mode.TokenKind.TheVariants as kinds
-use Rattle.ion_tokens.specs.Places.{is_sexp}
-use Rattle.ion_tokens.specs.machine.Bounds.{is_idle}
-use Rattle.ion_tokens.specs.machine.Table.{end_of}
-use Rattle.ion_tokens.specs.machine.Ahead.{is_quoting, is_quoted, long_waits}
-use Rattle.ion_tokens.specs.Bodies.{Content, Operator, Mark', IsBody}
-use Rattle.ion_tokens.specs.machine.Said.{said}
-use Rattle.ion_tokens.specs.machine.Scanning.{Known, Outcome, Next, Given, Left, Refused, feed, at_end}
-use Rattle.ion_tokens.specs.Lexemes.{Lexeme}
-use Rattle.ion_text.specs.declared.state.Now.{Now}
-use Rattle.ion_text.specs.declared.state.Now.TheVariants as nows
-use Rattle.ion_text.specs.declared.state.Frame.{Frame}
-use Rattle.ion_text.specs.declared.state.Frame.TheVariants as frames
-use Rattle.ion_text.specs.machine.EachToken.{under, token_at, Reading, Turn, goes, gives, refuses, late, Symbols, at, fresh, place, place_in, settle, turn, turn_now}
-use Rattle.ion_text.specs.machine.Run.{State, Effect, uses, tells, leaves, fails, begun, eats, takes, waits, waits_now, in_segment, unsettled, noticed, shut, reaches, or_worse, on_scan, on_settled, on_said, behind_given, behind_left, with_scan, token_of, is_top, Run, run, run_on, once_more, trace, ends_of, cut_short, end_late, end_settled, end_turned, end_said, end_waiting, end_ready, end_now, is_fresh}
-use Rattle.ion_text.specs.laws.reading.sound.Held.{or_parts}
+use Rattle.ion_text.specs.Names.{Catalog, Content, Effect, Frame, Given, HasSpan, IsBody, IsSmall, Known, Leading, Left, Lexeme, Limits, Mark, Mark', Mode, Next, Now, Operator, Outcome, Place, Reading, Reason, Refusal, Refused, Run, Slot, Spaced, State, Symbols, TokenKind, Turn, Value, at, at_end, begun, behind_given, behind_left, cut_short, eats, end_late, end_now, end_of, end_ready, end_said, end_settled, end_turned, end_waiting, ends_of, fails, feed, fresh, gives, goes, in_segment, is_fresh, is_idle, is_quoted, is_quoting, is_sexp, is_top, late, leaves, long_waits, noticed, on_said, on_scan, on_settled, once_more, or_worse, place, place_in, reaches, refuses, run, run_on, said, said_body, settle, settle_same, shut, takes, tells, token_at, token_of, trace, turn, turn_now, under, unsettled, uses, waits, waits_now, with_scan}
+use Rattle.ion_text.specs.laws.reading.complete.Meets.{IdleLeft, end_spans, idle_left}
 use Rattle.ion_text.specs.laws.reading.complete.Segments.{NotRefused, unsettled_waits}
+use Rattle.ion_text.specs.laws.reading.small.Lengths.{EndedToken, Measured, Sized, feed_measured, idle_next, next_wants, quoting_next, sized_initial, token_wants, wants, wants_next}
+use Rattle.ion_text.specs.laws.reading.small.Sizes.{TopWaits, WaitsSince, Weighs, frames_nodes, now_nodes, open_nodes, settle_weighs, turn_weighs, wait_end}
+use Rattle.ion_text.specs.laws.reading.sound.Held.{or_parts}
 use Rattle.ion_text.specs.laws.reading.sound.StandsOpen.{start_now}
-use Rattle.ion_text.specs.machine.Passed.{said_body}
-use Rattle.ion_text.specs.machine.Places.{Leading, settle_same}
-use Rattle.ion_text.specs.laws.reading.complete.Meets.{IdleLeft, idle_left, end_spans}
-use Rattle.ion_text.specs.laws.reading.small.Lengths.{wants, wants_next, next_wants, idle_next, quoting_next, Sized, sized_initial, EndedToken, Measured, feed_measured, token_wants}
-use Rattle.ion_text.specs.laws.reading.small.Sizes.{frames_nodes, now_nodes, open_nodes, WaitsSince, TopWaits, Weighs, turn_weighs, settle_weighs, wait_end}
 
 -- what waits ended behind so many octets, and within those used
 abbrev pub WaitsFrom : ℕ → ℕ → Now → Type 0
-WaitsFrom b used (nows.Pending h end) = (b ≤ end) × (end ≤ used)
-WaitsFrom b used (nows.Long w end) = (b ≤ end) × (end ≤ used)
+WaitsFrom b used (Now.Pending h end) = (b ≤ end) × (end ≤ used)
+WaitsFrom b used (Now.Long w end) = (b ≤ end) × (end ≤ used)
 WaitsFrom b used _ = Unit {0}
 
 -- behind it no token is open, but quotes behind a long string
 abbrev pub WaitsIn : Now → Mode → Type 0
-WaitsIn (nows.Pending h end) m = is_idle m ≡ true
-WaitsIn (nows.Long w end) m = (is_idle m ≡ true) ⊎ (is_quoting m ≡ true)
+WaitsIn (Now.Pending h end) m = is_idle m ≡ true
+WaitsIn (Now.Long w end) m = (is_idle m ≡ true) ⊎ (is_quoting m ≡ true)
 WaitsIn _ m = Unit {0}
 
 -- Behind `from` octets, which were used when the value before came, there is an octet for each node of what is open. They are counted from
@@ -75,16 +46,16 @@ pub record EndedNear (from : ℕ) (r : Reading) (x : Lexeme) (t : Known) : Type 
 opened : (now : Now) (fs : List Frame) (ss : Symbols) (start begin base end : ℕ) → start ≤ base → base + (frames_nodes fs + length ss + now_nodes now) + 1 ≤ end
     → begin + 1 ≤ end
     → (b : ℕ) × (base ≤ b) × (start_now now start begin fs ss ≤ b) × (b + (frames_nodes fs + length ss + now_nodes now) + 1 ≤ end)
-opened nows.Ready [] [] start begin base end h k n = (max base begin, omega arith, omega arith, omega (arith, k, n))
-opened nows.Ready [] (s ∷ ss) start begin base end h k n = (base, omega arith, h, k)
-opened nows.Ready (f ∷ fs) [] start begin base end h k n = (base, omega arith, h, k)
-opened nows.Ready (f ∷ fs) (s ∷ ss) start begin base end h k n = (base, omega arith, h, k)
-opened (nows.Pending x e) fs ss start begin base end h k n = (base, omega arith, h, k)
-opened (nows.Long w e) fs ss start begin base end h k n = (base, omega arith, h, k)
-opened nows.After fs ss start begin base end h k n = (base, omega arith, h, k)
-opened nows.Name fs ss start begin base end h k n = (base, omega arith, h, k)
-opened (nows.LongName w) fs ss start begin base end h k n = (base, omega arith, h, k)
-opened (nows.Keyed s) fs ss start begin base end h k n = (base, omega arith, h, k)
+opened Now.Ready [] [] start begin base end h k n = (max base begin, omega arith, omega arith, omega (arith, k, n))
+opened Now.Ready [] (s ∷ ss) start begin base end h k n = (base, omega arith, h, k)
+opened Now.Ready (f ∷ fs) [] start begin base end h k n = (base, omega arith, h, k)
+opened Now.Ready (f ∷ fs) (s ∷ ss) start begin base end h k n = (base, omega arith, h, k)
+opened (Now.Pending x e) fs ss start begin base end h k n = (base, omega arith, h, k)
+opened (Now.Long w e) fs ss start begin base end h k n = (base, omega arith, h, k)
+opened Now.After fs ss start begin base end h k n = (base, omega arith, h, k)
+opened Now.Name fs ss start begin base end h k n = (base, omega arith, h, k)
+opened (Now.LongName w) fs ss start begin base end h k n = (base, omega arith, h, k)
+opened (Now.Keyed s) fs ss start begin base end h k n = (base, omega arith, h, k)
 
 -- what is said of the top level
 at_top : (end : ℕ) (top : Bool) (fs : List Frame) (now : Now) → TopWaits end top fs now → is_top fs ≡ true → WaitsSince end top now
@@ -93,45 +64,45 @@ at_top end top (f ∷ fs) now h e = absurd cc
 
 -- what began to wait with a token
 since_behind : (b used end : ℕ) (top : Bool) (now : Now) → WaitsSince end top now → b ≤ end → end ≤ used → WaitsFrom b used now
-since_behind b used end top (nows.Pending h e) w k n = (omega (arith, w.0, k), omega (arith, w.0, n))
-since_behind b used end top (nows.Long v e) w k n = (omega (arith, w.0, k), omega (arith, w.0, n))
-since_behind b used end top nows.Ready w k n = tt
-since_behind b used end top nows.After w k n = tt
-since_behind b used end top nows.Name w k n = tt
-since_behind b used end top (nows.LongName v) w k n = tt
-since_behind b used end top (nows.Keyed s) w k n = tt
+since_behind b used end top (Now.Pending h e) w k n = (omega (arith, w.0, k), omega (arith, w.0, n))
+since_behind b used end top (Now.Long v e) w k n = (omega (arith, w.0, k), omega (arith, w.0, n))
+since_behind b used end top Now.Ready w k n = tt
+since_behind b used end top Now.After w k n = tt
+since_behind b used end top Now.Name w k n = tt
+since_behind b used end top (Now.LongName v) w k n = tt
+since_behind b used end top (Now.Keyed s) w k n = tt
 
 since_in : (end : ℕ) (top : Bool) (now : Now) (m : Mode) → WaitsSince end top now → (top ≡ true → is_idle m ≡ true) → WaitsIn now m
-since_in end top (nows.Pending h e) m w i = i w.1
-since_in end top (nows.Long v e) m w i = inl (i w.1)
-since_in end top nows.Ready m w i = tt
-since_in end top nows.After m w i = tt
-since_in end top nows.Name m w i = tt
-since_in end top (nows.LongName v) m w i = tt
-since_in end top (nows.Keyed s) m w i = tt
+since_in end top (Now.Pending h e) m w i = i w.1
+since_in end top (Now.Long v e) m w i = inl (i w.1)
+since_in end top Now.Ready m w i = tt
+since_in end top Now.After m w i = tt
+since_in end top Now.Name m w i = tt
+since_in end top (Now.LongName v) m w i = tt
+since_in end top (Now.Keyed s) m w i = tt
 
 -- nothing was told to wait behind what didn't stand at the top level
 none_since : (b used end : ℕ) (now : Now) → WaitsSince end false now → WaitsFrom b used now
-none_since b used end (nows.Pending h e) w = absurd (let n : false ≡ true = w.1 in cc)
-none_since b used end (nows.Long v e) w = absurd (let n : false ≡ true = w.1 in cc)
-none_since b used end nows.Ready w = tt
-none_since b used end nows.After w = tt
-none_since b used end nows.Name w = tt
-none_since b used end (nows.LongName v) w = tt
-none_since b used end (nows.Keyed s) w = tt
+none_since b used end (Now.Pending h e) w = absurd (let n : false ≡ true = w.1 in cc)
+none_since b used end (Now.Long v e) w = absurd (let n : false ≡ true = w.1 in cc)
+none_since b used end Now.Ready w = tt
+none_since b used end Now.After w = tt
+none_since b used end Now.Name w = tt
+none_since b used end (Now.LongName v) w = tt
+none_since b used end (Now.Keyed s) w = tt
 
 none_in : (end : ℕ) (now : Now) (m : Mode) → WaitsSince end false now → WaitsIn now m
 none_in end now m w = since_in end false now m w (λ e. absurd cc)
 
 -- more octets change nothing
 longer : (b used later : ℕ) (now : Now) → WaitsFrom b used now → used ≤ later → WaitsFrom b later now
-longer b used later (nows.Pending h e) w k = (w.0, omega (arith, w.1, k))
-longer b used later (nows.Long v e) w k = (w.0, omega (arith, w.1, k))
-longer b used later nows.Ready w k = tt
-longer b used later nows.After w k = tt
-longer b used later nows.Name w k = tt
-longer b used later (nows.LongName v) w k = tt
-longer b used later (nows.Keyed s) w k = tt
+longer b used later (Now.Pending h e) w k = (w.0, omega (arith, w.1, k))
+longer b used later (Now.Long v e) w k = (w.0, omega (arith, w.1, k))
+longer b used later Now.Ready w k = tt
+longer b used later Now.After w k = tt
+longer b used later Now.Name w k = tt
+longer b used later (Now.LongName v) w k = tt
+longer b used later (Now.Keyed s) w k = tt
 
 -- no item is open, and no octet behind the values before belongs to one
 near_fresh : (from : ℕ) (s : Known) (r : Reading) → r ≡ fresh r.context → from + wants s.mode ≤ s.used → Sized s → Near from s r
@@ -152,13 +123,13 @@ one_true false b h = inr h
 
 -- what waits goes on to wait at an octet
 waits_in : (now : Now) (top : Bool) (t : Known) → waits_now top now (Next t) ≡ true → WaitsIn now t.mode
-waits_in (nows.Pending h e) top t w = w
-waits_in (nows.Long v e) top t w = one_true (is_idle t.mode) (is_quoting t.mode) w
-waits_in nows.Ready top t w = tt
-waits_in nows.After top t w = tt
-waits_in nows.Name top t w = tt
-waits_in (nows.LongName v) top t w = tt
-waits_in (nows.Keyed s) top t w = tt
+waits_in (Now.Pending h e) top t w = w
+waits_in (Now.Long v e) top t w = one_true (is_idle t.mode) (is_quoting t.mode) w
+waits_in Now.Ready top t w = tt
+waits_in Now.After top t w = tt
+waits_in Now.Name top t w = tt
+waits_in (Now.LongName v) top t w = tt
+waits_in (Now.Keyed s) top t w = tt
 
 -- no operators stand at the top level
 top_sexp : (fs : List Frame) (now : Now) → is_top fs ≡ true → is_sexp (place_in fs now) ≡ false
@@ -166,7 +137,7 @@ top_sexp [] now h = refl
 top_sexp (f ∷ fs) now h = absurd cc
 
 -- where no operator may end, none is open behind a token
-ended_idle : (p : Place) (x : Lexeme) (m : Mode) → (is_idle m ≡ true) ⊎ ((x.kind ≡ kinds.Operator) × (is_sexp p ≡ true)) → is_sexp p ≡ false → is_idle m ≡ true
+ended_idle : (p : Place) (x : Lexeme) (m : Mode) → (is_idle m ≡ true) ⊎ ((x.kind ≡ TokenKind.Operator) × (is_sexp p ≡ true)) → is_sexp p ≡ false → is_idle m ≡ true
 ended_idle p x m (inl h) e = h
 ended_idle p x m (inr h) e = absurd (let n : true ≡ false = sym h.1 ∙ e in cc)
 
@@ -175,11 +146,11 @@ abbrev GivesNone : Turn → Type 0
 GivesNone (gives v r) = ⊥
 GivesNone _ = Unit {0}
 
-operator_body : (octets : List ℕ) (c : Content) → IsBody kinds.Operator octets (Ok c) → c ≡ Operator octets
+operator_body : (octets : List ℕ) (c : Content) → IsBody TokenKind.Operator octets (Ok c) → c ≡ Operator octets
 operator_body octets c h = h.0
 
-colon_body : (octets : List ℕ) (c : Content) → IsBody (kinds.Mark marks.Colon) octets (Ok c) → c ≡ Mark' marks.Colon
-colon_body octets c h = let e : Ok c ≡ Ok (Mark' marks.Colon) = h in cc
+colon_body : (octets : List ℕ) (c : Content) → IsBody (TokenKind.Mark Mark.Colon) octets (Ok c) → c ≡ Mark' Mark.Colon
+colon_body octets c h = let e : Ok c ≡ Ok (Mark' Mark.Colon) = h in cc
 
 module _ (g : Catalog) (l : Limits) where
   -- what a token leads to
@@ -261,13 +232,13 @@ module _ (g : Catalog) (l : Limits) where
   waited_near : (from : ℕ) (s : Known) (start : ℕ) (c : List Slot) (fs : List Frame) (ss : Symbols) (now : Now) (h : Near from s (at start c fs ss now))
       → GivesNone (settle g l (at start c fs ss now)) ⊎ ((h.base + open_nodes (at start c fs ss now) ≤ wait_end now) × (wait_end now ≤ s.used))
   waited_near from s start c (f ∷ fs) ss now h = inl (open_none start c f fs ss now)
-  waited_near from s start c [] ss (nows.Pending k e) h = inr (h.waiting refl)
-  waited_near from s start c [] ss (nows.Long w e) h = inr (h.waiting refl)
-  waited_near from s start c [] ss nows.Ready h = inl tt
-  waited_near from s start c [] ss nows.After h = inl tt
-  waited_near from s start c [] ss nows.Name h = inl tt
-  waited_near from s start c [] ss (nows.LongName w) h = inl tt
-  waited_near from s start c [] ss (nows.Keyed k) h = inl tt
+  waited_near from s start c [] ss (Now.Pending k e) h = inr (h.waiting refl)
+  waited_near from s start c [] ss (Now.Long w e) h = inr (h.waiting refl)
+  waited_near from s start c [] ss Now.Ready h = inl tt
+  waited_near from s start c [] ss Now.After h = inl tt
+  waited_near from s start c [] ss Now.Name h = inl tt
+  waited_near from s start c [] ss (Now.LongName w) h = inl tt
+  waited_near from s start c [] ss (Now.Keyed k) h = inl tt
 
   settle_near : (from : ℕ) (s : Known) (r : Reading) → Near from s r → TurnNear from s (settle g l r)
   settle_near from s r h = settled_near from s r (settle g l r) h (settle_weighs g l r) (waited_near from s r.start r.context r.frames r.notes r.now h)
@@ -287,7 +258,7 @@ module _ (g : Catalog) (l : Limits) where
   abbrev ScannedNear : ℕ → Reading → Outcome → Type 0
   ScannedNear from r (Next t) = Near from t r
   ScannedNear from r (Given x t) = EndedNear from r x t
-  ScannedNear from r (Left x t) = EndedNear from r x t ⊎ ((x.kind ≡ kinds.Mark marks.Colon) × (r ≡ fresh r.context))
+  ScannedNear from r (Left x t) = EndedNear from r x t ⊎ ((x.kind ≡ TokenKind.Mark Mark.Colon) × (r ≡ fresh r.context))
   ScannedNear from r (Refused n e) = Unit {0}
 
   module _ (from : ℕ) (s : Known) (r : Reading) (h : Near from s r) where
@@ -323,8 +294,8 @@ module _ (g : Catalog) (l : Limits) where
 
   -- Behind a value, at the octet that showed its end. Behind a long string one quote may be used then: of the symbol that it begins an
   -- octet more comes before the token ends, so that the octets from here on suffice.
-  comes_again : (p : Place) (s : Known) (r : Reading) (x : Outcome) → r ≡ fresh r.context → p ≡ places.Top → wants_next s.mode ≡ 1 → Measured p s x
-      → ((y : Lexeme) (t : Known) → x ≡ Left y t → y.kind ≡ kinds.Mark marks.Colon) → ScannedNear s.used r x
+  comes_again : (p : Place) (s : Known) (r : Reading) (x : Outcome) → r ≡ fresh r.context → p ≡ Place.Top → wants_next s.mode ≡ 1 → Measured p s x
+      → ((y : Lexeme) (t : Known) → x ≡ Left y t → y.kind ≡ TokenKind.Mark Mark.Colon) → ScannedNear s.used r x
   comes_again p s r (Next t) e q m z k = near_fresh s.used t r e (omega (arith, z.1, z.2, m)) z.0
   comes_again p s r (Given y t) e q m z k =
       subst (λ n. EndedNear s.used n y t) (sym e)
@@ -342,10 +313,10 @@ module _ (g : Catalog) (l : Limits) where
   comes_again p s r (Left y t) e q m z k = inr (k y t refl, e)
   comes_again p s r (Refused n y) e q m z k = tt
 
-  idle_colon : (s : Known) (o : ℕ) → is_idle s.mode ≡ true → (y : Lexeme) (t : Known) → feed places.Top s o ≡ Left y t → y.kind ≡ kinds.Mark marks.Colon
-  idle_colon s o h y t e = by (subst (IdleLeft places.Top s.used) e (idle_left places.Top s o h))
+  idle_colon : (s : Known) (o : ℕ) → is_idle s.mode ≡ true → (y : Lexeme) (t : Known) → feed Place.Top s o ≡ Left y t → y.kind ≡ TokenKind.Mark Mark.Colon
+  idle_colon s o h y t e = by (subst (IdleLeft Place.Top s.used) e (idle_left Place.Top s o h))
     where
-      by : ((y.kind ≡ kinds.Mark marks.Colon) × (s.used ≤ y.end)) ⊎ ((y.kind ≡ kinds.Operator) × (is_sexp places.Top ≡ true)) → y.kind ≡ kinds.Mark marks.Colon
+      by : ((y.kind ≡ TokenKind.Mark Mark.Colon) × (s.used ≤ y.end)) ⊎ ((y.kind ≡ TokenKind.Operator) × (is_sexp Place.Top ≡ true)) → y.kind ≡ TokenKind.Mark Mark.Colon
       by (inl k) = k.0
       by (inr k) = absurd (let n : false ≡ true = k.1 in cc)
 
@@ -367,8 +338,8 @@ module _ (g : Catalog) (l : Limits) where
     noticed_came : (r : Reading) (t : Known) → Near from t r → t.used ≡ used + 1 → CameNear from used o (noticed l r t)
     noticed_came r t h e = go (shut r.now && not (is_idle t.mode)) (nat_le (reaches r.frames r t) l.item)
       where
-        go : (x y : Bool) → CameNear from used o (if x then fails reasons.Unexpected else
-            (if y then uses (record { scan = t; reading = r }) else fails reasons.ItemTooLong))
+        go : (x y : Bool) → CameNear from used o (if x then fails Reason.Unexpected else
+            (if y then uses (record { scan = t; reading = r }) else fails Reason.ItemTooLong))
         go true y = tt
         go false true = (h, e)
         go false false = tt
@@ -394,7 +365,7 @@ module _ (g : Catalog) (l : Limits) where
     left_came again t (goes r) f h e i z = f (with_scan t r) h e
     left_came again t (gives v r) f h e (inl i) z = absurd i
     left_came again t (gives v r) f h e (inr i) z =
-        let top : place r ≡ places.Top = ap place h.1 in (
+        let top : place r ≡ Place.Top = ap place h.1 in (
           subst (λ n. HasSpan l.item from n v) e h.0,
           e,
           h.1,
@@ -406,7 +377,7 @@ module _ (g : Catalog) (l : Limits) where
     left_came again t (late x r) f h e i z = worse_came x (again (with_scan t r))
 
     -- a colon where no item is open
-    colon_fails : (again : State → Effect) (t : Known) (r : Reading) (x : Lexeme) (c : Content) → r ≡ fresh r.context → c ≡ Mark' marks.Colon
+    colon_fails : (again : State → Effect) (t : Known) (r : Reading) (x : Lexeme) (c : Content) → r ≡ fresh r.context → c ≡ Mark' Mark.Colon
         → CameNear from used o (behind_left again t (turn g l r (token_of x c)))
     colon_fails again t r x c e k =
         subst (λ n. CameNear from used o (behind_left again t (turn g l n (token_of x c)))) (sym e)
@@ -415,19 +386,19 @@ module _ (g : Catalog) (l : Limits) where
     operator_gives : (begin end start : ℕ) (c : List Slot) (fs : List Frame) (ss : Symbols) (now : Now) (w : List ℕ) → is_top fs ≡ false
         → GivesNone (turn_now (under g l) (at start c fs ss now) (token_at begin end (Operator w)) now)
     operator_gives begin end start c [] ss now w h = absurd cc
-    operator_gives begin end start c (frames.Items listing xs vs ∷ fs) ss nows.Ready w h = tt
-    operator_gives begin end start c (frames.Fields xs vs ∷ fs) ss nows.Ready w h = tt
-    operator_gives begin end start c (frames.Named xs vs s ∷ fs) ss nows.Ready w h = tt
-    operator_gives begin end start c (f ∷ fs) ss (nows.Pending k e) w h = tt
-    operator_gives begin end start c (f ∷ fs) ss (nows.Long k e) w h = tt
-    operator_gives begin end start c (f ∷ fs) ss nows.After w h = tt
-    operator_gives begin end start c (f ∷ fs) ss nows.Name w h = tt
-    operator_gives begin end start c (f ∷ fs) ss (nows.LongName k) w h = tt
-    operator_gives begin end start c (f ∷ fs) ss (nows.Keyed k) w h = tt
+    operator_gives begin end start c (Frame.Items listing xs vs ∷ fs) ss Now.Ready w h = tt
+    operator_gives begin end start c (Frame.Fields xs vs ∷ fs) ss Now.Ready w h = tt
+    operator_gives begin end start c (Frame.Named xs vs s ∷ fs) ss Now.Ready w h = tt
+    operator_gives begin end start c (f ∷ fs) ss (Now.Pending k e) w h = tt
+    operator_gives begin end start c (f ∷ fs) ss (Now.Long k e) w h = tt
+    operator_gives begin end start c (f ∷ fs) ss Now.After w h = tt
+    operator_gives begin end start c (f ∷ fs) ss Now.Name w h = tt
+    operator_gives begin end start c (f ∷ fs) ss (Now.LongName k) w h = tt
+    operator_gives begin end start c (f ∷ fs) ss (Now.Keyed k) w h = tt
 
     -- a token that is left gives a value where none is open behind it
     left_idle : (p : Place) (r : Reading) (x : Lexeme) (t : Known) (c : Content) → p ≡ place r → (is_idle t.mode ≡ true)
-        ⊎ ((x.kind ≡ kinds.Operator) × (is_sexp p ≡ true)) → said x.kind x.octets ≡ Ok c → GivesNone (turn g l r (token_of x c)) ⊎ (is_idle t.mode ≡ true)
+        ⊎ ((x.kind ≡ TokenKind.Operator) × (is_sexp p ≡ true)) → said x.kind x.octets ≡ Ok c → GivesNone (turn g l r (token_of x c)) ⊎ (is_idle t.mode ≡ true)
     left_idle p r x t c q (inl i) e = inr i
     left_idle p r x t c q (inr i) e = by (is_top r.frames) refl
       where
@@ -455,17 +426,17 @@ module _ (g : Catalog) (l : Limits) where
 
     -- What gives a value before the octet waited, and the octet ends no token behind it but a colon.
     abbrev ShowsEnd : Known → Type 0
-    ShowsEnd s = (wants_next s.mode ≡ 1) × ((y : Lexeme) (t : Known) → feed places.Top s o ≡ Left y t → y.kind ≡ kinds.Mark marks.Colon)
+    ShowsEnd s = (wants_next s.mode ≡ 1) × ((y : Lexeme) (t : Known) → feed Place.Top s o ≡ Left y t → y.kind ≡ TokenKind.Mark Mark.Colon)
 
     never_quoted : (b : Bool) → b ≡ true → (true && b) ≡ false → ⊥
     never_quoted true h k = cc
     never_quoted false h k = cc
 
-    long_shows : (s : Known) → Sized s → long_waits true (feed places.Top s o) ≡ false → (is_idle s.mode ≡ true) ⊎ (is_quoting s.mode ≡ true) → ShowsEnd s
+    long_shows : (s : Known) → Sized s → long_waits true (feed Place.Top s o) ≡ false → (is_idle s.mode ≡ true) ⊎ (is_quoting s.mode ≡ true) → ShowsEnd s
     long_shows s z w (inl i) = (idle_next s.mode i, idle_colon s o i)
-    long_shows s z w (inr q) = (quoting_next s.mode q, λ y t e. absurd (quoted (feed places.Top s o) (feed_measured places.Top s o z) w y t e))
+    long_shows s z w (inr q) = (quoting_next s.mode q, λ y t e. absurd (quoted (feed Place.Top s o) (feed_measured Place.Top s o z) w y t e))
       where
-        quoted : (x : Outcome) → Measured places.Top s x → long_waits true x ≡ false → (y : Lexeme) (t : Known) → x ≡ Left y t → ⊥
+        quoted : (x : Outcome) → Measured Place.Top s x → long_waits true x ≡ false → (y : Lexeme) (t : Known) → x ≡ Left y t → ⊥
         quoted (Left x k) h w y t e = never_quoted (is_quoted x.kind) (h.2 q) w
         quoted (Next k) h w y t e = cc
         quoted (Given x k) h w y t e = cc
@@ -475,13 +446,13 @@ module _ (g : Catalog) (l : Limits) where
         → waits (at start c fs ss now) (feed (place_in fs now) s o) ≡ false
         → GivesNone (settle g l (at start c fs ss now)) ⊎ ShowsEnd s
     shown_before s start c (f ∷ fs) ss now h w = inl (open_none start c f fs ss now)
-    shown_before s start c [] ss (nows.Pending k e) h w = inr (idle_next s.mode (h.quiet refl), idle_colon s o (h.quiet refl))
-    shown_before s start c [] ss (nows.Long v e) h w = inr (long_shows s h.sized w (h.quiet refl))
-    shown_before s start c [] ss nows.Ready h w = inl tt
-    shown_before s start c [] ss nows.After h w = inl tt
-    shown_before s start c [] ss nows.Name h w = inl tt
-    shown_before s start c [] ss (nows.LongName v) h w = inl tt
-    shown_before s start c [] ss (nows.Keyed k) h w = inl tt
+    shown_before s start c [] ss (Now.Pending k e) h w = inr (idle_next s.mode (h.quiet refl), idle_colon s o (h.quiet refl))
+    shown_before s start c [] ss (Now.Long v e) h w = inr (long_shows s h.sized w (h.quiet refl))
+    shown_before s start c [] ss Now.Ready h w = inl tt
+    shown_before s start c [] ss Now.After h w = inl tt
+    shown_before s start c [] ss Now.Name h w = inl tt
+    shown_before s start c [] ss (Now.LongName v) h w = inl tt
+    shown_before s start c [] ss (Now.Keyed k) h w = inl tt
 
     on_place : (p q : Place) (s : Known) → p ≡ q → Sized s → Measured q s (feed p s o)
     on_place p q s e z = subst (λ k. Measured k s (feed p s o)) e (feed_measured p s o z)
@@ -497,7 +468,7 @@ module _ (g : Catalog) (l : Limits) where
         scan_came (place r) s r again x refl e f there (comes_near from s r h x there (λ t q j. i t.mode j))
     settled_came s fs now again (gives v r) e z f h i k (inl w) = absurd w
     settled_came s fs now again (gives v r) e z f h i k (inr w) =
-        let top : place r ≡ places.Top = ap place h.1 in (
+        let top : place r ≡ Place.Top = ap place h.1 in (
           subst (λ n. HasSpan l.item from n v) e h.0,
           e,
           h.1,
@@ -530,10 +501,10 @@ module _ (g : Catalog) (l : Limits) where
             (shown_before s r.start r.context r.frames r.notes r.now h (or_parts (waits r (feed (place r) s o)) (in_segment r.now s) w).0)
 
     -- the octet that showed the end of a value, again
-    fresh_came : (s : Known) (c : List Slot) → ScannedNear from (fresh c) (feed places.Top s o) → s.used ≡ used → Sized s
+    fresh_came : (s : Known) (c : List Slot) → ScannedNear from (fresh c) (feed Place.Top s o) → s.used ≡ used → Sized s
         → CameNear from used o (takes g l 3 (with_scan s (fresh c)) o)
-    fresh_came s c h e z = scan_came places.Top s (fresh c) (λ k. takes g l 2 k o) (feed places.Top s o) refl e (λ k i j. takes_came 2 k.scan k.reading i j)
-        (feed_measured places.Top s o z) h
+    fresh_came s c h e z = scan_came Place.Top s (fresh c) (λ k. takes g l 2 k o) (feed Place.Top s o) refl e (λ k i j. takes_came 2 k.scan k.reading i j)
+        (feed_measured Place.Top s o z) h
 
     again_came : (m : State) → m.reading ≡ fresh m.reading.context → ScannedNear from m.reading (feed (place m.reading) m.scan o) → m.scan.used ≡ used
         → Sized m.scan → CameNear from used o (eats g l m o)
@@ -580,7 +551,7 @@ module _ (g : Catalog) (l : Limits) where
 
   module _ (from : ℕ) where
     late_has : (used : ℕ) (e : Reason) → EndHas from used (end_late used e)
-    late_has used reasons.Depth = tt
+    late_has used Reason.Depth = tt
     late_has used _ = tt
 
     fresh_has : (used : ℕ) (b : Bool) → EndHas from used (if b then Ok None else cut_short used)
@@ -601,7 +572,7 @@ module _ (g : Catalog) (l : Limits) where
 
     -- behind the last token
     abbrev behind_last : ℕ → Known
-    behind_last used = record { mode = modes.Blank; kept = []; colon = false; start = used; used = used }
+    behind_last used = record { mode = Mode.Blank; kept = []; colon = false; start = used; used = used }
 
     last_ended : (s : Known) (r : Reading) (x : Lexeme) → Near from s r → at_end (place r) s ≡ Ok (Some x) → EndedNear from r x (behind_last s.used)
     last_ended s r x h e =
@@ -645,13 +616,13 @@ module _ (g : Catalog) (l : Limits) where
     ready_has s r (Err y) h e = tt
 
     ends_has : (s : Known) (r : Reading) (now : Now) → Near from s r → EndHas from s.used (end_now g l s.used r (at_end (place r) s) now)
-    ends_has s r (nows.Pending k e) h = waiting_has s (at_end (place r) s) (settle g l r) (settle_near from s r h)
-    ends_has s r (nows.Long w e) h = waiting_has s (at_end (place r) s) (settle g l r) (settle_near from s r h)
-    ends_has s r (nows.LongName w) h = tt
-    ends_has s r nows.Ready h = ready_has s r (at_end (place r) s) h refl
-    ends_has s r nows.After h = ready_has s r (at_end (place r) s) h refl
-    ends_has s r nows.Name h = ready_has s r (at_end (place r) s) h refl
-    ends_has s r (nows.Keyed k) h = ready_has s r (at_end (place r) s) h refl
+    ends_has s r (Now.Pending k e) h = waiting_has s (at_end (place r) s) (settle g l r) (settle_near from s r h)
+    ends_has s r (Now.Long w e) h = waiting_has s (at_end (place r) s) (settle g l r) (settle_near from s r h)
+    ends_has s r (Now.LongName w) h = tt
+    ends_has s r Now.Ready h = ready_has s r (at_end (place r) s) h refl
+    ends_has s r Now.After h = ready_has s r (at_end (place r) s) h refl
+    ends_has s r Now.Name h = ready_has s r (at_end (place r) s) h refl
+    ends_has s r (Now.Keyed k) h = ready_has s r (at_end (place r) s) h refl
 
   led_spaced : (from n : ℕ) (given : List (Value × ℕ)) (now : Result State Refusal) → Led from given now n → Spaced l.item from given n
   led_spaced from n [] (Ok m) h = let k = h.0 in omega (arith, k.behind, k.far, h.1)

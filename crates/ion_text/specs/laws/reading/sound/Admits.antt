@@ -1,48 +1,14 @@
 -- Octets that the end accepts are a document with the values given.
 use Rattle.std.proofs.Common.{◌≡◌, ℕ, List, [], ◌∷◌, ◌++◌, Bool, true, false, cond, Result, Ok, Err, Option, Some, None, refl, ap, sym, ◌∙◌, subst, append-nil, option_to_list, if◌then◌else◌, ◌⊎◌, inl, inr}
-use Rattle.ion_model.specs.declared.value.Value.{Value}
-use Rattle.ion_atoms.specs.declared.refusal.Reason.{Reason}
-use Rattle.ion_atoms.specs.declared.refusal.Reason.TheVariants as reasons
-use Rattle.ion_atoms.specs.declared.refusal.Refusal.{Refusal}
-use Rattle.ion_symtab.specs.declared.limits.Limits.{Limits}
-use Rattle.ion_symtab.specs.declared.catalog.Catalog.{Catalog}
-use Rattle.ion_symtab.specs.Slots.{Slot}
-use Rattle.ion_symtab.specs.Trace.{plain, Streams}
-use Rattle.ion_tokens.specs.declared.mode.Place.{Place}
-use Rattle.ion_tokens.specs.declared.mode.Place.TheVariants as places
-use Rattle.ion_tokens.specs.declared.mode.Mode.{Mode}
-use Rattle.ion_tokens.specs.declared.mode.Mode.TheVariants as modes
-use Rattle.ion_tokens.specs.declared.mode.End.{End}
-use Rattle.ion_tokens.specs.declared.mode.End.TheVariants as ends'
-use Rattle.ion_tokens.specs.declared.mode.Keep.{Keep}
-use Rattle.ion_tokens.specs.declared.mode.Keep.TheVariants as keeps
-use Rattle.ion_tokens.specs.declared.mode.TokenKind.{TokenKind}
-use Rattle.ion_tokens.specs.declared.mode.TokenKind.TheVariants as kinds
-use Rattle.ion_tokens.specs.machine.Table.{end_of}
-use Rattle.ion_tokens.specs.Places.{is_sexp}
-use Rattle.ion_tokens.specs.Bodies.{Content}
-use Rattle.ion_tokens.specs.machine.Scanning.{Known, at_end, ends_at}
-use Rattle.ion_tokens.specs.Lexemes.{Lexeme, is_segment}
-use Rattle.ion_tokens.specs.Lexed.{Placed, Lexes}
-use Rattle.ion_tokens.specs.machine.Scanned.{Scanned}
+use Rattle.ion_text.specs.Names.{Catalog, Content, Document, End, Frame, Keep, Known, Lexeme, Lexes, Limits, Mark, Mode, Now, Place, Placed, Reading, Reason, Refusal, Scanned, Slot, State, Streams, Symbols, TokenKind, Turn, Value, at, at_end, begun, cut_short, end_late, end_now, end_of, end_ready, end_said, end_settled, end_turned, end_waiting, ends_at, ends_of, gives, goes, is_closing, is_fresh, is_idle, is_quoted, is_quoting, is_segment, is_sexp, late, place, plain, refuses, run, said, said_passes, settle, token_of, trace, turn}
 use Rattle.ion_tokens.proofs.histories.Stepped.{all_since}
-use Rattle.ion_tokens.proofs.sound.Told.{ends_in_blank, ends_in_token}
-use Rattle.ion_text.specs.declared.state.Now.{Now}
-use Rattle.ion_text.specs.declared.state.Now.TheVariants as nows
-use Rattle.ion_text.specs.declared.state.Frame.{Frame}
-use Rattle.ion_text.specs.Grammar.{Document}
-use Rattle.ion_tokens.specs.machine.Said.{said}
-use Rattle.ion_text.specs.machine.EachToken.{Reading, Turn, goes, gives, refuses, late, Symbols, at, place, settle, turn}
-use Rattle.ion_text.specs.machine.Run.{State, begun, is_fresh, cut_short, end_late, end_settled, end_turned, end_said, end_waiting, end_ready, end_now, ends, ends_of, token_of, run, trace}
-use Rattle.ion_tokens.specs.machine.Bounds.{is_idle}
-use Rattle.ion_tokens.specs.machine.Ahead.{is_quoting, is_closing, is_quoted}
-use Rattle.ion_tokens.specs.declared.mode.Mark.TheVariants as marks
-use Rattle.ion_text.specs.laws.reading.sound.Quotes.{is_close, left_none}
 use Rattle.ion_tokens.proofs.runs.Scans.{placed}
-use Rattle.ion_text.specs.machine.Passed.{said_passes}
+use Rattle.ion_tokens.proofs.sound.Told.{ends_in_blank, ends_in_token}
+use Rattle.ion_text.specs.machine.Run.{ends}
+use Rattle.ion_text.specs.laws.reading.sound.Held.{Behind, NoLongText, Reads, Scans, none_noted, settled_end, token_read}
+use Rattle.ion_text.specs.laws.reading.sound.Quotes.{is_close, left_none}
 use Rattle.ion_text.specs.laws.reading.sound.StandsOpen.{NowStands}
-use Rattle.ion_text.specs.laws.reading.sound.Held.{Scans, Behind, Reads, NoLongText, token_read, settled_end, none_noted}
-use Rattle.ion_text.specs.laws.reading.sound.Steps.{Stood, StoodBehind, run_ran, begun_stood}
+use Rattle.ion_text.specs.laws.reading.sound.Steps.{Stood, StoodBehind, begun_stood, run_ran}
 
 -- the octets up to the end of the input are the tokens
 abbrev pub Ended : Scans
@@ -52,36 +18,36 @@ Ended p s u ts ahead = Lexes false 0 u ts
 abbrev pub KindFine : Mode → TokenKind → Type 0
 KindFine m k =
     (is_segment k ≡ false) × (is_quoting m ≡ false → is_quoted k ≡ false) × (is_idle m ≡ false → is_closing k ≡ false)
-    × (is_close k ≡ false) × (is_idle m ≡ true → (k ≡ kinds.Mark marks.Colon) ⊎ (k ≡ kinds.Operator)) × (is_quoting m ≡ true → k ≡ kinds.QuotedSymbol)
+    × (is_close k ≡ false) × (is_idle m ≡ true → (k ≡ TokenKind.Mark Mark.Colon) ⊎ (k ≡ TokenKind.Operator)) × (is_quoting m ≡ true → k ≡ TokenKind.QuotedSymbol)
 
 abbrev EndFine : Mode → End → Type 0
-EndFine m (ends'.Token kind k) = KindFine m kind
-EndFine m ends'.Blank = Unit {0}
-EndFine m (ends'.Refuse e) = Unit {0}
+EndFine m (End.Token kind k) = KindFine m kind
+EndFine m End.Blank = Unit {0}
+EndFine m (End.Refuse e) = Unit {0}
 
-operator_fine : (m : Mode) (b : Bool) (k : Keep) → is_quoting m ≡ false → EndFine m (cond b (ends'.Token kinds.Operator k) (ends'.Refuse reasons.Incomplete))
+operator_fine : (m : Mode) (b : Bool) (k : Keep) → is_quoting m ≡ false → EndFine m (cond b (End.Token TokenKind.Operator k) (End.Refuse Reason.Incomplete))
 operator_fine m true k q = (refl, (λ e. refl), (λ e. refl), refl, (λ e. inr refl), (λ e. absurd (let n : true ≡ false = sym e ∙ q in cc)))
 operator_fine m false k q = tt
 
 end_fine : (p : Place) (m : Mode) → EndFine m (end_of p m)
-end_fine p modes.Blank = tt
-end_fine p modes.LineComment = tt
-end_fine p modes.Slash = operator_fine modes.Slash (is_sexp p) (keeps.One 47) refl
-end_fine p modes.OperatorSlash = operator_fine modes.OperatorSlash (is_sexp p) (keeps.One 47) refl
-end_fine p (modes.Operator e) = operator_fine (modes.Operator e) (is_sexp p) keeps.Nothing refl
-end_fine p modes.Colon = (refl, (λ e. refl), (λ e. absurd cc), refl, (λ e. inl refl), (λ e. absurd cc))
-end_fine p modes.Word = (refl, (λ e. refl), (λ e. refl), refl, (λ e. absurd cc), (λ e. absurd cc))
-end_fine p modes.KindName = (refl, (λ e. refl), (λ e. refl), refl, (λ e. absurd cc), (λ e. absurd cc))
-end_fine p modes.Number = (refl, (λ e. refl), (λ e. refl), refl, (λ e. absurd cc), (λ e. absurd cc))
-end_fine p modes.NumberSlash = (refl, (λ e. refl), (λ e. refl), refl, (λ e. absurd cc), (λ e. absurd cc))
-end_fine p modes.Quotes = (refl, (λ e. absurd cc), (λ e. refl), refl, (λ e. absurd cc), (λ e. refl))
-end_fine p modes.Brace = (refl, (λ e. refl), (λ e. refl), refl, (λ e. absurd cc), (λ e. absurd cc))
-end_fine p (modes.Infinity n) = tt
-end_fine p modes.BlockComment = tt
-end_fine p modes.BlockCommentStar = tt
-end_fine p modes.Quote = tt
-end_fine p (modes.Text s w) = tt
-end_fine p (modes.Lob l) = tt
+end_fine p Mode.Blank = tt
+end_fine p Mode.LineComment = tt
+end_fine p Mode.Slash = operator_fine Mode.Slash (is_sexp p) (Keep.One 47) refl
+end_fine p Mode.OperatorSlash = operator_fine Mode.OperatorSlash (is_sexp p) (Keep.One 47) refl
+end_fine p (Mode.Operator e) = operator_fine (Mode.Operator e) (is_sexp p) Keep.Nothing refl
+end_fine p Mode.Colon = (refl, (λ e. refl), (λ e. absurd cc), refl, (λ e. inl refl), (λ e. absurd cc))
+end_fine p Mode.Word = (refl, (λ e. refl), (λ e. refl), refl, (λ e. absurd cc), (λ e. absurd cc))
+end_fine p Mode.KindName = (refl, (λ e. refl), (λ e. refl), refl, (λ e. absurd cc), (λ e. absurd cc))
+end_fine p Mode.Number = (refl, (λ e. refl), (λ e. refl), refl, (λ e. absurd cc), (λ e. absurd cc))
+end_fine p Mode.NumberSlash = (refl, (λ e. refl), (λ e. refl), refl, (λ e. absurd cc), (λ e. absurd cc))
+end_fine p Mode.Quotes = (refl, (λ e. absurd cc), (λ e. refl), refl, (λ e. absurd cc), (λ e. refl))
+end_fine p Mode.Brace = (refl, (λ e. refl), (λ e. refl), refl, (λ e. absurd cc), (λ e. absurd cc))
+end_fine p (Mode.Infinity n) = tt
+end_fine p Mode.BlockComment = tt
+end_fine p Mode.BlockCommentStar = tt
+end_fine p Mode.Quote = tt
+end_fine p (Mode.Text s w) = tt
+end_fine p (Mode.Lob l) = tt
 
 kind_in : Result (Option Lexeme) Reason → TokenKind → TokenKind
 kind_in (Ok (Some x)) k = x.kind
@@ -89,9 +55,9 @@ kind_in _ k = k
 
 token_fine : (m : Mode) (s : Known) (e : End) (x : Lexeme) → EndFine m e → ends_at s e ≡ Ok (Some x) → KindFine m x.kind
 unfolding kind_in
-token_fine m s ends'.Blank x f h = absurd (let n : Ok None ≡ Ok (Some x) = h in cc)
-token_fine m s (ends'.Token kind k) x f h = subst (KindFine m) (ap (λ y. kind_in y x.kind) h) f
-token_fine m s (ends'.Refuse e) x f h = absurd cc
+token_fine m s End.Blank x f h = absurd (let n : Ok None ≡ Ok (Some x) = h in cc)
+token_fine m s (End.Token kind k) x f h = subst (KindFine m) (ap (λ y. kind_in y x.kind) h) f
+token_fine m s (End.Refuse e) x f h = absurd cc
 
 -- a token that the end ends is no segment and no close, and quoted only where quotes are open
 pub at_end_fine : (p : Place) (s : Known) (x : Lexeme) → at_end p s ≡ Ok (Some x) → KindFine s.mode x.kind
@@ -100,13 +66,13 @@ at_end_fine p s x h = token_fine s.mode s (end_of p s.mode) x (end_fine p s.mode
 -- where nothing is open, no token is
 pub fresh_empty : (start : ℕ) (c : List Slot) (fs : List Frame) (ss : Symbols) (now : Now) (ts : List Placed) → is_fresh (at start c fs ss now) ≡ true
     → NowStands c fs ss ts now → ts ≡ []
-fresh_empty start c [] [] nows.Ready ts h d = d.whole ∙ (ap (λ x. x ++ d.notes) d.outer ∙ none_noted c places.Top d.notes [] d.noted refl)
-fresh_empty start c [] [] (nows.Pending k end) ts h d = absurd cc
-fresh_empty start c [] [] (nows.Long w end) ts h d = absurd cc
-fresh_empty start c [] [] nows.After ts h d = absurd cc
-fresh_empty start c [] [] nows.Name ts h d = absurd cc
-fresh_empty start c [] [] (nows.LongName w) ts h d = absurd cc
-fresh_empty start c [] [] (nows.Keyed k) ts h d = absurd cc
+fresh_empty start c [] [] Now.Ready ts h d = d.whole ∙ (ap (λ x. x ++ d.notes) d.outer ∙ none_noted c Place.Top d.notes [] d.noted refl)
+fresh_empty start c [] [] (Now.Pending k end) ts h d = absurd cc
+fresh_empty start c [] [] (Now.Long w end) ts h d = absurd cc
+fresh_empty start c [] [] Now.After ts h d = absurd cc
+fresh_empty start c [] [] Now.Name ts h d = absurd cc
+fresh_empty start c [] [] (Now.LongName w) ts h d = absurd cc
+fresh_empty start c [] [] (Now.Keyed k) ts h d = absurd cc
 fresh_empty start c [] (s ∷ ss) now ts h d = absurd cc
 fresh_empty start c (f ∷ fs) ss now ts h d = absurd cc
 
@@ -134,7 +100,7 @@ module _ (g : Catalog) (l : Limits) where
 
   -- the end accepts nothing that is refused late
   pub late_never : (used : ℕ) (e : Reason) (last : Option Value) → end_late used e ≡ Ok last → ⊥
-  late_never used reasons.Depth last h = cc
+  late_never used Reason.Depth last h = cc
   late_never used _ last h = cc
 
   module _ (u : List ℕ) (vs : List Value) (s : Known) where
@@ -223,13 +189,13 @@ module _ (g : Catalog) (l : Limits) where
       ready_accepted used (Err y) last e h = absurd cc
 
       now_accepted : (used : ℕ) (n : Now) (last : Option Value) → end_now g l used r (at_end (place r) s) n ≡ Ok last → Accepted last
-      now_accepted used (nows.Pending k end) last h = waiting_accepted used (at_end (place r) s) (settle g l r) last refl refl h
-      now_accepted used (nows.Long w end) last h = waiting_accepted used (at_end (place r) s) (settle g l r) last refl refl h
-      now_accepted used (nows.LongName w) last h = absurd cc
-      now_accepted used nows.Ready last h = ready_accepted used (at_end (place r) s) last refl h
-      now_accepted used nows.After last h = ready_accepted used (at_end (place r) s) last refl h
-      now_accepted used nows.Name last h = ready_accepted used (at_end (place r) s) last refl h
-      now_accepted used (nows.Keyed k) last h = ready_accepted used (at_end (place r) s) last refl h
+      now_accepted used (Now.Pending k end) last h = waiting_accepted used (at_end (place r) s) (settle g l r) last refl refl h
+      now_accepted used (Now.Long w end) last h = waiting_accepted used (at_end (place r) s) (settle g l r) last refl refl h
+      now_accepted used (Now.LongName w) last h = absurd cc
+      now_accepted used Now.Ready last h = ready_accepted used (at_end (place r) s) last refl h
+      now_accepted used Now.After last h = ready_accepted used (at_end (place r) s) last refl h
+      now_accepted used Now.Name last h = ready_accepted used (at_end (place r) s) last refl h
+      now_accepted used (Now.Keyed k) last h = ready_accepted used (at_end (place r) s) last refl h
 
   -- What stands for octets that the end accepts shows that they are a document.
   pub stood_accepted : (u : List ℕ) (vs : List Value) (m : State) (last : Option Value) → Stood g l u vs m → ends g l m ≡ Ok last

@@ -1,50 +1,25 @@
 -- What the reader gives is no deeper than the limit.
 use Rattle.std.proofs.Common.{◌≡◌, ℕ, suc, ◌+◌, ◌≤◌, nat_le, nat_lt, List, [], ◌∷◌, length, Bool, true, false, Result, Ok, Err, Option, Some, refl, sym, ap, ◌∙◌, subst, arith, if◌then◌else◌}
 use Rattle.std.proofs.lemmas.Bool.Decides.{nat_tests}
-use Rattle.ion_model.specs.declared.value.Value.{Value}
-use Rattle.ion_model.specs.declared.value.Payload.{Payload}
+use Rattle.ion_text.specs.Names.{Blob, Bracket, Catalog, Clob, Content, Frame, Held, Id, Limits, Listing, Long, Mark, Mark', Now, Number, Number', Operator, Payload, Quoted, Reading, Reason, Setting, Short, Slot, Spot, Symbols, Token, Turn, TypedNull, Value, Word, annotated, at, bare_close, begun_at, closed, deeper, depth, ended, field_of, fresh, gives, goes, held_payload, held_symbol, is_keyword, is_table, keyed, late, layer_depth, named, next, noted, number_payload, on_after, on_comma, on_keyed, on_long, on_long_name, on_name, on_pending, on_ready, paid, refuses, released, resolve, resolved, settle, spot_at, token_at, turn, turn_now, turned, under, within}
 use Rattle.ion_model.specs.declared.value.Payload.TheVariants as payloads
 use Rattle.ion_model.specs.declared.value.Payload.TheViews as views
-use Rattle.ion_atoms.specs.declared.refusal.Reason.{Reason}
-use Rattle.ion_atoms.specs.declared.refusal.Reason.TheVariants as reasons
-use Rattle.ion_model.specs.Measures.{depth, annotated, field_of}
-use Rattle.ion_model.specs.laws.Measures.{depth-at, layer_depth, deepest-more}
-use Rattle.ion_model.specs.Kinds.{is_table}
-use Rattle.ion_scalar.specs.declared.number.Number.{Number}
-use Rattle.ion_scalar.specs.declared.number.Number.TheVariants as numbers
-use Rattle.ion_symtab.specs.declared.limits.Limits.{Limits}
-use Rattle.ion_symtab.specs.declared.catalog.Catalog.{Catalog}
-use Rattle.ion_symtab.specs.Slots.{Slot, resolve}
-use Rattle.ion_symtab.specs.Next.{next}
-use Rattle.ion_tokens.specs.declared.mode.Mark.TheVariants as marks
-use Rattle.ion_tokens.specs.Bodies.{Content, Word, Id, Quoted, Short, Long, Number', TypedNull, Operator, Clob, Blob, Mark'}
-use Rattle.ion_text.specs.declared.state.Held.{Held}
-use Rattle.ion_text.specs.declared.state.Held.TheVariants as helds
-use Rattle.ion_text.specs.declared.state.Now.{Now}
-use Rattle.ion_text.specs.declared.state.Now.TheVariants as nows
-use Rattle.ion_text.specs.declared.state.Frame.{Frame}
-use Rattle.ion_text.specs.declared.state.Frame.TheVariants as frames
-use Rattle.ion_visiting.specs.declared.bracket.Bracket.TheVariants as brackets
-use Rattle.ion_text.specs.declared.state.Listing.TheVariants as listings
-use Rattle.ion_text.specs.Grammar.{is_keyword}
-use Rattle.ion_text.specs.machine.EachToken.{Setting, Spot, under, spot_at, token_at, Reading, Turn, goes, gives, refuses, late, Token, Symbols, at, fresh, settle, turn, turn_now, ended, within, turned, held_symbol, held_payload, released, begun_at, on_ready, on_after, on_name, on_pending, on_long, on_long_name, on_keyed, on_comma, closed, bare_close, deeper, paid, noted, resolved, keyed, named}
-use Rattle.ion_visiting.specs.Parts.{number_payload}
-use Rattle.ion_text.specs.laws.reading.complete.Complete.{depths, field_depths, field_deepest-more, depth-list, depth-sexp, depth-struct}
-use Rattle.ion_text.specs.laws.reading.Brackets.{Closes, ends_list, ends_sexp, ends_struct, ends_none, closes_or_not}
-use Rattle.ion_visiting.specs.declared.bracket.Bracket.{Bracket}
+use Rattle.ion_model.specs.laws.Measures.{deepest-more, depth-at}
+use Rattle.ion_text.specs.laws.reading.Brackets.{Closes, closes_or_not, ends_list, ends_none, ends_sexp, ends_struct}
+use Rattle.ion_text.specs.laws.reading.complete.Complete.{depth-list, depth-sexp, depth-struct, depths, field_deepest-more, field_depths}
 
 -- what has come of the open containers stays within so many levels
 abbrev pub Deep : ℕ → List Frame → Type 0
 Deep n [] = Unit {0}
-Deep n (frames.Items listing ss vs ∷ fs) = (depths vs + suc (length fs) ≤ n) × Deep n fs
-Deep n (frames.Fields ss ms ∷ fs) = (field_depths ms + suc (length fs) ≤ n) × Deep n fs
-Deep n (frames.Named ss ms s ∷ fs) = (field_depths ms + suc (length fs) ≤ n) × Deep n fs
+Deep n (Frame.Items listing ss vs ∷ fs) = (depths vs + suc (length fs) ≤ n) × Deep n fs
+Deep n (Frame.Fields ss ms ∷ fs) = (field_depths ms + suc (length fs) ≤ n) × Deep n fs
+Deep n (Frame.Named ss ms s ∷ fs) = (field_depths ms + suc (length fs) ≤ n) × Deep n fs
 
 length_deep : (n : ℕ) (fs : List Frame) → Deep n fs → length fs ≤ n
 length_deep n [] h = omega arith
-length_deep n (frames.Items listing ss vs ∷ fs) h = let k = h.0 in omega arith
-length_deep n (frames.Fields ss ms ∷ fs) h = let k = h.0 in omega arith
-length_deep n (frames.Named ss ms s ∷ fs) h = let k = h.0 in omega arith
+length_deep n (Frame.Items listing ss vs ∷ fs) h = let k = h.0 in omega arith
+length_deep n (Frame.Fields ss ms ∷ fs) h = let k = h.0 in omega arith
+length_deep n (Frame.Named ss ms s ∷ fs) h = let k = h.0 in omega arith
 
 -- what came of a turn does too
 abbrev pub GoesDeep : ℕ → Turn → Type 0
@@ -82,9 +57,9 @@ flat_blob ss w = depth-at (annotated ss (payloads.Blob w)) _ refl ∙ ap layer_d
 
 -- a number has no value inside
 pub flat_number : (ss : Symbols) (n : Number) → Flat ss (number_payload n)
-flat_number ss (numbers.Int z) = depth-at (annotated ss (payloads.Int z)) _ refl ∙ ap layer_depth (views.outs-Int z)
-flat_number ss (numbers.Decimal z) = depth-at (annotated ss (payloads.Decimal z)) _ refl ∙ ap layer_depth (views.outs-Decimal z)
-flat_number ss (numbers.Timestamp z) = depth-at (annotated ss (payloads.Timestamp z)) _ refl ∙ ap layer_depth (views.outs-Timestamp z)
+flat_number ss (Number.Int z) = depth-at (annotated ss (payloads.Int z)) _ refl ∙ ap layer_depth (views.outs-Int z)
+flat_number ss (Number.Decimal z) = depth-at (annotated ss (payloads.Decimal z)) _ refl ∙ ap layer_depth (views.outs-Decimal z)
+flat_number ss (Number.Timestamp z) = depth-at (annotated ss (payloads.Timestamp z)) _ refl ∙ ap layer_depth (views.outs-Timestamp z)
 
 pub payload_in : Result Payload Reason → Payload → Payload
 payload_in (Ok q) d = q
@@ -93,16 +68,16 @@ payload_in (Err e) d = d
 -- what is held has no value inside
 pub flat_held : (ss : Symbols) (h : Held) (q : Payload) → held_payload h ≡ Ok q → Flat ss q
 unfolding payload_in
-flat_held ss (helds.Symbol s) q e = subst (Flat ss) (ap (λ x. payload_in x q) e) (flat_symbol ss s)
-flat_held ss (helds.Version b s) q e = subst (Flat ss) (ap (λ x. payload_in x q) e) (flat_symbol ss s)
-flat_held ss (helds.Null k) q e = subst (Flat ss) (ap (λ x. payload_in x q) e) (flat_null ss k)
-flat_held ss (helds.Truth b) q e = subst (Flat ss) (ap (λ x. payload_in x q) e) (flat_truth ss b)
-flat_held ss helds.Nan q e = absurd cc
+flat_held ss (Held.Symbol s) q e = subst (Flat ss) (ap (λ x. payload_in x q) e) (flat_symbol ss s)
+flat_held ss (Held.Version b s) q e = subst (Flat ss) (ap (λ x. payload_in x q) e) (flat_symbol ss s)
+flat_held ss (Held.Null k) q e = subst (Flat ss) (ap (λ x. payload_in x q) e) (flat_null ss k)
+flat_held ss (Held.Truth b) q e = subst (Flat ss) (ap (λ x. payload_in x q) e) (flat_truth ss b)
+flat_held ss Held.Nan q e = absurd cc
 
 within_deep : (n item start end : ℕ) (t : Turn) → GoesDeep n t → GoesDeep n (within item start end t)
 within_deep n item start end t h = go (nat_le end (start + item))
   where
-    go : (b : Bool) → GoesDeep n (if b then t else refuses reasons.ItemTooLong)
+    go : (b : Bool) → GoesDeep n (if b then t else refuses Reason.ItemTooLong)
     go true = h
     go false = tt
 
@@ -116,9 +91,9 @@ ended_deep : (n : ℕ) (setting : Setting) (spot : Spot) (fs : List Frame) (v : 
     → GoesDeep n (ended setting spot fs v)
 ended_deep n setting spot [] v d h = top_deep n setting.limits.item spot.start spot.end spot.context v (next spot.context v setting.catalog) (is_table v)
     (omega arith)
-ended_deep n setting spot (frames.Items listing ss vs ∷ fs) v d h = let k = d.0 in let m = deepest-more vs v in (omega arith, d.1)
-ended_deep n setting spot (frames.Named ss ms s ∷ fs) v d h = let k = d.0 in let m = field_deepest-more ms (field_of s v) in (omega arith, d.1)
-ended_deep n setting spot (frames.Fields ss ms ∷ fs) v d h = tt
+ended_deep n setting spot (Frame.Items listing ss vs ∷ fs) v d h = let k = d.0 in let m = deepest-more vs v in (omega arith, d.1)
+ended_deep n setting spot (Frame.Named ss ms s ∷ fs) v d h = let k = d.0 in let m = field_deepest-more ms (field_of s v) in (omega arith, d.1)
+ended_deep n setting spot (Frame.Fields ss ms ∷ fs) v d h = tt
 
 flat_deep : (n : ℕ) (setting : Setting) (spot : Spot) (fs : List Frame) (ss : Symbols) (q : Payload) → Deep n fs → Flat ss q
     → GoesDeep n (ended setting spot fs (annotated ss q))
@@ -130,12 +105,12 @@ paid_deep n setting spot fs ss h (Ok q) e d = flat_deep n setting spot fs ss q d
 paid_deep n setting spot fs ss h (Err x) e d = tt
 
 released_deep : (n : ℕ) (setting : Setting) (spot : Spot) (fs : List Frame) (ss : Symbols) (h : Held) → Deep n fs → GoesDeep n (released setting spot fs ss h)
-released_deep n setting spot [] [] (helds.Version true s) d = within_deep n setting.limits.item spot.start spot.end _ tt
-released_deep n setting spot [] [] (helds.Version false s) d = tt
-released_deep n setting spot [] [] (helds.Symbol s) d = paid_deep n setting spot [] [] (helds.Symbol s) _ refl d
-released_deep n setting spot [] [] (helds.Null s) d = paid_deep n setting spot [] [] (helds.Null s) _ refl d
-released_deep n setting spot [] [] (helds.Truth s) d = paid_deep n setting spot [] [] (helds.Truth s) _ refl d
-released_deep n setting spot [] [] helds.Nan d = tt
+released_deep n setting spot [] [] (Held.Version true s) d = within_deep n setting.limits.item spot.start spot.end _ tt
+released_deep n setting spot [] [] (Held.Version false s) d = tt
+released_deep n setting spot [] [] (Held.Symbol s) d = paid_deep n setting spot [] [] (Held.Symbol s) _ refl d
+released_deep n setting spot [] [] (Held.Null s) d = paid_deep n setting spot [] [] (Held.Null s) _ refl d
+released_deep n setting spot [] [] (Held.Truth s) d = paid_deep n setting spot [] [] (Held.Truth s) _ refl d
+released_deep n setting spot [] [] Held.Nan d = tt
 released_deep n setting spot [] (s ∷ ss) h d = paid_deep n setting spot [] (s ∷ ss) h _ refl d
 released_deep n setting spot (f ∷ fs) ss h d = paid_deep n setting spot (f ∷ fs) ss h _ refl d
 
@@ -179,11 +154,11 @@ ready_deep setting spot fs ss (Number' m) d = flat_deep setting.limits.depth set
 ready_deep setting spot fs ss (Operator w) d = flat_deep setting.limits.depth setting spot fs ss _ d (flat_symbol ss (Some w))
 ready_deep setting spot fs ss (Clob w) d = flat_deep setting.limits.depth setting spot fs ss _ d (flat_clob ss w)
 ready_deep setting spot fs ss (Blob w) d = flat_deep setting.limits.depth setting spot fs ss _ d (flat_blob ss w)
-ready_deep setting spot fs ss (Mark' marks.ListOpen) d = deeper_deep setting.limits.depth fs _ _ (λ k. (omega arith, d)) tt
-ready_deep setting spot fs ss (Mark' marks.SexpOpen) d = deeper_deep setting.limits.depth fs _ _ (λ k. (omega arith, d)) tt
-ready_deep setting spot fs ss (Mark' marks.FieldsOpen) d = deeper_deep setting.limits.depth fs _ _ (λ k. (omega arith, d)) tt
-ready_deep setting spot fs ss (Mark' marks.ListClose) d = bare_deep setting.limits.depth ss _ (closed_deep setting.limits.depth setting spot brackets.List fs d)
-ready_deep setting spot fs ss (Mark' marks.SexpClose) d = bare_deep setting.limits.depth ss _ (closed_deep setting.limits.depth setting spot brackets.Sexp fs d)
+ready_deep setting spot fs ss (Mark' Mark.ListOpen) d = deeper_deep setting.limits.depth fs _ _ (λ k. (omega arith, d)) tt
+ready_deep setting spot fs ss (Mark' Mark.SexpOpen) d = deeper_deep setting.limits.depth fs _ _ (λ k. (omega arith, d)) tt
+ready_deep setting spot fs ss (Mark' Mark.FieldsOpen) d = deeper_deep setting.limits.depth fs _ _ (λ k. (omega arith, d)) tt
+ready_deep setting spot fs ss (Mark' Mark.ListClose) d = bare_deep setting.limits.depth ss _ (closed_deep setting.limits.depth setting spot Bracket.List fs d)
+ready_deep setting spot fs ss (Mark' Mark.SexpClose) d = bare_deep setting.limits.depth ss _ (closed_deep setting.limits.depth setting spot Bracket.Sexp fs d)
 ready_deep setting spot fs ss (Mark' _) d = tt
 
 noted_deep : (n start : ℕ) (c : List Slot) (fs : List Frame) (ss : Symbols) (r : Result (Option (List ℕ)) Reason) → Deep n fs
@@ -193,7 +168,7 @@ noted_deep n start c fs ss (Err e) d = tt
 
 pending_deep : (n start : ℕ) (c : List Slot) (fs : List Frame) (ss : Symbols) (h : Held) (said : Content) → Deep n fs
     → GoesDeep n (on_pending start c fs ss h said)
-pending_deep n start c fs ss h (Mark' marks.Colons) d = noted_deep n start c fs ss (held_symbol h) d
+pending_deep n start c fs ss h (Mark' Mark.Colons) d = noted_deep n start c fs ss (held_symbol h) d
 pending_deep n start c fs ss h _ d = tt
 
 long_deep : (n : ℕ) (spot : Spot) (fs : List Frame) (ss : Symbols) (v : List ℕ) (said : Content) → Deep n fs → GoesDeep n (on_long spot fs ss v said)
@@ -201,22 +176,22 @@ long_deep n spot fs ss v (Long w) d = d
 long_deep n spot fs ss v _ d = tt
 
 comma_deep : (n start : ℕ) (c : List Slot) (fs : List Frame) → Deep n fs → GoesDeep n (on_comma start c fs)
-comma_deep n start c (frames.Items listings.List ss vs ∷ fs) d = d
-comma_deep n start c (frames.Fields ss ms ∷ fs) d = d
-comma_deep n start c (frames.Items listings.Sexp ss vs ∷ fs) d = tt
-comma_deep n start c (frames.Named ss ms s ∷ fs) d = tt
+comma_deep n start c (Frame.Items Listing.List ss vs ∷ fs) d = d
+comma_deep n start c (Frame.Fields ss ms ∷ fs) d = d
+comma_deep n start c (Frame.Items Listing.Sexp ss vs ∷ fs) d = tt
+comma_deep n start c (Frame.Named ss ms s ∷ fs) d = tt
 comma_deep n start c [] d = tt
 
 after_deep : (n : ℕ) (setting : Setting) (spot : Spot) (fs : List Frame) (said : Content) → Deep n fs → GoesDeep n (on_after setting spot fs said)
-after_deep n setting spot fs (Mark' marks.Comma) d = comma_deep n spot.start spot.context fs d
-after_deep n setting spot fs (Mark' marks.ListClose) d = closed_deep n setting spot brackets.List fs d
-after_deep n setting spot fs (Mark' marks.FieldsClose) d = closed_deep n setting spot brackets.Fields fs d
+after_deep n setting spot fs (Mark' Mark.Comma) d = comma_deep n spot.start spot.context fs d
+after_deep n setting spot fs (Mark' Mark.ListClose) d = closed_deep n setting spot Bracket.List fs d
+after_deep n setting spot fs (Mark' Mark.FieldsClose) d = closed_deep n setting spot Bracket.Fields fs d
 after_deep n setting spot fs _ d = tt
 
 name_deep : (n : ℕ) (setting : Setting) (spot : Spot) (fs : List Frame) (said : Content) → Deep n fs → GoesDeep n (on_name setting spot fs said)
 name_deep n setting spot fs (Word w) d = go (is_keyword w)
   where
-    go : (b : Bool) → GoesDeep n (if b then late reasons.KeywordAsName (keyed spot.start spot.context fs (Some w)) else goes
+    go : (b : Bool) → GoesDeep n (if b then late Reason.KeywordAsName (keyed spot.start spot.context fs (Some w)) else goes
         (keyed spot.start spot.context fs (Some w)))
     go true = tt
     go false = d
@@ -225,7 +200,7 @@ name_deep n setting spot fs (Id id) d = resolved_deep n (resolve spot.context id
 name_deep n setting spot fs (Quoted w) d = d
 name_deep n setting spot fs (Short w) d = d
 name_deep n setting spot fs (Long w) d = d
-name_deep n setting spot fs (Mark' marks.FieldsClose) d = closed_deep n setting spot brackets.Fields fs d
+name_deep n setting spot fs (Mark' Mark.FieldsClose) d = closed_deep n setting spot Bracket.Fields fs d
 name_deep n setting spot fs _ d = tt
 
 long_name_deep : (n start : ℕ) (c : List Slot) (fs : List Frame) (v : List ℕ) (said : Content) → Deep n fs → GoesDeep n (on_long_name start c fs v said)
@@ -233,24 +208,24 @@ long_name_deep n start c fs v (Long w) d = d
 long_name_deep n start c fs v _ d = tt
 
 named_deep : (n start : ℕ) (c : List Slot) (fs : List Frame) (s : Option (List ℕ)) → Deep n fs → GoesDeep n (named start c fs s)
-named_deep n start c (frames.Fields ss ms ∷ fs) s d = d
-named_deep n start c (frames.Items listing ss vs ∷ fs) s d = tt
-named_deep n start c (frames.Named ss ms x ∷ fs) s d = tt
+named_deep n start c (Frame.Fields ss ms ∷ fs) s d = d
+named_deep n start c (Frame.Items listing ss vs ∷ fs) s d = tt
+named_deep n start c (Frame.Named ss ms x ∷ fs) s d = tt
 named_deep n start c [] s d = tt
 
 keyed_deep : (n start : ℕ) (c : List Slot) (fs : List Frame) (s : Option (List ℕ)) (said : Content) → Deep n fs → GoesDeep n (on_keyed start c fs s said)
-keyed_deep n start c fs s (Mark' marks.Colon) d = named_deep n start c fs s d
+keyed_deep n start c fs s (Mark' Mark.Colon) d = named_deep n start c fs s d
 keyed_deep n start c fs s _ d = tt
 
 now_deep : (g : Catalog) (l : Limits) (begin end start : ℕ) (c : List Slot) (fs : List Frame) (ss : Symbols) (said : Content) (now : Now) → Deep l.depth fs
     → GoesDeep l.depth (turn_now (under g l) (at start c fs ss now) (token_at begin end said) now)
-now_deep g l begin end start c fs ss said nows.Ready d = ready_deep (under g l) (spot_at end (begun_at start begin fs ss) c) fs ss said d
-now_deep g l begin end start c fs ss said (nows.Pending h e) d = pending_deep l.depth start c fs ss h said d
-now_deep g l begin end start c fs ss said (nows.Long w e) d = long_deep l.depth (spot_at end start c) fs ss w said d
-now_deep g l begin end start c fs ss said nows.After d = after_deep l.depth (under g l) (spot_at end start c) fs said d
-now_deep g l begin end start c fs ss said nows.Name d = name_deep l.depth (under g l) (spot_at end start c) fs said d
-now_deep g l begin end start c fs ss said (nows.LongName w) d = long_name_deep l.depth start c fs w said d
-now_deep g l begin end start c fs ss said (nows.Keyed s) d = keyed_deep l.depth start c fs s said d
+now_deep g l begin end start c fs ss said Now.Ready d = ready_deep (under g l) (spot_at end (begun_at start begin fs ss) c) fs ss said d
+now_deep g l begin end start c fs ss said (Now.Pending h e) d = pending_deep l.depth start c fs ss h said d
+now_deep g l begin end start c fs ss said (Now.Long w e) d = long_deep l.depth (spot_at end start c) fs ss w said d
+now_deep g l begin end start c fs ss said Now.After d = after_deep l.depth (under g l) (spot_at end start c) fs said d
+now_deep g l begin end start c fs ss said Now.Name d = name_deep l.depth (under g l) (spot_at end start c) fs said d
+now_deep g l begin end start c fs ss said (Now.LongName w) d = long_name_deep l.depth start c fs w said d
+now_deep g l begin end start c fs ss said (Now.Keyed s) d = keyed_deep l.depth start c fs s said d
 
 -- A token leads no deeper.
 pub turn_deep : (g : Catalog) (l : Limits) (r : Reading) (t : Token) → Deep l.depth r.frames → GoesDeep l.depth (turn g l r t)
@@ -258,13 +233,13 @@ turn_deep g l r t d = now_deep g l t.start t.end r.start r.context r.frames r.no
 
 settled_deep : (g : Catalog) (l : Limits) (start : ℕ) (c : List Slot) (fs : List Frame) (ss : Symbols) (now : Now) → Deep l.depth fs
     → GoesDeep l.depth (settle g l (at start c fs ss now))
-settled_deep g l start c fs ss (nows.Pending h e) d = released_deep l.depth (under g l) (spot_at e start c) fs ss h d
-settled_deep g l start c fs ss (nows.Long w e) d = flat_deep l.depth (under g l) (spot_at e start c) fs ss _ d (flat_text ss w)
-settled_deep g l start c fs ss (nows.LongName w) d = d
-settled_deep g l start c fs ss nows.Ready d = d
-settled_deep g l start c fs ss nows.After d = d
-settled_deep g l start c fs ss nows.Name d = d
-settled_deep g l start c fs ss (nows.Keyed s) d = d
+settled_deep g l start c fs ss (Now.Pending h e) d = released_deep l.depth (under g l) (spot_at e start c) fs ss h d
+settled_deep g l start c fs ss (Now.Long w e) d = flat_deep l.depth (under g l) (spot_at e start c) fs ss _ d (flat_text ss w)
+settled_deep g l start c fs ss (Now.LongName w) d = d
+settled_deep g l start c fs ss Now.Ready d = d
+settled_deep g l start c fs ss Now.After d = d
+settled_deep g l start c fs ss Now.Name d = d
+settled_deep g l start c fs ss (Now.Keyed s) d = d
 
 -- What waited leads no deeper.
 pub settle_deep : (g : Catalog) (l : Limits) (r : Reading) → Deep l.depth r.frames → GoesDeep l.depth (settle g l r)

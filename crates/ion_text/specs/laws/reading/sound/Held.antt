@@ -1,44 +1,20 @@
 -- What the reader of octets holds stands for the octets: whole pieces, and the tokens of the open item.
 use Rattle.std.proofs.Common.{◌≡◌, ℕ, ◌+◌, ◌≤◌, List, [], ◌∷◌, ◌++◌, Bool, true, false, ◌&&◌, ◌||◌, Ok, refl, ap, sym, ◌∙◌, subst, arith, append_assoc, append-nil, ◌⊎◌, inl, inr}
-use Rattle.ion_model.specs.declared.value.Value.{Value}
-use Rattle.ion_symtab.specs.declared.limits.Limits.{Limits}
-use Rattle.ion_symtab.specs.declared.catalog.Catalog.{Catalog}
-use Rattle.ion_symtab.specs.Slots.{Slot, system_slots}
-use Rattle.ion_tokens.specs.declared.mode.Place.{Place}
-use Rattle.ion_tokens.specs.declared.mode.Place.TheVariants as places
-use Rattle.ion_tokens.specs.declared.mode.Mode.{Mode}
-use Rattle.ion_tokens.specs.declared.mode.TokenKind.{TokenKind}
-use Rattle.ion_tokens.specs.declared.mode.TokenKind.TheVariants as kinds
-use Rattle.ion_tokens.specs.machine.Bounds.{is_idle}
-use Rattle.ion_tokens.specs.Bodies.{Content, Long, IsBody}
-use Rattle.ion_tokens.specs.machine.Scanning.{Known, Outcome, Next, Given, Left, Refused, feed}
-use Rattle.ion_tokens.specs.Lexemes.{Lexeme, is_segment}
-use Rattle.ion_tokens.specs.Lexed.{Placed}
-use Rattle.ion_text.specs.declared.state.Now.{Now}
-use Rattle.ion_text.specs.declared.state.Now.TheVariants as nows
-use Rattle.ion_text.specs.declared.state.Frame.{Frame}
-use Rattle.ion_text.specs.declared.state.Frame.TheVariants as frames
-use Rattle.ion_text.specs.declared.state.Listing.TheVariants as listings
-use Rattle.ion_text.specs.Grammar.{Says, Annotations, no_annotation, one_annotation, Segments, segment, joined, Pieces, marked, turns, holds, is_long, ends_long, begins_long, begins_as_long, is_two_quotes, end_of, span}
-use Rattle.ion_tokens.specs.machine.Said.{said}
-use Rattle.ion_text.specs.machine.EachToken.{under, token_at, Reading, Turn, goes, gives, refuses, late, Symbols, at, fresh, place, place_in, settle, turn, turn_now, begun_at}
-use Rattle.ion_text.specs.machine.Run.{waits, waits_now, token_of, is_top, is_fresh}
-use Rattle.ion_tokens.specs.machine.Ahead.{is_quoting, is_sane, Follows, is_quoted, long_waits}
+use Rattle.ion_text.specs.Names.{Annotations, Catalog, Content, Follows, Frame, Given, IsBody, Known, Leading, Left, Lexeme, Limits, Listing, Long, Mode, Next, Now, Outcome, Pieces, Place, Placed, Reading, Refused, Says, Segments, Slot, Symbols, TokenKind, Turn, Value, at, begins_as_long, begins_long, begun_at, ends_long, feed, fresh, gives, goes, holds, is_fresh, is_idle, is_long, is_quoted, is_quoting, is_sane, is_segment, is_top, is_two_quotes, joined, late, long_waits, marked, no_annotation, one_annotation, place, place_in, refuses, said, said_body, segment, settle, settle_same, span, system_slots, token_at, token_of, turn, turn_now, turns, under, waits, waits_now}
 use Rattle.ion_tokens.specs.laws.Follows.{feed_follows}
-use Rattle.ion_text.specs.laws.reading.sound.Quotes.{Fine, Finely, feed_fine}
 use Rattle.ion_tokens.proofs.runs.Scans.{placed}
-use Rattle.ion_text.specs.machine.Places.{Leading, settle_same}
-use Rattle.ion_text.specs.laws.reading.sound.Depths.{Deep, GoesDeep, turn_deep, settle_deep}
-use Rattle.ion_text.specs.machine.Passed.{said_body}
-use Rattle.ion_text.specs.laws.reading.sound.StandsOpen.{Opened, IsStruct, IsInside, EndsAt, NowStands, value_place, long_behind, notes_not_long, not_long, symbol_no_long, start_now, end_of_now, NoSegmentComes}
-use Rattle.ion_text.specs.laws.reading.sound.Sound.{Sounds, turn_sounds, settle_sounds}
+use Rattle.ion_text.specs.Grammar.{end_of}
+use Rattle.ion_text.specs.laws.reading.complete.Complete.{end_more, ends_behind}
+use Rattle.ion_text.specs.laws.reading.sound.Depths.{Deep, GoesDeep, settle_deep, turn_deep}
 use Rattle.ion_text.specs.laws.reading.sound.MarkerWords.{both_not}
-use Rattle.ion_text.specs.laws.reading.complete.Complete.{ends_behind, end_more}
+use Rattle.ion_text.specs.laws.reading.sound.Quotes.{Fine, Finely, feed_fine}
+use Rattle.ion_text.specs.laws.reading.sound.Sound.{Sounds, settle_sounds, turn_sounds}
+use Rattle.ion_text.specs.laws.reading.sound.StandsOpen.{EndsAt, IsInside, IsStruct, NoSegmentComes, NowStands, Opened, end_of_now, long_behind, not_long, notes_not_long, start_now, symbol_no_long, value_place}
 
 -- a long string waits for more
 abbrev pub IsLongNow : Now → Type 0
-IsLongNow (nows.Long w end) = Unit {0}
-IsLongNow (nows.LongName w) = Unit {0}
+IsLongNow (Now.Long w end) = Unit {0}
+IsLongNow (Now.LongName w) = Unit {0}
 IsLongNow _ = ⊥
 
 -- a token has begun that becomes no segment
@@ -129,9 +105,9 @@ no_segments p _ _ (joined ts v w t d h) e = no_last ts t e
 -- where a container is open there are tokens
 pub opened_some : (c : List Slot) (fs : List Frame) (more : Bool) → Opened c fs [] more → fs ≡ []
 opened_some c [] more o = refl
-opened_some c (frames.Items listing ss vs ∷ fs) more o = absurd (no_middle o.front o.notes o.body o.open' o.whole)
-opened_some c (frames.Fields ss ms ∷ fs) more o = absurd (no_middle o.front o.notes o.body o.open' o.whole)
-opened_some c (frames.Named ss ms s ∷ fs) more o = absurd (no_middle o.front o.notes (o.body ++ (o.name ++ o.colon ∷ [])) o.open' o.whole)
+opened_some c (Frame.Items listing ss vs ∷ fs) more o = absurd (no_middle o.front o.notes o.body o.open' o.whole)
+opened_some c (Frame.Fields ss ms ∷ fs) more o = absurd (no_middle o.front o.notes o.body o.open' o.whole)
+opened_some c (Frame.Named ss ms s ∷ fs) more o = absurd (no_middle o.front o.notes (o.body ++ (o.name ++ o.colon ∷ [])) o.open' o.whole)
 
 -- where there are no tokens, there are no annotations
 pub no_notes : (c : List Slot) (p : Place) (ts : List Placed) (ss : Symbols) → Annotations c p ts ss → [] ≡ ts → ss ≡ []
@@ -149,51 +125,51 @@ none_noted c p _ _ (one_annotation ts ss t u said s d h i j) e = absurd (none ss
 
 -- where a field's name may come, tokens have come
 pub name_some : (c : List Slot) (fs : List Frame) (ts : List Placed) → Opened c fs ts true → IsStruct fs → [] ≡ ts → ⊥
-name_some c (frames.Fields ss ms ∷ fs) ts o k e = no_middle o.front o.notes o.body o.open' (e ∙ o.whole)
+name_some c (Frame.Fields ss ms ∷ fs) ts o k e = no_middle o.front o.notes o.body o.open' (e ∙ o.whole)
 name_some c [] ts o k e = k
-name_some c (frames.Items listing ss vs ∷ fs) ts o k e = k
-name_some c (frames.Named ss ms s ∷ fs) ts o k e = k
+name_some c (Frame.Items listing ss vs ∷ fs) ts o k e = k
+name_some c (Frame.Named ss ms s ∷ fs) ts o k e = k
 
 not_inside : (fs : List Frame) → IsInside fs → fs ≡ [] → ⊥
 not_inside [] h e = h
 not_inside (f ∷ fs) h e = cc
 
 -- where no token is open, nothing is
-pub none_open : (c : List Slot) (fs : List Frame) (ss : Symbols) (now : Now) → NowStands c fs ss [] now → (fs ≡ []) × (ss ≡ []) × (now ≡ nows.Ready)
-none_open c fs ss nows.Ready d =
+pub none_open : (c : List Slot) (fs : List Frame) (ss : Symbols) (now : Now) → NowStands c fs ss [] now → (fs ≡ []) × (ss ≡ []) × (now ≡ Now.Ready)
+none_open c fs ss Now.Ready d =
     let e = none_front d.front d.notes d.whole in
     (opened_some c fs true (subst (λ x. Opened c fs x true) (sym e.0) d.outer), no_notes c (value_place fs) d.notes ss d.noted e.1, refl)
-none_open c fs ss (nows.Pending h end) d = absurd (no_last d.before d.token d.whole)
-none_open c fs ss (nows.Long w end) d = absurd (no_segments (value_place fs) d.segments w d.are (none_front d.before d.segments d.whole).1)
-none_open c fs ss nows.After d = absurd (not_inside fs d.2 (opened_some c fs false d.0))
-none_open c fs ss nows.Name d = absurd (name_some c fs [] d.0 d.1 refl)
-none_open c fs ss (nows.LongName w) d = absurd (name_some c fs d.before d.outer d.struct (none_front d.before d.name d.whole).0)
-none_open c fs ss (nows.Keyed s) d = absurd (name_some c fs d.before d.outer d.struct (none_front d.before d.name d.whole).0)
+none_open c fs ss (Now.Pending h end) d = absurd (no_last d.before d.token d.whole)
+none_open c fs ss (Now.Long w end) d = absurd (no_segments (value_place fs) d.segments w d.are (none_front d.before d.segments d.whole).1)
+none_open c fs ss Now.After d = absurd (not_inside fs d.2 (opened_some c fs false d.0))
+none_open c fs ss Now.Name d = absurd (name_some c fs [] d.0 d.1 refl)
+none_open c fs ss (Now.LongName w) d = absurd (name_some c fs d.before d.outer d.struct (none_front d.before d.name d.whole).0)
+none_open c fs ss (Now.Keyed s) d = absurd (name_some c fs d.before d.outer d.struct (none_front d.before d.name d.whole).0)
 
 -- the item began at its first token
 start_kept : (c : List Slot) (fs : List Frame) (ss : Symbols) (now : Now) (t : Placed) (ts : List Placed) (start begin : ℕ) → NowStands c fs ss (t ∷ ts) now
     → start_now now start begin fs ss ≡ start
-start_kept c [] [] nows.Ready t ts start begin d =
-    let none : d.notes ≡ [] = none_noted c places.Top d.notes [] d.noted refl in
+start_kept c [] [] Now.Ready t ts start begin d =
+    let none : d.notes ≡ [] = none_noted c Place.Top d.notes [] d.noted refl in
     absurd (let e : t ∷ ts ≡ [] = d.whole ∙ (ap (λ x. x ++ d.notes) d.outer ∙ none) in cc)
-start_kept c [] (s ∷ ss) nows.Ready t ts start begin d = refl
-start_kept c (f ∷ fs) [] nows.Ready t ts start begin d = refl
-start_kept c (f ∷ fs) (s ∷ ss) nows.Ready t ts start begin d = refl
-start_kept c fs ss (nows.Pending h end) t ts start begin d = refl
-start_kept c fs ss (nows.Long w end) t ts start begin d = refl
-start_kept c fs ss nows.After t ts start begin d = refl
-start_kept c fs ss nows.Name t ts start begin d = refl
-start_kept c fs ss (nows.LongName w) t ts start begin d = refl
-start_kept c fs ss (nows.Keyed s) t ts start begin d = refl
+start_kept c [] (s ∷ ss) Now.Ready t ts start begin d = refl
+start_kept c (f ∷ fs) [] Now.Ready t ts start begin d = refl
+start_kept c (f ∷ fs) (s ∷ ss) Now.Ready t ts start begin d = refl
+start_kept c fs ss (Now.Pending h end) t ts start begin d = refl
+start_kept c fs ss (Now.Long w end) t ts start begin d = refl
+start_kept c fs ss Now.After t ts start begin d = refl
+start_kept c fs ss Now.Name t ts start begin d = refl
+start_kept c fs ss (Now.LongName w) t ts start begin d = refl
+start_kept c fs ss (Now.Keyed s) t ts start begin d = refl
 
 -- an s-expression whose body ends long ends the item so
 long_tokens : (c : List Slot) (fs : List Frame) (ts : List Placed) → (o : Opened c fs ts true) → long_behind c fs ts o ≡ true → ends_long ts ≡ true
-long_tokens c (frames.Items listings.Sexp ss vs ∷ fs) ts o h = ap ends_long o.whole
+long_tokens c (Frame.Items Listing.Sexp ss vs ∷ fs) ts o h = ap ends_long o.whole
     ∙ ends_behind o.front (o.notes ++ o.open' ∷ o.body) (ends_behind o.notes (o.open' ∷ o.body) (ends_behind (o.open' ∷ []) o.body h))
 long_tokens c [] ts o h = absurd cc
-long_tokens c (frames.Items listings.List ss vs ∷ fs) ts o h = absurd cc
-long_tokens c (frames.Fields ss ms ∷ fs) ts o h = absurd cc
-long_tokens c (frames.Named ss ms s ∷ fs) ts o h = absurd cc
+long_tokens c (Frame.Items Listing.List ss vs ∷ fs) ts o h = absurd cc
+long_tokens c (Frame.Fields ss ms ∷ fs) ts o h = absurd cc
+long_tokens c (Frame.Named ss ms s ∷ fs) ts o h = absurd cc
 
 -- a token behind annotations, or one that is no segment
 notes_apart : (c : List Slot) (p : Place) (notes : List Placed) (ss : Symbols) (t : Placed) → Annotations c p notes ss → (notes ≡ [] → is_long t ≡ false)
@@ -212,17 +188,17 @@ LongTurn (late e r) = Unit {0}
 
 now_long : (g : Catalog) (l : Limits) (begin end start : ℕ) (c : List Slot) (fs : List Frame) (ss : Symbols) (w : List ℕ) (now : Now)
     → LongTurn (turn_now (under g l) (at start c fs ss now) (token_at begin end (Long w)) now)
-now_long g l begin end start c fs ss w nows.Ready = tt
-now_long g l begin end start c fs ss w (nows.Pending h e) = tt
-now_long g l begin end start c fs ss w (nows.Long v e) = tt
-now_long g l begin end start c fs ss w nows.After = tt
-now_long g l begin end start c fs ss w nows.Name = tt
-now_long g l begin end start c fs ss w (nows.LongName v) = tt
-now_long g l begin end start c fs ss w (nows.Keyed s) = tt
+now_long g l begin end start c fs ss w Now.Ready = tt
+now_long g l begin end start c fs ss w (Now.Pending h e) = tt
+now_long g l begin end start c fs ss w (Now.Long v e) = tt
+now_long g l begin end start c fs ss w Now.After = tt
+now_long g l begin end start c fs ss w Now.Name = tt
+now_long g l begin end start c fs ss w (Now.LongName v) = tt
+now_long g l begin end start c fs ss w (Now.Keyed s) = tt
 
 -- what a segment says
 pub segment_says : (k : TokenKind) (octets : List ℕ) (said : Content) → is_segment k ≡ true → IsBody k octets (Ok said) → said ≡ Long octets
-segment_says kinds.LongString octets said e h = h.0
+segment_says TokenKind.LongString octets said e h = h.0
 segment_says _ octets said e h = absurd cc
 
 -- how a scanner stands to octets and tokens
@@ -253,17 +229,17 @@ module _ (g : Catalog) (l : Limits) where
   Reads S u vs s ahead A (refuses e) = Unit {0}
   Reads S u vs s ahead A (late e r) = Unit {0}
 
-  pub fresh_stands : (c : List Slot) → NowStands c [] [] [] nows.Ready
+  pub fresh_stands : (c : List Slot) → NowStands c [] [] [] Now.Ready
   fresh_stands c = record { front = []; notes = []; whole = refl; outer = refl; receives = tt; noted = no_annotation }
 
   -- behind a whole item nothing is open
   pub nothing_open : (S : Scans) (u : List ℕ) (vs : List Value) (s : Known) (c : List Slot) (front : List Placed) (ahead : List ℕ) (A : Type 0)
-      → S places.Top s u front ahead → Pieces g l front vs c → (ends_long front ≡ true → ⊥ ⊎ A) → is_sane s.mode ≡ true → Fine s
+      → S Place.Top s u front ahead → Pieces g l front vs c → (ends_long front ≡ true → ⊥ ⊎ A) → is_sane s.mode ≡ true → Fine s
       → Behind S u vs s (fresh c) ahead A
   nothing_open S u vs s c front ahead A scanned pieces apart sane fine = record {
     front = front;
     item = [];
-    scanned = subst (λ x. S places.Top s u x ahead) (sym (append-nil front)) scanned;
+    scanned = subst (λ x. S Place.Top s u x ahead) (sym (append-nil front)) scanned;
     pieces = pieces;
     stands = fresh_stands c;
     begins = tt;
@@ -349,7 +325,7 @@ module _ (g : Catalog) (l : Limits) where
     ready_apart : (fs : List Frame) (ss : Symbols) (now : Now) (d : NowStands r.context fs ss b.item now)
         → (ends_long (b.front ++ b.item) ≡ true → IsLongNow now ⊎ (is_segment x.kind ≡ false)) → (c : Content)
         → NoSegmentComes r.context fs ss b.item (placed (place_in fs now) x) c now d
-    ready_apart fs ss nows.Ready d h c = λ w e. go (long_behind r.context fs d.front d.outer) refl
+    ready_apart fs ss Now.Ready d h c = λ w e. go (long_behind r.context fs d.front d.outer) refl
       where
         none : ends_long d.front ≡ true → d.notes ≡ [] → is_segment x.kind ≡ false
         none e n = elim (h (ends_behind b.front b.item (ap ends_long (d.whole ∙ (ap (λ y. d.front ++ y) n ∙ append-nil d.front)) ∙ e))) [
@@ -357,16 +333,16 @@ module _ (g : Catalog) (l : Limits) where
           | inr k ↦ k
         ]
 
-        go : (y : Bool) → long_behind r.context fs d.front d.outer ≡ y → (y && begins_long (d.notes ++ placed (place_in fs nows.Ready) x ∷ [])) ≡ false
+        go : (y : Bool) → long_behind r.context fs d.front d.outer ≡ y → (y && begins_long (d.notes ++ placed (place_in fs Now.Ready) x ∷ [])) ≡ false
         go false e = refl
-        go true e = notes_apart r.context (value_place fs) d.notes ss (placed (place_in fs nows.Ready) x) d.noted
+        go true e = notes_apart r.context (value_place fs) d.notes ss (placed (place_in fs Now.Ready) x) d.noted
             (none (long_tokens r.context fs d.front d.outer e))
-    ready_apart fs ss (nows.Pending k end) d h c = tt
-    ready_apart fs ss (nows.Long w end) d h c = tt
-    ready_apart fs ss nows.After d h c = tt
-    ready_apart fs ss nows.Name d h c = tt
-    ready_apart fs ss (nows.LongName w) d h c = tt
-    ready_apart fs ss (nows.Keyed k) d h c = tt
+    ready_apart fs ss (Now.Pending k end) d h c = tt
+    ready_apart fs ss (Now.Long w end) d h c = tt
+    ready_apart fs ss Now.After d h c = tt
+    ready_apart fs ss Now.Name d h c = tt
+    ready_apart fs ss (Now.LongName w) d h c = tt
+    ready_apart fs ss (Now.Keyed k) d h c = tt
 
     segment_part : IsLongNow r.now ⊎ NotLong (is_top r.frames) x → IsLongNow r.now ⊎ (is_segment x.kind ≡ false)
     segment_part (inl h) = inl h
@@ -376,7 +352,7 @@ module _ (g : Catalog) (l : Limits) where
     first_more (t ∷ ts) e = ap (λ y. ends_long b.front && begins_as_long y) (sym e) ∙ b.first
     first_more [] e = go (ends_long b.front) refl
       where
-        open' : (r.frames ≡ []) × (r.notes ≡ []) × (r.now ≡ nows.Ready)
+        open' : (r.frames ≡ []) × (r.notes ≡ []) × (r.now ≡ Now.Ready)
         open' = none_open r.context r.frames r.notes r.now (subst (λ y. NowStands r.context r.frames r.notes y r.now) e b.stands)
 
         go : (y : Bool) → ends_long b.front ≡ y → (y && (is_segment x.kind || is_two_quotes x.kind x.start x.end)) ≡ false
@@ -450,7 +426,7 @@ module _ (g : Catalog) (l : Limits) where
         r : Reading
         r = at start c fs ss now
 
-        some : (now' : Now) → now ≡ now' → (now' ≡ nows.Ready → ⊥) → (item : List Placed) → b.item ≡ item → IsFirst item start
+        some : (now' : Now) → now ≡ now' → (now' ≡ Now.Ready → ⊥) → (item : List Placed) → b.item ≡ item → IsFirst item start
         some now' e n [] f = tt
         some now' e n (t ∷ ts) f = subst (λ x. IsFirst x start) f b.begins
 
@@ -475,28 +451,28 @@ module _ (g : Catalog) (l : Limits) where
             b.first b.sane b.fine
           where
             last : (n : Now) → EndsAt n (end_of 0 b.item) → end_of_now n (end_of 0 b.item) ≡ end_of 0 b.item
-            last (nows.Pending h end) e = e
-            last (nows.Long w end) e = e
-            last (nows.LongName w) e = refl
-            last nows.Ready e = refl
-            last nows.After e = refl
-            last nows.Name e = refl
-            last (nows.Keyed s) e = refl
+            last (Now.Pending h end) e = e
+            last (Now.Long w end) e = e
+            last (Now.LongName w) e = refl
+            last Now.Ready e = refl
+            last Now.After e = refl
+            last Now.Name e = refl
+            last (Now.Keyed s) e = refl
 
         go : (n : Now) → now ≡ n → Reads S u vs s ahead (λ n. ApartAt o s n) (settle g l (at start c fs ss now))
-        go (nows.Pending h end) e = waited (λ k. absurd (subst IsLongNow e k)) b.stands
-        go (nows.Long v end) e = waited (λ k. long_apart (is_top fs) (feed (place_in fs now) s o)
+        go (Now.Pending h end) e = waited (λ k. absurd (subst IsLongNow e k)) b.stands
+        go (Now.Long v end) e = waited (λ k. long_apart (is_top fs) (feed (place_in fs now) s o)
             (ap (λ m. waits_now (is_top fs) m (feed (place_in fs now) s o)) (sym e) ∙ w)) b.stands
-        go (nows.LongName v) e = waited (λ k. name_apart (is_top fs) (feed (place_in fs now) s o)
+        go (Now.LongName v) e = waited (λ k. name_apart (is_top fs) (feed (place_in fs now) s o)
             (name_inside fs (subst (λ m. NowStands c fs ss b.item m) e b.stands).struct) (ap (λ m. waits_now (is_top fs) m (feed (place_in fs now) s o)) (sym e)
             ∙ w)) b.stands
-        go nows.Ready e = subst (λ m. Reads S u vs s ahead (λ n. ApartAt o s n) (settle g l (at start c fs ss m))) (sym e)
+        go Now.Ready e = subst (λ m. Reads S u vs s ahead (λ n. ApartAt o s n) (settle g l (at start c fs ss m))) (sym e)
             (subst (λ m. Behind S u vs s (at start c fs ss m) ahead (ApartAt o s (at start c fs ss m))) e b)
-        go nows.After e = subst (λ m. Reads S u vs s ahead (λ n. ApartAt o s n) (settle g l (at start c fs ss m))) (sym e)
+        go Now.After e = subst (λ m. Reads S u vs s ahead (λ n. ApartAt o s n) (settle g l (at start c fs ss m))) (sym e)
             (subst (λ m. Behind S u vs s (at start c fs ss m) ahead (ApartAt o s (at start c fs ss m))) e b)
-        go nows.Name e = subst (λ m. Reads S u vs s ahead (λ n. ApartAt o s n) (settle g l (at start c fs ss m))) (sym e)
+        go Now.Name e = subst (λ m. Reads S u vs s ahead (λ n. ApartAt o s n) (settle g l (at start c fs ss m))) (sym e)
             (subst (λ m. Behind S u vs s (at start c fs ss m) ahead (ApartAt o s (at start c fs ss m))) e b)
-        go (nows.Keyed k) e = subst (λ m. Reads S u vs s ahead (λ n. ApartAt o s n) (settle g l (at start c fs ss m))) (sym e)
+        go (Now.Keyed k) e = subst (λ m. Reads S u vs s ahead (λ n. ApartAt o s n) (settle g l (at start c fs ss m))) (sym e)
             (subst (λ m. Behind S u vs s (at start c fs ss m) ahead (ApartAt o s (at start c fs ss m))) e b)
 
   -- What waited is settled by the end.
@@ -539,10 +515,10 @@ module _ (g : Catalog) (l : Limits) where
             (anywhere (at r.start r.context r.frames r.notes n) (subst (λ m. Behind S u vs s (at r.start r.context r.frames r.notes m) ahead A) e b)))
 
         go : (n : Now) → r.now ≡ n → Reads S u vs s ahead (λ n. Unit {0}) (settle g l r)
-        go (nows.Pending h end) e = waited (nows.Pending h end) e (subst (λ m. EndsAt m (end_of 0 b.item)) e b.ends)
-        go (nows.Long w end) e = waited (nows.Long w end) e (subst (λ m. EndsAt m (end_of 0 b.item)) e b.ends)
-        go (nows.LongName w) e = waited (nows.LongName w) e refl
-        go nows.Ready e = held nows.Ready e refl
-        go nows.After e = held nows.After e refl
-        go nows.Name e = held nows.Name e refl
-        go (nows.Keyed k) e = held (nows.Keyed k) e refl
+        go (Now.Pending h end) e = waited (Now.Pending h end) e (subst (λ m. EndsAt m (end_of 0 b.item)) e b.ends)
+        go (Now.Long w end) e = waited (Now.Long w end) e (subst (λ m. EndsAt m (end_of 0 b.item)) e b.ends)
+        go (Now.LongName w) e = waited (Now.LongName w) e refl
+        go Now.Ready e = held Now.Ready e refl
+        go Now.After e = held Now.After e refl
+        go Now.Name e = held Now.Name e refl
+        go (Now.Keyed k) e = held (Now.Keyed k) e refl

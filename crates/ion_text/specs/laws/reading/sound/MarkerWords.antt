@@ -2,21 +2,10 @@
 use Rattle.std.proofs.Common.{◌≡◌, ℕ, ◌-◌, ◌^◌, ◌==◌, min, arith, nat_lt, List, [], ◌∷◌, ◌++◌, length, Bool, true, false, Ok, Option, Some, None, refl, ap, ◌∙◌, if◌then◌else◌, codes, ◌&&◌}
 use Rattle.std.proofs.lemmas.Slice.Eq.{bytes_eq-Decides}
 use Rattle.std.specs.Str.{bytes_eq}
-use Rattle.ion_atoms.specs.declared.kind.Kind.TheVariants as values
-use Rattle.ion_symtab.specs.Slots.{Slot}
-use Rattle.ion_tokens.specs.declared.mode.Place.{Place}
-use Rattle.ion_tokens.specs.declared.mode.TokenKind.{TokenKind}
-use Rattle.ion_tokens.specs.declared.mode.TokenKind.TheVariants as kinds
-use Rattle.ion_tokens.specs.Bodies.{Content, Word, Id, Long, IsBody, IsWordBody, id_of, number_in}
-use Rattle.ion_tokens.specs.Lexed.{Placed}
-use Rattle.ion_text.specs.declared.state.Held.{Held}
-use Rattle.ion_text.specs.declared.state.Held.TheVariants as helds
-use Rattle.ion_text.specs.Grammar.{Annotations, no_annotation, one_annotation, Segments, segment, joined, is_version, is_version_word, behind_front, version_parts, the_marker}
-use Rattle.ion_text.specs.machine.EachToken.{Symbols, held_word}
-use Rattle.ion_text.specs.laws.reading.complete.Complete.{word_token}
-use Rattle.ion_tokens.specs.Octets.{is_digit}
 use Rattle.std.specs.List.{list_all}
 use Rattle.std.proofs.lemmas.Bool.Decides.{nat_tests}
+use Rattle.ion_text.specs.Names.{Annotations, Content, Held, Id, IsBody, IsWordBody, Kind, Long, Place, Placed, Segments, Slot, Symbols, TokenKind, Word, behind_front, held_word, id_of, is_digit, is_version, is_version_word, joined, no_annotation, number_in, one_annotation, segment, the_marker, version_parts}
+use Rattle.ion_text.specs.laws.reading.complete.Complete.{word_token}
 
 -- a token that says neither a word nor an id isn't of that kind
 pub other_word : (t : Placed) (said : Content) → ((w : List ℕ) → said ≡ Word w → ⊥) → ((id : ℕ) → said ≡ Id id → ⊥)
@@ -30,16 +19,16 @@ other_word t said n m h = go t.lexeme.kind h
     go : (k : TokenKind) → IsBody k t.lexeme.octets (Ok said)
         → is_version_word (record { place = t.place; lexeme = record { start = t.lexeme.start; end = t.lexeme.end; kind = k; octets = t.lexeme.octets } } ∷ [])
         ≡ false
-    go kinds.Word h = absurd (word (id_of t.lexeme.octets) h)
-    go kinds.LongString h = refl
-    go kinds.KindName h = refl
-    go kinds.Number h = refl
-    go kinds.Operator h = refl
-    go kinds.QuotedSymbol h = refl
-    go kinds.ShortString h = refl
-    go kinds.Clob h = refl
-    go kinds.Blob h = refl
-    go (kinds.Mark m) h = refl
+    go TokenKind.Word h = absurd (word (id_of t.lexeme.octets) h)
+    go TokenKind.LongString h = refl
+    go TokenKind.KindName h = refl
+    go TokenKind.Number h = refl
+    go TokenKind.Operator h = refl
+    go TokenKind.QuotedSymbol h = refl
+    go TokenKind.ShortString h = refl
+    go TokenKind.Clob h = refl
+    go TokenKind.Blob h = refl
+    go (TokenKind.Mark m) h = refl
 
 -- where the second of two tests fails, they don't hold together
 pub both_not : (a b : Bool) → b ≡ false → (a && b) ≡ false
@@ -73,16 +62,16 @@ id_no_word t id h = go t.lexeme.kind h
     go : (k : TokenKind) → IsBody k t.lexeme.octets (Ok (Id id))
         → is_version_word (record { place = t.place; lexeme = record { start = t.lexeme.start; end = t.lexeme.end; kind = k; octets = t.lexeme.octets } } ∷ [])
         ≡ false
-    go kinds.Word h = word (id_of t.lexeme.octets) refl h
-    go kinds.LongString h = refl
-    go kinds.KindName h = refl
-    go kinds.Number h = refl
-    go kinds.Operator h = refl
-    go kinds.QuotedSymbol h = refl
-    go kinds.ShortString h = refl
-    go kinds.Clob h = refl
-    go kinds.Blob h = refl
-    go (kinds.Mark m) h = refl
+    go TokenKind.Word h = word (id_of t.lexeme.octets) refl h
+    go TokenKind.LongString h = refl
+    go TokenKind.KindName h = refl
+    go TokenKind.Number h = refl
+    go TokenKind.Operator h = refl
+    go TokenKind.QuotedSymbol h = refl
+    go TokenKind.ShortString h = refl
+    go TokenKind.Clob h = refl
+    go TokenKind.Blob h = refl
+    go (TokenKind.Mark m) h = refl
 
 -- more than one token is no version marker
 pub more_words : (t : Placed) (us : List Placed) (u : Placed) → is_version_word (t ∷ (us ++ u ∷ [])) ≡ false
@@ -105,7 +94,7 @@ noted_no_word c p _ us _ (one_annotation (x ∷ y ∷ ts) rs t colons said s e i
 
 -- what is held is no version marker
 abbrev pub is_unmarked : Held → Bool
-is_unmarked (helds.Version ours s) = false
+is_unmarked (Held.Version ours s) = false
 is_unmarked _ = true
 
 pub unmarked_word : (w : List ℕ) → is_unmarked (held_word w) ≡ true → is_version w ≡ false
@@ -117,8 +106,8 @@ unmarked_word w h = go (bytes_eq w (codes "null")) (bytes_eq w (codes "true")) (
 
     go : (a b d e f : Bool) → bytes_eq w (codes "null") ≡ a → bytes_eq w (codes "true") ≡ b → bytes_eq w (codes "false") ≡ d → bytes_eq w (codes "nan") ≡ e
         → is_version w ≡ f
-        → is_unmarked (if a then helds.Null values.Null else (if b then helds.Truth true else
-        (if d then helds.Truth false else (if e then helds.Nan else (if f then helds.Version (bytes_eq w the_marker) (Some w) else helds.Symbol (Some w))))))
+        → is_unmarked (if a then Held.Null Kind.Null else (if b then Held.Truth true else
+        (if d then Held.Truth false else (if e then Held.Nan else (if f then Held.Version (bytes_eq w the_marker) (Some w) else Held.Symbol (Some w))))))
         ≡ true → is_version w ≡ false
     go true b d e f i j k m n h = is (codes "null") i refl
     go false true d e f i j k m n h = is (codes "true") j refl

@@ -3,48 +3,34 @@ use Rattle.std.proofs.Common.{◌≡◌, ℕ, ◌+◌, ◌≤◌, Bool, true, fa
 use Rattle.std.specs.Prelude.{◌==◌, ◌&&◌, ◌||◌, not, nat_le, bytes_eq, codes}
 use Rattle.std.proofs.lemmas.Bool.{and_parts}
 use Rattle.std.proofs.lemmas.Bool.Decides.{nat_tests}
-use Rattle.ion_tokens.specs.declared.mode.Place.{Place}
-use Rattle.ion_tokens.specs.declared.mode.Style.TheVariants as styles
-use Rattle.ion_tokens.specs.declared.mode.Mode.{Mode}
-use Rattle.ion_tokens.specs.declared.mode.Mode.TheVariants as modes
-use Rattle.ion_tokens.specs.declared.mode.Mark.TheVariants as marks
-use Rattle.ion_tokens.specs.machine.Bounds.{is_idle}
-use Rattle.ion_tokens.specs.declared.mode.TokenKind.{TokenKind}
-use Rattle.ion_tokens.specs.declared.mode.TokenKind.TheVariants as kinds
-use Rattle.ion_tokens.specs.declared.mode.Action.{Action}
-use Rattle.ion_tokens.specs.declared.mode.Action.TheVariants as actions
+use Rattle.ion_text.specs.Names.{Action, Given, Known, Left, Lexeme, Mark, Mode, Next, Outcome, Place, Refused, Style, TokenKind, acts, blob_ends, blob_of, cut, feed, go_to, is_idle, is_quoted, is_quoting, is_sane, is_segment, is_two_quotes, past, start_of}
 use Rattle.ion_tokens.specs.machine.Table.{next}
-use Rattle.ion_tokens.specs.Blobs.{blob_of}
 use Rattle.ion_tokens.specs.laws.ByRows.{by_rows, modes_imply}
-use Rattle.ion_tokens.specs.machine.Scanning.{Known, Outcome, Next, Given, Left, Refused, start_of, acts, blob_ends, go_to, cut, past, feed}
-use Rattle.ion_tokens.specs.Lexemes.{Lexeme, is_segment}
-use Rattle.ion_text.specs.Grammar.{is_two_quotes}
-use Rattle.ion_tokens.specs.machine.Ahead.{is_quoting, is_sane, is_quoted}
 
 -- a token that has begun has so many octets
 abbrev pub least : Mode → ℕ
-least modes.Quote = 1
-least modes.Quotes = 2
-least (modes.Text styles.QuotedSymbol w) = 2
+least Mode.Quote = 1
+least Mode.Quotes = 2
+least (Mode.Text Style.QuotedSymbol w) = 2
 least _ = 0
 
 -- the close of a container
 abbrev pub is_close : TokenKind → Bool
-is_close (kinds.Mark marks.ListClose) = true
-is_close (kinds.Mark marks.SexpClose) = true
-is_close (kinds.Mark marks.FieldsClose) = true
+is_close (TokenKind.Mark Mark.ListClose) = true
+is_close (TokenKind.Mark Mark.SexpClose) = true
+is_close (TokenKind.Mark Mark.FieldsClose) = true
 is_close _ = false
 
 abbrev is_left_in : Mode → Bool
-is_left_in modes.Blank = true
-is_left_in modes.Slash = true
+is_left_in Mode.Blank = true
+is_left_in Mode.Slash = true
 is_left_in _ = false
 
 -- from a mode with so many octets, quoting or not
 abbrev quotes_fit : ℕ → Bool → Action → Bool
-quotes_fit n q (actions.Go m k) = nat_le (least m) (n + 1)
-quotes_fit n q (actions.Give kind k) = not (is_quoted kind) || nat_le 2 n
-quotes_fit n q (actions.Before kind k m) = (is_left_in m && not (is_segment kind)) && ((not (is_quoted kind) || q) && not (is_close kind))
+quotes_fit n q (Action.Go m k) = nat_le (least m) (n + 1)
+quotes_fit n q (Action.Give kind k) = not (is_quoted kind) || nat_le 2 n
+quotes_fit n q (Action.Before kind k m) = (is_left_in m && not (is_segment kind)) && ((not (is_quoted kind) || q) && not (is_close kind))
 quotes_fit n q _ = true
 
 -- where a number is at most another, the test says so
@@ -65,7 +51,7 @@ abbrev pub Finely : Mode → Outcome → Type 0
 Finely m (Next s) = Fine s
 Finely m (Given l s) = Fine s × (is_quoted l.kind ≡ true → l.start + 3 ≤ l.end) × (is_sane s.mode ≡ true) × (is_idle s.mode ≡ true) × (l.end ≡ s.used)
 Finely m (Left l s) = Fine s × (is_segment l.kind ≡ false) × (is_quoting m ≡ false → is_quoted l.kind ≡ false) × (is_sane s.mode ≡ true)
-    × ((is_idle s.mode ≡ true) ⊎ (l.kind ≡ kinds.Operator)) × (is_close l.kind ≡ false) × (l.end ≤ s.used)
+    × ((is_idle s.mode ≡ true) ⊎ (l.kind ≡ TokenKind.Operator)) × (is_close l.kind ≡ false) × (l.end ≤ s.used)
 Finely m (Refused n e) = Unit {0}
 
 -- where the test says so, a number is at most another
@@ -87,13 +73,13 @@ counter true true h e = absurd cc
 counter true false h e = absurd cc
 
 moved : (m : Mode) (start used n : ℕ) → start + n ≤ used → least m ≤ n + 1 → start_of m start (used + 1) + least m ≤ used + 1
-moved modes.Blank start used n h k = omega arith
-moved modes.Slash start used n h k = omega arith
+moved Mode.Blank start used n h k = omega arith
+moved Mode.Slash start used n h k = omega arith
 moved _ start used n h k = omega arith
 
 left_fine : (p : Place) (kind : TokenKind) (m : Mode) (k : List ℕ) (start used : ℕ) → is_left_in m ≡ true → Fine (past p kind m k start used)
-left_fine p kind modes.Blank k start used h = record { enough = omega arith }
-left_fine p kind modes.Slash k start used h = record { enough = omega arith }
+left_fine p kind Mode.Blank k start used h = record { enough = omega arith }
+left_fine p kind Mode.Slash k start used h = record { enough = omega arith }
 left_fine p kind _ k start used h = absurd cc
 
 blob_fine : (s : Known) (b : Option (List ℕ)) → blob_of s.kept ≡ b → Fine s → Finely s.mode (blob_ends s b)
@@ -101,15 +87,15 @@ blob_fine s None e h = tt
 blob_fine s (Some octets) e h = let k = h.enough in record { enough = omega arith }
 
 acts_fine : (p : Place) (s : Known) (o : ℕ) (a : Action) → quotes_fit (least s.mode) (is_quoting s.mode) a ≡ true → Fine s → Finely s.mode (acts p s o a)
-acts_fine p s o (actions.Go m k) f h = record { enough = moved m (start_of s.mode s.start s.used) s.used (least s.mode) h.enough (le_of _ _ f) }
-acts_fine p s o (actions.Give kind k) f h = (
+acts_fine p s o (Action.Go m k) f h = record { enough = moved m (start_of s.mode s.start s.used) s.used (least s.mode) h.enough (le_of _ _ f) }
+acts_fine p s o (Action.Give kind k) f h = (
   record { enough = omega arith },
   (λ e. let n = le_of 2 (least s.mode) (implies (is_quoted kind) _ f e) in let m = h.enough in omega arith),
   refl,
   refl,
   refl,
 )
-acts_fine p s o (actions.Before kind k m) f h =
+acts_fine p s o (Action.Before kind k m) f h =
     let x = and_parts _ _ f in
     let y = and_parts _ _ x.0 in
     let z = and_parts _ _ x.1 in (
@@ -121,15 +107,15 @@ acts_fine p s o (actions.Before kind k m) f h =
       not_true (is_close kind) z.1,
       omega arith,
     )
-acts_fine p s o actions.EndWord f h = word ((o == 46) && bytes_eq s.kept (codes "null"))
+acts_fine p s o Action.EndWord f h = word ((o == 46) && bytes_eq s.kept (codes "null"))
   where
-    word : (b : Bool) → Finely s.mode (cond b (Next (go_to s modes.KindName []))
-        (Left (cut s kinds.Word s.kept s.used) (past p kinds.Word modes.Blank [] s.used s.used)))
+    word : (b : Bool) → Finely s.mode (cond b (Next (go_to s Mode.KindName []))
+        (Left (cut s TokenKind.Word s.kept s.used) (past p TokenKind.Word Mode.Blank [] s.used s.used)))
     word true = let k = h.enough in record { enough = omega arith }
     word false = (record { enough = omega arith }, refl, (λ e. refl), refl, inl refl, refl, omega arith)
-acts_fine p s o (actions.Split n) f h = (record { enough = omega arith }, refl, (λ e. refl), refl, inr refl, refl, omega arith)
-acts_fine p s o actions.EndBlob f h = blob_fine s (blob_of s.kept) refl h
-acts_fine p s o (actions.Refuse e) f h = tt
+acts_fine p s o (Action.Split n) f h = (record { enough = omega arith }, refl, (λ e. refl), refl, inr refl, refl, omega arith)
+acts_fine p s o Action.EndBlob f h = blob_fine s (blob_of s.kept) refl h
+acts_fine p s o (Action.Refuse e) f h = tt
 
 -- What comes of an octet.
 pub feed_fine : (p : Place) (s : Known) (o : ℕ) → Fine s → Finely s.mode (feed p s o)
@@ -143,10 +129,10 @@ given_far x h = go x.kind h
     far a b k = grind (arith, nat_tests)
 
     go : (k : TokenKind) → (is_quoted k ≡ true → x.start + 3 ≤ x.end) → is_two_quotes k x.start x.end ≡ false
-    go kinds.QuotedSymbol k = far x.start x.end (k refl)
+    go TokenKind.QuotedSymbol k = far x.start x.end (k refl)
     go _ k = refl
 
 -- a token that isn't quoted is no `''`
 pub left_none : (k : TokenKind) (start end : ℕ) → is_quoted k ≡ false → is_two_quotes k start end ≡ false
-left_none kinds.QuotedSymbol start end h = absurd cc
+left_none TokenKind.QuotedSymbol start end h = absurd cc
 left_none _ start end h = refl

@@ -1,52 +1,24 @@
 -- What the reader of tokens holds stands for the tokens of the open item, and what it gives they mean.
 use Rattle.std.proofs.Common.{◌≡◌, ℕ, ◌+◌, ◌≤◌, arith, nat_le, nat_lt, List, [], ◌∷◌, ◌++◌, length, Bool, true, false, Result, Ok, Err, Option, Some, refl, ap, sym, ◌∙◌, subst, append_assoc, append-nil, if◌then◌else◌, ◌⊎◌, inl, inr, ◌&&◌}
-use Rattle.ion_model.specs.declared.value.Value.{Value}
-use Rattle.ion_model.specs.declared.value.Field.{Field}
-use Rattle.ion_model.specs.declared.value.Payload.{Payload}
-use Rattle.ion_model.specs.declared.value.Payload.TheVariants as payloads
-use Rattle.ion_atoms.specs.declared.refusal.Reason.{Reason}
-use Rattle.ion_atoms.specs.declared.refusal.Reason.TheVariants as reasons
-use Rattle.ion_model.specs.Measures.{depth, annotated}
-use Rattle.ion_model.specs.Kinds.{is_table}
-use Rattle.ion_scalar.specs.declared.number.Number.TheVariants as numbers
-use Rattle.ion_symtab.specs.declared.limits.Limits.{Limits}
-use Rattle.ion_symtab.specs.declared.catalog.Catalog.{Catalog}
-use Rattle.ion_symtab.specs.Slots.{Slot, system_slots, resolve}
-use Rattle.ion_symtab.specs.Next.{next}
-use Rattle.ion_tokens.specs.declared.mode.Mark.TheVariants as marks
-use Rattle.ion_tokens.specs.declared.mode.Place.TheVariants as places
-use Rattle.ion_tokens.specs.Bodies.{Content, Word, Id, Quoted, Short, Long, Number', TypedNull, Operator, Clob, Blob, Mark'}
-use Rattle.ion_tokens.specs.Lexed.{Placed}
-use Rattle.ion_text.specs.declared.state.Held.{Held}
-use Rattle.ion_text.specs.declared.state.Held.TheVariants as helds
-use Rattle.ion_text.specs.declared.state.Now.{Now}
-use Rattle.ion_text.specs.declared.state.Now.TheVariants as nows
-use Rattle.ion_text.specs.declared.state.Frame.{Frame}
-use Rattle.ion_text.specs.declared.state.Frame.TheVariants as frames
-use Rattle.ion_text.specs.declared.state.Listing.TheVariants as listings
-use Rattle.ion_visiting.specs.declared.bracket.Bracket.{Bracket}
-use Rattle.ion_visiting.specs.declared.bracket.Bracket.TheVariants as brackets
-use Rattle.ion_text.specs.machine.Nested.{open_mark, close_mark}
-use Rattle.ion_text.specs.Grammar.{Says, is_word, is_id, is_quoted, IsScalar, is_typed_null, is_int, is_decimal, is_timestamp, is_operator, is_short, is_clob, is_blob, one_annotation, Segments, segment, joined, IsName, by_symbol, by_short, by_long, no_field, field, field_comma, close_place, Plain, one_token, long_string, is_list, is_sexp, is_struct, Means, means, no_element, element, comma, no_item, item, Members, begins_long, is_keyword, is_version_word, the_marker}
-use Rattle.ion_text.specs.machine.EachToken.{under, spot_at, Turn, goes, gives, refuses, late, Symbols, at, fresh, place_in, settle, turn, ended, within, turned, held_word, held_symbol, held_payload, released, begun_at, on_ready, on_after, on_name, paid, noted, resolved, keyed, opened, first_now, beyond_depth, closed}
-use Rattle.ion_text.specs.machine.Run.{token_of}
-use Rattle.ion_text.specs.machine.Places.{pending_at, long_at}
-use Rattle.ion_text.specs.laws.reading.complete.Complete.{depth-list, depth-sexp, depth-struct}
-use Rattle.ion_text.specs.laws.reading.sound.MarkerWords.{other_word, id_no_word, more_words, segments_no_word, noted_no_word, is_unmarked, word_no_word}
-use Rattle.ion_text.specs.laws.reading.sound.Depths.{Deep, flat_held, flat_text, flat_number, flat_symbol, flat_clob, flat_blob}
-use Rattle.ion_text.specs.laws.reading.sound.StandsOpen.{value_place, Receives, Around, Items, Opened, nothing_noted, opened_around, whole_behind, more_around, EndsAt, long_behind, and_false, not_long, notes_not_long, begins_long_more, HoldsWhatIsSaid, ReadyFor, symbol_said, IsHeld, PendingFor, LongFor, NameFor, NowStands, ReadingStands, start_now, end_of_now, word_stood, symbol_stood, no_note, NoSegmentComes}
 use Rattle.std.proofs.lemmas.Bool.Decides.{nat_tests}
-use Rattle.ion_text.specs.laws.reading.Brackets.{Closes, ends_list, ends_sexp, ends_struct, ends_none, closes_or_not}
+use Rattle.ion_text.specs.Names.{Blob, Bracket, Catalog, Clob, Content, Field, Frame, Held, Id, IsName, IsScalar, Limits, Listing, Long, Mark, Mark', Means, Members, Now, Number, Number', Operator, Payload, Place, Placed, Plain, Quoted, Reason, Says, Segments, Short, Slot, Symbols, Turn, TypedNull, Value, Word, annotated, at, begins_long, begun_at, beyond_depth, by_long, by_short, by_symbol, close_mark, close_place, closed, comma, depth, element, ended, field, field_comma, first_now, fresh, gives, goes, held_payload, held_symbol, held_word, is_blob, is_clob, is_decimal, is_id, is_int, is_keyword, is_list, is_operator, is_short, is_struct, is_table, is_timestamp, is_typed_null, is_version_word, is_word, item, joined, keyed, late, long_at, long_string, means, next, no_element, no_field, no_item, noted, on_after, on_name, on_ready, one_annotation, one_token, open_mark, opened, paid, pending_at, place_in, refuses, released, resolve, resolved, segment, settle, spot_at, system_slots, the_marker, token_of, turn, turned, under, within}
+use Rattle.ion_model.specs.declared.value.Payload.TheVariants as payloads
+use Rattle.ion_text.specs.Grammar.{is_quoted, is_sexp}
+use Rattle.ion_text.specs.laws.reading.Brackets.{Closes, closes_or_not, ends_list, ends_none, ends_sexp, ends_struct}
+use Rattle.ion_text.specs.laws.reading.complete.Complete.{depth-list, depth-sexp, depth-struct}
+use Rattle.ion_text.specs.laws.reading.sound.Depths.{Deep, flat_blob, flat_clob, flat_held, flat_number, flat_symbol, flat_text}
+use Rattle.ion_text.specs.laws.reading.sound.MarkerWords.{id_no_word, is_unmarked, more_words, noted_no_word, other_word, segments_no_word, word_no_word}
+use Rattle.ion_text.specs.laws.reading.sound.StandsOpen.{Around, EndsAt, HoldsWhatIsSaid, IsHeld, Items, LongFor, NameFor, NoSegmentComes, NowStands, Opened, PendingFor, ReadingStands, ReadyFor, Receives, and_false, begins_long_more, end_of_now, long_behind, more_around, no_note, not_long, notes_not_long, nothing_noted, opened_around, start_now, symbol_said, symbol_stood, value_place, whole_behind, word_stood}
 
 module _ (g : Catalog) (l : Limits) where
   -- what came of the tokens of the open item
   abbrev pub Sounds : List Slot → ℕ → ℕ → List Placed → Turn → Type 0
   Sounds c start end ts (goes r) =
       (ReadingStands c r ts × (r.start ≡ start) × EndsAt r.now end)
-      ⊎ (((v : Value) × (d : List Slot) × Means c places.Top ts v × (is_table v ≡ true) × (next c v g ≡ Ok d) × (depth v ≤ l.depth) × (end ≤ start + l.item)
+      ⊎ (((v : Value) × (d : List Slot) × Means c Place.Top ts v × (is_table v ≡ true) × (next c v g ≡ Ok d) × (depth v ≤ l.depth) × (end ≤ start + l.item)
       × (r ≡ fresh d))
-      ⊎ ((t : Placed) × (ts ≡ t ∷ []) × Says places.Top t (Word the_marker) × (end ≤ start + l.item) × (r ≡ fresh system_slots)))
-  Sounds c start end ts (gives v r) = Means c places.Top ts v × (is_table v ≡ false) × (is_version_word ts ≡ false) × (depth v ≤ l.depth)
+      ⊎ ((t : Placed) × (ts ≡ t ∷ []) × Says Place.Top t (Word the_marker) × (end ≤ start + l.item) × (r ≡ fresh system_slots)))
+  Sounds c start end ts (gives v r) = Means c Place.Top ts v × (is_table v ≡ false) × (is_version_word ts ≡ false) × (depth v ≤ l.depth)
       × (end ≤ start + l.item) × (r ≡ fresh c)
   Sounds c start end ts (refuses e) = Unit {0}
   Sounds c start end ts (late e r) = Unit {0}
@@ -59,11 +31,11 @@ module _ (g : Catalog) (l : Limits) where
   le_of a b h = grind (arith, nat_tests)
 
   within_sounds : (c : List Slot) (ts : List Placed) (start end : ℕ) (t : Turn) (b : Bool) → nat_le end (start + l.item) ≡ b
-      → (end ≤ start + l.item → Sounds c start end ts t) → Sounds c start end ts (if b then t else refuses reasons.ItemTooLong)
+      → (end ≤ start + l.item → Sounds c start end ts t) → Sounds c start end ts (if b then t else refuses Reason.ItemTooLong)
   within_sounds c ts start end t true e h = h (le_of end (start + l.item) e)
   within_sounds c ts start end t false e h = tt
 
-  top_sounds : (c : List Slot) (us : List Placed) (v : Value) (start end : ℕ) (b : Bool) (d : Result (List Slot) Reason) → Means c places.Top us v
+  top_sounds : (c : List Slot) (us : List Placed) (v : Value) (start end : ℕ) (b : Bool) (d : Result (List Slot) Reason) → Means c Place.Top us v
       → is_table v ≡ b → next c v g ≡ d → is_version_word us ≡ false → depth v ≤ l.depth
       → Sounds c start end us (if b then turned l.item start end d else within l.item start end (gives v (fresh c)))
   top_sounds c us v start end true (Ok d) m h k w q = within_sounds c us start end (goes (fresh d)) (nat_le end (start + l.item)) refl
@@ -79,12 +51,12 @@ module _ (g : Catalog) (l : Limits) where
   ended_sounds c [] front us v start end o r m a n q =
       subst (λ x. Sounds c start end (x ++ us) (ended (under g l) (spot_at end start c) [] v)) (sym o)
       (top_sounds c us v start end (is_table v) (next c v g) m refl refl (n refl) (q refl))
-  ended_sounds c (frames.Items listings.List ss vs ∷ fs) front us v start end o r m a n q =
+  ended_sounds c (Frame.Items Listing.List ss vs ∷ fs) front us v start end o r m a n q =
       inl (
         (
           refl,
           (
-            more_around c fs ss brackets.List (Items c listings.List vs true) (Items c listings.List (vs ++ v ∷ []) false) front us o
+            more_around c fs ss Bracket.List (Items c Listing.List vs true) (Items c Listing.List (vs ++ v ∷ []) false) front us o
                 (element o.body us vs v o.items m),
             refl,
             tt,
@@ -93,18 +65,18 @@ module _ (g : Catalog) (l : Limits) where
         refl,
         tt,
       )
-  ended_sounds c (frames.Items listings.Sexp ss vs ∷ fs) front us v start end o r m a n q =
+  ended_sounds c (Frame.Items Listing.Sexp ss vs ∷ fs) front us v start end o r m a n q =
       inl (
         (
           refl,
-          nothing_noted c (frames.Items listings.Sexp ss (vs ++ v ∷ []) ∷ fs) (front ++ us)
-              (more_around c fs ss brackets.Sexp (Items c listings.Sexp vs true) (Items c listings.Sexp (vs ++ v ∷ []) true) front us o
+          nothing_noted c (Frame.Items Listing.Sexp ss (vs ++ v ∷ []) ∷ fs) (front ++ us)
+              (more_around c fs ss Bracket.Sexp (Items c Listing.Sexp vs true) (Items c Listing.Sexp (vs ++ v ∷ []) true) front us o
               (item o.body us vs v o.items m a)) tt,
         ),
         refl,
         tt,
       )
-  ended_sounds c (frames.Named ss ms s ∷ fs) front us v start end o r m a n q =
+  ended_sounds c (Frame.Named ss ms s ∷ fs) front us v start end o r m a n q =
       inl (
         (
           refl,
@@ -132,7 +104,7 @@ module _ (g : Catalog) (l : Limits) where
         refl,
         tt,
       )
-  ended_sounds c (frames.Fields ss ms ∷ fs) front us v start end o r m a n q = absurd r
+  ended_sounds c (Frame.Fields ss ms ∷ fs) front us v start end o r m a n q = absurd r
 
   -- a payload behind its annotations is whole
   plain_sounds : (c : List Slot) (fs : List Frame) (ss : Symbols) (before us : List Placed) (q : Payload) (start end : ℕ) → (d : ReadyFor c fs ss before)
@@ -162,19 +134,19 @@ module _ (g : Catalog) (l : Limits) where
   -- an unannotated marker at the top level
   top_token : (c : List Slot) (h : Held) (ts : List Placed) (d : PendingFor c [] [] h ts) → ts ≡ d.token ∷ []
   top_token c h ts d = d.whole ∙ ap (λ x. x ++ d.token ∷ [])
-      (d.ready.whole ∙ (ap (λ x. x ++ d.ready.notes) d.ready.outer ∙ no_note c places.Top d.ready.notes d.ready.noted))
+      (d.ready.whole ∙ (ap (λ x. x ++ d.ready.notes) d.ready.outer ∙ no_note c Place.Top d.ready.notes d.ready.noted))
 
   -- what waited is whole
   pub released_sounds : (c : List Slot) (fs : List Frame) (ss : Symbols) (h : Held) (ts : List Placed) (start end : ℕ) → PendingFor c fs ss h ts
       → Sounds c start end ts (released (under g l) (spot_at end start c) fs ss h)
-  released_sounds c [] [] (helds.Version true s) ts start end d =
+  released_sounds c [] [] (Held.Version true s) ts start end d =
       within_sounds c ts start end (goes (fresh system_slots)) (nat_le end (start + l.item)) refl
-      (λ i. inr (inr (d.token, top_token c _ ts d, subst (Says places.Top d.token) (d.stood.marker s refl) d.says, i, refl)))
-  released_sounds c [] [] (helds.Version false s) ts start end d = tt
-  released_sounds c [] [] (helds.Symbol s) ts start end d = paid_sounds c [] [] (helds.Symbol s) ts start end d _ refl (λ i j. d.unmarked refl)
-  released_sounds c [] [] (helds.Null k) ts start end d = paid_sounds c [] [] (helds.Null k) ts start end d _ refl (λ i j. d.unmarked refl)
-  released_sounds c [] [] (helds.Truth b) ts start end d = paid_sounds c [] [] (helds.Truth b) ts start end d _ refl (λ i j. d.unmarked refl)
-  released_sounds c [] [] helds.Nan ts start end d = tt
+      (λ i. inr (inr (d.token, top_token c _ ts d, subst (Says Place.Top d.token) (d.stood.marker s refl) d.says, i, refl)))
+  released_sounds c [] [] (Held.Version false s) ts start end d = tt
+  released_sounds c [] [] (Held.Symbol s) ts start end d = paid_sounds c [] [] (Held.Symbol s) ts start end d _ refl (λ i j. d.unmarked refl)
+  released_sounds c [] [] (Held.Null k) ts start end d = paid_sounds c [] [] (Held.Null k) ts start end d _ refl (λ i j. d.unmarked refl)
+  released_sounds c [] [] (Held.Truth b) ts start end d = paid_sounds c [] [] (Held.Truth b) ts start end d _ refl (λ i j. d.unmarked refl)
+  released_sounds c [] [] Held.Nan ts start end d = tt
   released_sounds c [] (x ∷ ss) h ts start end d = paid_sounds c [] (x ∷ ss) h ts start end d _ refl (λ i j. absurd cc)
   released_sounds c (f ∷ fs) ss h ts start end d = paid_sounds c (f ∷ fs) ss h ts start end d _ refl (λ i j. absurd cc)
 
@@ -188,7 +160,7 @@ module _ (g : Catalog) (l : Limits) where
   waits_sounds : (c : List Slot) (fs : List Frame) (ss : Symbols) (ts : List Placed) (t : Placed) (said : Content) (h : Held) (start end : ℕ)
       → ReadyFor c fs ss ts → Says (value_place fs) t said → HoldsWhatIsSaid c said h → ((w : List ℕ) → said ≡ Long w → ⊥) → (symbol_said said ≡ true)
       → IsHeld c said h → (is_unmarked h ≡ true → is_version_word (t ∷ []) ≡ false)
-      → Sounds c start end (ts ++ t ∷ []) (goes (at start c fs ss (nows.Pending h end)))
+      → Sounds c start end (ts ++ t ∷ []) (goes (at start c fs ss (Now.Pending h end)))
   waits_sounds c fs ss ts t said h start end d i s n k f m =
       inl (
         (refl, record { before = ts; ready = d; token = t; said = said; whole = refl; says = i; stood = s; other = n; named = k; known = f; unmarked = m }),
@@ -198,8 +170,8 @@ module _ (g : Catalog) (l : Limits) where
 
   id_sounds : (c : List Slot) (fs : List Frame) (ss : Symbols) (ts : List Placed) (t : Placed) (id start end : ℕ) (r : Result (Option (List ℕ)) Reason)
       → ReadyFor c fs ss ts → Says (value_place fs) t (Id id) → resolve c id ≡ r
-      → Sounds c start end (ts ++ t ∷ []) (resolved r (λ s. goes (at start c fs ss (nows.Pending (helds.Symbol s) end))))
-  id_sounds c fs ss ts t id start end (Ok s) d i e = waits_sounds c fs ss ts t (Id id) (helds.Symbol s) start end d i (symbol_stood c (Id id) s (is_id id s e))
+      → Sounds c start end (ts ++ t ∷ []) (resolved r (λ s. goes (at start c fs ss (Now.Pending (Held.Symbol s) end))))
+  id_sounds c fs ss ts t id start end (Ok s) d i e = waits_sounds c fs ss ts t (Id id) (Held.Symbol s) start end d i (symbol_stood c (Id id) s (is_id id s e))
       (λ w x. cc) refl (s, e, refl) (λ x. id_no_word t id i.body)
   id_sounds c fs ss ts t id start end (Err x) d i e = tt
 
@@ -207,29 +179,29 @@ module _ (g : Catalog) (l : Limits) where
       → ReadyFor c fs ss ts → Says (value_place fs) t (Mark' (open_mark bracket)) → Sounds c start end (ts ++ t ∷ [])
       (if b then goes (at start c (opened bracket ss ∷ fs) [] (first_now bracket)) else
       beyond_depth bracket (at start c (opened bracket ss ∷ fs) [] (first_now bracket)))
-  opens_sounds brackets.List c fs ss ts t start end true d i = inl (
+  opens_sounds Bracket.List c fs ss ts t start end true d i = inl (
     (
       refl,
-      nothing_noted c (frames.Items listings.List ss [] ∷ fs) (ts ++ t ∷ [])
-          (opened_around c fs ss brackets.List (Items c listings.List [] true) ts t d i no_element) tt,
+      nothing_noted c (Frame.Items Listing.List ss [] ∷ fs) (ts ++ t ∷ [])
+          (opened_around c fs ss Bracket.List (Items c Listing.List [] true) ts t d i no_element) tt,
     ),
     refl,
     tt,
   )
-  opens_sounds brackets.Sexp c fs ss ts t start end true d i = inl (
+  opens_sounds Bracket.Sexp c fs ss ts t start end true d i = inl (
     (
       refl,
-      nothing_noted c (frames.Items listings.Sexp ss [] ∷ fs) (ts ++ t ∷ [])
-          (opened_around c fs ss brackets.Sexp (Items c listings.Sexp [] true) ts t d i no_item) tt,
+      nothing_noted c (Frame.Items Listing.Sexp ss [] ∷ fs) (ts ++ t ∷ [])
+          (opened_around c fs ss Bracket.Sexp (Items c Listing.Sexp [] true) ts t d i no_item) tt,
     ),
     refl,
     tt,
   )
-  opens_sounds brackets.Fields c fs ss ts t start end true d i =
-      inl ((refl, (opened_around c fs ss brackets.Fields (λ body. Members c body [] true) ts t d i no_field, tt)), refl, tt)
-  opens_sounds brackets.List c fs ss ts t start end false d i = tt
-  opens_sounds brackets.Sexp c fs ss ts t start end false d i = tt
-  opens_sounds brackets.Fields c fs ss ts t start end false d i = tt
+  opens_sounds Bracket.Fields c fs ss ts t start end true d i =
+      inl ((refl, (opened_around c fs ss Bracket.Fields (λ body. Members c body [] true) ts t d i no_field, tt)), refl, tt)
+  opens_sounds Bracket.List c fs ss ts t start end false d i = tt
+  opens_sounds Bracket.Sexp c fs ss ts t start end false d i = tt
+  opens_sounds Bracket.Fields c fs ss ts t start end false d i = tt
 
   -- with its close a container is this value
   closes_sounds : (bracket : Bracket) (c : List Slot) (fs : List Frame) (ss : Symbols) (q : Payload) (Body : List Placed → Type 0) (ts : List Placed)
@@ -246,7 +218,7 @@ module _ (g : Catalog) (l : Limits) where
 
   -- The close of the innermost container. In a struct the place says whether it stands behind a field.
   close_sounds : (bracket : Bracket) (c : List Slot) (fs : List Frame) (ts : List Placed) (t : Placed) (now : Now) (more : Bool) (start end : ℕ)
-      → ((ss : Symbols) (ms : List Field) (fs : List Frame) → place_in (frames.Fields ss ms ∷ fs) now ≡ close_place more)
+      → ((ss : Symbols) (ms : List Field) (fs : List Frame) → place_in (Frame.Fields ss ms ∷ fs) now ≡ close_place more)
       → Deep l.depth fs → Opened c fs ts more → Says (place_in fs now) t (Mark' (close_mark bracket))
       → Sounds c start end (ts ++ t ∷ []) (closed bracket (under g l) (spot_at end start c) fs)
   close_sounds bracket c fs ts t now more start end there = by bracket fs (closes_or_not bracket fs)
@@ -256,18 +228,18 @@ module _ (g : Catalog) (l : Limits) where
       by _ _ (ends_list ss vs fs) deep o i =
           let k = deep.0 in
           let m = depth-list ss vs in
-          closes_sounds brackets.List c fs ss (payloads.List vs) (Items c listings.List vs more) ts t start end o
+          closes_sounds Bracket.List c fs ss (payloads.List vs) (Items c Listing.List vs more) ts t start end o
           (is_list (value_place fs) o.open' t o.body vs more o.opens o.items i) (omega arith)
       by _ _ (ends_sexp ss vs fs) deep o i =
           let k = deep.0 in
           let m = depth-sexp ss vs in
-          closes_sounds brackets.Sexp c fs ss (payloads.Sexp vs) (Items c listings.Sexp vs more) ts t start end o
+          closes_sounds Bracket.Sexp c fs ss (payloads.Sexp vs) (Items c Listing.Sexp vs more) ts t start end o
           (is_sexp (value_place fs) o.open' t o.body vs o.opens o.items i) (omega arith)
       by _ _ (ends_struct ss ms fs) deep o i =
           let k = deep.0 in
           let m = depth-struct ss ms in
-          closes_sounds brackets.Fields c fs ss (payloads.Fields ms) (λ body. Members c body ms more) ts t start end o
-          (is_struct (value_place fs) o.open' t o.body ms more o.opens o.items (subst (λ p. Says p t (Mark' marks.FieldsClose)) (there ss ms fs) i))
+          closes_sounds Bracket.Fields c fs ss (payloads.Fields ms) (λ body. Members c body ms more) ts t start end o
+          (is_struct (value_place fs) o.open' t o.body ms more o.opens o.items (subst (λ p. Says p t (Mark' Mark.FieldsClose)) (there ss ms fs) i))
           (omega arith)
       by _ _ (ends_none bracket fs e) deep o i = subst (Sounds c start end (ts ++ t ∷ [])) (sym (e (under g l) (spot_at end start c))) tt
 
@@ -279,7 +251,7 @@ module _ (g : Catalog) (l : Limits) where
       let e = no_note c (value_place fs) d.notes d.noted in
       subst (λ x. Sounds c start t.lexeme.end (x ++ t ∷ []) (closed bracket (under g l) (spot_at t.lexeme.end start c) fs))
       (sym (d.whole ∙ (ap (λ x. d.front ++ x) e ∙ append-nil d.front)))
-      (close_sounds bracket c fs d.front t nows.Ready true start t.lexeme.end (λ ss ms fs. refl) deep d.outer i)
+      (close_sounds bracket c fs d.front t Now.Ready true start t.lexeme.end (λ ss ms fs. refl) deep d.outer i)
 
   -- a token where a value may come
   pub ready_sounds : (c : List Slot) (fs : List Frame) (ss : Symbols) (ts : List Placed) (t : Placed) (said : Content) (start : ℕ) → Deep l.depth fs
@@ -289,10 +261,10 @@ module _ (g : Catalog) (l : Limits) where
   ready_sounds c fs ss ts t (Word w) start dd d i n = waits_sounds c fs ss ts t (Word w) (held_word w) start t.lexeme.end d i (word_stood c w) (λ v x. cc) refl
       refl (λ x. word_no_word t w i.body x)
   ready_sounds c fs ss ts t (Id id) start dd d i n = id_sounds c fs ss ts t id start t.lexeme.end (resolve c id) d i refl
-  ready_sounds c fs ss ts t (Quoted w) start dd d i n = waits_sounds c fs ss ts t (Quoted w) (helds.Symbol (Some w)) start t.lexeme.end d i
+  ready_sounds c fs ss ts t (Quoted w) start dd d i n = waits_sounds c fs ss ts t (Quoted w) (Held.Symbol (Some w)) start t.lexeme.end d i
       (symbol_stood c (Quoted w) (Some w) (is_quoted w)) (λ v x. cc) refl refl (λ x. other_word t (Quoted w) (λ v e. cc) (λ id e. cc) i.body)
   ready_sounds c fs ss ts t (TypedNull k) start dd d i n =
-      waits_sounds c fs ss ts t (TypedNull k) (helds.Null k) start t.lexeme.end d i
+      waits_sounds c fs ss ts t (TypedNull k) (Held.Null k) start t.lexeme.end d i
       (record {
         value = λ q h. subst (IsScalar c (TypedNull k)) (let n : payloads.Null k ≡ q = cc in n) (is_typed_null k);
         marker = λ s h. absurd cc;
@@ -310,18 +282,18 @@ module _ (g : Catalog) (l : Limits) where
   ready_sounds c fs ss ts t (Short w) start dd d i n = plain_sounds c fs ss ts (t ∷ []) (payloads.Str w) start t.lexeme.end d
       (one_token (value_place fs) t (Short w) (payloads.Str w) i (is_short w)) (one_apart c fs ss ts t _ d i (λ v x. cc))
       (λ a b. other_word t (Short w) (λ v e. cc) (λ id e. cc) i.body) (λ a. flat_level (annotated ss (payloads.Str w)) (flat_text ss w))
-  ready_sounds c fs ss ts t (Number' (numbers.Int z)) start dd d i n =
+  ready_sounds c fs ss ts t (Number' (Number.Int z)) start dd d i n =
       plain_sounds c fs ss ts (t ∷ []) (payloads.Int z) start t.lexeme.end d (one_token (value_place fs) t _ _ i (is_int z))
-      (one_apart c fs ss ts t _ d i (λ v x. cc)) (λ a b. other_word t (Number' (numbers.Int z)) (λ v e. cc) (λ id e. cc) i.body)
-      (λ a. flat_level (annotated ss (payloads.Int z)) (flat_number ss (numbers.Int z)))
-  ready_sounds c fs ss ts t (Number' (numbers.Decimal z)) start dd d i n =
+      (one_apart c fs ss ts t _ d i (λ v x. cc)) (λ a b. other_word t (Number' (Number.Int z)) (λ v e. cc) (λ id e. cc) i.body)
+      (λ a. flat_level (annotated ss (payloads.Int z)) (flat_number ss (Number.Int z)))
+  ready_sounds c fs ss ts t (Number' (Number.Decimal z)) start dd d i n =
       plain_sounds c fs ss ts (t ∷ []) (payloads.Decimal z) start t.lexeme.end d (one_token (value_place fs) t _ _ i (is_decimal z))
-      (one_apart c fs ss ts t _ d i (λ v x. cc)) (λ a b. other_word t (Number' (numbers.Decimal z)) (λ v e. cc) (λ id e. cc) i.body)
-      (λ a. flat_level (annotated ss (payloads.Decimal z)) (flat_number ss (numbers.Decimal z)))
-  ready_sounds c fs ss ts t (Number' (numbers.Timestamp z)) start dd d i n =
+      (one_apart c fs ss ts t _ d i (λ v x. cc)) (λ a b. other_word t (Number' (Number.Decimal z)) (λ v e. cc) (λ id e. cc) i.body)
+      (λ a. flat_level (annotated ss (payloads.Decimal z)) (flat_number ss (Number.Decimal z)))
+  ready_sounds c fs ss ts t (Number' (Number.Timestamp z)) start dd d i n =
       plain_sounds c fs ss ts (t ∷ []) (payloads.Timestamp z) start t.lexeme.end d (one_token (value_place fs) t _ _ i (is_timestamp z))
-      (one_apart c fs ss ts t _ d i (λ v x. cc)) (λ a b. other_word t (Number' (numbers.Timestamp z)) (λ v e. cc) (λ id e. cc) i.body)
-      (λ a. flat_level (annotated ss (payloads.Timestamp z)) (flat_number ss (numbers.Timestamp z)))
+      (one_apart c fs ss ts t _ d i (λ v x. cc)) (λ a b. other_word t (Number' (Number.Timestamp z)) (λ v e. cc) (λ id e. cc) i.body)
+      (λ a. flat_level (annotated ss (payloads.Timestamp z)) (flat_number ss (Number.Timestamp z)))
   ready_sounds c fs ss ts t (Operator w) start dd d i n = plain_sounds c fs ss ts (t ∷ []) (payloads.Symbol (Some w)) start t.lexeme.end d
       (one_token (value_place fs) t _ _ i (is_operator w)) (one_apart c fs ss ts t _ d i (λ v x. cc))
       (λ a b. other_word t (Operator w) (λ v e. cc) (λ id e. cc) i.body) (λ a. flat_level (annotated ss (payloads.Symbol (Some w))) (flat_symbol ss (Some w)))
@@ -331,19 +303,19 @@ module _ (g : Catalog) (l : Limits) where
   ready_sounds c fs ss ts t (Blob w) start dd d i n = plain_sounds c fs ss ts (t ∷ []) (payloads.Blob w) start t.lexeme.end d
       (one_token (value_place fs) t _ _ i (is_blob w)) (one_apart c fs ss ts t _ d i (λ v x. cc)) (λ a b. other_word t (Blob w) (λ v e. cc) (λ id e. cc) i.body)
       (λ a. flat_level (annotated ss (payloads.Blob w)) (flat_blob ss w))
-  ready_sounds c fs ss ts t (Mark' marks.ListOpen) start dd d i n = opens_sounds brackets.List c fs ss ts t start t.lexeme.end (nat_lt (length fs) l.depth) d i
-  ready_sounds c fs ss ts t (Mark' marks.SexpOpen) start dd d i n = opens_sounds brackets.Sexp c fs ss ts t start t.lexeme.end (nat_lt (length fs) l.depth) d i
-  ready_sounds c fs ss ts t (Mark' marks.FieldsOpen) start dd d i n = opens_sounds brackets.Fields c fs ss ts t start t.lexeme.end
+  ready_sounds c fs ss ts t (Mark' Mark.ListOpen) start dd d i n = opens_sounds Bracket.List c fs ss ts t start t.lexeme.end (nat_lt (length fs) l.depth) d i
+  ready_sounds c fs ss ts t (Mark' Mark.SexpOpen) start dd d i n = opens_sounds Bracket.Sexp c fs ss ts t start t.lexeme.end (nat_lt (length fs) l.depth) d i
+  ready_sounds c fs ss ts t (Mark' Mark.FieldsOpen) start dd d i n = opens_sounds Bracket.Fields c fs ss ts t start t.lexeme.end
       (nat_lt (length fs) l.depth) d i
-  ready_sounds c fs [] ts t (Mark' marks.ListClose) start dd d i n = bare_sounds brackets.List c fs ts t start dd d i
-  ready_sounds c fs (s ∷ ss) ts t (Mark' marks.ListClose) start dd d i n = tt
-  ready_sounds c fs [] ts t (Mark' marks.SexpClose) start dd d i n = bare_sounds brackets.Sexp c fs ts t start dd d i
-  ready_sounds c fs (s ∷ ss) ts t (Mark' marks.SexpClose) start dd d i n = tt
+  ready_sounds c fs [] ts t (Mark' Mark.ListClose) start dd d i n = bare_sounds Bracket.List c fs ts t start dd d i
+  ready_sounds c fs (s ∷ ss) ts t (Mark' Mark.ListClose) start dd d i n = tt
+  ready_sounds c fs [] ts t (Mark' Mark.SexpClose) start dd d i n = bare_sounds Bracket.Sexp c fs ts t start dd d i
+  ready_sounds c fs (s ∷ ss) ts t (Mark' Mark.SexpClose) start dd d i n = tt
   ready_sounds c fs ss ts t (Mark' _) start dd d i n = tt
 
   -- `::` behind a symbol
   pub noted_sounds : (c : List Slot) (fs : List Frame) (ss : Symbols) (ts : List Placed) (t : Placed) (h : Held) (start end : ℕ)
-      (r : Result (Option (List ℕ)) Reason) → PendingFor c fs ss h ts → Says (value_place fs) t (Mark' marks.Colons) → held_symbol h ≡ r
+      (r : Result (Option (List ℕ)) Reason) → PendingFor c fs ss h ts → Says (value_place fs) t (Mark' Mark.Colons) → held_symbol h ≡ r
       → Sounds c start end (ts ++ t ∷ []) (noted start c fs ss r)
   noted_sounds c fs ss ts t h start end (Err e) d i k = tt
   noted_sounds c fs ss ts t h start end (Ok s) d i k =
@@ -366,7 +338,7 @@ module _ (g : Catalog) (l : Limits) where
 
   -- one more segment
   pub joined_sounds : (c : List Slot) (fs : List Frame) (ss : Symbols) (ts : List Placed) (t : Placed) (v w : List ℕ) (start end : ℕ) → LongFor c fs ss v ts
-      → Says (value_place fs) t (Long w) → Sounds c start end (ts ++ t ∷ []) (goes (at start c fs ss (nows.Long (v ++ w) end)))
+      → Says (value_place fs) t (Long w) → Sounds c start end (ts ++ t ∷ []) (goes (at start c fs ss (Now.Long (v ++ w) end)))
   joined_sounds c fs ss ts t v w start end d i = inl (
     (
       refl,
@@ -387,21 +359,21 @@ module _ (g : Catalog) (l : Limits) where
 
   -- behind an element or a field
   pub after_sounds : (c : List Slot) (fs : List Frame) (ts : List Placed) (t : Placed) (said : Content) (start end : ℕ) → Deep l.depth fs → Opened c fs ts false
-      → Says (place_in fs nows.After) t said → Sounds c start end (ts ++ t ∷ []) (on_after (under g l) (spot_at end start c) fs said)
-  after_sounds c (frames.Items listings.List ss vs ∷ fs) ts t (Mark' marks.Comma) start end dd o i = inl (
+      → Says (place_in fs Now.After) t said → Sounds c start end (ts ++ t ∷ []) (on_after (under g l) (spot_at end start c) fs said)
+  after_sounds c (Frame.Items Listing.List ss vs ∷ fs) ts t (Mark' Mark.Comma) start end dd o i = inl (
     (
       refl,
-      nothing_noted c (frames.Items listings.List ss vs ∷ fs) (ts ++ t ∷ [])
-          (more_around c fs ss brackets.List (Items c listings.List vs false) (Items c listings.List vs true) ts (t ∷ []) o (comma o.body vs t o.items i)) tt,
+      nothing_noted c (Frame.Items Listing.List ss vs ∷ fs) (ts ++ t ∷ [])
+          (more_around c fs ss Bracket.List (Items c Listing.List vs false) (Items c Listing.List vs true) ts (t ∷ []) o (comma o.body vs t o.items i)) tt,
     ),
     refl,
     tt,
   )
-  after_sounds c (frames.Fields ss ms ∷ fs) ts t (Mark' marks.Comma) start end dd o i = inl (
+  after_sounds c (Frame.Fields ss ms ∷ fs) ts t (Mark' Mark.Comma) start end dd o i = inl (
     (
       refl,
       (
-        more_around c fs ss brackets.Fields (λ body. Members c body ms false) (λ body. Members c body ms true) ts (t ∷ []) o
+        more_around c fs ss Bracket.Fields (λ body. Members c body ms false) (λ body. Members c body ms true) ts (t ∷ []) o
             (field_comma o.body ms t o.items i),
         tt,
       ),
@@ -409,20 +381,20 @@ module _ (g : Catalog) (l : Limits) where
     refl,
     tt,
   )
-  after_sounds c fs ts t (Mark' marks.ListClose) start end dd o i =
-      close_sounds brackets.List c fs ts t nows.After false start end (λ ss ms fs. refl) dd o i
-  after_sounds c fs ts t (Mark' marks.FieldsClose) start end dd o i =
-      close_sounds brackets.Fields c fs ts t nows.After false start end (λ ss ms fs. refl) dd o i
+  after_sounds c fs ts t (Mark' Mark.ListClose) start end dd o i =
+      close_sounds Bracket.List c fs ts t Now.After false start end (λ ss ms fs. refl) dd o i
+  after_sounds c fs ts t (Mark' Mark.FieldsClose) start end dd o i =
+      close_sounds Bracket.Fields c fs ts t Now.After false start end (λ ss ms fs. refl) dd o i
   after_sounds c fs ts t _ start end dd o i = tt
 
   pub name_sounds : (c : List Slot) (ss : Symbols) (ms : List Field) (fs : List Frame) (ts : List Placed) (t : Placed) (said : Content) (start end : ℕ)
-      → Deep l.depth (frames.Fields ss ms ∷ fs) → Opened c (frames.Fields ss ms ∷ fs) ts true → Says places.Name t said
-      → Sounds c start end (ts ++ t ∷ []) (on_name (under g l) (spot_at end start c) (frames.Fields ss ms ∷ fs) said)
+      → Deep l.depth (Frame.Fields ss ms ∷ fs) → Opened c (Frame.Fields ss ms ∷ fs) ts true → Says Place.Name t said
+      → Sounds c start end (ts ++ t ∷ []) (on_name (under g l) (spot_at end start c) (Frame.Fields ss ms ∷ fs) said)
   name_sounds c ss ms fs ts t (Word w) start end dd o i = word_name (is_keyword w) refl
     where
       word_name : (b : Bool) → is_keyword w ≡ b → Sounds c start end (ts ++ t ∷ [])
-          (if b then late reasons.KeywordAsName (keyed start c (frames.Fields ss ms ∷ fs) (Some w)) else goes
-          (keyed start c (frames.Fields ss ms ∷ fs) (Some w)))
+          (if b then late Reason.KeywordAsName (keyed start c (Frame.Fields ss ms ∷ fs) (Some w)) else goes
+          (keyed start c (Frame.Fields ss ms ∷ fs) (Some w)))
       word_name true k = tt
       word_name false k = inl (
         (
@@ -443,7 +415,7 @@ module _ (g : Catalog) (l : Limits) where
   name_sounds c ss ms fs ts t (Id id) start end dd o i = id_name (resolve c id) refl
     where
       id_name : (r : Result (Option (List ℕ)) Reason) → resolve c id ≡ r
-          → Sounds c start end (ts ++ t ∷ []) (resolved r (λ s. goes (keyed start c (frames.Fields ss ms ∷ fs) s)))
+          → Sounds c start end (ts ++ t ∷ []) (resolved r (λ s. goes (keyed start c (Frame.Fields ss ms ∷ fs) s)))
       id_name (Ok s) k = inl (
         (refl, record { before = ts; name = t ∷ []; whole = refl; outer = o; struct = tt; is = by_symbol t (Id id) s i (is_id id s k) }),
         refl,
@@ -456,17 +428,17 @@ module _ (g : Catalog) (l : Limits) where
       inl ((refl, record { before = ts; name = t ∷ []; whole = refl; outer = o; struct = tt; is = by_short t w i }), refl, tt)
   name_sounds c ss ms fs ts t (Long w) start end dd o i = inl
       ((refl, record { before = ts; name = t ∷ []; whole = refl; outer = o; struct = tt; is = segment t w i }), refl, tt)
-  name_sounds c ss ms fs ts t (Mark' marks.FieldsClose) start end dd o i =
-      close_sounds brackets.Fields c (frames.Fields ss ms ∷ fs) ts t nows.Name true start end (λ rs ns fs. refl) dd o i
+  name_sounds c ss ms fs ts t (Mark' Mark.FieldsClose) start end dd o i =
+      close_sounds Bracket.Fields c (Frame.Fields ss ms ∷ fs) ts t Now.Name true start end (λ rs ns fs. refl) dd o i
   name_sounds c ss ms fs ts t _ start end dd o i = tt
 
   -- the colon behind a name
   pub keyed_sounds : (c : List Slot) (ss : Symbols) (ms : List Field) (fs : List Frame) (ts : List Placed) (t : Placed) (s : Option (List ℕ)) (start end : ℕ)
-      → NameFor c (frames.Fields ss ms ∷ fs) (λ n. IsName c n s) ts → Says places.Name t (Mark' marks.Colon)
-      → Sounds c start end (ts ++ t ∷ []) (goes (at start c (frames.Named ss ms s ∷ fs) [] nows.Ready))
-  keyed_sounds c ss ms fs ts t s start end d i = inl ((refl, nothing_noted c (frames.Named ss ms s ∷ fs) (ts ++ t ∷ []) named tt), refl, tt)
+      → NameFor c (Frame.Fields ss ms ∷ fs) (λ n. IsName c n s) ts → Says Place.Name t (Mark' Mark.Colon)
+      → Sounds c start end (ts ++ t ∷ []) (goes (at start c (Frame.Named ss ms s ∷ fs) [] Now.Ready))
+  keyed_sounds c ss ms fs ts t s start end d i = inl ((refl, nothing_noted c (Frame.Named ss ms s ∷ fs) (ts ++ t ∷ []) named tt), refl, tt)
     where
-      named : Opened c (frames.Named ss ms s ∷ fs) (ts ++ t ∷ []) true
+      named : Opened c (Frame.Named ss ms s ∷ fs) (ts ++ t ∷ []) true
       named = record {
         front = d.outer.front;
         notes = d.outer.notes;
@@ -489,8 +461,8 @@ module _ (g : Catalog) (l : Limits) where
 
   -- one more segment of a name
   long_name_sounds : (c : List Slot) (fs : List Frame) (ts : List Placed) (t : Placed) (v w : List ℕ) (start end : ℕ)
-      → NameFor c fs (λ n. Segments places.Name n v) ts → Says places.Name t (Long w)
-      → Sounds c start end (ts ++ t ∷ []) (goes (at start c fs [] (nows.LongName (v ++ w))))
+      → NameFor c fs (λ n. Segments Place.Name n v) ts → Says Place.Name t (Long w)
+      → Sounds c start end (ts ++ t ∷ []) (goes (at start c fs [] (Now.LongName (v ++ w))))
   long_name_sounds c fs ts t v w start end d i = inl (
     (
       refl,
@@ -512,38 +484,38 @@ module _ (g : Catalog) (l : Limits) where
   pub turn_sounds : (c : List Slot) (fs : List Frame) (ss : Symbols) (now : Now) (ts : List Placed) (t : Placed) (said : Content) (start : ℕ) → Deep l.depth fs
       → (d : NowStands c fs ss ts now) → Says (place_in fs now) t said → NoSegmentComes c fs ss ts t said now d
       → Sounds c (start_now now start t.lexeme.start fs ss) t.lexeme.end (ts ++ t ∷ []) (turn g l (at start c fs ss now) (token_of t.lexeme said))
-  turn_sounds c fs ss nows.Ready ts t said start dd d i a = ready_sounds c fs ss ts t said (begun_at start t.lexeme.start fs ss) dd d i a
-  turn_sounds c fs ss (nows.Pending h end) ts t (Mark' marks.Colons) start dd d i a =
-      noted_sounds c fs ss ts t h start t.lexeme.end (held_symbol h) d (subst (λ p. Says p t (Mark' marks.Colons)) (pending_at fs h end) i) refl
-  turn_sounds c fs ss (nows.Pending h end) ts t _ start dd d i a = tt
-  turn_sounds c fs ss (nows.Long v end) ts t (Long w) start dd d i a =
+  turn_sounds c fs ss Now.Ready ts t said start dd d i a = ready_sounds c fs ss ts t said (begun_at start t.lexeme.start fs ss) dd d i a
+  turn_sounds c fs ss (Now.Pending h end) ts t (Mark' Mark.Colons) start dd d i a =
+      noted_sounds c fs ss ts t h start t.lexeme.end (held_symbol h) d (subst (λ p. Says p t (Mark' Mark.Colons)) (pending_at fs h end) i) refl
+  turn_sounds c fs ss (Now.Pending h end) ts t _ start dd d i a = tt
+  turn_sounds c fs ss (Now.Long v end) ts t (Long w) start dd d i a =
       joined_sounds c fs ss ts t v w start t.lexeme.end d (subst (λ p. Says p t (Long w)) (long_at fs v end) i)
-  turn_sounds c fs ss (nows.Long v end) ts t _ start dd d i a = tt
-  turn_sounds c fs ss nows.After ts t said start dd d i a = after_sounds c fs ts t said start t.lexeme.end dd d.0 i
-  turn_sounds c (frames.Fields rs ms ∷ fs) ss nows.Name ts t said start dd d i a = name_sounds c rs ms fs ts t said start t.lexeme.end dd d.0 i
-  turn_sounds c (frames.Fields rs ms ∷ fs) ss (nows.LongName v) ts t (Long w) start dd d i a =
-      long_name_sounds c (frames.Fields rs ms ∷ fs) ts t v w start t.lexeme.end d i
-  turn_sounds c (frames.Fields rs ms ∷ fs) ss (nows.LongName v) ts t _ start dd d i a = tt
-  turn_sounds c (frames.Fields rs ms ∷ fs) ss (nows.Keyed s) ts t (Mark' marks.Colon) start dd d i a = keyed_sounds c rs ms fs ts t s start t.lexeme.end d i
-  turn_sounds c (frames.Fields rs ms ∷ fs) ss (nows.Keyed s) ts t _ start dd d i a = tt
-  turn_sounds c [] ss nows.Name ts t said start dd d i a = absurd d.1
-  turn_sounds c (frames.Items listing rs vs ∷ fs) ss nows.Name ts t said start dd d i a = absurd d.1
-  turn_sounds c (frames.Named rs ms y ∷ fs) ss nows.Name ts t said start dd d i a = absurd d.1
-  turn_sounds c [] ss (nows.LongName v) ts t said start dd d i a = absurd d.struct
-  turn_sounds c (frames.Items listing rs vs ∷ fs) ss (nows.LongName v) ts t said start dd d i a = absurd d.struct
-  turn_sounds c (frames.Named rs ms y ∷ fs) ss (nows.LongName v) ts t said start dd d i a = absurd d.struct
-  turn_sounds c [] ss (nows.Keyed x) ts t said start dd d i a = absurd d.struct
-  turn_sounds c (frames.Items listing rs vs ∷ fs) ss (nows.Keyed x) ts t said start dd d i a = absurd d.struct
-  turn_sounds c (frames.Named rs ms y ∷ fs) ss (nows.Keyed x) ts t said start dd d i a = absurd d.struct
+  turn_sounds c fs ss (Now.Long v end) ts t _ start dd d i a = tt
+  turn_sounds c fs ss Now.After ts t said start dd d i a = after_sounds c fs ts t said start t.lexeme.end dd d.0 i
+  turn_sounds c (Frame.Fields rs ms ∷ fs) ss Now.Name ts t said start dd d i a = name_sounds c rs ms fs ts t said start t.lexeme.end dd d.0 i
+  turn_sounds c (Frame.Fields rs ms ∷ fs) ss (Now.LongName v) ts t (Long w) start dd d i a =
+      long_name_sounds c (Frame.Fields rs ms ∷ fs) ts t v w start t.lexeme.end d i
+  turn_sounds c (Frame.Fields rs ms ∷ fs) ss (Now.LongName v) ts t _ start dd d i a = tt
+  turn_sounds c (Frame.Fields rs ms ∷ fs) ss (Now.Keyed s) ts t (Mark' Mark.Colon) start dd d i a = keyed_sounds c rs ms fs ts t s start t.lexeme.end d i
+  turn_sounds c (Frame.Fields rs ms ∷ fs) ss (Now.Keyed s) ts t _ start dd d i a = tt
+  turn_sounds c [] ss Now.Name ts t said start dd d i a = absurd d.1
+  turn_sounds c (Frame.Items listing rs vs ∷ fs) ss Now.Name ts t said start dd d i a = absurd d.1
+  turn_sounds c (Frame.Named rs ms y ∷ fs) ss Now.Name ts t said start dd d i a = absurd d.1
+  turn_sounds c [] ss (Now.LongName v) ts t said start dd d i a = absurd d.struct
+  turn_sounds c (Frame.Items listing rs vs ∷ fs) ss (Now.LongName v) ts t said start dd d i a = absurd d.struct
+  turn_sounds c (Frame.Named rs ms y ∷ fs) ss (Now.LongName v) ts t said start dd d i a = absurd d.struct
+  turn_sounds c [] ss (Now.Keyed x) ts t said start dd d i a = absurd d.struct
+  turn_sounds c (Frame.Items listing rs vs ∷ fs) ss (Now.Keyed x) ts t said start dd d i a = absurd d.struct
+  turn_sounds c (Frame.Named rs ms y ∷ fs) ss (Now.Keyed x) ts t said start dd d i a = absurd d.struct
 
   -- What waited is settled.
   pub settle_sounds : (c : List Slot) (fs : List Frame) (ss : Symbols) (now : Now) (ts : List Placed) (start end : ℕ) → NowStands c fs ss ts now
       → Sounds c start (end_of_now now end) ts (settle g l (at start c fs ss now))
-  settle_sounds c fs ss (nows.Pending h end) ts start last d = released_sounds c fs ss h ts start end d
-  settle_sounds c fs ss (nows.Long w end) ts start last d = long_sounds c fs ss w ts start end d
-  settle_sounds c fs ss (nows.LongName w) ts start last d =
+  settle_sounds c fs ss (Now.Pending h end) ts start last d = released_sounds c fs ss h ts start end d
+  settle_sounds c fs ss (Now.Long w end) ts start last d = long_sounds c fs ss w ts start end d
+  settle_sounds c fs ss (Now.LongName w) ts start last d =
       inl ((refl, record { before = d.before; name = d.name; whole = d.whole; outer = d.outer; struct = d.struct; is = by_long d.name w d.is }), refl, tt)
-  settle_sounds c fs ss nows.Ready ts start last d = inl ((refl, d), refl, tt)
-  settle_sounds c fs ss nows.After ts start last d = inl ((refl, d), refl, tt)
-  settle_sounds c fs ss nows.Name ts start last d = inl ((refl, d), refl, tt)
-  settle_sounds c fs ss (nows.Keyed s) ts start last d = inl ((refl, d), refl, tt)
+  settle_sounds c fs ss Now.Ready ts start last d = inl ((refl, d), refl, tt)
+  settle_sounds c fs ss Now.After ts start last d = inl ((refl, d), refl, tt)
+  settle_sounds c fs ss Now.Name ts start last d = inl ((refl, d), refl, tt)
+  settle_sounds c fs ss (Now.Keyed s) ts start last d = inl ((refl, d), refl, tt)

@@ -1,46 +1,23 @@
 -- Where an item begins and ends: each turn leaves it open, or it is no longer than the limit.
 use Rattle.std.proofs.Common.{◌≡◌, ℕ, ◌+◌, ◌≤◌, nat_le, nat_lt, List, [], ◌∷◌, ◌++◌, length, Bool, true, false, Result, Ok, Err, Option, Some, refl, sym, subst, if◌then◌else◌, ◌⊎◌, inl, inr}
-use Rattle.ion_model.specs.declared.value.Value.{Value}
-use Rattle.ion_model.specs.declared.value.Payload.{Payload}
-use Rattle.ion_atoms.specs.declared.refusal.Reason.{Reason}
-use Rattle.ion_atoms.specs.declared.refusal.Reason.TheVariants as reasons
-use Rattle.ion_model.specs.Kinds.{is_table}
-use Rattle.ion_symtab.specs.declared.limits.Limits.{Limits}
-use Rattle.ion_symtab.specs.declared.catalog.Catalog.{Catalog}
-use Rattle.ion_symtab.specs.Slots.{Slot, resolve}
-use Rattle.ion_symtab.specs.Next.{next}
-use Rattle.ion_tokens.specs.declared.mode.Mark.TheVariants as marks
-use Rattle.ion_tokens.specs.Bodies.{Content, Word, Id, Quoted, Short, Long, Number', TypedNull, Operator, Clob, Blob, Mark'}
-use Rattle.ion_text.specs.declared.state.Held.{Held}
-use Rattle.ion_text.specs.declared.state.Held.TheVariants as helds
-use Rattle.ion_text.specs.declared.state.Now.{Now}
-use Rattle.ion_text.specs.declared.state.Now.TheVariants as nows
-use Rattle.ion_text.specs.declared.state.Frame.{Frame}
-use Rattle.ion_text.specs.declared.state.Frame.TheVariants as frames
-use Rattle.ion_visiting.specs.declared.bracket.Bracket.TheVariants as brackets
-use Rattle.ion_text.specs.declared.state.Listing.TheVariants as listings
-use Rattle.ion_text.specs.Grammar.{is_keyword}
-use Rattle.ion_text.specs.machine.EachToken.{Setting, Spot, under, spot_at, token_at, Reading, Turn, goes, gives, refuses, late, Token, Symbols, at, fresh, settle, turn, turn_now, ended, within, turned, held_word, held_symbol, held_payload, released, begun_at, on_ready, on_after, on_name, on_pending, on_long, on_long_name, on_keyed, on_comma, closed, bare_close, deeper, paid, noted, resolved, keyed, named}
-use Rattle.ion_text.specs.machine.Run.{is_top, is_fresh}
-use Rattle.ion_text.specs.laws.reading.sound.StandsOpen.{EndsAt, start_now, end_of_now}
+use Rattle.ion_text.specs.Names.{Blob, Bracket, Catalog, Clob, Content, Frame, Held, Id, Limits, Listing, Long, Mark, Mark', Now, Number', Operator, Payload, Quoted, Reading, Reason, Setting, Short, Slot, Spot, Symbols, Token, Turn, TypedNull, Value, Word, at, bare_close, begun_at, close_mark, closed, deeper, ended, fresh, gives, goes, held_payload, held_symbol, held_word, is_fresh, is_keyword, is_table, is_top, keyed, late, named, next, noted, on_after, on_comma, on_keyed, on_long, on_long_name, on_name, on_pending, on_ready, paid, refuses, released, resolve, resolved, settle, spot_at, token_at, turn, turn_now, turned, under, within}
+use Rattle.ion_text.specs.laws.reading.Brackets.{Closes, closes_or_not, ends_list, ends_none, ends_sexp, ends_struct}
 use Rattle.ion_text.specs.laws.reading.sound.Quotes.{le_of}
-use Rattle.ion_text.specs.laws.reading.Brackets.{Closes, ends_list, ends_sexp, ends_struct, ends_none, closes_or_not}
-use Rattle.ion_visiting.specs.declared.bracket.Bracket.{Bracket}
-use Rattle.ion_text.specs.machine.Nested.{close_mark}
+use Rattle.ion_text.specs.laws.reading.sound.StandsOpen.{EndsAt, end_of_now, start_now}
 
 -- what closes a container
 abbrev pub IsClose : Bool → Content → Type 0
 IsClose true said = Unit {0}
-IsClose false (Mark' marks.ListClose) = Unit {0}
-IsClose false (Mark' marks.SexpClose) = Unit {0}
-IsClose false (Mark' marks.FieldsClose) = Unit {0}
+IsClose false (Mark' Mark.ListClose) = Unit {0}
+IsClose false (Mark' Mark.SexpClose) = Unit {0}
+IsClose false (Mark' Mark.FieldsClose) = Unit {0}
 IsClose false _ = ⊥
 
 -- what may be read at the top level
 abbrev pub IsTopNow : Now → Type 0
-IsTopNow nows.Ready = Unit {0}
-IsTopNow (nows.Pending h end) = Unit {0}
-IsTopNow (nows.Long w end) = Unit {0}
+IsTopNow Now.Ready = Unit {0}
+IsTopNow (Now.Pending h end) = Unit {0}
+IsTopNow (Now.Long w end) = Unit {0}
 IsTopNow _ = ⊥
 
 -- an item is open: in a container, or at the top level where none was open before
@@ -58,7 +35,7 @@ within_spans : (top : Bool) (said : Content) (item start end : ℕ) (t : Turn) �
     → Spans top said item start end (within item start end t)
 within_spans top said item start end t h = go (nat_le end (start + item)) refl
   where
-    go : (b : Bool) → nat_le end (start + item) ≡ b → Spans top said item start end (if b then t else refuses reasons.ItemTooLong)
+    go : (b : Bool) → nat_le end (start + item) ≡ b → Spans top said item start end (if b then t else refuses Reason.ItemTooLong)
     go true e = h (le_of end (start + item) e)
     go false e = tt
 
@@ -73,10 +50,10 @@ ended_spans : (top : Bool) (said : Content) (setting : Setting) (spot : Spot) (f
     → Spans top said setting.limits.item spot.start spot.end (ended setting spot fs v)
 ended_spans top said setting spot [] v h = top_spans top said setting.limits.item spot.start spot.end spot.context v (next spot.context v setting.catalog)
     (is_table v) (h refl)
-ended_spans top said setting spot (frames.Items listings.List ss vs ∷ fs) v h = inl (inl refl, refl, tt)
-ended_spans top said setting spot (frames.Items listings.Sexp ss vs ∷ fs) v h = inl (inl refl, refl, tt)
-ended_spans top said setting spot (frames.Named ss ms s ∷ fs) v h = inl (inl refl, refl, tt)
-ended_spans top said setting spot (frames.Fields ss ms ∷ fs) v h = tt
+ended_spans top said setting spot (Frame.Items Listing.List ss vs ∷ fs) v h = inl (inl refl, refl, tt)
+ended_spans top said setting spot (Frame.Items Listing.Sexp ss vs ∷ fs) v h = inl (inl refl, refl, tt)
+ended_spans top said setting spot (Frame.Named ss ms s ∷ fs) v h = inl (inl refl, refl, tt)
+ended_spans top said setting spot (Frame.Fields ss ms ∷ fs) v h = tt
 
 -- a value of one token, in the frames that stay
 one_spans : (said : Content) (setting : Setting) (spot : Spot) (fs : List Frame) (v : Value)
@@ -108,9 +85,9 @@ closed_spans setting spot bracket fs = by bracket fs (closes_or_not bracket fs)
   where
     by : (bracket : Bracket) (fs : List Frame) → Closes bracket fs
         → Spans (is_top fs) (Mark' (close_mark bracket)) setting.limits.item spot.start spot.end (closed bracket setting spot fs)
-    by _ _ (ends_list ss vs fs) = ended_spans false (Mark' marks.ListClose) setting spot fs _ (λ e. tt)
-    by _ _ (ends_sexp ss vs fs) = ended_spans false (Mark' marks.SexpClose) setting spot fs _ (λ e. tt)
-    by _ _ (ends_struct ss ms fs) = ended_spans false (Mark' marks.FieldsClose) setting spot fs _ (λ e. tt)
+    by _ _ (ends_list ss vs fs) = ended_spans false (Mark' Mark.ListClose) setting spot fs _ (λ e. tt)
+    by _ _ (ends_sexp ss vs fs) = ended_spans false (Mark' Mark.SexpClose) setting spot fs _ (λ e. tt)
+    by _ _ (ends_struct ss ms fs) = ended_spans false (Mark' Mark.FieldsClose) setting spot fs _ (λ e. tt)
     by _ _ (ends_none bracket fs e) =
         subst (Spans (is_top fs) (Mark' (close_mark bracket)) setting.limits.item spot.start spot.end) (sym (e setting spot)) tt
 
@@ -119,7 +96,7 @@ bare_spans : (top : Bool) (said : Content) (item start end : ℕ) (ss : Symbols)
 bare_spans top said item start end [] t h = h
 bare_spans top said item start end (s ∷ ss) t h = tt
 
-some_note : (ss : Symbols) (s : Option (List ℕ)) (start : ℕ) (c : List Slot) → is_fresh (at start c [] (ss ++ s ∷ []) nows.Ready) ≡ false
+some_note : (ss : Symbols) (s : Option (List ℕ)) (start : ℕ) (c : List Slot) → is_fresh (at start c [] (ss ++ s ∷ []) Now.Ready) ≡ false
 some_note [] s start c = refl
 some_note (x ∷ ss) s start c = refl
 
@@ -131,33 +108,33 @@ module _ (g : Catalog) (l : Limits) where
   ready_spans : (spot : Spot) (fs : List Frame) (ss : Symbols) (said : Content)
       → Spans (is_top fs) said l.item spot.start spot.end (on_ready (under g l) spot fs ss said)
   ready_spans spot fs ss (Word w) = inl (
-    open_now spot.start spot.context fs ss (nows.Pending (held_word w) spot.end)
-        (any_note ss spot.start spot.context (nows.Pending (held_word w) spot.end) refl) tt,
+    open_now spot.start spot.context fs ss (Now.Pending (held_word w) spot.end)
+        (any_note ss spot.start spot.context (Now.Pending (held_word w) spot.end) refl) tt,
     refl,
     refl,
   )
   ready_spans spot fs ss (Id id) = resolved_spans (is_top fs) (Id id) l.item spot.start spot.end (resolve spot.context id) _
       (λ s. inl (
-        open_now spot.start spot.context fs ss (nows.Pending (helds.Symbol s) spot.end)
-            (any_note ss spot.start spot.context (nows.Pending (helds.Symbol s) spot.end) refl) tt,
+        open_now spot.start spot.context fs ss (Now.Pending (Held.Symbol s) spot.end)
+            (any_note ss spot.start spot.context (Now.Pending (Held.Symbol s) spot.end) refl) tt,
         refl,
         refl,
       ))
   ready_spans spot fs ss (Quoted w) = inl (
-    open_now spot.start spot.context fs ss (nows.Pending (helds.Symbol (Some w)) spot.end)
-        (any_note ss spot.start spot.context (nows.Pending (helds.Symbol (Some w)) spot.end) refl) tt,
+    open_now spot.start spot.context fs ss (Now.Pending (Held.Symbol (Some w)) spot.end)
+        (any_note ss spot.start spot.context (Now.Pending (Held.Symbol (Some w)) spot.end) refl) tt,
     refl,
     refl,
   )
   ready_spans spot fs ss (TypedNull k) = inl (
-    open_now spot.start spot.context fs ss (nows.Pending (helds.Null k) spot.end)
-        (any_note ss spot.start spot.context (nows.Pending (helds.Null k) spot.end) refl) tt,
+    open_now spot.start spot.context fs ss (Now.Pending (Held.Null k) spot.end)
+        (any_note ss spot.start spot.context (Now.Pending (Held.Null k) spot.end) refl) tt,
     refl,
     refl,
   )
   ready_spans spot fs ss (Long w) = inl (
-    open_now spot.start spot.context fs ss (nows.Long w spot.end)
-        (any_note ss spot.start spot.context (nows.Long w spot.end) refl) tt,
+    open_now spot.start spot.context fs ss (Now.Long w spot.end)
+        (any_note ss spot.start spot.context (Now.Long w spot.end) refl) tt,
     refl,
     refl,
   )
@@ -166,44 +143,44 @@ module _ (g : Catalog) (l : Limits) where
   ready_spans spot fs ss (Operator w) = one_spans (Operator w) (under g l) spot fs _
   ready_spans spot fs ss (Clob w) = one_spans (Clob w) (under g l) spot fs _
   ready_spans spot fs ss (Blob w) = one_spans (Blob w) (under g l) spot fs _
-  ready_spans spot fs ss (Mark' marks.ListOpen) = deeper_spans (is_top fs) _ l.item spot.start spot.end l.depth fs _ _ (inl (inl refl, refl, tt)) tt
-  ready_spans spot fs ss (Mark' marks.SexpOpen) = deeper_spans (is_top fs) _ l.item spot.start spot.end l.depth fs _ _ (inl (inl refl, refl, tt)) tt
-  ready_spans spot fs ss (Mark' marks.FieldsOpen) = deeper_spans (is_top fs) _ l.item spot.start spot.end l.depth fs _ _ (inl (inl refl, refl, tt)) tt
-  ready_spans spot fs ss (Mark' marks.ListClose) = bare_spans (is_top fs) _ l.item spot.start spot.end ss _ (closed_spans (under g l) spot brackets.List fs)
-  ready_spans spot fs ss (Mark' marks.SexpClose) = bare_spans (is_top fs) _ l.item spot.start spot.end ss _ (closed_spans (under g l) spot brackets.Sexp fs)
+  ready_spans spot fs ss (Mark' Mark.ListOpen) = deeper_spans (is_top fs) _ l.item spot.start spot.end l.depth fs _ _ (inl (inl refl, refl, tt)) tt
+  ready_spans spot fs ss (Mark' Mark.SexpOpen) = deeper_spans (is_top fs) _ l.item spot.start spot.end l.depth fs _ _ (inl (inl refl, refl, tt)) tt
+  ready_spans spot fs ss (Mark' Mark.FieldsOpen) = deeper_spans (is_top fs) _ l.item spot.start spot.end l.depth fs _ _ (inl (inl refl, refl, tt)) tt
+  ready_spans spot fs ss (Mark' Mark.ListClose) = bare_spans (is_top fs) _ l.item spot.start spot.end ss _ (closed_spans (under g l) spot Bracket.List fs)
+  ready_spans spot fs ss (Mark' Mark.SexpClose) = bare_spans (is_top fs) _ l.item spot.start spot.end ss _ (closed_spans (under g l) spot Bracket.Sexp fs)
   ready_spans spot fs ss (Mark' _) = tt
 
   noted_spans : (spot : Spot) (fs : List Frame) (ss : Symbols) (r : Result (Option (List ℕ)) Reason)
-      → Spans (is_top fs) (Mark' marks.Colons) l.item spot.start spot.end (noted spot.start spot.context fs ss r)
-  noted_spans spot fs ss (Ok s) = inl (open_now spot.start spot.context fs (ss ++ s ∷ []) nows.Ready (some_note ss s spot.start spot.context) tt, refl, tt)
+      → Spans (is_top fs) (Mark' Mark.Colons) l.item spot.start spot.end (noted spot.start spot.context fs ss r)
+  noted_spans spot fs ss (Ok s) = inl (open_now spot.start spot.context fs (ss ++ s ∷ []) Now.Ready (some_note ss s spot.start spot.context) tt, refl, tt)
   noted_spans spot fs ss (Err e) = tt
 
   pending_spans : (spot : Spot) (fs : List Frame) (ss : Symbols) (h : Held) (said : Content)
       → Spans (is_top fs) said l.item spot.start spot.end (on_pending spot.start spot.context fs ss h said)
-  pending_spans spot fs ss h (Mark' marks.Colons) = noted_spans spot fs ss (held_symbol h)
+  pending_spans spot fs ss h (Mark' Mark.Colons) = noted_spans spot fs ss (held_symbol h)
   pending_spans spot fs ss h _ = tt
 
   long_spans : (spot : Spot) (fs : List Frame) (ss : Symbols) (v : List ℕ) (said : Content)
       → Spans (is_top fs) said l.item spot.start spot.end (on_long spot fs ss v said)
   long_spans spot fs ss v (Long w) = inl (
-    open_now spot.start spot.context fs ss (nows.Long (v ++ w) spot.end)
-        (any_note ss spot.start spot.context (nows.Long (v ++ w) spot.end) refl) tt,
+    open_now spot.start spot.context fs ss (Now.Long (v ++ w) spot.end)
+        (any_note ss spot.start spot.context (Now.Long (v ++ w) spot.end) refl) tt,
     refl,
     refl,
   )
   long_spans spot fs ss v _ = tt
 
-  comma_spans : (spot : Spot) (fs : List Frame) → Spans (is_top fs) (Mark' marks.Comma) l.item spot.start spot.end (on_comma spot.start spot.context fs)
-  comma_spans spot (frames.Items listings.List ss vs ∷ fs) = inl (inl refl, refl, tt)
-  comma_spans spot (frames.Fields ss ms ∷ fs) = inl (inl refl, refl, tt)
-  comma_spans spot (frames.Items listings.Sexp ss vs ∷ fs) = tt
-  comma_spans spot (frames.Named ss ms s ∷ fs) = tt
+  comma_spans : (spot : Spot) (fs : List Frame) → Spans (is_top fs) (Mark' Mark.Comma) l.item spot.start spot.end (on_comma spot.start spot.context fs)
+  comma_spans spot (Frame.Items Listing.List ss vs ∷ fs) = inl (inl refl, refl, tt)
+  comma_spans spot (Frame.Fields ss ms ∷ fs) = inl (inl refl, refl, tt)
+  comma_spans spot (Frame.Items Listing.Sexp ss vs ∷ fs) = tt
+  comma_spans spot (Frame.Named ss ms s ∷ fs) = tt
   comma_spans spot [] = tt
 
   after_spans : (spot : Spot) (fs : List Frame) (said : Content) → Spans (is_top fs) said l.item spot.start spot.end (on_after (under g l) spot fs said)
-  after_spans spot fs (Mark' marks.Comma) = comma_spans spot fs
-  after_spans spot fs (Mark' marks.ListClose) = closed_spans (under g l) spot brackets.List fs
-  after_spans spot fs (Mark' marks.FieldsClose) = closed_spans (under g l) spot brackets.Fields fs
+  after_spans spot fs (Mark' Mark.Comma) = comma_spans spot fs
+  after_spans spot fs (Mark' Mark.ListClose) = closed_spans (under g l) spot Bracket.List fs
+  after_spans spot fs (Mark' Mark.FieldsClose) = closed_spans (under g l) spot Bracket.Fields fs
   after_spans spot fs _ = tt
 
   keyed_open : (spot : Spot) (f : Frame) (fs : List Frame) (said : Content) (s : Option (List ℕ))
@@ -215,7 +192,7 @@ module _ (g : Catalog) (l : Limits) where
   name_spans spot f fs (Word w) = go (is_keyword w)
     where
       go : (b : Bool) → Spans false (Word w) l.item spot.start spot.end
-          (if b then late reasons.KeywordAsName (keyed spot.start spot.context (f ∷ fs) (Some w)) else goes (keyed spot.start spot.context (f ∷ fs) (Some w)))
+          (if b then late Reason.KeywordAsName (keyed spot.start spot.context (f ∷ fs) (Some w)) else goes (keyed spot.start spot.context (f ∷ fs) (Some w)))
       go true = tt
       go false = keyed_open spot f fs (Word w) (Some w)
   name_spans spot f fs (TypedNull k) = tt
@@ -223,7 +200,7 @@ module _ (g : Catalog) (l : Limits) where
   name_spans spot f fs (Quoted w) = keyed_open spot f fs (Quoted w) (Some w)
   name_spans spot f fs (Short w) = keyed_open spot f fs (Short w) (Some w)
   name_spans spot f fs (Long w) = inl (inl refl, refl, tt)
-  name_spans spot f fs (Mark' marks.FieldsClose) = closed_spans (under g l) spot brackets.Fields (f ∷ fs)
+  name_spans spot f fs (Mark' Mark.FieldsClose) = closed_spans (under g l) spot Bracket.Fields (f ∷ fs)
   name_spans spot f fs _ = tt
 
   long_name_spans : (spot : Spot) (f : Frame) (fs : List Frame) (v : List ℕ) (said : Content)
@@ -232,28 +209,28 @@ module _ (g : Catalog) (l : Limits) where
   long_name_spans spot f fs v _ = tt
 
   named_spans : (spot : Spot) (fs : List Frame) (s : Option (List ℕ))
-      → Spans (is_top fs) (Mark' marks.Colon) l.item spot.start spot.end (named spot.start spot.context fs s)
-  named_spans spot (frames.Fields ss ms ∷ fs) s = inl (inl refl, refl, tt)
-  named_spans spot (frames.Items listing ss vs ∷ fs) s = tt
-  named_spans spot (frames.Named ss ms x ∷ fs) s = tt
+      → Spans (is_top fs) (Mark' Mark.Colon) l.item spot.start spot.end (named spot.start spot.context fs s)
+  named_spans spot (Frame.Fields ss ms ∷ fs) s = inl (inl refl, refl, tt)
+  named_spans spot (Frame.Items listing ss vs ∷ fs) s = tt
+  named_spans spot (Frame.Named ss ms x ∷ fs) s = tt
   named_spans spot [] s = tt
 
   keyed_spans : (spot : Spot) (fs : List Frame) (s : Option (List ℕ)) (said : Content)
       → Spans (is_top fs) said l.item spot.start spot.end (on_keyed spot.start spot.context fs s said)
-  keyed_spans spot fs s (Mark' marks.Colon) = named_spans spot fs s
+  keyed_spans spot fs s (Mark' Mark.Colon) = named_spans spot fs s
   keyed_spans spot fs s _ = tt
 
   now_spans : (begin end start : ℕ) (c : List Slot) (fs : List Frame) (ss : Symbols) (said : Content) (now : Now) → (is_top fs ≡ true → IsTopNow now)
       → Spans (is_top fs) said l.item (start_now now start begin fs ss) end (turn_now (under g l) (at start c fs ss now) (token_at begin end said) now)
-  now_spans begin end start c fs ss said nows.Ready k = ready_spans (spot_at end (begun_at start begin fs ss) c) fs ss said
-  now_spans begin end start c fs ss said (nows.Pending h e) k = pending_spans (spot_at end start c) fs ss h said
-  now_spans begin end start c fs ss said (nows.Long w e) k = long_spans (spot_at end start c) fs ss w said
-  now_spans begin end start c fs ss said nows.After k = after_spans (spot_at end start c) fs said
-  now_spans begin end start c (f ∷ fs) ss said nows.Name k = name_spans (spot_at end start c) f fs said
-  now_spans begin end start c (f ∷ fs) ss said (nows.LongName w) k = long_name_spans (spot_at end start c) f fs w said
-  now_spans begin end start c fs ss said (nows.Keyed s) k = keyed_spans (spot_at end start c) fs s said
-  now_spans begin end start c [] ss said nows.Name k = absurd (k refl)
-  now_spans begin end start c [] ss said (nows.LongName w) k = absurd (k refl)
+  now_spans begin end start c fs ss said Now.Ready k = ready_spans (spot_at end (begun_at start begin fs ss) c) fs ss said
+  now_spans begin end start c fs ss said (Now.Pending h e) k = pending_spans (spot_at end start c) fs ss h said
+  now_spans begin end start c fs ss said (Now.Long w e) k = long_spans (spot_at end start c) fs ss w said
+  now_spans begin end start c fs ss said Now.After k = after_spans (spot_at end start c) fs said
+  now_spans begin end start c (f ∷ fs) ss said Now.Name k = name_spans (spot_at end start c) f fs said
+  now_spans begin end start c (f ∷ fs) ss said (Now.LongName w) k = long_name_spans (spot_at end start c) f fs w said
+  now_spans begin end start c fs ss said (Now.Keyed s) k = keyed_spans (spot_at end start c) fs s said
+  now_spans begin end start c [] ss said Now.Name k = absurd (k refl)
+  now_spans begin end start c [] ss said (Now.LongName w) k = absurd (k refl)
 
   -- A token leaves the item open, or ends it within the limit.
   pub turn_spans : (r : Reading) (t : Token) → (is_top r.frames ≡ true → IsTopNow r.now)
@@ -270,7 +247,7 @@ module _ (g : Catalog) (l : Limits) where
   within_settles : (start end : ℕ) (t : Turn) → (end ≤ start + l.item → SettlesWithin start end [] t) → SettlesWithin start end [] (within l.item start end t)
   within_settles start end t h = go (nat_le end (start + l.item)) refl
     where
-      go : (b : Bool) → nat_le end (start + l.item) ≡ b → SettlesWithin start end [] (if b then t else refuses reasons.ItemTooLong)
+      go : (b : Bool) → nat_le end (start + l.item) ≡ b → SettlesWithin start end [] (if b then t else refuses Reason.ItemTooLong)
       go true e = h (le_of end (start + l.item) e)
       go false e = tt
 
@@ -282,9 +259,9 @@ module _ (g : Catalog) (l : Limits) where
 
   ended_settles : (spot : Spot) (fs : List Frame) (v : Value) → SettlesWithin spot.start spot.end fs (ended (under g l) spot fs v)
   ended_settles spot [] v = top_settles spot.start spot.end spot.context v (next spot.context v g) (is_table v)
-  ended_settles spot (frames.Items listing ss vs ∷ fs) v = inl (refl, refl, refl)
-  ended_settles spot (frames.Named ss ms s ∷ fs) v = inl (refl, refl, refl)
-  ended_settles spot (frames.Fields ss ms ∷ fs) v = tt
+  ended_settles spot (Frame.Items listing ss vs ∷ fs) v = inl (refl, refl, refl)
+  ended_settles spot (Frame.Named ss ms s ∷ fs) v = inl (refl, refl, refl)
+  ended_settles spot (Frame.Fields ss ms ∷ fs) v = tt
 
   paid_settles : (spot : Spot) (fs : List Frame) (ss : Symbols) (q : Result Payload Reason)
       → SettlesWithin spot.start spot.end fs (paid (under g l) spot fs ss q)
@@ -292,28 +269,28 @@ module _ (g : Catalog) (l : Limits) where
   paid_settles spot fs ss (Err e) = tt
 
   released_settles : (spot : Spot) (fs : List Frame) (ss : Symbols) (h : Held) → SettlesWithin spot.start spot.end fs (released (under g l) spot fs ss h)
-  released_settles spot [] [] (helds.Version true s) = within_settles spot.start spot.end _ (λ k. inr (refl, k))
-  released_settles spot [] [] (helds.Version false s) = tt
-  released_settles spot [] [] (helds.Symbol s) = paid_settles spot [] [] (held_payload (helds.Symbol s))
-  released_settles spot [] [] (helds.Null k) = paid_settles spot [] [] (held_payload (helds.Null k))
-  released_settles spot [] [] (helds.Truth b) = paid_settles spot [] [] (held_payload (helds.Truth b))
-  released_settles spot [] [] helds.Nan = tt
+  released_settles spot [] [] (Held.Version true s) = within_settles spot.start spot.end _ (λ k. inr (refl, k))
+  released_settles spot [] [] (Held.Version false s) = tt
+  released_settles spot [] [] (Held.Symbol s) = paid_settles spot [] [] (held_payload (Held.Symbol s))
+  released_settles spot [] [] (Held.Null k) = paid_settles spot [] [] (held_payload (Held.Null k))
+  released_settles spot [] [] (Held.Truth b) = paid_settles spot [] [] (held_payload (Held.Truth b))
+  released_settles spot [] [] Held.Nan = tt
   released_settles spot [] (s ∷ ss) h = paid_settles spot [] (s ∷ ss) (held_payload h)
   released_settles spot (f ∷ fs) ss h = paid_settles spot (f ∷ fs) ss (held_payload h)
 
   -- a symbol or a long string waits
   abbrev pub IsWaiting : Now → Type 0
-  IsWaiting (nows.Pending h end) = Unit {0}
-  IsWaiting (nows.Long w end) = Unit {0}
+  IsWaiting (Now.Pending h end) = Unit {0}
+  IsWaiting (Now.Long w end) = Unit {0}
   IsWaiting _ = ⊥
 
   -- What waited for more was within the limit.
   pub settle_spans : (start : ℕ) (c : List Slot) (fs : List Frame) (ss : Symbols) (now : Now) (end : ℕ) → IsWaiting now
       → SettlesWithin start (end_of_now now end) fs (settle g l (at start c fs ss now))
-  settle_spans start c fs ss (nows.Pending h e) end w = released_settles (spot_at e start c) fs ss h
-  settle_spans start c fs ss (nows.Long v e) end w = ended_settles (spot_at e start c) fs _
-  settle_spans start c fs ss nows.Ready end w = absurd w
-  settle_spans start c fs ss nows.After end w = absurd w
-  settle_spans start c fs ss nows.Name end w = absurd w
-  settle_spans start c fs ss (nows.LongName v) end w = absurd w
-  settle_spans start c fs ss (nows.Keyed s) end w = absurd w
+  settle_spans start c fs ss (Now.Pending h e) end w = released_settles (spot_at e start c) fs ss h
+  settle_spans start c fs ss (Now.Long v e) end w = ended_settles (spot_at e start c) fs _
+  settle_spans start c fs ss Now.Ready end w = absurd w
+  settle_spans start c fs ss Now.After end w = absurd w
+  settle_spans start c fs ss Now.Name end w = absurd w
+  settle_spans start c fs ss (Now.LongName v) end w = absurd w
+  settle_spans start c fs ss (Now.Keyed s) end w = absurd w

@@ -2,41 +2,18 @@
 use Rattle.std.proofs.Common.{◌≡◌, ℕ, List, [], ◌∷◌, ◌++◌, Bool, true, false, Ok, Option, Some, refl, ap, sym, ◌∙◌, subst, append_assoc, append-nil, if◌then◌else◌, codes, ◌||◌, ◌&&◌}
 use Rattle.std.proofs.lemmas.Slice.Eq.{bytes_eq-Decides}
 use Rattle.std.specs.Str.{bytes_eq}
-use Rattle.ion_model.specs.declared.value.Payload.{Payload}
+use Rattle.ion_text.specs.Names.{Annotations, Bracket, Content, Elements, Frame, Held, Id, IsBody, IsName, IsScalar, IsSymbol, Kind, Listing, Long, Mark, Mark', Members, Now, Payload, Place, Placed, Quoted, Reading, Row, Says, Segments, Slot, Symbols, TokenKind, TypedNull, Value, Word, begins_long, begun_at, bracket_in, ends_long, held_payload, held_symbol, held_word, is_false, is_id, is_long, is_null, is_segment, is_symbol, is_true, is_version, is_version_word, is_word, joined, no_annotation, one_annotation, open_mark, place_in, resolve, segment, the_marker}
 use Rattle.ion_model.specs.declared.value.Payload.TheVariants as payloads
-use Rattle.ion_atoms.specs.declared.kind.Kind.TheVariants as values
-use Rattle.ion_symtab.specs.Slots.{Slot, resolve}
-use Rattle.ion_tokens.specs.declared.mode.Mark.TheVariants as marks
-use Rattle.ion_tokens.specs.declared.mode.Place.{Place}
-use Rattle.ion_tokens.specs.declared.mode.Place.TheVariants as places
-use Rattle.ion_tokens.specs.declared.mode.TokenKind.{TokenKind}
-use Rattle.ion_tokens.specs.declared.mode.TokenKind.TheVariants as kinds
-use Rattle.ion_tokens.specs.Bodies.{Content, Word, Id, Quoted, Long, TypedNull, Mark', IsBody}
-use Rattle.ion_tokens.specs.Lexed.{Placed}
-use Rattle.ion_text.specs.declared.state.Held.{Held}
-use Rattle.ion_text.specs.declared.state.Held.TheVariants as helds
-use Rattle.ion_text.specs.declared.state.Now.{Now}
-use Rattle.ion_text.specs.declared.state.Now.TheVariants as nows
-use Rattle.ion_text.specs.declared.state.Frame.{Frame}
-use Rattle.ion_text.specs.declared.state.Frame.TheVariants as frames
-use Rattle.ion_text.specs.declared.state.Listing.{Listing}
-use Rattle.ion_text.specs.declared.state.Listing.TheVariants as listings
-use Rattle.ion_text.specs.machine.Nested.{bracket_in, open_mark}
-use Rattle.ion_visiting.specs.declared.bracket.Bracket.{Bracket}
-use Rattle.ion_visiting.specs.declared.bracket.Bracket.TheVariants as brackets
-use Rattle.ion_model.specs.declared.value.Value.{Value}
-use Rattle.ion_text.specs.Grammar.{Says, IsSymbol, is_word, is_id, is_quoted, IsScalar, is_null, is_true, is_false, is_symbol, Annotations, no_annotation, one_annotation, Segments, segment, joined, IsName, Elements, Row, Members, is_long, ends_long, begins_long, is_version, is_version_word, the_marker}
-use Rattle.ion_text.specs.machine.EachToken.{Reading, Symbols, place_in, held_word, held_symbol, held_payload, begun_at}
+use Rattle.ion_text.specs.Grammar.{is_quoted}
 use Rattle.ion_text.specs.laws.reading.sound.MarkerWords.{is_unmarked}
-use Rattle.ion_tokens.specs.Lexemes.{is_segment}
 
 -- where a value of the innermost container stands
 abbrev pub value_place : List Frame → Place
-value_place fs = place_in fs nows.Ready
+value_place fs = place_in fs Now.Ready
 
 -- a value may come in the innermost container
 abbrev pub Receives : List Frame → Type 0
-Receives (frames.Fields ss ms ∷ fs) = ⊥
+Receives (Frame.Fields ss ms ∷ fs) = ⊥
 Receives _ = Unit {0}
 
 -- a container whose close hasn't come: the tokens around it, its annotations, its open and the tokens behind that
@@ -54,15 +31,15 @@ pub record Around (c : List Slot) (fs : List Frame) (ss : Symbols) (ts : List Pl
 
 -- the items of a list or an s-expression; the Bool says whether an element of a list may come
 abbrev pub Items : List Slot → Listing → List Value → Bool → List Placed → Type 0
-Items c listings.List vs more body = Elements c body vs more
-Items c listings.Sexp vs more body = Row c body vs
+Items c Listing.List vs more body = Elements c body vs more
+Items c Listing.Sexp vs more body = Row c body vs
 
 -- the tokens of the open item, up to what has come of the innermost container; the Bool says whether an element may come there
 abbrev pub Opened : List Slot → List Frame → List Placed → Bool → Type 0
 Opened c [] ts more = ts ≡ []
-Opened c (frames.Items listing ss vs ∷ fs) ts more = Around c fs ss ts (bracket_in listing) (λ front. Opened c fs front true) (Items c listing vs more)
-Opened c (frames.Fields ss ms ∷ fs) ts more = Around c fs ss ts brackets.Fields (λ front. Opened c fs front true) (λ body. Members c body ms more)
-Opened c (frames.Named ss ms s ∷ fs) ts more =
+Opened c (Frame.Items listing ss vs ∷ fs) ts more = Around c fs ss ts (bracket_in listing) (λ front. Opened c fs front true) (Items c listing vs more)
+Opened c (Frame.Fields ss ms ∷ fs) ts more = Around c fs ss ts Bracket.Fields (λ front. Opened c fs front true) (λ body. Members c body ms more)
+Opened c (Frame.Named ss ms s ∷ fs) ts more =
     record {
       front : List Placed;
       notes : List Placed;
@@ -74,15 +51,15 @@ Opened c (frames.Named ss ms s ∷ fs) ts more =
       outer : Opened c fs front true;
       receives : Receives fs;
       noted : Annotations c (value_place fs) notes ss;
-      opens : Says (value_place fs) open' (Mark' marks.FieldsOpen);
+      opens : Says (value_place fs) open' (Mark' Mark.FieldsOpen);
       items : Members c body ms true;
       named : IsName c name s;
-      colons : Says places.Name colon (Mark' marks.Colon);
+      colons : Says Place.Name colon (Mark' Mark.Colon);
     }
 
 -- the innermost container is a struct where no value is open
 abbrev pub IsStruct : List Frame → Type 0
-IsStruct (frames.Fields ss ms ∷ fs) = Unit {0}
+IsStruct (Frame.Fields ss ms ∷ fs) = Unit {0}
 IsStruct _ = ⊥
 
 -- a container is open
@@ -92,16 +69,16 @@ IsInside (f ∷ fs) = Unit {0}
 
 -- where the last token of what waits ended
 abbrev pub EndsAt : Now → ℕ → Type 0
-EndsAt (nows.Pending h e) end = e ≡ end
-EndsAt (nows.Long w e) end = e ≡ end
+EndsAt (Now.Pending h e) end = e ≡ end
+EndsAt (Now.Long w e) end = e ≡ end
 EndsAt _ end = Unit {0}
 
 -- in an s-expression, whether the tokens of its elements end in a long string
 abbrev pub long_behind : (c : List Slot) (fs : List Frame) (ts : List Placed) → Opened c fs ts true → Bool
-long_behind c (frames.Items listings.Sexp ss vs ∷ fs) ts o = ends_long o.body
-long_behind c (frames.Items listings.List ss vs ∷ fs) ts o = false
-long_behind c (frames.Fields ss ms ∷ fs) ts o = false
-long_behind c (frames.Named ss ms s ∷ fs) ts o = false
+long_behind c (Frame.Items Listing.Sexp ss vs ∷ fs) ts o = ends_long o.body
+long_behind c (Frame.Items Listing.List ss vs ∷ fs) ts o = false
+long_behind c (Frame.Fields ss ms ∷ fs) ts o = false
+long_behind c (Frame.Named ss ms s ∷ fs) ts o = false
 long_behind c [] ts o = false
 
 -- two tests fail together where the second does
@@ -111,7 +88,7 @@ and_false true x h = h
 
 -- a token that says something else is no segment
 pub no_segment : (k : TokenKind) (octets : List ℕ) (said : Content) → ((w : List ℕ) → said ≡ Long w → ⊥) → IsBody k octets (Ok said) → is_segment k ≡ false
-no_segment kinds.LongString octets said n h = absurd (n octets h.0)
+no_segment TokenKind.LongString octets said n h = absurd (n octets h.0)
 no_segment _ octets said n h = refl
 
 -- no symbol is a segment
@@ -143,7 +120,7 @@ begins_long_more [] _ us p w (joined (y ∷ ys) v x t d h) = refl
 -- what is held is what the token says
 pub record HoldsWhatIsSaid (c : List Slot) (said : Content) (h : Held) : Type 0 where
   pub value : (q : Payload) → held_payload h ≡ Ok q → IsScalar c said q
-  pub marker : (s : Option (List ℕ)) → h ≡ helds.Version true s → said ≡ Word the_marker
+  pub marker : (s : Option (List ℕ)) → h ≡ Held.Version true s → said ≡ Word the_marker
   pub note : (s : Option (List ℕ)) → held_symbol h ≡ Ok s → IsSymbol c said s
 
 -- the open item's tokens where a value may come: those of its containers, and annotations of the value
@@ -209,9 +186,9 @@ symbol_said _ = false
 -- this is held of such a token, where a value may come
 abbrev pub IsHeld : List Slot → Content → Held → Type 0
 IsHeld c (Word w) h = h ≡ held_word w
-IsHeld c (Id id) h = (s : Option (List ℕ)) × (resolve c id ≡ Ok s) × (h ≡ helds.Symbol s)
-IsHeld c (Quoted w) h = h ≡ helds.Symbol (Some w)
-IsHeld c (TypedNull k) h = h ≡ helds.Null k
+IsHeld c (Id id) h = (s : Option (List ℕ)) × (resolve c id ≡ Ok s) × (h ≡ Held.Symbol s)
+IsHeld c (Quoted w) h = h ≡ Held.Symbol (Some w)
+IsHeld c (TypedNull k) h = h ≡ Held.Null k
 IsHeld c _ h = Unit {0}
 
 -- the open item's tokens where the last of them waits for `::`, which would make it an annotation
@@ -248,13 +225,13 @@ pub record NameFor (c : List Slot) (fs : List Frame) (P : List Placed → Type 0
 
 -- what the reader holds of the open item stands for these tokens
 abbrev pub NowStands : List Slot → List Frame → Symbols → List Placed → Now → Type 0
-NowStands c fs ss ts nows.Ready = ReadyFor c fs ss ts
-NowStands c fs ss ts (nows.Pending h end) = PendingFor c fs ss h ts
-NowStands c fs ss ts (nows.Long w end) = LongFor c fs ss w ts
-NowStands c fs ss ts nows.After = Opened c fs ts false × (ss ≡ []) × IsInside fs
-NowStands c fs ss ts nows.Name = Opened c fs ts true × IsStruct fs
-NowStands c fs ss ts (nows.LongName w) = NameFor c fs (λ n. Segments places.Name n w) ts
-NowStands c fs ss ts (nows.Keyed s) = NameFor c fs (λ n. IsName c n s) ts
+NowStands c fs ss ts Now.Ready = ReadyFor c fs ss ts
+NowStands c fs ss ts (Now.Pending h end) = PendingFor c fs ss h ts
+NowStands c fs ss ts (Now.Long w end) = LongFor c fs ss w ts
+NowStands c fs ss ts Now.After = Opened c fs ts false × (ss ≡ []) × IsInside fs
+NowStands c fs ss ts Now.Name = Opened c fs ts true × IsStruct fs
+NowStands c fs ss ts (Now.LongName w) = NameFor c fs (λ n. Segments Place.Name n w) ts
+NowStands c fs ss ts (Now.Keyed s) = NameFor c fs (λ n. IsName c n s) ts
 
 -- the same with the context of symbols
 abbrev pub ReadingStands : List Slot → Reading → List Placed → Type 0
@@ -262,13 +239,13 @@ ReadingStands c r ts = (r.context ≡ c) × NowStands c r.frames r.notes ts r.no
 
 -- where the open item begins, behind one more token
 abbrev pub start_now : Now → ℕ → ℕ → List Frame → Symbols → ℕ
-start_now nows.Ready start begin fs ss = begun_at start begin fs ss
+start_now Now.Ready start begin fs ss = begun_at start begin fs ss
 start_now _ start begin fs ss = start
 
 -- where what waits ended
 abbrev pub end_of_now : Now → ℕ → ℕ
-end_of_now (nows.Pending h e) end = e
-end_of_now (nows.Long w e) end = e
+end_of_now (Now.Pending h e) end = e
+end_of_now (Now.Long w e) end = e
 end_of_now _ end = end
 
 -- the words of keywords, and what else is held
@@ -279,11 +256,11 @@ word_stood c w = go (bytes_eq w (codes "null")) (bytes_eq w (codes "true")) (byt
     is : (w v : List ℕ) → bytes_eq w v ≡ true → w ≡ v
     is w v e = (bytes_eq-Decides w v).0 e
 
-    ours : {s : Option (List ℕ)} → helds.Version (bytes_eq w the_marker) (Some w) ≡ helds.Version true s → bytes_eq w the_marker ≡ true
+    ours : {s : Option (List ℕ)} → Held.Version (bytes_eq w the_marker) (Some w) ≡ Held.Version true s → bytes_eq w the_marker ≡ true
     ours h = ap (λ (x : Held). which x) h
       where
         which : Held → Bool
-        which (helds.Version b s) = b
+        which (Held.Version b s) = b
         which _ = false
 
     symbol : (a b d e : Bool) → bytes_eq w (codes "null") ≡ false → bytes_eq w (codes "true") ≡ false → bytes_eq w (codes "false") ≡ false
@@ -293,12 +270,12 @@ word_stood c w = go (bytes_eq w (codes "null")) (bytes_eq w (codes "true")) (byt
         ∙ (ap (λ x. (false || false) || (x || bytes_eq w (codes "nan"))) k ∙ ap (λ x. (false || false) || (false || x)) m)))
 
     go : (a b d e f : Bool) → bytes_eq w (codes "null") ≡ a → bytes_eq w (codes "true") ≡ b → bytes_eq w (codes "false") ≡ d → bytes_eq w (codes "nan") ≡ e
-        → HoldsWhatIsSaid c (Word w) (if a then helds.Null values.Null else
-        (if b then helds.Truth true else (if d then helds.Truth false else
-        (if e then helds.Nan else (if f then helds.Version (bytes_eq w the_marker) (Some w) else helds.Symbol (Some w))))))
+        → HoldsWhatIsSaid c (Word w) (if a then Held.Null Kind.Null else
+        (if b then Held.Truth true else (if d then Held.Truth false else
+        (if e then Held.Nan else (if f then Held.Version (bytes_eq w the_marker) (Some w) else Held.Symbol (Some w))))))
     go true b d e f i j k m = record {
       value = λ q h. subst (λ x. IsScalar c (Word x) q) (sym (is w (codes "null") i))
-          (subst (IsScalar c (Word (codes "null"))) (let n : payloads.Null values.Null ≡ q = cc in n) is_null);
+          (subst (IsScalar c (Word (codes "null"))) (let n : payloads.Null Kind.Null ≡ q = cc in n) is_null);
       marker = λ s h. absurd cc;
       note =
           λ s h. absurd cc;
@@ -335,7 +312,7 @@ word_stood c w = go (bytes_eq w (codes "null")) (bytes_eq w (codes "true")) (byt
     }
 
 -- a symbol that is held stands for what is said
-pub symbol_stood : (c : List Slot) (said : Content) (s : Option (List ℕ)) → IsSymbol c said s → HoldsWhatIsSaid c said (helds.Symbol s)
+pub symbol_stood : (c : List Slot) (said : Content) (s : Option (List ℕ)) → IsSymbol c said s → HoldsWhatIsSaid c said (Held.Symbol s)
 symbol_stood c said s d = record {
   value = λ q h. subst (IsScalar c said) (let n : payloads.Symbol s ≡ q = cc in n) (is_symbol said s d);
   marker =
@@ -358,5 +335,5 @@ no_note c p _ a = go _ [] a refl
 -- behind an element that ends long, a segment may not come where a value may
 abbrev pub NoSegmentComes : (c : List Slot) (fs : List Frame) (ss : Symbols) (ts : List Placed) (t : Placed) (said : Content) (now : Now)
     → NowStands c fs ss ts now → Type 0
-NoSegmentComes c fs ss ts t said nows.Ready d = (w : List ℕ) → said ≡ Long w → (long_behind c fs d.front d.outer && begins_long (d.notes ++ t ∷ [])) ≡ false
+NoSegmentComes c fs ss ts t said Now.Ready d = (w : List ℕ) → said ≡ Long w → (long_behind c fs d.front d.outer && begins_long (d.notes ++ t ∷ [])) ≡ false
 NoSegmentComes c fs ss ts t said _ d = Unit {0}

@@ -1,32 +1,11 @@
 -- Each octet leads from what stands for octets to what stands for those and that one.
 use Rattle.std.proofs.Common.{◌≡◌, ℕ, zero, suc, ◌+◌, nat_le, List, [], ◌∷◌, ◌++◌, Bool, true, false, ◌&&◌, not, Result, Ok, Err, refl, sym, subst, arith, append_assoc, append-nil, if◌then◌else◌, ◌⊎◌, inl, inr}
-use Rattle.ion_model.specs.declared.value.Value.{Value}
-use Rattle.ion_atoms.specs.declared.refusal.Reason.{Reason}
-use Rattle.ion_atoms.specs.declared.refusal.Reason.TheVariants as reasons
-use Rattle.ion_atoms.specs.declared.refusal.Refusal.{Refusal}
-use Rattle.ion_symtab.specs.declared.limits.Limits.{Limits}
-use Rattle.ion_symtab.specs.declared.catalog.Catalog.{Catalog}
-use Rattle.ion_symtab.specs.Slots.{Slot, system_slots}
-use Rattle.ion_symtab.specs.Trace.{plain}
-use Rattle.ion_tokens.specs.declared.mode.Place.{Place}
-use Rattle.ion_tokens.specs.machine.Bounds.{is_idle}
-use Rattle.ion_tokens.specs.Bodies.{Content}
-use Rattle.ion_tokens.specs.machine.Scanning.{Known, Outcome, Next, Given, Left, Refused, feed, initial}
-use Rattle.ion_tokens.specs.Lexemes.{Lexeme}
-use Rattle.ion_tokens.specs.Lexed.{Placed}
+use Rattle.ion_text.specs.Names.{Catalog, Content, Continues, Effect, Follows, Given, Known, Leading, Left, Lexeme, Limits, Next, Outcome, Pieces, Place, Placed, Reading, Reason, Refusal, Refused, Run, Scanned, Slot, State, Turn, Value, begins, begun, behind_given, behind_left, eats, fails, feed, gives, goes, in_segment, initial, is_idle, is_quoted, is_sane, is_top, late, leaves, noticed, on_octet, on_said, on_scan, on_settled, once_more, or_worse, place, place_in, plain, reaches, refuses, run, run_on, said, said_passes, settle, settle_same, shut, system_slots, takes, tells, token_of, turn, unsettled, uses, waits, with_scan, with_value}
 use Rattle.ion_tokens.specs.machine.Told.{Begun}
-use Rattle.ion_tokens.specs.machine.Scanned.{Scanned, Continues}
-use Rattle.ion_text.specs.Grammar.{Pieces, begins}
-use Rattle.ion_tokens.specs.machine.Said.{said}
-use Rattle.ion_text.specs.machine.EachToken.{Reading, Turn, goes, gives, refuses, late, place, place_in, settle, turn}
-use Rattle.ion_text.specs.machine.Run.{State, Effect, uses, tells, leaves, fails, begun, eats, takes, waits, in_segment, unsettled, noticed, on_octet, on_scan, on_settled, on_said, behind_given, behind_left, or_worse, with_scan, token_of, is_top, shut, reaches, Run, run, run_on, once_more, with_value}
-use Rattle.ion_tokens.specs.machine.Ahead.{is_sane, Follows, is_quoted}
 use Rattle.ion_tokens.specs.laws.Follows.{feed_follows}
+use Rattle.ion_tokens.proofs.runs.Scans.{scanned_given, scanned_left, scanned_next}
+use Rattle.ion_text.specs.laws.reading.sound.Held.{ApartAt, Behind, IsLongNow, NoLongText, NoSegment, Reads, nothing_open, open_apart, or_parts, settled_read, token_read}
 use Rattle.ion_text.specs.laws.reading.sound.Quotes.{Fine, Finely, feed_fine, given_far, left_none}
-use Rattle.ion_tokens.proofs.runs.Scans.{scanned_next, scanned_given, scanned_left}
-use Rattle.ion_text.specs.machine.Passed.{said_passes}
-use Rattle.ion_text.specs.machine.Places.{Leading, settle_same}
-use Rattle.ion_text.specs.laws.reading.sound.Held.{Behind, Reads, NoSegment, ApartAt, NoLongText, IsLongNow, open_apart, token_read, settled_read, nothing_open, or_parts}
 
 module _ (g : Catalog) (l : Limits) where
   -- what came of an octet
@@ -47,8 +26,8 @@ module _ (g : Catalog) (l : Limits) where
       → After u vs o (noticed l r s)
   noticed_after u vs o r s b = go (shut r.now && not (is_idle s.mode)) (nat_le (reaches r.frames r s) l.item)
     where
-      go : (x y : Bool) → After u vs o (if x then fails reasons.Unexpected else
-          (if y then uses (record { scan = s; reading = r }) else fails reasons.ItemTooLong))
+      go : (x y : Bool) → After u vs o (if x then fails Reason.Unexpected else
+          (if y then uses (record { scan = s; reading = r }) else fails Reason.ItemTooLong))
       go true y = tt
       go false true = b
       go false false = tt

@@ -3,50 +3,14 @@ use Rattle.std.proofs.Common.{◌≡◌, ℕ, zero, suc, ◌+◌, ◌-◌, Bool,
 use Rattle.std.specs.Prelude.{◌==◌, bytes_eq, codes}
 use Rattle.std.proofs.lemmas.List.{append_cancel_left}
 use Rattle.std.proofs.lemmas.Bool.{true≢false}
-use Rattle.ion_model.specs.declared.value.Value.{Value}
-use Rattle.ion_atoms.specs.declared.refusal.Reason.{Reason}
-use Rattle.ion_atoms.specs.declared.refusal.Reason.TheVariants as reasons
-use Rattle.ion_atoms.specs.declared.refusal.Refusal.{Refusal}
-use Rattle.ion_symtab.specs.declared.limits.Limits.{Limits}
-use Rattle.ion_symtab.specs.declared.catalog.Catalog.{Catalog}
-use Rattle.ion_symtab.specs.Slots.{Slot}
-use Rattle.ion_symtab.specs.Trace.{plain}
-use Rattle.ion_tokens.specs.declared.mode.Place.{Place}
-use Rattle.ion_tokens.specs.declared.mode.Place.TheVariants as places
-use Rattle.ion_tokens.specs.declared.mode.Mode.{Mode}
-use Rattle.ion_tokens.specs.declared.mode.Mode.TheVariants as modes
-use Rattle.ion_tokens.specs.declared.mode.Mark.TheVariants as marks
-use Rattle.ion_tokens.specs.declared.mode.Action.{Action}
-use Rattle.ion_tokens.specs.declared.mode.Action.TheVariants as actions
-use Rattle.ion_tokens.specs.declared.mode.Keep.{Keep}
-use Rattle.ion_tokens.specs.declared.mode.Keep.TheVariants as keeps
-use Rattle.ion_tokens.specs.declared.mode.End.TheVariants as ends'
-use Rattle.ion_tokens.specs.declared.mode.Style.TheVariants as styles
-use Rattle.ion_tokens.specs.declared.mode.Within.TheVariants as inside
-use Rattle.ion_tokens.specs.declared.mode.TokenKind.{TokenKind}
-use Rattle.ion_tokens.specs.declared.mode.TokenKind.TheVariants as kinds
-use Rattle.ion_tokens.specs.Octets.{is_digit, is_white, begins_word, is_word_octet, is_operator_octet, is_stop}
-use Rattle.ion_tokens.specs.Places.{is_sexp, is_name}
-use Rattle.ion_tokens.specs.Bodies.{Content}
-use Rattle.ion_tokens.specs.machine.Table.{next, end_of, begins_value, in_blank}
-use Rattle.ion_tokens.specs.machine.Bounds.{is_idle}
-use Rattle.ion_tokens.specs.machine.Said.{said, number_said}
+use Rattle.ion_text.specs.Names.{Action, Catalog, Content, Effect, End, Frame, Given, Keep, Known, Left, Lexeme, Limits, Mark, Mode, Next, Now, Number, Outcome, Place, Reading, ReadsNumber, Reason, Refusal, Refused, Run, Slot, State, Style, Symbols, TokenKind, Turn, Value, Within, acts, at, at_end, begins_value, begins_word, begun, behind_given, behind_left, cut, eats, end_of, end_ready, end_said, end_settled, end_turned, end_waiting, ends_at, ends_of, fails, feed, gives, go_to, goes, in_blank, is_digit, is_fresh, is_idle, is_name, is_operator_octet, is_sexp, is_stop, is_top, is_white, is_word_octet, late, leaves, noticed, number_read, number_reads, number_said, on_octet, on_said, on_scan, on_settled, or_worse, past, place, plain, reaches, refuses, run, run-append, run_on, said, settle, shut, takes, tells, then_run, token_of, trace, turn, unsettled, uses, with_scan}
+use Rattle.ion_tokens.specs.machine.Table.{next}
 use Rattle.ion_tokens.specs.laws.Numerals.{number_without_slash}
 use Rattle.ion_tokens.proofs.sound.TurnsWords.{slash_in}
-use Rattle.ion_scalar.specs.declared.number.Number.{Number}
-use Rattle.ion_scalar.specs.text.Numbers.{ReadsNumber}
-use Rattle.ion_scalar.specs.text.Reading.{number_read, number_reads}
-use Rattle.ion_tokens.specs.machine.Scanning.{Known, Outcome, Next, Given, Left, Refused, acts, go_to, cut, past, feed, at_end, ends_at}
-use Rattle.ion_tokens.specs.Lexemes.{Lexeme}
-use Rattle.ion_text.specs.declared.state.Now.{Now}
-use Rattle.ion_text.specs.declared.state.Now.TheVariants as nows
-use Rattle.ion_text.specs.declared.state.Frame.{Frame}
-use Rattle.ion_text.specs.machine.EachToken.{Reading, Turn, goes, gives, refuses, late, Symbols, at, place, settle, turn}
-use Rattle.ion_text.specs.machine.Pieces.{run-append, then_run}
-use Rattle.ion_text.specs.machine.Run.{State, Effect, uses, tells, leaves, fails, Run, begun, is_top, is_fresh, shut, noticed, or_worse, token_of, with_scan, behind_given, behind_left, on_said, on_scan, on_settled, on_octet, unsettled, takes, eats, run, run_on, end_settled, end_turned, end_said, end_waiting, end_ready, ends, ends_of, reaches, trace}
+use Rattle.ion_text.specs.machine.Run.{ends}
 use Rattle.ion_text.specs.laws.reading.sound.Admits.{late_never}
-use Rattle.ion_text.specs.laws.reading.sound.Steps.{StoodBehind, run_ran, begun_stood}
-use Rattle.ion_text.specs.laws.showing.ended.Unused.{is_plain, IsUntold, takes_untold, top_now, no_value, waiting_end, StandsSo, ends_so}
+use Rattle.ion_text.specs.laws.reading.sound.Steps.{StoodBehind, begun_stood, run_ran}
+use Rattle.ion_text.specs.laws.showing.ended.Unused.{IsUntold, StandsSo, ends_so, is_plain, no_value, takes_untold, top_now, waiting_end}
 
 -- 1. Where the end gives a value, the next octet gives no other one first.
 
@@ -92,44 +56,44 @@ blank_none p s colon o =
 
 -- no token is open
 abbrev is_still : Mode → Bool
-is_still modes.Blank = true
-is_still modes.LineComment = true
+is_still Mode.Blank = true
+is_still Mode.LineComment = true
 is_still _ = false
 
 still_none : (p : Place) (s : Known) (o : ℕ) → is_still s.mode ≡ true → NoneLeft (feed p s o)
 still_none p s o h = go s.mode h
   where
     go : (m : Mode) → is_still m ≡ true → NoneLeft (acts p s o (next p s.colon m o))
-    go modes.Blank e = (blank_none p s s.colon o).is
-    go modes.LineComment e = tt
+    go Mode.Blank e = (blank_none p s s.colon o).is
+    go Mode.LineComment e = tt
     go _ e = cc
 
 blank_still : (p : Place) (s : Known) → at_end p s ≡ Ok None → is_still s.mode ≡ true
 blank_still p s h = go s.mode h
   where
-    operator : (b : Bool) (k : Keep) → ends_at s (cond b (ends'.Token kinds.Operator k) (ends'.Refuse reasons.Incomplete)) ≡ Ok None → ⊥
+    operator : (b : Bool) (k : Keep) → ends_at s (cond b (End.Token TokenKind.Operator k) (End.Refuse Reason.Incomplete)) ≡ Ok None → ⊥
     operator true k e = cc
     operator false k e = cc
 
     go : (m : Mode) → ends_at s (end_of p m) ≡ Ok None → is_still m ≡ true
-    go modes.Blank e = refl
-    go modes.LineComment e = refl
-    go modes.Slash e = absurd (operator (is_sexp p) (keeps.One 47) e)
-    go (modes.Operator x) e = absurd (operator (is_sexp p) keeps.Nothing e)
-    go modes.OperatorSlash e = absurd (operator (is_sexp p) (keeps.One 47) e)
-    go modes.Quote e = absurd cc
-    go modes.Quotes e = absurd cc
-    go (modes.Text t w) e = absurd cc
-    go modes.Brace e = absurd cc
-    go (modes.Lob b) e = absurd cc
-    go modes.BlockComment e = absurd cc
-    go modes.BlockCommentStar e = absurd cc
-    go modes.Colon e = absurd cc
-    go modes.Word e = absurd cc
-    go modes.KindName e = absurd cc
-    go modes.Number e = absurd cc
-    go modes.NumberSlash e = absurd cc
-    go (modes.Infinity n) e = absurd cc
+    go Mode.Blank e = refl
+    go Mode.LineComment e = refl
+    go Mode.Slash e = absurd (operator (is_sexp p) (Keep.One 47) e)
+    go (Mode.Operator x) e = absurd (operator (is_sexp p) Keep.Nothing e)
+    go Mode.OperatorSlash e = absurd (operator (is_sexp p) (Keep.One 47) e)
+    go Mode.Quote e = absurd cc
+    go Mode.Quotes e = absurd cc
+    go (Mode.Text t w) e = absurd cc
+    go Mode.Brace e = absurd cc
+    go (Mode.Lob b) e = absurd cc
+    go Mode.BlockComment e = absurd cc
+    go Mode.BlockCommentStar e = absurd cc
+    go Mode.Colon e = absurd cc
+    go Mode.Word e = absurd cc
+    go Mode.KindName e = absurd cc
+    go Mode.Number e = absurd cc
+    go Mode.NumberSlash e = absurd cc
+    go (Mode.Infinity n) e = absurd cc
 
 -- if a token ended before the octet, it is this one
 abbrev IsLeft : Lexeme → Outcome → Type 0
@@ -139,7 +103,7 @@ IsLeft x (Given y s) = Unit {0}
 IsLeft x (Refused n e) = Unit {0}
 
 -- what ends with a `/` is no number
-no_slashed : (w : List ℕ) (c : Content) → said kinds.Number (w ++ 47 ∷ []) ≡ Ok c → ⊥
+no_slashed : (w : List ℕ) (c : Content) → said TokenKind.Number (w ++ 47 ∷ []) ≡ Ok c → ⊥
 unfolding said
 no_slashed w c h = go (number_read (w ++ 47 ∷ [])) refl h
   where
@@ -152,71 +116,71 @@ same_left : (p : Place) (s : Known) (o : ℕ) (x : Lexeme) (c : Content) → is_
     → said x.kind x.octets ≡ Ok c → IsLeft x (feed p s o)
 same_left p s o x c top plain h says = go s.mode plain h
   where
-    operator : (b : Bool) (k : Keep) → b ≡ false → ends_at s (cond b (ends'.Token kinds.Operator k) (ends'.Refuse reasons.Incomplete)) ≡ Ok (Some x) → ⊥
+    operator : (b : Bool) (k : Keep) → b ≡ false → ends_at s (cond b (End.Token TokenKind.Operator k) (End.Refuse Reason.Incomplete)) ≡ Ok (Some x) → ⊥
     operator true k f e = let n : true ≡ false = f in cc
     operator false k f e = cc
 
-    behind : (kind : TokenKind) → cut s kind s.kept s.used ≡ x → IsLeft x (acts p s o (actions.Before kind keeps.Nothing modes.Blank))
+    behind : (kind : TokenKind) → cut s kind s.kept s.used ≡ x → IsLeft x (acts p s o (Action.Before kind Keep.Nothing Mode.Blank))
     behind kind e = (ap (cut s kind s.kept) (let n : s.used - 0 ≡ s.used = omega arith in n) ∙ e, refl)
 
-    word : (b : Bool) → cut s kinds.Word s.kept s.used ≡ x → IsLeft x
-        (cond b (Next (go_to s modes.KindName [])) (Left (cut s kinds.Word s.kept s.used) (past p kinds.Word modes.Blank [] s.used s.used)))
+    word : (b : Bool) → cut s TokenKind.Word s.kept s.used ≡ x → IsLeft x
+        (cond b (Next (go_to s Mode.KindName [])) (Left (cut s TokenKind.Word s.kept s.used) (past p TokenKind.Word Mode.Blank [] s.used s.used)))
     word true e = tt
     word false e = (e, refl)
 
-    words : (b : Bool) → cut s kinds.Word s.kept s.used ≡ x → IsLeft x (acts p s o (cond b (actions.Go modes.Word (keeps.One o)) actions.EndWord))
+    words : (b : Bool) → cut s TokenKind.Word s.kept s.used ≡ x → IsLeft x (acts p s o (cond b (Action.Go Mode.Word (Keep.One o)) Action.EndWord))
     words true e = tt
     words false e = word ((o == 46) && bytes_eq s.kept (codes "null")) e
 
-    names : (b : Bool) → cut s kinds.KindName s.kept s.used ≡ x
-        → IsLeft x (acts p s o (cond b (actions.Go modes.KindName (keeps.One o)) (actions.Before kinds.KindName keeps.Nothing modes.Blank)))
+    names : (b : Bool) → cut s TokenKind.KindName s.kept s.used ≡ x
+        → IsLeft x (acts p s o (cond b (Action.Go Mode.KindName (Keep.One o)) (Action.Before TokenKind.KindName Keep.Nothing Mode.Blank)))
     names true e = tt
-    names false e = behind kinds.KindName e
+    names false e = behind TokenKind.KindName e
 
-    numbers : (b d : Bool) → cut s kinds.Number s.kept s.used ≡ x
-        → IsLeft x (acts p s o (cond b (actions.Before kinds.Number keeps.Nothing modes.Blank)
-        (cond d (actions.Go modes.NumberSlash keeps.Nothing) (actions.Go modes.Number (keeps.One o)))))
-    numbers true d e = behind kinds.Number e
+    numbers : (b d : Bool) → cut s TokenKind.Number s.kept s.used ≡ x
+        → IsLeft x (acts p s o (cond b (Action.Before TokenKind.Number Keep.Nothing Mode.Blank)
+        (cond d (Action.Go Mode.NumberSlash Keep.Nothing) (Action.Go Mode.Number (Keep.One o)))))
+    numbers true d e = behind TokenKind.Number e
     numbers false true e = tt
     numbers false false e = tt
 
-    quotes : (b : Bool) → cut s kinds.QuotedSymbol s.kept s.used ≡ x
-        → IsLeft x (acts p s o (cond b (actions.Go (modes.Text styles.LongString inside.Plain) keeps.Nothing)
-        (actions.Before kinds.QuotedSymbol keeps.Nothing modes.Blank)))
+    quotes : (b : Bool) → cut s TokenKind.QuotedSymbol s.kept s.used ≡ x
+        → IsLeft x (acts p s o (cond b (Action.Go (Mode.Text Style.LongString Within.Plain) Keep.Nothing)
+        (Action.Before TokenKind.QuotedSymbol Keep.Nothing Mode.Blank)))
     quotes true e = tt
-    quotes false e = behind kinds.QuotedSymbol e
+    quotes false e = behind TokenKind.QuotedSymbol e
 
-    colons : (b : Bool) → cut s (kinds.Mark marks.Colon) s.kept s.used ≡ x
-        → IsLeft x (acts p s o (cond b (actions.Give (kinds.Mark marks.Colons) keeps.Nothing)
-        (actions.Before (kinds.Mark marks.Colon) keeps.Nothing modes.Blank)))
+    colons : (b : Bool) → cut s (TokenKind.Mark Mark.Colon) s.kept s.used ≡ x
+        → IsLeft x (acts p s o (cond b (Action.Give (TokenKind.Mark Mark.Colons) Keep.Nothing)
+        (Action.Before (TokenKind.Mark Mark.Colon) Keep.Nothing Mode.Blank)))
     colons true e = tt
-    colons false e = behind (kinds.Mark marks.Colon) e
+    colons false e = behind (TokenKind.Mark Mark.Colon) e
 
     cut_is : (y : Lexeme) → Path (Result (Option Lexeme) Reason) (Ok (Some y)) (Ok (Some x)) → y ≡ x
     cut_is y e = cc
 
-    slashed : cut s kinds.Number (s.kept ++ 47 ∷ []) s.used ≡ x → ⊥
+    slashed : cut s TokenKind.Number (s.kept ++ 47 ∷ []) s.used ≡ x → ⊥
     slashed e = no_slashed s.kept c (subst (λ (y : Lexeme). said y.kind y.octets ≡ Ok c) (sym e) says)
 
     go : (m : Mode) → is_plain m ≡ true → ends_at s (end_of p m) ≡ Ok (Some x) → IsLeft x (acts p s o (next p s.colon m o))
-    go modes.Blank i e = absurd (let n : Ok None ≡ Ok (Some x) = e in cc)
-    go modes.LineComment i e = absurd (let n : Ok None ≡ Ok (Some x) = e in cc)
-    go modes.Slash i e = absurd (operator (is_sexp p) (keeps.One 47) top e)
-    go (modes.Operator y) i e = absurd (operator (is_sexp p) keeps.Nothing top e)
-    go modes.OperatorSlash i e = absurd (operator (is_sexp p) (keeps.One 47) top e)
-    go modes.Word i e = words (is_word_octet o) (cut_is (cut s kinds.Word s.kept s.used) e)
-    go modes.KindName i e = names (is_word_octet o) (cut_is (cut s kinds.KindName s.kept s.used) e)
-    go modes.Number i e = numbers (is_stop o) (o == 47) (cut_is (cut s kinds.Number s.kept s.used) e)
-    go modes.NumberSlash i e = absurd (slashed (cut_is (cut s kinds.Number (s.kept ++ 47 ∷ []) s.used) e))
-    go modes.Quotes i e = quotes (o == 39) (cut_is (cut s kinds.QuotedSymbol s.kept s.used) e)
-    go modes.Colon i e = colons (o == 58) (cut_is (cut s (kinds.Mark marks.Colon) s.kept s.used) e)
-    go modes.BlockComment i e = absurd cc
-    go modes.BlockCommentStar i e = absurd cc
-    go (modes.Infinity n) i e = absurd cc
-    go modes.Quote i e = absurd cc
-    go (modes.Text t w) i e = absurd cc
-    go modes.Brace i e = absurd cc
-    go (modes.Lob b) i e = absurd cc
+    go Mode.Blank i e = absurd (let n : Ok None ≡ Ok (Some x) = e in cc)
+    go Mode.LineComment i e = absurd (let n : Ok None ≡ Ok (Some x) = e in cc)
+    go Mode.Slash i e = absurd (operator (is_sexp p) (Keep.One 47) top e)
+    go (Mode.Operator y) i e = absurd (operator (is_sexp p) Keep.Nothing top e)
+    go Mode.OperatorSlash i e = absurd (operator (is_sexp p) (Keep.One 47) top e)
+    go Mode.Word i e = words (is_word_octet o) (cut_is (cut s TokenKind.Word s.kept s.used) e)
+    go Mode.KindName i e = names (is_word_octet o) (cut_is (cut s TokenKind.KindName s.kept s.used) e)
+    go Mode.Number i e = numbers (is_stop o) (o == 47) (cut_is (cut s TokenKind.Number s.kept s.used) e)
+    go Mode.NumberSlash i e = absurd (slashed (cut_is (cut s TokenKind.Number (s.kept ++ 47 ∷ []) s.used) e))
+    go Mode.Quotes i e = quotes (o == 39) (cut_is (cut s TokenKind.QuotedSymbol s.kept s.used) e)
+    go Mode.Colon i e = colons (o == 58) (cut_is (cut s (TokenKind.Mark Mark.Colon) s.kept s.used) e)
+    go Mode.BlockComment i e = absurd cc
+    go Mode.BlockCommentStar i e = absurd cc
+    go (Mode.Infinity n) i e = absurd cc
+    go Mode.Quote i e = absurd cc
+    go (Mode.Text t w) i e = absurd cc
+    go Mode.Brace i e = absurd cc
+    go (Mode.Lob b) i e = absurd cc
 
 -- a turn gives this value
 abbrev GivesThis : Value → Turn → Type 0
@@ -235,8 +199,8 @@ module _ (g : Catalog) (l : Limits) (used : ℕ) (v : Value) where
   noticed_value : (r : Reading) (s : Known) → LeavesValue v (noticed l r s)
   noticed_value r s = go (shut r.now && not (is_idle s.mode)) (nat_le (reaches r.frames r s) l.item)
     where
-      go : (a b : Bool) → LeavesValue v (if a then fails reasons.Unexpected else
-          (if b then uses (record { scan = s; reading = r }) else fails reasons.ItemTooLong))
+      go : (a b : Bool) → LeavesValue v (if a then fails Reason.Unexpected else
+          (if b then uses (record { scan = s; reading = r }) else fails Reason.ItemTooLong))
       go true b = tt
       go false true = tt
       go false false = tt
@@ -296,20 +260,20 @@ module _ (g : Catalog) (l : Limits) (used : ℕ) (v : Value) where
       (left_value n o s (turn g l r (token_of x c)) h.1 e))
 
   ready_value : (o start : ℕ) (c : List Slot) (fs : List Frame) (ss : Symbols) (s : Known) → is_top fs ≡ true → is_plain s.mode ≡ true
-      → end_ready g l used (at start c fs ss nows.Ready) (at_end (place (at start c fs ss nows.Ready)) s) ≡ Ok (Some v)
-      → LeavesValue v (eats g l (record { scan = s; reading = at start c fs ss nows.Ready }) o)
+      → end_ready g l used (at start c fs ss Now.Ready) (at_end (place (at start c fs ss Now.Ready)) s) ≡ Ok (Some v)
+      → LeavesValue v (eats g l (record { scan = s; reading = at start c fs ss Now.Ready }) o)
   ready_value o start c (f ∷ fs) ss s top plain h = absurd cc
-  ready_value o start c [] ss s top plain h = go (at_end places.Top s) refl h
+  ready_value o start c [] ss s top plain h = go (at_end Place.Top s) refl h
     where
       r : Reading
-      r = at start c [] ss nows.Ready
+      r = at start c [] ss Now.Ready
 
-      said_so : (x : Lexeme) → at_end places.Top s ≡ Ok (Some x) → (d : Result Content Reason) → said x.kind x.octets ≡ d
+      said_so : (x : Lexeme) → at_end Place.Top s ≡ Ok (Some x) → (d : Result Content Reason) → said x.kind x.octets ≡ d
           → end_said g l used r x d ≡ Ok (Some v) → LeavesValue v (eats g l (record { scan = s; reading = r }) o)
-      said_so x e (Ok d) k h = token_value 2 o r x d (feed places.Top s o) (same_left places.Top s o x d refl plain e k) k h
+      said_so x e (Ok d) k h = token_value 2 o r x d (feed Place.Top s o) (same_left Place.Top s o x d refl plain e k) k h
       said_so x e (Err f) k h = absurd cc
 
-      go : (x : Result (Option Lexeme) Reason) → at_end places.Top s ≡ x → end_ready g l used r x ≡ Ok (Some v)
+      go : (x : Result (Option Lexeme) Reason) → at_end Place.Top s ≡ x → end_ready g l used r x ≡ Ok (Some v)
           → LeavesValue v (eats g l (record { scan = s; reading = r }) o)
       go (Ok None) e h = absurd (no_value g l (is_fresh r) used v h)
       go (Ok (Some x)) e h = said_so x e (said x.kind x.octets) refl h
@@ -324,13 +288,13 @@ module _ (g : Catalog) (l : Limits) where
   ends_value : (o : ℕ) (s : Known) (start : ℕ) (c : List Slot) (fs : List Frame) (ss : Symbols) (now : Now) (v : Value) → StandsSo g l s (at start c fs ss now)
       → ends g l (record { scan = s; reading = at start c fs ss now }) ≡ Ok (Some v)
       → LeavesValue v (eats g l (record { scan = s; reading = at start c fs ss now }) o)
-  ends_value o s start c fs ss (nows.Pending k e) v so h = waits_value g l s.used v o (record { scan = s; reading = at start c fs ss (nows.Pending k e) }) h
-  ends_value o s start c fs ss (nows.Long w e) v so h = waits_value g l s.used v o (record { scan = s; reading = at start c fs ss (nows.Long w e) }) h
-  ends_value o s start c fs ss nows.Ready v so h = ready_value g l s.used v o start c fs ss s so.1.0 so.0 h
-  ends_value o s start c fs ss (nows.LongName w) v so h = absurd so.1.1
-  ends_value o s start c fs ss nows.After v so h = absurd so.1.1
-  ends_value o s start c fs ss nows.Name v so h = absurd so.1.1
-  ends_value o s start c fs ss (nows.Keyed k) v so h = absurd so.1.1
+  ends_value o s start c fs ss (Now.Pending k e) v so h = waits_value g l s.used v o (record { scan = s; reading = at start c fs ss (Now.Pending k e) }) h
+  ends_value o s start c fs ss (Now.Long w e) v so h = waits_value g l s.used v o (record { scan = s; reading = at start c fs ss (Now.Long w e) }) h
+  ends_value o s start c fs ss Now.Ready v so h = ready_value g l s.used v o start c fs ss s so.1.0 so.0 h
+  ends_value o s start c fs ss (Now.LongName w) v so h = absurd so.1.1
+  ends_value o s start c fs ss Now.After v so h = absurd so.1.1
+  ends_value o s start c fs ss Now.Name v so h = absurd so.1.1
+  ends_value o s start c fs ss (Now.Keyed k) v so h = absurd so.1.1
 
 -- 2. So for whole runs.
 

@@ -1,72 +1,36 @@
 -- Where the end of the octets would give a value, the next octet isn't used to give one: what shows that a value has ended isn't part of it.
 use Rattle.std.proofs.Common.{◌≡◌, ℕ, zero, suc, ◌+◌, Bool, true, false, cond, ◌&&◌, not, nat_le, nat_lt, List, [], ◌∷◌, Result, Ok, Err, Option, Some, None, refl, sym, ap, ◌∙◌, subst, ◌⊎◌, inl, inr, if◌then◌else◌}
 use Rattle.std.specs.Prelude.{◌==◌, bytes_eq, codes}
-use Rattle.ion_model.specs.declared.value.Value.{Value}
-use Rattle.ion_model.specs.declared.value.Payload.{Payload}
+use Rattle.ion_text.specs.Names.{Action, Blob, Bracket, Catalog, Clob, Content, Effect, Frame, Given, Held, Id, Known, Left, Lexeme, Limits, Long, Mark, Mark', Mode, Next, Now, Number', Operator, Outcome, Payload, Place, Placed, Quoted, Reading, Reason, Refused, Setting, Short, Slot, Spot, State, Symbols, Token, TokenKind, Turn, TypedNull, Value, Word, acts, annotated, at, at_end, begun_at, behind_given, behind_left, beyond_depth, blob_ends, blob_of, cut, cut_short, end_of, end_ready, end_said, end_settled, end_turned, end_waiting, ended, ends_at, fails, feed, first_now, fresh, gives, go_to, goes, held_payload, held_symbol, is_fresh, is_idle, is_mark, is_table, is_top, late, leaves, next as next_context, noted, noticed, number_payload, on_long, on_octet, on_pending, on_ready, on_said, on_scan, on_settled, opened, opening, or_worse, paid, past, place, reaches, refuses, released, resolve, resolved, said, said_body, settle, shut, spot_at, system_slots, takes, tells, token_of, turn, turned, under, unsettled, uses, with_scan, within}
 use Rattle.ion_model.specs.declared.value.Payload.TheVariants as payloads
-use Rattle.ion_model.specs.Measures.{annotated}
-use Rattle.ion_model.specs.Kinds.{is_table}
-use Rattle.ion_atoms.specs.declared.refusal.Reason.{Reason}
-use Rattle.ion_atoms.specs.declared.refusal.Reason.TheVariants as reasons
-use Rattle.ion_symtab.specs.declared.limits.Limits.{Limits}
-use Rattle.ion_symtab.specs.declared.catalog.Catalog.{Catalog}
-use Rattle.ion_symtab.specs.Slots.{Slot, resolve, system_slots}
-use Rattle.ion_symtab.specs.Next.{next as next_context}
-use Rattle.ion_tokens.specs.declared.mode.Place.{Place}
-use Rattle.ion_tokens.specs.declared.mode.Mode.{Mode}
-use Rattle.ion_tokens.specs.declared.mode.Mode.TheVariants as modes
-use Rattle.ion_tokens.specs.declared.mode.Mark.{Mark}
-use Rattle.ion_tokens.specs.declared.mode.Mark.TheVariants as marks
-use Rattle.ion_tokens.specs.declared.mode.Action.{Action}
-use Rattle.ion_tokens.specs.declared.mode.Action.TheVariants as actions
-use Rattle.ion_tokens.specs.declared.mode.TokenKind.{TokenKind}
-use Rattle.ion_tokens.specs.declared.mode.TokenKind.TheVariants as kinds
-use Rattle.ion_tokens.specs.Blobs.{blob_of}
-use Rattle.ion_tokens.specs.Bodies.{Content, Word, Id, Quoted, Short, Long, Number', TypedNull, Operator, Clob, Blob, Mark'}
-use Rattle.ion_tokens.specs.Lexed.{Placed}
-use Rattle.ion_tokens.specs.machine.Table.{next, end_of}
-use Rattle.ion_tokens.specs.machine.Bounds.{is_idle}
-use Rattle.ion_tokens.specs.machine.Ahead.{is_mark}
-use Rattle.ion_tokens.specs.machine.Said.{said}
-use Rattle.ion_tokens.specs.machine.Scanning.{Known, Outcome, Next, Given, Left, Refused, acts, blob_ends, go_to, cut, past, feed, at_end, ends_at}
-use Rattle.ion_tokens.specs.Lexemes.{Lexeme}
-use Rattle.ion_text.specs.declared.state.Held.{Held}
-use Rattle.ion_text.specs.declared.state.Held.TheVariants as helds
-use Rattle.ion_text.specs.declared.state.Now.{Now}
-use Rattle.ion_text.specs.declared.state.Now.TheVariants as nows
-use Rattle.ion_text.specs.declared.state.Frame.{Frame}
-use Rattle.ion_text.specs.machine.EachToken.{Reading, Setting, Spot, Turn, goes, gives, refuses, late, Token, Symbols, at, fresh, under, spot_at, begun_at, place, settle, turn, within, turned, ended, paid, held_payload, held_symbol, released, resolved, opened, first_now, beyond_depth, opening, noted, on_ready, on_pending, on_long}
-use Rattle.ion_visiting.specs.Parts.{number_payload}
-use Rattle.ion_text.specs.machine.Passed.{said_body}
-use Rattle.ion_text.specs.machine.Run.{State, Effect, uses, tells, leaves, fails, is_top, is_fresh, shut, noticed, or_worse, token_of, with_scan, behind_given, behind_left, on_said, on_scan, on_settled, on_octet, unsettled, takes, end_settled, end_turned, end_said, end_waiting, end_ready, ends, cut_short, reaches}
-use Rattle.ion_text.specs.laws.reading.sound.StandsOpen.{NowStands, start_now}
-use Rattle.ion_text.specs.laws.reading.sound.Spans.{IsClose, IsTopNow, Spans, SettlesWithin, turn_spans, settle_spans}
-use Rattle.ion_text.specs.laws.reading.complete.Going.{mark_kind, closes_kind, settle_inside, InsideTurn}
-use Rattle.ion_text.specs.laws.reading.sound.Admits.{at_end_fine, late_never}
+use Rattle.ion_tokens.specs.machine.Table.{next}
 use Rattle.ion_tokens.specs.laws.ByRows.{by_rows_where}
-use Rattle.ion_visiting.specs.declared.bracket.Bracket.{Bracket}
-use Rattle.ion_visiting.specs.declared.bracket.Bracket.TheVariants as brackets
+use Rattle.ion_text.specs.machine.Run.{ends}
+use Rattle.ion_text.specs.laws.reading.complete.Going.{InsideTurn, closes_kind, mark_kind, settle_inside}
+use Rattle.ion_text.specs.laws.reading.sound.Admits.{at_end_fine, late_never}
+use Rattle.ion_text.specs.laws.reading.sound.Spans.{IsClose, IsTopNow, SettlesWithin, Spans, settle_spans, turn_spans}
+use Rattle.ion_text.specs.laws.reading.sound.StandsOpen.{NowStands, start_now}
 
 -- 1. What an octet does where neither a quoted text nor a lob is open, nor a brace that may begin a lob.
 
 -- neither a quoted text nor a lob is open, nor what may begin one
 abbrev pub is_plain : Mode → Bool
-is_plain modes.Quote = false
-is_plain (modes.Text s w) = false
-is_plain modes.Brace = false
-is_plain (modes.Lob l) = false
+is_plain Mode.Quote = false
+is_plain (Mode.Text s w) = false
+is_plain Mode.Brace = false
+is_plain (Mode.Lob l) = false
 is_plain _ = true
 
 abbrev pub is_opening : TokenKind → Bool
-is_opening (kinds.Mark marks.ListOpen) = true
-is_opening (kinds.Mark marks.SexpOpen) = true
-is_opening (kinds.Mark marks.FieldsOpen) = true
+is_opening (TokenKind.Mark Mark.ListOpen) = true
+is_opening (TokenKind.Mark Mark.SexpOpen) = true
+is_opening (TokenKind.Mark Mark.FieldsOpen) = true
 is_opening _ = false
 
 -- with the octet ends a mark alone, and before it none that opens a container
 abbrev plainly : Action → Bool
-plainly (actions.Give kind k) = is_mark kind
-plainly (actions.Before kind k m) = not (is_opening kind) && is_plain m
+plainly (Action.Give kind k) = is_mark kind
+plainly (Action.Before kind k m) = not (is_opening kind) && is_plain m
 plainly _ = true
 
 table_plainly : (p : Place) (colon : Bool) (m : Mode) (o : ℕ) → is_plain m ≡ true → plainly (next p colon m o) ≡ true
@@ -84,22 +48,22 @@ parts false false h = absurd cc
 parts true b h = absurd cc
 
 acts_plainly : (p : Place) (s : Known) (o : ℕ) (a : Action) → plainly a ≡ true → IsPlainly (acts p s o a)
-acts_plainly p s o (actions.Go m k) h = tt
-acts_plainly p s o (actions.Give kind k) h = h
-acts_plainly p s o (actions.Before kind k m) h = parts (is_opening kind) (is_plain m) h
-acts_plainly p s o actions.EndWord h = word ((o == 46) && bytes_eq s.kept (codes "null"))
+acts_plainly p s o (Action.Go m k) h = tt
+acts_plainly p s o (Action.Give kind k) h = h
+acts_plainly p s o (Action.Before kind k m) h = parts (is_opening kind) (is_plain m) h
+acts_plainly p s o Action.EndWord h = word ((o == 46) && bytes_eq s.kept (codes "null"))
   where
-    word : (b : Bool) → IsPlainly (cond b (Next (go_to s modes.KindName []))
-        (Left (cut s kinds.Word s.kept s.used) (past p kinds.Word modes.Blank [] s.used s.used)))
+    word : (b : Bool) → IsPlainly (cond b (Next (go_to s Mode.KindName []))
+        (Left (cut s TokenKind.Word s.kept s.used) (past p TokenKind.Word Mode.Blank [] s.used s.used)))
     word true = tt
     word false = (refl, refl)
-acts_plainly p s o (actions.Split n) h = (refl, refl)
-acts_plainly p s o actions.EndBlob h = blob (blob_of s.kept)
+acts_plainly p s o (Action.Split n) h = (refl, refl)
+acts_plainly p s o Action.EndBlob h = blob (blob_of s.kept)
   where
     blob : (b : Option (List ℕ)) → IsPlainly (blob_ends s b)
     blob None = tt
     blob (Some octets) = tt
-acts_plainly p s o (actions.Refuse e) h = tt
+acts_plainly p s o (Action.Refuse e) h = tt
 
 feed_plainly : (p : Place) (s : Known) (o : ℕ) → is_plain s.mode ≡ true → IsPlainly (feed p s o)
 feed_plainly p s o h = acts_plainly p s o (next p s.colon s.mode o) (table_plainly p s.colon s.mode o h)
@@ -107,15 +71,15 @@ feed_plainly p s o h = acts_plainly p s o (next p s.colon s.mode o) (table_plain
 -- a mark says that it is one
 mark_says : (k : TokenKind) (octets : List ℕ) (c : Content) → is_mark k ≡ true → said k octets ≡ Ok c → (m : Mark) × (c ≡ Mark' m)
 unfolding said
-mark_says (kinds.Mark m) octets c h e = (m, let f : Mark' m ≡ c = cc in sym f)
+mark_says (TokenKind.Mark m) octets c h e = (m, let f : Mark' m ≡ c = cc in sym f)
 mark_says _ octets c h e = absurd cc
 
-fields_say : (octets : List ℕ) (c : Content) → said (kinds.Mark marks.FieldsOpen) octets ≡ Ok c → c ≡ Mark' marks.FieldsOpen
+fields_say : (octets : List ℕ) (c : Content) → said (TokenKind.Mark Mark.FieldsOpen) octets ≡ Ok c → c ≡ Mark' Mark.FieldsOpen
 unfolding said
-fields_say octets c e = let f : Mark' marks.FieldsOpen ≡ c = cc in sym f
+fields_say octets c e = let f : Mark' Mark.FieldsOpen ≡ c = cc in sym f
 
 abbrev opens : Content → Bool
-opens (Mark' m) = is_opening (kinds.Mark m)
+opens (Mark' m) = is_opening (TokenKind.Mark m)
 opens _ = false
 
 said_opens : (k : TokenKind) (octets : List ℕ) (c : Content) → said k octets ≡ Ok c → is_opening k ≡ false → opens c ≡ false
@@ -153,7 +117,7 @@ Never (late e r) = Unit {0}
 within_stays : (item start end : ℕ) (t : Turn) → OpensNone t → OpensNone (within item start end t)
 within_stays item start end t h = go (nat_le end (start + item))
   where
-    go : (b : Bool) → OpensNone (if b then t else refuses reasons.ItemTooLong)
+    go : (b : Bool) → OpensNone (if b then t else refuses Reason.ItemTooLong)
     go true = h
     go false = tt
 
@@ -171,19 +135,19 @@ paid_stays setting spot ss (Ok q) = ended_stays setting spot (annotated ss q)
 paid_stays setting spot ss (Err e) = tt
 
 released_stays : (setting : Setting) (spot : Spot) (ss : Symbols) (h : Held) → OpensNone (released setting spot [] ss h)
-released_stays setting spot [] (helds.Version true s) = within_stays setting.limits.item spot.start spot.end (goes (fresh system_slots)) (refl, tt)
-released_stays setting spot [] (helds.Version false s) = tt
-released_stays setting spot [] (helds.Symbol s) = paid_stays setting spot [] (held_payload (helds.Symbol s))
-released_stays setting spot [] (helds.Null k) = paid_stays setting spot [] (held_payload (helds.Null k))
-released_stays setting spot [] (helds.Truth b) = paid_stays setting spot [] (held_payload (helds.Truth b))
-released_stays setting spot [] helds.Nan = tt
+released_stays setting spot [] (Held.Version true s) = within_stays setting.limits.item spot.start spot.end (goes (fresh system_slots)) (refl, tt)
+released_stays setting spot [] (Held.Version false s) = tt
+released_stays setting spot [] (Held.Symbol s) = paid_stays setting spot [] (held_payload (Held.Symbol s))
+released_stays setting spot [] (Held.Null k) = paid_stays setting spot [] (held_payload (Held.Null k))
+released_stays setting spot [] (Held.Truth b) = paid_stays setting spot [] (held_payload (Held.Truth b))
+released_stays setting spot [] Held.Nan = tt
 released_stays setting spot (s ∷ ss) h = paid_stays setting spot (s ∷ ss) (held_payload h)
 
 ready_stays : (setting : Setting) (spot : Spot) (ss : Symbols) (said : Content) → opens said ≡ false → OpensNone (on_ready setting spot [] ss said)
 ready_stays setting spot ss (Word w) i = (refl, tt)
 ready_stays setting spot ss (Id id) i = go (resolve spot.context id)
   where
-    go : (r : Result (Option (List ℕ)) Reason) → OpensNone (resolved r (λ s. goes (at spot.start spot.context [] ss (nows.Pending (helds.Symbol s) spot.end))))
+    go : (r : Result (Option (List ℕ)) Reason) → OpensNone (resolved r (λ s. goes (at spot.start spot.context [] ss (Now.Pending (Held.Symbol s) spot.end))))
     go (Ok s) = (refl, tt)
     go (Err e) = tt
 ready_stays setting spot ss (Quoted w) i = (refl, tt)
@@ -194,13 +158,13 @@ ready_stays setting spot ss (Number' n) i = ended_stays setting spot (annotated 
 ready_stays setting spot ss (Operator w) i = ended_stays setting spot (annotated ss (payloads.Symbol (Some w)))
 ready_stays setting spot ss (Clob w) i = ended_stays setting spot (annotated ss (payloads.Clob w))
 ready_stays setting spot ss (Blob w) i = ended_stays setting spot (annotated ss (payloads.Blob w))
-ready_stays setting spot ss (Mark' marks.ListOpen) i = absurd cc
-ready_stays setting spot ss (Mark' marks.SexpOpen) i = absurd cc
-ready_stays setting spot ss (Mark' marks.FieldsOpen) i = absurd cc
-ready_stays setting spot [] (Mark' marks.ListClose) i = tt
-ready_stays setting spot (s ∷ ss) (Mark' marks.ListClose) i = tt
-ready_stays setting spot [] (Mark' marks.SexpClose) i = tt
-ready_stays setting spot (s ∷ ss) (Mark' marks.SexpClose) i = tt
+ready_stays setting spot ss (Mark' Mark.ListOpen) i = absurd cc
+ready_stays setting spot ss (Mark' Mark.SexpOpen) i = absurd cc
+ready_stays setting spot ss (Mark' Mark.FieldsOpen) i = absurd cc
+ready_stays setting spot [] (Mark' Mark.ListClose) i = tt
+ready_stays setting spot (s ∷ ss) (Mark' Mark.ListClose) i = tt
+ready_stays setting spot [] (Mark' Mark.SexpClose) i = tt
+ready_stays setting spot (s ∷ ss) (Mark' Mark.SexpClose) i = tt
 ready_stays setting spot ss (Mark' _) i = tt
 
 noted_stays : (start : ℕ) (c : List Slot) (ss : Symbols) (s : Result (Option (List ℕ)) Reason) → OpensNone (noted start c [] ss s)
@@ -208,7 +172,7 @@ noted_stays start c ss (Ok s) = (refl, tt)
 noted_stays start c ss (Err e) = tt
 
 pending_stays : (start : ℕ) (c : List Slot) (ss : Symbols) (h : Held) (said : Content) → OpensNone (on_pending start c [] ss h said)
-pending_stays start c ss h (Mark' marks.Colons) = noted_stays start c ss (held_symbol h)
+pending_stays start c ss h (Mark' Mark.Colons) = noted_stays start c ss (held_symbol h)
 pending_stays start c ss h _ = tt
 
 long_stays : (spot : Spot) (ss : Symbols) (v : List ℕ) (said : Content) → OpensNone (on_long spot [] ss v said)
@@ -217,7 +181,7 @@ long_stays spot ss v _ = tt
 
 -- a struct is open
 abbrev braced : ℕ → List Slot → Symbols → Reading
-braced start c ss = at start c (opened brackets.Fields ss ∷ []) [] (first_now brackets.Fields)
+braced start c ss = at start c (opened Bracket.Fields ss ∷ []) [] (first_now Bracket.Fields)
 
 open_never : (bracket : Bracket) (depth start : ℕ) (c : List Slot) (ss : Symbols) → Never (opening bracket depth start c [] ss)
 open_never bracket depth start c ss = go bracket (nat_lt 0 depth)
@@ -225,18 +189,18 @@ open_never bracket depth start c ss = go bracket (nat_lt 0 depth)
     go : (bracket : Bracket) (b : Bool) → Never (if b then goes (at start c (opened bracket ss ∷ []) [] (first_now bracket)) else
         beyond_depth bracket (at start c (opened bracket ss ∷ []) [] (first_now bracket)))
     go bracket true = tt
-    go brackets.List false = tt
-    go brackets.Sexp false = tt
-    go brackets.Fields false = tt
+    go Bracket.List false = tt
+    go Bracket.Sexp false = tt
+    go Bracket.Fields false = tt
 
 ready_never : (setting : Setting) (spot : Spot) (ss : Symbols) (m : Mark) → Never (on_ready setting spot [] ss (Mark' m))
-ready_never setting spot ss marks.ListOpen = open_never brackets.List setting.limits.depth spot.start spot.context ss
-ready_never setting spot ss marks.SexpOpen = open_never brackets.Sexp setting.limits.depth spot.start spot.context ss
-ready_never setting spot ss marks.FieldsOpen = open_never brackets.Fields setting.limits.depth spot.start spot.context ss
-ready_never setting spot [] marks.ListClose = tt
-ready_never setting spot (s ∷ ss) marks.ListClose = tt
-ready_never setting spot [] marks.SexpClose = tt
-ready_never setting spot (s ∷ ss) marks.SexpClose = tt
+ready_never setting spot ss Mark.ListOpen = open_never Bracket.List setting.limits.depth spot.start spot.context ss
+ready_never setting spot ss Mark.SexpOpen = open_never Bracket.Sexp setting.limits.depth spot.start spot.context ss
+ready_never setting spot ss Mark.FieldsOpen = open_never Bracket.Fields setting.limits.depth spot.start spot.context ss
+ready_never setting spot [] Mark.ListClose = tt
+ready_never setting spot (s ∷ ss) Mark.ListClose = tt
+ready_never setting spot [] Mark.SexpClose = tt
+ready_never setting spot (s ∷ ss) Mark.SexpClose = tt
 ready_never setting spot ss _ = tt
 
 noted_never : (start : ℕ) (c : List Slot) (ss : Symbols) (s : Result (Option (List ℕ)) Reason) → Never (noted start c [] ss s)
@@ -244,42 +208,42 @@ noted_never start c ss (Ok s) = tt
 noted_never start c ss (Err e) = tt
 
 pending_never : (start : ℕ) (c : List Slot) (ss : Symbols) (h : Held) (m : Mark) → Never (on_pending start c [] ss h (Mark' m))
-pending_never start c ss h marks.Colons = noted_never start c ss (held_symbol h)
+pending_never start c ss h Mark.Colons = noted_never start c ss (held_symbol h)
 pending_never start c ss h _ = tt
 
 module _ (g : Catalog) (l : Limits) where
   turn_stays : (start : ℕ) (c : List Slot) (fs : List Frame) (ss : Symbols) (now : Now) (t : Token) → is_top fs ≡ true → IsTopNow now → opens t.said ≡ false
       → OpensNone (turn g l (at start c fs ss now) t)
   turn_stays start c (f ∷ fs) ss now t h i o = absurd cc
-  turn_stays start c [] ss nows.Ready t h i o = ready_stays (under g l) (spot_at t.end (begun_at start t.start [] ss) c) ss t.said o
-  turn_stays start c [] ss (nows.Pending k e) t h i o = pending_stays start c ss k t.said
-  turn_stays start c [] ss (nows.Long w e) t h i o = long_stays (spot_at t.end start c) ss w t.said
-  turn_stays start c [] ss nows.After t h i o = absurd i
-  turn_stays start c [] ss nows.Name t h i o = absurd i
-  turn_stays start c [] ss (nows.LongName w) t h i o = absurd i
-  turn_stays start c [] ss (nows.Keyed s) t h i o = absurd i
+  turn_stays start c [] ss Now.Ready t h i o = ready_stays (under g l) (spot_at t.end (begun_at start t.start [] ss) c) ss t.said o
+  turn_stays start c [] ss (Now.Pending k e) t h i o = pending_stays start c ss k t.said
+  turn_stays start c [] ss (Now.Long w e) t h i o = long_stays (spot_at t.end start c) ss w t.said
+  turn_stays start c [] ss Now.After t h i o = absurd i
+  turn_stays start c [] ss Now.Name t h i o = absurd i
+  turn_stays start c [] ss (Now.LongName w) t h i o = absurd i
+  turn_stays start c [] ss (Now.Keyed s) t h i o = absurd i
 
   mark_never : (start : ℕ) (c : List Slot) (fs : List Frame) (ss : Symbols) (now : Now) (begin end : ℕ) (m : Mark) → is_top fs ≡ true → IsTopNow now
       → Never (turn g l (at start c fs ss now) (record { start = begin; end = end; said = Mark' m }))
   mark_never start c (f ∷ fs) ss now begin end m h i = absurd cc
-  mark_never start c [] ss nows.Ready begin end m h i = ready_never (under g l) (spot_at end (begun_at start begin [] ss) c) ss m
-  mark_never start c [] ss (nows.Pending k e) begin end m h i = pending_never start c ss k m
-  mark_never start c [] ss (nows.Long w e) begin end m h i = tt
-  mark_never start c [] ss nows.After begin end m h i = absurd i
-  mark_never start c [] ss nows.Name begin end m h i = absurd i
-  mark_never start c [] ss (nows.LongName w) begin end m h i = absurd i
-  mark_never start c [] ss (nows.Keyed s) begin end m h i = absurd i
+  mark_never start c [] ss Now.Ready begin end m h i = ready_never (under g l) (spot_at end (begun_at start begin [] ss) c) ss m
+  mark_never start c [] ss (Now.Pending k e) begin end m h i = pending_never start c ss k m
+  mark_never start c [] ss (Now.Long w e) begin end m h i = tt
+  mark_never start c [] ss Now.After begin end m h i = absurd i
+  mark_never start c [] ss Now.Name begin end m h i = absurd i
+  mark_never start c [] ss (Now.LongName w) begin end m h i = absurd i
+  mark_never start c [] ss (Now.Keyed s) begin end m h i = absurd i
 
   settled_stays : (start : ℕ) (c : List Slot) (fs : List Frame) (ss : Symbols) (now : Now) → is_top fs ≡ true → IsTopNow now
       → OpensNone (settle g l (at start c fs ss now))
   settled_stays start c (f ∷ fs) ss now h i = absurd cc
-  settled_stays start c [] ss nows.Ready h i = (refl, tt)
-  settled_stays start c [] ss (nows.Pending k e) h i = released_stays (under g l) (spot_at e start c) ss k
-  settled_stays start c [] ss (nows.Long w e) h i = ended_stays (under g l) (spot_at e start c) (annotated ss (payloads.Str w))
-  settled_stays start c [] ss nows.After h i = absurd i
-  settled_stays start c [] ss nows.Name h i = absurd i
-  settled_stays start c [] ss (nows.LongName w) h i = absurd i
-  settled_stays start c [] ss (nows.Keyed s) h i = absurd i
+  settled_stays start c [] ss Now.Ready h i = (refl, tt)
+  settled_stays start c [] ss (Now.Pending k e) h i = released_stays (under g l) (spot_at e start c) ss k
+  settled_stays start c [] ss (Now.Long w e) h i = ended_stays (under g l) (spot_at e start c) (annotated ss (payloads.Str w))
+  settled_stays start c [] ss Now.After h i = absurd i
+  settled_stays start c [] ss Now.Name h i = absurd i
+  settled_stays start c [] ss (Now.LongName w) h i = absurd i
+  settled_stays start c [] ss (Now.Keyed s) h i = absurd i
 
 -- 3. What an octet does there: if a value comes, the octet isn't used.
 
@@ -300,7 +264,7 @@ module _ (g : Catalog) (l : Limits) where
   noticed_untold : (r : Reading) (s : Known) → IsUntold (noticed l r s)
   noticed_untold r s = go (shut r.now && not (is_idle s.mode)) (nat_le (reaches r.frames r s) l.item)
     where
-      go : (a b : Bool) → IsUntold (if a then fails reasons.Unexpected else (if b then uses (record { scan = s; reading = r }) else fails reasons.ItemTooLong))
+      go : (a b : Bool) → IsUntold (if a then fails Reason.Unexpected else (if b then uses (record { scan = s; reading = r }) else fails Reason.ItemTooLong))
       go true b = tt
       go false true = tt
       go false false = tt
@@ -363,65 +327,65 @@ blank_plain : (p : Place) (s : Known) → at_end p s ≡ Ok None → is_plain s.
 blank_plain p s h = go s.mode h
   where
     go : (m : Mode) → ends_at s (end_of p m) ≡ Ok None → is_plain m ≡ true
-    go modes.Quote e = absurd cc
-    go (modes.Text t w) e = absurd cc
-    go modes.Brace e = absurd cc
-    go (modes.Lob b) e = absurd cc
-    go modes.Blank e = refl
-    go modes.Slash e = refl
-    go modes.LineComment e = refl
-    go modes.BlockComment e = refl
-    go modes.BlockCommentStar e = refl
-    go modes.Colon e = refl
-    go modes.Word e = refl
-    go modes.KindName e = refl
-    go modes.Number e = refl
-    go modes.NumberSlash e = refl
-    go (modes.Operator x) e = refl
-    go modes.OperatorSlash e = refl
-    go (modes.Infinity n) e = refl
-    go modes.Quotes e = refl
+    go Mode.Quote e = absurd cc
+    go (Mode.Text t w) e = absurd cc
+    go Mode.Brace e = absurd cc
+    go (Mode.Lob b) e = absurd cc
+    go Mode.Blank e = refl
+    go Mode.Slash e = refl
+    go Mode.LineComment e = refl
+    go Mode.BlockComment e = refl
+    go Mode.BlockCommentStar e = refl
+    go Mode.Colon e = refl
+    go Mode.Word e = refl
+    go Mode.KindName e = refl
+    go Mode.Number e = refl
+    go Mode.NumberSlash e = refl
+    go (Mode.Operator x) e = refl
+    go Mode.OperatorSlash e = refl
+    go (Mode.Infinity n) e = refl
+    go Mode.Quotes e = refl
 
 abbrev kind_in : Result (Option Lexeme) Reason → TokenKind → TokenKind
 kind_in (Ok (Some x)) k = x.kind
 kind_in _ k = k
 
-token_plain : (p : Place) (s : Known) (x : Lexeme) → at_end p s ≡ Ok (Some x) → (is_plain s.mode ≡ true) ⊎ (x.kind ≡ kinds.Mark marks.FieldsOpen)
+token_plain : (p : Place) (s : Known) (x : Lexeme) → at_end p s ≡ Ok (Some x) → (is_plain s.mode ≡ true) ⊎ (x.kind ≡ TokenKind.Mark Mark.FieldsOpen)
 token_plain p s x h = go s.mode h
   where
-    go : (m : Mode) → ends_at s (end_of p m) ≡ Ok (Some x) → (is_plain m ≡ true) ⊎ (x.kind ≡ kinds.Mark marks.FieldsOpen)
-    go modes.Quote e = absurd cc
-    go (modes.Text t w) e = absurd cc
-    go modes.Brace e = inr (sym (ap (λ y. kind_in y x.kind) e))
-    go (modes.Lob b) e = absurd cc
-    go modes.Blank e = inl refl
-    go modes.Slash e = inl refl
-    go modes.LineComment e = inl refl
-    go modes.BlockComment e = inl refl
-    go modes.BlockCommentStar e = inl refl
-    go modes.Colon e = inl refl
-    go modes.Word e = inl refl
-    go modes.KindName e = inl refl
-    go modes.Number e = inl refl
-    go modes.NumberSlash e = inl refl
-    go (modes.Operator x) e = inl refl
-    go modes.OperatorSlash e = inl refl
-    go (modes.Infinity n) e = inl refl
-    go modes.Quotes e = inl refl
+    go : (m : Mode) → ends_at s (end_of p m) ≡ Ok (Some x) → (is_plain m ≡ true) ⊎ (x.kind ≡ TokenKind.Mark Mark.FieldsOpen)
+    go Mode.Quote e = absurd cc
+    go (Mode.Text t w) e = absurd cc
+    go Mode.Brace e = inr (sym (ap (λ y. kind_in y x.kind) e))
+    go (Mode.Lob b) e = absurd cc
+    go Mode.Blank e = inl refl
+    go Mode.Slash e = inl refl
+    go Mode.LineComment e = inl refl
+    go Mode.BlockComment e = inl refl
+    go Mode.BlockCommentStar e = inl refl
+    go Mode.Colon e = inl refl
+    go Mode.Word e = inl refl
+    go Mode.KindName e = inl refl
+    go Mode.Number e = inl refl
+    go Mode.NumberSlash e = inl refl
+    go (Mode.Operator x) e = inl refl
+    go Mode.OperatorSlash e = inl refl
+    go (Mode.Infinity n) e = inl refl
+    go Mode.Quotes e = inl refl
 
 -- what stands at the top level may stand there
 pub top_now : (c : List Slot) (fs : List Frame) (ss : Symbols) (ts : List Placed) (now : Now) → NowStands c fs ss ts now → is_top fs ≡ true → IsTopNow now
-top_now c fs ss ts nows.Ready h e = tt
-top_now c fs ss ts (nows.Pending k end) h e = tt
-top_now c fs ss ts (nows.Long w end) h e = tt
-top_now c [] ss ts nows.After h e = h.2
-top_now c [] ss ts nows.Name h e = h.1
-top_now c [] ss ts (nows.LongName w) h e = h.struct
-top_now c [] ss ts (nows.Keyed s) h e = h.struct
-top_now c (f ∷ fs) ss ts nows.After h e = absurd cc
-top_now c (f ∷ fs) ss ts nows.Name h e = absurd cc
-top_now c (f ∷ fs) ss ts (nows.LongName w) h e = absurd cc
-top_now c (f ∷ fs) ss ts (nows.Keyed s) h e = absurd cc
+top_now c fs ss ts Now.Ready h e = tt
+top_now c fs ss ts (Now.Pending k end) h e = tt
+top_now c fs ss ts (Now.Long w end) h e = tt
+top_now c [] ss ts Now.After h e = h.2
+top_now c [] ss ts Now.Name h e = h.1
+top_now c [] ss ts (Now.LongName w) h e = h.struct
+top_now c [] ss ts (Now.Keyed s) h e = h.struct
+top_now c (f ∷ fs) ss ts Now.After h e = absurd cc
+top_now c (f ∷ fs) ss ts Now.Name h e = absurd cc
+top_now c (f ∷ fs) ss ts (Now.LongName w) h e = absurd cc
+top_now c (f ∷ fs) ss ts (Now.Keyed s) h e = absurd cc
 
 abbrev IsGiven : Turn → Type 0
 IsGiven (gives v r) = Unit {0}
@@ -478,20 +442,20 @@ module _ (g : Catalog) (l : Limits) where
 
   -- a brace opens a struct
   brace_end : (used start : ℕ) (c : List Slot) (fs : List Frame) (ss : Symbols) (now : Now) (begin end : ℕ) (v : Value) → is_top fs ≡ true → IsTopNow now
-      → end_turned g l used (turn g l (at start c fs ss now) (record { start = begin; end = end; said = Mark' marks.FieldsOpen })) ≡ Ok (Some v) → ⊥
+      → end_turned g l used (turn g l (at start c fs ss now) (record { start = begin; end = end; said = Mark' Mark.FieldsOpen })) ≡ Ok (Some v) → ⊥
   brace_end used start c (f ∷ fs) ss now begin end v t i h = absurd cc
-  brace_end used start c [] ss nows.Ready begin end v t i h = go (nat_lt 0 l.depth) h
+  brace_end used start c [] ss Now.Ready begin end v t i h = go (nat_lt 0 l.depth) h
     where
-      go : (b : Bool) → end_turned g l used (if b then goes (braced (begun_at start begin [] ss) c ss) else late reasons.Depth
+      go : (b : Bool) → end_turned g l used (if b then goes (braced (begun_at start begin [] ss) c ss) else late Reason.Depth
           (braced (begun_at start begin [] ss) c ss)) ≡ Ok (Some v) → ⊥
       go true h = cc
       go false h = cc
-  brace_end used start c [] ss (nows.Pending k e) begin end v t i h = cc
-  brace_end used start c [] ss (nows.Long w e) begin end v t i h = cc
-  brace_end used start c [] ss nows.After begin end v t i h = i
-  brace_end used start c [] ss nows.Name begin end v t i h = i
-  brace_end used start c [] ss (nows.LongName w) begin end v t i h = i
-  brace_end used start c [] ss (nows.Keyed s) begin end v t i h = i
+  brace_end used start c [] ss (Now.Pending k e) begin end v t i h = cc
+  brace_end used start c [] ss (Now.Long w e) begin end v t i h = cc
+  brace_end used start c [] ss Now.After begin end v t i h = i
+  brace_end used start c [] ss Now.Name begin end v t i h = i
+  brace_end used start c [] ss (Now.LongName w) begin end v t i h = i
+  brace_end used start c [] ss (Now.Keyed s) begin end v t i h = i
 
   -- no container is open, and neither a quoted text nor a lob, nor what may begin one
   abbrev pub StandsSo : Known → Reading → Type 0
@@ -519,10 +483,10 @@ module _ (g : Catalog) (l : Limits) where
         top : is_top r.frames ≡ true
         top = token_top x c e k h
 
-        go : (is_plain s.mode ≡ true) ⊎ (x.kind ≡ kinds.Mark marks.FieldsOpen) → is_plain s.mode ≡ true
+        go : (is_plain s.mode ≡ true) ⊎ (x.kind ≡ TokenKind.Mark Mark.FieldsOpen) → is_plain s.mode ≡ true
         go (inl p) = p
         go (inr q) =
-            let says : c ≡ Mark' marks.FieldsOpen = fields_say x.octets c (subst (λ y. said y x.octets ≡ Ok c) q k) in
+            let says : c ≡ Mark' Mark.FieldsOpen = fields_say x.octets c (subst (λ y. said y x.octets ≡ Ok c) q k) in
             absurd (brace_end used r.start r.context r.frames r.notes r.now x.start x.end v top (ok top)
             (subst (λ y. end_turned g l used (turn g l r (token_of x y)) ≡ Ok (Some v)) says h))
 
@@ -549,12 +513,12 @@ module _ (g : Catalog) (l : Limits) where
   -- where the end gives a value, no container is open, and neither a quoted text nor a lob
   pub ends_so : (s : Known) (start : ℕ) (c : List Slot) (fs : List Frame) (ss : Symbols) (now : Now) (v : Value) → (is_top fs ≡ true → IsTopNow now)
       → ends g l (record { scan = s; reading = at start c fs ss now }) ≡ Ok (Some v) → StandsSo s (at start c fs ss now)
-  ends_so s start c fs ss (nows.Pending k e) v ok h = waits_so s.used s start c fs ss (nows.Pending k e) e v tt
-      (settle_spans g l start c fs ss (nows.Pending k e) 0 tt) h
-  ends_so s start c fs ss (nows.Long w e) v ok h = waits_so s.used s start c fs ss (nows.Long w e) e v tt (settle_spans g l start c fs ss (nows.Long w e) 0 tt)
+  ends_so s start c fs ss (Now.Pending k e) v ok h = waits_so s.used s start c fs ss (Now.Pending k e) e v tt
+      (settle_spans g l start c fs ss (Now.Pending k e) 0 tt) h
+  ends_so s start c fs ss (Now.Long w e) v ok h = waits_so s.used s start c fs ss (Now.Long w e) e v tt (settle_spans g l start c fs ss (Now.Long w e) 0 tt)
       h
-  ends_so s start c fs ss (nows.LongName w) v ok h = absurd cc
-  ends_so s start c fs ss nows.Ready v ok h = ready_so s.used s (at start c fs ss nows.Ready) v ok h
-  ends_so s start c fs ss nows.After v ok h = ready_so s.used s (at start c fs ss nows.After) v ok h
-  ends_so s start c fs ss nows.Name v ok h = ready_so s.used s (at start c fs ss nows.Name) v ok h
-  ends_so s start c fs ss (nows.Keyed k) v ok h = ready_so s.used s (at start c fs ss (nows.Keyed k)) v ok h
+  ends_so s start c fs ss (Now.LongName w) v ok h = absurd cc
+  ends_so s start c fs ss Now.Ready v ok h = ready_so s.used s (at start c fs ss Now.Ready) v ok h
+  ends_so s start c fs ss Now.After v ok h = ready_so s.used s (at start c fs ss Now.After) v ok h
+  ends_so s start c fs ss Now.Name v ok h = ready_so s.used s (at start c fs ss Now.Name) v ok h
+  ends_so s start c fs ss (Now.Keyed k) v ok h = ready_so s.used s (at start c fs ss (Now.Keyed k)) v ok h

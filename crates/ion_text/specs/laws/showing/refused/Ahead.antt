@@ -1,27 +1,18 @@
 -- An octet that doesn't go on behind a symbol, or behind a long string, and what follows it: no `::`, and no `''`.
 use Rattle.std.proofs.Common.{◌≡◌, ℕ, ◌+◌, ◌==◌, Bool, true, false, List, [], ◌∷◌, ◌++◌, length, refl, sym, ap, ◌∙◌, subst, append_assoc, append-nil, ◌⊎◌, inl, inr, if◌then◌else◌}
 use Rattle.std.specs.Prelude.{codes}
-use Rattle.ion_tokens.specs.declared.mode.Mode.TheVariants as modes
-use Rattle.ion_tokens.specs.declared.mode.Place.{Place}
-use Rattle.ion_tokens.specs.declared.mode.Style.TheVariants as styles
-use Rattle.ion_tokens.specs.declared.mode.Within.TheVariants as within
-use Rattle.ion_tokens.specs.declared.mode.TokenKind.TheVariants as kinds
-use Rattle.ion_tokens.specs.machine.Table.{before, go as go_on}
-use Rattle.ion_tokens.specs.machine.Bounds.{is_idle}
-use Rattle.ion_tokens.specs.machine.Ahead.{is_sane}
-use Rattle.ion_tokens.specs.machine.Scanning.{Known, Next, acts, feed, follow, run}
+use Rattle.ion_text.specs.Names.{BlankThen, Known, Mode, Next, Place, Style, TokenKind, Within, acts, before, feed, follow, followed, is_idle, is_sane, scan as run}
+use Rattle.ion_tokens.specs.machine.Table.{go as go_on}
 use Rattle.ion_tokens.proofs.complete.Moves.{at, blank}
 use Rattle.ion_tokens.proofs.complete.TakesBlanks.{passes_blank}
 use Rattle.ion_tokens.proofs.complete.Wholes.{run_behind}
-use Rattle.ion_text.specs.Grammar.{BlankThen}
-use Rattle.ion_text.specs.machine.Pieces.{followed}
 use Rattle.ion_text.specs.laws.reading.complete.Found.{next_is}
-use Rattle.ion_text.specs.laws.reading.sound.Held.{NoSegment, NoLongText}
-use Rattle.ion_text.specs.laws.reading.complete.Meets.{LongOn, is_long_text, follows_as}
+use Rattle.ion_text.specs.laws.reading.complete.Meets.{LongOn, follows_as, is_long_text}
+use Rattle.ion_text.specs.laws.reading.complete.Segments.{never}
+use Rattle.ion_text.specs.laws.reading.sound.Held.{NoLongText, NoSegment}
+use Rattle.ion_text.specs.laws.showing.refused.Halts.{NotColons}
 use Rattle.ion_text.specs.laws.showing.tokens.Cuts.{begun_kept, parts_meet}
 use Rattle.ion_text.specs.laws.showing.tokens.Firsts.{long_run}
-use Rattle.ion_text.specs.laws.showing.refused.Halts.{NotColons}
-use Rattle.ion_text.specs.laws.reading.complete.Segments.{never}
 
 -- a list's last item, where the list is parted
 pub last_parted : (xs : List ℕ) (o : ℕ) (zs ys : List ℕ) → xs ++ o ∷ [] ≡ zs ++ ys → ((ys ≡ []) × (zs ≡ xs ++ o ∷ []))
@@ -62,41 +53,41 @@ open_kept p (o ∷ os) s t h i e =
 
 module _ (p : Place) (k : ℕ) (since : List ℕ) (s : Known) (o : ℕ) (sane : is_sane s.mode ≡ true) where
   -- Such an octet isn't in the front of `::`, whatever follows.
-  pub octet_colons : run p since (at modes.Blank [] true k k) ≡ Next s → NotColons (feed p s o) → (following : List ℕ)
+  pub octet_colons : run p since (at Mode.Blank [] true k k) ≡ Next s → NotColons (feed p s o) → (following : List ℕ)
       → BlankThen (codes "::") (since ++ o ∷ following) → ⊥
   octet_colons ran not following (w, more, is, e) = by (parts_meet (since ++ o ∷ []) following (w ++ 58 ∷ []) (58 ∷ more) same)
     where
       same : (since ++ o ∷ []) ++ following ≡ (w ++ 58 ∷ []) ++ 58 ∷ more
       same = append_assoc since (o ∷ []) following ∙ (e ∙ (append_assoc w (codes "::") more ∙ sym (append_assoc w (58 ∷ []) (58 ∷ more))))
 
-      passed : (now : ℕ) × ((r : List ℕ) → run p (w ++ r) (at modes.Blank [] true k k) ≡ run p r (blank true now (k + length w)))
+      passed : (now : ℕ) × ((r : List ℕ) → run p (w ++ r) (at Mode.Blank [] true k k) ≡ run p r (blank true now (k + length w)))
       passed = passes_blank p true w is k k
 
       one : Known
-      one = at modes.Colon [] true (k + length w) (k + length w + 1)
+      one = at Mode.Colon [] true (k + length w) (k + length w + 1)
 
-      reached : run p (w ++ 58 ∷ []) (at modes.Blank [] true k k) ≡ Next one
+      reached : run p (w ++ 58 ∷ []) (at Mode.Blank [] true k k) ≡ Next one
       reached = passed.1 (58 ∷ [])
 
       -- where one colon at most has come
       within' : (z : List ℕ) → w ++ 58 ∷ [] ≡ (since ++ o ∷ []) ++ z → ⊥
       within' z f =
-          let m = run_parted p (since ++ o ∷ []) z (at modes.Blank [] true k k) one (ap (λ x. run p x (at modes.Blank [] true k k)) (sym f) ∙ reached) in
-          let fed = last_fed p since o (at modes.Blank [] true k k) s m.0 ran m.1 in
+          let m = run_parted p (since ++ o ∷ []) z (at Mode.Blank [] true k k) one (ap (λ x. run p x (at Mode.Blank [] true k k)) (sym f) ∙ reached) in
+          let fed = last_fed p since o (at Mode.Blank [] true k k) s m.0 ran m.1 in
           let begun : is_idle (m.0).mode ≡ false = subst NotColons fed not in
           never true (begun_kept p z m.0 one (follows_as p s o (Next m.0) sane fed).0 begun m.2) refl
 
       -- where both have
       beyond : (y : List ℕ) → since ≡ (w ++ 58 ∷ []) ++ y → (y ++ o ∷ []) ++ following ≡ 58 ∷ more → ⊥
       beyond [] f g =
-          let here : s ≡ one = next_is s one (sym ran ∙ (ap (λ x. run p x (at modes.Blank [] true k k)) (f ∙ append-nil (w ++ 58 ∷ [])) ∙ reached)) in
+          let here : s ≡ one = next_is s one (sym ran ∙ (ap (λ x. run p x (at Mode.Blank [] true k k)) (f ∙ append-nil (w ++ 58 ∷ [])) ∙ reached)) in
           let colon : o ≡ 58 = cc in
           let n = subst (λ x. NotColons (feed p one x)) colon (subst (λ x. NotColons (feed p x o)) here not) in
           let z : true ≡ false = n in cc
       beyond (a ∷ y) f g =
           let colon : a ≡ 58 = cc in
-          let r : run p (58 ∷ y) one ≡ Next s = sym (run_behind p (w ++ 58 ∷ []) (58 ∷ y) (at modes.Blank [] true k k) one reached)
-          ∙ (ap (λ x. run p x (at modes.Blank [] true k k)) (ap (λ x. (w ++ 58 ∷ []) ++ x ∷ y) (sym colon) ∙ sym f) ∙ ran) in
+          let r : run p (58 ∷ y) one ≡ Next s = sym (run_behind p (w ++ 58 ∷ []) (58 ∷ y) (at Mode.Blank [] true k k) one reached)
+          ∙ (ap (λ x. run p x (at Mode.Blank [] true k k)) (ap (λ x. (w ++ 58 ∷ []) ++ x ∷ y) (sym colon) ∙ sym f) ∙ ran) in
           given y r
         where
           given : (y : List ℕ) → run p (58 ∷ y) one ≡ Next s → ⊥
@@ -111,38 +102,38 @@ module _ (p : Place) (k : ℕ) (since : List ℕ) (s : Known) (o : ℕ) (sane : 
       ]
 
   -- Nor is one in the front of `''` that goes on with no long string.
-  pub octet_quotes : (colon : Bool) → run p since (at modes.Blank [] colon k k) ≡ Next s → NoSegment true (feed p s o) → is_long_text s.mode ≡ false
+  pub octet_quotes : (colon : Bool) → run p since (at Mode.Blank [] colon k k) ≡ Next s → NoSegment true (feed p s o) → is_long_text s.mode ≡ false
       → (following : List ℕ) → BlankThen (codes "''") (since ++ o ∷ following) → ⊥
   octet_quotes colon ran apart bare following (w, more, is, e) = by (parts_meet (since ++ o ∷ []) following (w ++ 39 ∷ []) (39 ∷ more) same)
     where
       same : (since ++ o ∷ []) ++ following ≡ (w ++ 39 ∷ []) ++ 39 ∷ more
       same = append_assoc since (o ∷ []) following ∙ (e ∙ (append_assoc w (codes "''") more ∙ sym (append_assoc w (39 ∷ []) (39 ∷ more))))
 
-      passed : (now : ℕ) × ((r : List ℕ) → run p (w ++ r) (at modes.Blank [] colon k k) ≡ run p r (blank colon now (k + length w)))
+      passed : (now : ℕ) × ((r : List ℕ) → run p (w ++ r) (at Mode.Blank [] colon k k) ≡ run p r (blank colon now (k + length w)))
       passed = passes_blank p colon w is k k
 
       one : Known
-      one = at modes.Quote [] colon (k + length w) (k + length w + 1)
+      one = at Mode.Quote [] colon (k + length w) (k + length w + 1)
 
       two : Known
-      two = at modes.Quotes [] colon (k + length w) (k + length w + 1 + 1)
+      two = at Mode.Quotes [] colon (k + length w) (k + length w + 1 + 1)
 
       long : Known
-      long = at (modes.Text styles.LongString within.Plain) [] colon (k + length w) (k + length w + 1 + 1 + 1)
+      long = at (Mode.Text Style.LongString Within.Plain) [] colon (k + length w) (k + length w + 1 + 1 + 1)
 
-      reached : run p (w ++ 39 ∷ []) (at modes.Blank [] colon k k) ≡ Next one
+      reached : run p (w ++ 39 ∷ []) (at Mode.Blank [] colon k k) ≡ Next one
       reached = passed.1 (39 ∷ [])
 
       within' : (z : List ℕ) → w ++ 39 ∷ [] ≡ (since ++ o ∷ []) ++ z → ⊥
       within' z f =
-          let m = run_parted p (since ++ o ∷ []) z (at modes.Blank [] colon k k) one (ap (λ x. run p x (at modes.Blank [] colon k k)) (sym f) ∙ reached) in
-          let fed = last_fed p since o (at modes.Blank [] colon k k) s m.0 ran m.1 in
+          let m = run_parted p (since ++ o ∷ []) z (at Mode.Blank [] colon k k) one (ap (λ x. run p x (at Mode.Blank [] colon k k)) (sym f) ∙ reached) in
+          let fed = last_fed p since o (at Mode.Blank [] colon k k) s m.0 ran m.1 in
           let opened : NoLongText (m.0).mode = subst (NoSegment true) fed apart in
           never true (open_kept p z m.0 one (follows_as p s o (Next m.0) sane fed).0 opened m.2).1 refl
 
       -- behind two quotes
       at_two : (b : Bool) → (o == 39) ≡ b → NoSegment true (acts p two o
-          (if b then go_on (modes.Text styles.LongString within.Plain) else before kinds.QuotedSymbol)) → ⊥
+          (if b then go_on (Mode.Text Style.LongString Within.Plain) else before TokenKind.QuotedSymbol)) → ⊥
       at_two true f h = let z : true ≡ false = h.1 in cc
       at_two false f h = let z : true ≡ false = h in cc
 
@@ -150,7 +141,7 @@ module _ (p : Place) (k : ℕ) (since : List ℕ) (s : Known) (o : ℕ) (sane : 
       in_text h = never (is_long_text s.mode) bare h
 
       third : (c : ℕ) (y : List ℕ) (b : Bool) → (c == 39) ≡ b
-          → follow (acts p two c (if b then go_on (modes.Text styles.LongString within.Plain) else before kinds.QuotedSymbol)) (λ t. run p y t) ≡ Next s → ⊥
+          → follow (acts p two c (if b then go_on (Mode.Text Style.LongString Within.Plain) else before TokenKind.QuotedSymbol)) (λ t. run p y t) ≡ Next s → ⊥
       third c y true f h = in_text (subst LongOn h (long_run p y long refl))
       third c y false f h = cc
 
@@ -160,14 +151,14 @@ module _ (p : Place) (k : ℕ) (since : List ℕ) (s : Known) (o : ℕ) (sane : 
 
       beyond : (y : List ℕ) → since ≡ (w ++ 39 ∷ []) ++ y → (y ++ o ∷ []) ++ following ≡ 39 ∷ more → ⊥
       beyond [] f g =
-          let here : s ≡ one = next_is s one (sym ran ∙ (ap (λ x. run p x (at modes.Blank [] colon k k)) (f ∙ append-nil (w ++ 39 ∷ [])) ∙ reached)) in
+          let here : s ≡ one = next_is s one (sym ran ∙ (ap (λ x. run p x (at Mode.Blank [] colon k k)) (f ∙ append-nil (w ++ 39 ∷ [])) ∙ reached)) in
           let quote : o ≡ 39 = cc in
-          let n : NoLongText modes.Quotes = subst (λ x. NoSegment true (feed p one x)) quote (subst (λ x. NoSegment true (feed p x o)) here apart) in
+          let n : NoLongText Mode.Quotes = subst (λ x. NoSegment true (feed p one x)) quote (subst (λ x. NoSegment true (feed p x o)) here apart) in
           let z : true ≡ false = n.1 in cc
       beyond (a ∷ y) f g =
           let quote : a ≡ 39 = cc in
-          behind_two y (sym (run_behind p (w ++ 39 ∷ []) (39 ∷ y) (at modes.Blank [] colon k k) one reached)
-          ∙ (ap (λ x. run p x (at modes.Blank [] colon k k)) (ap (λ x. (w ++ 39 ∷ []) ++ x ∷ y) (sym quote) ∙ sym f) ∙ ran))
+          behind_two y (sym (run_behind p (w ++ 39 ∷ []) (39 ∷ y) (at Mode.Blank [] colon k k) one reached)
+          ∙ (ap (λ x. run p x (at Mode.Blank [] colon k k)) (ap (λ x. (w ++ 39 ∷ []) ++ x ∷ y) (sym quote) ∙ sym f) ∙ ran))
 
       by : ((y : List ℕ) × (since ++ o ∷ [] ≡ (w ++ 39 ∷ []) ++ y) × (y ++ following ≡ 39 ∷ more))
           ⊎ ((z : List ℕ) × (w ++ 39 ∷ [] ≡ (since ++ o ∷ []) ++ z) × (z ++ 39 ∷ more ≡ following)) → ⊥

@@ -1,33 +1,19 @@
 -- Where an octet is refused and something waits, the tokens that it waits behind are the last of no piece that remains one.
 use Rattle.std.proofs.Common.{◌≡◌, ℕ, ◌+◌, ◌≤◌, Bool, true, false, ◌&&◌, ◌||◌, List, [], ◌∷◌, ◌++◌, refl, sym, ap, ◌∙◌, subst, append-nil, inl, inr, codes}
-use Rattle.ion_model.specs.declared.value.Value.{Value}
-use Rattle.ion_symtab.specs.declared.limits.Limits.{Limits}
-use Rattle.ion_symtab.specs.declared.catalog.Catalog.{Catalog}
-use Rattle.ion_tokens.specs.declared.mode.Place.{Place}
-use Rattle.ion_tokens.specs.declared.mode.Place.TheVariants as places
-use Rattle.ion_tokens.specs.machine.Ahead.{is_quoted}
-use Rattle.ion_tokens.specs.machine.Scanning.{Known, Outcome, Next, Given, Left, Refused, feed}
-use Rattle.ion_tokens.specs.Lexed.{Placed}
-use Rattle.ion_text.specs.declared.state.Held.{Held}
-use Rattle.ion_text.specs.declared.state.Now.{Now}
-use Rattle.ion_text.specs.declared.state.Now.TheVariants as nows
-use Rattle.ion_text.specs.declared.state.Frame.{Frame}
-use Rattle.ion_text.specs.Grammar.{BlankThen, Whole, ends_long}
-use Rattle.ion_text.specs.machine.EachToken.{Reading, Turn, goes, gives, refuses, late, place, place_in, settle}
-use Rattle.ion_text.specs.machine.Run.{in_segment, is_top, unsettled, waits, waits_now}
+use Rattle.ion_text.specs.Names.{BlankThen, Catalog, Frame, Given, Held, Known, Left, Limits, Next, Now, Outcome, Place, Placed, Reading, Refused, Turn, Value, Whole, ends_long, feed, gives, goes, in_segment, is_quoted, is_top, late, place, place_in, refuses, settle, unsettled, waits, waits_now}
 use Rattle.ion_text.specs.laws.reading.complete.Complete.{ends_behind, segments_long}
-use Rattle.ion_text.specs.laws.reading.sound.Held.{ApartAt}
-use Rattle.ion_text.specs.laws.reading.complete.Meets.{is_long_text}
-use Rattle.ion_text.specs.laws.reading.sound.StandsOpen.{LongFor, NowStands, end_of_now}
-use Rattle.ion_text.specs.laws.reading.sound.Spans.{IsWaiting, settle_spans}
 use Rattle.ion_text.specs.laws.reading.complete.Going.{Going, TurnEnds, going_ends, settled_bound}
+use Rattle.ion_text.specs.laws.reading.complete.Meets.{is_long_text}
 use Rattle.ion_text.specs.laws.reading.complete.Segments.{in_text}
-use Rattle.ion_text.specs.laws.showing.tokens.Cuts.{OpenBehind, behind_tokens}
-use Rattle.ion_text.specs.laws.showing.shown.Opened.{going_behind, inside_place, waits_there, no_colons, no_quotes}
-use Rattle.ion_text.specs.laws.showing.refused.Told.{given_colons, given_segment, left_quotes, long_fits, next_segment, text_quotes, waits_fits}
+use Rattle.ion_text.specs.laws.reading.sound.Held.{ApartAt}
+use Rattle.ion_text.specs.laws.reading.sound.Spans.{IsWaiting, settle_spans}
+use Rattle.ion_text.specs.laws.reading.sound.StandsOpen.{LongFor, NowStands, end_of_now}
 use Rattle.ion_text.specs.laws.showing.refused.Halting.{follows}
-use Rattle.ion_text.specs.laws.showing.refused.Halts.{Halted, TurnRefuses, ScanRefused, StopsAt}
+use Rattle.ion_text.specs.laws.showing.refused.Halts.{Halted, ScanRefused, StopsAt, TurnRefuses}
+use Rattle.ion_text.specs.laws.showing.refused.Told.{given_colons, given_segment, left_quotes, long_fits, next_segment, text_quotes, waits_fits}
 use Rattle.ion_text.specs.laws.showing.refused.Unended.{used, waited}
+use Rattle.ion_text.specs.laws.showing.shown.Opened.{going_behind, inside_place, no_colons, no_quotes, waits_there}
+use Rattle.ion_text.specs.laws.showing.tokens.Cuts.{OpenBehind, behind_tokens}
 
 module _ (g : Catalog) (l : Limits) (u : List ℕ) (o : ℕ) (vs : List Value) (h : Halted g l u o vs) (x : Placed) (xs : List Placed)
     (some : h.b.item ≡ x ∷ xs) where
@@ -48,7 +34,7 @@ module _ (g : Catalog) (l : Limits) (u : List ℕ) (o : ℕ) (vs : List Value) (
 
   module _ (following : List ℕ) (v rest : List ℕ) (t : List Value) (cut : u ≡ v ++ rest) (w : Whole g l v (rest ++ o ∷ following) t)
       (e : w.tokens ≡ h.b.front ++ h.b.item) where
-    there : IsWaiting g l r.now × (places.Top ≡ p)
+    there : IsWaiting g l r.now × (Place.Top ≡ p)
     there = waits_there g l u vs s r h.ahead A h.b (used g l u o vs h x xs some) x xs some (o ∷ following) (follows g l u o vs h following) v rest t cut w e
 
     none_open : r.frames ≡ []
@@ -81,23 +67,23 @@ module _ (g : Catalog) (l : Limits) (u : List ℕ) (o : ℕ) (vs : List Value) (
         e
 
     -- a symbol waits
-    module _ (q : Held) (end : ℕ) (now : r.now ≡ nows.Pending q end) where
-      waits_so : (y : Outcome) → feed p s o ≡ y → unsettled s r (feed p s o) ≡ true → waits_now (is_top r.frames) (nows.Pending q end) y ≡ true
-      waits_so y f i = sym (or_none (waits_now (is_top r.frames) (nows.Pending q end) y))
+    module _ (q : Held) (end : ℕ) (now : r.now ≡ Now.Pending q end) where
+      waits_so : (y : Outcome) → feed p s o ≡ y → unsettled s r (feed p s o) ≡ true → waits_now (is_top r.frames) (Now.Pending q end) y ≡ true
+      waits_so y f i = sym (or_none (waits_now (is_top r.frames) (Now.Pending q end) y))
           ∙ (sym (ap (λ n. waits_now (is_top r.frames) n y || in_segment n s) now) ∙ (sym (ap (unsettled s r) f) ∙ i))
         where
           or_none : (b : Bool) → (b || false) ≡ b
           or_none true = refl
           or_none false = refl
 
-      symbol_stops : (y : Outcome) → feed p s o ≡ y → waits_now (is_top r.frames) (nows.Pending q end) y ≡ true → ScanRefused g l r y → ⊥
+      symbol_stops : (y : Outcome) → feed p s o ≡ y → waits_now (is_top r.frames) (Now.Pending q end) y ≡ true → ScanRefused g l r y → ⊥
       symbol_stops (Next n) f i (z, m) = waits_fits l r n none_open q end now (subst (λ n. end_of_now n 0 ≤ r.start + l.item) now bound) z m
       symbol_stops (Given y n) f i m = let z = given_colons p k.colon k.end s k.since o k.holds y n f i in shuts_colons z.0 (z.1 following)
       symbol_stops (Left y n) f i m = absurd cc
       symbol_stops (Refused n z) f i m = absurd cc
 
     -- a long string does
-    module _ (q : List ℕ) (end : ℕ) (now : r.now ≡ nows.Long q end) where
+    module _ (q : List ℕ) (end : ℕ) (now : r.now ≡ Now.Long q end) where
       long_there : ends_long (h.b.front ++ h.b.item) ≡ true
       long_there =
           let d : LongFor r.context r.frames r.notes q h.b.item = subst (NowStands r.context r.frames r.notes h.b.item) now h.b.stands in
@@ -107,7 +93,7 @@ module _ (g : Catalog) (l : Limits) (u : List ℕ) (o : ℕ) (vs : List Value) (
       quoted true b i = i
       quoted false b i = absurd cc
 
-      waiting : (y : Outcome) → feed p s o ≡ y → waits_now (is_top r.frames) (nows.Long q end) y ≡ true → ScanRefused g l r y → ⊥
+      waiting : (y : Outcome) → feed p s o ≡ y → waits_now (is_top r.frames) (Now.Long q end) y ≡ true → ScanRefused g l r y → ⊥
       waiting (Next n) f i (z, m) = go (is_long_text n.mode) refl
         where
           go : (b : Bool) → is_long_text n.mode ≡ b → ⊥
@@ -133,7 +119,7 @@ module _ (g : Catalog) (l : Limits) (u : List ℕ) (o : ℕ) (vs : List Value) (
     ends_not (refuses z) i j = i
     ends_not (late z m) i j = i
 
-    fresh_not : r.now ≡ nows.Ready → ⊥
+    fresh_not : r.now ≡ Now.Ready → ⊥
     fresh_not i = subst (IsWaiting g l) i there.0
 
     settles_not : settle g l r ≡ goes r → ⊥
@@ -143,13 +129,13 @@ module _ (g : Catalog) (l : Limits) (u : List ℕ) (o : ℕ) (vs : List Value) (
     unsettled_stops i m = go r.now refl there.0
       where
         go : (n : Now) → r.now ≡ n → IsWaiting g l n → ⊥
-        go (nows.Pending q end) f j = symbol_stops q end f (feed p s o) refl (waits_so q end f (feed p s o) refl i) m
-        go (nows.Long q end) f j = long_stops q end f i m
-        go nows.Ready f j = j
-        go nows.After f j = j
-        go nows.Name f j = j
-        go (nows.LongName q) f j = j
-        go (nows.Keyed q) f j = j
+        go (Now.Pending q end) f j = symbol_stops q end f (feed p s o) refl (waits_so q end f (feed p s o) refl i) m
+        go (Now.Long q end) f j = long_stops q end f i m
+        go Now.Ready f j = j
+        go Now.After f j = j
+        go Now.Name f j = j
+        go (Now.LongName q) f j = j
+        go (Now.Keyed q) f j = j
 
     -- where something waits and the octet is refused, the tokens told end no piece that remains one
     pub item_end : ⊥

@@ -1,43 +1,22 @@
 -- Where an octet is refused: whatever waited is settled before it, and the octet comes again, up to what refuses it.
 use Rattle.std.proofs.Common.{◌≡◌, ℕ, zero, suc, Bool, true, false, ◌&&◌, ◌||◌, List, [], ◌∷◌, ◌++◌, Result, Ok, Err, refl, sym, ap, ◌∙◌, subst, append-nil, if◌then◌else◌, ◌⊎◌, inl, inr}
-use Rattle.ion_model.specs.declared.value.Value.{Value}
-use Rattle.ion_atoms.specs.declared.refusal.Reason.{Reason}
-use Rattle.ion_symtab.specs.declared.limits.Limits.{Limits}
-use Rattle.ion_symtab.specs.declared.catalog.Catalog.{Catalog}
-use Rattle.ion_tokens.specs.declared.mode.Mark.TheVariants as marks
-use Rattle.ion_tokens.specs.declared.mode.TokenKind.TheVariants as kinds
-use Rattle.ion_tokens.specs.machine.Bounds.{is_idle}
-use Rattle.ion_tokens.specs.machine.Ahead.{Follows, is_quoted, is_quoting}
-use Rattle.ion_tokens.specs.Places.{is_sexp}
-use Rattle.ion_tokens.specs.Bodies.{Content, Mark'}
-use Rattle.ion_tokens.specs.machine.Said.{said}
-use Rattle.ion_tokens.specs.machine.Scanning.{Known, Outcome, Next, Given, Left, Refused, feed}
-use Rattle.ion_tokens.specs.Lexemes.{Lexeme}
-use Rattle.ion_tokens.specs.machine.Scanned.{Scanned, Continues}
+use Rattle.ion_text.specs.Names.{Catalog, Content, Continues, Effect, Follows, Frame, Given, Known, Leading, Left, Lexeme, Limits, Mark, Mark', Next, Now, Outcome, Reading, Reason, Refused, Scanned, State, TokenKind, Turn, Value, at, behind_given, behind_left, ends_long, feed, gives, goes, in_segment, is_fresh, is_idle, is_quoted, is_quoting, is_sexp, is_top, late, on_octet, on_said, on_scan, on_settled, place, refuses, said, said_body, settle, settle_same, settle_still, takes, token_of, turn, unsettled, waits, waits_now, with_scan}
 use Rattle.ion_tokens.specs.laws.Follows.{feed_follows}
-use Rattle.ion_text.specs.declared.state.Now.{Now}
-use Rattle.ion_text.specs.declared.state.Now.TheVariants as nows
-use Rattle.ion_text.specs.declared.state.Frame.{Frame}
-use Rattle.ion_text.specs.Grammar.{ends_long}
-use Rattle.ion_text.specs.machine.EachToken.{Reading, Turn, goes, gives, refuses, late, at, place, settle, turn}
-use Rattle.ion_text.specs.machine.Run.{State, Effect, takes, waits, waits_now, in_segment, unsettled, on_octet, on_scan, on_settled, on_said, behind_given, behind_left, with_scan, token_of, is_top, is_fresh}
-use Rattle.ion_text.specs.machine.Places.{Leading, settle_same, settle_still}
-use Rattle.ion_text.specs.machine.Passed.{said_body}
-use Rattle.ion_text.specs.laws.reading.sound.StandsOpen.{IsStruct, NowStands}
-use Rattle.ion_text.specs.laws.reading.sound.Held.{Reads, ApartAt, NoLongText, IsLongNow, or_parts, settled_read}
-use Rattle.ion_text.specs.laws.reading.sound.Admits.{no_item}
+use Rattle.ion_text.specs.laws.reading.complete.Accepts.{mark_said}
+use Rattle.ion_text.specs.laws.reading.complete.Fuel.{NotLeaves, given_stays, noticed_stays, said_stays}
+use Rattle.ion_text.specs.laws.reading.complete.Going.{top_place}
 use Rattle.ion_text.specs.laws.reading.complete.Meets.{is_long_text}
 use Rattle.ion_text.specs.laws.reading.complete.Segments.{never, no_text}
 use Rattle.ion_text.specs.laws.reading.complete.Tokens.{quoting_left}
-use Rattle.ion_text.specs.laws.reading.complete.Going.{top_place}
-use Rattle.ion_text.specs.laws.reading.complete.Accepts.{mark_said}
-use Rattle.ion_text.specs.laws.reading.complete.Fuel.{NotLeaves, noticed_stays, given_stays, said_stays}
+use Rattle.ion_text.specs.laws.reading.sound.Admits.{no_item}
+use Rattle.ion_text.specs.laws.reading.sound.Held.{ApartAt, IsLongNow, NoLongText, Reads, or_parts, settled_read}
+use Rattle.ion_text.specs.laws.reading.sound.StandsOpen.{IsStruct, NowStands}
 use Rattle.ion_text.specs.laws.reading.sound.Steps.{Stood, open_at}
+use Rattle.ion_text.specs.laws.showing.refused.Halts.{Before, Chain, ChainsAgain, Enough, GaveBefore, Kept, NotColons, TurnRefuses, idle_colon, idle_no_text, mark_colons, quoting_no_text, scan_chain, symbol_colons, worse_chain}
 use Rattle.ion_text.specs.laws.showing.shown.Symbols.{HasBegun}
-use Rattle.ion_text.specs.laws.showing.tokens.Froms.{Waits, IsFree, fresh_parts, free_waits, settle_free}
 use Rattle.ion_text.specs.laws.showing.tokens.Cuts.{behind_tokens}
-use Rattle.ion_text.specs.laws.showing.tokens.Exacts.{exact_at, long_colon, behind_used, top_none}
-use Rattle.ion_text.specs.laws.showing.refused.Halts.{ChainsAgain, Before, Chain, TurnRefuses, Enough, GaveBefore, Kept, NotColons, idle_colon, idle_no_text, mark_colons, quoting_no_text, scan_chain, symbol_colons, worse_chain}
+use Rattle.ion_text.specs.laws.showing.tokens.Exacts.{behind_used, exact_at, long_colon, top_none}
+use Rattle.ion_text.specs.laws.showing.tokens.Froms.{IsFree, Waits, free_waits, fresh_parts, settle_free}
 
 module _ (g : Catalog) (l : Limits) where
   module _ (u : List ℕ) (o : ℕ) where
@@ -53,7 +32,7 @@ module _ (g : Catalog) (l : Limits) where
         record ShownAtTop : Type 0 where
           colons : is_top r.frames ≡ true → s.colon ≡ true → NotColons (feed (place r) s o)
           bare : is_top r.frames ≡ true → is_long_text s.mode ≡ false
-          colon : is_top r.frames ≡ true → (y : Lexeme) (t : Known) → feed (place r) s o ≡ Left y t → y.kind ≡ kinds.Mark marks.Colon
+          colon : is_top r.frames ≡ true → (y : Lexeme) (t : Known) → feed (place r) s o ≡ Left y t → y.kind ≡ TokenKind.Mark Mark.Colon
 
         settled : ShownAtTop → (z : Turn) → settle g l r ≡ z → Reads g l Scanned u vs s ahead (λ n. ApartAt o s n) z
             → Leading g l (λ n. (place n ≡ place r) × (is_top n.frames ≡ is_top r.frames)) z
@@ -117,8 +96,8 @@ module _ (g : Catalog) (l : Limits) where
         quoted true false a b h = cc
         quoted false q a b h = cc
 
-        long_shows : (w : List ℕ) (end : ℕ) → r.now ≡ nows.Long w end → (i q : Bool) → is_idle s.mode ≡ i → is_quoting s.mode ≡ q → (i || q) ≡ true
-            → is_top r.frames ≡ true → (y : Lexeme) (t : Known) → feed (place r) s o ≡ Left y t → y.kind ≡ kinds.Mark marks.Colon
+        long_shows : (w : List ℕ) (end : ℕ) → r.now ≡ Now.Long w end → (i q : Bool) → is_idle s.mode ≡ i → is_quoting s.mode ≡ q → (i || q) ≡ true
+            → is_top r.frames ≡ true → (y : Lexeme) (t : Known) → feed (place r) s o ≡ Left y t → y.kind ≡ TokenKind.Mark Mark.Colon
         long_shows w end e true q f h k top y t x = idle_colon g l u o vs (place r) s f (not_sexp top) y t x
         long_shows w end e false true f h k top y t x =
             let d = behind_tokens (place r) s u (b.front ++ b.item) ahead b.scanned in
@@ -135,20 +114,20 @@ module _ (g : Catalog) (l : Limits) where
             same m e f = subst (λ m. settle g l (at r.start r.context r.frames r.notes m) ≡ goes (at r.start r.context r.frames r.notes m)) (sym e) f
 
             go : (m : Now) → r.now ≡ m → Chain g l u o vs (on_settled g l (λ k. takes g l n k o) s (feed (place r) s o) (settle g l r))
-            go (nows.Pending k end) e =
+            go (Now.Pending k end) e =
                 waited (record {
                   colons = λ top c. symbol_colons (feed (place r) s o) (sym (ap (λ m. waits_now (is_top r.frames) m (feed (place r) s o)) e) ∙ not_waiting);
                   bare = λ top. idle_no_text s.mode (subst (Waits g l s) e (kept.waits top));
                   colon = λ top. idle_colon g l u o vs (place r) s (subst (Waits g l s) e (kept.waits top)) (not_sexp top);
                 })
-            go (nows.Long w end) e =
+            go (Now.Long w end) e =
                 waited (record {
                   colons = λ top c. absurd (never s.colon (long_colon g l u vs s r ahead (ApartAt o s r) b (behind_used g l u vs s r ahead (ApartAt o s r) b) w
                       end e (top_none r.frames top)) c);
                   bare = λ top. no_text s w end (subst (λ m. in_segment m s ≡ false) e (or_parts (waits r (feed (place r) s o)) (in_segment r.now s) shut).1);
                   colon = λ top. long_shows w end e (is_idle s.mode) (is_quoting s.mode) refl refl (subst (Waits g l s) e (kept.waits top)) top;
                 })
-            go (nows.LongName w) e =
+            go (Now.LongName w) e =
                 let d = (subst (λ m. NowStands r.context r.frames r.notes b.item m) e b.stands).struct in
                 waited (record {
                   colons = λ top c. absurd (inside r.frames d top);
@@ -156,10 +135,10 @@ module _ (g : Catalog) (l : Limits) where
                   colon =
                       λ top. absurd (inside r.frames d top);
                 })
-            go nows.Ready e = still (same nows.Ready e refl)
-            go nows.After e = still (same nows.After e refl)
-            go nows.Name e = still (same nows.Name e refl)
-            go (nows.Keyed k) e = still (same (nows.Keyed k) e refl)
+            go Now.Ready e = still (same Now.Ready e refl)
+            go Now.After e = still (same Now.After e refl)
+            go Now.Name e = still (same Now.Name e refl)
+            go (Now.Keyed k) e = still (same (Now.Keyed k) e refl)
 
       octet_chain : (n : ℕ) → ChainsAgain g l u o vs n → (s : Known) (r : Reading) (ahead : List ℕ) → Continues (o ∷ []) ahead
           → (b : Before g l u o vs s r ahead) → Kept g l u o vs s r ahead b → Enough (suc n) s o
@@ -211,7 +190,7 @@ module _ (g : Catalog) (l : Limits) where
     pub gives_once : (vs : List Value) (m : State) → GaveBefore g l u o vs m → NotLeaves g l (takes g l 3 m o)
     gives_once vs m h = octet (unsettled m.scan m.reading (feed (place m.reading) m.scan o))
       where
-        parts : (m.reading.frames ≡ []) × (m.reading.notes ≡ []) × (m.reading.now ≡ nows.Ready)
+        parts : (m.reading.frames ≡ []) × (m.reading.notes ≡ []) × (m.reading.now ≡ Now.Ready)
         parts = fresh_parts m.reading.start m.reading.context m.reading.frames m.reading.notes m.reading.now h.fresh
 
         ready : settle g l m.reading ≡ goes m.reading
@@ -221,18 +200,18 @@ module _ (g : Catalog) (l : Limits) where
         again : State → Effect
         again = λ k. takes g l 2 k o
 
-        colon : (y : Lexeme) (t : Known) (c : Content) → c ≡ Mark' marks.Colon → (now : Now) → m.reading.now ≡ now → now ≡ nows.Ready
+        colon : (y : Lexeme) (t : Known) (c : Content) → c ≡ Mark' Mark.Colon → (now : Now) → m.reading.now ≡ now → now ≡ Now.Ready
             → NotLeaves g l (behind_left again t (turn g l m.reading (token_of y c)))
-        colon y t c e nows.Ready f k =
+        colon y t c e Now.Ready f k =
             subst (λ n. NotLeaves g l (behind_left again t (turn g l (at m.reading.start m.reading.context m.reading.frames m.reading.notes n) (token_of y c))))
             (sym f)
-            (subst (λ z. NotLeaves g l (behind_left again t (turn g l (at m.reading.start m.reading.context m.reading.frames m.reading.notes nows.Ready)
+            (subst (λ z. NotLeaves g l (behind_left again t (turn g l (at m.reading.start m.reading.context m.reading.frames m.reading.notes Now.Ready)
             (token_of y z)))) (sym e) tt)
         colon y t c e _ f k = absurd cc
 
-        left : (y : Lexeme) (t : Known) → y.kind ≡ kinds.Mark marks.Colon → (c : Result Content Reason) → said y.kind y.octets ≡ c
+        left : (y : Lexeme) (t : Known) → y.kind ≡ TokenKind.Mark Mark.Colon → (c : Result Content Reason) → said y.kind y.octets ≡ c
             → NotLeaves g l (on_said c (λ c. behind_left again t (turn g l m.reading (token_of y c))))
-        left y t k (Ok c) e = colon y t c (mark_said y.kind y.octets marks.Colon c k (said_body y.kind y.octets c e)) m.reading.now refl parts.2
+        left y t k (Ok c) e = colon y t c (mark_said y.kind y.octets Mark.Colon c k (said_body y.kind y.octets c e)) m.reading.now refl parts.2
         left y t k (Err z) e = tt
 
         scanned : (x : Outcome) → feed (place m.reading) m.scan o ≡ x → NotLeaves g l (on_scan g l again m.reading x)

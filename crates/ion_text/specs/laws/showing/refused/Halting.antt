@@ -1,31 +1,20 @@
 -- Where an octet is refused: the whole pieces in front of it and of what follows, and octets behind it that show what has ended.
 use Rattle.std.proofs.Common.{◌≡◌, ℕ, ◌≤◌, Bool, List, [], ◌∷◌, ◌++◌, refl, ap, ◌∙◌, subst, arith, append-nil, ◌⊎◌, inl, inr}
-use Rattle.ion_atoms.specs.Octets.{AreOctets}
-use Rattle.ion_model.specs.declared.value.Value.{Value}
-use Rattle.ion_symtab.specs.declared.limits.Limits.{Limits}
-use Rattle.ion_symtab.specs.declared.catalog.Catalog.{Catalog}
-use Rattle.ion_tokens.specs.declared.mode.Mode.TheVariants as modes
-use Rattle.ion_tokens.specs.declared.mode.Place.{Place}
-use Rattle.ion_tokens.specs.machine.Scanning.{Known, Outcome, Next, Given, Left, Refused, feed, follow, run}
-use Rattle.ion_tokens.specs.Lexemes.{Lexeme}
-use Rattle.ion_tokens.proofs.histories.Escapes.{escape}
+use Rattle.ion_text.specs.Names.{AreOctets, Catalog, Continues, Given, Known, Left, Lexeme, Limits, Mode, Next, Outcome, Place, Reading, Refused, Scanned, Value, ends_long, feed, follow, is_top, place, scan as run}
 use Rattle.ion_tokens.proofs.complete.Moves.{at}
+use Rattle.ion_tokens.proofs.histories.Escapes.{escape}
 use Rattle.ion_tokens.proofs.runs.Runs.{feed_used}
-use Rattle.ion_tokens.proofs.sound.Sounds.{feed_sound}
 use Rattle.ion_tokens.proofs.sound.Holds.{Sound}
-use Rattle.ion_text.specs.machine.EachToken.{Reading, place}
-use Rattle.ion_text.specs.machine.Run.{is_top}
-use Rattle.ion_text.specs.laws.reading.sound.Held.{NoSegment, ApartAt, IsLongNow}
-use Rattle.ion_text.specs.laws.reading.sound.Admits.{no_item}
-use Rattle.ion_tokens.specs.machine.Scanned.{Scanned, Continues}
-use Rattle.ion_text.specs.Grammar.{ends_long}
+use Rattle.ion_tokens.proofs.sound.Sounds.{feed_sound}
 use Rattle.ion_text.specs.laws.reading.complete.Meets.{finely_as, one_given}
-use Rattle.ion_text.specs.laws.showing.tokens.Cuts.{OpenBehind, Is, behind_tokens}
-use Rattle.ion_text.specs.laws.showing.shown.Fronts.{Fronted, NoColonsFollow, NoQuotesFollow, continues, front_before}
-use Rattle.ion_text.specs.laws.showing.tokens.Froms.{fresh_parts}
-use Rattle.ion_text.specs.laws.showing.shown.Longest.{escaped}
-use Rattle.ion_text.specs.laws.showing.refused.Halts.{Halted}
+use Rattle.ion_text.specs.laws.reading.sound.Admits.{no_item}
+use Rattle.ion_text.specs.laws.reading.sound.Held.{ApartAt, IsLongNow, NoSegment}
 use Rattle.ion_text.specs.laws.showing.refused.Ahead.{octet_colons, octet_quotes}
+use Rattle.ion_text.specs.laws.showing.refused.Halts.{Halted}
+use Rattle.ion_text.specs.laws.showing.shown.Fronts.{Fronted, NoColonsFollow, NoQuotesFollow, continues, front_before}
+use Rattle.ion_text.specs.laws.showing.shown.Longest.{escaped}
+use Rattle.ion_text.specs.laws.showing.tokens.Cuts.{Is, OpenBehind, behind_tokens}
+use Rattle.ion_text.specs.laws.showing.tokens.Froms.{fresh_parts}
 
 module _ (g : Catalog) (l : Limits) (u : List ℕ) (o : ℕ) (vs : List Value) (h : Halted g l u o vs) where
   abbrev s : Known
@@ -42,7 +31,7 @@ module _ (g : Catalog) (l : Limits) (u : List ℕ) (o : ℕ) (vs : List Value) (
 
   no_colons : NoColonsFollow g l u vs s r h.ahead (o ∷ []) (ApartAt o s r) h.b h.next
   no_colons fresh c following b =
-      octet_colons p k.end k.since s o h.b.sane (subst (λ (x : Bool). run p k.since (at modes.Blank [] x k.end k.end) ≡ Next s) c k.reached)
+      octet_colons p k.end k.since s o h.b.sane (subst (λ (x : Bool). run p k.since (at Mode.Blank [] x k.end k.end) ≡ Next s) c k.reached)
       (h.kept.colons fresh (k.holds.flag ∙ c)) following b
 
   no_quotes : NoQuotesFollow g l u vs s r h.ahead (o ∷ []) (ApartAt o s r) h.b h.next

@@ -1,44 +1,22 @@
 -- An octet that is refused: what stands for the octets before it once it has ended tokens and values, and what refuses it there.
 use Rattle.std.proofs.Common.{◌≡◌, ℕ, zero, suc, Bool, true, false, List, [], ◌∷◌, ◌++◌, Result, Ok, Err, refl, sym, ap, ◌∙◌, subst, ◌⊎◌, inl, inr}
-use Rattle.ion_model.specs.declared.value.Value.{Value}
-use Rattle.ion_atoms.specs.declared.refusal.Reason.{Reason}
-use Rattle.ion_symtab.specs.declared.limits.Limits.{Limits}
-use Rattle.ion_symtab.specs.declared.catalog.Catalog.{Catalog}
-use Rattle.ion_tokens.specs.declared.mode.Mark.TheVariants as marks
-use Rattle.ion_tokens.specs.declared.mode.Mode.{Mode}
-use Rattle.ion_tokens.specs.declared.mode.Mode.TheVariants as modes
-use Rattle.ion_tokens.specs.declared.mode.Place.{Place}
-use Rattle.ion_tokens.specs.declared.mode.TokenKind.{TokenKind}
-use Rattle.ion_tokens.specs.declared.mode.TokenKind.TheVariants as kinds
-use Rattle.ion_tokens.specs.machine.Bounds.{is_idle}
-use Rattle.ion_tokens.specs.machine.Ahead.{IsUsed, is_sane, is_colons, is_mark, is_quoting, symbol_waits}
-use Rattle.ion_tokens.specs.Places.{is_sexp}
-use Rattle.ion_tokens.specs.Bodies.{Content}
-use Rattle.ion_tokens.specs.machine.Said.{said}
-use Rattle.ion_tokens.specs.machine.Scanning.{Known, Outcome, Next, Given, Left, Refused, feed}
-use Rattle.ion_tokens.specs.Lexemes.{Lexeme, takes_colon}
-use Rattle.ion_tokens.specs.machine.Scanned.{Scanned, Continues}
-use Rattle.ion_text.specs.Grammar.{ends_long}
-use Rattle.ion_text.specs.machine.EachToken.{Reading, Turn, goes, gives, refuses, late, place, settle, turn}
-use Rattle.ion_text.specs.machine.Run.{State, Effect, uses, tells, leaves, fails, takes, unsettled, noticed, on_scan, on_said, behind_given, behind_left, or_worse, with_scan, token_of, is_top, is_fresh}
-use Rattle.ion_text.specs.machine.Places.{Leading}
+use Rattle.ion_text.specs.Names.{Catalog, Content, Continues, Effect, Given, IsUsed, Known, Leading, Left, Lexeme, Limits, Mark, Mode, Next, Outcome, Place, Reading, Reason, Refused, Scanned, State, TokenKind, Turn, Value, behind_given, behind_left, ends_long, fails, feed, gives, goes, is_colons, is_fresh, is_idle, is_mark, is_quoting, is_sane, is_sexp, is_top, late, leaves, noticed, on_said, on_scan, or_worse, place, refuses, said, said_body, settle, symbol_waits, takes, takes_colon, tells, token_of, turn, unsettled, uses, with_scan}
+use Rattle.ion_text.specs.laws.reading.complete.Fuel.{Leaving, NotLeaves, Twice, UsedHere, UsedThen, feed_leaves, given_stays, noticed_stays, said_stays}
+use Rattle.ion_text.specs.laws.reading.complete.Going.{closes_kind, never_top, top_place}
+use Rattle.ion_text.specs.laws.reading.complete.Meets.{IdleLeft, finely_as, follows_as, idle_left, is_long_text}
+use Rattle.ion_text.specs.laws.reading.complete.Segments.{long_quoting, never}
+use Rattle.ion_text.specs.laws.reading.sound.Held.{ApartAt, Behind, Reads}
 use Rattle.ion_text.specs.laws.reading.sound.Quotes.{Fine, Finely, is_close}
-use Rattle.ion_text.specs.machine.Passed.{said_body}
 use Rattle.ion_text.specs.laws.reading.sound.Spans.{IsClose, Spans, turn_spans}
 use Rattle.ion_text.specs.laws.reading.sound.StandsOpen.{start_now}
-use Rattle.ion_text.specs.laws.reading.sound.Held.{Behind, Reads, ApartAt}
-use Rattle.ion_text.specs.laws.reading.complete.Meets.{IdleLeft, idle_left, is_long_text, follows_as, finely_as}
-use Rattle.ion_text.specs.laws.reading.complete.Segments.{never, long_quoting}
-use Rattle.ion_text.specs.laws.reading.complete.Going.{top_place, never_top, closes_kind}
-use Rattle.ion_text.specs.laws.reading.complete.Fuel.{UsedHere, Twice, UsedThen, Leaving, feed_leaves, NotLeaves, noticed_stays, given_stays, said_stays}
 use Rattle.ion_text.specs.laws.reading.sound.Steps.{left_reads}
 use Rattle.ion_text.specs.laws.showing.shown.Symbols.{colon_free}
-use Rattle.ion_text.specs.laws.showing.tokens.Froms.{Waits, fresh_parts, idle_waits}
 use Rattle.ion_text.specs.laws.showing.tokens.Cuts.{Keeps, feed_keeps}
+use Rattle.ion_text.specs.laws.showing.tokens.Froms.{Waits, fresh_parts, idle_waits}
 
 -- where no token has begun, no text of a long string is open
 pub idle_no_text : (m : Mode) → is_idle m ≡ true → is_long_text m ≡ false
-idle_no_text (modes.Text s w) h = absurd cc
+idle_no_text (Mode.Text s w) h = absurd cc
 idle_no_text _ h = refl
 
 -- where no quotes are open, no text of a long string is
@@ -57,7 +35,7 @@ NotColons _ = Unit {0}
 
 -- a token that is no mark is no `::`
 pub mark_colons : (k : TokenKind) → is_mark k ≡ false → is_colons k ≡ false
-mark_colons (kinds.Mark m) h = absurd cc
+mark_colons (TokenKind.Mark m) h = absurd cc
 mark_colons _ h = refl
 
 -- an octet for which no symbol waits doesn't go on behind one
@@ -126,7 +104,7 @@ module _ (g : Catalog) (l : Limits) where
       pub b : Before vs m.scan m.reading ahead
       pub kept : Kept vs m.scan m.reading ahead b
       pub fresh : is_fresh m.reading ≡ true
-      pub colon : (y : Lexeme) (t : Known) → feed (place m.reading) m.scan o ≡ Left y t → y.kind ≡ kinds.Mark marks.Colon
+      pub colon : (y : Lexeme) (t : Known) → feed (place m.reading) m.scan o ≡ Left y t → y.kind ≡ TokenKind.Mark Mark.Colon
 
     module _ (vs : List Value) where
       -- where the octet ends a value before it, or is refused, this is what stands for the octets then
@@ -184,10 +162,10 @@ module _ (g : Catalog) (l : Limits) where
 
       -- no token is open at the top level behind what was left, and what was left before a colon's octet is a colon
       pub idle_colon : (p : Place) (t : Known) → is_idle t.mode ≡ true → is_sexp p ≡ false → (y : Lexeme) (w : Known) → feed p t o ≡ Left y w
-          → y.kind ≡ kinds.Mark marks.Colon
+          → y.kind ≡ TokenKind.Mark Mark.Colon
       idle_colon p t i top y w e = by (subst (IdleLeft p t.used) e (idle_left p t o i))
         where
-          by : IdleLeft p t.used (Left y w) → y.kind ≡ kinds.Mark marks.Colon
+          by : IdleLeft p t.used (Left y w) → y.kind ≡ TokenKind.Mark Mark.Colon
           by (inl h) = h.0
           by (inr h) = absurd (never (is_sexp p) top h.1)
 

@@ -1,35 +1,25 @@
 -- What octets show up to one that is refused: the values given before it, and that which it showed to be whole.
 use Rattle.std.proofs.Common.{◌≡◌, ℕ, ◌+◌, ◌≤◌, Bool, true, false, List, [], ◌∷◌, ◌++◌, length, take, Result, Ok, Err, Some, refl, sym, ap, ◌∙◌, subst, arith, append_assoc, append-nil, ◌⊎◌, inl, inr, if◌then◌else◌}
-use Rattle.ion_model.specs.declared.value.Value.{Value}
-use Rattle.ion_atoms.specs.declared.refusal.Refusal.{Refusal}
-use Rattle.ion_symtab.specs.declared.limits.Limits.{Limits}
-use Rattle.ion_symtab.specs.declared.catalog.Catalog.{Catalog}
-use Rattle.ion_symtab.specs.Trace.{plain}
-use Rattle.ion_symtab.specs.Promises.{ArePieces, BeginsNone, Refuses, Shown}
-use Rattle.ion_tokens.specs.machine.Scanning.{start_of}
-use Rattle.ion_tokens.specs.Lexed.{Placed}
-use Rattle.ion_text.specs.Grammar.{Document, Whole}
-use Rattle.ion_text.specs.machine.Run.{State, Effect, uses, tells, leaves, fails, begun, eats, Run, run, run_on, once_more, trace}
-use Rattle.ion_text.specs.laws.reading.sound.Held.{ApartAt}
-use Rattle.ion_text.specs.machine.Pieces.{on_now}
-use Rattle.ion_text.specs.laws.reading.sound.Steps.{StoodBehind, run_ran, begun_stood}
-use Rattle.ion_text.specs.laws.reading.Stops.{Stop, behind_run, begins_none, refused_ends, refused_none, refused_run, stop_of, stop_taken, stop_within}
+use Rattle.ion_text.specs.Names.{ArePieces, BeginsNone, Catalog, Document, Effect, Limits, Placed, Refusal, Refuses, Run, Shown, State, Value, Whole, begun, eats, fails, leaves, on_now, once_more, plain, run, run_on, start_of, tells, trace, uses}
 use Rattle.ion_text.specs.laws.reading.Promises.{before_end, has_reasons}
+use Rattle.ion_text.specs.laws.reading.Stops.{Stop, begins_none, behind_run, refused_ends, refused_none, refused_run, stop_of, stop_taken, stop_within}
+use Rattle.ion_text.specs.laws.reading.complete.Fuel.{NotLeaves}
+use Rattle.ion_text.specs.laws.reading.sound.Held.{ApartAt}
+use Rattle.ion_text.specs.laws.reading.sound.Steps.{StoodBehind, begun_stood, run_ran}
 use Rattle.ion_text.specs.laws.showing.refused.Ahead.{last_parted}
-use Rattle.ion_text.specs.laws.showing.tokens.Alone.{whole_document}
 use Rattle.ion_text.specs.laws.showing.refused.Awaited.{item_end}
-use Rattle.ion_text.specs.laws.showing.tokens.Exacts.{behind_used}
-use Rattle.ion_text.specs.laws.showing.shown.Fronts.{Fronted, no_tokens}
-use Rattle.ion_text.specs.laws.showing.tokens.Froms.{EndsWaiting, run_waits}
-use Rattle.ion_text.specs.laws.showing.refused.Halting.{Chosen, chosen, follows, halted_front}
 use Rattle.ion_text.specs.laws.showing.refused.Chains.{again_chain, eats_chain, gives_once}
+use Rattle.ion_text.specs.laws.showing.refused.Halting.{Chosen, chosen, follows, halted_front}
 use Rattle.ion_text.specs.laws.showing.refused.Halts.{Chain, Halted}
+use Rattle.ion_text.specs.laws.showing.refused.Stuck.{fresh_left}
+use Rattle.ion_text.specs.laws.showing.refused.Unended.{item_left}
+use Rattle.ion_text.specs.laws.showing.shown.Fronts.{Fronted, no_tokens}
 use Rattle.ion_text.specs.laws.showing.shown.Longest.{longest_before}
 use Rattle.ion_text.specs.laws.showing.shown.Opened.{ends_before, new}
-use Rattle.ion_text.specs.laws.showing.refused.Stuck.{fresh_left}
 use Rattle.ion_text.specs.laws.showing.shown.Symbols.{EndsStill, HasBegun, run_still}
-use Rattle.ion_text.specs.laws.showing.refused.Unended.{item_left}
-use Rattle.ion_text.specs.laws.reading.complete.Fuel.{NotLeaves}
+use Rattle.ion_text.specs.laws.showing.tokens.Alone.{whole_document}
+use Rattle.ion_text.specs.laws.showing.tokens.Exacts.{behind_used}
+use Rattle.ion_text.specs.laws.showing.tokens.Froms.{EndsWaiting, run_waits}
 
 module _ (g : Catalog) (l : Limits) where
   module _ (u : List ℕ) (o : ℕ) (vs : List Value) (h : Halted g l u o vs) (none : BeginsNone (Document g l) (u ++ o ∷ [])) where

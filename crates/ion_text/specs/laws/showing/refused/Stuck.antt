@@ -1,35 +1,19 @@
 -- Where an octet is refused and no item is open, no whole pieces go on behind the tokens told before it.
 use Rattle.std.proofs.Common.{◌≡◌, ℕ, Bool, true, false, ◌&&◌, List, [], ◌∷◌, ◌++◌, Ok, refl, sym, ap, ◌∙◌, subst, append-nil, ◌⊎◌, inl, inr}
-use Rattle.ion_model.specs.declared.value.Value.{Value}
-use Rattle.ion_symtab.specs.declared.limits.Limits.{Limits}
-use Rattle.ion_symtab.specs.declared.catalog.Catalog.{Catalog}
-use Rattle.ion_symtab.specs.Slots.{Slot, system_slots}
-use Rattle.ion_tokens.specs.declared.mode.Mark.TheVariants as marks
-use Rattle.ion_tokens.specs.declared.mode.Place.{Place}
-use Rattle.ion_tokens.specs.machine.Ahead.{is_colons, is_quoted}
-use Rattle.ion_tokens.specs.Lexemes.{is_segment}
-use Rattle.ion_tokens.specs.Bodies.{Content, Long, Quoted, Mark', IsBody}
-use Rattle.ion_tokens.specs.machine.Said.{said}
-use Rattle.ion_tokens.specs.machine.Scanning.{Known, Left, feed}
-use Rattle.ion_tokens.specs.Lexed.{Placed}
-use Rattle.ion_text.specs.declared.state.Now.TheVariants as nows
-use Rattle.ion_text.specs.Grammar.{Whole, ends_long}
-use Rattle.ion_text.specs.machine.EachToken.{Reading, Turn, goes, gives, refuses, late, at, fresh, place, settle, turn}
-use Rattle.ion_text.specs.machine.Run.{is_top, is_fresh, token_of, unsettled}
-use Rattle.ion_text.specs.machine.TokenLists.{walked, done, on_turn, continues, reads}
-use Rattle.ion_text.specs.machine.Passed.{said_body}
-use Rattle.ion_text.specs.laws.reading.complete.Pieces.{ReadSoFar, GoesOn, pieces_read, quoted_kind, walked_now}
+use Rattle.ion_text.specs.Names.{Catalog, Content, IsBody, Known, Left, Limits, Long, Mark, Mark', Now, Place, Placed, Quoted, Reading, Slot, Turn, Value, Whole, at, continues, done, ends_long, feed, fresh, gives, goes, is_colons, is_fresh, is_quoted, is_segment, is_top, late, on_turn, place, reads, refuses, said, said_body, settle, system_slots, token_of, turn, unsettled}
+use Rattle.ion_text.specs.machine.TokenLists.{walked}
 use Rattle.ion_text.specs.laws.reading.complete.Complete.{segment_kind}
+use Rattle.ion_text.specs.laws.reading.complete.Going.{Going, TurnGoes, going_said, going_settle, going_turn, mark_kind}
 use Rattle.ion_text.specs.laws.reading.complete.Meets.{finely_as}
-use Rattle.ion_text.specs.laws.reading.complete.Going.{Going, TurnGoes, going_said, going_turn, going_settle, mark_kind}
-use Rattle.ion_text.specs.laws.reading.sound.Held.{NoSegment, ApartAt, IsLongNow}
+use Rattle.ion_text.specs.laws.reading.complete.Pieces.{GoesOn, ReadSoFar, pieces_read, quoted_kind, walked_now}
+use Rattle.ion_text.specs.laws.reading.complete.Segments.{never}
 use Rattle.ion_text.specs.laws.reading.complete.Tokens.{left_colons}
+use Rattle.ion_text.specs.laws.reading.sound.Held.{ApartAt, IsLongNow, NoSegment}
+use Rattle.ion_text.specs.laws.showing.refused.Halts.{Halted, ScanRefused, TurnRefuses}
 use Rattle.ion_text.specs.laws.showing.shown.Fronts.{no_tokens}
 use Rattle.ion_text.specs.laws.showing.tokens.Froms.{fresh_parts}
 use Rattle.ion_text.specs.laws.showing.tokens.Once.{whole_going}
 use Rattle.ion_text.specs.laws.showing.tokens.Walks.{behind_read}
-use Rattle.ion_text.specs.laws.showing.refused.Halts.{Halted, TurnRefuses, ScanRefused}
-use Rattle.ion_text.specs.laws.reading.complete.Segments.{never}
 
 module _ (g : Catalog) (l : Limits) where
   -- what refuses leads nowhere
@@ -59,11 +43,11 @@ module _ (g : Catalog) (l : Limits) where
 
     -- a token that was left goes on with nothing that was settled
     pub left_plain : (z : Placed) (t : Known) (c : Content) → feed p s o ≡ Left z.lexeme t → said z.lexeme.kind z.lexeme.octets ≡ Ok c
-        → (c ≡ Mark' marks.Colons → ⊥) × ((w : List ℕ) → c ≡ Long w → ⊥)
+        → (c ≡ Mark' Mark.Colons → ⊥) × ((w : List ℕ) → c ≡ Long w → ⊥)
     left_plain z t c e i =
         let body = said_body z.lexeme.kind z.lexeme.octets c i in (
           λ f. never (is_colons z.lexeme.kind) (left_colons p s t o z.lexeme h.b.sane e)
-              (ap is_colons (mark_kind z.lexeme.kind z.lexeme.octets marks.Colons (subst (λ y. IsBody z.lexeme.kind z.lexeme.octets (Ok y)) f body))),
+              (ap is_colons (mark_kind z.lexeme.kind z.lexeme.octets Mark.Colons (subst (λ y. IsBody z.lexeme.kind z.lexeme.octets (Ok y)) f body))),
           λ w f. never (is_segment z.lexeme.kind) (finely_as p s o (Left z.lexeme t) h.b.fine e).1
               (segment_kind z.lexeme.kind z.lexeme.octets w (subst (λ y. IsBody z.lexeme.kind z.lexeme.octets (Ok y)) f body)),
         )
@@ -74,7 +58,7 @@ module _ (g : Catalog) (l : Limits) where
       new : is_fresh r ≡ true
       new = (no_tokens g l u vs s r h.ahead (o ∷ []) (ApartAt o s r) h.b h.next none).0
 
-      parts : (r.frames ≡ []) × (r.notes ≡ []) × (r.now ≡ nows.Ready)
+      parts : (r.frames ≡ []) × (r.notes ≡ []) × (r.now ≡ Now.Ready)
       parts = fresh_parts r.start r.context r.frames r.notes r.now new
 
       d : ReadSoFar g l h.b.front vs r.context
@@ -99,7 +83,7 @@ module _ (g : Catalog) (l : Limits) where
       says : said z.lexeme.kind z.lexeme.octets ≡ Ok c
       says = (going_said g l d.now z zs all going).2
 
-      plain : (c ≡ Mark' marks.Colons → ⊥) × ((w : List ℕ) → c ≡ Long w → ⊥)
+      plain : (c ≡ Mark' Mark.Colons → ⊥) × ((w : List ℕ) → c ≡ Long w → ⊥)
       plain = left_plain z k c left says
 
       -- behind a long string it is no `''`
@@ -122,7 +106,7 @@ module _ (g : Catalog) (l : Limits) where
       settles : continues d.now (token_of z.lexeme c) ≡ false
       settles = go (continues d.now (token_of z.lexeme c)) refl
         where
-          none' : (c ≡ Mark' marks.Colons) ⊎ ((ends_long h.b.front ≡ true) × GoesOn (token_of z.lexeme c)) → ⊥
+          none' : (c ≡ Mark' Mark.Colons) ⊎ ((ends_long h.b.front ≡ true) × GoesOn (token_of z.lexeme c)) → ⊥
           none' (inl f) = plain.0 f
           none' (inr (long, inl (x, f))) = plain.1 x f
           none' (inr (long, inr (x, f, n))) = unquoted long x f
@@ -137,7 +121,7 @@ module _ (g : Catalog) (l : Limits) where
       turned : TurnGoes g l (turn g l (fresh r.context) (token_of z.lexeme c)) zs on.0
       turned = going_turn g l (fresh r.context) z zs on.0 c on.1 says (inr refl)
 
-      whole_reading : r ≡ at r.start r.context [] [] nows.Ready
+      whole_reading : r ≡ at r.start r.context [] [] Now.Ready
       whole_reading = ap (λ x. at r.start r.context x r.notes r.now) parts.0
           ∙ (ap (λ x. at r.start r.context [] x r.now) parts.1 ∙ ap (λ x. at r.start r.context [] [] x) parts.2)
 

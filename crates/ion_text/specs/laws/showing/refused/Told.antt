@@ -2,37 +2,16 @@
 use Rattle.std.proofs.Common.{◌≡◌, ℕ, ◌+◌, ◌-◌, ◌≤◌, nat_le, Bool, true, false, ◌&&◌, not, List, [], ◌∷◌, ◌++◌, Some, None, refl, sym, ap, ◌∙◌, subst, arith, append_assoc, append-nil, if◌then◌else◌}
 use Rattle.std.specs.Prelude.{codes}
 use Rattle.std.proofs.lemmas.Bool.Decides.{nat_tests}
-use Rattle.ion_atoms.specs.declared.refusal.Reason.{Reason}
-use Rattle.ion_atoms.specs.declared.refusal.Reason.TheVariants as reasons
-use Rattle.ion_symtab.specs.declared.limits.Limits.{Limits}
-use Rattle.ion_tokens.specs.declared.mode.Mark.TheVariants as marks
-use Rattle.ion_tokens.specs.declared.mode.Mode.{Mode}
-use Rattle.ion_tokens.specs.declared.mode.Mode.TheVariants as modes
-use Rattle.ion_tokens.specs.declared.mode.Place.{Place}
-use Rattle.ion_tokens.specs.declared.mode.Style.TheVariants as styles
-use Rattle.ion_tokens.specs.declared.mode.TokenKind.{TokenKind}
-use Rattle.ion_tokens.specs.declared.mode.TokenKind.TheVariants as kinds
-use Rattle.ion_tokens.specs.machine.Bounds.{is_idle}
-use Rattle.ion_tokens.specs.machine.Ahead.{is_colons, is_quoted, is_quoting}
-use Rattle.ion_tokens.specs.machine.Views.{behind, begun_in, form_of}
-use Rattle.ion_tokens.specs.Blanks.{IsBlank}
-use Rattle.ion_tokens.specs.machine.Scanning.{Known, Next, Given, Left, feed}
-use Rattle.ion_tokens.specs.Lexemes.{Lexeme, is_segment}
+use Rattle.ion_text.specs.Names.{BlankThen, Frame, Given, IsBlank, Known, Left, Lexeme, Limits, Mark, Mode, Next, Now, Place, Reading, Reason, Style, Symbols, TokenKind, begun_in, behind, fails, feed, form_of, is_colons, is_idle, is_long_begun, is_quoted, is_quoting, is_segment, longest_top, noticed, reaches, shut, uses, with_scan}
 use Rattle.ion_tokens.specs.Lexed.{Passes}
 use Rattle.ion_tokens.proofs.sound.Holds.{Holds, InMode, IsTold, Sound}
 use Rattle.ion_tokens.proofs.sound.Sounds.{feed_sound}
-use Rattle.ion_text.specs.declared.state.Frame.{Frame}
-use Rattle.ion_text.specs.declared.state.Now.{Now}
-use Rattle.ion_text.specs.declared.state.Now.TheVariants as nows
-use Rattle.ion_text.specs.Grammar.{BlankThen}
-use Rattle.ion_text.specs.machine.EachToken.{Reading, Symbols}
-use Rattle.ion_text.specs.machine.Run.{fails, uses, is_long_begun, longest_top, noticed, reaches, shut, with_scan}
-use Rattle.ion_text.specs.laws.reading.sound.Quotes.{Fine}
-use Rattle.ion_text.specs.laws.reading.complete.Meets.{is_long_text, finely_as}
-use Rattle.ion_text.specs.laws.reading.complete.Tokens.{quoting_left}
-use Rattle.ion_text.specs.laws.showing.tokens.Exacts.{exact_at}
-use Rattle.ion_text.specs.laws.showing.shown.Opened.{colons_token, long_token, quoted_token, segment_is}
+use Rattle.ion_text.specs.laws.reading.complete.Meets.{finely_as, is_long_text}
 use Rattle.ion_text.specs.laws.reading.complete.Segments.{never}
+use Rattle.ion_text.specs.laws.reading.complete.Tokens.{quoting_left}
+use Rattle.ion_text.specs.laws.reading.sound.Quotes.{Fine}
+use Rattle.ion_text.specs.laws.showing.shown.Opened.{colons_token, long_token, quoted_token, segment_is}
+use Rattle.ion_text.specs.laws.showing.tokens.Exacts.{exact_at}
 
 -- octets behind a blank at the front of octets
 then_more : (octets front token x since more : List ℕ) → IsBlank front → since ≡ front ++ token → token ≡ octets ++ x → BlankThen octets (since ++ more)
@@ -50,31 +29,31 @@ pub text_quotes : (p : Place) (colon : Bool) (k : ℕ) (s : Known) (since more :
 text_quotes p colon k s since more h e = go s.mode e h.mode
   where
     go : (m : Mode) → is_long_text m ≡ true → InMode p colon k m s.kept s.start since → BlankThen (codes "''") (since ++ more)
-    go (modes.Text styles.LongString w) e i = then_more (codes "''") i.front i.token (39 ∷ (i.is).0) since more i.blank i.cut (i.is).2
-    go (modes.Text styles.ShortString w) e i = absurd cc
-    go (modes.Text styles.QuotedSymbol w) e i = absurd cc
-    go (modes.Text styles.ShortClob w) e i = absurd cc
-    go (modes.Text styles.LongClob w) e i = absurd cc
-    go modes.Blank e i = absurd cc
-    go modes.Slash e i = absurd cc
-    go modes.LineComment e i = absurd cc
-    go modes.BlockComment e i = absurd cc
-    go modes.BlockCommentStar e i = absurd cc
-    go modes.Colon e i = absurd cc
-    go modes.Word e i = absurd cc
-    go modes.KindName e i = absurd cc
-    go modes.Number e i = absurd cc
-    go modes.NumberSlash e i = absurd cc
-    go (modes.Operator x) e i = absurd cc
-    go modes.OperatorSlash e i = absurd cc
-    go (modes.Infinity n) e i = absurd cc
-    go modes.Quote e i = absurd cc
-    go modes.Quotes e i = absurd cc
-    go modes.Brace e i = absurd cc
-    go (modes.Lob x) e i = absurd cc
+    go (Mode.Text Style.LongString w) e i = then_more (codes "''") i.front i.token (39 ∷ (i.is).0) since more i.blank i.cut (i.is).2
+    go (Mode.Text Style.ShortString w) e i = absurd cc
+    go (Mode.Text Style.QuotedSymbol w) e i = absurd cc
+    go (Mode.Text Style.ShortClob w) e i = absurd cc
+    go (Mode.Text Style.LongClob w) e i = absurd cc
+    go Mode.Blank e i = absurd cc
+    go Mode.Slash e i = absurd cc
+    go Mode.LineComment e i = absurd cc
+    go Mode.BlockComment e i = absurd cc
+    go Mode.BlockCommentStar e i = absurd cc
+    go Mode.Colon e i = absurd cc
+    go Mode.Word e i = absurd cc
+    go Mode.KindName e i = absurd cc
+    go Mode.Number e i = absurd cc
+    go Mode.NumberSlash e i = absurd cc
+    go (Mode.Operator x) e i = absurd cc
+    go Mode.OperatorSlash e i = absurd cc
+    go (Mode.Infinity n) e i = absurd cc
+    go Mode.Quote e i = absurd cc
+    go Mode.Quotes e i = absurd cc
+    go Mode.Brace e i = absurd cc
+    go (Mode.Lob x) e i = absurd cc
 
-colons_is : (k : TokenKind) → is_colons k ≡ true → k ≡ kinds.Mark marks.Colons
-colons_is (kinds.Mark marks.Colons) h = refl
+colons_is : (k : TokenKind) → is_colons k ≡ true → k ≡ TokenKind.Mark Mark.Colons
+colons_is (TokenKind.Mark Mark.Colons) h = refl
 colons_is _ h = absurd cc
 
 module _ (p : Place) (colon : Bool) (k : ℕ) (s : Known) (since : List ℕ) (o : ℕ) (h : Holds p colon k s since) where
@@ -132,34 +111,34 @@ module _ (p : Place) (colon : Bool) (k : ℕ) (s : Known) (since : List ℕ) (o 
 
 -- where no segment has begun, what waits at the top level reaches to its last token
 long_reach : (start : ℕ) (t : Known) (w : List ℕ) (end : ℕ) (ss : Symbols) → is_long_text t.mode ≡ false
-    → longest_top start t.used (nows.Long w end) ss (begun_in t) (is_long_begun (begun_in t)) ≡ end - start
+    → longest_top start t.used (Now.Long w end) ss (begun_in t) (is_long_begun (begun_in t)) ≡ end - start
 long_reach start t w end ss h = go t.mode h
   where
-    go : (m : Mode) → is_long_text m ≡ false → longest_top start t.used (nows.Long w end) ss
+    go : (m : Mode) → is_long_text m ≡ false → longest_top start t.used (Now.Long w end) ss
         (if is_idle m then None else Some (record { start = t.start; end = t.used - behind m; form = form_of m }))
         (is_long_begun (if is_idle m then None else Some (record { start = t.start; end = t.used - behind m; form = form_of m }))) ≡ end - start
-    go (modes.Text styles.LongString w) e = absurd cc
-    go (modes.Text styles.ShortString w) e = refl
-    go (modes.Text styles.QuotedSymbol w) e = refl
-    go (modes.Text styles.ShortClob w) e = refl
-    go (modes.Text styles.LongClob w) e = refl
-    go modes.Blank e = refl
-    go modes.Slash e = refl
-    go modes.LineComment e = refl
-    go modes.BlockComment e = refl
-    go modes.BlockCommentStar e = refl
-    go modes.Colon e = refl
-    go modes.Word e = refl
-    go modes.KindName e = refl
-    go modes.Number e = refl
-    go modes.NumberSlash e = refl
-    go (modes.Operator x) e = refl
-    go modes.OperatorSlash e = refl
-    go (modes.Infinity n) e = refl
-    go modes.Quote e = refl
-    go modes.Quotes e = refl
-    go modes.Brace e = refl
-    go (modes.Lob x) e = refl
+    go (Mode.Text Style.LongString w) e = absurd cc
+    go (Mode.Text Style.ShortString w) e = refl
+    go (Mode.Text Style.QuotedSymbol w) e = refl
+    go (Mode.Text Style.ShortClob w) e = refl
+    go (Mode.Text Style.LongClob w) e = refl
+    go Mode.Blank e = refl
+    go Mode.Slash e = refl
+    go Mode.LineComment e = refl
+    go Mode.BlockComment e = refl
+    go Mode.BlockCommentStar e = refl
+    go Mode.Colon e = refl
+    go Mode.Word e = refl
+    go Mode.KindName e = refl
+    go Mode.Number e = refl
+    go Mode.NumberSlash e = refl
+    go (Mode.Operator x) e = refl
+    go Mode.OperatorSlash e = refl
+    go (Mode.Infinity n) e = refl
+    go Mode.Quote e = refl
+    go Mode.Quotes e = refl
+    go Mode.Brace e = refl
+    go (Mode.Lob x) e = refl
 
 module _ (l : Limits) (r : Reading) (t : Known) where
   -- what isn't shut, and within the limit, is noticed
@@ -169,21 +148,21 @@ module _ (l : Limits) (r : Reading) (t : Known) where
       fits : (a b : ℕ) → a ≤ b → nat_le a b ≡ true
       fits a b h = grind (arith, nat_tests)
 
-      go : (x y z : Bool) → x ≡ false → z ≡ true → (if x && y then fails reasons.Unexpected else
-          (if z then uses (with_scan t r) else fails reasons.ItemTooLong)) ≡ fails e → ⊥
+      go : (x y z : Bool) → x ≡ false → z ≡ true → (if x && y then fails Reason.Unexpected else
+          (if z then uses (with_scan t r) else fails Reason.ItemTooLong)) ≡ fails e → ⊥
       go false y true a b f = cc
       go true y z a b f = absurd cc
       go false y false a b f = absurd cc
 
   -- What waits at the top level, and ended within the limit, is refused at no octet that it waits for but in a segment.
-  pub waits_fits : r.frames ≡ [] → (h : _) (end : ℕ) → r.now ≡ nows.Pending h end → end ≤ r.start + l.item → (e : Reason) → noticed l r t ≡ fails e → ⊥
+  pub waits_fits : r.frames ≡ [] → (h : _) (end : ℕ) → r.now ≡ Now.Pending h end → end ≤ r.start + l.item → (e : Reason) → noticed l r t ≡ fails e → ⊥
   waits_fits top h end n fits e f =
       noticed_fits (ap shut n)
       (subst (λ (fs : List Frame). reaches fs r t ≤ l.item) (sym top)
       (subst (λ (m : Now). longest_top r.start t.used m r.notes (begun_in t) (is_long_begun (begun_in t)) ≤ l.item) (sym n) (omega (arith, fits)))) e f
 
   -- a long string that waits at the top level within the limit is refused at no octet outside its segments
-  pub long_fits : r.frames ≡ [] → (w : List ℕ) (end : ℕ) → r.now ≡ nows.Long w end → end ≤ r.start + l.item → is_long_text t.mode ≡ false → (e : Reason)
+  pub long_fits : r.frames ≡ [] → (w : List ℕ) (end : ℕ) → r.now ≡ Now.Long w end → end ≤ r.start + l.item → is_long_text t.mode ≡ false → (e : Reason)
       → noticed l r t ≡ fails e → ⊥
   long_fits top w end n fits text e f =
       noticed_fits (ap shut n)

@@ -1,49 +1,31 @@
 -- Where an octet is refused and an item is open, no whole pieces go on behind the tokens told before it.
 use Rattle.std.proofs.Common.{◌≡◌, ℕ, ◌≤◌, Bool, true, false, ◌||◌, List, [], ◌∷◌, ◌++◌, length, Ok, Some, refl, sym, ap, ◌∙◌, subst, arith, append_assoc, length-append, ◌⊎◌, inl, inr}
-use Rattle.ion_model.specs.declared.value.Value.{Value}
-use Rattle.ion_symtab.specs.declared.limits.Limits.{Limits}
-use Rattle.ion_symtab.specs.declared.catalog.Catalog.{Catalog}
-use Rattle.ion_tokens.specs.declared.mode.Mode.TheVariants as modes
-use Rattle.ion_tokens.specs.declared.mode.Place.{Place}
-use Rattle.ion_tokens.specs.Bodies.{Content}
-use Rattle.ion_tokens.specs.machine.Said.{said}
-use Rattle.ion_tokens.specs.machine.Scanning.{Known, Next, Left, feed, follow, run}
-use Rattle.ion_tokens.specs.Lexemes.{takes_colon}
-use Rattle.ion_tokens.specs.Lexed.{Placed, BeginsWith, LexesTo, colon_behind}
+use Rattle.ion_text.specs.Names.{BeginsWith, Catalog, Content, Frame, Known, Leading, Left, LexesTo, Limits, Mode, Next, Now, Place, Placed, Reading, Turn, Value, Whole, at, colon_behind, continues, continues_now, feed, follow, goes, in_segment, is_fresh, is_top, place, place_in, said, said_body, scan as run, settle, takes_colon, token_of, turn, unsettled, waits}
+use Rattle.ion_tokens.proofs.complete.Moves.{at as scanning}
 use Rattle.ion_tokens.proofs.histories.Histories.{begins_completes}
+use Rattle.ion_tokens.proofs.runs.Runs.{left_used}
 use Rattle.ion_tokens.proofs.sound.Holds.{IsTold, Sound}
 use Rattle.ion_tokens.proofs.sound.Sounds.{feed_sound}
-use Rattle.ion_tokens.proofs.complete.Moves.{at as scanning}
-use Rattle.ion_tokens.proofs.runs.Runs.{left_used}
-use Rattle.ion_text.specs.declared.state.Now.{Now}
-use Rattle.ion_text.specs.declared.state.Now.TheVariants as nows
-use Rattle.ion_text.specs.declared.state.Frame.{Frame}
-use Rattle.ion_text.specs.Grammar.{Whole}
-use Rattle.ion_text.specs.machine.EachToken.{Reading, Turn, goes, at, place, place_in, settle, turn}
-use Rattle.ion_text.specs.machine.Run.{in_segment, is_top, is_fresh, token_of, unsettled, waits}
-use Rattle.ion_text.specs.machine.TokenLists.{continues, continues_now}
-use Rattle.ion_text.specs.machine.Passed.{said_body}
-use Rattle.ion_text.specs.machine.Places.{Leading}
 use Rattle.ion_text.specs.laws.reading.complete.Complete.{starts}
-use Rattle.ion_text.specs.laws.reading.sound.Quotes.{Finely, is_close}
+use Rattle.ion_text.specs.laws.reading.complete.Going.{Going, InsideNext, Operators, TurnGoes, closed, closes_kind, going_said, going_settle, going_turn, inside_token, stays, top_place}
 use Rattle.ion_text.specs.laws.reading.complete.Meets.{finely_as}
-use Rattle.ion_text.specs.laws.reading.sound.StandsOpen.{NowStands}
-use Rattle.ion_text.specs.laws.reading.sound.Spans.{IsWaiting}
-use Rattle.ion_text.specs.laws.reading.complete.Going.{Going, InsideNext, Operators, TurnGoes, stays, closed, closes_kind, going_said, going_turn, going_settle, inside_token, top_place}
-use Rattle.ion_text.specs.laws.reading.sound.Held.{ApartAt}
-use Rattle.ion_text.specs.laws.reading.complete.Segments.{never, NotRefused, unsettled_waits}
+use Rattle.ion_text.specs.laws.reading.complete.Segments.{NotRefused, never, unsettled_waits}
 use Rattle.ion_text.specs.laws.reading.complete.Tokens.{left_agrees, left_colons, left_two}
-use Rattle.ion_text.specs.laws.showing.tokens.Froms.{Freed, waiting_freed}
-use Rattle.ion_text.specs.laws.showing.tokens.Cuts.{OpenBehind, Parted, behind_tokens, parted, parts_same}
+use Rattle.ion_text.specs.laws.reading.sound.Held.{ApartAt}
+use Rattle.ion_text.specs.laws.reading.sound.Quotes.{Finely, is_close}
+use Rattle.ion_text.specs.laws.reading.sound.Spans.{IsWaiting}
+use Rattle.ion_text.specs.laws.reading.sound.StandsOpen.{NowStands}
+use Rattle.ion_text.specs.laws.showing.refused.Halting.{follows}
+use Rattle.ion_text.specs.laws.showing.refused.Halts.{Halted, ScanRefused, StopsAt, TurnRefuses}
+use Rattle.ion_text.specs.laws.showing.refused.Stuck.{ends_goes}
+use Rattle.ion_text.specs.laws.showing.shown.Opened.{a as arrival, begins as item_begins, going_behind, inside_place, long, new as unfresh, ours, size, theirs}
 use Rattle.ion_text.specs.laws.showing.tokens.Compare.{Found', lexes_once}
+use Rattle.ion_text.specs.laws.showing.tokens.Cuts.{OpenBehind, Parted, behind_tokens, parted, parts_same}
+use Rattle.ion_text.specs.laws.showing.tokens.Exacts.{behind_used, exact_at, top_none}
+use Rattle.ion_text.specs.laws.showing.tokens.Froms.{Freed, waiting_freed}
+use Rattle.ion_text.specs.laws.showing.tokens.Inside.{closes_past, never_past}
 use Rattle.ion_text.specs.laws.showing.tokens.Once.{begins_lexed, whole_operators}
 use Rattle.ion_text.specs.laws.showing.tokens.Stays.{Arrived}
-use Rattle.ion_text.specs.laws.showing.shown.Opened.{a as arrival, new as unfresh, begins as item_begins, going_behind, inside_place, theirs, long, size, ours}
-use Rattle.ion_text.specs.laws.showing.tokens.Exacts.{behind_used, exact_at, top_none}
-use Rattle.ion_text.specs.laws.showing.tokens.Inside.{closes_past, never_past}
-use Rattle.ion_text.specs.laws.showing.refused.Halting.{follows}
-use Rattle.ion_text.specs.laws.showing.refused.Halts.{Halted, TurnRefuses, ScanRefused, StopsAt}
-use Rattle.ion_text.specs.laws.showing.refused.Stuck.{ends_goes}
 
 module _ (g : Catalog) (l : Limits) (u : List ℕ) (o : ℕ) (vs : List Value) (h : Halted g l u o vs) (x : Placed) (xs : List Placed)
     (some : h.b.item ≡ x ∷ xs) where
@@ -80,26 +62,26 @@ module _ (g : Catalog) (l : Limits) (u : List ℕ) (o : ℕ) (vs : List Value) (
   waited w = a.waited w h.b.ends ∙ ap (λ (n : ℕ). at n r.context r.frames r.notes r.now) started
 
   -- and to what settles to it where a value may come
-  ready : r.now ≡ nows.Ready → settle g l a.r ≡ goes r
+  ready : r.now ≡ Now.Ready → settle g l a.r ≡ goes r
   ready e =
-      a.ready e ∙ ap goes (ap (λ (n : ℕ). at n r.context r.frames r.notes nows.Ready) started ∙ ap (λ n. at r.start r.context r.frames r.notes n) (sym e))
+      a.ready e ∙ ap goes (ap (λ (n : ℕ). at n r.context r.frames r.notes Now.Ready) started ∙ ap (λ n. at r.start r.context r.frames r.notes n) (sym e))
 
   -- where something is open at the top level, it waits, or a value may come
-  top_now : is_top r.frames ≡ true → (r.now ≡ nows.Ready) ⊎ IsWaiting g l r.now
+  top_now : is_top r.frames ≡ true → (r.now ≡ Now.Ready) ⊎ IsWaiting g l r.now
   top_now top = go r.now refl
     where
       stands : (n : Now) → r.now ≡ n → NowStands r.context [] r.notes h.b.item n
       stands n e = subst (λ m. NowStands r.context [] r.notes h.b.item m) e
           (subst (λ fs. NowStands r.context fs r.notes h.b.item r.now) (top_none r.frames top) h.b.stands)
 
-      go : (n : Now) → r.now ≡ n → (r.now ≡ nows.Ready) ⊎ IsWaiting g l r.now
-      go nows.Ready e = inl e
-      go (nows.Pending q end) e = inr (subst (IsWaiting g l) (sym e) tt)
-      go (nows.Long w end) e = inr (subst (IsWaiting g l) (sym e) tt)
-      go nows.After e = absurd (stands nows.After e).2
-      go nows.Name e = absurd (stands nows.Name e).1
-      go (nows.LongName w) e = absurd (stands (nows.LongName w) e).struct
-      go (nows.Keyed q) e = absurd (stands (nows.Keyed q) e).struct
+      go : (n : Now) → r.now ≡ n → (r.now ≡ Now.Ready) ⊎ IsWaiting g l r.now
+      go Now.Ready e = inl e
+      go (Now.Pending q end) e = inr (subst (IsWaiting g l) (sym e) tt)
+      go (Now.Long w end) e = inr (subst (IsWaiting g l) (sym e) tt)
+      go Now.After e = absurd (stands Now.After e).2
+      go Now.Name e = absurd (stands Now.Name e).1
+      go (Now.LongName w) e = absurd (stands (Now.LongName w) e).struct
+      go (Now.Keyed q) e = absurd (stands (Now.Keyed q) e).struct
 
   -- the reading that tokens lead to is in a container where this one is
   inside : is_top r.frames ≡ false → is_top (a.r).frames ≡ false
@@ -154,7 +136,7 @@ module _ (g : Catalog) (l : Limits) (u : List ℕ) (o : ℕ) (vs : List Value) (
           by (inr (q, i)) = ends_goes g l (settle g l r) (z ∷ zs) on.0 i (going_settle g l r z zs on.0 d f says.2 (shut q))
 
       -- behind annotations the reading settles to itself
-      never_continues : r.now ≡ nows.Ready → is_top r.frames ≡ true → continues a.r (token_of z.lexeme d) ≡ true → ⊥
+      never_continues : r.now ≡ Now.Ready → is_top r.frames ≡ true → continues a.r (token_of z.lexeme d) ≡ true → ⊥
       never_continues now top q = go (a.r).now refl
         where
           led : (y : ℕ) → Leading g l (Freed g l y) (settle g l a.r) → ⊥
@@ -170,29 +152,29 @@ module _ (g : Catalog) (l : Limits) (u : List ℕ) (o : ℕ) (vs : List Value) (
           none : (m : Now) → (a.r).now ≡ m → continues_now (is_top (a.r).frames) m (token_of z.lexeme d) ≡ false → ⊥
           none m i f = never (continues a.r (token_of z.lexeme d)) (ap (λ m. continues_now (is_top (a.r).frames) m (token_of z.lexeme d)) i ∙ f) q
 
-          named : (y : List ℕ) → (a.r).now ≡ nows.LongName y → ⊥
+          named : (y : List ℕ) → (a.r).now ≡ Now.LongName y → ⊥
           named y i =
-              let settles : settle g l a.r ≡ goes (at (a.r).start (a.r).context (a.r).frames (a.r).notes (nows.Keyed (Some y))) =
+              let settles : settle g l a.r ≡ goes (at (a.r).start (a.r).context (a.r).frames (a.r).notes (Now.Keyed (Some y))) =
               ap (λ m. settle g l (at (a.r).start (a.r).context (a.r).frames (a.r).notes m)) i in
-              let same : goes r ≡ goes (at (a.r).start (a.r).context (a.r).frames (a.r).notes (nows.Keyed (Some y))) = sym (ready now) ∙ settles in
-              let keyed : nows.Ready ≡ nows.Keyed (Some y) = sym now ∙ ap (λ (m : Turn). now_in m) same in
+              let same : goes r ≡ goes (at (a.r).start (a.r).context (a.r).frames (a.r).notes (Now.Keyed (Some y))) = sym (ready now) ∙ settles in
+              let keyed : Now.Ready ≡ Now.Keyed (Some y) = sym now ∙ ap (λ (m : Turn). now_in m) same in
               cc
             where
               now_in : Turn → Now
               now_in (goes m) = m.now
-              now_in _ = nows.Ready
+              now_in _ = Now.Ready
 
           go : (m : Now) → (a.r).now ≡ m → ⊥
-          go (nows.Pending q' end) i = waiting (nows.Pending q' end) i tt
-          go (nows.Long y end) i = waiting (nows.Long y end) i tt
-          go (nows.LongName y) i = named y i
-          go nows.Ready i = none nows.Ready i refl
-          go nows.After i = none nows.After i refl
-          go nows.Name i = none nows.Name i refl
-          go (nows.Keyed y) i = none (nows.Keyed y) i refl
+          go (Now.Pending q' end) i = waiting (Now.Pending q' end) i tt
+          go (Now.Long y end) i = waiting (Now.Long y end) i tt
+          go (Now.LongName y) i = named y i
+          go Now.Ready i = none Now.Ready i refl
+          go Now.After i = none Now.After i refl
+          go Now.Name i = none Now.Name i refl
+          go (Now.Keyed y) i = none (Now.Keyed y) i refl
 
       -- where a value may come
-      at_ready : r.now ≡ nows.Ready → is_top r.frames ≡ true → ⊥
+      at_ready : r.now ≡ Now.Ready → is_top r.frames ≡ true → ⊥
       at_ready now top = go (continues a.r (token_of z.lexeme d)) refl
         where
           go : (b : Bool) → continues a.r (token_of z.lexeme d) ≡ b → ⊥
@@ -203,7 +185,7 @@ module _ (g : Catalog) (l : Limits) (u : List ℕ) (o : ℕ) (vs : List Value) (
       at_top : is_top r.frames ≡ true → ⊥
       at_top top = by (top_now top)
         where
-          by : (r.now ≡ nows.Ready) ⊎ IsWaiting g l r.now → ⊥
+          by : (r.now ≡ Now.Ready) ⊎ IsWaiting g l r.now → ⊥
           by (inl now) = at_ready now top
           by (inr wait) = from_here (subst (λ m. Going g l m (z ∷ zs) on.0) (waited wait) on.1)
 
@@ -255,7 +237,7 @@ module _ (g : Catalog) (l : Limits) (u : List ℕ) (o : ℕ) (vs : List Value) (
           found =
               begins_completes zs (colon_behind z) z.lexeme.end behind b.0 (o ∷ following) n
               (begins_lexed zs (colon_behind z) z.lexeme.end behind w.colon w.end (w.blank ++ (rest ++ o ∷ following)) cut'.second.2) after
-              (λ q. subst (λ y. run q b.0 (scanning modes.Blank [] (takes_colon y z.lexeme.kind) z.lexeme.end z.lexeme.end) ≡ Next n) (sym here)
+              (λ q. subst (λ y. run q b.0 (scanning Mode.Blank [] (takes_colon y z.lexeme.kind) z.lexeme.end z.lexeme.end) ≡ Next n) (sym here)
               ((b.1).again q))
 
           kept : s.used ≤ n.used

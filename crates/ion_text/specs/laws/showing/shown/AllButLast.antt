@@ -2,60 +2,41 @@
 use Rattle.std.proofs.Common.{◌≡◌, ℕ, ◌+◌, ◌≤◌, ◌⊎◌, inl, inr, Bool, true, false, List, [], ◌∷◌, ◌++◌, length, refl, sym, ap, ◌∙◌, subst, arith, append-nil, append_assoc, length-append, Result, Ok, Err, Option, Some, None, option_to_list}
 use Rattle.std.specs.Prelude.{codes, nat_le}
 use Rattle.std.proofs.lemmas.Bool.Decides.{nat_tests}
-use Rattle.ion_atoms.specs.declared.refusal.Refusal.{Refusal}
-use Rattle.ion_model.specs.declared.value.Value.{Value}
-use Rattle.ion_symtab.specs.declared.limits.Limits.{Limits}
-use Rattle.ion_symtab.specs.declared.catalog.Catalog.{Catalog}
-use Rattle.ion_symtab.specs.Slots.{system_slots}
-use Rattle.ion_symtab.specs.Trace.{Streams, plain}
-use Rattle.ion_symtab.specs.Promises.{Shown}
-use Rattle.ion_atoms.specs.declared.kind.Kind.{Kind}
-use Rattle.ion_tokens.specs.declared.mode.Mark.{Mark}
-use Rattle.ion_tokens.specs.declared.mode.Mark.TheVariants as marks
-use Rattle.ion_tokens.specs.declared.mode.TokenKind.{TokenKind}
-use Rattle.ion_tokens.specs.declared.mode.TokenKind.TheVariants as kinds
-use Rattle.ion_tokens.specs.Bodies.{Content, Mark', IsBody, IsWordBody, id_of, kind_named, null_of}
-use Rattle.ion_tokens.specs.Places.{is_sexp}
-use Rattle.ion_tokens.specs.machine.Scanning.{initial}
-use Rattle.ion_tokens.specs.Lexed.{Placed, BeginsWith, LexesTo, colon_behind}
-use Rattle.ion_text.specs.Grammar.{Whole, ends_long}
-use Rattle.ion_text.specs.machine.EachToken.{Reading, Turn, goes, gives, refuses, late, fresh, settle}
-use Rattle.ion_text.specs.machine.Run.{State, begun, run, trace, ends_of, token_of}
-use Rattle.ion_text.specs.machine.TokenLists.{Walk, walked, stopped, adds_values, done, on_turn, then_walk, continues, reads, reads-append}
-use Rattle.ion_text.specs.machine.Passed.{said_body}
-use Rattle.ion_text.specs.laws.reading.complete.Complete.{segment_kind}
-use Rattle.ion_text.specs.laws.reading.complete.Pieces.{GoesOn, ReadSoFar, pieces_read, quoted_kind}
-use Rattle.ion_text.specs.laws.reading.complete.Going.{Going, TurnGoes, going_said, going_settle}
+use Rattle.ion_text.specs.Names.{BeginsWith, Catalog, Content, IsBody, IsWordBody, Kind, LexesTo, Limits, Mark, Mark', Placed, Reading, Refusal, Shown, State, Streams, TokenKind, Turn, Value, Walk, Whole, adds_values, begun, colon_behind, continues, done, ends_long, ends_of, fresh, gives, goes, id_of, initial, is_sexp, kind_named, late, null_of, on_turn, plain, reads, reads-append, refuses, run, said_body, settle, stopped, system_slots, then_walk, token_of, trace}
+use Rattle.ion_text.specs.machine.TokenLists.{walked}
 use Rattle.ion_text.specs.laws.reading.complete.Accepts.{accepts}
-use Rattle.ion_text.specs.laws.reading.sound.Steps.{StoodBehind, run_ran, begun_stood}
-use Rattle.ion_text.specs.laws.showing.tokens.Alone.{whole_document}
-use Rattle.ion_text.specs.laws.showing.tokens.Compare.{Found', TopFirst, Compared, compare, lexes_once, begins_after}
-use Rattle.ion_text.specs.laws.showing.tokens.Cuts.{lexed_front, parted}
+use Rattle.ion_text.specs.laws.reading.complete.Complete.{segment_kind}
+use Rattle.ion_text.specs.laws.reading.complete.Going.{Going, TurnGoes, going_said, going_settle}
+use Rattle.ion_text.specs.laws.reading.complete.Pieces.{GoesOn, ReadSoFar, pieces_read, quoted_kind}
+use Rattle.ion_text.specs.laws.reading.sound.Steps.{StoodBehind, begun_stood, run_ran}
 use Rattle.ion_text.specs.laws.showing.shown.Fronts.{stood_front}
-use Rattle.ion_text.specs.laws.showing.tokens.Once.{going_once, operator_inside, some_token, whole_going, whole_found, whole_operators, whole_ends}
 use Rattle.ion_text.specs.laws.showing.shown.Opened.{blank_token, colons_token, long_token, quoted_token, segment_is}
 use Rattle.ion_text.specs.laws.showing.shown.Symbols.{EndsStill, run_still}
+use Rattle.ion_text.specs.laws.showing.tokens.Alone.{whole_document}
+use Rattle.ion_text.specs.laws.showing.tokens.Compare.{Compared, Found', TopFirst, begins_after, compare, lexes_once}
+use Rattle.ion_text.specs.laws.showing.tokens.Cuts.{lexed_front, parted}
+use Rattle.ion_text.specs.laws.showing.tokens.Once.{going_once, operator_inside, some_token, whole_ends, whole_found, whole_going, whole_operators}
 
 -- the mark that a token says is its kind
-mark_kind : (k : TokenKind) (octets : List ℕ) (m : Mark) → IsBody k octets (Ok (Mark' m)) → k ≡ kinds.Mark m
-mark_kind (kinds.Mark n) octets m h = let same : m ≡ n = cc in ap kinds.Mark (sym same)
-mark_kind kinds.Word octets m h = absurd (by (id_of octets) h)
+mark_kind : (k : TokenKind) (octets : List ℕ) (m : Mark) → IsBody k octets (Ok (Mark' m)) → k ≡ TokenKind.Mark m
+mark_kind (TokenKind.Mark n) octets m h = let same : m ≡ n = cc in ap TokenKind.Mark (sym same)
+mark_kind TokenKind.Word octets m h = absurd (by (id_of octets) h)
   where
     by : (id : Option ℕ) → IsWordBody octets id (Ok (Mark' m)) → ⊥
     by None h = let e = h.0 in cc
     by (Some id) h = cc
-mark_kind kinds.KindName octets m h = absurd (by (kind_named octets) h)
+mark_kind TokenKind.KindName octets m h = absurd (by (kind_named octets) h)
   where
     by : (k : Option Kind) → Ok (Mark' m) ≡ null_of k → ⊥
     by None h = cc
     by (Some k) h = cc
-mark_kind kinds.Number octets m h = absurd h
-mark_kind kinds.Operator octets m h = let e = h.0 in cc
-mark_kind kinds.QuotedSymbol octets m h = let e = h.0 in cc
-mark_kind kinds.ShortString octets m h = let e = h.0 in cc
-mark_kind kinds.LongString octets m h = let e = h.0 in cc
-mark_kind kinds.Clob octets m h = cc
-mark_kind kinds.Blob octets m h = cc
+mark_kind TokenKind.Number octets m h = absurd h
+mark_kind TokenKind.Operator octets m h = let e = h.0 in cc
+mark_kind TokenKind.QuotedSymbol octets m h = let e = h.0 in cc
+mark_kind TokenKind.ShortString octets m h = let e = h.0 in cc
+mark_kind TokenKind.LongString octets m h = let e = h.0 in cc
+mark_kind TokenKind.Clob octets m h = cc
+mark_kind TokenKind.Blob octets m h = cc
 
 values_in : Walk → List Value
 values_in (walked vs r) = vs
@@ -87,10 +68,10 @@ module _ (g : Catalog) (l : Limits) where
 
     -- the next token behind whole pieces
     module _ (x : Placed) (rest : List ℕ) (b : BeginsWith a.colon a.end (a.blank ++ following) x rest) where
-      none_on : (c : Content) → IsBody x.lexeme.kind x.lexeme.octets (Ok c) → (c ≡ Mark' marks.Colons)
+      none_on : (c : Content) → IsBody x.lexeme.kind x.lexeme.octets (Ok c) → (c ≡ Mark' Mark.Colons)
           ⊎ ((ends_long a.tokens ≡ true) × GoesOn (token_of x.lexeme c)) → ⊥
       none_on c says (inl colons) =
-          let kind = mark_kind x.lexeme.kind x.lexeme.octets marks.Colons (subst (λ y. IsBody x.lexeme.kind x.lexeme.octets (Ok y)) colons says) in
+          let kind = mark_kind x.lexeme.kind x.lexeme.octets Mark.Colons (subst (λ y. IsBody x.lexeme.kind x.lexeme.octets (Ok y)) colons says) in
           let is = colons_token x.place a.colon b.token rest x.lexeme.kind x.lexeme.octets b.is kind in
           a.no_annotation is.1 (blank_token (codes "::") [] (a.blank ++ following) (a.blank ++ following) rest a.colon a.end x b is.0 refl)
       none_on c says (inr (long, inl (w, e))) =

@@ -1,24 +1,16 @@
 -- What octets show that are read without a refusal.
 use Rattle.std.proofs.Common.{◌≡◌, ℕ, Bool, true, false, List, [], ◌∷◌, ◌++◌, ◌≤◌, length, refl, ap, ◌∙◌, arith, if◌then◌else◌}
-use Rattle.ion_model.specs.declared.value.Value.{Value}
-use Rattle.ion_symtab.specs.declared.limits.Limits.{Limits}
-use Rattle.ion_symtab.specs.declared.catalog.Catalog.{Catalog}
-use Rattle.ion_symtab.specs.Promises.{ArePieces, Shows}
-use Rattle.ion_tokens.specs.Lexed.{Placed}
-use Rattle.ion_tokens.specs.machine.Scanned.{Scanned}
-use Rattle.ion_tokens.specs.machine.Scanning.{start_of}
-use Rattle.ion_text.specs.Grammar.{Whole, OpenRest}
-use Rattle.ion_text.specs.machine.Run.{State, is_fresh}
-use Rattle.ion_text.specs.laws.reading.sound.Held.{NoLongText}
+use Rattle.ion_text.specs.Names.{ArePieces, Catalog, Limits, OpenRest, Placed, Scanned, Shows, State, Value, Whole, is_fresh, start_of}
 use Rattle.ion_text.specs.laws.reading.sound.Admits.{no_item}
+use Rattle.ion_text.specs.laws.reading.sound.Held.{NoLongText}
 use Rattle.ion_text.specs.laws.reading.sound.Steps.{Stood}
-use Rattle.ion_text.specs.laws.showing.shown.Symbols.{HasBegun}
-use Rattle.ion_text.specs.laws.showing.shown.Fronts.{stood_front, no_tokens}
-use Rattle.ion_text.specs.laws.showing.shown.Within.{Within}
-use Rattle.ion_text.specs.laws.showing.shown.OpenRests.{open_rest}
+use Rattle.ion_text.specs.laws.showing.shown.Fronts.{no_tokens, stood_front}
 use Rattle.ion_text.specs.laws.showing.shown.Longest.{longest_between}
-use Rattle.ion_text.specs.laws.showing.tokens.Froms.{Waits}
+use Rattle.ion_text.specs.laws.showing.shown.OpenRests.{open_rest}
 use Rattle.ion_text.specs.laws.showing.shown.Opened.{longest_open}
+use Rattle.ion_text.specs.laws.showing.shown.Symbols.{HasBegun}
+use Rattle.ion_text.specs.laws.showing.shown.Within.{Within}
+use Rattle.ion_text.specs.laws.showing.tokens.Froms.{Waits}
 
 module _ (g : Catalog) (l : Limits) (u : List ℕ) (vs : List Value) (m : State) (b : Stood g l u vs m) (still : HasBegun g l m.scan m.reading) where
   -- no whole pieces at the front of the octets are longer than this

@@ -1,38 +1,22 @@
 -- Behind octets that aren't refused, whole pieces of a document stand in front of the open item, whatever follows.
 use Rattle.std.proofs.Common.{◌≡◌, ℕ, ◌+◌, Bool, true, false, List, [], ◌∷◌, ◌++◌, length, refl, sym, ap, ◌∙◌, subst, arith, append_assoc, append-nil, length-append, ◌⊎◌, inl, inr, if◌then◌else◌}
 use Rattle.std.specs.Prelude.{◌&&◌, codes}
-use Rattle.ion_model.specs.declared.value.Value.{Value}
-use Rattle.ion_symtab.specs.declared.limits.Limits.{Limits}
-use Rattle.ion_symtab.specs.declared.catalog.Catalog.{Catalog}
-use Rattle.ion_symtab.specs.Slots.{Slot}
-use Rattle.ion_tokens.specs.declared.mode.Mark.TheVariants as marks
-use Rattle.ion_tokens.specs.declared.mode.TokenKind.TheVariants as kinds
-use Rattle.ion_tokens.specs.declared.mode.Place.{Place}
-use Rattle.ion_tokens.specs.machine.Scanning.{Known, Next, start_of, run}
-use Rattle.ion_tokens.specs.Lexemes.{Lexeme}
+use Rattle.ion_text.specs.Names.{BeginsWith, BlankThen, Catalog, Continues, Frame, Known, Lexeme, LexesTo, Limits, Mark, Next, Now, Place, Placed, Reading, Scanned, Slot, State, Symbols, TokenKind, Value, Whole, at, begins_as_long, ends_long, is_fresh, place, scan as run, start_of}
 use Rattle.ion_tokens.proofs.complete.Moves.{blank}
-use Rattle.ion_tokens.specs.Lexed.{Placed, BeginsWith, LexesTo}
-use Rattle.ion_tokens.specs.machine.Scanned.{Scanned, Continues}
-use Rattle.ion_text.specs.declared.state.Now.{Now}
-use Rattle.ion_text.specs.declared.state.Now.TheVariants as nows
-use Rattle.ion_text.specs.declared.state.Frame.{Frame}
-use Rattle.ion_text.specs.Grammar.{Whole, BlankThen, ends_long, begins_as_long}
-use Rattle.ion_text.specs.machine.EachToken.{Reading, Symbols, at, place}
-use Rattle.ion_text.specs.machine.Run.{State, is_fresh}
-use Rattle.ion_text.specs.laws.reading.sound.Held.{Behind, IsLongNow, IsFirst, NoLongText, none_open}
 use Rattle.ion_text.specs.laws.reading.sound.Admits.{no_item}
+use Rattle.ion_text.specs.laws.reading.sound.Held.{Behind, IsFirst, IsLongNow, NoLongText, none_open}
 use Rattle.ion_text.specs.laws.reading.sound.StandsOpen.{NowStands}
 use Rattle.ion_text.specs.laws.reading.sound.Steps.{Stood}
-use Rattle.ion_text.specs.laws.showing.tokens.Cuts.{BlankInFront, Parted, parted, lexed_front, parts_same, OpenBehind, behind_tokens, begins_once, past_blank}
-use Rattle.ion_text.specs.laws.showing.tokens.Firsts.{OpensItem, opens_item, now_first, colons_never, quotes_never, quotes_first}
 use Rattle.ion_text.specs.laws.showing.shown.Symbols.{HasBegun}
+use Rattle.ion_text.specs.laws.showing.tokens.Cuts.{BlankInFront, OpenBehind, Parted, begins_once, behind_tokens, lexed_front, parted, parts_same, past_blank}
+use Rattle.ion_text.specs.laws.showing.tokens.Firsts.{OpensItem, colons_never, now_first, opens_item, quotes_first, quotes_never}
 
 -- where the whole pieces end and the blank behind them
 abbrev pub front_end : Known → Reading → ℕ
 front_end s r = if is_fresh r then start_of s.mode s.start s.used else r.start
 
 -- where no container is open, nothing noted and a value may come, no item is open
-pub fresh_is : (start : ℕ) (c : List Slot) (fs : List Frame) (ss : Symbols) (now : Now) → fs ≡ [] → ss ≡ [] → now ≡ nows.Ready → is_fresh (at start c fs ss now)
+pub fresh_is : (start : ℕ) (c : List Slot) (fs : List Frame) (ss : Symbols) (now : Now) → fs ≡ [] → ss ≡ [] → now ≡ Now.Ready → is_fresh (at start c fs ss now)
     ≡ true
 fresh_is start c fs ss now a b d = ap (λ x. is_fresh (at start c x ss now)) a
     ∙ (ap (λ x. is_fresh (at start c [] x now)) b ∙ ap (λ x. is_fresh (at start c [] [] x)) d)
@@ -196,7 +180,7 @@ module _ (g : Catalog) (l : Limits) where
               start = (cutting following).mid + length w;
               end = ((cutting following).mid + length w) + 2;
               kind =
-                  kinds.Mark marks.Colons;
+                  TokenKind.Mark Mark.Colons;
               octets = [];
             } in
             let x = begins_once (cutting following).flag (cutting following).mid (cutting following).left t (record { place = t.place; lexeme = found })

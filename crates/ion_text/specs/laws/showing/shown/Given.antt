@@ -1,18 +1,11 @@
 -- Octets of which none is refused show the values given, and what is left of them stands open.
 use Rattle.std.proofs.Common.{◌≡◌, ℕ, List, [], false, true, Result, Ok, Err, None}
-use Rattle.ion_model.specs.declared.value.Value.{Value}
-use Rattle.ion_atoms.specs.declared.refusal.Refusal.{Refusal}
-use Rattle.ion_symtab.specs.declared.limits.Limits.{Limits}
-use Rattle.ion_symtab.specs.declared.catalog.Catalog.{Catalog}
-use Rattle.ion_symtab.specs.Trace.{plain}
-use Rattle.ion_symtab.specs.Promises.{Shows}
-use Rattle.ion_text.specs.Grammar.{Whole, OpenRest}
-use Rattle.ion_text.specs.machine.Run.{State, begun, run, trace, refused_of}
-use Rattle.ion_text.specs.laws.reading.sound.Steps.{StoodBehind, run_ran, begun_stood}
-use Rattle.ion_text.specs.laws.showing.shown.Symbols.{EndsStill, run_still}
+use Rattle.ion_text.specs.Names.{Catalog, Limits, OpenRest, Refusal, Shows, State, Value, Whole, begun, plain, refused_of, run, trace}
+use Rattle.ion_text.specs.laws.reading.sound.Steps.{StoodBehind, begun_stood, run_ran}
 use Rattle.ion_text.specs.laws.showing.shown.Between.{stood_shows}
-use Rattle.ion_text.specs.laws.showing.tokens.Froms.{EndsWaiting, run_waits}
+use Rattle.ion_text.specs.laws.showing.shown.Symbols.{EndsStill, run_still}
 use Rattle.ion_text.specs.laws.showing.shown.Within.{EndsWithin, begun_within}
+use Rattle.ion_text.specs.laws.showing.tokens.Froms.{EndsWaiting, run_waits}
 
 now_shows : (g : Catalog) (l : Limits) (u : List ℕ) (given : List (Value × ℕ)) (now : Result State Refusal)
     → StoodBehind g l u [] (record { given = given; now = now }) → EndsStill g l now → EndsWaiting g l now → EndsWithin g l now → refused_of now ≡ None

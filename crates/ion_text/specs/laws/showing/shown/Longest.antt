@@ -1,39 +1,23 @@
 -- No longer front of octets is whole pieces whatever follows: between items, and where the pieces end before the open item.
 use Rattle.std.proofs.Common.{◌≡◌, ℕ, ◌+◌, ◌≤◌, Bool, false, List, [], ◌∷◌, ◌++◌, length, refl, sym, ap, ◌∙◌, subst, arith, append_assoc, append-nil, length-append, ◌⊎◌, inl, inr}
-use Rattle.ion_model.specs.declared.value.Value.{Value}
-use Rattle.ion_symtab.specs.declared.limits.Limits.{Limits}
-use Rattle.ion_symtab.specs.declared.catalog.Catalog.{Catalog}
-use Rattle.ion_symtab.specs.Slots.{system_slots}
-use Rattle.ion_symtab.specs.Promises.{ArePieces}
-use Rattle.ion_tokens.specs.declared.mode.Place.{Place}
-use Rattle.ion_tokens.specs.declared.mode.Place.TheVariants as places
-use Rattle.ion_tokens.specs.declared.mode.Mode.TheVariants as modes
-use Rattle.ion_tokens.specs.machine.Table.{end_of}
-use Rattle.ion_tokens.specs.Places.{is_sexp}
-use Rattle.ion_tokens.specs.machine.Scanning.{Known, Next, start_of, run, initial}
-use Rattle.ion_tokens.specs.Lexemes.{Lexeme}
-use Rattle.ion_tokens.specs.Lexed.{Placed, LexesTo, colon_behind}
-use Rattle.ion_tokens.proofs.histories.Escapes.{Escapes, Refuses, Goes, Grows, escape}
-use Rattle.ion_tokens.proofs.histories.Histories.{begins_completes}
+use Rattle.ion_text.specs.Names.{ArePieces, Catalog, Continues, Known, Lexeme, LexesTo, Limits, Mode, Next, Place, Placed, Reading, Scanned, State, Value, Whole, colon_behind, end_of, fresh, initial, is_sexp, is_top, place, scan as run, start_of, system_slots}
 use Rattle.ion_tokens.proofs.complete.Moves.{at, blank}
-use Rattle.ion_tokens.proofs.runs.Runs.{next_used}
 use Rattle.ion_tokens.proofs.complete.TakesBlanks.{passes_blank}
 use Rattle.ion_tokens.proofs.complete.Wholes.{run_behind}
-use Rattle.ion_text.specs.Grammar.{Whole}
-use Rattle.ion_text.specs.machine.EachToken.{Reading, fresh, place}
-use Rattle.ion_text.specs.machine.Run.{State, is_top}
-use Rattle.ion_text.specs.laws.reading.complete.Meets.{end_spans}
-use Rattle.ion_text.specs.laws.reading.complete.Pieces.{pieces_read}
+use Rattle.ion_tokens.proofs.histories.Escapes.{Escapes, Goes, Grows, Refuses, escape}
+use Rattle.ion_tokens.proofs.histories.Histories.{begins_completes}
+use Rattle.ion_tokens.proofs.runs.Runs.{next_used}
+use Rattle.ion_text.specs.laws.reading.Stops.{stood_used}
 use Rattle.ion_text.specs.laws.reading.complete.Found.{lexes_operators}
 use Rattle.ion_text.specs.laws.reading.complete.Going.{Going, top_place}
-use Rattle.ion_tokens.specs.machine.Scanned.{Scanned, Continues}
+use Rattle.ion_text.specs.laws.reading.complete.Meets.{end_spans}
+use Rattle.ion_text.specs.laws.reading.complete.Pieces.{pieces_read}
 use Rattle.ion_text.specs.laws.reading.sound.Held.{Behind, NoLongText, none_open}
 use Rattle.ion_text.specs.laws.reading.sound.StandsOpen.{NowStands}
 use Rattle.ion_text.specs.laws.reading.sound.Steps.{Stood}
-use Rattle.ion_text.specs.laws.reading.Stops.{stood_used}
-use Rattle.ion_text.specs.laws.showing.tokens.Cuts.{OpenBehind, behind_tokens, lexed_front, parted, parts_meet, Is, one_found}
-use Rattle.ion_text.specs.laws.showing.tokens.Compare.{Found', TopFirst, Compared, compare, lexes_once, begins_after, TokenFrom, run_from}
-use Rattle.ion_text.specs.laws.showing.tokens.Once.{begins_lexed, operator_inside, whole_going, whole_found, whole_operators, whole_ends}
+use Rattle.ion_text.specs.laws.showing.tokens.Compare.{Compared, Found', TokenFrom, TopFirst, begins_after, compare, lexes_once, run_from}
+use Rattle.ion_text.specs.laws.showing.tokens.Cuts.{Is, OpenBehind, behind_tokens, lexed_front, one_found, parted, parts_meet}
+use Rattle.ion_text.specs.laws.showing.tokens.Once.{begins_lexed, operator_inside, whole_ends, whole_found, whole_going, whole_operators}
 
 -- what escapes from a token that ends within the octets used
 pub escaped : (p : Place) (s : Known) (x : List ℕ) (l : Lexeme) → Escapes p s x → Is p l (run p x s) → l.end ≤ s.used → ⊥
@@ -107,7 +91,7 @@ module _ (g : Catalog) (l : Limits) (u : List ℕ) (vs : List Value) (s : Known)
 
   -- where no item is open
   module _ (none : b.item ≡ []) where
-    top : p ≡ places.Top
+    top : p ≡ Place.Top
     top =
         let o = none_open r.context r.frames r.notes r.now (subst (λ x. NowStands r.context r.frames r.notes x r.now) none b.stands) in
         top_place r.frames r.now (ap is_top o.0)
@@ -130,7 +114,7 @@ module _ (g : Catalog) (l : Limits) (u : List ℕ) (vs : List Value) (s : Known)
           from y f =
               let x = passes_blank p k.colon w.blank w.is_blank k.end k.end in
               let ran : run p y (blank k.colon x.0 (k.end + length w.blank)) ≡ Next s =
-              sym (ap (λ z. run p z (at modes.Blank [] k.colon k.end k.end)) f ∙ x.1 y) ∙ k.reached in
+              sym (ap (λ z. run p z (at Mode.Blank [] k.colon k.end k.end)) f ∙ x.1 y) ∙ k.reached in
               let i = subst (TokenFrom (k.end + length w.blank)) ran
               (run_from p y (k.end + length w.blank) (blank k.colon x.0 (k.end + length w.blank)) (record { enough = omega arith }) (omega arith)) in
               omega (arith, i, one.1, size v rest more t cut w)
@@ -152,13 +136,13 @@ module _ (g : Catalog) (l : Limits) (u : List ℕ) (vs : List Value) (s : Known)
           (subst (λ z. LexesTo false 0 (u ++ more) z w.colon w.end (w.blank ++ (rest ++ more))) e (theirs v rest more t cut w)) in
           let one = lexes_once b.front false 0 (u ++ more) d.flag k.colon d.mid k.end d.left (k.since ++ more) d.first tokens in
           let found = one_found d.flag d.mid d.left x d.second.0 d.second.1 in
-          let here : Is x.place x.lexeme (run x.place (k.since ++ more) (at modes.Blank [] k.colon k.end k.end)) =
-          subst (λ z. Is x.place x.lexeme (run x.place z (at modes.Blank [] k.colon k.end k.end))) one.2
-          (subst (λ (z : ℕ). Is x.place x.lexeme (run x.place d.left (at modes.Blank [] k.colon z z))) one.1
-          (subst (λ z. Is x.place x.lexeme (run x.place d.left (at modes.Blank [] z d.mid d.mid))) one.0 found)) in
-          let placed : Is p x.lexeme (run p (k.since ++ more) (at modes.Blank [] k.colon k.end k.end)) =
-          subst (λ q. Is q x.lexeme (run q (k.since ++ more) (at modes.Blank [] k.colon k.end k.end))) (at_top ∙ sym top) here in
-          let at_end' = subst (Is p x.lexeme) (run_behind p k.since more (at modes.Blank [] k.colon k.end k.end) s k.reached) placed in
+          let here : Is x.place x.lexeme (run x.place (k.since ++ more) (at Mode.Blank [] k.colon k.end k.end)) =
+          subst (λ z. Is x.place x.lexeme (run x.place z (at Mode.Blank [] k.colon k.end k.end))) one.2
+          (subst (λ (z : ℕ). Is x.place x.lexeme (run x.place d.left (at Mode.Blank [] k.colon z z))) one.1
+          (subst (λ z. Is x.place x.lexeme (run x.place d.left (at Mode.Blank [] z d.mid d.mid))) one.0 found)) in
+          let placed : Is p x.lexeme (run p (k.since ++ more) (at Mode.Blank [] k.colon k.end k.end)) =
+          subst (λ q. Is q x.lexeme (run q (k.since ++ more) (at Mode.Blank [] k.colon k.end k.end))) (at_top ∙ sym top) here in
+          let at_end' = subst (Is p x.lexeme) (run_behind p k.since more (at Mode.Blank [] k.colon k.end k.end) s k.reached) placed in
           let last = lexed_front xs (colon_behind x) x.lexeme.end d.second.0 w.colon w.end (w.blank ++ (rest ++ more)) d.second.2 in
           ended x xs e (at_top ∙ sym top) at_end' (omega (arith, last.2, long v rest more t cut w, size v rest more t cut w, used))
 

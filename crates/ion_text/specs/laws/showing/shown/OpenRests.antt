@@ -1,53 +1,34 @@
 -- What stands open behind the whole pieces, where no octet is refused: an item within the limit, a blank's prefix, or what may go on.
 use Rattle.std.proofs.Common.{◌≡◌, ℕ, ◌+◌, ◌-◌, ◌≤◌, Bool, true, false, List, [], ◌∷◌, ◌++◌, length, Option, Some, None, refl, sym, ap, ◌∙◌, subst, arith, append_assoc, append-nil, length-append, ◌⊎◌, inl, inr, if◌then◌else◌}
 use Rattle.std.specs.Prelude.{codes, ◌||◌}
-use Rattle.ion_model.specs.declared.value.Value.{Value}
-use Rattle.ion_symtab.specs.declared.limits.Limits.{Limits}
-use Rattle.ion_symtab.specs.declared.catalog.Catalog.{Catalog}
-use Rattle.ion_tokens.specs.declared.mode.Place.{Place}
-use Rattle.ion_tokens.specs.declared.mode.Place.TheVariants as places
-use Rattle.ion_tokens.specs.declared.token.Begun.{Begun}
-use Rattle.ion_tokens.specs.declared.token.Form.{Form}
-use Rattle.ion_tokens.specs.declared.token.Form.TheVariants as forms
-use Rattle.ion_tokens.specs.machine.Ahead.{is_long_form}
-use Rattle.ion_tokens.specs.machine.Bounds.{is_idle}
-use Rattle.ion_tokens.specs.machine.Views.{behind, form_of, begun_in}
-use Rattle.ion_tokens.specs.Blanks.{LineComment, IsBlank}
-use Rattle.ion_tokens.specs.machine.Scanning.{Known, Next, start_of, run}
-use Rattle.ion_tokens.specs.Lexed.{Placed, LexesTo, colon_behind}
-use Rattle.ion_tokens.specs.machine.Scanned.{Scanned, BegunSo, HasBegun, IsFirstColon, MayComment, ShowsBegun}
-use Rattle.ion_tokens.proofs.foreseen.Begins.{begun_right}
-use Rattle.ion_tokens.proofs.sound.Holds.{blank_none}
+use Rattle.ion_text.specs.Names.{Begun, BegunSo, Catalog, Form, Frame, HasBegun, IsBlank, IsFirstColon, Known, LexesTo, Limits, LineComment, MayComment, Next, Now, OpenRest, Place, Placed, Reading, Scanned, ShowsBegun, State, Symbols, Value, begun_in, behind, colon_behind, form_of, is_fresh, is_idle, is_long_begun, is_long_form, is_top, longest_top, place, reaches, scan as run, start_of}
 use Rattle.ion_tokens.proofs.complete.Moves.{blank}
-use Rattle.ion_tokens.proofs.foreseen.Reaches.{begun_stays}
-use Rattle.ion_tokens.proofs.sound.Sounds.{RunSound, run_sound}
 use Rattle.ion_tokens.proofs.complete.TakesBlanks.{passes_blank}
-use Rattle.ion_text.specs.declared.state.Now.{Now}
-use Rattle.ion_text.specs.declared.state.Now.TheVariants as nows
-use Rattle.ion_text.specs.declared.state.Frame.{Frame}
-use Rattle.ion_text.specs.Grammar.{OpenRest, end_of}
-use Rattle.ion_text.specs.machine.EachToken.{Reading, Symbols, place}
-use Rattle.ion_text.specs.machine.Run.{State, is_top, is_fresh, reaches, longest_top, is_long_begun}
-use Rattle.ion_text.specs.laws.reading.sound.Held.{IsFirst, NoLongText, none_open}
+use Rattle.ion_tokens.proofs.foreseen.Begins.{begun_right}
+use Rattle.ion_tokens.proofs.foreseen.Reaches.{begun_stays}
+use Rattle.ion_tokens.proofs.sound.Holds.{blank_none}
+use Rattle.ion_tokens.proofs.sound.Sounds.{RunSound, run_sound}
+use Rattle.ion_text.specs.Grammar.{end_of}
+use Rattle.ion_text.specs.laws.reading.Stops.{stood_used}
 use Rattle.ion_text.specs.laws.reading.complete.Complete.{last_end}
-use Rattle.ion_text.specs.laws.reading.sound.Admits.{no_item}
 use Rattle.ion_text.specs.laws.reading.complete.Quiet.{CalmNow}
+use Rattle.ion_text.specs.laws.reading.sound.Admits.{no_item}
+use Rattle.ion_text.specs.laws.reading.sound.Held.{IsFirst, NoLongText, none_open}
 use Rattle.ion_text.specs.laws.reading.sound.StandsOpen.{EndsAt, NowStands}
 use Rattle.ion_text.specs.laws.reading.sound.Steps.{Stood}
-use Rattle.ion_text.specs.laws.reading.Stops.{stood_used}
-use Rattle.ion_text.specs.laws.showing.tokens.Cuts.{OpenBehind, BlankInFront, behind_tokens, lexed_front, parts_meet, parts_same}
-use Rattle.ion_text.specs.laws.showing.shown.Fronts.{front_end, fresh_is}
+use Rattle.ion_text.specs.laws.showing.shown.Fronts.{fresh_is, front_end}
 use Rattle.ion_text.specs.laws.showing.shown.Within.{Within}
+use Rattle.ion_text.specs.laws.showing.tokens.Cuts.{BlankInFront, OpenBehind, behind_tokens, lexed_front, parts_meet, parts_same}
 
 -- what follows a blank in a blank is one
 pub blank_follows : (w x : List ℕ) → IsBlank w → IsBlank (w ++ x) → IsBlank x
 blank_follows w x a b =
-    let f = passes_blank places.Top false w a 0 0 in
-    let h = passes_blank places.Top false (w ++ x) b 0 0 in
-    let ran : run places.Top x (blank false f.0 (0 + length w)) ≡ Next (blank false h.0 (0 + length (w ++ x))) =
-    sym (f.1 x) ∙ (ap (λ y. run places.Top y (blank false 0 0)) (sym (append-nil (w ++ x))) ∙ h.1 []) in
-    let k = subst (λ y. RunSound places.Top false (0 + length w) [] x y) ran
-    (run_sound places.Top false (0 + length w) x [] (blank false f.0 (0 + length w)) (record { flag = refl; used = omega arith; mode = (refl, blank_none) })) in
+    let f = passes_blank Place.Top false w a 0 0 in
+    let h = passes_blank Place.Top false (w ++ x) b 0 0 in
+    let ran : run Place.Top x (blank false f.0 (0 + length w)) ≡ Next (blank false h.0 (0 + length (w ++ x))) =
+    sym (f.1 x) ∙ (ap (λ y. run Place.Top y (blank false 0 0)) (sym (append-nil (w ++ x))) ∙ h.1 []) in
+    let k = subst (λ y. RunSound Place.Top false (0 + length w) [] x y) ran
+    (run_sound Place.Top false (0 + length w) x [] (blank false f.0 (0 + length w)) (record { flag = refl; used = omega arith; mode = (refl, blank_none) })) in
     k.mode.1
 
 -- tokens end where the last one does
@@ -224,7 +205,7 @@ module _ (g : Catalog) (l : Limits) (u : List ℕ) (vs : List Value) (m : State)
 
   -- where no item is open
   module _ (none : b.item ≡ []) where
-    o : (r.frames ≡ []) × (r.notes ≡ []) × (r.now ≡ nows.Ready)
+    o : (r.frames ≡ []) × (r.notes ≡ []) × (r.now ≡ Now.Ready)
     o = none_open r.context r.frames r.notes r.now (subst (λ x. NowStands r.context r.frames r.notes x r.now) none b.stands)
 
     fresh : is_fresh r ≡ true
@@ -233,7 +214,7 @@ module _ (g : Catalog) (l : Limits) (u : List ℕ) (vs : List Value) (m : State)
     size : length front ≡ start_of s.mode s.start s.used
     size = ends ∙ ap (λ (x : Bool). if x then start_of s.mode s.start s.used else r.start) fresh
 
-    reach : longest_top r.start s.used nows.Ready [] (begun_in s) (is_long_begun (begun_in s)) ≤ l.item
+    reach : longest_top r.start s.used Now.Ready [] (begun_in s) (is_long_begun (begun_in s)) ≤ l.item
     reach =
         subst (λ n. longest_top r.start s.used n [] (begun_in s) (is_long_begun (begun_in s)) ≤ l.item) o.2
         (subst (λ n. longest_top r.start s.used r.now n (begun_in s) (is_long_begun (begun_in s)) ≤ l.item) o.1
@@ -241,7 +222,7 @@ module _ (g : Catalog) (l : Limits) (u : List ℕ) (vs : List Value) (m : State)
 
     token_open : is_idle s.mode ≡ false → OpenRest l rest
     token_open i =
-        let h = subst (λ k. longest_top r.start s.used nows.Ready [] (if k then None else Some (token (form_of s.mode))) (is_long_begun (begun_in s)) ≤ l.item)
+        let h = subst (λ k. longest_top r.start s.used Now.Ready [] (if k then None else Some (token (form_of s.mode))) (is_long_begun (begun_in s)) ≤ l.item)
         i reach in
         counted l p u front rest T octets ts colon end (token (form_of s.mode)) parts cut.1 cut.2 (so_begun i)
         (omega (arith, h, size, begun_stays s.mode s.start s.used i))
@@ -328,13 +309,13 @@ module _ (g : Catalog) (l : Limits) (u : List ℕ) (vs : List Value) (m : State)
 
     -- behind a long string
     wait_begun : (v : List ℕ) (last : ℕ) → last ≡ end_of 0 b.item → is_idle s.mode ≡ false → (f : Form) → form_of s.mode ≡ f → is_long_form f ≡ true
-        → longest_top r.start s.used (nows.Long v last) r.notes (Some (token f)) (is_long_begun (Some (token f))) ≤ l.item → OpenRest l rest
-    wait_begun v last e i forms.Quote q k h =
+        → longest_top r.start s.used (Now.Long v last) r.notes (Some (token f)) (is_long_begun (Some (token f))) ≤ l.item → OpenRest l rest
+    wait_begun v last e i Form.Quote q k h =
         let w = waiting last e h in
         let n = subst (λ y. HasBegun p u ts colon end octets (token y)) q (so_begun i) in
         subst (OpenRest l) w.same (quote_rest l w.item octets n.blank n.token w.fits n.cut n.is_blank n.form)
-    wait_begun v last e i forms.Long q k h = token_counted i h
-    wait_begun v last e i forms.Other q k h = absurd cc
+    wait_begun v last e i Form.Long q k h = token_counted i h
+    wait_begun v last e i Form.Other q k h = absurd cc
 
     module _ (top : r.frames ≡ []) where
       reach_top : longest_top r.start s.used r.now r.notes (begun_in s) (is_long_begun (begun_in s)) ≤ l.item
@@ -346,27 +327,27 @@ module _ (g : Catalog) (l : Limits) (u : List ℕ) (vs : List Value) (m : State)
       abbrev seen : Bool → Option Begun
       seen i = if i then None else Some (token (form_of s.mode))
 
-      ready_rest : (ss : Symbols) → r.notes ≡ ss → r.now ≡ nows.Ready → (i : Bool) → is_idle s.mode ≡ i
-          → longest_top r.start s.used nows.Ready ss (seen i) (is_long_begun (seen i)) ≤ l.item → OpenRest l rest
+      ready_rest : (ss : Symbols) → r.notes ≡ ss → r.now ≡ Now.Ready → (i : Bool) → is_idle s.mode ≡ i
+          → longest_top r.start s.used Now.Ready ss (seen i) (is_long_begun (seen i)) ≤ l.item → OpenRest l rest
       ready_rest [] e n i j h = absurd (let k : false ≡ true = sym (unfresh (is_fresh r) refl) ∙ fresh_is r.start r.context r.frames r.notes r.now top e n in
           cc)
       ready_rest (x ∷ ss) e n true j h = all_counted h
       ready_rest (x ∷ ss) e n false j h = token_counted j h
 
       long_rest : (v : List ℕ) (last : ℕ) → last ≡ end_of 0 b.item → (is_idle s.mode || is_long_form (form_of s.mode)) ≡ true → (i : Bool) → is_idle s.mode ≡ i
-          → longest_top r.start s.used (nows.Long v last) r.notes (seen i) (is_long_begun (seen i)) ≤ l.item → OpenRest l rest
+          → longest_top r.start s.used (Now.Long v last) r.notes (seen i) (is_long_begun (seen i)) ≤ l.item → OpenRest l rest
       long_rest v last e c true j h = wait_idle last e h j
       long_rest v last e c false j h = wait_begun v last e j (form_of s.mode) refl (sym (ap (λ k. k || is_long_form (form_of s.mode)) j) ∙ c) h
 
       top_rest : (n : Now) → r.now ≡ n → EndsAt n (end_of 0 b.item) → CalmNow n s.mode
           → longest_top r.start s.used n r.notes (begun_in s) (is_long_begun (begun_in s)) ≤ l.item → OpenRest l rest
-      top_rest nows.Ready e at' c h = ready_rest r.notes refl e (is_idle s.mode) refl h
-      top_rest (nows.Pending k last) e at' c h = wait_idle last at' h c
-      top_rest (nows.Long v last) e at' c h = long_rest v last at' c (is_idle s.mode) refl h
-      top_rest nows.After e at' c h = absurd c
-      top_rest nows.Name e at' c h = absurd c
-      top_rest (nows.LongName v) e at' c h = absurd c
-      top_rest (nows.Keyed k) e at' c h = absurd c
+      top_rest Now.Ready e at' c h = ready_rest r.notes refl e (is_idle s.mode) refl h
+      top_rest (Now.Pending k last) e at' c h = wait_idle last at' h c
+      top_rest (Now.Long v last) e at' c h = long_rest v last at' c (is_idle s.mode) refl h
+      top_rest Now.After e at' c h = absurd c
+      top_rest Now.Name e at' c h = absurd c
+      top_rest (Now.LongName v) e at' c h = absurd c
+      top_rest (Now.Keyed k) e at' c h = absurd c
 
     some_rest : (fs : List Frame) → r.frames ≡ fs → OpenRest l rest
     some_rest [] e = top_rest e r.now refl b.ends (calm e) (reach_top e)

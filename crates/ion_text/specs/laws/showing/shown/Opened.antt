@@ -1,61 +1,31 @@
 -- No longer front of octets is whole pieces whatever follows, where an item is open behind them.
 use Rattle.std.proofs.Common.{◌≡◌, ℕ, ◌+◌, ◌≤◌, ◌==◌, Bool, true, false, ◌||◌, List, [], ◌∷◌, ◌++◌, length, refl, sym, ap, ◌∙◌, subst, arith, append_assoc, append-nil, length-append, Ok, ◌⊎◌, inl, inr, codes}
 use Rattle.std.proofs.lemmas.Bool.Decides.{nat_tests}
-use Rattle.ion_model.specs.declared.value.Value.{Value}
-use Rattle.ion_symtab.specs.declared.limits.Limits.{Limits}
-use Rattle.ion_symtab.specs.declared.catalog.Catalog.{Catalog}
-use Rattle.ion_symtab.specs.Slots.{system_slots}
-use Rattle.ion_symtab.specs.Promises.{ArePieces}
-use Rattle.ion_tokens.specs.declared.mode.Mark.TheVariants as marks
-use Rattle.ion_tokens.specs.declared.mode.Mode.TheVariants as modes
-use Rattle.ion_tokens.specs.declared.mode.Place.{Place}
-use Rattle.ion_tokens.specs.declared.mode.Place.TheVariants as places
-use Rattle.ion_tokens.specs.declared.mode.TokenKind.{TokenKind}
-use Rattle.ion_tokens.specs.declared.mode.TokenKind.TheVariants as kinds
-use Rattle.ion_tokens.specs.machine.Bounds.{is_idle}
-use Rattle.ion_tokens.specs.machine.Ahead.{is_quoting}
-use Rattle.ion_tokens.specs.Bodies.{Content, Quoted, Long, Mark', IsBody}
-use Rattle.ion_tokens.specs.Places.{is_sexp}
-use Rattle.ion_tokens.specs.machine.Said.{said}
-use Rattle.ion_tokens.specs.machine.Scanning.{Known, initial, run}
-use Rattle.ion_tokens.specs.Lexed.{Placed, BeginsWith, LexesTo, colon_behind}
-use Rattle.ion_tokens.specs.Lexemes.{IsLexeme, takes_colon, is_segment}
-use Rattle.ion_tokens.proofs.histories.Escapes.{Escapes, Escape, escape}
-use Rattle.ion_tokens.proofs.histories.Histories.{begins_completes}
-use Rattle.ion_tokens.proofs.sound.Holds.{InMode}
+use Rattle.ion_text.specs.Names.{ArePieces, BeginsWith, BlankThen, Catalog, Content, Continues, Frame, Held, IsBody, IsLexeme, Known, Leading, LexesTo, Limits, Listing, Long, Mark, Mark', Mode, Now, Place, Placed, Quoted, Reading, Scanned, Segments, State, Symbols, TokenKind, Value, Whole, adds_values, colon_behind, continues, done, ends_long, fresh, goes, initial, is_fresh, is_idle, is_quoting, is_segment, is_sexp, joined, on_turn, place, place_in, reads, said, said_body, scan as run, segment, settle, system_slots, takes_colon, token_of}
 use Rattle.ion_tokens.proofs.complete.Moves.{at as scanning}
 use Rattle.ion_tokens.proofs.complete.Wholes.{run_behind}
-use Rattle.ion_tokens.specs.machine.Scanned.{Scanned, Continues}
-use Rattle.ion_text.specs.declared.state.Held.{Held}
-use Rattle.ion_text.specs.declared.state.Now.{Now}
-use Rattle.ion_text.specs.declared.state.Now.TheVariants as nows
-use Rattle.ion_text.specs.declared.state.Frame.{Frame}
-use Rattle.ion_text.specs.declared.state.Frame.TheVariants as frames
-use Rattle.ion_text.specs.declared.state.Listing.TheVariants as listings
-use Rattle.ion_text.specs.Grammar.{Whole, BlankThen, Segments, segment, joined, ends_long}
-use Rattle.ion_text.specs.machine.EachToken.{Reading, goes, Symbols, fresh, place, place_in, settle}
-use Rattle.ion_text.specs.machine.Run.{State, is_fresh, token_of}
-use Rattle.ion_text.specs.machine.TokenLists.{walked, adds_values, done, on_turn, continues, reads}
-use Rattle.ion_text.specs.machine.Places.{Leading}
-use Rattle.ion_text.specs.machine.Passed.{said_body}
-use Rattle.ion_text.specs.laws.reading.complete.Pieces.{ReadSoFar, GoesOn, pieces_read, quoted_kind, walked_now, settled_first, more_read, top_now}
-use Rattle.ion_text.specs.laws.reading.complete.Complete.{Begins, starts, segment_kind, segments_long, ends_behind}
-use Rattle.ion_text.specs.laws.reading.complete.Going.{Going, going_said, says_so, mark_kind}
-use Rattle.ion_text.specs.laws.reading.sound.Spans.{IsWaiting}
-use Rattle.ion_text.specs.laws.reading.sound.Held.{Behind, IsFirst, NoLongText}
-use Rattle.ion_text.specs.laws.reading.sound.Admits.{no_item}
-use Rattle.ion_text.specs.laws.reading.sound.StandsOpen.{NowStands, PendingFor, LongFor, symbol_said}
-use Rattle.ion_text.specs.laws.reading.sound.Steps.{Stood}
+use Rattle.ion_tokens.proofs.histories.Escapes.{Escape, Escapes, escape}
+use Rattle.ion_tokens.proofs.histories.Histories.{begins_completes}
+use Rattle.ion_tokens.proofs.sound.Holds.{InMode}
+use Rattle.ion_text.specs.machine.TokenLists.{walked}
 use Rattle.ion_text.specs.laws.reading.Stops.{stood_used}
-use Rattle.ion_text.specs.laws.showing.tokens.Cuts.{OpenBehind, Parted, parted, lexed_front, Is, one_found}
-use Rattle.ion_text.specs.laws.showing.tokens.Firsts.{OpensItem, opens_item, symbol_kind, now_first}
-use Rattle.ion_text.specs.laws.showing.tokens.Compare.{Found', lexes_once, begins_after}
-use Rattle.ion_text.specs.laws.showing.tokens.Once.{begins_lexed, operator_inside, whole_going, whole_found, whole_operators}
-use Rattle.ion_text.specs.laws.showing.shown.Longest.{escaped, k as behind_all, octets as all_octets, theirs as their_tokens, size as their_size, long as their_long}
-use Rattle.ion_text.specs.laws.showing.tokens.Walks.{OneIsFront, Walking, walking_said, settled_reads, adds_is, behind_read, meet}
-use Rattle.ion_text.specs.laws.showing.tokens.Stays.{Arrived, arrived}
-use Rattle.ion_text.specs.laws.showing.tokens.Froms.{fresh_parts, From, AllFrom, settle_from, walked_from, Waits}
+use Rattle.ion_text.specs.laws.reading.complete.Complete.{Begins, ends_behind, segment_kind, segments_long, starts}
+use Rattle.ion_text.specs.laws.reading.complete.Going.{Going, going_said, mark_kind, says_so}
+use Rattle.ion_text.specs.laws.reading.complete.Pieces.{GoesOn, ReadSoFar, more_read, pieces_read, quoted_kind, settled_first, top_now, walked_now}
+use Rattle.ion_text.specs.laws.reading.sound.Admits.{no_item}
+use Rattle.ion_text.specs.laws.reading.sound.Held.{Behind, IsFirst, NoLongText}
+use Rattle.ion_text.specs.laws.reading.sound.Spans.{IsWaiting}
+use Rattle.ion_text.specs.laws.reading.sound.StandsOpen.{LongFor, NowStands, PendingFor, symbol_said}
+use Rattle.ion_text.specs.laws.reading.sound.Steps.{Stood}
+use Rattle.ion_text.specs.laws.showing.shown.Longest.{escaped, k as behind_all, long as their_long, octets as all_octets, size as their_size, theirs as their_tokens}
 use Rattle.ion_text.specs.laws.showing.tokens.Closing.{Closing, colons_close, quotes_close}
+use Rattle.ion_text.specs.laws.showing.tokens.Compare.{Found', begins_after, lexes_once}
+use Rattle.ion_text.specs.laws.showing.tokens.Cuts.{Is, OpenBehind, Parted, lexed_front, one_found, parted}
+use Rattle.ion_text.specs.laws.showing.tokens.Firsts.{OpensItem, now_first, opens_item, symbol_kind}
+use Rattle.ion_text.specs.laws.showing.tokens.Froms.{AllFrom, From, Waits, fresh_parts, settle_from, walked_from}
+use Rattle.ion_text.specs.laws.showing.tokens.Once.{begins_lexed, operator_inside, whole_found, whole_going, whole_operators}
+use Rattle.ion_text.specs.laws.showing.tokens.Stays.{Arrived, arrived}
+use Rattle.ion_text.specs.laws.showing.tokens.Walks.{OneIsFront, Walking, adds_is, behind_read, meet, settled_reads, walking_said}
 
 -- tokens in a row begin one behind the other
 lexed_from : (n : ℕ) (ts : List Placed) (colon : Bool) (before : ℕ) (octets : List ℕ) (after : Bool) (end : ℕ) (rest : List ℕ) (g : Catalog) (l : Limits)
@@ -65,8 +35,8 @@ lexed_from n (t ∷ ts) colon before octets after end rest g l k (q, b, h) =
     (omega (arith, k, b.start), lexed_from n ts (colon_behind t) t.lexeme.end q after end rest g l (omega (arith, k, b.end)) h)
 
 -- a segment is the token of a long string
-pub segment_is : (k : TokenKind) → is_segment k ≡ true → k ≡ kinds.LongString
-segment_is kinds.LongString h = refl
+pub segment_is : (k : TokenKind) → is_segment k ≡ true → k ≡ TokenKind.LongString
+segment_is TokenKind.LongString h = refl
 segment_is _ h = absurd cc
 
 -- a token behind a blank that begins with these octets
@@ -80,17 +50,17 @@ blank_token more x octets left rest colon n t b e f = (
 )
 
 -- what stands behind a symbol, or a string
-pub colons_token : (p : Place) (colon : Bool) (w r : List ℕ) (k : TokenKind) (kept : List ℕ) → IsLexeme p colon w r k kept → k ≡ kinds.Mark marks.Colons
+pub colons_token : (p : Place) (colon : Bool) (w r : List ℕ) (k : TokenKind) (kept : List ℕ) → IsLexeme p colon w r k kept → k ≡ TokenKind.Mark Mark.Colons
     → (w ≡ codes "::") × (colon ≡ true)
 colons_token p colon w r k kept h e = let i = subst (λ x. IsLexeme p colon w r x kept) e h in (i.1, i.2)
 
 -- a segment of a long string begins with `''`
-pub long_token : (p : Place) (colon : Bool) (w r : List ℕ) (k : TokenKind) (kept : List ℕ) → IsLexeme p colon w r k kept → k ≡ kinds.LongString → (x : List ℕ)
+pub long_token : (p : Place) (colon : Bool) (w r : List ℕ) (k : TokenKind) (kept : List ℕ) → IsLexeme p colon w r k kept → k ≡ TokenKind.LongString → (x : List ℕ)
     × (w ≡ codes "''" ++ x)
 long_token p colon w r k kept h e = let i = subst (λ x. IsLexeme p colon w r x kept) e h in (39 ∷ (i.0 ++ codes "'''"), i.2)
 
 -- a quoted symbol of two octets is `''`
-pub quoted_token : (p : Place) (colon : Bool) (w r : List ℕ) (k : TokenKind) (kept : List ℕ) → IsLexeme p colon w r k kept → k ≡ kinds.QuotedSymbol
+pub quoted_token : (p : Place) (colon : Bool) (w r : List ℕ) (k : TokenKind) (kept : List ℕ) → IsLexeme p colon w r k kept → k ≡ TokenKind.QuotedSymbol
     → length w ≡ 2 → w ≡ codes "''" ++ []
 quoted_token p colon w r k kept h e n = let i = subst (λ x. IsLexeme p colon w r x kept) e h in by (i.0) (i.2)
   where
@@ -103,20 +73,20 @@ pub symbol_colon : (p : Place) (k : TokenKind) (octets : List ℕ) (c : Content)
 symbol_colon p k octets c h e = go k (symbol_kind k octets c h e) h
   where
     go : (k : TokenKind) → opens_item k ≡ true → IsBody k octets (Ok c) → takes_colon p k ≡ true
-    go kinds.Word i h = refl
-    go kinds.KindName i h = refl
-    go kinds.QuotedSymbol i h = refl
-    go kinds.LongString i h = absurd (let n : false ≡ true = sym (ap symbol_said h.0) ∙ e in cc)
-    go (kinds.Mark m) i h = absurd (let j : c ≡ Mark' m = cc in let n : false ≡ true = sym (ap symbol_said j) ∙ e in cc)
-    go kinds.Number i h = absurd cc
-    go kinds.Operator i h = absurd cc
-    go kinds.ShortString i h = absurd cc
-    go kinds.Clob i h = absurd cc
-    go kinds.Blob i h = absurd cc
+    go TokenKind.Word i h = refl
+    go TokenKind.KindName i h = refl
+    go TokenKind.QuotedSymbol i h = refl
+    go TokenKind.LongString i h = absurd (let n : false ≡ true = sym (ap symbol_said h.0) ∙ e in cc)
+    go (TokenKind.Mark m) i h = absurd (let j : c ≡ Mark' m = cc in let n : false ≡ true = sym (ap symbol_said j) ∙ e in cc)
+    go TokenKind.Number i h = absurd cc
+    go TokenKind.Operator i h = absurd cc
+    go TokenKind.ShortString i h = absurd cc
+    go TokenKind.Clob i h = absurd cc
+    go TokenKind.Blob i h = absurd cc
 
 -- the last of a long string's tokens
 pub segments_last : (p : Place) (ts : List Placed) (w : List ℕ) → Segments p ts w → (front : List Placed) × (z : Placed) × (ts ≡ front ++ z ∷ [])
-    × (z.place ≡ p) × (z.lexeme.kind ≡ kinds.LongString)
+    × (z.place ≡ p) × (z.lexeme.kind ≡ TokenKind.LongString)
 segments_last p _ _ (segment t w h) = ([], t, refl, h.place, segment_is t.lexeme.kind (segment_kind t.lexeme.kind t.lexeme.octets w h.body))
 segments_last p _ _ (joined ts v w t d h) = (ts, t, refl, h.place, segment_is t.lexeme.kind (segment_kind t.lexeme.kind t.lexeme.octets w h.body))
 
@@ -125,17 +95,17 @@ last_colon : (z : Placed) (colon : Bool) (before : ℕ) (octets : List ℕ) (aft
 last_colon z colon before octets after end rest (q, b, h) = h.0
 
 -- in a container the place isn't the top level
-pub inside_place : (f : Frame) (fs : List Frame) (now : Now) → places.Top ≡ place_in (f ∷ fs) now → ⊥
-inside_place (frames.Items listings.List ss vs) fs now e = cc
-inside_place (frames.Items listings.Sexp ss vs) fs now e = cc
-inside_place (frames.Named ss ms s) fs now e = cc
-inside_place (frames.Fields ss ms) fs nows.Ready e = cc
-inside_place (frames.Fields ss ms) fs (nows.Pending h end) e = cc
-inside_place (frames.Fields ss ms) fs (nows.Long w end) e = cc
-inside_place (frames.Fields ss ms) fs nows.After e = cc
-inside_place (frames.Fields ss ms) fs nows.Name e = cc
-inside_place (frames.Fields ss ms) fs (nows.LongName w) e = cc
-inside_place (frames.Fields ss ms) fs (nows.Keyed s) e = cc
+pub inside_place : (f : Frame) (fs : List Frame) (now : Now) → Place.Top ≡ place_in (f ∷ fs) now → ⊥
+inside_place (Frame.Items Listing.List ss vs) fs now e = cc
+inside_place (Frame.Items Listing.Sexp ss vs) fs now e = cc
+inside_place (Frame.Named ss ms s) fs now e = cc
+inside_place (Frame.Fields ss ms) fs Now.Ready e = cc
+inside_place (Frame.Fields ss ms) fs (Now.Pending h end) e = cc
+inside_place (Frame.Fields ss ms) fs (Now.Long w end) e = cc
+inside_place (Frame.Fields ss ms) fs Now.After e = cc
+inside_place (Frame.Fields ss ms) fs Now.Name e = cc
+inside_place (Frame.Fields ss ms) fs (Now.LongName w) e = cc
+inside_place (Frame.Fields ss ms) fs (Now.Keyed s) e = cc
 
 module _ (g : Catalog) (l : Limits) (u : List ℕ) (vs : List Value) (s : Known) (r : Reading) (ahead : List ℕ) (A : Type 0)
     (b : Behind g l Scanned u vs s r ahead A) (used : s.used ≡ length u) (x : Placed) (xs : List Placed) (some : b.item ≡ x ∷ xs) where
@@ -158,7 +128,7 @@ module _ (g : Catalog) (l : Limits) (u : List ℕ) (vs : List Value) (s : Known)
   a = arrived g l r.context r.frames r.notes r.now b.item b.deep b.stands new
 
   -- the item's first token is no `::`
-  first : Begins g l places.Top b.item
+  first : Begins g l Place.Top b.item
   first =
       let w : Walking g l (fresh r.context) (x ∷ xs) = record { vs = []; n = a.r; read = ap (reads g l (fresh r.context)) (sym some) ∙ a.read } in
       let q = walking_said g l (fresh r.context) x xs w in
@@ -170,7 +140,7 @@ module _ (g : Catalog) (l : Limits) (u : List ℕ) (vs : List Value) (s : Known)
         cut = some;
         says = says_so g l (fresh r.context) x q.1 q.0 q.2;
         no_colons = λ e.
-            let kind = mark_kind x.lexeme.kind x.lexeme.octets marks.Colons
+            let kind = mark_kind x.lexeme.kind x.lexeme.octets Mark.Colons
             (subst (λ y. IsBody x.lexeme.kind x.lexeme.octets (Ok y)) e (said_body x.lexeme.kind x.lexeme.octets q.1 q.2)) in
             let n : false ≡ true = sym (ap opens_item kind) ∙ opens in
             cc;
@@ -248,19 +218,19 @@ module _ (g : Catalog) (l : Limits) (u : List ℕ) (vs : List Value) (s : Known)
         (subst (λ y. LexesTo false 0 (u ++ more) y w.colon w.end (w.blank ++ (rest ++ more))) e theirs) in
         let one = lexes_once (b.front ++ b.item) false 0 (u ++ more) d.flag k.colon d.mid k.end d.left (k.since ++ more) d.first ours in
         let found = one_found d.flag d.mid d.left z d.second.0 d.second.1 in
-        let here : Is z.place z.lexeme (run z.place (k.since ++ more) (scanning modes.Blank [] k.colon k.end k.end)) =
-        subst (λ y. Is z.place z.lexeme (run z.place y (scanning modes.Blank [] k.colon k.end k.end))) one.2
-        (subst (λ (y : ℕ). Is z.place z.lexeme (run z.place d.left (scanning modes.Blank [] k.colon y y))) one.1
-        (subst (λ y. Is z.place z.lexeme (run z.place d.left (scanning modes.Blank [] y d.mid d.mid))) one.0 found)) in
+        let here : Is z.place z.lexeme (run z.place (k.since ++ more) (scanning Mode.Blank [] k.colon k.end k.end)) =
+        subst (λ y. Is z.place z.lexeme (run z.place y (scanning Mode.Blank [] k.colon k.end k.end))) one.2
+        (subst (λ (y : ℕ). Is z.place z.lexeme (run z.place d.left (scanning Mode.Blank [] k.colon y y))) one.1
+        (subst (λ y. Is z.place z.lexeme (run z.place d.left (scanning Mode.Blank [] y d.mid d.mid))) one.0 found)) in
         let at' = (going_said g l a.r z zs (going_behind (z ∷ zs) e).0 (going_behind (z ∷ zs) e).1).0 ∙ a.here in
-        let placed : Is p z.lexeme (run p (k.since ++ more) (scanning modes.Blank [] k.colon k.end k.end)) =
-        subst (λ q. Is q z.lexeme (run q (k.since ++ more) (scanning modes.Blank [] k.colon k.end k.end))) at' here in
-        let there = subst (Is p z.lexeme) (run_behind p k.since more (scanning modes.Blank [] k.colon k.end k.end) s k.reached) placed in
+        let placed : Is p z.lexeme (run p (k.since ++ more) (scanning Mode.Blank [] k.colon k.end k.end)) =
+        subst (λ q. Is q z.lexeme (run q (k.since ++ more) (scanning Mode.Blank [] k.colon k.end k.end))) at' here in
+        let there = subst (Is p z.lexeme) (run_behind p k.since more (scanning Mode.Blank [] k.colon k.end k.end) s k.reached) placed in
         let last = lexed_front zs (colon_behind z) z.lexeme.end d.second.0 w.colon w.end (w.blank ++ (rest ++ more)) d.second.2 in
         ended z zs e there (omega (arith, last.2, long, size, used))
 
     -- where they are the fewer, they end before the next token, and the open item begins no earlier
-    fewer : (y : Placed) (ys : List Placed) → b.front ++ b.item ≡ w.tokens ++ y ∷ ys → y.place ≡ places.Top → length v ≤ r.start
+    fewer : (y : Placed) (ys : List Placed) → b.front ++ b.item ≡ w.tokens ++ y ∷ ys → y.place ≡ Place.Top → length v ≤ r.start
     fewer y ys e top = by (continues d.now (token_of y.lexeme content)) refl
       where
         parts : Parted false 0 (u ++ more) w.tokens (y ∷ ys) k.colon k.end (k.since ++ more)
@@ -297,10 +267,10 @@ module _ (g : Catalog) (l : Limits) (u : List ℕ) (vs : List Value) (s : Known)
         quotes : ends_long w.tokens ≡ true → (z : List ℕ) → token.token ≡ codes "''" ++ z → ⊥
         quotes h z i = w.no_segment h (blank_token (codes "''") z parts.left (w.blank ++ (rest ++ more)) (parts.second).0 parts.flag parts.mid y token i one.2)
 
-        goes_on : (content ≡ Mark' marks.Colons) ⊎ ((ends_long w.tokens ≡ true) × GoesOn (token_of y.lexeme content)) → ⊥
+        goes_on : (content ≡ Mark' Mark.Colons) ⊎ ((ends_long w.tokens ≡ true) × GoesOn (token_of y.lexeme content)) → ⊥
         goes_on (inl h) =
             let i = colons_token y.place parts.flag token.token (parts.second).0 y.lexeme.kind y.lexeme.octets token.is
-            (mark_kind y.lexeme.kind y.lexeme.octets marks.Colons (body (Mark' marks.Colons) h)) in
+            (mark_kind y.lexeme.kind y.lexeme.octets Mark.Colons (body (Mark' Mark.Colons) h)) in
             w.no_annotation (sym one.0 ∙ i.1) (blank_token (codes "::") [] parts.left (w.blank ++ (rest ++ more)) (parts.second).0 parts.flag parts.mid y token
             (i.0 ∙ sym (append-nil (codes "::"))) one.2)
         goes_on (inr (h, inl (z, i))) =
@@ -340,7 +310,7 @@ module _ (g : Catalog) (l : Limits) (u : List ℕ) (vs : List Value) (s : Known)
         by (inr (y ∷ ys, e, h)) = inl (fewer y ys e h)
 
     -- with its last token they end only where it waits at the top level
-    pub waits_there : w.tokens ≡ b.front ++ b.item → IsWaiting g l r.now × (places.Top ≡ p)
+    pub waits_there : w.tokens ≡ b.front ++ b.item → IsWaiting g l r.now × (Place.Top ≡ p)
     waits_there e = by a.is
       where
         n : going.n ≡ a.r
@@ -350,7 +320,7 @@ module _ (g : Catalog) (l : Limits) (u : List ℕ) (vs : List Value) (s : Known)
         ends = ap (λ y. on_turn (settle g l y) done) (sym n) ∙ going.ends
 
         by : ((y : Reading) × (settle g l a.r ≡ goes y) × (is_fresh y ≡ false) × (y.start ≡ starts g l 0 [] b.item))
-            ⊎ (IsWaiting g l r.now × IsWaiting g l a.r.now × (a.r.start ≡ starts g l 0 [] b.item)) → IsWaiting g l r.now × (places.Top ≡ p)
+            ⊎ (IsWaiting g l r.now × IsWaiting g l a.r.now × (a.r.start ≡ starts g l 0 [] b.item)) → IsWaiting g l r.now × (Place.Top ≡ p)
         by (inl (y, h, i, j)) = absurd (let q = walked_now g l [] going.later y (fresh going.c) (ap (λ z. on_turn z done) (sym h) ∙ ends) in
             let never : false ≡ true = sym i ∙ ap is_fresh q.1 in cc)
         by (inr (h, h', i)) = (h, top_now g l a.r going.later going.c ends ∙ a.here)
@@ -386,7 +356,7 @@ module _ (g : Catalog) (l : Limits) (u : List ℕ) (vs : List Value) (s : Known)
     shown : (f : Escape p s) (z : Placed) → Is p z.lexeme (run p f.octets s) → z.lexeme.end ≤ s.used → ⊥
     shown f z i n = escaped p s f.octets z.lexeme f.escapes i n
 
-    otherwise : (IsWaiting g l r.now → places.Top ≡ p → ⊥) → length v ≤ r.start
+    otherwise : (IsWaiting g l r.now → Place.Top ≡ p → ⊥) → length v ≤ r.start
     otherwise n = by (ends_before bare.octets (free bare.octets) v rest t cut (whole bare.octets bare.are) (λ z zs e. shown bare z))
       where
         by : (length v ≤ r.start) ⊎ ((whole bare.octets bare.are).tokens ≡ b.front ++ b.item) → length v ≤ r.start
@@ -394,7 +364,7 @@ module _ (g : Catalog) (l : Limits) (u : List ℕ) (vs : List Value) (s : Known)
         by (inr e) = let q = waits_there bare.octets (free bare.octets) v rest t cut (whole bare.octets bare.are) e in absurd (n q.0 q.1)
 
     -- octets behind which what stands at the end of the pieces goes on
-    closed : (more : List ℕ) → p ≡ places.Top → (c : Closing s k.since more)
+    closed : (more : List ℕ) → p ≡ Place.Top → (c : Closing s k.since more)
         → ((w : Whole g l v (rest ++ c.octets) t) → w.tokens ≡ b.front ++ b.item → ⊥) → length v ≤ r.start
     closed more top c n = by (ends_before c.octets (free c.octets) v rest t cut (whole c.octets c.are) (λ z zs e. shown f z))
       where
@@ -405,7 +375,7 @@ module _ (g : Catalog) (l : Limits) (u : List ℕ) (vs : List Value) (s : Known)
         by (inl h) = h
         by (inr e) = absurd (n (whole c.octets c.are) e)
 
-    mode_at : (colon : Bool) → k.colon ≡ colon → p ≡ places.Top → InMode places.Top colon k.end s.mode s.kept s.start k.since
+    mode_at : (colon : Bool) → k.colon ≡ colon → p ≡ Place.Top → InMode Place.Top colon k.end s.mode s.kept s.start k.since
     mode_at colon e top = subst (λ q. InMode q colon k.end s.mode s.kept s.start k.since) top
         (subst (λ c. InMode p c k.end s.mode s.kept s.start k.since) e k.holds.mode)
 
@@ -413,7 +383,7 @@ module _ (g : Catalog) (l : Limits) (u : List ℕ) (vs : List Value) (s : Known)
     closing_at colon more e c = subst (λ y. Closing (scanning s.mode s.kept y s.start s.used) k.since more) (sym (k.holds.flag ∙ e)) c
 
     -- behind a symbol
-    behind_symbol : (h : Held) (ss : Symbols) → p ≡ places.Top → PendingFor r.context [] ss h b.item → is_idle s.mode ≡ true → length v ≤ r.start
+    behind_symbol : (h : Held) (ss : Symbols) → p ≡ Place.Top → PendingFor r.context [] ss h b.item → is_idle s.mode ≡ true → length v ≤ r.start
     behind_symbol h ss top d idle =
         closed (codes "::") top c
         (λ w i. no_colons c.octets (free c.octets) v rest t cut w i colon c.shows)
@@ -426,17 +396,17 @@ module _ (g : Catalog) (l : Limits) (u : List ℕ) (vs : List Value) (s : Known)
         c = closing_at true (codes "::") colon (colons_close k.end s.kept s.start s.used k.since s.mode idle (mode_at true colon top))
 
     -- behind a long string
-    behind_long : (z : List ℕ) (ss : Symbols) → p ≡ places.Top → LongFor r.context [] ss z b.item → (is_idle s.mode || is_quoting s.mode) ≡ true
+    behind_long : (z : List ℕ) (ss : Symbols) → p ≡ Place.Top → LongFor r.context [] ss z b.item → (is_idle s.mode || is_quoting s.mode) ≡ true
         → length v ≤ r.start
     behind_long z ss top d waits =
         closed (codes "''") top c
         (λ w i. no_quotes c.octets (free c.octets) v rest t cut w i long_there c.shows)
       where
-        last : (front : List Placed) × (y : Placed) × (d.segments ≡ front ++ y ∷ []) × (y.place ≡ places.Top) × (y.lexeme.kind ≡ kinds.LongString)
-        last = segments_last places.Top d.segments z d.are
+        last : (front : List Placed) × (y : Placed) × (d.segments ≡ front ++ y ∷ []) × (y.place ≡ Place.Top) × (y.lexeme.kind ≡ TokenKind.LongString)
+        last = segments_last Place.Top d.segments z d.are
 
         long_there : ends_long (b.front ++ b.item) ≡ true
-        long_there = ends_behind b.front b.item (ap ends_long d.whole ∙ ends_behind d.before d.segments (segments_long places.Top d.segments z d.are))
+        long_there = ends_behind b.front b.item (ap ends_long d.whole ∙ ends_behind d.before d.segments (segments_long Place.Top d.segments z d.are))
 
         all : b.front ++ b.item ≡ (b.front ++ (d.before ++ last.0)) ++ last.1 ∷ []
         all = ap (λ y. b.front ++ y) (d.whole ∙ (ap (λ y. d.before ++ y) last.2 ∙ sym (append_assoc d.before last.0 (last.1 ∷ []))))
@@ -444,12 +414,12 @@ module _ (g : Catalog) (l : Limits) (u : List ℕ) (vs : List Value) (s : Known)
 
         colon : k.colon ≡ false
         colon = sym (colon_last (b.front ++ (d.before ++ last.0)) last.1 all)
-            ∙ (ap (λ q. takes_colon q (last.1).lexeme.kind) last.3 ∙ ap (takes_colon places.Top) last.4)
+            ∙ (ap (λ q. takes_colon q (last.1).lexeme.kind) last.3 ∙ ap (takes_colon Place.Top) last.4)
 
         c : Closing s k.since (codes "''")
         c =
             closing_at false (codes "''") colon (quotes_close k.end s.kept s.start s.used k.since s.mode waits
-            (subst (λ y. Escape places.Top (scanning s.mode s.kept y s.start s.used)) (k.holds.flag ∙ colon) (subst (λ q. Escape q s) top bare))
+            (subst (λ y. Escape Place.Top (scanning s.mode s.kept y s.start s.used)) (k.holds.flag ∙ colon) (subst (λ q. Escape q s) top bare))
             (mode_at false colon top))
 
     -- Where an item is open, the pieces in front of it are the longest.
@@ -459,18 +429,18 @@ module _ (g : Catalog) (l : Limits) (u : List ℕ) (vs : List Value) (s : Known)
         stands : (n : Now) → r.now ≡ n → r.frames ≡ [] → NowStands r.context [] r.notes b.item n
         stands n e i = subst (λ y. NowStands r.context [] r.notes b.item y) e (subst (λ y. NowStands r.context y r.notes b.item r.now) i b.stands)
 
-        top : (n : Now) → r.frames ≡ [] → p ≡ places.Top
+        top : (n : Now) → r.frames ≡ [] → p ≡ Place.Top
         top n i = ap (λ y. place_in y r.now) i
 
         choose : (n : Now) → r.now ≡ n → (fs : List Frame) → r.frames ≡ fs → length v ≤ r.start
-        choose (nows.Pending h end) e [] i = behind_symbol h r.notes (top r.now i) (stands (nows.Pending h end) e i) (subst (Waits g l s) e wait)
-        choose (nows.Long z end) e [] i = behind_long z r.notes (top r.now i) (stands (nows.Long z end) e i) (subst (Waits g l s) e wait)
+        choose (Now.Pending h end) e [] i = behind_symbol h r.notes (top r.now i) (stands (Now.Pending h end) e i) (subst (Waits g l s) e wait)
+        choose (Now.Long z end) e [] i = behind_long z r.notes (top r.now i) (stands (Now.Long z end) e i) (subst (Waits g l s) e wait)
         choose n e (f ∷ fs) i = otherwise (λ w q. inside_place f fs r.now (q ∙ ap (λ y. place_in y r.now) i))
-        choose nows.Ready e [] i = otherwise (λ w q. subst (IsWaiting g l) e w)
-        choose nows.After e [] i = otherwise (λ w q. subst (IsWaiting g l) e w)
-        choose nows.Name e [] i = otherwise (λ w q. subst (IsWaiting g l) e w)
-        choose (nows.LongName z) e [] i = otherwise (λ w q. subst (IsWaiting g l) e w)
-        choose (nows.Keyed z) e [] i = otherwise (λ w q. subst (IsWaiting g l) e w)
+        choose Now.Ready e [] i = otherwise (λ w q. subst (IsWaiting g l) e w)
+        choose Now.After e [] i = otherwise (λ w q. subst (IsWaiting g l) e w)
+        choose Now.Name e [] i = otherwise (λ w q. subst (IsWaiting g l) e w)
+        choose (Now.LongName z) e [] i = otherwise (λ w q. subst (IsWaiting g l) e w)
+        choose (Now.Keyed z) e [] i = otherwise (λ w q. subst (IsWaiting g l) e w)
 
 -- where no octet is refused
 pub longest_open : (g : Catalog) (l : Limits) (u : List ℕ) (vs : List Value) (m : State) (b : Stood g l u vs m) (x : Placed) (xs : List Placed)

@@ -1,48 +1,22 @@
 -- Behind a symbol that no longer waits at the top level, a token has begun.
 use Rattle.std.proofs.Common.{◌≡◌, ℕ, zero, suc, ◌+◌, nat_le, List, [], ◌∷◌, ◌++◌, Bool, true, false, ◌&&◌, not, Result, Ok, Err, Option, Some, None, refl, sym, ap, ◌∙◌, subst, if◌then◌else◌, inl, inr}
-use Rattle.ion_model.specs.declared.value.Value.{Value}
-use Rattle.ion_atoms.specs.declared.refusal.Reason.{Reason}
-use Rattle.ion_atoms.specs.declared.refusal.Reason.TheVariants as reasons
-use Rattle.ion_atoms.specs.declared.refusal.Refusal.{Refusal}
-use Rattle.ion_symtab.specs.declared.limits.Limits.{Limits}
-use Rattle.ion_symtab.specs.declared.catalog.Catalog.{Catalog}
-use Rattle.ion_symtab.specs.Slots.{Slot, resolve}
-use Rattle.ion_tokens.specs.declared.mode.Place.{Place}
-use Rattle.ion_tokens.specs.declared.mode.TokenKind.{TokenKind}
-use Rattle.ion_tokens.specs.declared.mode.TokenKind.TheVariants as kinds
-use Rattle.ion_tokens.specs.Places.{is_name}
-use Rattle.ion_tokens.specs.machine.Bounds.{is_idle}
-use Rattle.ion_tokens.specs.Bodies.{Content, Word, Id, Quoted, Short, Long, Number', TypedNull, Operator, Clob, Blob, Mark', IsBody, IsWordBody, id_of, kind_named, null_of}
-use Rattle.ion_tokens.specs.machine.Scanning.{Known, Outcome, Next, Given, Left, Refused, feed}
-use Rattle.ion_tokens.specs.Lexemes.{Lexeme, takes_colon}
-use Rattle.ion_tokens.specs.machine.Said.{said}
-use Rattle.ion_tokens.specs.machine.Ahead.{is_sane, is_quoting, symbol_waits, long_waits, Follows}
+use Rattle.ion_text.specs.Names.{Blob, Catalog, Clob, Content, Effect, Follows, Frame, Given, Held, Id, IsBody, IsWordBody, Known, Leading, Left, Lexeme, Limits, Long, Mark', Next, Now, Number', Operator, Outcome, Place, Quoted, Reading, Reason, Refusal, Refused, Short, Slot, State, Symbols, TokenKind, Turn, TypedNull, Value, Word, at, begun_at, behind_given, behind_left, eats, fails, feed, gives, goes, held_word, id_of, in_segment, is_fresh, is_idle, is_keyword, is_name, is_quoting, is_sane, is_top, keyed, kind_named, late, leaves, long_waits, noticed, null_of, on_octet, on_said, on_scan, on_settled, once_more, or_worse, place, place_in, reaches, refuses, resolve, resolved, run, run_on, said, said_body, settle, settle_same, shut, symbol_waits, takes, takes_colon, tells, token_at, token_of, turn, turn_now, under, unsettled, uses, waits, waits_now, with_scan}
 use Rattle.ion_tokens.specs.laws.Follows.{feed_follows}
-use Rattle.ion_text.specs.declared.state.Held.{Held}
-use Rattle.ion_text.specs.declared.state.Held.TheVariants as helds
-use Rattle.ion_text.specs.declared.state.Now.{Now}
-use Rattle.ion_text.specs.declared.state.Now.TheVariants as nows
-use Rattle.ion_text.specs.declared.state.Frame.{Frame}
-use Rattle.ion_text.specs.Grammar.{is_keyword}
-use Rattle.ion_text.specs.machine.EachToken.{under, token_at, Reading, Turn, goes, gives, refuses, late, Symbols, at, place, place_in, settle, turn, turn_now, resolved, keyed, begun_at, held_word}
-use Rattle.ion_text.specs.machine.Run.{State, Effect, uses, tells, leaves, fails, eats, takes, waits, waits_now, in_segment, unsettled, noticed, on_octet, on_scan, on_settled, on_said, behind_given, behind_left, or_worse, with_scan, token_of, is_top, is_fresh, shut, reaches, run, run_on, once_more}
-use Rattle.ion_text.specs.machine.Passed.{said_body}
-use Rattle.ion_text.specs.machine.Places.{Leading, settle_same}
+use Rattle.ion_text.specs.laws.reading.complete.Segments.{never}
 use Rattle.ion_text.specs.laws.reading.sound.Held.{map_turn, or_parts}
 use Rattle.ion_text.specs.laws.reading.sound.Spans.{IsClose, Spans, turn_spans}
 use Rattle.ion_text.specs.laws.reading.sound.StandsOpen.{start_now, symbol_said}
-use Rattle.ion_text.specs.laws.reading.sound.Steps.{Stood, After, eats_after, takes_after}
+use Rattle.ion_text.specs.laws.reading.sound.Steps.{After, Stood, eats_after, takes_after}
 use Rattle.ion_text.specs.laws.showing.tokens.Cuts.{Keeps, feed_keeps}
-use Rattle.ion_text.specs.laws.reading.complete.Segments.{never}
 
 -- what is no fresh reading
 
-pending_unfresh : (start : ℕ) (c : List Slot) (fs : List Frame) (ss : Symbols) (h : Held) (end : ℕ) → is_fresh (at start c fs ss (nows.Pending h end)) ≡ false
+pending_unfresh : (start : ℕ) (c : List Slot) (fs : List Frame) (ss : Symbols) (h : Held) (end : ℕ) → is_fresh (at start c fs ss (Now.Pending h end)) ≡ false
 pending_unfresh start c [] [] h end = refl
 pending_unfresh start c [] (s ∷ ss) h end = refl
 pending_unfresh start c (f ∷ fs) ss h end = refl
 
-pub keyed_unfresh : (start : ℕ) (c : List Slot) (fs : List Frame) (ss : Symbols) (s : Option (List ℕ)) → is_fresh (at start c fs ss (nows.Keyed s)) ≡ false
+pub keyed_unfresh : (start : ℕ) (c : List Slot) (fs : List Frame) (ss : Symbols) (s : Option (List ℕ)) → is_fresh (at start c fs ss (Now.Keyed s)) ≡ false
 keyed_unfresh start c [] [] s = refl
 keyed_unfresh start c [] (x ∷ ss) s = refl
 keyed_unfresh start c (f ∷ fs) ss s = refl
@@ -78,41 +52,41 @@ module _ (g : Catalog) (l : Limits) where
   resolved_unfresh (Err e) f h = tt
 
   keyword_unfresh : (start : ℕ) (c : List Slot) (fs : List Frame) (w : List ℕ) (b : Bool)
-      → Unfresh (if b then late reasons.KeywordAsName (keyed start c fs (Some w)) else goes (keyed start c fs (Some w)))
+      → Unfresh (if b then late Reason.KeywordAsName (keyed start c fs (Some w)) else goes (keyed start c fs (Some w)))
   keyword_unfresh start c fs w true = tt
   keyword_unfresh start c fs w false = keyed_unfresh start c fs [] (Some w)
 
   symbol_unfresh : (begin end start : ℕ) (c : List Slot) (fs : List Frame) (ss : Symbols) (said : Content) (now : Now) → symbol_said said ≡ true
       → Unfresh (turn_now (under g l) (at start c fs ss now) (token_at begin end said) now)
-  symbol_unfresh begin end start c fs ss (Word w) nows.Ready h = pending_unfresh (begun_at start begin fs ss) c fs ss (held_word w) end
-  symbol_unfresh begin end start c fs ss (Id id) nows.Ready h =
-      resolved_unfresh (resolve c id) _ (λ s. pending_unfresh (begun_at start begin fs ss) c fs ss (helds.Symbol s) end)
-  symbol_unfresh begin end start c fs ss (Quoted w) nows.Ready h = pending_unfresh (begun_at start begin fs ss) c fs ss (helds.Symbol (Some w)) end
-  symbol_unfresh begin end start c fs ss (TypedNull k) nows.Ready h = pending_unfresh (begun_at start begin fs ss) c fs ss (helds.Null k) end
-  symbol_unfresh begin end start c fs ss (Word w) nows.Name h = keyword_unfresh start c fs w (is_keyword w)
-  symbol_unfresh begin end start c fs ss (Id id) nows.Name h = resolved_unfresh (resolve c id) _ (λ s. keyed_unfresh start c fs [] s)
-  symbol_unfresh begin end start c fs ss (Quoted w) nows.Name h = keyed_unfresh start c fs [] (Some w)
-  symbol_unfresh begin end start c fs ss (TypedNull k) nows.Name h = tt
-  symbol_unfresh begin end start c fs ss (Word w) (nows.Pending x e) h = tt
-  symbol_unfresh begin end start c fs ss (Word w) (nows.Long x e) h = tt
-  symbol_unfresh begin end start c fs ss (Word w) nows.After h = tt
-  symbol_unfresh begin end start c fs ss (Word w) (nows.LongName x) h = tt
-  symbol_unfresh begin end start c fs ss (Word w) (nows.Keyed x) h = tt
-  symbol_unfresh begin end start c fs ss (Id w) (nows.Pending x e) h = tt
-  symbol_unfresh begin end start c fs ss (Id w) (nows.Long x e) h = tt
-  symbol_unfresh begin end start c fs ss (Id w) nows.After h = tt
-  symbol_unfresh begin end start c fs ss (Id w) (nows.LongName x) h = tt
-  symbol_unfresh begin end start c fs ss (Id w) (nows.Keyed x) h = tt
-  symbol_unfresh begin end start c fs ss (Quoted w) (nows.Pending x e) h = tt
-  symbol_unfresh begin end start c fs ss (Quoted w) (nows.Long x e) h = tt
-  symbol_unfresh begin end start c fs ss (Quoted w) nows.After h = tt
-  symbol_unfresh begin end start c fs ss (Quoted w) (nows.LongName x) h = tt
-  symbol_unfresh begin end start c fs ss (Quoted w) (nows.Keyed x) h = tt
-  symbol_unfresh begin end start c fs ss (TypedNull w) (nows.Pending x e) h = tt
-  symbol_unfresh begin end start c fs ss (TypedNull w) (nows.Long x e) h = tt
-  symbol_unfresh begin end start c fs ss (TypedNull w) nows.After h = tt
-  symbol_unfresh begin end start c fs ss (TypedNull w) (nows.LongName x) h = tt
-  symbol_unfresh begin end start c fs ss (TypedNull w) (nows.Keyed x) h = tt
+  symbol_unfresh begin end start c fs ss (Word w) Now.Ready h = pending_unfresh (begun_at start begin fs ss) c fs ss (held_word w) end
+  symbol_unfresh begin end start c fs ss (Id id) Now.Ready h =
+      resolved_unfresh (resolve c id) _ (λ s. pending_unfresh (begun_at start begin fs ss) c fs ss (Held.Symbol s) end)
+  symbol_unfresh begin end start c fs ss (Quoted w) Now.Ready h = pending_unfresh (begun_at start begin fs ss) c fs ss (Held.Symbol (Some w)) end
+  symbol_unfresh begin end start c fs ss (TypedNull k) Now.Ready h = pending_unfresh (begun_at start begin fs ss) c fs ss (Held.Null k) end
+  symbol_unfresh begin end start c fs ss (Word w) Now.Name h = keyword_unfresh start c fs w (is_keyword w)
+  symbol_unfresh begin end start c fs ss (Id id) Now.Name h = resolved_unfresh (resolve c id) _ (λ s. keyed_unfresh start c fs [] s)
+  symbol_unfresh begin end start c fs ss (Quoted w) Now.Name h = keyed_unfresh start c fs [] (Some w)
+  symbol_unfresh begin end start c fs ss (TypedNull k) Now.Name h = tt
+  symbol_unfresh begin end start c fs ss (Word w) (Now.Pending x e) h = tt
+  symbol_unfresh begin end start c fs ss (Word w) (Now.Long x e) h = tt
+  symbol_unfresh begin end start c fs ss (Word w) Now.After h = tt
+  symbol_unfresh begin end start c fs ss (Word w) (Now.LongName x) h = tt
+  symbol_unfresh begin end start c fs ss (Word w) (Now.Keyed x) h = tt
+  symbol_unfresh begin end start c fs ss (Id w) (Now.Pending x e) h = tt
+  symbol_unfresh begin end start c fs ss (Id w) (Now.Long x e) h = tt
+  symbol_unfresh begin end start c fs ss (Id w) Now.After h = tt
+  symbol_unfresh begin end start c fs ss (Id w) (Now.LongName x) h = tt
+  symbol_unfresh begin end start c fs ss (Id w) (Now.Keyed x) h = tt
+  symbol_unfresh begin end start c fs ss (Quoted w) (Now.Pending x e) h = tt
+  symbol_unfresh begin end start c fs ss (Quoted w) (Now.Long x e) h = tt
+  symbol_unfresh begin end start c fs ss (Quoted w) Now.After h = tt
+  symbol_unfresh begin end start c fs ss (Quoted w) (Now.LongName x) h = tt
+  symbol_unfresh begin end start c fs ss (Quoted w) (Now.Keyed x) h = tt
+  symbol_unfresh begin end start c fs ss (TypedNull w) (Now.Pending x e) h = tt
+  symbol_unfresh begin end start c fs ss (TypedNull w) (Now.Long x e) h = tt
+  symbol_unfresh begin end start c fs ss (TypedNull w) Now.After h = tt
+  symbol_unfresh begin end start c fs ss (TypedNull w) (Now.LongName x) h = tt
+  symbol_unfresh begin end start c fs ss (TypedNull w) (Now.Keyed x) h = tt
   symbol_unfresh begin end start c fs ss (Short w) now h = absurd cc
   symbol_unfresh begin end start c fs ss (Long w) now h = absurd cc
   symbol_unfresh begin end start c fs ss (Number' w) now h = absurd cc
@@ -165,16 +139,16 @@ module _ (g : Catalog) (l : Limits) where
           (turn_spans g l r (token_of x c) (λ h. absurd (never (is_top r.frames) i h)))))
 
       go : (k : TokenKind) → x.kind ≡ k → IsBody k x.octets (Ok c) → NoColon (place r) x t
-      go kinds.Word e h = symbol (word_symbol x.octets (id_of x.octets) c h)
-      go kinds.KindName e h = symbol (null_symbol (kind_named x.octets) c h)
-      go kinds.QuotedSymbol e h = symbol (ap symbol_said h.0)
-      go kinds.ShortString e h = name (λ i. subst (IsClose false) h.0 i) (is_name (place r)) refl (ap (takes_colon (place r)) e)
-      go kinds.LongString e h = name (λ i. subst (IsClose false) h.0 i) (is_name (place r)) refl (ap (takes_colon (place r)) e)
-      go kinds.Number e h = free (ap (takes_colon (place r)) e)
-      go kinds.Operator e h = free (ap (takes_colon (place r)) e)
-      go kinds.Clob e h = free (ap (takes_colon (place r)) e)
-      go kinds.Blob e h = free (ap (takes_colon (place r)) e)
-      go (kinds.Mark m) e h = free (ap (takes_colon (place r)) e)
+      go TokenKind.Word e h = symbol (word_symbol x.octets (id_of x.octets) c h)
+      go TokenKind.KindName e h = symbol (null_symbol (kind_named x.octets) c h)
+      go TokenKind.QuotedSymbol e h = symbol (ap symbol_said h.0)
+      go TokenKind.ShortString e h = name (λ i. subst (IsClose false) h.0 i) (is_name (place r)) refl (ap (takes_colon (place r)) e)
+      go TokenKind.LongString e h = name (λ i. subst (IsClose false) h.0 i) (is_name (place r)) refl (ap (takes_colon (place r)) e)
+      go TokenKind.Number e h = free (ap (takes_colon (place r)) e)
+      go TokenKind.Operator e h = free (ap (takes_colon (place r)) e)
+      go TokenKind.Clob e h = free (ap (takes_colon (place r)) e)
+      go TokenKind.Blob e h = free (ap (takes_colon (place r)) e)
+      go (TokenKind.Mark m) e h = free (ap (takes_colon (place r)) e)
 
   -- where nothing is open, and the last token may have a colon behind it, a token has begun
   abbrev pub HasBegun : Known → Reading → Type 0
@@ -208,8 +182,8 @@ module _ (g : Catalog) (l : Limits) where
     noticed_still : (r : Reading) (s : Known) → HasBegun s r → StillBehind o (noticed l r s)
     noticed_still r s h = go (shut r.now && not (is_idle s.mode)) (nat_le (reaches r.frames r s) l.item)
       where
-        go : (x y : Bool) → StillBehind o (if x then fails reasons.Unexpected else
-            (if y then uses (record { scan = s; reading = r }) else fails reasons.ItemTooLong))
+        go : (x y : Bool) → StillBehind o (if x then fails Reason.Unexpected else
+            (if y then uses (record { scan = s; reading = r }) else fails Reason.ItemTooLong))
         go true y = tt
         go false true = h
         go false false = tt
@@ -303,13 +277,13 @@ module _ (g : Catalog) (l : Limits) where
             (ap (place_in fs) (sym e), λ i k. h (ap (λ m. is_fresh (at start c fs ss m)) e ∙ i) k)
 
         go : (n : Now) → now ≡ n → Leading g l (SettledIn p s) (settle g l (at start c fs ss now))
-        go (nows.Pending k end) e = by (symbol_begins (feed p s o) (sym (ap (λ m. waits_now (is_top fs) m (feed p s o)) e) ∙ w))
-        go (nows.Long v end) e = by (long_begins (is_top fs) (feed p s o) (sym (ap (λ m. waits_now (is_top fs) m (feed p s o)) e) ∙ w))
-        go (nows.LongName v) e = by (long_begins false (feed p s o) (sym (ap (λ m. waits_now (is_top fs) m (feed p s o)) e) ∙ w))
-        go nows.Ready e = same nows.Ready e refl
-        go nows.After e = same nows.After e refl
-        go nows.Name e = same nows.Name e refl
-        go (nows.Keyed x) e = same (nows.Keyed x) e refl
+        go (Now.Pending k end) e = by (symbol_begins (feed p s o) (sym (ap (λ m. waits_now (is_top fs) m (feed p s o)) e) ∙ w))
+        go (Now.Long v end) e = by (long_begins (is_top fs) (feed p s o) (sym (ap (λ m. waits_now (is_top fs) m (feed p s o)) e) ∙ w))
+        go (Now.LongName v) e = by (long_begins false (feed p s o) (sym (ap (λ m. waits_now (is_top fs) m (feed p s o)) e) ∙ w))
+        go Now.Ready e = same Now.Ready e refl
+        go Now.After e = same Now.After e refl
+        go Now.Name e = same Now.Name e refl
+        go (Now.Keyed x) e = same (Now.Keyed x) e refl
 
     octet_still : (s : Known) (r : Reading) (again : State → Effect) → AgainStill again → StillAt o s r
         → StillBehind o (on_octet g l again (with_scan s r) (feed (place r) s o))

@@ -1,35 +1,15 @@
 -- Where no octet is refused, the open item is within the limit on items, as far as it is known to go.
 use Rattle.std.proofs.Common.{◌≡◌, ℕ, zero, suc, ◌+◌, ◌≤◌, nat_le, List, [], ◌∷◌, Bool, true, false, ◌&&◌, not, Result, Ok, Err, Option, Some, None, refl, sym, subst, arith, if◌then◌else◌}
 use Rattle.std.specs.Prelude.{◌-◌, ◌==◌, bytes_eq, codes}
-use Rattle.ion_atoms.specs.declared.refusal.Reason.{Reason}
-use Rattle.ion_atoms.specs.declared.refusal.Reason.TheVariants as reasons
-use Rattle.ion_atoms.specs.declared.refusal.Refusal.{Refusal}
-use Rattle.ion_symtab.specs.declared.limits.Limits.{Limits}
-use Rattle.ion_symtab.specs.declared.catalog.Catalog.{Catalog}
-use Rattle.ion_tokens.specs.declared.mode.Place.{Place}
-use Rattle.ion_tokens.specs.declared.mode.Mode.TheVariants as modes
-use Rattle.ion_tokens.specs.declared.mode.Action.{Action}
-use Rattle.ion_tokens.specs.declared.mode.Action.TheVariants as actions
-use Rattle.ion_tokens.specs.declared.mode.TokenKind.TheVariants as kinds
+use Rattle.ion_text.specs.Names.{Action, Catalog, Content, Effect, Frame, Given, Known, Left, Limits, Mode, Next, Now, Outcome, Place, Reading, Reason, Refusal, Refused, State, Symbols, TokenKind, Turn, acts, at, begun, begun_in, behind, behind_given, behind_left, blob_ends, blob_of, cut, eats, fails, feed, form_of, gives, go_to, goes, is_fresh, is_idle, is_long_begun, is_top, late, leaves, longest_top, noticed, on_octet, on_said, on_scan, on_settled, once_more, or_worse, past, place, reaches, refuses, run, run_on, said, settle, shut, takes, tells, token_of, turn, unsettled, uses, waits, with_scan}
 use Rattle.ion_tokens.specs.machine.Table.{next}
-use Rattle.ion_tokens.specs.machine.Bounds.{is_idle}
-use Rattle.ion_tokens.specs.machine.Views.{behind, form_of, begun_in}
-use Rattle.ion_tokens.specs.Blobs.{blob_of}
-use Rattle.ion_tokens.specs.Bodies.{Content}
-use Rattle.ion_tokens.specs.machine.Said.{said}
-use Rattle.ion_tokens.specs.machine.Scanning.{Known, Outcome, Next, Given, Left, Refused, go_to, past, cut, acts, blob_ends, feed}
-use Rattle.ion_text.specs.declared.state.Now.{Now}
-use Rattle.ion_text.specs.declared.state.Now.TheVariants as nows
-use Rattle.ion_text.specs.declared.state.Frame.{Frame}
-use Rattle.ion_text.specs.machine.EachToken.{Reading, Turn, goes, gives, refuses, late, Symbols, at, place, settle, turn}
-use Rattle.ion_text.specs.machine.Run.{State, Effect, uses, tells, leaves, fails, begun, eats, takes, waits, unsettled, noticed, on_octet, on_scan, on_settled, on_said, behind_given, behind_left, or_worse, with_scan, token_of, is_top, is_fresh, shut, reaches, longest_top, is_long_begun, run, run_on, once_more}
-use Rattle.ion_text.specs.laws.reading.complete.Segments.{NotRefused, unsettled_waits}
-use Rattle.ion_text.specs.laws.reading.sound.Quotes.{le_of}
-use Rattle.ion_text.specs.laws.reading.sound.StandsOpen.{start_now}
-use Rattle.ion_text.specs.laws.reading.sound.Spans.{Spans, turn_spans}
+use Rattle.ion_text.specs.laws.reading.complete.Accepts.{SettledCalm, idle_calm, settle_settled, turn_ok, waits_calm}
 use Rattle.ion_text.specs.laws.reading.complete.Going.{TopOk}
 use Rattle.ion_text.specs.laws.reading.complete.Quiet.{CalmNow, calm_now}
-use Rattle.ion_text.specs.laws.reading.complete.Accepts.{SettledCalm, settle_settled, turn_ok, idle_calm, waits_calm}
+use Rattle.ion_text.specs.laws.reading.complete.Segments.{NotRefused, unsettled_waits}
+use Rattle.ion_text.specs.laws.reading.sound.Quotes.{le_of}
+use Rattle.ion_text.specs.laws.reading.sound.Spans.{Spans, turn_spans}
+use Rattle.ion_text.specs.laws.reading.sound.StandsOpen.{start_now}
 
 -- behind a token that ended with its last octet none has begun
 abbrev IdleBehind : Outcome → Type 0
@@ -41,18 +21,18 @@ blob_idle s None = tt
 blob_idle s (Some b) = tt
 
 word_idle : (p : Place) (s : Known) (b : Bool) → IdleBehind
-    (if b then Next (go_to s modes.KindName []) else Left (cut s kinds.Word s.kept s.used) (past p kinds.Word modes.Blank [] s.used s.used))
+    (if b then Next (go_to s Mode.KindName []) else Left (cut s TokenKind.Word s.kept s.used) (past p TokenKind.Word Mode.Blank [] s.used s.used))
 word_idle p s true = tt
 word_idle p s false = tt
 
 acts_idle : (p : Place) (s : Known) (o : ℕ) (a : Action) → IdleBehind (acts p s o a)
-acts_idle p s o (actions.Go m k) = tt
-acts_idle p s o (actions.Give kind k) = refl
-acts_idle p s o (actions.Before kind k m) = tt
-acts_idle p s o actions.EndWord = word_idle p s ((o == 46) && bytes_eq s.kept (codes "null"))
-acts_idle p s o (actions.Split n) = tt
-acts_idle p s o actions.EndBlob = blob_idle s (blob_of s.kept)
-acts_idle p s o (actions.Refuse e) = tt
+acts_idle p s o (Action.Go m k) = tt
+acts_idle p s o (Action.Give kind k) = refl
+acts_idle p s o (Action.Before kind k m) = tt
+acts_idle p s o Action.EndWord = word_idle p s ((o == 46) && bytes_eq s.kept (codes "null"))
+acts_idle p s o (Action.Split n) = tt
+acts_idle p s o Action.EndBlob = blob_idle s (blob_of s.kept)
+acts_idle p s o (Action.Refuse e) = tt
 
 feed_idle : (p : Place) (s : Known) (o : ℕ) → IdleBehind (feed p s o)
 feed_idle p s o = acts_idle p s o (next p s.colon s.mode o)
@@ -73,7 +53,7 @@ module _ (g : Catalog) (l : Limits) where
   noticed_within r s c = go (shut r.now && not (is_idle s.mode)) (nat_le (reaches r.frames r s) l.item) refl
     where
       go : (x y : Bool) → nat_le (reaches r.frames r s) l.item ≡ y
-          → WithinBehind (if x then fails reasons.Unexpected else (if y then uses (record { scan = s; reading = r }) else fails reasons.ItemTooLong))
+          → WithinBehind (if x then fails Reason.Unexpected else (if y then uses (record { scan = s; reading = r }) else fails Reason.ItemTooLong))
       go true y e = tt
       go false true e = (le_of (reaches r.frames r s) l.item e, c)
       go false false e = tt
@@ -88,20 +68,20 @@ module _ (g : Catalog) (l : Limits) where
   fresh_within : (s : Known) (r : Reading) → is_fresh r ≡ true → is_idle s.mode ≡ true → Within (with_scan s r)
   fresh_within s r h idle = go r.frames r.notes r.now h
     where
-      none : longest_top r.start s.used nows.Ready [] (begun_in s) (is_long_begun (begun_in s)) ≤ l.item
-      none = subst (λ i. longest_top r.start s.used nows.Ready []
+      none : longest_top r.start s.used Now.Ready [] (begun_in s) (is_long_begun (begun_in s)) ≤ l.item
+      none = subst (λ i. longest_top r.start s.used Now.Ready []
           (if i then None else Some (record { start = s.start; end = s.used - behind s.mode; form = form_of s.mode })) (is_long_begun (begun_in s)) ≤ l.item)
           (sym idle) (omega arith)
 
       go : (fs : List Frame) (ss : Symbols) (n : Now) → is_fresh (at r.start r.context fs ss n) ≡ true → (reaches fs (at r.start r.context fs ss n) s ≤ l.item)
           × (is_top fs ≡ true → CalmNow n s.mode)
-      go [] [] nows.Ready h = (none, λ k. tt)
-      go [] [] (nows.Pending k e) h = absurd cc
-      go [] [] (nows.Long w e) h = absurd cc
-      go [] [] nows.After h = absurd cc
-      go [] [] nows.Name h = absurd cc
-      go [] [] (nows.LongName w) h = absurd cc
-      go [] [] (nows.Keyed s) h = absurd cc
+      go [] [] Now.Ready h = (none, λ k. tt)
+      go [] [] (Now.Pending k e) h = absurd cc
+      go [] [] (Now.Long w e) h = absurd cc
+      go [] [] Now.After h = absurd cc
+      go [] [] Now.Name h = absurd cc
+      go [] [] (Now.LongName w) h = absurd cc
+      go [] [] (Now.Keyed s) h = absurd cc
       go [] (x ∷ ss) n h = absurd cc
       go (f ∷ fs) ss n h = absurd cc
 
@@ -139,8 +119,8 @@ module _ (g : Catalog) (l : Limits) where
 
   settled_within : (s : Known) (again : State → Effect) → AgainWithin again → (x : Outcome) → IdleBehind x → (t : Turn) → SettledCalm g l t
       → WithinBehind (on_settled g l again s x t)
-  settled_within s again f x i (goes n) c = scan_within n again f (λ k. calm_now n.now modes.Blank (c modes.Blank k)) x i (λ t e k. c t.mode k)
-  settled_within s again f x i (gives v n) c = λ k. calm_now n.now modes.Blank (c modes.Blank k)
+  settled_within s again f x i (goes n) c = scan_within n again f (λ k. calm_now n.now Mode.Blank (c Mode.Blank k)) x i (λ t e k. c t.mode k)
+  settled_within s again f x i (gives v n) c = λ k. calm_now n.now Mode.Blank (c Mode.Blank k)
   settled_within s again f x i (refuses e) c = tt
   settled_within s again f x i (late e n) c = worse_within e (on_scan g l again n x)
 

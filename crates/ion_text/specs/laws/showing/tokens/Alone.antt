@@ -3,25 +3,12 @@ use Rattle.std.proofs.Common.{◌≡◌, ℕ, ◌<◌, eqb-true, Bool, true, fal
 use Rattle.std.specs.Prelude.{◌==◌, ◌&&◌, ◌||◌, not, codes}
 use Rattle.std.specs.List.{flat_map, AllByRecursion}
 use Rattle.std.proofs.lemmas.Bool.{and_parts, or_parts}
-use Rattle.ion_model.specs.declared.value.Value.{Value}
-use Rattle.ion_symtab.specs.declared.limits.Limits.{Limits}
-use Rattle.ion_symtab.specs.declared.catalog.Catalog.{Catalog}
-use Rattle.ion_symtab.specs.Promises.{HasPieces}
-use Rattle.ion_symtab.specs.Slots.{Slot}
-use Rattle.ion_tokens.specs.Octets.{among, is_white, is_word_octet, is_operator_octet, is_stop}
-use Rattle.ion_tokens.specs.declared.mode.Place.{Place}
-use Rattle.ion_tokens.specs.declared.mode.Mark.{Mark}
-use Rattle.ion_tokens.specs.declared.mode.Mark.TheVariants as marks
-use Rattle.ion_tokens.specs.declared.mode.TokenKind.{TokenKind}
-use Rattle.ion_tokens.specs.declared.mode.TokenKind.TheVariants as kinds
-use Rattle.ion_tokens.specs.Blanks.{BlankPiece, White, LineComment, BlockComment, IsBlankPiece, blank_spelling, IsBlank, IsLastBlank}
-use Rattle.ion_tokens.specs.Lexemes.{mark_spelling, begins, begins_comment, comment_within, begins_infinity, IsNumeric, IsOperator, MarkEnds, IsLexeme}
-use Rattle.ion_tokens.specs.Lexed.{Placed, Lexes, LexesTo, colon_behind}
-use Rattle.ion_tokens.proofs.sound.Holds.{blank_none, blank_more}
-use Rattle.ion_text.specs.Grammar.{Pieces, Document, BlankThen, Whole, OpenRest}
+use Rattle.ion_text.specs.Names.{BlankPiece, BlankThen, BlockComment, Catalog, Document, HasPieces, IsBlank, IsBlankPiece, IsLastBlank, IsLexeme, IsNumeric, IsOperator, Lexes, LexesTo, Limits, LineComment, Mark, MarkEnds, OpenRest, Pieces, Place, Placed, Slot, TokenKind, Value, White, Whole, among, begins_comment, begins_infinity, blank_spelling, colon_behind, comment_within, is_operator_octet, is_stop, is_white, is_word_octet, mark_spelling}
+use Rattle.ion_tokens.specs.Lexemes.{begins}
+use Rattle.ion_tokens.proofs.sound.Holds.{blank_more, blank_none}
+use Rattle.ion_text.specs.laws.showing.shown.OpenRests.{blank_follows}
 use Rattle.ion_text.specs.laws.showing.tokens.Cuts.{lexed_front, parts_same}
 use Rattle.ion_text.specs.laws.showing.tokens.Once.{some_token}
-use Rattle.ion_text.specs.laws.showing.shown.OpenRests.{blank_follows}
 
 -- 1. What a token asks of the octets behind it, it asks of a front of them that ends where tokens do.
 
@@ -83,22 +70,22 @@ operator_front w x f may none n = record {
     go (inr h) = elim (may h) [ inl e ↦ inl (ap (begins is_operator_octet) e) | inr c ↦ inr c ]
 
 mark_front : (m : Mark) (x f : List ℕ) → MarkEnds m (x ++ f) → MarkEnds m x
-mark_front marks.FieldsOpen x f h = begins_front _ x f h
-mark_front marks.Colon x f h = begins_front _ x f h
+mark_front Mark.FieldsOpen x f h = begins_front _ x f h
+mark_front Mark.Colon x f h = begins_front _ x f h
 mark_front _ x f h = tt
 
 lexeme_front : (p : Place) (colon : Bool) (w x f : List ℕ) (k : TokenKind) (kept : List ℕ) → MayComment x f → NoInfinity x f
     → IsLexeme p colon w (x ++ f) k kept → IsLexeme p colon w x k kept
-lexeme_front p colon w x f kinds.Word kept may none h = (h.0, h.1, begins_front is_word_octet x f h.2, λ e. begins_front _ x f (h.3 e))
-lexeme_front p colon w x f kinds.KindName kept may none h = (h.0, h.1, begins_front is_word_octet x f h.2)
-lexeme_front p colon w x f kinds.Number kept may none h = (h.0, h.1, numeric_front w x f may h.2)
-lexeme_front p colon w x f kinds.Operator kept may none h = (h.0, h.1, operator_front w x f may none h.2)
-lexeme_front p colon w x f kinds.QuotedSymbol kept may none h = (h.0, h.1, h.2, λ e. begins_front _ x f (h.3 e))
-lexeme_front p colon w x f kinds.ShortString kept may none h = h
-lexeme_front p colon w x f kinds.LongString kept may none h = h
-lexeme_front p colon w x f kinds.Clob kept may none h = h
-lexeme_front p colon w x f kinds.Blob kept may none h = h
-lexeme_front p colon w x f (kinds.Mark m) kept may none h = (h.0, h.1, h.2, mark_front m x f h.3)
+lexeme_front p colon w x f TokenKind.Word kept may none h = (h.0, h.1, begins_front is_word_octet x f h.2, λ e. begins_front _ x f (h.3 e))
+lexeme_front p colon w x f TokenKind.KindName kept may none h = (h.0, h.1, begins_front is_word_octet x f h.2)
+lexeme_front p colon w x f TokenKind.Number kept may none h = (h.0, h.1, numeric_front w x f may h.2)
+lexeme_front p colon w x f TokenKind.Operator kept may none h = (h.0, h.1, operator_front w x f may none h.2)
+lexeme_front p colon w x f TokenKind.QuotedSymbol kept may none h = (h.0, h.1, h.2, λ e. begins_front _ x f (h.3 e))
+lexeme_front p colon w x f TokenKind.ShortString kept may none h = h
+lexeme_front p colon w x f TokenKind.LongString kept may none h = h
+lexeme_front p colon w x f TokenKind.Clob kept may none h = h
+lexeme_front p colon w x f TokenKind.Blob kept may none h = h
+lexeme_front p colon w x f (TokenKind.Mark m) kept may none h = (h.0, h.1, h.2, mark_front m x f h.3)
 
 -- 2. No front of octets ends within a token, nor within a blank.
 
@@ -137,40 +124,40 @@ mark_octet m o w e = go m e
     marked k same h = subst (λ x. is_mark x ≡ true) (sym same) h
 
     go : (m : Mark) → o ∷ w ≡ mark_spelling m → is_mark o ≡ true
-    go marks.FieldsOpen e = marked 123 (heads o 123 w [] e) refl
-    go marks.FieldsClose e = marked 125 (heads o 125 w [] e) refl
-    go marks.ListOpen e = marked 91 (heads o 91 w [] e) refl
-    go marks.ListClose e = marked 93 (heads o 93 w [] e) refl
-    go marks.SexpOpen e = marked 40 (heads o 40 w [] e) refl
-    go marks.SexpClose e = marked 41 (heads o 41 w [] e) refl
-    go marks.Comma e = marked 44 (heads o 44 w [] e) refl
-    go marks.Colon e = marked 58 (heads o 58 w [] e) refl
-    go marks.Colons e = marked 58 (heads o 58 w (58 ∷ []) e) refl
+    go Mark.FieldsOpen e = marked 123 (heads o 123 w [] e) refl
+    go Mark.FieldsClose e = marked 125 (heads o 125 w [] e) refl
+    go Mark.ListOpen e = marked 91 (heads o 91 w [] e) refl
+    go Mark.ListClose e = marked 93 (heads o 93 w [] e) refl
+    go Mark.SexpOpen e = marked 40 (heads o 40 w [] e) refl
+    go Mark.SexpClose e = marked 41 (heads o 41 w [] e) refl
+    go Mark.Comma e = marked 44 (heads o 44 w [] e) refl
+    go Mark.Colon e = marked 58 (heads o 58 w [] e) refl
+    go Mark.Colons e = marked 58 (heads o 58 w (58 ∷ []) e) refl
 
 slash_token : (p : Place) (colon : Bool) (f : List ℕ) (k : TokenKind) (kept : List ℕ) → IsLexeme p colon (47 ∷ []) f k kept → begins_comment (47 ∷ f) ≡ true → ⊥
-slash_token p colon f kinds.Word kept h c = let n : false ≡ true = h.1.0 in cc
-slash_token p colon f kinds.KindName kept h c = absurd (omega (arith, heads 47 110 _ _ h.0))
-slash_token p colon f kinds.Number kept h c = let n : false ≡ true = h.2.begun in cc
-slash_token p colon f kinds.Operator kept h c = let n : true ≡ false = sym c ∙ (or_parts (begins_comment (47 ∷ f)) false h.2.apart).0 in cc
-slash_token p colon f kinds.QuotedSymbol kept h c = absurd (omega (arith, heads 47 39 _ _ h.2))
-slash_token p colon f kinds.ShortString kept h c = absurd (omega (arith, heads 47 34 _ _ h.2))
-slash_token p colon f kinds.LongString kept h c = absurd (omega (arith, heads 47 39 _ _ h.2))
-slash_token p colon f kinds.Clob kept h c = absurd (omega (arith, heads 47 123 _ _ h.3))
-slash_token p colon f kinds.Blob kept h c = absurd (omega (arith, heads 47 123 _ _ h.3))
-slash_token p colon f (kinds.Mark m) kept h c = let n : false ≡ true = mark_octet m 47 [] h.1 in cc
+slash_token p colon f TokenKind.Word kept h c = let n : false ≡ true = h.1.0 in cc
+slash_token p colon f TokenKind.KindName kept h c = absurd (omega (arith, heads 47 110 _ _ h.0))
+slash_token p colon f TokenKind.Number kept h c = let n : false ≡ true = h.2.begun in cc
+slash_token p colon f TokenKind.Operator kept h c = let n : true ≡ false = sym c ∙ (or_parts (begins_comment (47 ∷ f)) false h.2.apart).0 in cc
+slash_token p colon f TokenKind.QuotedSymbol kept h c = absurd (omega (arith, heads 47 39 _ _ h.2))
+slash_token p colon f TokenKind.ShortString kept h c = absurd (omega (arith, heads 47 34 _ _ h.2))
+slash_token p colon f TokenKind.LongString kept h c = absurd (omega (arith, heads 47 39 _ _ h.2))
+slash_token p colon f TokenKind.Clob kept h c = absurd (omega (arith, heads 47 123 _ _ h.3))
+slash_token p colon f TokenKind.Blob kept h c = absurd (omega (arith, heads 47 123 _ _ h.3))
+slash_token p colon f (TokenKind.Mark m) kept h c = let n : false ≡ true = mark_octet m 47 [] h.1 in cc
 
 -- what begins with `i` is a word
 word_token : (p : Place) (colon : Bool) (w f : List ℕ) (k : TokenKind) (kept : List ℕ) → IsLexeme p colon (105 ∷ w) f k kept → begins is_word_octet f ≡ false
-word_token p colon w f kinds.Word kept h = h.2
-word_token p colon w f kinds.KindName kept h = h.2
-word_token p colon w f kinds.Number kept h = absurd (let n : false ≡ true = h.2.begun in cc)
-word_token p colon w f kinds.Operator kept h = absurd (let n : false ≡ true = h.2.each.0 in cc)
-word_token p colon w f kinds.QuotedSymbol kept h = absurd (omega (arith, heads 105 39 _ _ h.2))
-word_token p colon w f kinds.ShortString kept h = absurd (omega (arith, heads 105 34 _ _ h.2))
-word_token p colon w f kinds.LongString kept h = absurd (omega (arith, heads 105 39 _ _ h.2))
-word_token p colon w f kinds.Clob kept h = absurd (omega (arith, heads 105 123 _ _ h.3))
-word_token p colon w f kinds.Blob kept h = absurd (omega (arith, heads 105 123 _ _ h.3))
-word_token p colon w f (kinds.Mark m) kept h = absurd (let n : false ≡ true = mark_octet m 105 w h.1 in cc)
+word_token p colon w f TokenKind.Word kept h = h.2
+word_token p colon w f TokenKind.KindName kept h = h.2
+word_token p colon w f TokenKind.Number kept h = absurd (let n : false ≡ true = h.2.begun in cc)
+word_token p colon w f TokenKind.Operator kept h = absurd (let n : false ≡ true = h.2.each.0 in cc)
+word_token p colon w f TokenKind.QuotedSymbol kept h = absurd (omega (arith, heads 105 39 _ _ h.2))
+word_token p colon w f TokenKind.ShortString kept h = absurd (omega (arith, heads 105 34 _ _ h.2))
+word_token p colon w f TokenKind.LongString kept h = absurd (omega (arith, heads 105 39 _ _ h.2))
+word_token p colon w f TokenKind.Clob kept h = absurd (omega (arith, heads 105 123 _ _ h.3))
+word_token p colon w f TokenKind.Blob kept h = absurd (omega (arith, heads 105 123 _ _ h.3))
+word_token p colon w f (TokenKind.Mark m) kept h = absurd (let n : false ≡ true = mark_octet m 105 w h.1 in cc)
 
 -- the octets x before f are these tokens and a blank
 abbrev Fronts : Bool → ℕ → List ℕ → List ℕ → List Placed → Bool → ℕ → List ℕ → Type 0

@@ -1,35 +1,15 @@
 -- Two lists of tokens that go on from one reading, in the same octets: one is the front of the other.
 use Rattle.std.proofs.Common.{◌≡◌, ℕ, ◌+◌, ◌-◌, ◌≤◌, Bool, true, false, List, [], ◌∷◌, ◌++◌, length, drop, refl, sym, ap, ◌∙◌, subst, arith, length-append, Result, Ok, Option, Some, ◌⊎◌, inl, inr}
-use Rattle.ion_model.specs.declared.value.Value.{Value}
-use Rattle.ion_atoms.specs.declared.refusal.Reason.{Reason}
-use Rattle.ion_symtab.specs.declared.limits.Limits.{Limits}
-use Rattle.ion_symtab.specs.declared.catalog.Catalog.{Catalog}
-use Rattle.ion_tokens.specs.declared.mode.Place.{Place}
-use Rattle.ion_tokens.specs.declared.mode.Place.TheVariants as places
-use Rattle.ion_tokens.specs.declared.mode.Mode.{Mode}
-use Rattle.ion_tokens.specs.declared.mode.Mode.TheVariants as modes
-use Rattle.ion_tokens.specs.declared.mode.TokenKind.TheVariants as kinds
-use Rattle.ion_tokens.specs.machine.Table.{end_of}
-use Rattle.ion_tokens.specs.Blanks.{IsBlank}
-use Rattle.ion_tokens.specs.Bodies.{Content}
-use Rattle.ion_tokens.specs.machine.Scanning.{Known, Outcome, Next, Given, Left, Refused, start_of, feed, follow, run, at_end}
-use Rattle.ion_tokens.specs.Lexemes.{Lexeme}
-use Rattle.ion_tokens.specs.Lexed.{Placed, BeginsWith, LexesTo, colon_behind}
-use Rattle.ion_tokens.specs.machine.Said.{said}
-use Rattle.ion_tokens.proofs.complete.Found.{FindsUpTo, Nothing, Last, Gives, Leaves, Unclosed, in_word}
+use Rattle.ion_text.specs.Names.{BeginsWith, Catalog, Content, Given, IsBlank, Known, Leading, Left, Lexeme, LexesTo, Limits, Mode, Next, Outcome, Place, Placed, Reading, Reason, Refused, TokenKind, Turn, Value, at_end, colon_behind, continues, end_of, feed, follow, gives, goes, is_top, late, place, refuses, said, said_body, scan as run, settle, settle_still, start_of, token_of, turn}
+use Rattle.ion_tokens.proofs.complete.Found.{FindsUpTo, Gives, Last, Leaves, Nothing, Unclosed, in_word}
 use Rattle.ion_tokens.proofs.complete.Moves.{at, blank}
 use Rattle.ion_tokens.proofs.complete.TakesBlanks.{passes_blank}
 use Rattle.ion_tokens.proofs.runs.Runs.{feed_used}
-use Rattle.ion_text.specs.machine.EachToken.{Reading, Turn, goes, gives, refuses, late, place, settle, turn}
-use Rattle.ion_text.specs.machine.Run.{is_top, token_of}
-use Rattle.ion_text.specs.machine.TokenLists.{continues}
-use Rattle.ion_text.specs.machine.Places.{Leading, settle_still}
-use Rattle.ion_text.specs.machine.Passed.{said_body}
-use Rattle.ion_text.specs.laws.reading.sound.Quotes.{Fine, is_close}
+use Rattle.ion_text.specs.laws.reading.complete.Found.{never_unclosed, next_is}
+use Rattle.ion_text.specs.laws.reading.complete.Going.{Going, InsideNext, Operators, TurnGoes, closed, closes_kind, going_said, going_settle, going_turn, inside_end, inside_token, no_operator, stays, top_place}
 use Rattle.ion_text.specs.laws.reading.complete.Meets.{end_spans, finely_as}
-use Rattle.ion_text.specs.laws.reading.complete.Found.{next_is, never_unclosed}
-use Rattle.ion_text.specs.laws.reading.complete.Going.{Operators, top_place, Going, TurnGoes, InsideNext, stays, closed, going_said, going_turn, going_settle, inside_end, inside_token, no_operator, closes_kind}
-use Rattle.ion_text.specs.laws.showing.tokens.Cuts.{Keeps, feed_keeps, Is, one_found, parts_same}
+use Rattle.ion_text.specs.laws.reading.sound.Quotes.{Fine, is_close}
+use Rattle.ion_text.specs.laws.showing.tokens.Cuts.{Is, Keeps, feed_keeps, one_found, parts_same}
 
 -- 1. Where the next token begins.
 
@@ -41,8 +21,8 @@ TokenFrom n (Left x t) = n ≤ x.start
 TokenFrom n (Refused k e) = Unit {0}
 
 start_from : (n : ℕ) (m : Mode) (start used : ℕ) → n ≤ start → n + 1 ≤ used → n ≤ start_of m start used
-start_from n modes.Blank start used h k = omega (arith, k)
-start_from n modes.Slash start used h k = omega (arith, k)
+start_from n Mode.Blank start used h k = omega (arith, k)
+start_from n Mode.Slash start used h k = omega (arith, k)
 start_from n _ start used h k = h
 
 -- where the next token begins at `n` or later, so does the one that a run ends or leaves open
@@ -59,7 +39,7 @@ run_from p (o ∷ os) n s f h = go (feed p s o) refl (feed_keeps p s o) (λ t i 
     go (Left x t) e k more = omega (arith, h, k.0)
     go (Refused i y) e k more = tt
 
-pub is_from : (p : Place) (n : ℕ) (x : Lexeme) (o : Outcome) → TokenFrom n o → Is p x o → (x.kind ≡ kinds.Operator → ⊥) → n ≤ x.start
+pub is_from : (p : Place) (n : ℕ) (x : Lexeme) (o : Outcome) → TokenFrom n o → Is p x o → (x.kind ≡ TokenKind.Operator → ⊥) → n ≤ x.start
 is_from p n x (Next t) f (inl e) k = let i = end_spans t (end_of p t.mode) x e in omega (arith, f, i.0)
 is_from p n x (Next t) f (inr e) k = absurd (k e.1)
 is_from p n x (Given y t) f e k = omega (arith, f, ap (λ (z : Lexeme). z.start) e)
@@ -71,7 +51,7 @@ is_from p n x (Refused i y) f e k = absurd e
 -- the first of them, if there is one, stands at the top level
 abbrev pub TopFirst : List Placed → Type 0
 TopFirst [] = Unit {0}
-TopFirst (t ∷ ts) = t.place ≡ places.Top
+TopFirst (t ∷ ts) = t.place ≡ Place.Top
 
 -- one is the front of the other, which goes on at the top level
 abbrev pub Compared : List Placed → List Placed → Type 0
@@ -93,11 +73,11 @@ lexes_once (t ∷ ts) colon k octets c d e f r s (q, b, h) (q', b', h') =
 
 -- behind a blank a token begins
 pub begins_after : (colon : Bool) (k : ℕ) (octets : List ℕ) (t : Placed) (r w more : List ℕ) → BeginsWith colon k octets t r
-    → (t.lexeme.kind ≡ kinds.Operator → ⊥) → IsBlank w → octets ≡ w ++ more → k + length w ≤ t.lexeme.start
+    → (t.lexeme.kind ≡ TokenKind.Operator → ⊥) → IsBlank w → octets ≡ w ++ more → k + length w ≤ t.lexeme.start
 begins_after colon k octets t r w more b plain is e =
     let x = passes_blank t.place colon w is k k in
-    let ran : run t.place octets (at modes.Blank [] colon k k) ≡ run t.place more (blank colon x.0 (k + length w)) =
-    ap (λ o. run t.place o (at modes.Blank [] colon k k)) e ∙ x.1 more in
+    let ran : run t.place octets (at Mode.Blank [] colon k k) ≡ run t.place more (blank colon x.0 (k + length w)) =
+    ap (λ o. run t.place o (at Mode.Blank [] colon k k)) e ∙ x.1 more in
     is_from t.place (k + length w) t.lexeme (run t.place more (blank colon x.0 (k + length w)))
     (run_from t.place more (k + length w) (blank colon x.0 (k + length w)) (record { enough = omega arith }) (omega arith))
     (subst (Is t.place t.lexeme) ran (one_found colon k octets t r b)) plain
@@ -113,7 +93,7 @@ module _ (R : Known → List ℕ → Type 0) where
     top_first r a [] b d e = tt
     top_first r a (t ∷ ts) b d e = (going_said g l r t ts b e).0 ∙ by (is_top r.frames) refl
       where
-        by : (x : Bool) → is_top r.frames ≡ x → place r ≡ places.Top
+        by : (x : Bool) → is_top r.frames ≡ x → place r ≡ Place.Top
         by true h = top_place r.frames r.now h
         by false h = absurd (inside_end g l r a h d)
 
@@ -152,7 +132,7 @@ module _ (R : Known → List ℕ → Type 0) where
             (going_settle g l r t ws b c e is w)
 
     -- an s-expression is closed behind its operators
-    one_operator : (t : Placed) (r : Reading) (a : List Value) → Operators (t ∷ []) → t.lexeme.kind ≡ kinds.Operator → Going g l r (t ∷ []) a → ⊥
+    one_operator : (t : Placed) (r : Reading) (a : List Value) → Operators (t ∷ []) → t.lexeme.kind ≡ TokenKind.Operator → Going g l r (t ∷ []) a → ⊥
     one_operator t r a ops k d = by (is_top r.frames) refl
       where
         c : (t.place ≡ place r) × (c : Content) × (said t.lexeme.kind t.lexeme.octets ≡ Ok c)
@@ -169,13 +149,13 @@ module _ (R : Known → List ℕ → Type 0) where
 
     -- in a word behind which no octets come, this word is the one token, or there is none
     pub alone : (letters : List ℕ) (colon : Bool) (start used : ℕ) (ts : List Placed) → Found' (in_word letters colon start used) [] ts → (ts ≡ [])
-        ⊎ ((w : Placed) × (ts ≡ w ∷ []) × (w.lexeme.kind ≡ kinds.Word) × (w.lexeme.end ≡ used))
+        ⊎ ((w : Placed) × (ts ≡ w ∷ []) × (w.lexeme.kind ≡ TokenKind.Word) × (w.lexeme.end ≡ used))
     alone letters colon start used _ (Nothing _ _ f) = inl refl
     alone letters colon start used _ (Last _ _ t s' e f) =
         let here = ap (at_end t.place) (next_is (in_word letters colon start used) s' e) ∙ f in
-        inr (t, refl, kind_of t.lexeme here, (end_spans (in_word letters colon start used) (end_of t.place modes.Word) t.lexeme here).1)
+        inr (t, refl, kind_of t.lexeme here, (end_spans (in_word letters colon start used) (end_of t.place Mode.Word) t.lexeme here).1)
       where
-        kind_of : (x : Lexeme) → at_end t.place (in_word letters colon start used) ≡ Ok (Some x) → x.kind ≡ kinds.Word
+        kind_of : (x : Lexeme) → at_end t.place (in_word letters colon start used) ≡ Ok (Some x) → x.kind ≡ TokenKind.Word
         kind_of x h = cc
     alone letters colon start used _ (Gives _ _ t ts s' e f) = absurd cc
     alone letters colon start used _ (Leaves _ _ t ts s' e f) = absurd cc
@@ -184,10 +164,10 @@ module _ (R : Known → List ℕ → Type 0) where
 
     -- an operator behind which a word is open at the end goes on to no whole document
     pub unclosed_never : (t : Placed) (ts : List Placed) (letters : List ℕ) (colon : Bool) (start used : ℕ) (r : Reading) (a : List Value)
-        → t.lexeme.kind ≡ kinds.Operator → Found' (in_word letters colon start used) [] ts → Operators (t ∷ ts) → Going g l r (t ∷ ts) a → ⊥
+        → t.lexeme.kind ≡ TokenKind.Operator → Found' (in_word letters colon start used) [] ts → Operators (t ∷ ts) → Going g l r (t ∷ ts) a → ⊥
     unclosed_never t ts letters colon start used r a k f ops d = by (alone letters colon start used ts f)
       where
-        by : (ts ≡ []) ⊎ ((w : Placed) × (ts ≡ w ∷ []) × (w.lexeme.kind ≡ kinds.Word) × (w.lexeme.end ≡ used)) → ⊥
+        by : (ts ≡ []) ⊎ ((w : Placed) × (ts ≡ w ∷ []) × (w.lexeme.kind ≡ TokenKind.Word) × (w.lexeme.end ≡ used)) → ⊥
         by (inl e) = one_operator t r a (subst (λ x. Operators (t ∷ x)) e ops) k (subst (λ x. Going g l r (t ∷ x) a) e d)
         by (inr (w, e, j, n)) = never_unclosed g l t w (subst (λ x. Operators (t ∷ x)) e ops) k j (r, a, subst (λ x. Going g l r (t ∷ x) a) e d)
 

@@ -1,32 +1,16 @@
 -- Where tokens end in octets, where the blank behind them ends, and what may stand there.
 use Rattle.std.proofs.Common.{◌≡◌, ℕ, ◌+◌, Bool, true, false, List, [], ◌∷◌, ◌++◌, length, refl, sym, ap, ◌∙◌, subst, arith, append_assoc, append-nil, length-append, Result, Ok, Err, Option, Some, None, ◌⊎◌, inl, inr, if◌then◌else◌}
 use Rattle.std.specs.Prelude.{◌==◌, ◌&&◌, bytes_eq, codes}
-use Rattle.ion_atoms.specs.declared.refusal.Reason.{Reason}
-use Rattle.ion_atoms.specs.declared.refusal.Reason.TheVariants as reasons
-use Rattle.ion_tokens.specs.declared.mode.Place.{Place}
-use Rattle.ion_tokens.specs.declared.mode.Mode.{Mode}
-use Rattle.ion_tokens.specs.declared.mode.Mode.TheVariants as modes
-use Rattle.ion_tokens.specs.declared.mode.Action.{Action}
-use Rattle.ion_tokens.specs.declared.mode.Action.TheVariants as actions
-use Rattle.ion_tokens.specs.declared.mode.TokenKind.TheVariants as kinds
+use Rattle.ion_text.specs.Names.{Action, BeginsWith, Continues, Given, IsAhead, IsBlank, Known, Left, Lexeme, LexesTo, Mode, Next, Outcome, Place, Placed, Reason, Refused, Scanned, TokenKind, acts, at_end, blob_ends, blob_of, colon_behind, cut as token_cut, feed, followed, go_to, is_idle, is_sane, past, scan as run, start_of, takes_colon}
 use Rattle.ion_tokens.specs.machine.Table.{next}
-use Rattle.ion_tokens.specs.machine.Bounds.{is_idle}
-use Rattle.ion_tokens.specs.machine.Ahead.{is_sane}
-use Rattle.ion_tokens.specs.Blanks.{IsBlank}
-use Rattle.ion_tokens.specs.Blobs.{blob_of}
-use Rattle.ion_tokens.specs.machine.Scanning.{Known, Outcome, Next, Given, Left, Refused, start_of, go_to, past, acts, blob_ends, feed, run, at_end, cut as token_cut}
-use Rattle.ion_tokens.specs.Lexemes.{Lexeme, takes_colon}
-use Rattle.ion_tokens.specs.Lexed.{Placed, BeginsWith, colon_behind, LexesTo}
-use Rattle.ion_tokens.specs.machine.Scanned.{Scanned, IsAhead, Continues}
-use Rattle.ion_tokens.proofs.complete.Found.{FindsUpTo, Last, Gives, Leaves, Unclosed}
-use Rattle.ion_tokens.proofs.sound.Holds.{InMode, Holds, Sound, blank_behind, blank_none}
+use Rattle.ion_tokens.proofs.complete.Found.{FindsUpTo, Gives, Last, Leaves, Unclosed}
 use Rattle.ion_tokens.proofs.complete.Moves.{at, blank}
-use Rattle.ion_tokens.proofs.sound.Sounds.{RunSound, run_sound, feed_sound}
-use Rattle.ion_tokens.proofs.sound.SoundHistories.{stands_tells}
 use Rattle.ion_tokens.proofs.complete.TakesBlanks.{passes_blank}
 use Rattle.ion_tokens.proofs.complete.Wholes.{run_behind}
 use Rattle.ion_tokens.proofs.histories.Histories.{begins_completes}
-use Rattle.ion_text.specs.machine.Pieces.{followed}
+use Rattle.ion_tokens.proofs.sound.Holds.{Holds, InMode, Sound, blank_behind, blank_none}
+use Rattle.ion_tokens.proofs.sound.SoundHistories.{stands_tells}
+use Rattle.ion_tokens.proofs.sound.Sounds.{RunSound, feed_sound, run_sound}
 use Rattle.ion_text.specs.laws.reading.complete.Found.{next_is}
 use Rattle.ion_text.specs.laws.reading.complete.Meets.{follows_as}
 
@@ -110,18 +94,18 @@ blob_keeps p s None = tt
 blob_keeps p s (Some b) = (refl, refl)
 
 word_keeps : (p : Place) (s : Known) (b : Bool) → Keeps p s
-    (if b then Next (go_to s modes.KindName []) else Left (token_cut s kinds.Word s.kept s.used) (past p kinds.Word modes.Blank [] s.used s.used))
+    (if b then Next (go_to s Mode.KindName []) else Left (token_cut s TokenKind.Word s.kept s.used) (past p TokenKind.Word Mode.Blank [] s.used s.used))
 word_keeps p s true = (refl, refl)
 word_keeps p s false = (refl, refl, refl)
 
 acts_keeps : (p : Place) (s : Known) (o : ℕ) (a : Action) → Keeps p s (acts p s o a)
-acts_keeps p s o (actions.Go m k) = (refl, refl)
-acts_keeps p s o (actions.Give kind k) = (refl, refl, refl)
-acts_keeps p s o (actions.Before kind k m) = (refl, refl, refl)
-acts_keeps p s o actions.EndWord = word_keeps p s ((o == 46) && bytes_eq s.kept (codes "null"))
-acts_keeps p s o (actions.Split n) = (refl, refl, refl)
-acts_keeps p s o actions.EndBlob = blob_keeps p s (blob_of s.kept)
-acts_keeps p s o (actions.Refuse e) = tt
+acts_keeps p s o (Action.Go m k) = (refl, refl)
+acts_keeps p s o (Action.Give kind k) = (refl, refl, refl)
+acts_keeps p s o (Action.Before kind k m) = (refl, refl, refl)
+acts_keeps p s o Action.EndWord = word_keeps p s ((o == 46) && bytes_eq s.kept (codes "null"))
+acts_keeps p s o (Action.Split n) = (refl, refl, refl)
+acts_keeps p s o Action.EndBlob = blob_keeps p s (blob_of s.kept)
+acts_keeps p s o (Action.Refuse e) = tt
 
 -- an octet keeps where the open token begins, and whether a colon may stand, unless it ends a token
 pub feed_keeps : (p : Place) (s : Known) (o : ℕ) → Keeps p s (feed p s o)
@@ -133,8 +117,8 @@ next_start p s t o e = (subst (Keeps p s) e (feed_keeps p s o)).0
 module _ (p : Place) (colon : Bool) (k : ℕ) where
   fronted_mode : (m : Mode) (kept : List ℕ) (start used : ℕ) (since : List ℕ) → InMode p colon k m kept start since → used ≡ k + length since
       → FrontedBefore k start since → BlankInFront k m start used since
-  fronted_mode modes.Blank kept start used since (e, b) u d = record { blank = since; open' = []; cut = sym (append-nil since); is_blank = b; at = u }
-  fronted_mode modes.Slash kept start used since (e, front, b, c) u d =
+  fronted_mode Mode.Blank kept start used since (e, b) u d = record { blank = since; open' = []; cut = sym (append-nil since); is_blank = b; at = u }
+  fronted_mode Mode.Slash kept start used since (e, front, b, c) u d =
       record { blank = front; open' = 47 ∷ []; cut = c; is_blank = b; at = omega (arith, u, ap length c, length-append front (47 ∷ [])) }
   fronted_mode _ kept start used since h u d = record { blank = d.blank; open' = d.open'; cut = d.cut; is_blank = d.is_blank; at = d.at }
 
@@ -164,7 +148,7 @@ pub record OpenBehind (p : Place) (s : Known) (u : List ℕ) (ts : List Placed) 
   pub since : List ℕ
   pub lexes : (r : List ℕ) → Continues r ahead → LexesTo false 0 (u ++ r) ts colon end (since ++ r)
   pub holds : Holds p colon end s since
-  pub reached : run p since (at modes.Blank [] colon end end) ≡ Next s
+  pub reached : run p since (at Mode.Blank [] colon end end) ≡ Next s
   pub fronted : BlankInFront end s.mode s.start s.used since
 
 module _ (p : Place) (s : Known) (u : List ℕ) (ts : List Placed) (ahead : List ℕ) (h : Scanned p s u ts ahead) where
@@ -179,9 +163,9 @@ module _ (p : Place) (s : Known) (u : List ℕ) (ts : List Placed) (ahead : List
   pub behind_tokens : OpenBehind p s u ts ahead
   behind_tokens =
       let tells = stands_tells h.behind h.front ts h.left h.told h.pass in
-      let reached : run p (tells.since ++ h.since) (at modes.Blank [] tells.colon tells.end tells.end) ≡ Next s =
-      run_behind p tells.since h.since (at modes.Blank [] tells.colon tells.end tells.end) h.behind (tells.again p) ∙ h.ran in
-      let none : Holds p tells.colon tells.end (at modes.Blank [] tells.colon tells.end tells.end) [] = blank_behind p tells.colon tells.end in
+      let reached : run p (tells.since ++ h.since) (at Mode.Blank [] tells.colon tells.end tells.end) ≡ Next s =
+      run_behind p tells.since h.since (at Mode.Blank [] tells.colon tells.end tells.end) h.behind (tells.again p) ∙ h.ran in
+      let none : Holds p tells.colon tells.end (at Mode.Blank [] tells.colon tells.end tells.end) [] = blank_behind p tells.colon tells.end in
       record {
         colon = tells.colon;
         end = tells.end;
@@ -195,7 +179,7 @@ module _ (p : Place) (s : Known) (u : List ℕ) (ts : List Placed) (ahead : List
         holds = subst (λ x. RunSound p tells.colon tells.end tells.since h.since x) h.ran
             (run_sound p tells.colon tells.end h.since tells.since h.behind (tells.holds p));
         reached = reached;
-        fronted = fronted_run p tells.colon tells.end (tells.since ++ h.since) (at modes.Blank [] tells.colon tells.end tells.end) s [] none
+        fronted = fronted_run p tells.colon tells.end (tells.since ++ h.since) (at Mode.Blank [] tells.colon tells.end tells.end) s [] none
             (record { blank = []; open' = []; cut = refl; is_blank = blank_none; at = omega arith }) reached;
       }
 
@@ -203,7 +187,7 @@ module _ (p : Place) (s : Known) (u : List ℕ) (ts : List Placed) (ahead : List
 abbrev pub Is : Place → Lexeme → Outcome → Type 0
 Is p x (Given l s) = l ≡ x
 Is p x (Left l s) = l ≡ x
-Is p x (Next s) = (at_end p s ≡ Ok (Some x)) ⊎ ((at_end p s ≡ Err reasons.Incomplete) × (x.kind ≡ kinds.Operator))
+Is p x (Next s) = (at_end p s ≡ Ok (Some x)) ⊎ ((at_end p s ≡ Err Reason.Incomplete) × (x.kind ≡ TokenKind.Operator))
 Is p x (Refused n e) = ⊥
 
 -- the first token that the scanner finds in octets is the one that a run over them shows
@@ -218,27 +202,27 @@ lexeme_in : Lexeme → Result (Option Lexeme) Reason → Lexeme
 lexeme_in d (Ok (Some x)) = x
 lexeme_in d _ = d
 
-is_once : (p : Place) (x y : Lexeme) (o : Outcome) → Is p x o → Is p y o → (y.kind ≡ kinds.Operator → ⊥) → x ≡ y
+is_once : (p : Place) (x y : Lexeme) (o : Outcome) → Is p x o → Is p y o → (y.kind ≡ TokenKind.Operator → ⊥) → x ≡ y
 unfolding lexeme_in
 is_once p x y (Given l s) a b n = sym a ∙ b
 is_once p x y (Left l s) a b n = sym a ∙ b
 is_once p x y (Next s) (inl a) (inl b) n = ap (lexeme_in x) (sym a ∙ b)
-is_once p x y (Next s) (inr a) (inl b) n = absurd (let k : Err reasons.Incomplete ≡ Ok (Some y) = sym a.0 ∙ b in cc)
+is_once p x y (Next s) (inr a) (inl b) n = absurd (let k : Err Reason.Incomplete ≡ Ok (Some y) = sym a.0 ∙ b in cc)
 is_once p x y (Next s) a (inr b) n = absurd (n b.1)
 is_once p x y (Refused n e) a b m = absurd a
 
 -- the token with which octets begin, behind a blank, is the one that a run over them shows
 pub one_found : (colon : Bool) (k : ℕ) (octets : List ℕ) (t : Placed) (r : List ℕ) → BeginsWith colon k octets t r
-    → Is t.place t.lexeme (run t.place octets (at modes.Blank [] colon k k))
-one_found colon k octets t r b = finds_is (λ s octets. Unit {0}) (Unit {0}) (at modes.Blank [] colon k k) octets t []
-    (begins_completes (t ∷ []) colon k octets [] octets (at modes.Blank [] colon k k) (r, b, tt) refl (λ p. refl))
+    → Is t.place t.lexeme (run t.place octets (at Mode.Blank [] colon k k))
+one_found colon k octets t r b = finds_is (λ s octets. Unit {0}) (Unit {0}) (at Mode.Blank [] colon k k) octets t []
+    (begins_completes (t ∷ []) colon k octets [] octets (at Mode.Blank [] colon k k) (r, b, tt) refl (λ p. refl))
 
 -- Octets begin with one token that is looked for in a place.
 pub begins_once : (colon : Bool) (k : ℕ) (octets : List ℕ) (t t' : Placed) (r r' : List ℕ) → BeginsWith colon k octets t r → BeginsWith colon k octets t' r'
-    → t.place ≡ t'.place → (t'.lexeme.kind ≡ kinds.Operator → ⊥) → t.lexeme ≡ t'.lexeme
+    → t.place ≡ t'.place → (t'.lexeme.kind ≡ TokenKind.Operator → ⊥) → t.lexeme ≡ t'.lexeme
 begins_once colon k octets t t' r r' a b e n =
-    is_once t'.place t.lexeme t'.lexeme (run t'.place octets (at modes.Blank [] colon k k))
-    (subst (λ p. Is p t.lexeme (run p octets (at modes.Blank [] colon k k))) e (one_found colon k octets t r a)) (one_found colon k octets t' r' b) n
+    is_once t'.place t.lexeme t'.lexeme (run t'.place octets (at Mode.Blank [] colon k k))
+    (subst (λ p. Is p t.lexeme (run p octets (at Mode.Blank [] colon k k))) e (one_found colon k octets t r a)) (one_found colon k octets t' r' b) n
 
 -- a token that has begun isn't forgotten
 pub begun_kept : (p : Place) (os : List ℕ) (s t : Known) → is_sane s.mode ≡ true → is_idle s.mode ≡ false → run p os s ≡ Next t → is_idle t.mode ≡ false
@@ -256,7 +240,7 @@ pub record PastBlank (p : Place) (colon : Bool) (used : ℕ) (s : Known) (r more
   pub ran : run p token (blank colon now used) ≡ Next s
 
 -- where a token is open behind octets, a run over those behind the blank leads there too
-pub past_blank : (p : Place) (colon : Bool) (k : ℕ) (since r w more : List ℕ) (s : Known) → run p since (at modes.Blank [] colon k k) ≡ Next s
+pub past_blank : (p : Place) (colon : Bool) (k : ℕ) (since r w more : List ℕ) (s : Known) → run p since (at Mode.Blank [] colon k k) ≡ Next s
     → is_sane s.mode ≡ true → is_idle s.mode ≡ false → IsBlank w → since ++ r ≡ w ++ more → PastBlank p colon (k + length w) s r more
 past_blank p colon k since r w more s ran sane idle b e = by (parts_meet since r w more e)
   where
@@ -264,9 +248,9 @@ past_blank p colon k since r w more s ran sane idle b e = by (parts_meet since r
     passed = passes_blank p colon w b k k
 
     by : ((y : List ℕ) × (since ≡ w ++ y) × (y ++ r ≡ more)) ⊎ ((z : List ℕ) × (w ≡ since ++ z) × (z ++ more ≡ r)) → PastBlank p colon (k + length w) s r more
-    by (inl (y, f, g)) = record { now = passed.0; token = y; same = g; ran = sym (ap (λ l. run p l (at modes.Blank [] colon k k)) f ∙ passed.1 y) ∙ ran }
+    by (inl (y, f, g)) = record { now = passed.0; token = y; same = g; ran = sym (ap (λ l. run p l (at Mode.Blank [] colon k k)) f ∙ passed.1 y) ∙ ran }
     by (inr (z, f, g)) =
         let t = blank colon passed.0 (k + length w) in
-        let all : run p z s ≡ Next t = sym (run_behind p since z (at modes.Blank [] colon k k) s ran)
-        ∙ (ap (λ l. run p l (at modes.Blank [] colon k k)) (sym f ∙ sym (append-nil w)) ∙ passed.1 []) in
+        let all : run p z s ≡ Next t = sym (run_behind p since z (at Mode.Blank [] colon k k) s ran)
+        ∙ (ap (λ l. run p l (at Mode.Blank [] colon k k)) (sym f ∙ sym (append-nil w)) ∙ passed.1 []) in
         absurd (let n : false ≡ true = sym (begun_kept p z s t sane idle all) in cc)

@@ -1,47 +1,32 @@
 -- What the octets since the last token say of the scanner: of open quotes, and of what may stand behind a long string.
 use Rattle.std.proofs.Common.{◌≡◌, ℕ, Bool, true, false, List, [], ◌∷◌, ◌++◌, length, refl, sym, ap, ◌∙◌, subst, arith, append_assoc, length-append}
-use Rattle.ion_model.specs.declared.value.Value.{Value}
-use Rattle.ion_symtab.specs.declared.limits.Limits.{Limits}
-use Rattle.ion_symtab.specs.declared.catalog.Catalog.{Catalog}
-use Rattle.ion_tokens.specs.declared.mode.Mode.{Mode}
-use Rattle.ion_tokens.specs.declared.mode.Mode.TheVariants as modes
-use Rattle.ion_tokens.specs.declared.mode.Place.{Place}
-use Rattle.ion_tokens.specs.declared.mode.Place.TheVariants as places
-use Rattle.ion_tokens.specs.declared.mode.TokenKind.TheVariants as kinds
-use Rattle.ion_tokens.specs.machine.Scanning.{Known}
-use Rattle.ion_tokens.specs.Lexemes.{takes_colon}
-use Rattle.ion_tokens.specs.machine.Scanned.{Scanned}
-use Rattle.ion_tokens.specs.Lexed.{Placed}
+use Rattle.ion_text.specs.Names.{Catalog, Frame, Known, Limits, Mode, Now, Place, Placed, Reading, Scanned, TokenKind, Value, is_top, place, takes_colon}
 use Rattle.ion_tokens.proofs.sound.Holds.{Holds, InMode}
-use Rattle.ion_text.specs.declared.state.Now.TheVariants as nows
 use Rattle.ion_text.specs.laws.reading.complete.Exact.{Exact, exact}
-use Rattle.ion_text.specs.declared.state.Frame.{Frame}
-use Rattle.ion_text.specs.machine.EachToken.{Reading, place}
-use Rattle.ion_text.specs.machine.Run.{is_top}
 use Rattle.ion_text.specs.laws.reading.sound.Held.{Behind}
-use Rattle.ion_text.specs.laws.reading.sound.StandsOpen.{NowStands, LongFor}
-use Rattle.ion_text.specs.laws.showing.tokens.Cuts.{behind_tokens, lexed_front}
+use Rattle.ion_text.specs.laws.reading.sound.StandsOpen.{LongFor, NowStands}
 use Rattle.ion_text.specs.laws.showing.shown.Opened.{colon_last, segments_last}
+use Rattle.ion_text.specs.laws.showing.tokens.Cuts.{behind_tokens, lexed_front}
 
 -- open quotes have their octets
 pub exact_at : (p : Place) (colon : Bool) (k : ℕ) (s : Known) (since : List ℕ) → Holds p colon k s since → Exact s
 exact_at p colon k s since h = record { is = go s.mode h.mode }
   where
     go : (m : Mode) → InMode p colon k m s.kept s.start since → exact m s.start s.used
-    go modes.Quote i = omega (arith, h.used, i.begins, ap length i.cut, length-append i.front i.token, ap length (i.is).0)
-    go modes.Quotes i = omega (arith, h.used, i.begins, ap length i.cut, length-append i.front i.token, ap length (i.is).0)
+    go Mode.Quote i = omega (arith, h.used, i.begins, ap length i.cut, length-append i.front i.token, ap length (i.is).0)
+    go Mode.Quotes i = omega (arith, h.used, i.begins, ap length i.cut, length-append i.front i.token, ap length (i.is).0)
     go _ i = tt
 
 -- behind a long string that waits at the top level no colon may stand
 pub long_colon : (g : Catalog) (l : Limits) (u : List ℕ) (vs : List Value) (s : Known) (r : Reading) (ahead : List ℕ) (A : Type 0)
-    (b : Behind g l Scanned u vs s r ahead A) → s.used ≡ length u → (w : List ℕ) (end : ℕ) → r.now ≡ nows.Long w end → r.frames ≡ [] → s.colon ≡ false
+    (b : Behind g l Scanned u vs s r ahead A) → s.used ≡ length u → (w : List ℕ) (end : ℕ) → r.now ≡ Now.Long w end → r.frames ≡ [] → s.colon ≡ false
 long_colon g l u vs s r ahead A b used w end e top = go b.item refl
   where
     d : LongFor r.context [] r.notes w b.item
     d = subst (λ n. NowStands r.context [] r.notes b.item n) e (subst (λ fs. NowStands r.context fs r.notes b.item r.now) top b.stands)
 
-    last : (front : List Placed) × (y : Placed) × (d.segments ≡ front ++ y ∷ []) × (y.place ≡ places.Top) × (y.lexeme.kind ≡ kinds.LongString)
-    last = segments_last places.Top d.segments w d.are
+    last : (front : List Placed) × (y : Placed) × (d.segments ≡ front ++ y ∷ []) × (y.place ≡ Place.Top) × (y.lexeme.kind ≡ TokenKind.LongString)
+    last = segments_last Place.Top d.segments w d.are
 
     whole : b.item ≡ (d.before ++ last.0) ++ last.1 ∷ []
     whole = d.whole ∙ (ap (λ y. d.before ++ y) last.2 ∙ sym (append_assoc d.before last.0 (last.1 ∷ [])))
@@ -57,7 +42,7 @@ long_colon g l u vs s r ahead A b used w end e top = go b.item refl
         k.holds.flag
         ∙ (sym (colon_last g l u vs s r ahead A b used x xs f (b.front ++ (d.before ++ last.0)) last.1
         (ap (λ y. b.front ++ y) whole ∙ sym (append_assoc b.front (d.before ++ last.0) (last.1 ∷ []))))
-        ∙ (ap (λ q. takes_colon q (last.1).lexeme.kind) last.3 ∙ ap (takes_colon places.Top) last.4))
+        ∙ (ap (λ q. takes_colon q (last.1).lexeme.kind) last.3 ∙ ap (takes_colon Place.Top) last.4))
 
 -- the octets used are those before
 pub behind_used : (g : Catalog) (l : Limits) (u : List ℕ) (vs : List Value) (s : Known) (r : Reading) (ahead : List ℕ) (A : Type 0)

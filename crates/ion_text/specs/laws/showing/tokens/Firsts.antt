@@ -2,55 +2,31 @@
 use Rattle.std.proofs.Common.{◌≡◌, ℕ, ◌+◌, ◌-◌, Bool, true, false, List, [], ◌∷◌, ◌++◌, length, refl, sym, ap, ◌∙◌, subst, arith, Result, Ok, Option, Some, inl, inr, if◌then◌else◌}
 use Rattle.std.specs.Prelude.{◌==◌, ◌||◌}
 use Rattle.std.proofs.lemmas.Bool.Decides.{nat_tests}
-use Rattle.ion_atoms.specs.declared.refusal.Reason.{Reason}
-use Rattle.ion_symtab.specs.Slots.{Slot}
-use Rattle.ion_tokens.specs.declared.mode.Place.{Place}
-use Rattle.ion_tokens.specs.declared.mode.Style.TheVariants as styles
-use Rattle.ion_tokens.specs.declared.mode.Within.TheVariants as within
-use Rattle.ion_tokens.specs.declared.mode.Mode.{Mode}
-use Rattle.ion_tokens.specs.declared.mode.Mode.TheVariants as modes
-use Rattle.ion_tokens.specs.declared.mode.Mark.TheVariants as marks
-use Rattle.ion_tokens.specs.declared.mode.TokenKind.{TokenKind}
-use Rattle.ion_tokens.specs.declared.mode.TokenKind.TheVariants as kinds
-use Rattle.ion_tokens.specs.machine.Table.{end_of, before, go as go_on}
-use Rattle.ion_tokens.specs.machine.Bounds.{is_idle}
-use Rattle.ion_tokens.specs.machine.Ahead.{is_quoting}
-use Rattle.ion_tokens.specs.Blanks.{IsBlank}
-use Rattle.ion_tokens.specs.Bodies.{Content, Word, Id, Quoted, Short, Long, Number', TypedNull, Operator, Clob, Blob, Mark', IsBody}
-use Rattle.ion_tokens.specs.machine.Scanning.{Known, Outcome, Next, Given, Left, Refused, acts, feed, follow, run, ends_at}
-use Rattle.ion_tokens.specs.Lexemes.{Lexeme, is_segment}
-use Rattle.ion_tokens.specs.Lexed.{Placed, BeginsWith}
+use Rattle.ion_text.specs.Names.{Annotations, BeginsWith, Blob, Bracket, Clob, Content, Frame, Given, Id, IsBlank, IsBody, IsSymbol, Known, Left, Lexeme, Long, Mark, Mark', Mode, Next, Now, Number', Operator, Outcome, Place, Placed, Quoted, Reason, Refused, Says, Segments, Short, Slot, Style, Symbols, TokenKind, TypedNull, Within, Word, acts, before, begins_as_long, end_of, ends_at, feed, follow, is_id, is_idle, is_quoting, is_segment, is_two_quotes, is_word, joined, no_annotation, one_annotation, open_mark, scan as run, segment}
+use Rattle.ion_tokens.specs.machine.Table.{go as go_on}
 use Rattle.ion_tokens.proofs.complete.Moves.{at, blank}
 use Rattle.ion_tokens.proofs.complete.TakesBlanks.{passes_blank}
-use Rattle.ion_text.specs.declared.state.Now.{Now}
-use Rattle.ion_text.specs.declared.state.Now.TheVariants as nows
-use Rattle.ion_text.specs.declared.state.Frame.{Frame}
-use Rattle.ion_text.specs.declared.state.Frame.TheVariants as frames
-use Rattle.ion_text.specs.Grammar.{Says, IsSymbol, is_word, is_id, is_quoted, Annotations, no_annotation, one_annotation, Segments, segment, joined, is_two_quotes, begins_as_long}
-use Rattle.ion_text.specs.machine.EachToken.{Symbols}
+use Rattle.ion_text.specs.Grammar.{is_quoted}
 use Rattle.ion_text.specs.laws.reading.complete.Complete.{segment_kind}
-use Rattle.ion_text.specs.laws.reading.complete.Going.{mark_kind}
-use Rattle.ion_text.specs.laws.reading.sound.Held.{name_some}
-use Rattle.ion_text.specs.laws.reading.sound.StandsOpen.{Around, Opened, NowStands, ReadyFor, symbol_said, value_place}
-use Rattle.ion_text.specs.laws.reading.complete.Meets.{is_long_text, LongOn, long_feed}
-use Rattle.ion_text.specs.laws.reading.complete.Segments.{long_quoting}
 use Rattle.ion_text.specs.laws.reading.complete.Found.{next_is}
+use Rattle.ion_text.specs.laws.reading.complete.Going.{mark_kind}
+use Rattle.ion_text.specs.laws.reading.complete.Meets.{LongOn, is_long_text, long_feed}
+use Rattle.ion_text.specs.laws.reading.complete.Segments.{long_quoting}
+use Rattle.ion_text.specs.laws.reading.sound.Held.{name_some}
+use Rattle.ion_text.specs.laws.reading.sound.StandsOpen.{Around, NowStands, Opened, ReadyFor, symbol_said, value_place}
 use Rattle.ion_text.specs.laws.showing.tokens.Cuts.{Is, one_found}
-use Rattle.ion_visiting.specs.declared.bracket.Bracket.{Bracket}
-use Rattle.ion_visiting.specs.declared.bracket.Bracket.TheVariants as brackets
-use Rattle.ion_text.specs.machine.Nested.{open_mark}
 
 -- 1. The first token of an open item.
 
 -- what may begin an item that is open: a symbol, a segment of a long string, or what opens a container
 abbrev pub opens_item : TokenKind → Bool
-opens_item kinds.Word = true
-opens_item kinds.KindName = true
-opens_item kinds.QuotedSymbol = true
-opens_item kinds.LongString = true
-opens_item (kinds.Mark marks.ListOpen) = true
-opens_item (kinds.Mark marks.SexpOpen) = true
-opens_item (kinds.Mark marks.FieldsOpen) = true
+opens_item TokenKind.Word = true
+opens_item TokenKind.KindName = true
+opens_item TokenKind.QuotedSymbol = true
+opens_item TokenKind.LongString = true
+opens_item (TokenKind.Mark Mark.ListOpen) = true
+opens_item (TokenKind.Mark Mark.SexpOpen) = true
+opens_item (TokenKind.Mark Mark.FieldsOpen) = true
 opens_item _ = false
 
 -- the first of the tokens, if there is one, may begin an item that is open
@@ -62,7 +38,7 @@ opens_more : (ts us : List Placed) → OpensItem ts → OpensItem us → OpensIt
 opens_more [] us a b = b
 opens_more (t ∷ ts) us a b = a
 
-number_symbol : (octets : List ℕ) (c : Content) → IsBody kinds.Number octets (Ok c) → symbol_said c ≡ true → ⊥
+number_symbol : (octets : List ℕ) (c : Content) → IsBody TokenKind.Number octets (Ok c) → symbol_said c ≡ true → ⊥
 number_symbol octets (Number' n) h e = cc
 number_symbol octets (Word n) h e = h
 number_symbol octets (Id n) h e = h
@@ -77,16 +53,16 @@ number_symbol octets (Mark' n) h e = h
 
 -- a token that says a symbol may begin an item that is open
 pub symbol_kind : (k : TokenKind) (octets : List ℕ) (c : Content) → IsBody k octets (Ok c) → symbol_said c ≡ true → opens_item k ≡ true
-symbol_kind kinds.Word octets c h e = refl
-symbol_kind kinds.KindName octets c h e = refl
-symbol_kind kinds.QuotedSymbol octets c h e = refl
-symbol_kind kinds.LongString octets c h e = refl
-symbol_kind kinds.Number octets c h e = absurd (number_symbol octets c h e)
-symbol_kind kinds.ShortString octets c h e = absurd (let n : false ≡ true = sym (ap symbol_said h.0) ∙ e in cc)
-symbol_kind kinds.Operator octets c h e = absurd (let n : false ≡ true = sym (ap symbol_said h.0) ∙ e in cc)
-symbol_kind kinds.Clob octets c h e = absurd (let i : c ≡ Clob octets = cc in let n : false ≡ true = sym (ap symbol_said i) ∙ e in cc)
-symbol_kind kinds.Blob octets c h e = absurd (let i : c ≡ Blob octets = cc in let n : false ≡ true = sym (ap symbol_said i) ∙ e in cc)
-symbol_kind (kinds.Mark m) octets c h e = absurd (let i : c ≡ Mark' m = cc in let n : false ≡ true = sym (ap symbol_said i) ∙ e in cc)
+symbol_kind TokenKind.Word octets c h e = refl
+symbol_kind TokenKind.KindName octets c h e = refl
+symbol_kind TokenKind.QuotedSymbol octets c h e = refl
+symbol_kind TokenKind.LongString octets c h e = refl
+symbol_kind TokenKind.Number octets c h e = absurd (number_symbol octets c h e)
+symbol_kind TokenKind.ShortString octets c h e = absurd (let n : false ≡ true = sym (ap symbol_said h.0) ∙ e in cc)
+symbol_kind TokenKind.Operator octets c h e = absurd (let n : false ≡ true = sym (ap symbol_said h.0) ∙ e in cc)
+symbol_kind TokenKind.Clob octets c h e = absurd (let i : c ≡ Clob octets = cc in let n : false ≡ true = sym (ap symbol_said i) ∙ e in cc)
+symbol_kind TokenKind.Blob octets c h e = absurd (let i : c ≡ Blob octets = cc in let n : false ≡ true = sym (ap symbol_said i) ∙ e in cc)
+symbol_kind (TokenKind.Mark m) octets c h e = absurd (let i : c ≡ Mark' m = cc in let n : false ≡ true = sym (ap symbol_said i) ∙ e in cc)
 
 is_said : (c : List Slot) (said : Content) (s : Option (List ℕ)) → IsSymbol c said s → symbol_said said ≡ true
 is_said c _ _ (is_word w h) = refl
@@ -97,7 +73,7 @@ symbol_first : (p : Place) (t : Placed) (said : Content) → Says p t said → s
 symbol_first p t said i h = symbol_kind t.lexeme.kind t.lexeme.octets said i.body h
 
 segment_opens : (k : TokenKind) → is_segment k ≡ true → opens_item k ≡ true
-segment_opens kinds.LongString h = refl
+segment_opens TokenKind.LongString h = refl
 segment_opens _ h = absurd cc
 
 long_first : (p : Place) (t : Placed) (w : List ℕ) → Says p t (Long w) → opens_item t.lexeme.kind ≡ true
@@ -112,13 +88,13 @@ segments_first : (p : Place) (ts : List Placed) (w : List ℕ) → Segments p ts
 segments_first p _ _ (segment t w i) = long_first p t w i
 segments_first p _ _ (joined ts v w t d i) = opens_more ts (t ∷ []) (segments_first p ts v d) (long_first p t w i)
 
-mark_first : (p : Place) (t : Placed) (m : _) → Says p t (Mark' m) → opens_item (kinds.Mark m) ≡ true → opens_item t.lexeme.kind ≡ true
+mark_first : (p : Place) (t : Placed) (m : _) → Says p t (Mark' m) → opens_item (TokenKind.Mark m) ≡ true → opens_item t.lexeme.kind ≡ true
 mark_first p t m i h = ap opens_item (mark_kind t.lexeme.kind t.lexeme.octets m i.body) ∙ h
 
-open_first : (bracket : Bracket) → opens_item (kinds.Mark (open_mark bracket)) ≡ true
-open_first brackets.List = refl
-open_first brackets.Sexp = refl
-open_first brackets.Fields = refl
+open_first : (bracket : Bracket) → opens_item (TokenKind.Mark (open_mark bracket)) ≡ true
+open_first Bracket.List = refl
+open_first Bracket.Sexp = refl
+open_first Bracket.Fields = refl
 
 around_first : (c : List Slot) (fs : List Frame) (ss : Symbols) (ts : List Placed) (bracket : Bracket) (Front Body : List Placed → Type 0)
     → (o : Around c fs ss ts bracket Front Body) → OpensItem o.front → OpensItem ts
@@ -128,12 +104,12 @@ around_first c fs ss ts bracket Front Body o h = subst OpensItem (sym o.whole)
 
 opened_first : (c : List Slot) (fs : List Frame) (ts : List Placed) (more : Bool) → Opened c fs ts more → OpensItem ts
 opened_first c [] ts more o = subst OpensItem (sym o) tt
-opened_first c (frames.Items listing ss vs ∷ fs) ts more o = around_first c fs ss ts _ _ _ o (opened_first c fs o.front true o.outer)
-opened_first c (frames.Fields ss ms ∷ fs) ts more o = around_first c fs ss ts _ _ _ o (opened_first c fs o.front true o.outer)
-opened_first c (frames.Named ss ms s ∷ fs) ts more o = subst OpensItem (sym o.whole)
+opened_first c (Frame.Items listing ss vs ∷ fs) ts more o = around_first c fs ss ts _ _ _ o (opened_first c fs o.front true o.outer)
+opened_first c (Frame.Fields ss ms ∷ fs) ts more o = around_first c fs ss ts _ _ _ o (opened_first c fs o.front true o.outer)
+opened_first c (Frame.Named ss ms s ∷ fs) ts more o = subst OpensItem (sym o.whole)
     (opens_more o.front _ (opened_first c fs o.front true o.outer)
     (opens_more o.notes (o.open' ∷ (o.body ++ (o.name ++ o.colon ∷ []))) (notes_first c (value_place fs) o.notes ss o.noted)
-    (mark_first (value_place fs) o.open' marks.FieldsOpen o.opens refl)))
+    (mark_first (value_place fs) o.open' Mark.FieldsOpen o.opens refl)))
 
 ready_first : (c : List Slot) (fs : List Frame) (ss : Symbols) (ts : List Placed) → ReadyFor c fs ss ts → OpensItem ts
 ready_first c fs ss ts d = subst OpensItem (sym d.whole)
@@ -146,16 +122,16 @@ behind_first (t ∷ ts) us a n = a
 
 -- the tokens that the reader's open item stands for begin with one that may begin it
 pub now_first : (c : List Slot) (fs : List Frame) (ss : Symbols) (now : Now) (ts : List Placed) → NowStands c fs ss ts now → OpensItem ts
-now_first c fs ss nows.Ready ts d = ready_first c fs ss ts d
-now_first c fs ss (nows.Pending h end) ts d = subst OpensItem (sym d.whole)
+now_first c fs ss Now.Ready ts d = ready_first c fs ss ts d
+now_first c fs ss (Now.Pending h end) ts d = subst OpensItem (sym d.whole)
     (opens_more d.before (d.token ∷ []) (ready_first c fs ss d.before d.ready) (symbol_first (value_place fs) d.token d.said d.says d.named))
-now_first c fs ss (nows.Long w end) ts d = subst OpensItem (sym d.whole)
+now_first c fs ss (Now.Long w end) ts d = subst OpensItem (sym d.whole)
     (opens_more d.before d.segments (ready_first c fs ss d.before d.ready) (segments_first (value_place fs) d.segments w d.are))
-now_first c fs ss nows.After ts d = opened_first c fs ts false d.0
-now_first c fs ss nows.Name ts d = opened_first c fs ts true d.0
-now_first c fs ss (nows.LongName w) ts d = subst OpensItem (sym d.whole)
+now_first c fs ss Now.After ts d = opened_first c fs ts false d.0
+now_first c fs ss Now.Name ts d = opened_first c fs ts true d.0
+now_first c fs ss (Now.LongName w) ts d = subst OpensItem (sym d.whole)
     (behind_first d.before d.name (opened_first c fs d.before true d.outer) (name_some c fs d.before d.outer d.struct))
-now_first c fs ss (nows.Keyed s) ts d = subst OpensItem (sym d.whole)
+now_first c fs ss (Now.Keyed s) ts d = subst OpensItem (sym d.whole)
     (behind_first d.before d.name (opened_first c fs d.before true d.outer) (name_some c fs d.before d.outer d.struct))
 
 -- 2. Octets with which a token begins.
@@ -207,19 +183,19 @@ quotes_never p colon now used (o ∷ o' ∷ os) r more s e ran i q =
     ∙ (ap (λ (x : ℕ). run p (o ∷ x ∷ os) (blank colon now used)) (sym second) ∙ ran))
   where
     two : Known
-    two = at modes.Quotes [] colon used (used + 1 + 1)
+    two = at Mode.Quotes [] colon used (used + 1 + 1)
 
     long : Known
-    long = at (modes.Text styles.LongString within.Plain) [] colon used (used + 1 + 1 + 1)
+    long = at (Mode.Text Style.LongString Within.Plain) [] colon used (used + 1 + 1 + 1)
 
     third : (o : ℕ) (os : List ℕ) (b : Bool) → (o == 39) ≡ b → run p (o ∷ os) two ≡ Next s → ⊥
     third o os true e f =
         let g : run p os long ≡ Next s = sym (ap (λ b. follow (acts p two o
-        (if b then go_on (modes.Text styles.LongString within.Plain) else before kinds.QuotedSymbol)) (λ t. run p os t)) e) ∙ f in
+        (if b then go_on (Mode.Text Style.LongString Within.Plain) else before TokenKind.QuotedSymbol)) (λ t. run p os t)) e) ∙ f in
         let k = long_quoting s.mode (subst LongOn g (long_run p os long refl)) in
         let n : true ≡ false = sym k ∙ q in cc
     third o os false e f =
-        let g = sym (ap (λ b. follow (acts p two o (if b then go_on (modes.Text styles.LongString within.Plain) else before kinds.QuotedSymbol))
+        let g = sym (ap (λ b. follow (acts p two o (if b then go_on (Mode.Text Style.LongString Within.Plain) else before TokenKind.QuotedSymbol))
         (λ t. run p os t)) e) ∙ f in
         absurd cc
 
@@ -229,12 +205,12 @@ quotes_never p colon now used (o ∷ o' ∷ os) r more s e ran i q =
 
 -- the end of the input ends no long text
 long_end : (p : Place) (s : Known) (x : Lexeme) (m : Mode) → is_long_text m ≡ true → ends_at s (end_of p m) ≡ Ok (Some x) → ⊥
-long_end p s x (modes.Text y w) h k = cc
+long_end p s x (Mode.Text y w) h k = cc
 long_end p s x _ h k = absurd cc
 
 -- a token that begins with `''` is a segment, or that symbol
 pub quotes_first : (colon : Bool) (k : ℕ) (octets w more : List ℕ) (t : Placed) (r : List ℕ) → BeginsWith colon k octets t r
-    → (t.lexeme.kind ≡ kinds.Operator → ⊥) → IsBlank w → octets ≡ w ++ 39 ∷ 39 ∷ more → begins_as_long (t ∷ []) ≡ true
+    → (t.lexeme.kind ≡ TokenKind.Operator → ⊥) → IsBlank w → octets ≡ w ++ 39 ∷ 39 ∷ more → begins_as_long (t ∷ []) ≡ true
 quotes_first colon k octets w more t r b plain blanks e = by more (subst (Is t.place t.lexeme) run_is (one_found colon k octets t r b))
   where
     p : Place
@@ -247,20 +223,20 @@ quotes_first colon k octets w more t r b plain blanks e = by more (subst (Is t.p
     x = t.lexeme
 
     two : Known
-    two = at modes.Quotes [] colon used (used + 1 + 1)
+    two = at Mode.Quotes [] colon used (used + 1 + 1)
 
     long : Known
-    long = at (modes.Text styles.LongString within.Plain) [] colon used (used + 1 + 1 + 1)
+    long = at (Mode.Text Style.LongString Within.Plain) [] colon used (used + 1 + 1 + 1)
 
-    run_is : run p octets (at modes.Blank [] colon k k) ≡ run p more two
-    run_is = ap (λ o. run p o (at modes.Blank [] colon k k)) e ∙ (passes_blank p colon w blanks k k).1 (39 ∷ 39 ∷ more)
+    run_is : run p octets (at Mode.Blank [] colon k k) ≡ run p more two
+    run_is = ap (λ o. run p o (at Mode.Blank [] colon k k)) e ∙ (passes_blank p colon w blanks k k).1 (39 ∷ 39 ∷ more)
 
     same : (a b : ℕ) → b ≡ a + 2 → (b == a + 2) ≡ true
     same a b h = grind (arith, nat_tests)
 
-    wide : (y : Lexeme) → y.kind ≡ kinds.QuotedSymbol → y.start ≡ used → y.end ≡ used + 2 → y ≡ x → begins_as_long (t ∷ []) ≡ true
+    wide : (y : Lexeme) → y.kind ≡ TokenKind.QuotedSymbol → y.start ≡ used → y.end ≡ used + 2 → y ≡ x → begins_as_long (t ∷ []) ≡ true
     wide y a b d f =
-        let kind : x.kind ≡ kinds.QuotedSymbol = sym (ap (λ (z : Lexeme). z.kind) f) ∙ a in
+        let kind : x.kind ≡ TokenKind.QuotedSymbol = sym (ap (λ (z : Lexeme). z.kind) f) ∙ a in
         let span : x.end ≡ x.start + 2 = omega (arith, b, d, ap (λ (z : Lexeme). z.start) f, ap (λ (z : Lexeme). z.end) f) in
         ap (λ z. is_segment z || is_two_quotes z x.start x.end) kind ∙ same x.start x.end span
 
@@ -276,14 +252,14 @@ quotes_first colon k octets w more t r b plain blanks e = by more (subst (Is t.p
 
     third : (o : ℕ) (os : List ℕ) (b : Bool) → (o == 39) ≡ b → Is p x (run p (o ∷ os) two) → begins_as_long (t ∷ []) ≡ true
     third o os true f i = found_long (run p os long) (long_run p os long refl)
-        (subst (λ b. Is p x (follow (acts p two o (if b then go_on (modes.Text styles.LongString within.Plain) else before kinds.QuotedSymbol))
+        (subst (λ b. Is p x (follow (acts p two o (if b then go_on (Mode.Text Style.LongString Within.Plain) else before TokenKind.QuotedSymbol))
         (λ t. run p os t))) f i)
     third o os false f i =
-        let h = subst (λ b. Is p x (follow (acts p two o (if b then go_on (modes.Text styles.LongString within.Plain) else before kinds.QuotedSymbol))
+        let h = subst (λ b. Is p x (follow (acts p two o (if b then go_on (Mode.Text Style.LongString Within.Plain) else before TokenKind.QuotedSymbol))
         (λ t. run p os t))) f i in
-        wide (record { start = used; end = used + 1 + 1 - 0; kind = kinds.QuotedSymbol; octets = [] }) refl refl (omega arith) h
+        wide (record { start = used; end = used + 1 + 1 - 0; kind = TokenKind.QuotedSymbol; octets = [] }) refl refl (omega arith) h
 
     by : (more : List ℕ) → Is p x (run p more two) → begins_as_long (t ∷ []) ≡ true
-    by [] (inl i) = wide (record { start = used; end = used + 1 + 1; kind = kinds.QuotedSymbol; octets = [] }) refl refl (omega arith) (ap (lexeme_of x) i)
+    by [] (inl i) = wide (record { start = used; end = used + 1 + 1; kind = TokenKind.QuotedSymbol; octets = [] }) refl refl (omega arith) (ap (lexeme_of x) i)
     by [] (inr i) = absurd (plain i.1)
     by (o ∷ os) i = third o os (o == 39) refl i

@@ -1,57 +1,32 @@
 -- Where a reading's open item begins, behind tokens that begin no earlier; and what the scanner may hold while something waits.
 use Rattle.std.proofs.Common.{◌≡◌, ℕ, zero, suc, ◌+◌, ◌≤◌, nat_le, Bool, true, false, ◌&&◌, ◌||◌, not, List, [], ◌∷◌, ◌++◌, refl, sym, ap, ◌∙◌, subst, arith, Result, Ok, Err, ◌⊎◌, inl, inr, if◌then◌else◌}
-use Rattle.ion_model.specs.declared.value.Value.{Value}
-use Rattle.ion_model.specs.declared.value.Payload.{Payload}
-use Rattle.ion_atoms.specs.declared.refusal.Reason.{Reason}
-use Rattle.ion_atoms.specs.declared.refusal.Reason.TheVariants as reasons
-use Rattle.ion_atoms.specs.declared.refusal.Refusal.{Refusal}
-use Rattle.ion_model.specs.Kinds.{is_table}
-use Rattle.ion_symtab.specs.declared.limits.Limits.{Limits}
-use Rattle.ion_symtab.specs.declared.catalog.Catalog.{Catalog}
-use Rattle.ion_symtab.specs.Slots.{Slot, system_slots}
-use Rattle.ion_symtab.specs.Next.{next}
-use Rattle.ion_tokens.specs.machine.Bounds.{is_idle}
-use Rattle.ion_tokens.specs.machine.Ahead.{is_quoting}
-use Rattle.ion_tokens.specs.Bodies.{Content}
-use Rattle.ion_tokens.specs.machine.Scanning.{Known, Outcome, Next, Given, Left, Refused, feed}
-use Rattle.ion_tokens.specs.Lexed.{Placed}
-use Rattle.ion_tokens.specs.machine.Said.{said}
-use Rattle.ion_text.specs.declared.state.Held.{Held}
-use Rattle.ion_text.specs.declared.state.Held.TheVariants as helds
-use Rattle.ion_text.specs.declared.state.Now.{Now}
-use Rattle.ion_text.specs.declared.state.Now.TheVariants as nows
-use Rattle.ion_text.specs.declared.state.Frame.{Frame}
-use Rattle.ion_text.specs.declared.state.Frame.TheVariants as frames
-use Rattle.ion_text.specs.declared.state.Listing.TheVariants as listings
-use Rattle.ion_text.specs.machine.EachToken.{Spot, under, spot_at, Reading, Turn, goes, gives, refuses, late, Token, Symbols, at, fresh, place, settle, turn, turned, ended, paid, released, held_payload, within}
-use Rattle.ion_text.specs.machine.Run.{State, Effect, uses, tells, leaves, fails, eats, takes, waits, waits_now, unsettled, noticed, on_octet, on_scan, on_settled, on_said, behind_given, behind_left, or_worse, with_scan, token_of, is_top, is_fresh, shut, reaches, run, run_on, once_more}
-use Rattle.ion_text.specs.laws.reading.complete.Segments.{NotRefused, unsettled_waits}
-use Rattle.ion_text.specs.machine.TokenLists.{Walk, walked, stopped, adds_values, on_turn, on_placed, on_judged, continues, reads}
-use Rattle.ion_text.specs.machine.Places.{Leading, same_place, settle_same}
-use Rattle.ion_text.specs.laws.reading.sound.Quotes.{Fine}
+use Rattle.ion_text.specs.Names.{Catalog, Content, Effect, Frame, Given, Held, Known, Leading, Left, Limits, Listing, Next, Now, Outcome, Payload, Placed, Reading, Reason, Refusal, Refused, Slot, Spot, State, Symbols, Token, Turn, Value, Walk, adds_values, at, behind_given, behind_left, continues, eats, ended, fails, feed, fresh, gives, goes, held_payload, is_fresh, is_idle, is_quoting, is_table, is_top, late, leaves, next, noticed, on_judged, on_octet, on_placed, on_said, on_scan, on_settled, on_turn, once_more, or_worse, paid, place, reaches, reads, refuses, released, run, run_on, said, same_place, settle, settle_same, shut, spot_at, stopped, system_slots, takes, tells, token_of, turn, turned, under, unsettled, uses, waits, waits_now, with_scan, within}
+use Rattle.ion_text.specs.machine.TokenLists.{walked}
 use Rattle.ion_text.specs.laws.reading.complete.Meets.{finely_as}
-use Rattle.ion_text.specs.laws.reading.sound.StandsOpen.{start_now}
+use Rattle.ion_text.specs.laws.reading.complete.Segments.{NotRefused, unsettled_waits}
+use Rattle.ion_text.specs.laws.reading.sound.Quotes.{Fine}
 use Rattle.ion_text.specs.laws.reading.sound.Spans.{IsTopNow, IsWaiting, OpenAs, Spans, turn_spans}
-use Rattle.ion_text.specs.laws.reading.sound.Steps.{Stood, After, eats_after, takes_after}
+use Rattle.ion_text.specs.laws.reading.sound.StandsOpen.{start_now}
+use Rattle.ion_text.specs.laws.reading.sound.Steps.{After, Stood, eats_after, takes_after}
 
 -- a fresh reading waits for an item
 pub fresh_parts : (start : ℕ) (c : List Slot) (fs : List Frame) (ss : Symbols) (now : Now) → is_fresh (at start c fs ss now) ≡ true → (fs ≡ []) × (ss ≡ [])
-    × (now ≡ nows.Ready)
-fresh_parts start c [] [] nows.Ready h = (refl, refl, refl)
-fresh_parts start c [] [] (nows.Pending x y) h = absurd cc
-fresh_parts start c [] [] (nows.Long x y) h = absurd cc
-fresh_parts start c [] [] nows.After h = absurd cc
-fresh_parts start c [] [] nows.Name h = absurd cc
-fresh_parts start c [] [] (nows.LongName x) h = absurd cc
-fresh_parts start c [] [] (nows.Keyed x) h = absurd cc
+    × (now ≡ Now.Ready)
+fresh_parts start c [] [] Now.Ready h = (refl, refl, refl)
+fresh_parts start c [] [] (Now.Pending x y) h = absurd cc
+fresh_parts start c [] [] (Now.Long x y) h = absurd cc
+fresh_parts start c [] [] Now.After h = absurd cc
+fresh_parts start c [] [] Now.Name h = absurd cc
+fresh_parts start c [] [] (Now.LongName x) h = absurd cc
+fresh_parts start c [] [] (Now.Keyed x) h = absurd cc
 fresh_parts start c [] (s ∷ ss) now h = absurd cc
 fresh_parts start c (f ∷ fs) ss now h = absurd cc
 
 module _ (g : Catalog) (l : Limits) where
   -- nothing waits
   abbrev pub IsFree : Now → Type 0
-  IsFree (nows.Pending h end) = ⊥
-  IsFree (nows.Long w end) = ⊥
+  IsFree (Now.Pending h end) = ⊥
+  IsFree (Now.Long w end) = ⊥
   IsFree _ = Unit {0}
 
   -- what waited of an item that began there is settled: no item is open, or it is in a container
@@ -61,7 +36,7 @@ module _ (g : Catalog) (l : Limits) where
   within_freed : (begin item start end : ℕ) (t : Turn) → Leading g l (Freed begin) t → Leading g l (Freed begin) (within item start end t)
   within_freed begin item start end t h = go (nat_le end (start + item))
     where
-      go : (b : Bool) → Leading g l (Freed begin) (if b then t else refuses reasons.ItemTooLong)
+      go : (b : Bool) → Leading g l (Freed begin) (if b then t else refuses Reason.ItemTooLong)
       go true = h
       go false = tt
 
@@ -73,35 +48,35 @@ module _ (g : Catalog) (l : Limits) where
 
   ended_freed : (spot : Spot) (fs : List Frame) (v : Value) → Leading g l (Freed spot.start) (ended (under g l) spot fs v)
   ended_freed spot [] v = top_freed l.item spot.start spot.end spot.context v (next spot.context v g) (is_table v)
-  ended_freed spot (frames.Items listings.List ss vs ∷ fs) v = (tt, inr (refl, refl))
-  ended_freed spot (frames.Items listings.Sexp ss vs ∷ fs) v = (tt, inr (refl, refl))
-  ended_freed spot (frames.Named ss ms s ∷ fs) v = (tt, inr (refl, refl))
-  ended_freed spot (frames.Fields ss ms ∷ fs) v = tt
+  ended_freed spot (Frame.Items Listing.List ss vs ∷ fs) v = (tt, inr (refl, refl))
+  ended_freed spot (Frame.Items Listing.Sexp ss vs ∷ fs) v = (tt, inr (refl, refl))
+  ended_freed spot (Frame.Named ss ms s ∷ fs) v = (tt, inr (refl, refl))
+  ended_freed spot (Frame.Fields ss ms ∷ fs) v = tt
 
   paid_freed : (spot : Spot) (fs : List Frame) (ss : Symbols) (q : Result Payload Reason) → Leading g l (Freed spot.start) (paid (under g l) spot fs ss q)
   paid_freed spot fs ss (Ok q) = ended_freed spot fs _
   paid_freed spot fs ss (Err e) = tt
 
   released_freed : (spot : Spot) (fs : List Frame) (ss : Symbols) (h : Held) → Leading g l (Freed spot.start) (released (under g l) spot fs ss h)
-  released_freed spot [] [] (helds.Version true s) = within_freed spot.start l.item spot.start spot.end (goes (fresh system_slots)) (tt, inl refl)
-  released_freed spot [] [] (helds.Version false s) = tt
-  released_freed spot [] [] (helds.Symbol s) = paid_freed spot [] [] (held_payload (helds.Symbol s))
-  released_freed spot [] [] (helds.Null k) = paid_freed spot [] [] (held_payload (helds.Null k))
-  released_freed spot [] [] (helds.Truth b) = paid_freed spot [] [] (held_payload (helds.Truth b))
-  released_freed spot [] [] helds.Nan = tt
+  released_freed spot [] [] (Held.Version true s) = within_freed spot.start l.item spot.start spot.end (goes (fresh system_slots)) (tt, inl refl)
+  released_freed spot [] [] (Held.Version false s) = tt
+  released_freed spot [] [] (Held.Symbol s) = paid_freed spot [] [] (held_payload (Held.Symbol s))
+  released_freed spot [] [] (Held.Null k) = paid_freed spot [] [] (held_payload (Held.Null k))
+  released_freed spot [] [] (Held.Truth b) = paid_freed spot [] [] (held_payload (Held.Truth b))
+  released_freed spot [] [] Held.Nan = tt
   released_freed spot [] (s ∷ ss) h = paid_freed spot [] (s ∷ ss) (held_payload h)
   released_freed spot (f ∷ fs) ss h = paid_freed spot (f ∷ fs) ss (held_payload h)
 
   -- what waits is settled to where no item is open, or to the same item in a container
   pub waiting_freed : (start : ℕ) (c : List Slot) (fs : List Frame) (ss : Symbols) (now : Now) → IsWaiting g l now
       → Leading g l (Freed start) (settle g l (at start c fs ss now))
-  waiting_freed start c fs ss (nows.Pending h end) w = released_freed (spot_at end start c) fs ss h
-  waiting_freed start c fs ss (nows.Long v end) w = ended_freed (spot_at end start c) fs _
-  waiting_freed start c fs ss nows.Ready w = absurd w
-  waiting_freed start c fs ss nows.After w = absurd w
-  waiting_freed start c fs ss nows.Name w = absurd w
-  waiting_freed start c fs ss (nows.LongName v) w = absurd w
-  waiting_freed start c fs ss (nows.Keyed s) w = absurd w
+  waiting_freed start c fs ss (Now.Pending h end) w = released_freed (spot_at end start c) fs ss h
+  waiting_freed start c fs ss (Now.Long v end) w = ended_freed (spot_at end start c) fs _
+  waiting_freed start c fs ss Now.Ready w = absurd w
+  waiting_freed start c fs ss Now.After w = absurd w
+  waiting_freed start c fs ss Now.Name w = absurd w
+  waiting_freed start c fs ss (Now.LongName v) w = absurd w
+  waiting_freed start c fs ss (Now.Keyed s) w = absurd w
 
   -- 1. Where an item begins.
 
@@ -123,38 +98,38 @@ module _ (g : Catalog) (l : Limits) where
       go (late e r) h = tt
 
   -- an item that isn't fresh is open from there on
-  open_from : (n start : ℕ) (c : List Slot) (fs : List Frame) (ss : Symbols) (now : Now) → (now ≡ nows.Ready → ⊥) → From n (at start c fs ss now) → n ≤ start
+  open_from : (n start : ℕ) (c : List Slot) (fs : List Frame) (ss : Symbols) (now : Now) → (now ≡ Now.Ready → ⊥) → From n (at start c fs ss now) → n ≤ start
   open_from n start c fs ss now k (ok, inl f) = absurd (k (fresh_parts start c fs ss now f).2)
   open_from n start c fs ss now k (ok, inr h) = h
 
   -- settling what waits leads to no item that begins earlier
   pub settle_from : (n start : ℕ) (c : List Slot) (fs : List Frame) (ss : Symbols) (now : Now) → From n (at start c fs ss now)
       → Leading g l (From n) (settle g l (at start c fs ss now))
-  settle_from n start c fs ss (nows.Pending h end) q = freed_from n start (open_from n start c fs ss (nows.Pending h end) (λ e. cc) q)
-      (settle g l (at start c fs ss (nows.Pending h end))) (waiting_freed start c fs ss (nows.Pending h end) tt)
-  settle_from n start c fs ss (nows.Long w end) q = freed_from n start (open_from n start c fs ss (nows.Long w end) (λ e. cc) q)
-      (settle g l (at start c fs ss (nows.Long w end))) (waiting_freed start c fs ss (nows.Long w end) tt)
-  settle_from n start c fs ss (nows.LongName w) q = (λ e. absurd (q.0 e), inr (open_from n start c fs ss (nows.LongName w) (λ e. cc) q))
-  settle_from n start c fs ss nows.Ready q = q
-  settle_from n start c fs ss nows.After q = q
-  settle_from n start c fs ss nows.Name q = q
-  settle_from n start c fs ss (nows.Keyed s) q = q
+  settle_from n start c fs ss (Now.Pending h end) q = freed_from n start (open_from n start c fs ss (Now.Pending h end) (λ e. cc) q)
+      (settle g l (at start c fs ss (Now.Pending h end))) (waiting_freed start c fs ss (Now.Pending h end) tt)
+  settle_from n start c fs ss (Now.Long w end) q = freed_from n start (open_from n start c fs ss (Now.Long w end) (λ e. cc) q)
+      (settle g l (at start c fs ss (Now.Long w end))) (waiting_freed start c fs ss (Now.Long w end) tt)
+  settle_from n start c fs ss (Now.LongName w) q = (λ e. absurd (q.0 e), inr (open_from n start c fs ss (Now.LongName w) (λ e. cc) q))
+  settle_from n start c fs ss Now.Ready q = q
+  settle_from n start c fs ss Now.After q = q
+  settle_from n start c fs ss Now.Name q = q
+  settle_from n start c fs ss (Now.Keyed s) q = q
 
   begun_from : (n start begin : ℕ) (c : List Slot) (fs : List Frame) (ss : Symbols) (now : Now) → n ≤ begin → From n (at start c fs ss now)
       → n ≤ start_now now start begin fs ss
-  begun_from n start begin c [] [] nows.Ready k q = k
-  begun_from n start begin c [] (s ∷ ss) nows.Ready k (ok, inl f) = absurd cc
-  begun_from n start begin c [] (s ∷ ss) nows.Ready k (ok, inr h) = h
-  begun_from n start begin c (x ∷ fs) [] nows.Ready k (ok, inl f) = absurd cc
-  begun_from n start begin c (x ∷ fs) [] nows.Ready k (ok, inr h) = h
-  begun_from n start begin c (x ∷ fs) (s ∷ ss) nows.Ready k (ok, inl f) = absurd cc
-  begun_from n start begin c (x ∷ fs) (s ∷ ss) nows.Ready k (ok, inr h) = h
-  begun_from n start begin c fs ss (nows.Pending h end) k q = open_from n start c fs ss (nows.Pending h end) (λ e. cc) q
-  begun_from n start begin c fs ss (nows.Long w end) k q = open_from n start c fs ss (nows.Long w end) (λ e. cc) q
-  begun_from n start begin c fs ss nows.After k q = open_from n start c fs ss nows.After (λ e. cc) q
-  begun_from n start begin c fs ss nows.Name k q = open_from n start c fs ss nows.Name (λ e. cc) q
-  begun_from n start begin c fs ss (nows.LongName w) k q = open_from n start c fs ss (nows.LongName w) (λ e. cc) q
-  begun_from n start begin c fs ss (nows.Keyed s) k q = open_from n start c fs ss (nows.Keyed s) (λ e. cc) q
+  begun_from n start begin c [] [] Now.Ready k q = k
+  begun_from n start begin c [] (s ∷ ss) Now.Ready k (ok, inl f) = absurd cc
+  begun_from n start begin c [] (s ∷ ss) Now.Ready k (ok, inr h) = h
+  begun_from n start begin c (x ∷ fs) [] Now.Ready k (ok, inl f) = absurd cc
+  begun_from n start begin c (x ∷ fs) [] Now.Ready k (ok, inr h) = h
+  begun_from n start begin c (x ∷ fs) (s ∷ ss) Now.Ready k (ok, inl f) = absurd cc
+  begun_from n start begin c (x ∷ fs) (s ∷ ss) Now.Ready k (ok, inr h) = h
+  begun_from n start begin c fs ss (Now.Pending h end) k q = open_from n start c fs ss (Now.Pending h end) (λ e. cc) q
+  begun_from n start begin c fs ss (Now.Long w end) k q = open_from n start c fs ss (Now.Long w end) (λ e. cc) q
+  begun_from n start begin c fs ss Now.After k q = open_from n start c fs ss Now.After (λ e. cc) q
+  begun_from n start begin c fs ss Now.Name k q = open_from n start c fs ss Now.Name (λ e. cc) q
+  begun_from n start begin c fs ss (Now.LongName w) k q = open_from n start c fs ss (Now.LongName w) (λ e. cc) q
+  begun_from n start begin c fs ss (Now.Keyed s) k q = open_from n start c fs ss (Now.Keyed s) (λ e. cc) q
 
   turn_from : (n : ℕ) (r : Reading) (t : Token) → n ≤ t.start → From n r → Leading g l (From n) (turn g l r t)
   turn_from n r t k q = go (turn g l r t) (turn_spans g l r t q.0)
@@ -226,38 +201,38 @@ module _ (g : Catalog) (l : Limits) where
 
   -- behind a symbol no token has begun, and behind a long string none but what may be a segment
   abbrev pub Waits : Known → Now → Type 0
-  Waits s (nows.Pending h end) = is_idle s.mode ≡ true
-  Waits s (nows.Long w end) = (is_idle s.mode || is_quoting s.mode) ≡ true
+  Waits s (Now.Pending h end) = is_idle s.mode ≡ true
+  Waits s (Now.Long w end) = (is_idle s.mode || is_quoting s.mode) ≡ true
   Waits s _ = Unit {0}
 
   -- where no token has begun, anything may wait
   pub idle_waits : (s : Known) (now : Now) → is_idle s.mode ≡ true → Waits s now
-  idle_waits s (nows.Pending h end) i = i
-  idle_waits s (nows.Long w end) i = ap (λ b. b || is_quoting s.mode) i
-  idle_waits s nows.Ready i = tt
-  idle_waits s nows.After i = tt
-  idle_waits s nows.Name i = tt
-  idle_waits s (nows.LongName w) i = tt
-  idle_waits s (nows.Keyed k) i = tt
+  idle_waits s (Now.Pending h end) i = i
+  idle_waits s (Now.Long w end) i = ap (λ b. b || is_quoting s.mode) i
+  idle_waits s Now.Ready i = tt
+  idle_waits s Now.After i = tt
+  idle_waits s Now.Name i = tt
+  idle_waits s (Now.LongName w) i = tt
+  idle_waits s (Now.Keyed k) i = tt
 
   -- where nothing waits, any token may have begun
   pub free_waits : (s : Known) (now : Now) → IsFree now → Waits s now
-  free_waits s (nows.Pending h end) i = absurd i
-  free_waits s (nows.Long w end) i = absurd i
-  free_waits s nows.Ready i = tt
-  free_waits s nows.After i = tt
-  free_waits s nows.Name i = tt
-  free_waits s (nows.LongName w) i = tt
-  free_waits s (nows.Keyed k) i = tt
+  free_waits s (Now.Pending h end) i = absurd i
+  free_waits s (Now.Long w end) i = absurd i
+  free_waits s Now.Ready i = tt
+  free_waits s Now.After i = tt
+  free_waits s Now.Name i = tt
+  free_waits s (Now.LongName w) i = tt
+  free_waits s (Now.Keyed k) i = tt
 
   next_waits : (top : Bool) (now : Now) (s : Known) → waits_now top now (Next s) ≡ true → Waits s now
-  next_waits top (nows.Pending h end) s e = e
-  next_waits top (nows.Long w end) s e = e
-  next_waits top nows.Ready s e = tt
-  next_waits top nows.After s e = tt
-  next_waits top nows.Name s e = tt
-  next_waits top (nows.LongName w) s e = tt
-  next_waits top (nows.Keyed k) s e = tt
+  next_waits top (Now.Pending h end) s e = e
+  next_waits top (Now.Long w end) s e = e
+  next_waits top Now.Ready s e = tt
+  next_waits top Now.After s e = tt
+  next_waits top Now.Name s e = tt
+  next_waits top (Now.LongName w) s e = tt
+  next_waits top (Now.Keyed k) s e = tt
 
   -- behind what was settled nothing waits
   pub settle_free : (start : ℕ) (c : List Slot) (fs : List Frame) (ss : Symbols) (now : Now)
@@ -271,15 +246,15 @@ module _ (g : Catalog) (l : Limits) where
       part (late e r) h = tt
 
       go : (n : Now) → now ≡ n → Leading g l (λ n. IsFree n.now) (settle g l (at start c fs ss now))
-      go (nows.Pending h end) e = subst (λ x. Leading g l (λ n. IsFree n.now) (settle g l (at start c fs ss x))) (sym e)
-          (part (settle g l (at start c fs ss (nows.Pending h end))) (waiting_freed start c fs ss (nows.Pending h end) tt))
-      go (nows.Long w end) e = subst (λ x. Leading g l (λ n. IsFree n.now) (settle g l (at start c fs ss x))) (sym e)
-          (part (settle g l (at start c fs ss (nows.Long w end))) (waiting_freed start c fs ss (nows.Long w end) tt))
-      go nows.Ready e = subst (λ x. Leading g l (λ n. IsFree n.now) (settle g l (at start c fs ss x))) (sym e) tt
-      go nows.After e = subst (λ x. Leading g l (λ n. IsFree n.now) (settle g l (at start c fs ss x))) (sym e) tt
-      go nows.Name e = subst (λ x. Leading g l (λ n. IsFree n.now) (settle g l (at start c fs ss x))) (sym e) tt
-      go (nows.LongName w) e = subst (λ x. Leading g l (λ n. IsFree n.now) (settle g l (at start c fs ss x))) (sym e) tt
-      go (nows.Keyed k) e = subst (λ x. Leading g l (λ n. IsFree n.now) (settle g l (at start c fs ss x))) (sym e) tt
+      go (Now.Pending h end) e = subst (λ x. Leading g l (λ n. IsFree n.now) (settle g l (at start c fs ss x))) (sym e)
+          (part (settle g l (at start c fs ss (Now.Pending h end))) (waiting_freed start c fs ss (Now.Pending h end) tt))
+      go (Now.Long w end) e = subst (λ x. Leading g l (λ n. IsFree n.now) (settle g l (at start c fs ss x))) (sym e)
+          (part (settle g l (at start c fs ss (Now.Long w end))) (waiting_freed start c fs ss (Now.Long w end) tt))
+      go Now.Ready e = subst (λ x. Leading g l (λ n. IsFree n.now) (settle g l (at start c fs ss x))) (sym e) tt
+      go Now.After e = subst (λ x. Leading g l (λ n. IsFree n.now) (settle g l (at start c fs ss x))) (sym e) tt
+      go Now.Name e = subst (λ x. Leading g l (λ n. IsFree n.now) (settle g l (at start c fs ss x))) (sym e) tt
+      go (Now.LongName w) e = subst (λ x. Leading g l (λ n. IsFree n.now) (settle g l (at start c fs ss x))) (sym e) tt
+      go (Now.Keyed k) e = subst (λ x. Leading g l (λ n. IsFree n.now) (settle g l (at start c fs ss x))) (sym e) tt
 
   abbrev pub WaitsBehind : Effect → Type 0
   WaitsBehind (uses m) = Waits m.scan m.reading.now
@@ -290,8 +265,8 @@ module _ (g : Catalog) (l : Limits) where
   noticed_waits : (r : Reading) (s : Known) → Waits s r.now → WaitsBehind (noticed l r s)
   noticed_waits r s h = go (shut r.now && not (is_idle s.mode)) (nat_le (reaches r.frames r s) l.item)
     where
-      go : (x y : Bool) → WaitsBehind (if x then fails reasons.Unexpected else
-          (if y then uses (record { scan = s; reading = r }) else fails reasons.ItemTooLong))
+      go : (x y : Bool) → WaitsBehind (if x then fails Reason.Unexpected else
+          (if y then uses (record { scan = s; reading = r }) else fails Reason.ItemTooLong))
       go true y = tt
       go false true = h
       go false false = tt

@@ -1,23 +1,14 @@
 -- Tokens that close the open container end behind the octets before which they are looked for.
 use Rattle.std.proofs.Common.{◌≡◌, ℕ, ◌+◌, ◌-◌, ◌≤◌, ◌<◌, Bool, true, false, List, [], ◌∷◌, length, drop, sym, ◌∙◌, subst, arith, ◌⊎◌, inl, inr}
 use Rattle.std.proofs.lemmas.List.{length-drop}
-use Rattle.ion_model.specs.declared.value.Value.{Value}
-use Rattle.ion_symtab.specs.declared.limits.Limits.{Limits}
-use Rattle.ion_symtab.specs.declared.catalog.Catalog.{Catalog}
-use Rattle.ion_tokens.specs.declared.mode.Place.{Place}
-use Rattle.ion_tokens.specs.machine.Table.{end_of}
-use Rattle.ion_tokens.specs.machine.Scanning.{Known, Outcome, Next, Given, Left, Refused, feed, follow, run}
-use Rattle.ion_tokens.specs.Lexed.{Placed, LexesTo, colon_behind}
-use Rattle.ion_tokens.proofs.complete.Found.{Nothing, Last, Gives, Leaves, Unclosed}
-use Rattle.ion_tokens.proofs.runs.Runs.{next_used, given_used, left_used}
-use Rattle.ion_text.specs.machine.EachToken.{Reading}
-use Rattle.ion_text.specs.machine.Run.{is_top}
-use Rattle.ion_text.specs.machine.Passed.{said_body}
-use Rattle.ion_text.specs.laws.reading.sound.Quotes.{Fine, Finely, is_close, feed_fine}
+use Rattle.ion_text.specs.Names.{Catalog, Given, Known, Left, LexesTo, Limits, Next, Outcome, Place, Placed, Reading, Refused, Value, colon_behind, end_of, feed, follow, is_top, said_body, scan as run}
+use Rattle.ion_tokens.proofs.complete.Found.{Gives, Last, Leaves, Nothing, Unclosed}
+use Rattle.ion_tokens.proofs.runs.Runs.{given_used, left_used, next_used}
+use Rattle.ion_text.specs.laws.reading.complete.Going.{Going, InsideNext, Operators, closed, closes_kind, going_said, inside_end, inside_token, stays}
 use Rattle.ion_text.specs.laws.reading.complete.Meets.{end_spans}
-use Rattle.ion_text.specs.laws.reading.complete.Going.{Operators, Going, InsideNext, stays, closed, going_said, inside_end, inside_token, closes_kind}
-use Rattle.ion_text.specs.laws.showing.tokens.Cuts.{lexed_front}
+use Rattle.ion_text.specs.laws.reading.sound.Quotes.{Fine, Finely, feed_fine, is_close}
 use Rattle.ion_text.specs.laws.showing.tokens.Compare.{Found', unclosed_never}
+use Rattle.ion_text.specs.laws.showing.tokens.Cuts.{lexed_front}
 
 -- one of the tokens ends behind so many octets
 abbrev pub PastIn : ℕ → List Placed → Type 0

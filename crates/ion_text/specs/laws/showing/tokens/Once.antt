@@ -1,28 +1,15 @@
 -- Whole pieces at the front of octets have one list of values.
 use Rattle.std.proofs.Common.{◌≡◌, ℕ, ◌+◌, ◌<◌, Bool, true, false, List, [], ◌∷◌, ◌++◌, length, refl, sym, ap, ◌∙◌, subst, arith, append-nil, length-append, inl, inr}
-use Rattle.ion_model.specs.declared.value.Value.{Value}
-use Rattle.ion_symtab.specs.declared.limits.Limits.{Limits}
-use Rattle.ion_symtab.specs.declared.catalog.Catalog.{Catalog}
-use Rattle.ion_symtab.specs.Slots.{system_slots}
-use Rattle.ion_symtab.specs.Promises.{Shown}
-use Rattle.ion_symtab.specs.laws.Promises.{shown_once}
-use Rattle.ion_tokens.specs.declared.mode.Place.{Place}
-use Rattle.ion_tokens.specs.declared.mode.TokenKind.{TokenKind}
-use Rattle.ion_tokens.specs.declared.mode.TokenKind.TheVariants as kinds
-use Rattle.ion_tokens.specs.Places.{is_sexp}
-use Rattle.ion_tokens.specs.machine.Scanning.{initial}
-use Rattle.ion_tokens.specs.Lexed.{Placed, BeginsLexed, LexesTo, colon_behind}
-use Rattle.ion_tokens.specs.Lexemes.{IsLexeme}
+use Rattle.ion_text.specs.Names.{BeginsLexed, Catalog, IsLexeme, LexesTo, Limits, Place, Placed, Reading, Shown, TokenKind, Value, Walk, Whole, colon_behind, done, fresh, initial, is_sexp, on_turn, settle, stopped, system_slots}
 use Rattle.ion_tokens.proofs.complete.Wholes.{some_octet}
 use Rattle.ion_tokens.proofs.histories.Histories.{begins_completes}
-use Rattle.ion_text.specs.Grammar.{Whole}
-use Rattle.ion_text.specs.machine.EachToken.{Reading, fresh, settle}
-use Rattle.ion_text.specs.machine.TokenLists.{Walk, walked, stopped, done, on_turn}
-use Rattle.ion_text.specs.laws.reading.complete.Pieces.{pieces_read}
+use Rattle.ion_symtab.specs.laws.Promises.{shown_once}
+use Rattle.ion_text.specs.machine.TokenLists.{walked}
 use Rattle.ion_text.specs.laws.reading.complete.Found.{lexes_operators}
-use Rattle.ion_text.specs.laws.reading.complete.Going.{Operators, Going}
+use Rattle.ion_text.specs.laws.reading.complete.Going.{Going, Operators}
+use Rattle.ion_text.specs.laws.reading.complete.Pieces.{pieces_read}
+use Rattle.ion_text.specs.laws.showing.tokens.Compare.{Compared, Found', TopFirst, begins_after, compare, lexes_once}
 use Rattle.ion_text.specs.laws.showing.tokens.Cuts.{lexed_front, parted}
-use Rattle.ion_text.specs.laws.showing.tokens.Compare.{Found', TopFirst, Compared, compare, lexes_once, begins_after}
 
 -- tokens at the front of octets, whatever is left
 pub begins_lexed : (ts : List Placed) (colon : Bool) (before : ℕ) (octets : List ℕ) (after : Bool) (end : ℕ) (rest : List ℕ)
@@ -37,7 +24,7 @@ some_token p colon (o ∷ os) r k kept h = omega arith
 
 -- an operator stands in an s-expression
 pub operator_inside : (p : Place) (colon : Bool) (w r : List ℕ) (k : TokenKind) (kept : List ℕ) → IsLexeme p colon w r k kept → is_sexp p ≡ false
-    → k ≡ kinds.Operator → ⊥
+    → k ≡ TokenKind.Operator → ⊥
 operator_inside p colon w r k kept h n e = let i = subst (λ x. IsLexeme p colon w r x kept) e h in let never : true ≡ false = sym i.1 ∙ n in cc
 
 values_in : Walk → List Value

@@ -1,54 +1,29 @@
 -- The tokens of an open item lead the reader of tokens to where it stands, though what waits may not be put there yet.
 use Rattle.std.proofs.Common.{◌≡◌, ℕ, suc, ◌+◌, ◌≤◌, Bool, true, false, ◌&&◌, List, [], ◌∷◌, ◌++◌, length, refl, sym, ap, ◌∙◌, subst, arith, append_assoc, append-nil, Option, Some, ◌⊎◌, inl, inr}
-use Rattle.ion_symtab.specs.declared.limits.Limits.{Limits}
-use Rattle.ion_symtab.specs.declared.catalog.Catalog.{Catalog}
-use Rattle.ion_symtab.specs.Slots.{Slot}
-use Rattle.ion_model.specs.declared.value.Value.{Value}
-use Rattle.ion_model.specs.declared.value.Field.{Field}
-use Rattle.ion_tokens.specs.declared.mode.Mark.{Mark}
-use Rattle.ion_tokens.specs.declared.mode.Mark.TheVariants as marks
-use Rattle.ion_tokens.specs.declared.mode.Place.{Place}
-use Rattle.ion_tokens.specs.declared.mode.Place.TheVariants as places
-use Rattle.ion_tokens.specs.Bodies.{Content, Word, Id, Quoted, Short, Long, TypedNull, Mark'}
-use Rattle.ion_tokens.specs.Lexed.{Placed}
-use Rattle.ion_text.specs.declared.state.Held.{Held}
-use Rattle.ion_text.specs.declared.state.Held.TheVariants as helds
-use Rattle.ion_text.specs.declared.state.Now.{Now}
-use Rattle.ion_text.specs.declared.state.Now.TheVariants as nows
-use Rattle.ion_text.specs.declared.state.Frame.{Frame}
-use Rattle.ion_text.specs.declared.state.Frame.TheVariants as frames
-use Rattle.ion_text.specs.declared.state.Listing.{Listing}
-use Rattle.ion_text.specs.declared.state.Listing.TheVariants as listings
-use Rattle.ion_visiting.specs.declared.bracket.Bracket.{Bracket}
-use Rattle.ion_visiting.specs.declared.bracket.Bracket.TheVariants as brackets
-use Rattle.ion_text.specs.machine.Nested.{bracket_in, open_mark}
-use Rattle.ion_text.specs.Grammar.{Says, IsName, by_symbol, by_short, by_long, Annotations, no_annotation, one_annotation, Segments, Elements, no_element, comma, Members, no_field, field_comma, is_long, end_of, ends_long, begins_long}
-use Rattle.ion_text.specs.machine.EachToken.{under, spot_at, Reading, Token, goes, Symbols, at, fresh, place, place_in, behind_item, opened, first_now, settle, begun_at, on_ready, resolved}
-use Rattle.ion_text.specs.machine.Run.{is_fresh, is_top}
-use Rattle.ion_text.specs.machine.TokenLists.{done, on_turn, reads, first_token}
-use Rattle.ion_text.specs.machine.Places.{Leading, settle_same, pending_at, long_at}
-use Rattle.ion_text.specs.laws.reading.sound.Spans.{IsWaiting}
-use Rattle.ion_text.specs.laws.reading.sound.Depths.{Deep}
-use Rattle.ion_text.specs.laws.reading.sound.MarkerWords.{both_not}
-use Rattle.ion_text.specs.laws.reading.sound.StandsOpen.{Opened, Items, Receives, IsInside, ReadyFor, IsHeld, EndsAt, PendingFor, LongFor, NowStands, value_place, symbol_said, notes_not_long, not_long, long_behind, symbol_no_long}
-use Rattle.ion_text.specs.laws.reading.sound.Held.{opened_some, some_more, last_long, name_some, IsSome}
-use Rattle.ion_text.specs.laws.reading.complete.Complete.{last_end, symbol_no_colons, field_depths, ends_behind, InStruct, Reached, Begins, starts, begun_behind, notes_begin, notes_read, read_behind, item_behind, ready_reached, open_read, elements_read, row_read, members_read, name_read, long_named, symbol_named, segments_read, segments_begin, first_start}
+use Rattle.ion_text.specs.Names.{Annotations, Bracket, Catalog, Content, Elements, Field, Frame, Held, Id, IsName, Leading, Limits, Listing, Long, Mark, Mark', Members, Now, Place, Placed, Quoted, Reading, Says, Segments, Short, Slot, Symbols, Token, TypedNull, Value, Word, at, begins_long, begun_at, behind_item, bracket_in, by_long, by_short, by_symbol, comma, done, ends_long, field_comma, first_now, first_token, fresh, goes, is_fresh, is_long, is_top, long_at, no_annotation, no_element, no_field, on_ready, on_turn, one_annotation, open_mark, opened, pending_at, place, place_in, reads, resolved, settle, settle_same, spot_at, under}
+use Rattle.ion_text.specs.Grammar.{end_of}
 use Rattle.ion_text.specs.laws.reading.Brackets.{no_colons}
+use Rattle.ion_text.specs.laws.reading.complete.Complete.{Begins, InStruct, Reached, begun_behind, elements_read, ends_behind, field_depths, first_start, item_behind, last_end, long_named, members_read, name_read, notes_begin, notes_read, open_read, read_behind, ready_reached, row_read, segments_begin, segments_read, starts, symbol_named, symbol_no_colons}
+use Rattle.ion_text.specs.laws.reading.sound.Depths.{Deep}
+use Rattle.ion_text.specs.laws.reading.sound.Held.{IsSome, last_long, name_some, opened_some, some_more}
+use Rattle.ion_text.specs.laws.reading.sound.MarkerWords.{both_not}
+use Rattle.ion_text.specs.laws.reading.sound.Spans.{IsWaiting}
+use Rattle.ion_text.specs.laws.reading.sound.StandsOpen.{EndsAt, IsHeld, IsInside, Items, LongFor, NowStands, Opened, PendingFor, ReadyFor, Receives, long_behind, not_long, notes_not_long, symbol_no_long, symbol_said, value_place}
 
 module _ (g : Catalog) (l : Limits) where
   -- what the containers wait for
   abbrev target : List Frame → Bool → Now
-  target (frames.Items listing ss vs ∷ fs) true = nows.Ready
-  target (frames.Items listing ss vs ∷ fs) false = behind_item listing
-  target (frames.Fields ss ms ∷ fs) true = nows.Name
-  target (frames.Fields ss ms ∷ fs) false = nows.After
-  target _ more = nows.Ready
+  target (Frame.Items listing ss vs ∷ fs) true = Now.Ready
+  target (Frame.Items listing ss vs ∷ fs) false = behind_item listing
+  target (Frame.Fields ss ms ∷ fs) true = Now.Name
+  target (Frame.Fields ss ms ∷ fs) false = Now.After
+  target _ more = Now.Ready
 
-  received : (fs : List Frame) → Receives fs → target fs true ≡ nows.Ready
+  received : (fs : List Frame) → Receives fs → target fs true ≡ Now.Ready
   received [] r = refl
-  received (frames.Items listing ss vs ∷ fs) r = refl
-  received (frames.Named ss ms s ∷ fs) r = refl
-  received (frames.Fields ss ms ∷ fs) r = absurd r
+  received (Frame.Items listing ss vs ∷ fs) r = refl
+  received (Frame.Named ss ms s ∷ fs) r = refl
+  received (Frame.Fields ss ms ∷ fs) r = absurd r
 
   -- the item begins at its first token
   starts_join : (c : List Slot) (fs : List Frame) (front us : List Placed) → Opened c fs front true → starts g l (starts g l 0 [] front) fs us
@@ -59,7 +34,7 @@ module _ (g : Catalog) (l : Limits) where
   starts_join c (f ∷ fs) (t ∷ ts) (u ∷ us) o = refl
 
   module _ (c : List Slot) (fs : List Frame) (front : List Placed) (o : Opened c fs front true)
-      (d : Reached g l c (fresh c) front (at (starts g l 0 [] front) c fs [] nows.Ready)) where
+      (d : Reached g l c (fresh c) front (at (starts g l 0 [] front) c fs [] Now.Ready)) where
     abbrev p : Place
     p = value_place fs
 
@@ -69,18 +44,18 @@ module _ (g : Catalog) (l : Limits) where
     module _ (notes : List Placed) (ss : Symbols) (a : Annotations c p notes ss) where
       -- behind annotations
       noted_behind : (us : List Placed) → Begins g l p (notes ++ us) → (ends_long front && begins_long (notes ++ us)) ≡ false
-          → reads g l (fresh c) (front ++ (notes ++ us)) ≡ reads g l (at (starts g l start fs notes) c fs ss nows.Ready) us
+          → reads g l (fresh c) (front ++ (notes ++ us)) ≡ reads g l (at (starts g l start fs notes) c fs ss Now.Ready) us
       noted_behind us b e =
-          item_behind g l c p (fresh c) (at start c fs [] nows.Ready) front (notes ++ us) refl refl d b e
-          ∙ read_behind g l (at start c fs [] nows.Ready) (at (starts g l start fs notes) c fs ss nows.Ready) notes us
+          item_behind g l c p (fresh c) (at start c fs [] Now.Ready) front (notes ++ us) refl refl d b e
+          ∙ read_behind g l (at start c fs [] Now.Ready) (at (starts g l start fs notes) c fs ss Now.Ready) notes us
           (notes_read g l c p start fs notes ss refl a)
 
       begun_there : (t : Placed) (us : List Placed) → begun_at (starts g l start fs notes) t.lexeme.start fs ss ≡ starts g l 0 [] (front ++ (notes ++ t ∷ us))
       begun_there t us = begun_behind g l c p start fs notes ss t us a ∙ starts_join c fs front (notes ++ t ∷ us) o
 
       -- one token behind them that is no segment
-      pub token_behind : (t : Placed) (said : Content) (us : List Placed) → Says p t said → (said ≡ Mark' marks.Colons → ⊥) → ((w : List ℕ) → said ≡ Long w → ⊥)
-          → reads g l (fresh c) (front ++ (notes ++ t ∷ us)) ≡ reads g l (at (starts g l start fs notes) c fs ss nows.Ready) (t ∷ us)
+      pub token_behind : (t : Placed) (said : Content) (us : List Placed) → Says p t said → (said ≡ Mark' Mark.Colons → ⊥) → ((w : List ℕ) → said ≡ Long w → ⊥)
+          → reads g l (fresh c) (front ++ (notes ++ t ∷ us)) ≡ reads g l (at (starts g l start fs notes) c fs ss Now.Ready) (t ∷ us)
       token_behind t said us h n k =
           noted_behind (t ∷ us) (notes_begin g l c p notes (t ∷ us) ss a (record { first = t; later = us; said = said; cut = refl; says = h; no_colons = n }))
           (both_not (ends_long front) (begins_long (notes ++ t ∷ us)) (notes_not_long c p notes us ss t a (not_long p t said h k)))
@@ -90,7 +65,7 @@ module _ (g : Catalog) (l : Limits) where
       → Reached g l c r (ts ++ us) n
   reached_behind c r m n ts us e d = record { now = d.now; read = e ∙ d.read; settles = d.settles; shuts = λ t k. longer t (d.shuts t k) }
     where
-      longer : (t : Token) → (t.said ≡ Mark' marks.Colons) ⊎ ((ends_long us ≡ true) × (w : List ℕ) × (t.said ≡ Long w)) → (t.said ≡ Mark' marks.Colons)
+      longer : (t : Token) → (t.said ≡ Mark' Mark.Colons) ⊎ ((ends_long us ≡ true) × (w : List ℕ) × (t.said ≡ Long w)) → (t.said ≡ Mark' Mark.Colons)
           ⊎ ((ends_long (ts ++ us) ≡ true) × (w : List ℕ) × (t.said ≡ Long w))
       longer t (inl h) = inl h
       longer t (inr (h, w, k)) = inr (ends_behind ts us h, w, k)
@@ -106,16 +81,16 @@ module _ (g : Catalog) (l : Limits) where
       (reached_behind c (fresh c) m n (front ++ (notes ++ t ∷ [])) body (ap (reads g l (fresh c)) (sym (regroup front notes body t)) ∙ e) d)
 
   abbrev Outer : List Slot → List Frame → List Placed → Type 0
-  Outer c fs front = Reached g l c (fresh c) front (at (starts g l 0 [] front) c fs [] nows.Ready)
+  Outer c fs front = Reached g l c (fresh c) front (at (starts g l 0 [] front) c fs [] Now.Ready)
 
   items_read : (c : List Slot) (listing : Listing) (ss : Symbols) (vs : List Value) (fs : List Frame) (ts : List Placed) (more : Bool)
-      → Deep l.depth (frames.Items listing ss vs ∷ fs) → (o : Opened c (frames.Items listing ss vs ∷ fs) ts more) → Outer c fs o.front
-      → Reached g l c (fresh c) ts (at (starts g l 0 [] ts) c (frames.Items listing ss vs ∷ fs) [] (target (frames.Items listing ss vs ∷ fs) more))
+      → Deep l.depth (Frame.Items listing ss vs ∷ fs) → (o : Opened c (Frame.Items listing ss vs ∷ fs) ts more) → Outer c fs o.front
+      → Reached g l c (fresh c) ts (at (starts g l 0 [] ts) c (Frame.Items listing ss vs ∷ fs) [] (target (Frame.Items listing ss vs ∷ fs) more))
   items_read c listing ss vs fs ts more deep o d =
-      subst (λ x. Reached g l c (fresh c) x (at (starts g l 0 [] x) c (frames.Items listing ss vs ∷ fs) [] (target (frames.Items listing ss vs ∷ fs) more)))
+      subst (λ x. Reached g l c (fresh c) x (at (starts g l 0 [] x) c (Frame.Items listing ss vs ∷ fs) [] (target (Frame.Items listing ss vs ∷ fs) more)))
       (sym o.whole)
-      (into c (at begin c (frames.Items listing ss [] ∷ fs) [] nows.Ready)
-      (at begin c (frames.Items listing ss vs ∷ fs) [] (target (frames.Items listing ss vs ∷ fs) more)) o.front o.notes o.body o.open'
+      (into c (at begin c (Frame.Items listing ss [] ∷ fs) [] Now.Ready)
+      (at begin c (Frame.Items listing ss vs ∷ fs) [] (target (Frame.Items listing ss vs ∷ fs) more)) o.front o.notes o.body o.open'
       (there listing o.opens) (inside listing more o.items))
     where
       begin : ℕ
@@ -131,39 +106,39 @@ module _ (g : Catalog) (l : Limits) where
           (begun_there c fs o.front o.outer d o.notes ss o.noted o.open' o.body)
 
       there : (listing : Listing) → Says (value_place fs) o.open' (Mark' (open_mark (bracket_in listing)))
-          → reads g l (fresh c) (o.front ++ (o.notes ++ o.open' ∷ o.body)) ≡ reads g l (at begin c (frames.Items listing ss [] ∷ fs) [] nows.Ready) o.body
-      there listings.List = opens brackets.List
-      there listings.Sexp = opens brackets.Sexp
+          → reads g l (fresh c) (o.front ++ (o.notes ++ o.open' ∷ o.body)) ≡ reads g l (at begin c (Frame.Items listing ss [] ∷ fs) [] Now.Ready) o.body
+      there Listing.List = opens Bracket.List
+      there Listing.Sexp = opens Bracket.Sexp
 
       inside : (listing : Listing) (more : Bool) → Items c listing vs more o.body
-          → Reached g l c (at begin c (frames.Items listing ss [] ∷ fs) [] nows.Ready) o.body
-          (at begin c (frames.Items listing ss vs ∷ fs) [] (target (frames.Items listing ss vs ∷ fs) more))
-      inside listings.List true h =
-          ready_reached g l c (at begin c (opened brackets.List ss ∷ fs) [] nows.Ready) (at begin c (frames.Items listings.List ss vs ∷ fs) [] nows.Ready)
+          → Reached g l c (at begin c (Frame.Items listing ss [] ∷ fs) [] Now.Ready) o.body
+          (at begin c (Frame.Items listing ss vs ∷ fs) [] (target (Frame.Items listing ss vs ∷ fs) more))
+      inside Listing.List true h =
+          ready_reached g l c (at begin c (opened Bracket.List ss ∷ fs) [] Now.Ready) (at begin c (Frame.Items Listing.List ss vs ∷ fs) [] Now.Ready)
           o.body
           refl (λ t. refl) (elements_read g l c begin fs ss o.body vs true h (deep.0))
-      inside listings.List false h = elements_read g l c begin fs ss o.body vs false h (deep.0)
-      inside listings.Sexp true h = row_read g l c begin fs ss o.body vs h (deep.0)
-      inside listings.Sexp false h = row_read g l c begin fs ss o.body vs h (deep.0)
+      inside Listing.List false h = elements_read g l c begin fs ss o.body vs false h (deep.0)
+      inside Listing.Sexp true h = row_read g l c begin fs ss o.body vs h (deep.0)
+      inside Listing.Sexp false h = row_read g l c begin fs ss o.body vs h (deep.0)
 
   -- behind the open brace of a struct
   struct_there : (c : List Slot) (ss : Symbols) (ms : List Field) (fs : List Frame) (front notes us : List Placed) (t : Placed) → Opened c fs front true
       → field_depths ms + suc (length fs) ≤ l.depth → Outer c fs front → Annotations c (value_place fs) notes ss
-      → Says (value_place fs) t (Mark' marks.FieldsOpen)
+      → Says (value_place fs) t (Mark' Mark.FieldsOpen)
       → reads g l (fresh c) (front ++ (notes ++ t ∷ us)) ≡ reads g l
-      (at (starts g l 0 [] (front ++ (notes ++ t ∷ us))) c (frames.Fields ss [] ∷ fs) [] nows.Name) us
+      (at (starts g l 0 [] (front ++ (notes ++ t ∷ us))) c (Frame.Fields ss [] ∷ fs) [] Now.Name) us
   struct_there c ss ms fs front notes us t o k d a i =
-      token_behind c fs front o d notes ss a t (Mark' marks.FieldsOpen) us i (λ e. cc) (λ w e. cc)
-      ∙ open_read g l brackets.Fields c (value_place fs) (starts g l (starts g l 0 [] front) fs notes) (starts g l 0 [] (front ++ (notes ++ t ∷ us))) fs ss t
+      token_behind c fs front o d notes ss a t (Mark' Mark.FieldsOpen) us i (λ e. cc) (λ w e. cc)
+      ∙ open_read g l Bracket.Fields c (value_place fs) (starts g l (starts g l 0 [] front) fs notes) (starts g l 0 [] (front ++ (notes ++ t ∷ us))) fs ss t
       us refl
       (omega (arith, k)) i (begun_there c fs front o d notes ss a t us)
 
-  fields_read : (c : List Slot) (ss : Symbols) (ms : List Field) (fs : List Frame) (ts : List Placed) (more : Bool) → Deep l.depth (frames.Fields ss ms ∷ fs)
-      → (o : Opened c (frames.Fields ss ms ∷ fs) ts more) → Outer c fs o.front
-      → Reached g l c (fresh c) ts (at (starts g l 0 [] ts) c (frames.Fields ss ms ∷ fs) [] (target (frames.Fields ss ms ∷ fs) more))
+  fields_read : (c : List Slot) (ss : Symbols) (ms : List Field) (fs : List Frame) (ts : List Placed) (more : Bool) → Deep l.depth (Frame.Fields ss ms ∷ fs)
+      → (o : Opened c (Frame.Fields ss ms ∷ fs) ts more) → Outer c fs o.front
+      → Reached g l c (fresh c) ts (at (starts g l 0 [] ts) c (Frame.Fields ss ms ∷ fs) [] (target (Frame.Fields ss ms ∷ fs) more))
   fields_read c ss ms fs ts more deep o d =
-      subst (λ x. Reached g l c (fresh c) x (at (starts g l 0 [] x) c (frames.Fields ss ms ∷ fs) [] (target (frames.Fields ss ms ∷ fs) more))) (sym o.whole)
-      (into c (at begin c (frames.Fields ss [] ∷ fs) [] nows.Name) (at begin c (frames.Fields ss ms ∷ fs) [] (target (frames.Fields ss ms ∷ fs) more)) o.front
+      subst (λ x. Reached g l c (fresh c) x (at (starts g l 0 [] x) c (Frame.Fields ss ms ∷ fs) [] (target (Frame.Fields ss ms ∷ fs) more))) (sym o.whole)
+      (into c (at begin c (Frame.Fields ss [] ∷ fs) [] Now.Name) (at begin c (Frame.Fields ss ms ∷ fs) [] (target (Frame.Fields ss ms ∷ fs) more)) o.front
       o.notes o.body o.open'
       (struct_there c ss ms fs o.front o.notes o.body o.open' o.outer (deep.0) d o.noted o.opens)
       (inside more (members_read g l c begin fs ss o.body ms more o.items (deep.0))))
@@ -172,21 +147,21 @@ module _ (g : Catalog) (l : Limits) where
       begin = starts g l 0 [] (o.front ++ (o.notes ++ o.open' ∷ o.body))
 
       inside : (more : Bool) → InStruct g l c begin fs ss o.body ms more
-          → Reached g l c (at begin c (frames.Fields ss [] ∷ fs) [] nows.Name) o.body
-          (at begin c (frames.Fields ss ms ∷ fs) [] (target (frames.Fields ss ms ∷ fs) more))
-      inside true h = ready_reached g l c (at begin c (frames.Fields ss [] ∷ fs) [] nows.Name) (at begin c (frames.Fields ss ms ∷ fs) [] nows.Name) o.body refl
+          → Reached g l c (at begin c (Frame.Fields ss [] ∷ fs) [] Now.Name) o.body
+          (at begin c (Frame.Fields ss ms ∷ fs) [] (target (Frame.Fields ss ms ∷ fs) more))
+      inside true h = ready_reached g l c (at begin c (Frame.Fields ss [] ∷ fs) [] Now.Name) (at begin c (Frame.Fields ss ms ∷ fs) [] Now.Name) o.body refl
           (λ t. refl) h
       inside false h = h
 
   named_read : (c : List Slot) (ss : Symbols) (ms : List Field) (s : Option (List ℕ)) (fs : List Frame) (ts : List Placed) (more : Bool)
-      → Deep l.depth (frames.Named ss ms s ∷ fs) → (o : Opened c (frames.Named ss ms s ∷ fs) ts more) → Outer c fs o.front
-      → Reached g l c (fresh c) ts (at (starts g l 0 [] ts) c (frames.Named ss ms s ∷ fs) [] nows.Ready)
+      → Deep l.depth (Frame.Named ss ms s ∷ fs) → (o : Opened c (Frame.Named ss ms s ∷ fs) ts more) → Outer c fs o.front
+      → Reached g l c (fresh c) ts (at (starts g l 0 [] ts) c (Frame.Named ss ms s ∷ fs) [] Now.Ready)
   named_read c ss ms s fs ts more deep o d =
-      subst (λ x. Reached g l c (fresh c) x (at (starts g l 0 [] x) c (frames.Named ss ms s ∷ fs) [] nows.Ready)) (sym o.whole)
-      (ready_reached g l c (fresh c) (at begin c (frames.Named ss ms s ∷ fs) [] nows.Ready)
+      subst (λ x. Reached g l c (fresh c) x (at (starts g l 0 [] x) c (Frame.Named ss ms s ∷ fs) [] Now.Ready)) (sym o.whole)
+      (ready_reached g l c (fresh c) (at begin c (Frame.Named ss ms s ∷ fs) [] Now.Ready)
       (o.front ++ (o.notes ++ o.open' ∷ (o.body ++ (o.name ++ o.colon ∷ [])))) refl (λ t. refl)
       (struct_there c ss ms fs o.front o.notes (o.body ++ (o.name ++ o.colon ∷ [])) o.open' o.outer (deep.0) d o.noted o.opens
-      ∙ (read_behind g l (at begin c (frames.Fields ss [] ∷ fs) [] nows.Name) (at begin c (frames.Fields ss ms ∷ fs) [] nows.Name) o.body
+      ∙ (read_behind g l (at begin c (Frame.Fields ss [] ∷ fs) [] Now.Name) (at begin c (Frame.Fields ss ms ∷ fs) [] Now.Name) o.body
       (o.name ++ o.colon ∷ []) (members_read g l c begin fs ss o.body ms true o.items (deep.0))
       ∙ name_read g l c begin fs ss ms o.name s o.colon [] o.named o.colons)))
     where
@@ -200,13 +175,13 @@ module _ (g : Catalog) (l : Limits) where
   -- The tokens up to what has come of the innermost container are read.
   pub opened_read : (c : List Slot) (fs : List Frame) (ts : List Placed) (more : Bool) → Deep l.depth fs → Opened c fs ts more
       → Reached g l c (fresh c) ts (at (starts g l 0 [] ts) c fs [] (target fs more))
-  opened_read c [] ts more deep o = subst (λ x. Reached g l c (fresh c) x (at (starts g l 0 [] x) c [] [] nows.Ready)) (sym o)
+  opened_read c [] ts more deep o = subst (λ x. Reached g l c (fresh c) x (at (starts g l 0 [] x) c [] [] Now.Ready)) (sym o)
       (ready_reached g l c (fresh c) (fresh c) [] refl (λ t. refl) refl)
-  opened_read c (frames.Items listing ss vs ∷ fs) ts more deep o =
+  opened_read c (Frame.Items listing ss vs ∷ fs) ts more deep o =
       items_read c listing ss vs fs ts more deep o (outer c fs o.front o.receives (opened_read c fs o.front true deep.1 o.outer))
-  opened_read c (frames.Fields ss ms ∷ fs) ts more deep o =
+  opened_read c (Frame.Fields ss ms ∷ fs) ts more deep o =
       fields_read c ss ms fs ts more deep o (outer c fs o.front o.receives (opened_read c fs o.front true deep.1 o.outer))
-  opened_read c (frames.Named ss ms s ∷ fs) ts more deep o =
+  opened_read c (Frame.Named ss ms s ∷ fs) ts more deep o =
       named_read c ss ms s fs ts more deep o (outer c fs o.front o.receives (opened_read c fs o.front true deep.1 o.outer))
 
   -- where the reader of tokens is, or what it settles to, in this place
@@ -217,7 +192,7 @@ module _ (g : Catalog) (l : Limits) where
     pub is : ((n : Reading) × (settle g l r ≡ goes n) × (is_fresh n ≡ false) × (n.start ≡ starts g l 0 [] ts))
         ⊎ (IsWaiting g l now × IsWaiting g l r.now × (r.start ≡ starts g l 0 [] ts))
     -- where a value may come it settles to that, and what waits waits so
-    pub ready : now ≡ nows.Ready → settle g l r ≡ goes (at (starts g l 0 [] ts) c fs ss nows.Ready)
+    pub ready : now ≡ Now.Ready → settle g l r ≡ goes (at (starts g l 0 [] ts) c fs ss Now.Ready)
     pub waited : IsWaiting g l now → EndsAt now (end_of 0 ts) → r ≡ at (starts g l 0 [] ts) c fs ss now
 
   settled_place : (r n : Reading) → settle g l r ≡ goes n → place r ≡ place n
@@ -225,7 +200,7 @@ module _ (g : Catalog) (l : Limits) where
       (settle_same g l r.start r.context r.frames r.notes r.now)).0
 
   by_reached : (c : List Slot) (fs : List Frame) (ss : Symbols) (now : Now) (ts : List Placed) (n : Reading) → Reached g l c (fresh c) ts n
-      → place n ≡ place_in fs now → is_fresh n ≡ false → n.start ≡ starts g l 0 [] ts → (now ≡ nows.Ready → n ≡ at (starts g l 0 [] ts) c fs ss nows.Ready)
+      → place n ≡ place_in fs now → is_fresh n ≡ false → n.start ≡ starts g l 0 [] ts → (now ≡ Now.Ready → n ≡ at (starts g l 0 [] ts) c fs ss Now.Ready)
       → (IsWaiting g l now → ⊥) → Arrived c fs ss now ts
   by_reached c fs ss now ts n d h new k same free = record {
     r = d.now;
@@ -252,12 +227,12 @@ module _ (g : Catalog) (l : Limits) where
   elements_short : (c : List Slot) (p : Place) (t : Placed) (m : Mark) (ts : List Placed) (vs : List Value) → Says p t (Mark' m) → Elements c ts vs true
       → ends_long (t ∷ ts) ≡ false
   elements_short c p t m _ _ h no_element = mark_not_long p t m h
-  elements_short c p t m _ _ h (comma ts vs u d i) = last_long (t ∷ ts) u ∙ mark_not_long places.List u marks.Comma i
+  elements_short c p t m _ _ h (comma ts vs u d i) = last_long (t ∷ ts) u ∙ mark_not_long Place.List u Mark.Comma i
 
   members_short : (c : List Slot) (p : Place) (t : Placed) (m : Mark) (ts : List Placed) (ms : List Field) → Says p t (Mark' m) → Members c ts ms true
       → ends_long (t ∷ ts) ≡ false
   members_short c p t m _ _ h no_field = mark_not_long p t m h
-  members_short c p t m _ _ h (field_comma ts ms u d i) = last_long (t ∷ ts) u ∙ mark_not_long places.FieldValue u marks.Comma i
+  members_short c p t m _ _ h (field_comma ts ms u d i) = last_long (t ∷ ts) u ∙ mark_not_long Place.FieldValue u Mark.Comma i
 
   never : (b : Bool) → b ≡ false → b ≡ true → ⊥
   never true e f = cc
@@ -265,32 +240,32 @@ module _ (g : Catalog) (l : Limits) where
 
   long_outer : (c : List Slot) (fs : List Frame) (ts : List Placed) → (o : Opened c fs ts true) → ends_long ts ≡ true → long_behind c fs ts o ≡ true
   long_outer c [] ts o h = absurd (never (ends_long ts) (ap ends_long o) h)
-  long_outer c (frames.Items listings.List ss vs ∷ fs) ts o h = absurd (never (ends_long ts)
-      (ap ends_long o.whole ∙ (ends_open o.front o.notes o.body o.open' ∙ elements_short c (value_place fs) o.open' marks.ListOpen o.body vs o.opens o.items))
+  long_outer c (Frame.Items Listing.List ss vs ∷ fs) ts o h = absurd (never (ends_long ts)
+      (ap ends_long o.whole ∙ (ends_open o.front o.notes o.body o.open' ∙ elements_short c (value_place fs) o.open' Mark.ListOpen o.body vs o.opens o.items))
       h)
-  long_outer c (frames.Fields ss ms ∷ fs) ts o h = absurd (never (ends_long ts)
-      (ap ends_long o.whole ∙ (ends_open o.front o.notes o.body o.open' ∙ members_short c (value_place fs) o.open' marks.FieldsOpen o.body ms o.opens o.items))
+  long_outer c (Frame.Fields ss ms ∷ fs) ts o h = absurd (never (ends_long ts)
+      (ap ends_long o.whole ∙ (ends_open o.front o.notes o.body o.open' ∙ members_short c (value_place fs) o.open' Mark.FieldsOpen o.body ms o.opens o.items))
       h)
-  long_outer c (frames.Named ss ms s ∷ fs) ts o h =
+  long_outer c (Frame.Named ss ms s ∷ fs) ts o h =
       absurd (never (ends_long ts) (ap ends_long o.whole ∙ (ends_open o.front o.notes (o.body ++ (o.name ++ o.colon ∷ [])) o.open'
       ∙ (ends_some (o.open' ∷ o.body) (o.name ++ o.colon ∷ []) (some_more o.name [] o.colon)
-      ∙ (ends_some o.name (o.colon ∷ []) tt ∙ mark_not_long places.Name o.colon marks.Colon o.colons)))) h)
-  long_outer c (frames.Items listings.Sexp ss vs ∷ fs) ts o h = by o.body (sym (ends_open o.front o.notes o.body o.open') ∙ (sym (ap ends_long o.whole) ∙ h))
+      ∙ (ends_some o.name (o.colon ∷ []) tt ∙ mark_not_long Place.Name o.colon Mark.Colon o.colons)))) h)
+  long_outer c (Frame.Items Listing.Sexp ss vs ∷ fs) ts o h = by o.body (sym (ends_open o.front o.notes o.body o.open') ∙ (sym (ap ends_long o.whole) ∙ h))
     where
       by : (body : List Placed) → ends_long (o.open' ∷ body) ≡ true → ends_long body ≡ true
-      by [] k = absurd (never (is_long o.open') (mark_not_long (value_place fs) o.open' marks.SexpOpen o.opens) k)
+      by [] k = absurd (never (is_long o.open') (mark_not_long (value_place fs) o.open' Mark.SexpOpen o.opens) k)
       by (x ∷ xs) k = k
 
   -- annotations behind what has come
   noted_arrives : (c : List Slot) (fs : List Frame) (front notes : List Placed) (ss : Symbols) → Opened c fs front true → Outer c fs front
-      → Annotations c (value_place fs) notes ss → is_fresh (at 0 c fs ss nows.Ready) ≡ false → Arrived c fs ss nows.Ready (front ++ notes)
+      → Annotations c (value_place fs) notes ss → is_fresh (at 0 c fs ss Now.Ready) ≡ false → Arrived c fs ss Now.Ready (front ++ notes)
   noted_arrives c fs front _ _ o d no_annotation new =
-      subst (Arrived c fs [] nows.Ready) (sym (append-nil front))
-      (by_reached c fs [] nows.Ready front (at (starts g l 0 [] front) c fs [] nows.Ready) d refl new refl (λ e. refl) (λ w. w))
+      subst (Arrived c fs [] Now.Ready) (sym (append-nil front))
+      (by_reached c fs [] Now.Ready front (at (starts g l 0 [] front) c fs [] Now.Ready) d refl new refl (λ e. refl) (λ w. w))
   noted_arrives c fs front _ _ o d (one_annotation ts ss t colons said s a i j k) new = record {
-    r = at (starts g l (starts g l 0 [] front) fs (ts ++ t ∷ colons ∷ [])) c fs (ss ++ s ∷ []) nows.Ready;
+    r = at (starts g l (starts g l 0 [] front) fs (ts ++ t ∷ colons ∷ [])) c fs (ss ++ s ∷ []) Now.Ready;
     read =
-        item_behind g l c (value_place fs) (fresh c) (at (starts g l 0 [] front) c fs [] nows.Ready) front (ts ++ t ∷ colons ∷ []) refl refl d
+        item_behind g l c (value_place fs) (fresh c) (at (starts g l 0 [] front) c fs [] Now.Ready) front (ts ++ t ∷ colons ∷ []) refl refl d
         (notes_begin g l c (value_place fs) ts (t ∷ colons ∷ []) ss a
         (record { first = t; later = colons ∷ []; said = said; cut = refl; says = i; no_colons = symbol_no_colons g l c said s j }))
         (both_not (ends_long front) (begins_long (ts ++ t ∷ colons ∷ []))
@@ -299,12 +274,12 @@ module _ (g : Catalog) (l : Limits) where
         (one_annotation ts ss t colons said s a i j k);
     here = refl;
     is = inl (
-      at (starts g l (starts g l 0 [] front) fs (ts ++ t ∷ colons ∷ [])) c fs (ss ++ s ∷ []) nows.Ready,
+      at (starts g l (starts g l 0 [] front) fs (ts ++ t ∷ colons ∷ [])) c fs (ss ++ s ∷ []) Now.Ready,
       refl,
       new,
       starts_join c fs front (ts ++ t ∷ colons ∷ []) o,
     );
-    ready = λ e. ap (λ (x : ℕ). goes (at x c fs (ss ++ s ∷ []) nows.Ready)) (starts_join c fs front (ts ++ t ∷ colons ∷ []) o);
+    ready = λ e. ap (λ (x : ℕ). goes (at x c fs (ss ++ s ∷ []) Now.Ready)) (starts_join c fs front (ts ++ t ∷ colons ∷ []) o);
     waited = λ w e. absurd w;
   }
 
@@ -314,20 +289,20 @@ module _ (g : Catalog) (l : Limits) where
 
   -- what may be a symbol waits for `::`
   symbol_waits : (end start : ℕ) (c : List Slot) (fs : List Frame) (ss : Symbols) (said : Content) (h : Held) → symbol_said said ≡ true → IsHeld c said h
-      → on_ready (under g l) (spot_at end start c) fs ss said ≡ goes (at start c fs ss (nows.Pending h end))
-  symbol_waits end start c fs ss (Word w) h e k = ap (λ x. goes (at start c fs ss (nows.Pending x end))) (sym k)
+      → on_ready (under g l) (spot_at end start c) fs ss said ≡ goes (at start c fs ss (Now.Pending h end))
+  symbol_waits end start c fs ss (Word w) h e k = ap (λ x. goes (at start c fs ss (Now.Pending x end))) (sym k)
   symbol_waits end start c fs ss (Id id) h e k =
-      ap (λ r. resolved r (λ s. goes (at start c fs ss (nows.Pending (helds.Symbol s) end)))) k.1
-      ∙ ap (λ x. goes (at start c fs ss (nows.Pending x end))) (sym k.2)
-  symbol_waits end start c fs ss (Quoted w) h e k = ap (λ x. goes (at start c fs ss (nows.Pending x end))) (sym k)
-  symbol_waits end start c fs ss (TypedNull n) h e k = ap (λ x. goes (at start c fs ss (nows.Pending x end))) (sym k)
+      ap (λ r. resolved r (λ s. goes (at start c fs ss (Now.Pending (Held.Symbol s) end)))) k.1
+      ∙ ap (λ x. goes (at start c fs ss (Now.Pending x end))) (sym k.2)
+  symbol_waits end start c fs ss (Quoted w) h e k = ap (λ x. goes (at start c fs ss (Now.Pending x end))) (sym k)
+  symbol_waits end start c fs ss (TypedNull n) h e k = ap (λ x. goes (at start c fs ss (Now.Pending x end))) (sym k)
   symbol_waits end start c fs ss _ h e k = absurd cc
 
-  said_no_colons : (said : Content) → symbol_said said ≡ true → said ≡ Mark' marks.Colons → ⊥
+  said_no_colons : (said : Content) → symbol_said said ≡ true → said ≡ Mark' Mark.Colons → ⊥
   said_no_colons said h e = never (symbol_said said) (ap symbol_said e) h
 
   pending_arrives : (c : List Slot) (fs : List Frame) (ss : Symbols) (h : Held) (end : ℕ) (ts : List Placed) → Deep l.depth fs → PendingFor c fs ss h ts
-      → Arrived c fs ss (nows.Pending h end) ts
+      → Arrived c fs ss (Now.Pending h end) ts
   pending_arrives c fs ss h end ts deep d =
       let e = d.ready in
       let t = d.token in
@@ -335,26 +310,26 @@ module _ (g : Catalog) (l : Limits) where
       let begin = begun_at (starts g l (starts g l 0 [] e.front) fs e.notes) t.lexeme.start fs ss in
       let w = symbol_waits t.lexeme.end begin c fs ss d.said h d.named d.known in
       let whole : e.front ++ (e.notes ++ t ∷ []) ≡ ts = sym (d.whole ∙ (ap (λ x. x ++ t ∷ []) e.whole ∙ append_assoc e.front e.notes (t ∷ []))) in
-      subst (Arrived c fs ss (nows.Pending h end)) whole (record {
-        r = at begin c fs ss (nows.Pending h t.lexeme.end);
+      subst (Arrived c fs ss (Now.Pending h end)) whole (record {
+        r = at begin c fs ss (Now.Pending h t.lexeme.end);
         read =
             token_behind c fs e.front e.outer o e.notes ss e.noted t d.said [] d.says (said_no_colons d.said d.named) d.other
-            ∙ (first_token g l (value_place fs) (at (starts g l (starts g l 0 [] e.front) fs e.notes) c fs ss nows.Ready) t d.said [] d.says refl (inr refl)
+            ∙ (first_token g l (value_place fs) (at (starts g l (starts g l 0 [] e.front) fs e.notes) c fs ss Now.Ready) t d.said [] d.says refl (inr refl)
             ∙ ap (λ x. on_turn x done) w);
         here = pending_at fs h t.lexeme.end ∙ sym (pending_at fs h end);
         is = inr (tt, tt, begun_there c fs e.front e.outer o e.notes ss e.noted t []);
         ready = λ e. absurd cc;
         waited = λ w last.
-            ap (λ (x : ℕ). at x c fs ss (nows.Pending h t.lexeme.end)) (begun_there c fs e.front e.outer o e.notes ss e.noted t [])
-            ∙ ap (λ (x : ℕ). at (starts g l 0 [] (e.front ++ (e.notes ++ t ∷ []))) c fs ss (nows.Pending h x))
+            ap (λ (x : ℕ). at x c fs ss (Now.Pending h t.lexeme.end)) (begun_there c fs e.front e.outer o e.notes ss e.noted t [])
+            ∙ ap (λ (x : ℕ). at (starts g l 0 [] (e.front ++ (e.notes ++ t ∷ []))) c fs ss (Now.Pending h x))
             (sym (last ∙ (ap (end_of 0) (sym (append_assoc e.front e.notes (t ∷ []))) ∙ last_end (e.front ++ e.notes) t [] 0 0)));
       })
 
   long_arrives : (c : List Slot) (fs : List Frame) (ss : Symbols) (w : List ℕ) (end : ℕ) (ts : List Placed) → Deep l.depth fs → LongFor c fs ss w ts
-      → Arrived c fs ss (nows.Long w end) ts
+      → Arrived c fs ss (Now.Long w end) ts
   long_arrives c fs ss w end ts deep d =
-      subst (Arrived c fs ss (nows.Long w end)) whole (record {
-        r = at begin c fs ss (nows.Long w (end_of 0 d.segments));
+      subst (Arrived c fs ss (Now.Long w end)) whole (record {
+        r = at begin c fs ss (Now.Long w (end_of 0 d.segments));
         read =
             noted_behind c fs e.front e.outer o e.notes ss e.noted d.segments (notes_begin g l c (value_place fs) e.notes d.segments ss e.noted b)
             (apart (ends_long e.front) refl)
@@ -368,10 +343,10 @@ module _ (g : Catalog) (l : Limits) where
         );
         ready = λ e. absurd cc;
         waited = λ x last.
-            ap (λ (x : ℕ). at x c fs ss (nows.Long w (end_of 0 d.segments)))
+            ap (λ (x : ℕ). at x c fs ss (Now.Long w (end_of 0 d.segments)))
             (subst (λ x. begun_at (starts g l (starts g l 0 [] e.front) fs e.notes) (first_start 0 x) fs ss ≡ starts g l 0 [] (e.front ++ (e.notes ++ x)))
             (sym b.cut) (begun_there c fs e.front e.outer o e.notes ss e.noted b.first b.later))
-            ∙ ap (λ (x : ℕ). at (starts g l 0 [] (e.front ++ (e.notes ++ d.segments))) c fs ss (nows.Long w x)) (sym (last ∙ segments_end));
+            ∙ ap (λ (x : ℕ). at (starts g l 0 [] (e.front ++ (e.notes ++ d.segments))) c fs ss (Now.Long w x)) (sym (last ∙ segments_end));
       })
     where
       e : ReadyFor c fs ss d.before
@@ -403,59 +378,59 @@ module _ (g : Catalog) (l : Limits) where
   starts_front (t ∷ ts) us n = refl
 
   -- in a struct, a name behind what has come
-  module _ (c : List Slot) (ss : Symbols) (ms : List Field) (fs : List Frame) (before : List Placed) (deep : Deep l.depth (frames.Fields ss ms ∷ fs))
-      (o : Opened c (frames.Fields ss ms ∷ fs) before true) (notes : Symbols) where
+  module _ (c : List Slot) (ss : Symbols) (ms : List Field) (fs : List Frame) (before : List Placed) (deep : Deep l.depth (Frame.Fields ss ms ∷ fs))
+      (o : Opened c (Frame.Fields ss ms ∷ fs) before true) (notes : Symbols) where
     -- a name behind what has come of a struct is read from where a name may come
-    pub name_there : (name : List Placed) → Begins g l places.Name name → reads g l (fresh c) (before ++ name)
-        ≡ reads g l (at (starts g l 0 [] before) c (frames.Fields ss ms ∷ fs) [] nows.Name) name
-    name_there name b = item_behind g l c places.Name (fresh c) (at (starts g l 0 [] before) c (frames.Fields ss ms ∷ fs) [] nows.Name) before name refl refl
-        (opened_read c (frames.Fields ss ms ∷ fs) before true deep o) b (apart (ends_long before) refl)
+    pub name_there : (name : List Placed) → Begins g l Place.Name name → reads g l (fresh c) (before ++ name)
+        ≡ reads g l (at (starts g l 0 [] before) c (Frame.Fields ss ms ∷ fs) [] Now.Name) name
+    name_there name b = item_behind g l c Place.Name (fresh c) (at (starts g l 0 [] before) c (Frame.Fields ss ms ∷ fs) [] Now.Name) before name refl refl
+        (opened_read c (Frame.Fields ss ms ∷ fs) before true deep o) b (apart (ends_long before) refl)
       where
         apart : (x : Bool) → ends_long before ≡ x → (x && begins_long name) ≡ false
         apart false k = refl
-        apart true k = absurd (let n : false ≡ true = long_outer c (frames.Fields ss ms ∷ fs) before o k in cc)
+        apart true k = absurd (let n : false ≡ true = long_outer c (Frame.Fields ss ms ∷ fs) before o k in cc)
 
-    named_arrives : (now : Now) → (now ≡ nows.Ready → ⊥) → (IsWaiting g l now → ⊥) → (name : List Placed) (r : Reading) (s : Option (List ℕ))
-        → places.Name ≡ place_in (frames.Fields ss ms ∷ fs) now → Begins g l places.Name name
-        → reads g l (at (starts g l 0 [] before) c (frames.Fields ss ms ∷ fs) [] nows.Name) name ≡ done r → place r ≡ places.Name
-        → settle g l r ≡ goes (at (starts g l 0 [] before) c (frames.Fields ss ms ∷ fs) [] (nows.Keyed s))
-        → Arrived c (frames.Fields ss ms ∷ fs) notes now (before ++ name)
+    named_arrives : (now : Now) → (now ≡ Now.Ready → ⊥) → (IsWaiting g l now → ⊥) → (name : List Placed) (r : Reading) (s : Option (List ℕ))
+        → Place.Name ≡ place_in (Frame.Fields ss ms ∷ fs) now → Begins g l Place.Name name
+        → reads g l (at (starts g l 0 [] before) c (Frame.Fields ss ms ∷ fs) [] Now.Name) name ≡ done r → place r ≡ Place.Name
+        → settle g l r ≡ goes (at (starts g l 0 [] before) c (Frame.Fields ss ms ∷ fs) [] (Now.Keyed s))
+        → Arrived c (Frame.Fields ss ms ∷ fs) notes now (before ++ name)
     named_arrives now unready free name r s q b e h k = record {
       r = r;
       read = name_there name b ∙ e;
       here = h ∙ q;
       is = inl (
-        at (starts g l 0 [] before) c (frames.Fields ss ms ∷ fs) [] (nows.Keyed s),
+        at (starts g l 0 [] before) c (Frame.Fields ss ms ∷ fs) [] (Now.Keyed s),
         k,
         refl,
-        starts_front before name (name_some c (frames.Fields ss ms ∷ fs) before o tt),
+        starts_front before name (name_some c (Frame.Fields ss ms ∷ fs) before o tt),
       );
       ready = λ e. absurd (unready e);
       waited = λ w e. absurd (free w);
     }
 
-    long_name_arrives : (now : Now) → (now ≡ nows.Ready → ⊥) → (IsWaiting g l now → ⊥) → (name : List Placed) (w : List ℕ)
-        → places.Name ≡ place_in (frames.Fields ss ms ∷ fs) now → Segments places.Name name w → Arrived c (frames.Fields ss ms ∷ fs) notes now (before ++ name)
+    long_name_arrives : (now : Now) → (now ≡ Now.Ready → ⊥) → (IsWaiting g l now → ⊥) → (name : List Placed) (w : List ℕ)
+        → Place.Name ≡ place_in (Frame.Fields ss ms ∷ fs) now → Segments Place.Name name w → Arrived c (Frame.Fields ss ms ∷ fs) notes now (before ++ name)
     long_name_arrives now unready free name w q d =
-        named_arrives now unready free name (at (starts g l 0 [] before) c (frames.Fields ss ms ∷ fs) [] (nows.LongName w)) (Some w) q
-        (segments_begin g l places.Name name w d) (long_named g l c (starts g l 0 [] before) (frames.Fields ss ms ∷ fs) name w refl d) refl refl
+        named_arrives now unready free name (at (starts g l 0 [] before) c (Frame.Fields ss ms ∷ fs) [] (Now.LongName w)) (Some w) q
+        (segments_begin g l Place.Name name w d) (long_named g l c (starts g l 0 [] before) (Frame.Fields ss ms ∷ fs) name w refl d) refl refl
 
-    keyed_arrives : (s : Option (List ℕ)) (name : List Placed) → IsName c name s → Arrived c (frames.Fields ss ms ∷ fs) notes (nows.Keyed s) (before ++ name)
-    keyed_arrives _ _ (by_long ts w d) = long_name_arrives (nows.Keyed (Some w)) (λ e. cc) (λ w. w) ts w refl d
+    keyed_arrives : (s : Option (List ℕ)) (name : List Placed) → IsName c name s → Arrived c (Frame.Fields ss ms ∷ fs) notes (Now.Keyed s) (before ++ name)
+    keyed_arrives _ _ (by_long ts w d) = long_name_arrives (Now.Keyed (Some w)) (λ e. cc) (λ w. w) ts w refl d
     keyed_arrives _ _ (by_short t w h) =
-        named_arrives (nows.Keyed (Some w)) (λ e. cc) (λ w. w) (t ∷ []) (at (starts g l 0 [] before) c (frames.Fields ss ms ∷ fs) [] (nows.Keyed (Some w)))
+        named_arrives (Now.Keyed (Some w)) (λ e. cc) (λ w. w) (t ∷ []) (at (starts g l 0 [] before) c (Frame.Fields ss ms ∷ fs) [] (Now.Keyed (Some w)))
         (Some w) refl (record { first = t; later = []; said = Short w; cut = refl; says = h; no_colons = λ e. cc })
-        (first_token g l places.Name (at (starts g l 0 [] before) c (frames.Fields ss ms ∷ fs) [] nows.Name) t (Short w) [] h refl (inr refl)) refl refl
+        (first_token g l Place.Name (at (starts g l 0 [] before) c (Frame.Fields ss ms ∷ fs) [] Now.Name) t (Short w) [] h refl (inr refl)) refl refl
     keyed_arrives s _ (by_symbol t said _ h i) =
-        named_arrives (nows.Keyed s) (λ e. cc) (λ w. w) (t ∷ []) (at (starts g l 0 [] before) c (frames.Fields ss ms ∷ fs) [] (nows.Keyed s)) s refl
+        named_arrives (Now.Keyed s) (λ e. cc) (λ w. w) (t ∷ []) (at (starts g l 0 [] before) c (Frame.Fields ss ms ∷ fs) [] (Now.Keyed s)) s refl
         (record { first = t; later = []; said = said; cut = refl; says = h; no_colons = symbol_no_colons g l c said s i })
-        (first_token g l places.Name (at (starts g l 0 [] before) c (frames.Fields ss ms ∷ fs) [] nows.Name) t said [] h refl (inr refl)
-        ∙ ap (λ x. on_turn x done) (symbol_named g l c (starts g l 0 [] before) t.lexeme.end (frames.Fields ss ms ∷ fs) said s i)) refl refl
+        (first_token g l Place.Name (at (starts g l 0 [] before) c (Frame.Fields ss ms ∷ fs) [] Now.Name) t said [] h refl (inr refl)
+        ∙ ap (λ x. on_turn x done) (symbol_named g l c (starts g l 0 [] before) t.lexeme.end (Frame.Fields ss ms ∷ fs) said s i)) refl refl
 
-  inside_place : (fs : List Frame) → IsInside fs → place_in fs (target fs false) ≡ place_in fs nows.After
-  inside_place (frames.Items listing ss vs ∷ fs) i = refl
-  inside_place (frames.Fields ss vs ∷ fs) i = refl
-  inside_place (frames.Named ss vs s ∷ fs) i = refl
+  inside_place : (fs : List Frame) → IsInside fs → place_in fs (target fs false) ≡ place_in fs Now.After
+  inside_place (Frame.Items listing ss vs ∷ fs) i = refl
+  inside_place (Frame.Fields ss vs ∷ fs) i = refl
+  inside_place (Frame.Named ss vs s ∷ fs) i = refl
   inside_place [] i = absurd i
 
   inside_new : (begin : ℕ) (c : List Slot) (fs : List Frame) (ss : Symbols) (now : Now) → IsInside fs → is_fresh (at begin c fs ss now) ≡ false
@@ -465,26 +440,26 @@ module _ (g : Catalog) (l : Limits) where
   -- The tokens of an open item are read.
   pub arrived : (c : List Slot) (fs : List Frame) (ss : Symbols) (now : Now) (ts : List Placed) → Deep l.depth fs → NowStands c fs ss ts now
       → is_fresh (at 0 c fs ss now) ≡ false → Arrived c fs ss now ts
-  arrived c fs ss nows.Ready ts deep d new = subst (Arrived c fs ss nows.Ready) (sym d.whole)
+  arrived c fs ss Now.Ready ts deep d new = subst (Arrived c fs ss Now.Ready) (sym d.whole)
       (noted_arrives c fs d.front d.notes ss d.outer (ready_outer c fs ss ts deep d) d.noted new)
-  arrived c fs ss (nows.Pending h end) ts deep d new = pending_arrives c fs ss h end ts deep d
-  arrived c fs ss (nows.Long w end) ts deep d new = long_arrives c fs ss w end ts deep d
-  arrived c fs ss nows.After ts deep d new = by_reached c fs ss nows.After ts (at (starts g l 0 [] ts) c fs [] (target fs false))
+  arrived c fs ss (Now.Pending h end) ts deep d new = pending_arrives c fs ss h end ts deep d
+  arrived c fs ss (Now.Long w end) ts deep d new = long_arrives c fs ss w end ts deep d
+  arrived c fs ss Now.After ts deep d new = by_reached c fs ss Now.After ts (at (starts g l 0 [] ts) c fs [] (target fs false))
       (opened_read c fs ts false deep d.0) (inside_place fs d.2) (inside_new (starts g l 0 [] ts) c fs [] (target fs false) d.2) refl (λ e. absurd cc) (λ w. w)
-  arrived c (frames.Fields xs ms ∷ fs) ss nows.Name ts deep d new =
-      by_reached c (frames.Fields xs ms ∷ fs) ss nows.Name ts (at (starts g l 0 [] ts) c (frames.Fields xs ms ∷ fs) [] nows.Name)
-      (opened_read c (frames.Fields xs ms ∷ fs) ts true deep d.0) refl refl refl (λ e. absurd cc) (λ w. w)
-  arrived c (frames.Fields xs ms ∷ fs) ss (nows.LongName w) ts deep d new =
-      subst (Arrived c (frames.Fields xs ms ∷ fs) ss (nows.LongName w)) (sym d.whole)
-      (long_name_arrives c xs ms fs d.before deep d.outer ss (nows.LongName w) (λ e. cc) (λ w. w) d.name w refl d.is)
-  arrived c (frames.Fields xs ms ∷ fs) ss (nows.Keyed s) ts deep d new =
-      subst (Arrived c (frames.Fields xs ms ∷ fs) ss (nows.Keyed s)) (sym d.whole) (keyed_arrives c xs ms fs d.before deep d.outer ss s d.name d.is)
-  arrived c [] ss nows.Name ts deep d new = absurd (d.1)
-  arrived c (frames.Items listing xs vs ∷ fs) ss nows.Name ts deep d new = absurd (d.1)
-  arrived c (frames.Named xs vs s ∷ fs) ss nows.Name ts deep d new = absurd (d.1)
-  arrived c [] ss (nows.LongName w) ts deep d new = absurd d.struct
-  arrived c (frames.Items listing xs vs ∷ fs) ss (nows.LongName w) ts deep d new = absurd d.struct
-  arrived c (frames.Named xs vs s ∷ fs) ss (nows.LongName w) ts deep d new = absurd d.struct
-  arrived c [] ss (nows.Keyed w) ts deep d new = absurd d.struct
-  arrived c (frames.Items listing xs vs ∷ fs) ss (nows.Keyed w) ts deep d new = absurd d.struct
-  arrived c (frames.Named xs vs s ∷ fs) ss (nows.Keyed w) ts deep d new = absurd d.struct
+  arrived c (Frame.Fields xs ms ∷ fs) ss Now.Name ts deep d new =
+      by_reached c (Frame.Fields xs ms ∷ fs) ss Now.Name ts (at (starts g l 0 [] ts) c (Frame.Fields xs ms ∷ fs) [] Now.Name)
+      (opened_read c (Frame.Fields xs ms ∷ fs) ts true deep d.0) refl refl refl (λ e. absurd cc) (λ w. w)
+  arrived c (Frame.Fields xs ms ∷ fs) ss (Now.LongName w) ts deep d new =
+      subst (Arrived c (Frame.Fields xs ms ∷ fs) ss (Now.LongName w)) (sym d.whole)
+      (long_name_arrives c xs ms fs d.before deep d.outer ss (Now.LongName w) (λ e. cc) (λ w. w) d.name w refl d.is)
+  arrived c (Frame.Fields xs ms ∷ fs) ss (Now.Keyed s) ts deep d new =
+      subst (Arrived c (Frame.Fields xs ms ∷ fs) ss (Now.Keyed s)) (sym d.whole) (keyed_arrives c xs ms fs d.before deep d.outer ss s d.name d.is)
+  arrived c [] ss Now.Name ts deep d new = absurd (d.1)
+  arrived c (Frame.Items listing xs vs ∷ fs) ss Now.Name ts deep d new = absurd (d.1)
+  arrived c (Frame.Named xs vs s ∷ fs) ss Now.Name ts deep d new = absurd (d.1)
+  arrived c [] ss (Now.LongName w) ts deep d new = absurd d.struct
+  arrived c (Frame.Items listing xs vs ∷ fs) ss (Now.LongName w) ts deep d new = absurd d.struct
+  arrived c (Frame.Named xs vs s ∷ fs) ss (Now.LongName w) ts deep d new = absurd d.struct
+  arrived c [] ss (Now.Keyed w) ts deep d new = absurd d.struct
+  arrived c (Frame.Items listing xs vs ∷ fs) ss (Now.Keyed w) ts deep d new = absurd d.struct
+  arrived c (Frame.Named xs vs s ∷ fs) ss (Now.Keyed w) ts deep d new = absurd d.struct

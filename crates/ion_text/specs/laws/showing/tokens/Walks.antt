@@ -2,23 +2,12 @@
 -- the other.
 use Rattle.std.proofs.Common.{◌≡◌, ℕ, ◌-◌, Bool, true, false, List, [], ◌∷◌, ◌++◌, drop, refl, sym, ap, ◌∙◌, subst, Result, Ok, Err, ◌⊎◌, inl, inr}
 use Rattle.std.proofs.lemmas.Bool.{cond-false}
-use Rattle.ion_model.specs.declared.value.Value.{Value}
-use Rattle.ion_atoms.specs.declared.refusal.Reason.{Reason}
-use Rattle.ion_symtab.specs.declared.limits.Limits.{Limits}
-use Rattle.ion_symtab.specs.declared.catalog.Catalog.{Catalog}
-use Rattle.ion_tokens.specs.declared.mode.Place.TheVariants as places
-use Rattle.ion_tokens.specs.Bodies.{Content}
-use Rattle.ion_tokens.specs.machine.Scanning.{Known, Outcome, Next, Given, Left, run, at_end}
-use Rattle.ion_tokens.specs.Lexed.{Placed}
-use Rattle.ion_tokens.specs.machine.Said.{said}
-use Rattle.ion_tokens.proofs.complete.Found.{Nothing, Last, Gives, Leaves, Unclosed}
-use Rattle.ion_text.specs.machine.EachToken.{Reading, Turn, goes, gives, refuses, late, place, settle, turn}
-use Rattle.ion_text.specs.machine.Run.{is_top, token_of}
-use Rattle.ion_text.specs.machine.TokenLists.{Walk, walked, stopped, adds_values, on_turn, on_placed, on_judged, continues, then_walk, reads, reads-append, first_token, in_place}
-use Rattle.ion_text.specs.machine.Places.{Leading, settle_same, settle_still, same_place, same_is}
+use Rattle.ion_text.specs.Names.{Catalog, Content, Given, Known, Leading, Left, Limits, Next, Outcome, Place, Placed, Reading, Reason, Turn, Value, Walk, adds_values, at_end, continues, first_token, gives, goes, in_place, is_top, late, on_judged, on_placed, on_turn, place, reads, reads-append, refuses, said, same_is, same_place, scan as run, settle, settle_same, settle_still, stopped, then_walk, token_of, turn}
+use Rattle.ion_tokens.proofs.complete.Found.{Gives, Last, Leaves, Nothing, Unclosed}
+use Rattle.ion_text.specs.machine.TokenLists.{walked}
+use Rattle.ion_text.specs.laws.reading.complete.Going.{Direct, Going, Operators, TurnGoes, going_said, going_settle, going_turn, inside_end, says_so, top_place}
 use Rattle.ion_text.specs.laws.reading.complete.Pieces.{walked_now}
-use Rattle.ion_text.specs.laws.reading.complete.Going.{Operators, top_place, Going, TurnGoes, Direct, says_so, going_said, going_turn, going_settle, inside_end}
-use Rattle.ion_text.specs.laws.showing.tokens.Compare.{Found', TopFirst, unclosed_never, lexeme_in, state_in, token_in, placed_same}
+use Rattle.ion_text.specs.laws.showing.tokens.Compare.{Found', TopFirst, lexeme_in, placed_same, state_in, token_in, unclosed_never}
 
 -- one list is the front of the other, of which the first one goes on at the top level
 abbrev pub OneIsFront : List Placed → List Placed → Type 0
@@ -104,7 +93,7 @@ module _ (g : Catalog) (l : Limits) where
   first_top r [] b d e = tt
   first_top r (t ∷ ts) b d e = (walking_said r t ts d).0 ∙ by (is_top r.frames) refl
     where
-      by : (x : Bool) → is_top r.frames ≡ x → place r ≡ places.Top
+      by : (x : Bool) → is_top r.frames ≡ x → place r ≡ Place.Top
       by true h = top_place r.frames r.now h
       by false h = absurd (inside_end g l r b h e)
 

@@ -1,23 +1,17 @@
 use Rattle.std.proofs.Common.{◌≡◌, [], ◌∷◌, ◌+◌, ◌-◌, ◌∙◌, ℕ, List, refl, sym, subst, rules, false, length, take, drop, IfSome}
 use Rattle.std.specs.Prelude.{Option, Some, None}
 use Rattle.std.proofs.lemmas.List.{take_rest}
-use Rattle.ion_tokens.specs.Blobs.{blob_of}
-use Rattle.ion_tokens.specs.declared.mode.Place.{Place}
-use Rattle.ion_tokens.specs.declared.plain_tokens.Rest.{Rest}
-use Rattle.ion_tokens.specs.declared.token_reader.FoundToken.{FoundToken}
-use Rattle.ion_tokens.specs.machine.Contents.{AddsBase64, StandsIn}
-use Rattle.ion_tokens.specs.machine.Rests.{IsFound}
-use Rattle.ion_tokens.specs.declared.mode.TokenKind.TheVariants as kinds
+use Rattle.ion_tokens.specs.Names.{AddsBase64, FoundToken, IsFound, Place, Rest, StandsIn, TokenKind, blob_of}
 use Rattle.ion_tokens.proofs.runs.EscapedTexts.{found_as}
 use Rattle.ion_tokens.proofs.runs.LobsAtOnce.{blob_stands, solid_stands}
 use Rattle.ion_tokens.proofs.machine.Machine.blob_behind.Goals as goal
 
 -- what is answered stands there if it is a blob that does
 stands_if : (p : Place) (octets text kept : List ℕ) (n : ℕ) (found : Option FoundToken)
-    → IfSome found (λ t. (t ≡ record { kind = kinds.Blob; count = n + 4; left = false }) × (blob_of text ≡ Some kept))
-    → (blob_of text ≡ Some kept → (r : Rest) → IsFound p r octets kinds.Blob kept (n + 4) false) → IfSome found (λ t. StandsIn p octets kept t)
+    → IfSome found (λ t. (t ≡ record { kind = TokenKind.Blob; count = n + 4; left = false }) × (blob_of text ≡ Some kept))
+    → (blob_of text ≡ Some kept → (r : Rest) → IsFound p r octets TokenKind.Blob kept (n + 4) false) → IfSome found (λ t. StandsIn p octets kept t)
 stands_if p octets text kept n None h f = tt
-stands_if p octets text kept n (Some t) h f = λ r. found_as p r octets kept kept t kinds.Blob (n + 4) false h.0 refl (f h.1 r)
+stands_if p octets text kept n (Some t) h f = λ r. found_as p r octets kept kept t TokenKind.Blob (n + 4) false h.0 refl (f h.1 r)
 
 -- base64 without white space
 pub returns-then-begins_close : goal.returns-then-begins_close

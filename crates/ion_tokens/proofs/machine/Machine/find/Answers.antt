@@ -1,6 +1,6 @@
 use Rattle.std.proofs.Common.{sym, ap, ◌∙◌, true, false}
+use Rattle.ion_tokens.specs.Names.{run}
 use Rattle.ion_tokens.proofs.runs.EndsShown.{found_if}
-use Rattle.ion_tokens.specs.machine.Scanning.{run}
 use Rattle.ion_tokens.proofs.machine.Machine.find.Goals as goal
 
 pub returns-in-Ok-Given : goal.returns-in-Ok-Given

@@ -1,7 +1,7 @@
 use Rattle.std.proofs.Common.{take}
-use Rattle.ion_tokens.specs.machine.AtOnce.{goes_on}
-use Rattle.ion_tokens.proofs.texts.Characters.{each_over}
+use Rattle.ion_tokens.specs.Names.{goes_on}
 use Rattle.ion_tokens.proofs.runs.WholeTokens.{front_each, front_within}
+use Rattle.ion_tokens.proofs.texts.Characters.{each_over}
 use Rattle.ion_tokens.proofs.machine.Machine.front.Goals as goal
 
 pub returns-in_default-2 : goal.returns-in_default-2

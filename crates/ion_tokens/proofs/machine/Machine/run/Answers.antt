@@ -1,11 +1,10 @@
 use Rattle.std.proofs.Common.{◌≡◌, ap, subst, sym, ◌∙◌, arith, get_or, length-drop}
-use Rattle.ion_tokens.specs.machine.Scanning.{feed, Next}
-use Rattle.ion_tokens.specs.machine.Bounds.{StaysSteady}
+use Rattle.ion_tokens.specs.Names.{Next, StaysSteady, feed}
 use Rattle.ion_tokens.specs.machine.Machines.{known, outcome_in}
 use Rattle.ion_tokens.specs.machine.Table.{next}
-use Rattle.ion_tokens.proofs.runs.Runs.{Between, acts_between, feed_used, run_more}
 use Rattle.ion_tokens.proofs.bounds.Pending.{took_one}
 use Rattle.ion_tokens.proofs.runs.GoesOn.{TakesFront, counts, leads_on, looks_on, stays_steady, within_piece}
+use Rattle.ion_tokens.proofs.runs.Runs.{Between, acts_between, feed_used, run_more}
 use Rattle.ion_tokens.proofs.machine.Machine.run.Goals as goal
 
 -- the mode went on

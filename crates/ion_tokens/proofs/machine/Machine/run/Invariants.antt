@@ -1,6 +1,5 @@
 use Rattle.std.proofs.Common.{◌≡◌, ◌+◌, ◌-◌, ◌^◌, ◌≤◌, min, length, drop}
-use Rattle.ion_tokens.specs.machine.Scanning.{run}
-use Rattle.ion_tokens.specs.machine.Bounds.{IsSteady}
+use Rattle.ion_tokens.specs.Names.{IsSteady, run}
 use Rattle.ion_tokens.specs.machine.Machines.{known}
 use Rattle.ion_tokens.proofs.machine.Machine.run.Given as goal
 

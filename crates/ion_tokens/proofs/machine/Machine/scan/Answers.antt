@@ -1,14 +1,9 @@
 use Rattle.std.proofs.Common.{◌≡◌, ◌≢◌, ℕ, ◌+◌, ◌-◌, ◌^◌, ◌≤◌, min, length, subst, refl, arith, IfErr}
 use Rattle.std.specs.Prelude.{Result, Ok, Err, None, false}
-use Rattle.ion_atoms.specs.declared.refusal.Refusal.{Refusal}
-use Rattle.ion_atoms.specs.declared.refusal.Reason.TheVariants.{Memory}
-use Rattle.ion_tokens.specs.declared.token.Scan.{Scan}
-use Rattle.ion_tokens.specs.machine.Scanning.{Outcome}
-use Rattle.ion_tokens.specs.Lexemes.{Lexeme}
+use Rattle.ion_tokens.specs.Names.{Answers, Lexeme, Memory, Outcome, Refusal, RefusesToken, Scan}
 use Rattle.ion_tokens.specs.machine.Machines.{known, lexeme_in}
-use Rattle.ion_tokens.specs.machine.Steps.{Answers, RefusesToken}
-use Rattle.ion_tokens.proofs.runs.Runs.{next_used, given_used, left_used}
 use Rattle.ion_tokens.proofs.bounds.Causes.{refused_fair}
+use Rattle.ion_tokens.proofs.runs.Runs.{given_used, left_used, next_used}
 use Rattle.ion_tokens.proofs.machine.Machine.scan.Goals as goal
 
 pub given-requires : goal.given-requires

@@ -1,7 +1,6 @@
 use Rattle.std.proofs.Common.{◌≡◌, ◌∙◌, ap}
 use Rattle.std.proofs.lemmas.Result.{IfOk-weaker}
-use Rattle.ion_tokens.specs.machine.Scanning.{acts}
-use Rattle.ion_tokens.specs.machine.Bounds.{IsSteady, StaysSteady}
+use Rattle.ion_tokens.specs.Names.{IsSteady, StaysSteady, acts}
 use Rattle.ion_tokens.specs.machine.Machines.{known, outcome_in}
 use Rattle.ion_tokens.proofs.bounds.Steady.{take_up_steady}
 use Rattle.ion_tokens.proofs.machine.Machine.take_up.Goals as goal

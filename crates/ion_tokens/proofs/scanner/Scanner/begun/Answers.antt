@@ -1,6 +1,6 @@
 use Rattle.std.proofs.Common.{subst, sym}
+use Rattle.ion_tokens.specs.Names.{ShowsBegun}
 use Rattle.ion_tokens.specs.machine.Machines.{known}
-use Rattle.ion_tokens.specs.machine.Scanned.{ShowsBegun}
 use Rattle.ion_tokens.proofs.foreseen.Begins.{begun_right}
 use Rattle.ion_tokens.proofs.scanner.Scanner.begun.Goals as goal
 

@@ -1,17 +1,11 @@
 use Rattle.std.proofs.Common.{ℕ, List, [], ◌≢◌, refl, IfOk, IfErr, IfSome}
 use Rattle.std.specs.Prelude.{Option, Some, None, Result, Ok, Err}
-use Rattle.ion_atoms.specs.declared.refusal.Refusal.{Refusal}
-use Rattle.ion_atoms.specs.declared.refusal.Reason.TheVariants.{Memory}
-use Rattle.ion_tokens.specs.declared.token.Token.{Token}
-use Rattle.ion_tokens.specs.machine.Scanning.{Known, at_end}
-use Rattle.ion_tokens.specs.Lexed.{Placed}
-use Rattle.ion_tokens.specs.machine.Scanned.{Scanned, EndsSo, NoEnd, EndsFor}
-use Rattle.ion_tokens.specs.machine.Lent.{BorrowsAt, OwnsLast}
-use Rattle.ion_tokens.specs.machine.Steps.{Ends}
+use Rattle.ion_tokens.specs.Names.{BorrowsAt, EndsFor, EndsSo, Known, Memory, NoEnd, OwnsLast, Placed, Refusal, Scanned, Token, at_end}
 use Rattle.ion_tokens.specs.machine.Machines.{known}
+use Rattle.ion_tokens.specs.machine.Steps.{Ends}
 use Rattle.ion_tokens.proofs.histories.EndCauses.{end_fair, end_reason}
-use Rattle.ion_tokens.proofs.runs.Lendings.{end_owns}
 use Rattle.ion_tokens.proofs.histories.Stepped.{end_goes, end_refuses}
+use Rattle.ion_tokens.proofs.runs.Lendings.{end_owns}
 use Rattle.ion_tokens.proofs.traces.Traced.{end_traced}
 use Rattle.ion_tokens.proofs.scanner.Scanner.finish.Goals as goal
 

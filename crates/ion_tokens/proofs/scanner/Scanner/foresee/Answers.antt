@@ -1,8 +1,6 @@
 use Rattle.std.proofs.Common.{◌≡◌, ap, sym, subst, ◌∙◌}
-use Rattle.ion_tokens.specs.machine.Scanning.{acts, feed}
+use Rattle.ion_tokens.specs.Names.{ForeseenSo, acts, feed, foresight}
 use Rattle.ion_tokens.specs.machine.Machines.{known}
-use Rattle.ion_tokens.specs.machine.Views.{foresight}
-use Rattle.ion_tokens.specs.machine.Foreseen.{ForeseenSo}
 use Rattle.ion_tokens.proofs.foreseen.Foresights.{foreseen}
 use Rattle.ion_tokens.proofs.scanner.Scanner.foresee.Goals as goal
 

@@ -1,7 +1,6 @@
 use Rattle.std.proofs.Common.{refl, sym}
+use Rattle.ion_tokens.specs.Names.{Next, passed}
 use Rattle.ion_tokens.specs.machine.Machines.{known}
-use Rattle.ion_tokens.specs.machine.Scanning.{Next}
-use Rattle.ion_tokens.specs.machine.Steps.{passed}
 use Rattle.ion_tokens.proofs.histories.Stepped.{goes_on}
 use Rattle.ion_tokens.proofs.runs.GoesOn.{going_led, going_steady}
 use Rattle.ion_tokens.proofs.runs.Runs.{next_used}

@@ -1,24 +1,14 @@
 use Rattle.std.proofs.Common.{ℕ, List, length, refl, ◌≢◌, IfOk, IfErr, IfSome}
 use Rattle.std.specs.Prelude.{Result, Ok, Err, Option, Some, None, Bool}
-use Rattle.ion_atoms.specs.declared.refusal.Refusal.{Refusal}
-use Rattle.ion_atoms.specs.declared.refusal.Reason.TheVariants.{Memory}
-use Rattle.ion_tokens.specs.declared.token.Scan.{Scan}
-use Rattle.ion_tokens.specs.declared.token.Token.{Token}
-use Rattle.ion_tokens.specs.Lexed.{Placed}
-use Rattle.ion_tokens.specs.machine.Lent.{BorrowsAt, LendsWhole}
-use Rattle.ion_tokens.specs.machine.Scanned.{Scanned, Continues, Goes, GoesWith, RefusesAt}
-use Rattle.ion_tokens.specs.machine.Steps.{Stepped, answered, stepped, Answers}
-use Rattle.ion_tokens.specs.machine.Scanning.{Known, run}
+use Rattle.ion_tokens.specs.Names.{Answers, AnswersTrace, BorrowsAt, Continues, Goes, GoesWith, Known, LendsWhole, Memory, Placed, Refusal, RefusesAt, Scan, Scanned, Stepped, Token, answered, debt, run, stepped}
 use Rattle.ion_tokens.specs.machine.Machines.{known}
-use Rattle.ion_tokens.proofs.runs.Runs.{run_between}
 use Rattle.ion_tokens.proofs.bounds.Causes.{answer_reason, run_fair}
-use Rattle.ion_tokens.proofs.runs.Answered.{used_within, used_whole, refused_within}
-use Rattle.ion_tokens.proofs.histories.Stepped.{step_goes, step_refuses}
-use Rattle.ion_tokens.specs.machine.Bounds.{debt}
-use Rattle.ion_tokens.specs.machine.Traces.{AnswersTrace}
-use Rattle.ion_tokens.proofs.runs.Lendings.{step_lends}
 use Rattle.ion_tokens.proofs.bounds.Pending.{few_owed, fewer_owed, run_owes}
-use Rattle.ion_tokens.proofs.traces.Traced.{step_traced, step_stops}
+use Rattle.ion_tokens.proofs.histories.Stepped.{step_goes, step_refuses}
+use Rattle.ion_tokens.proofs.runs.Answered.{refused_within, used_whole, used_within}
+use Rattle.ion_tokens.proofs.runs.Lendings.{step_lends}
+use Rattle.ion_tokens.proofs.runs.Runs.{run_between}
+use Rattle.ion_tokens.proofs.traces.Traced.{step_stops, step_traced}
 use Rattle.ion_tokens.proofs.scanner.Scanner.step.Goals as goal
 
 pub returns-in_default-result-clause-used : goal.returns-in_default-result-clause-used

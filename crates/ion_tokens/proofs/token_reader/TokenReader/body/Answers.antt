@@ -1,11 +1,6 @@
 use Rattle.std.proofs.Common.{◌≡◌, ◌≢◌, ℕ, List, Ok, Err, Result, IfOk, IfErr}
-use Rattle.ion_atoms.specs.declared.refusal.Reason.{Reason}
-use Rattle.ion_atoms.specs.declared.refusal.Reason.TheVariants.{Memory}
-use Rattle.ion_tokens.specs.declared.mode.TokenKind.{TokenKind}
-use Rattle.ion_tokens.specs.declared.token.Body.{Body}
-use Rattle.ion_tokens.specs.Bodies.{content, IsBody}
-use Rattle.ion_tokens.specs.machine.Said.{said, says}
-use Rattle.ion_tokens.specs.machine.Views.{octets_in}
+use Rattle.ion_tokens.specs.Names.{Body, IsBody, Memory, Reason, TokenKind, octets_in, said, says}
+use Rattle.ion_tokens.specs.Bodies.{content}
 use Rattle.ion_tokens.proofs.runs.Cutting.{one_body}
 use Rattle.ion_tokens.proofs.token_reader.TokenReader.body.Goals as goal
 

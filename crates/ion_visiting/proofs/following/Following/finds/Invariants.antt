@@ -1,7 +1,7 @@
 use Rattle.std.proofs.Common.{take}
 use Rattle.std.specs.List.{flat_map}
 use Rattle.std.specs.Option.{option_to_list}
-use Rattle.ion_visiting.specs.Events.{Led}
+use Rattle.ion_visiting.specs.Names.{Led}
 use Rattle.ion_visiting.specs.Following.{follows}
 use Rattle.ion_visiting.specs.Tapes.{told}
 use Rattle.ion_visiting.proofs.following.Following.finds.Given as goal

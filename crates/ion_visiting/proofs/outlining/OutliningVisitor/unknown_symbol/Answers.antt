@@ -1,5 +1,5 @@
 use Rattle.std.proofs.Common.{None}
-use Rattle.ion_model.specs.declared.value.Payload.TheViews.{outs-Symbol}
+use Rattle.ion_visiting.specs.Names.{outs-Symbol}
 use Rattle.ion_visiting.proofs.outlining.OutliningVisitor.unknown_symbol.Goals as goal
 
 pub returns : goal.returns

@@ -1,6 +1,6 @@
 use Rattle.std.proofs.Common.{refl, ap}
-use Rattle.ion_visiting.specs.declared.table_filter.TableFilter.{TableFilter}
-use Rattle.ion_visiting.specs.laws.Filters.{none_noted, further_kept, yes_noted}
+use Rattle.ion_visiting.specs.Names.{TableFilter}
+use Rattle.ion_visiting.specs.laws.Filters.{further_kept, none_noted, yes_noted}
 use Rattle.ion_visiting.proofs.table_filter.TableFilter.annotation.Goals as goal
 
 pub returns-in-No : goal.returns-in-No

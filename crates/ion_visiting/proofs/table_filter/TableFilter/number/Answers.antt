@@ -1,6 +1,5 @@
 use Rattle.std.proofs.Common.{refl, sym, ap, ◌∙◌}
-use Rattle.ion_visiting.specs.Parts.{number_payload}
-use Rattle.ion_visiting.specs.Events.{part}
+use Rattle.ion_visiting.specs.Names.{number_payload, part}
 use Rattle.ion_visiting.specs.Tables.{is_of_table}
 use Rattle.ion_visiting.specs.laws.Filters.{number_null, table_tells, visitor_tells}
 use Rattle.ion_visiting.proofs.table_filter.TableFilter.number.Goals as goal

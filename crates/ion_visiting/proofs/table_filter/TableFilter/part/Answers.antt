@@ -1,6 +1,5 @@
 use Rattle.std.proofs.Common.{refl, sym, ap, ◌∙◌}
-use Rattle.ion_visiting.specs.Parts.{payload_of}
-use Rattle.ion_visiting.specs.Events.{part}
+use Rattle.ion_visiting.specs.Names.{part, payload_of}
 use Rattle.ion_visiting.specs.Tables.{is_of_table}
 use Rattle.ion_visiting.specs.laws.Filters.{table_tells, visitor_tells}
 use Rattle.ion_visiting.proofs.table_filter.TableFilter.part.Goals as goal

@@ -1,6 +1,6 @@
 use Rattle.std.proofs.Common.{refl, sym, ◌∙◌}
+use Rattle.ion_visiting.specs.Names.{part}
 use Rattle.ion_model.specs.declared.value.Payload.TheVariants as payloads
-use Rattle.ion_visiting.specs.Events.{part}
 use Rattle.ion_visiting.specs.laws.Filters.{table_tells, visitor_tells}
 use Rattle.ion_visiting.proofs.table_filter.TableFilter.symbol.Goals as goal
 

@@ -1,5 +1,5 @@
 use Rattle.std.proofs.Common.{Some, refl, sym, ◌∙◌}
-use Rattle.ion_visiting.specs.Events.{name}
+use Rattle.ion_visiting.specs.Names.{name}
 use Rattle.ion_visiting.specs.laws.Filters.{table_tells, visitor_tells}
 use Rattle.ion_visiting.proofs.table_filter.TableFilter.text_name.Goals as goal
 

@@ -1,9 +1,7 @@
 use Rattle.std.proofs.Common.{◌≡◌, ◌∙◌, rules, Some, ap, sym, length, arith, position}
 use Rattle.std.specs.List.{position_or_len}
 use Rattle.std.specs.Option.{unwrap_or}
-use Rattle.ion_model.specs.Symbols.{symbol_same}
-use Rattle.ion_binary.specs.writer.Names.{id_few}
-use Rattle.ion_binary.specs.Output.{Names, id_of}
+use Rattle.ion_binary.specs.Names.{Names, id_few, id_of, symbol_same}
 use Rattle.ion_binary.proofs.Ids.{place_or}
 use Rattle.ion_binary.proofs.writer.names.Names.id_of_text.Goals as goal
 

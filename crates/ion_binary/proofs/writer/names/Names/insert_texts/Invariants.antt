@@ -1,5 +1,5 @@
 use Rattle.std.proofs.Common.{◌≡◌, Some, map, drop}
-use Rattle.ion_binary.specs.Output.{with_names}
+use Rattle.ion_binary.specs.Names.{with_names}
 use Rattle.ion_binary.proofs.writer.names.Names.insert_texts.Given as goal
 
 -- with the texts that are left the names are those with all

@@ -1,6 +1,6 @@
 use Rattle.std.proofs.Common.{◌≡◌, Some, ap, sym, refl, ◌∙◌, length, slice_get}
 use Rattle.std.proofs.lemmas.Option.{slice_get_read}
-use Rattle.ion_binary.specs.Output.{Names, id_of}
+use Rattle.ion_binary.specs.Names.{Names, id_of}
 use Rattle.ion_binary.proofs.Ids.{id_at}
 use Rattle.ion_binary.proofs.writer.names.Names.is_text_at.Goals as goal
 
