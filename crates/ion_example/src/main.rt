@@ -49,8 +49,12 @@ fn shown(rt: &HostRuntime) -> Result<()> {
     let sum = summing::sum_of(alloc, ORDERS, "price")?;
     println!(rt; "{sum} in all")?;
     let catalog = Catalog::new(alloc);
-    let strings =
-        counting::strings_in(alloc, &mut FromRead::new(STRINGS), &catalog, Limits::usual());
+    let strings = counting::strings_in(
+        alloc,
+        &mut FromRead::new(STRINGS),
+        &catalog,
+        Limits::usual(),
+    );
     drop(catalog); // before the `?`, as in `comparing.rt`
     let strings = strings??;
     println!(rt; "{strings} strings")?;
