@@ -9,8 +9,8 @@ use crate::words::{is_keyword, may_be_keyword};
 use ion_model::Kind;
 use ion_scalar::{Number, number_of};
 use ion_tokens::{
-    Body, FoundToken, Place, TokenKind, number, operator, plain_numeral, quoted_symbol,
-    short_string, typed_null, word,
+    Body, FoundToken, Place, TokenKind, number, operator, quoted_symbol, short_string, typed_null,
+    word,
 };
 use ion_visiting::Part;
 
@@ -140,18 +140,6 @@ pub(crate) fn string_at(octets: &[u8]) -> Option<(Scalar, Part<'_>)>
     ))
 }
 
-// How many octets the number there has, whose end the octet behind it shows.
-#[inline(always)]
-fn number_end(octets: &[u8]) -> Option<usize>
-    ensures { IfSome result (λ count. (here : Place) (rest : Rest) → is_name here ≡ false →
-        IsFound here rest octets.now TokenKind.Number (take count octets.now) count true) }
-{
-    match plain_numeral(octets) {
-        None => number(octets),
-        found => found,
-    }
-}
-
 /// The number there, whose end the octet behind it shows.
 #[inline(always)]
 pub(crate) fn number_at(octets: &[u8]) -> Option<(FoundToken, Number)>
@@ -162,7 +150,7 @@ pub(crate) fn number_at(octets: &[u8]) -> Option<(FoundToken, Number)>
     ensures left { IfSome result (λ found. found.0.left ≡ true) }
     ensures within { IfSome result (λ found. found.0.count < length octets.now) }
 {
-    let count = number_end(octets)?;
+    let count = number(octets)?;
     if count >= octets.len() {
         return None;
     }
