@@ -199,7 +199,7 @@ def backward_names(count):
 
 def small_ints(count, last=b"\x20"):
     """One binary list of ints of one octet, of which a comparison writes down each; the last may tell two of them apart."""
-    return MARKER + framed(0xB0, b"\x20" * (count - 1) + last)
+    return MARKER + framed(11, b"\x20" * (count - 1) + last)
 
 
 def two_lines(count, last=1):
