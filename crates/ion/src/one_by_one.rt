@@ -12,7 +12,7 @@ use ion_symtab::{Fault, Inlet, Items};
 use std::alloc::Global;
 
 /// A document whose values are asked for one by one: `items` takes up the octets, which come from a
-/// device. It holds 64 KiB of octets at most, and what the reader keeps of the value that it reads.
+/// device. It holds 4096 octets at most, and what the reader keeps of the value that it reads.
 #[derive(Drop)]
 pub struct Values<'r, I: Items, R> {
     /// The device that the octets come from.

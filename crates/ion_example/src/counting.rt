@@ -63,7 +63,7 @@ impl Visitor for Strings {
 }
 
 /// How many strings the values of a document hold; names of fields, symbols and annotations are
-/// none. In little memory, however great a value is.
+/// none. No value is built, however great it is.
 pub(crate) fn strings_in<R: Inlet>(
     alloc: Global,
     reader: &mut R,

@@ -1,10 +1,12 @@
 use Rattle.std.proofs.Common.{◌≡◌, [], arith, refl, ap, ◌∙◌}
-use Rattle.ion_streams.specs.Names.{telling}
+use Rattle.ion_streams.specs.Names.{Reads, telling}
 use Rattle.ion_streams.proofs.Passes.{err_by, ok_by}
 use Rattle.ion_streams.proofs.Pieces.{between_nil}
 use Rattle.ion_streams.proofs.Steps.{reads_begun, ready_begun, within_begun}
 use Rattle.ion_streams.proofs.Unfailed.{asks_begun}
+use Rattle.ion_streams.proofs.comparison.compare_items.Given.{Over}
 use Rattle.ion_streams.proofs.comparison.compare_items.Goals as goal
+use Rattle.ion_streams.proofs.comparison.compare_items.Goals.{In_ok-right_source}
 
 pub compare_places-verdict-requires : goal.compare_places-verdict-requires
 compare_places-verdict-requires g c =
@@ -28,47 +30,39 @@ compare_places-verdict-requires g c =
       few = omega (arith, left_pending, right_pending, l.reads, l.nothing.0, l.nothing.1, r.reads, r.nothing.0, r.nothing.1);
     }
 
+-- nothing was read of either side yet
+left_begun : (g : Over) (c : In_ok-right_source g) → Reads g.L.Inlet (telling g.I.Items []) (g.I.Items.catalog c.args.left_items)
+    (g.I.Items.limits c.args.left_items) c.args.left.now c.args.left.now c.in_ok-left_source.left_source []
+left_begun g c =
+    let left = c.in_ok-left_source.left_source in
+    let l = c.in_ok-left_source.ensures in
+    reads_begun g.L.Inlet (telling g.I.Items []) c.args.left.now left c.args.left_items
+    (g.met.I.Items.nothing_told c.args.left_items c.requires.left.stood) l.items
+    (between_nil left.piece.items left.at left.end (omega (arith, l.nothing.0, l.nothing.1))) l.unended
+
+right_begun : (g : Over) (c : In_ok-right_source g) → Reads g.R.Inlet (telling g.J.Items []) (g.J.Items.catalog c.args.right_items)
+    (g.J.Items.limits c.args.right_items) c.args.right.now c.args.right.now c.in_ok-right_source.right_source []
+right_begun g c =
+    let right = c.in_ok-right_source.right_source in
+    let r = c.in_ok-right_source.ensures in
+    reads_begun g.R.Inlet (telling g.J.Items []) c.args.right.now right c.args.right_items
+    (g.met.J.Items.nothing_told c.args.right_items c.requires.right.stood) r.items
+    (between_nil right.piece.items right.at right.end (omega (arith, r.nothing.0, r.nothing.1))) r.unended
+
 pub returns-clause-verdict : goal.returns-clause-verdict
 returns-clause-verdict g c =
-    let left = c.in_ok-left_source.left_source in
-    let right = c.in_ok-right_source.right_source in
-    let l = c.in_ok-left_source.ensures in
-    let r = c.in_ok-right_source.ensures in
-    let left_begun = reads_begun g.L.Inlet (telling g.I.Items []) c.args.left.now left c.args.left_items
-    (g.met.I.Items.nothing_told c.args.left_items c.requires.left.stood) l.items
-    (between_nil left.piece.items left.at left.end (omega (arith, l.nothing.0, l.nothing.1))) l.unended in
-    let right_begun = reads_begun g.R.Inlet (telling g.J.Items []) c.args.right.now right c.args.right_items
-    (g.met.J.Items.nothing_told c.args.right_items c.requires.right.stood) r.items
-    (between_nil right.piece.items right.at right.end (omega (arith, r.nothing.0, r.nothing.1))) r.unended in
-    ok_by c.compare_places-verdict.result _ _ (λ verdict h. h _ _ _ _ left_begun right_begun) c.compare_places-verdict.ensures.verdict
+    let at = (goal.at.returns-clause-verdict g c).In_ok-right_source in
+    ok_by c.compare_places-verdict.result _ _ (λ verdict h. h _ _ _ _ (left_begun g at) (right_begun g at)) c.compare_places-verdict.ensures.verdict
 
 pub returns-clause-in_turn : goal.returns-clause-in_turn
 returns-clause-in_turn g c =
-    let left = c.in_ok-left_source.left_source in
-    let right = c.in_ok-right_source.right_source in
-    let l = c.in_ok-left_source.ensures in
-    let r = c.in_ok-right_source.ensures in
-    let left_begun = reads_begun g.L.Inlet (telling g.I.Items []) c.args.left.now left c.args.left_items
-    (g.met.I.Items.nothing_told c.args.left_items c.requires.left.stood) l.items
-    (between_nil left.piece.items left.at left.end (omega (arith, l.nothing.0, l.nothing.1))) l.unended in
-    let right_begun = reads_begun g.R.Inlet (telling g.J.Items []) c.args.right.now right c.args.right_items
-    (g.met.J.Items.nothing_told c.args.right_items c.requires.right.stood) r.items
-    (between_nil right.piece.items right.at right.end (omega (arith, r.nothing.0, r.nothing.1))) r.unended in
-    c.compare_places-verdict.ensures.in_turn _ _ _ _ left_begun right_begun
+    let at = (goal.at.returns-clause-in_turn g c).In_ok-right_source in
+    c.compare_places-verdict.ensures.in_turn _ _ _ _ (left_begun g at) (right_begun g at)
 
 pub returns-clause-one_end : goal.returns-clause-one_end
 returns-clause-one_end g c =
-    let left = c.in_ok-left_source.left_source in
-    let right = c.in_ok-right_source.right_source in
-    let l = c.in_ok-left_source.ensures in
-    let r = c.in_ok-right_source.ensures in
-    let left_begun = reads_begun g.L.Inlet (telling g.I.Items []) c.args.left.now left c.args.left_items
-    (g.met.I.Items.nothing_told c.args.left_items c.requires.left.stood) l.items
-    (between_nil left.piece.items left.at left.end (omega (arith, l.nothing.0, l.nothing.1))) l.unended in
-    let right_begun = reads_begun g.R.Inlet (telling g.J.Items []) c.args.right.now right c.args.right_items
-    (g.met.J.Items.nothing_told c.args.right_items c.requires.right.stood) r.items
-    (between_nil right.piece.items right.at right.end (omega (arith, r.nothing.0, r.nothing.1))) r.unended in
-    c.compare_places-verdict.ensures.one_end _ _ _ _ left_begun right_begun
+    let at = (goal.at.returns-clause-one_end g c).In_ok-right_source in
+    c.compare_places-verdict.ensures.one_end _ _ _ _ (left_begun g at) (right_begun g at)
 
 pub returns-clause-cause : goal.returns-clause-cause
 returns-clause-cause g c =
