@@ -40,9 +40,8 @@ fits (Number.Decimal d) = is_decimal d
 fits (Number.Timestamp t) = short t.precision
 
 is_there : (x : Number) → Dec (IsThere x)
-is_there (Number.Int z) = yes tt
-is_there (Number.Decimal d) = yes tt
 is_there (Number.Timestamp t) = there t
+is_there _ = yes tt
 
 -- an answer, and that it is the right one
 pub record Read (token : List ℕ) : Type 0 where

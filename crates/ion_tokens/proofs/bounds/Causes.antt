@@ -1,7 +1,8 @@
 -- The reasons for which a scanner refuses.
-use Rattle.std.proofs.Common.{◌≡◌, ◌≢◌, ℕ, Bool, true, false, cond, refl, sym, ap, subst, ◌∙◌, List, [], ◌∷◌, Option, Some, None, Result, Ok, Err, IfErr}
+use Rattle.std.proofs.Common.{◌≡◌, ◌≢◌, ℕ, Bool, true, refl, sym, ap, subst, ◌∙◌, List, [], ◌∷◌, Option, Some, None, Result, Ok, Err, IfErr}
 use Rattle.std.specs.Prelude.{◌==◌, ◌&&◌, bytes_eq, codes}
-use Rattle.ion_tokens.specs.Names.{Action, Answers, Given, IsBody, IsWordBody, Kind, Known, Left, Mode, Next, Outcome, Place, ReadsNumber, Reason, Refusal, Refused, Scan, TokenKind, acts, answered, blob_ends, blob_of, cut, debt, feed, follow, go_to, id_of, is_idle, is_step_reason, kind_named, null_of, past, run, unkept}
+use Rattle.std.proofs.lemmas.Bool.{cond_both}
+use Rattle.ion_tokens.specs.Names.{Action, Answers, Given, IsBody, IsWordBody, Kind, Known, Left, Next, Outcome, Place, ReadsNumber, Reason, Refusal, Refused, Scan, TokenKind, acts, answered, blob_ends, blob_of, debt, feed, follow, id_of, is_idle, is_step_reason, kind_named, null_of, run, unkept}
 use Rattle.ion_tokens.specs.machine.Table.{next}
 use Rattle.ion_tokens.proofs.bounds.Fits.{Fits, is_octet_reason, table_fits}
 
@@ -23,23 +24,16 @@ blob_fair s (Some b) = tt
 
 acts_fair : (p : Place) (s : Known) (o : ℕ) (a : Action) → Fits (unkept s.mode) (debt s.mode) (is_idle s.mode) a → IsFair (acts p s o a)
 unfolding IsFair
-acts_fair p s o (Action.Go m k) f = tt
-acts_fair p s o (Action.Give _ _) f = tt
-acts_fair p s o (Action.Before _ _ _) f = tt
-acts_fair p s o Action.EndWord f = one ((o == 46) && bytes_eq s.kept (codes "null")) where
-  one : (b : Bool) → IsFair (cond b (Next (go_to s Mode.KindName [])) (Left (cut s TokenKind.Word s.kept s.used) (past p TokenKind.Word Mode.Blank [] s.used s.used)))
-  one true = tt
-  one false = tt
-acts_fair p s o (Action.Split _) f = tt
+acts_fair p s o Action.EndWord f = cond_both ((o == 46) && bytes_eq s.kept (codes "null")) _ _ IsFair (λ _. tt) (λ _. tt)
 acts_fair p s o Action.EndBlob f = blob_fair s (blob_of s.kept)
 acts_fair p s o (Action.Refuse e) f = f.is
+acts_fair p s o _ f = tt
 
 follow_fair : (x : Outcome) (f : Known → Outcome) → IsFair x → ((t : Known) → IsFair (f t)) → IsFair (follow x f)
 unfolding IsFair
 follow_fair (Next s) f h k = k s
-follow_fair (Given l s) f h k = tt
-follow_fair (Left l s) f h k = tt
 follow_fair (Refused at e) f h k = h
+follow_fair _ f h k = tt
 
 -- where a run over octets refuses, it is for a reason that an octet alone may give
 pub run_fair : (p : Place) (os : List ℕ) (s : Known) → IsFair (run p os s)
@@ -83,13 +77,10 @@ body_reason : (kind : TokenKind) (octets : List ℕ) (e : Reason) → IsBody kin
 body_reason TokenKind.Word octets e h = word_reason octets (id_of octets) e h
 body_reason TokenKind.KindName octets e h = null_reason (kind_named octets) e h
 body_reason TokenKind.Number octets e h = number_reason octets e h
-body_reason TokenKind.Operator octets e h = ap is_step_reason h.0
-body_reason TokenKind.QuotedSymbol octets e h = ap is_step_reason h.0
-body_reason TokenKind.ShortString octets e h = ap is_step_reason h.0
-body_reason TokenKind.LongString octets e h = ap is_step_reason h.0
 body_reason TokenKind.Clob octets e h = cc
 body_reason TokenKind.Blob octets e h = cc
 body_reason (TokenKind.Mark m) octets e h = cc
+body_reason _ octets e h = ap is_step_reason h.0
 
 -- a step refuses for one of its reasons
 pub answer_reason : (x : Outcome) (r : Result Scan Refusal) (left : Bool) (before : ℕ) (now : Known) → IsFair x → Answers before x (answered r left) now

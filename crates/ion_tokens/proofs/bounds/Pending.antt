@@ -1,7 +1,8 @@
 -- How many octets a run takes up, and how many it leaves to take up again.
-use Rattle.std.proofs.Common.{◌≡◌, ℕ, ◌+◌, ◌-◌, ◌≤◌, ◌<◌, Bool, true, false, cond, List, [], ◌∷◌, length, ap, arith, IfOk, IfSome, Result, Ok, Err, Option, Some, None}
+use Rattle.std.proofs.Common.{◌≡◌, ℕ, ◌+◌, ◌-◌, ◌≤◌, ◌<◌, Bool, List, [], ◌∷◌, length, ap, arith, IfOk, IfSome, Result, Ok, Err, Option, Some, None}
 use Rattle.std.specs.Prelude.{◌==◌, ◌&&◌, ◌||◌, not, bytes_eq, codes}
-use Rattle.ion_tokens.specs.Names.{Action, Answers, Given, Known, Left, Mode, Next, Outcome, Place, Refusal, Refused, Scan, Token, TokenKind, acts, answered, blob_ends, blob_of, cut, debt, feed, follow, go_to, is_idle, past, run, taken_up, unkept}
+use Rattle.std.proofs.lemmas.Bool.{cond_both}
+use Rattle.ion_tokens.specs.Names.{Action, Answers, Given, Known, Left, Next, Outcome, Place, Refusal, Refused, Scan, Token, acts, answered, blob_ends, blob_of, debt, feed, follow, is_idle, run, taken_up, unkept}
 use Rattle.ion_tokens.specs.machine.Table.{next}
 use Rattle.ion_tokens.proofs.bounds.Fits.{Fits, added, is_fresh, is_nothing, table_fits}
 use Rattle.ion_tokens.proofs.bounds.Steady.{ended_well, le_of, les_of, went_well}
@@ -11,9 +12,7 @@ use Rattle.ion_tokens.proofs.runs.Runs.{Between, acts_between, run_between}
 pub took_one : (x : Outcome) (before n used : ℕ) → Between x used 1 → used ≡ before + n → taken_up before x ≡ n + 1
 unfolding Between
 took_one (Next s) before n used h e = omega arith
-took_one (Given l s) before n used h e = omega arith
-took_one (Left l s) before n used h e = omega arith
-took_one (Refused at r) before n used h e = omega arith
+took_one _ before n used h e = omega arith
 
 -- Where so many octets could be taken up again, behind `before` that were used, what comes leaves at most as many more as were used, and
 -- fewer where a token came.
@@ -37,11 +36,9 @@ acts_owes p s o (Action.Give kind k) f = omega arith
 acts_owes p s o (Action.Before kind k m) f =
     let t = ended_well (debt m) (debt s.mode) (unkept m) (unkept s.mode) (is_fresh m) f.is in
     omega arith
-acts_owes p s o Action.EndWord f = one ((o == 46) && bytes_eq s.kept (codes "null")) where
-  one : (b : Bool) → Owes (debt s.mode) s.used (cond b (Next (go_to s Mode.KindName []))
-      (Left (cut s TokenKind.Word s.kept s.used) (past p TokenKind.Word Mode.Blank [] s.used s.used)))
-  one true = omega arith
-  one false = let t = le_of 1 (debt s.mode) f.is in omega arith
+acts_owes p s o Action.EndWord f =
+    cond_both ((o == 46) && bytes_eq s.kept (codes "null")) _ _ (Owes (debt s.mode) s.used) (λ _. omega arith)
+    (λ _. let t = le_of 1 (debt s.mode) f.is in omega arith)
 acts_owes p s o (Action.Split letters) f = let t = les_of letters (unkept s.mode) 2 (debt s.mode) f.is in omega arith
 acts_owes p s o Action.EndBlob f = blob_owes s (blob_of s.kept)
 acts_owes p s o (Action.Refuse e) f = tt
@@ -50,18 +47,15 @@ acts_owes p s o (Action.Refuse e) f = tt
 owes_next : (x : Outcome) (owed before now used n : ℕ) → used ≡ before + 1 → now ≤ owed + (used - before) → Between x used n → Owes now used x
     → Owes owed before x
 unfolding Owes Between
-owes_next (Next s) owed before now used n e d b h = omega arith
-owes_next (Given l s) owed before now used n e d b h = omega arith
-owes_next (Left l s) owed before now used n e d b h = omega arith
 owes_next (Refused at r) owed before now used n e d b h = tt
+owes_next _ owed before now used n e d b h = omega arith
 
 owes_follow : (x : Outcome) (f : Known → Outcome) (owed before n : ℕ) → Between x before 1 → Owes owed before x → ((t : Known) → Between (f t) t.used n)
     → ((t : Known) → Owes (debt t.mode) t.used (f t)) → Owes owed before (follow x f)
 unfolding Owes Between
 owes_follow (Next s) f owed before n b h between more = owes_next (f s) owed before (debt s.mode) s.used n b h (between s) (more s)
-owes_follow (Given l s) f owed before n b h between more = h
-owes_follow (Left l s) f owed before n b h between more = h
 owes_follow (Refused at r) f owed before n b h between more = tt
+owes_follow _ f owed before n b h between more = h
 
 -- a run adds no more to what may be taken up again than it used, and less where a token came
 pub run_owes : (p : Place) (os : List ℕ) (s : Known) → Owes (debt s.mode) s.used (run p os s)

@@ -21,28 +21,16 @@ length_encoded c = let e : length (encode_utf8 c) ≡ len_utf8 c = length-encode
 -- no more is added than the table counts
 length_kept : (k : Keep) (kept : List ℕ) → length (kept_after k kept) ≤ length kept + added k
 length_kept Keep.Nothing kept = omega arith
-length_kept (Keep.One o) kept = simp length-append (omega arith)
-length_kept (Keep.Two o p) kept = simp length-append (omega arith)
 length_kept (Keep.Character c) kept = let h = length_encoded c in simp length-append (omega arith)
 length_kept Keep.DropQuotes kept = let h = length-take (length kept - 2) kept in omega arith
+length_kept _ kept = simp length-append (omega arith)
 
 -- nothing is kept where no token has begun
 idle_go : (k : Keep) (i j : Bool) (kept : List ℕ) → (not j || (i && is_nothing k)) ≡ true → (i ≡ true → kept ≡ []) → j ≡ true → kept_after k kept ≡ []
+idle_go k i false kept h n e = cc
+idle_go k false true kept h n e = cc
 idle_go Keep.Nothing true true kept h n e = n refl
-idle_go Keep.Nothing false true kept h n e = cc
-idle_go Keep.Nothing i false kept h n e = cc
-idle_go (Keep.One _) true true kept h n e = cc
-idle_go (Keep.One _) false true kept h n e = cc
-idle_go (Keep.One _) i false kept h n e = cc
-idle_go (Keep.Two _ _) true true kept h n e = cc
-idle_go (Keep.Two _ _) false true kept h n e = cc
-idle_go (Keep.Two _ _) i false kept h n e = cc
-idle_go (Keep.Character _) true true kept h n e = cc
-idle_go (Keep.Character _) false true kept h n e = cc
-idle_go (Keep.Character _) i false kept h n e = cc
-idle_go Keep.DropQuotes true true kept h n e = cc
-idle_go Keep.DropQuotes false true kept h n e = cc
-idle_go Keep.DropQuotes i false kept h n e = cc
+idle_go _ true true kept h n e = cc
 
 -- the open token's place, behind the next octet
 within_go : (m : Mode) (kept x u : ℕ) → (is_idle m ≡ true → kept ≡ 0) → kept + unkept m + x ≤ u + 1 → kept + unkept m + start_of m x (u + 1) ≤ u + 1

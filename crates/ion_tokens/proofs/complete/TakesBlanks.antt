@@ -2,8 +2,7 @@
 use Rattle.std.proofs.Common.{◌≡◌, ◌≢◌, ℕ, ◌+◌, ◌-◌, inl, inr, ⊎_elim, Bool, true, false, List, [], ◌∷◌, ◌++◌, length, refl, sym, ap, ◌∙◌, subst, arith, append_assoc, append-nil, length-append, cond}
 use Rattle.std.specs.Prelude.{◌==◌, ◌&&◌, not, codes, None, Ok}
 use Rattle.std.specs.List.{flat_map, AllByRecursion}
-use Rattle.std.proofs.lemmas.Bool.{false≢true, true≢false}
-use Rattle.std.proofs.lemmas.Bool.Decides.{nat_tests}
+use Rattle.std.proofs.lemmas.Bool.{false≢true, true≢false, ne_eqb}
 use Rattle.ion_tokens.specs.Names.{Action, BlankPiece, BlockComment, HasNoClose, HasNoLineEnd, IsBlank, IsBlankPiece, IsLastBlank, Keep, Known, LineComment, Mode, Next, Place, White, acts, at_end, blank_spelling, follow, go, in_blank, is_line_end, is_white, run}
 use Rattle.ion_tokens.specs.machine.Table.{next}
 use Rattle.ion_tokens.proofs.complete.Moves.{Moves, Opens, at, blank, moves_one, moves_past, moves_then, opens_then}
@@ -81,17 +80,14 @@ block_one : (p : Place) (star star' : Bool) (o : ℕ) → ((c : Bool) → next p
 block_one p false star' o f = moves_one p Mode.BlockComment o [] (block_mode star') Keep.Nothing (λ s u. refl) f
 block_one p true star' o f = moves_one p Mode.BlockCommentStar o [] (block_mode star') Keep.Nothing (λ s u. refl) f
 
-not_same : (a b : ℕ) → a ≢ b → (a == b) ≡ false
-not_same a b n = grind (arith, nat_tests)
-
 block_star : (p : Place) (star : Bool) (c : Bool) → next p c (block_mode star) 42 ≡ Action.Go Mode.BlockCommentStar Keep.Nothing
 block_star p false c = refl
 block_star p true c = refl
 
 block_other : (p : Place) (star : Bool) (o : ℕ) (c : Bool) → o ≢ 42 → (star ≡ true → o ≢ 47) → next p c (block_mode star) o
     ≡ Action.Go Mode.BlockComment Keep.Nothing
-block_other p false o c n h = ap (λ b. go (cond b Mode.BlockCommentStar Mode.BlockComment)) (not_same o 42 n)
-block_other p true o c n h = rw (not_same o 42 n, not_same o 47 (h refl))
+block_other p false o c n h = ap (λ b. go (cond b Mode.BlockCommentStar Mode.BlockComment)) (ne_eqb o 42 n)
+block_other p true o c n h = rw (ne_eqb o 42 n, ne_eqb o 47 (h refl))
 
 no_slash : (star : Bool) (o : ℕ) (os : List ℕ) → GoesOn star (o ∷ os) → star ≡ true → o ≢ 47
 no_slash true o os h s e = absurd (true≢false (sym (ap (λ (x : ℕ). (42 == 42) && (x == 47)) e) ∙ h.0))

@@ -7,7 +7,7 @@ use Rattle.base64.specs.Engines.{standard}
 use Rattle.base64.specs.GeneralPurpose.{decode_of, decoded_of}
 use Rattle.std.specs.Result.{result_ok}
 use Rattle.base64.proofs.EngineFacts.{decode_of-encode_of}
-use Rattle.ion_tokens.specs.Names.{Action, BeginsSegment, Each, IsBase64, IsBlobContent, IsClobContent, IsQuoted, IsSegment, Keep, Lob, LongTexts, Mode, Place, Segment, ShortText, Style, TokenKind, Within, after_long, after_short, blob_ends, blob_of, follow, in_lob, in_text, is_base64, is_name, is_white, kept_after, lob_start, run, segment_spelling}
+use Rattle.ion_tokens.specs.Names.{Action, BeginsSegment, Each, IsBase64, IsBlobContent, IsClobContent, IsQuoted, IsSegment, Keep, Lob, LongTexts, Mode, Place, Segment, ShortText, Style, TokenKind, Within, blob_ends, blob_of, follow, in_text, is_base64, is_name, is_white, kept_after, lob_start, run, segment_spelling}
 use Rattle.ion_tokens.specs.laws.Blobs.{octet_at}
 use Rattle.ion_tokens.proofs.complete.Moves.{Moves, Opens, Takes, at, moves_none, moves_one, moves_past, moves_then, moves_to, opens_then, takes_now}
 use Rattle.ion_tokens.proofs.complete.TakesTexts.{drops_two, long_quotes}
@@ -28,22 +28,10 @@ start_white o h = rw h
 pub white_moves : (p : Place) (before : List ℕ) → Each is_white before → Moves p (lob Lob.Start) [] before (lob Lob.Start) []
 white_moves p before b = moves_past p (lob Lob.Start) is_white before [] (λ s u. refl) (λ o h c. start_white o h) b
 
-short_white : (o : ℕ) → is_white o ≡ true → after_short o ≡ Action.Go (lob Lob.AfterShort) Keep.Nothing
-short_white o h = rw h
-
-long_white : (o : ℕ) → is_white o ≡ true → after_long o ≡ Action.Go (lob Lob.AfterLong) Keep.Nothing
-long_white o h = rw h
-
 short_closes : (v : Within) → Ended v → in_text Style.ShortClob v 34 ≡ Action.Go (lob Lob.AfterShort) Keep.Nothing
 short_closes Within.Plain h = refl
 short_closes Within.AfterReturn h = refl
-short_closes Within.OneQuote h = absurd h
-short_closes Within.TwoQuotes h = absurd h
-short_closes (Within.Utf8 _ _ _) h = absurd h
-short_closes Within.Escape h = absurd h
-short_closes (Within.Hexadecimal _ _ _) h = absurd h
-short_closes (Within.HighSurrogate _) h = absurd h
-short_closes (Within.HighSurrogateEscape _) h = absurd h
+short_closes _ h = absurd h
 
 -- a short clob's content up to the first brace of its close, where its text leads from between two characters to between two
 pub short_leads : (p : Place) (before text after octets : List ℕ) (v : Within) → Each is_white before → Ended v
@@ -58,7 +46,7 @@ short_leads p before text after octets v b ended leads a =
     (moves_one p (lob Lob.Start) 34 [] (Mode.Text Style.ShortClob Within.Plain) Keep.Nothing (λ s u. refl) (λ c. refl)) leads))
     (moves_then p (Mode.Text Style.ShortClob v) (lob Lob.AfterShort) (lob Lob.AfterShort) (34 ∷ []) after octets octets octets
     (moves_one p (Mode.Text Style.ShortClob v) 34 octets (lob Lob.AfterShort) Keep.Nothing (λ s u. refl) (λ c. short_closes v ended))
-    (moves_past p (lob Lob.AfterShort) is_white after octets (λ s u. refl) (λ o h c. short_white o h) a)))
+    (moves_past p (lob Lob.AfterShort) is_white after octets (λ s u. refl) (λ o h c. rw h) a)))
     (moves_one p (lob Lob.AfterShort) 125 octets (lob Lob.ClobClose) Keep.Nothing (λ s u. refl) (λ c. refl))
 
 short_moves : (p : Place) (before text after octets : List ℕ) → Each is_white before → IsQuoted Style.ShortClob text octets → Each is_white after
@@ -73,14 +61,7 @@ three_quotes p Lob.Start kept b = λ colon start used r. let three : ((used + 1)
     ap (λ (n : ℕ). run p r (at (Mode.Text Style.LongClob Within.Plain) kept colon start n)) three
 three_quotes p Lob.AfterLong kept b = λ colon start used r. let three : ((used + 1) + 1) + 1 ≡ used + 3 = omega arith in
     ap (λ (n : ℕ). run p r (at (Mode.Text Style.LongClob Within.Plain) kept colon start n)) three
-three_quotes p Lob.StartQuote kept b = absurd b
-three_quotes p Lob.StartQuotes kept b = absurd b
-three_quotes p Lob.Base64 kept b = absurd b
-three_quotes p Lob.BlobClose kept b = absurd b
-three_quotes p Lob.AfterShort kept b = absurd b
-three_quotes p Lob.AfterQuote kept b = absurd b
-three_quotes p Lob.AfterQuotes kept b = absurd b
-three_quotes p Lob.ClobClose kept b = absurd b
+three_quotes p _ kept b = absurd b
 
 segment_cut : (text white : List ℕ) → (39 ∷ 39 ∷ 39 ∷ []) ++ (((text ++ 39 ∷ 39 ∷ []) ++ 39 ∷ []) ++ white) ≡ codes "'''" ++ text ++ codes "'''" ++ white
 segment_cut text white = ap (λ l. 39 ∷ 39 ∷ 39 ∷ (l ++ white)) (append_assoc text (39 ∷ 39 ∷ []) (39 ∷ []))
@@ -103,7 +84,7 @@ segment_leads p l v text white kept kept' b ended leads w =
     (moves_to p (Mode.Text Style.LongClob Within.TwoQuotes) (lob Lob.AfterLong) (39 ∷ []) open_end (kept_after Keep.DropQuotes open_end) kept'
     (drops_two kept' 39 39)
     (moves_one p (Mode.Text Style.LongClob Within.TwoQuotes) 39 open_end (lob Lob.AfterLong) Keep.DropQuotes (λ s u. refl) (λ c. refl))))
-    (moves_past p (lob Lob.AfterLong) is_white white kept' (λ s u. refl) (λ o h c. long_white o h) w)))
+    (moves_past p (lob Lob.AfterLong) is_white white kept' (λ s u. refl) (λ o h c. rw h) w)))
 
 segment_moves : (p : Place) (l : Lob) (kept : List ℕ) (g : Segment) → BeginsSegment l → IsSegment g
     → Moves p (lob l) kept (segment_spelling g) (lob Lob.AfterLong) (kept ++ g.octets)
@@ -165,15 +146,6 @@ AnyBlob o = is_white o || is_base64 o
 solid : List ℕ → List ℕ
 solid os = filter (λ o. not (is_white o)) os
 
-base_first : (o : ℕ) → is_base64 o ≡ true → lob_start o ≡ Action.Go (lob Lob.Base64) (Keep.One o)
-base_first o h = grind (arith, nat_tests)
-
-base_more : (o : ℕ) → is_base64 o ≡ true → in_lob Lob.Base64 o ≡ Action.Go (lob Lob.Base64) (Keep.One o)
-base_more o h = grind (arith, nat_tests)
-
-base_white : (o : ℕ) → is_white o ≡ true → in_lob Lob.Base64 o ≡ Action.Go (lob Lob.Base64) Keep.Nothing
-base_white o h = rw h
-
 base_moves : (p : Place) (os kept : List ℕ) → Each AnyBlob os → Moves p (lob Lob.Base64) kept os (lob Lob.Base64) (kept ++ solid os)
 unfolding solid
 base_moves p [] kept h = moves_to p (lob Lob.Base64) (lob Lob.Base64) [] kept kept (kept ++ []) (sym (append-nil kept)) (moves_none p (lob Lob.Base64) kept)
@@ -181,11 +153,11 @@ base_moves p (o ∷ os) kept h = by (is_white o) refl h.0 (λ k. base_moves p os
   by : (b : Bool) → is_white o ≡ b → (b || is_base64 o) ≡ true → ((k : List ℕ) → Moves p (lob Lob.Base64) k os (lob Lob.Base64) (k ++ solid os))
       → Moves p (lob Lob.Base64) kept (o ∷ os) (lob Lob.Base64) (kept ++ cond (not b) (o ∷ solid os) (solid os))
   by true e g f = moves_then p (lob Lob.Base64) (lob Lob.Base64) (lob Lob.Base64) (o ∷ []) os kept kept (kept ++ solid os)
-      (moves_one p (lob Lob.Base64) o kept (lob Lob.Base64) Keep.Nothing (λ s u. refl) (λ c. base_white o e)) (f kept)
+      (moves_one p (lob Lob.Base64) o kept (lob Lob.Base64) Keep.Nothing (λ s u. refl) (λ c. rw e)) (f kept)
   by false e g f = moves_to p (lob Lob.Base64) (lob Lob.Base64) (o ∷ os) kept ((kept ++ o ∷ []) ++ solid os) (kept ++ o ∷ solid os)
       (append_assoc kept (o ∷ []) (solid os))
       (moves_then p (lob Lob.Base64) (lob Lob.Base64) (lob Lob.Base64) (o ∷ []) os kept (kept ++ o ∷ []) ((kept ++ o ∷ []) ++ solid os)
-      (moves_one p (lob Lob.Base64) o kept (lob Lob.Base64) (Keep.One o) (λ s u. refl) (λ c. base_more o g)) (f (kept ++ o ∷ [])))
+      (moves_one p (lob Lob.Base64) o kept (lob Lob.Base64) (Keep.One o) (λ s u. refl) (λ c. grind (arith, nat_tests))) (f (kept ++ o ∷ [])))
 
 -- where a blob may end
 abbrev LobEnds : Lob → Type 0
@@ -211,21 +183,14 @@ start_moves p (o ∷ os) h = by (is_white o) refl h.0 (start_moves p os h.1) whe
     Lob.Base64,
     tt,
     moves_then p (lob Lob.Start) (lob Lob.Base64) (lob Lob.Base64) (o ∷ []) os [] (o ∷ []) (o ∷ solid os)
-        (moves_one p (lob Lob.Start) o [] (lob Lob.Base64) (Keep.One o) (λ s u. refl) (λ c. base_first o g)) (base_moves p os (o ∷ []) h.1),
+        (moves_one p (lob Lob.Start) o [] (lob Lob.Base64) (Keep.One o) (λ s u. refl) (λ c. grind (arith, nat_tests))) (base_moves p os (o ∷ []) h.1),
   )
 
 blob_closes : (p : Place) (l : Lob) (kept octets : List ℕ) → LobEnds l → blob_of kept ≡ Some octets
     → Moves p (lob l) kept (125 ∷ []) (lob Lob.BlobClose) octets
 blob_closes p Lob.Start kept octets h e = λ colon start used r. ap (λ x. follow (blob_ends (at (lob Lob.Start) kept colon start used) x) (λ t. run p r t)) e
 blob_closes p Lob.Base64 kept octets h e = λ colon start used r. ap (λ x. follow (blob_ends (at (lob Lob.Base64) kept colon start used) x) (λ t. run p r t)) e
-blob_closes p Lob.StartQuote kept octets h e = absurd h
-blob_closes p Lob.StartQuotes kept octets h e = absurd h
-blob_closes p Lob.BlobClose kept octets h e = absurd h
-blob_closes p Lob.AfterShort kept octets h e = absurd h
-blob_closes p Lob.AfterLong kept octets h e = absurd h
-blob_closes p Lob.AfterQuote kept octets h e = absurd h
-blob_closes p Lob.AfterQuotes kept octets h e = absurd h
-blob_closes p Lob.ClobClose kept octets h e = absurd h
+blob_closes p _ kept octets h e = absurd h
 
 -- RFC 4648's text of octets decodes to them
 pub blob_known : (text octets : List ℕ) → IsBase64 text octets → blob_of text ≡ Some octets

@@ -1,11 +1,10 @@
 -- Operators are read as they are spelled.
 use Rattle.std.proofs.Common.{◌≡◌, ◌≢◌, ℕ, ◌+◌, ◌-◌, ◌<◌, ◌⊎◌, inl, inr, ⊎_elim, Bool, true, false, List, [], ◌∷◌, ◌++◌, length, refl, sym, ap, ◌∙◌, subst, arith, append_assoc, append-nil, length-append, cond}
 use Rattle.std.specs.Prelude.{◌==◌, ◌&&◌, ◌||◌, not, codes, take, Some, Ok}
-use Rattle.std.proofs.lemmas.Bool.{false≢true, true≢false}
+use Rattle.std.proofs.lemmas.Bool.{false≢true, true≢false, ne_eqb, or_parts}
 use Rattle.std.proofs.lemmas.Bool.Decides.{nat_tests}
 use Rattle.ion_tokens.specs.Names.{Action, Each, Ending, IsOperator, Keep, Left, Mode, Next, Place, TokenKind, acts, begins, begins_comment, begins_infinity, comment_within, follow, in_blank, in_infinity, in_operator, in_operator_slash, in_slash, is_digit, is_operator_octet, is_plain_operator, is_sexp, is_word_octet, past, run, run_ending}
 use Rattle.ion_tokens.specs.Lexemes.{ends}
-use Rattle.ion_tokens.specs.machine.Table.{next}
 use Rattle.ion_tokens.proofs.complete.Moves.{AtEnd, Later, Moves, Now, Open, Opens, Resumes, Takes, at, blank, lexeme, moves_none, moves_one, moves_then, moves_to, opens_one, opens_then, takes_end, takes_left}
 use Rattle.ion_tokens.proofs.complete.TakesWords.{takes_before_slash}
 use Rattle.ion_tokens.proofs.texts.TextsComplete.{bool_cases, eq_or}
@@ -29,12 +28,6 @@ run_ends xs o = by (o == 43) (o == 45) refl refl where
   by false true e f = (ends_last (λ o. o == 45) xs o ∙ f, ends_last (λ o. (o == 43) || (o == 45)) xs o ∙ (λ i. e i || f i))
   by false false e f = tt
 
-op_step : (e : Ending) (c : ℕ) → is_operator_octet c ≡ true → c ≢ 47 → in_operator Place.Sexp e c ≡ Action.Go (Mode.Operator (run_ending c)) (Keep.One c)
-op_step e c h n = grind (arith, nat_tests)
-
-op_after_slash : (c : ℕ) → is_operator_octet c ≡ true → c ≢ 47 → c ≢ 42 → in_operator_slash c ≡ Action.Go (Mode.Operator (run_ending c)) (Keep.Two 47 c)
-op_after_slash c h n m = grind (arith, nat_tests)
-
 -- how the run goes on over these octets
 data OpTo (front : List ℕ) (e : Ending) (os r : List ℕ) : Type 0 where
   InRun : (e' : Ending) → EndsAs e' (front ++ os) → Moves Place.Sexp (Mode.Operator e) front os (Mode.Operator e') (front ++ os) → OpTo front e os r
@@ -51,7 +44,7 @@ op_behind front xs ys r e e1 m (InSlash kept h c n) = InSlash kept (sym (append_
 
 op_one : (front : List ℕ) (e : Ending) (o : ℕ) → is_operator_octet o ≡ true → o ≢ 47
     → Moves Place.Sexp (Mode.Operator e) front (o ∷ []) (Mode.Operator (run_ending o)) (front ++ o ∷ [])
-op_one front e o h n = moves_one Place.Sexp (Mode.Operator e) o front (Mode.Operator (run_ending o)) (Keep.One o) (λ s u. refl) (λ c. op_step e o h n)
+op_one front e o h n = moves_one Place.Sexp (Mode.Operator e) o front (Mode.Operator (run_ending o)) (Keep.One o) (λ s u. refl) (λ c. grind (arith, nat_tests))
 
 slash_one : (front : List ℕ) (e : Ending) → Moves Place.Sexp (Mode.Operator e) front (47 ∷ []) Mode.OperatorSlash front
 slash_one front e = moves_one Place.Sexp (Mode.Operator e) 47 front Mode.OperatorSlash Keep.Nothing (λ s u. refl) (λ c. refl)
@@ -65,11 +58,7 @@ op_two front e c h n m = moves_to Place.Sexp (Mode.Operator e) (Mode.Operator (r
     (front ++ 47 ∷ c ∷ []) (two_kept front 47 c)
     (moves_then Place.Sexp (Mode.Operator e) Mode.OperatorSlash (Mode.Operator (run_ending c)) (47 ∷ []) (c ∷ []) front front ((front ++ 47 ∷ []) ++ c ∷ [])
     (slash_one front e)
-    (moves_one Place.Sexp Mode.OperatorSlash c front (Mode.Operator (run_ending c)) (Keep.Two 47 c) (λ s u. refl) (λ b. op_after_slash c h n m)))
-
-or_false : (a b : Bool) → (a || b) ≡ false → (a ≡ false) × (b ≡ false)
-or_false false b h = (refl, h)
-or_false true b h = absurd (true≢false h)
+    (moves_one Place.Sexp Mode.OperatorSlash c front (Mode.Operator (run_ending c)) (Keep.Two 47 c) (λ s u. refl) (λ b. grind (arith, nat_tests))))
 
 -- behind a / within an operator no comment's second octet stands
 no_comment : (c : ℕ) → ((c == 47) || (c == 42)) ≡ false → (c ≢ 47) × (c ≢ 42)
@@ -81,13 +70,13 @@ op_moves [] front r e h each apart = InRun e (subst (λ l. EndsAs e l) (sym (app
     (moves_none Place.Sexp (Mode.Operator e) front))
 op_moves (o ∷ []) front r e h each apart = ⊎_elim
     (λ (i : o ≡ 47). subst (λ (x : ℕ). OpTo front e (x ∷ []) r) (sym i)
-    (InSlash front refl (or_false (begins_comment (47 ∷ r)) false (subst (λ (x : ℕ). comment_within (x ∷ []) r ≡ false) i apart)).0 (slash_one front e)))
+    (InSlash front refl (or_parts (begins_comment (47 ∷ r)) false (subst (λ (x : ℕ). comment_within (x ∷ []) r ≡ false) i apart)).0 (slash_one front e)))
     (λ n. InRun (run_ending o) (run_ends front o) (op_one front e o each.0 n)) (eq_or o 47)
 op_moves (o ∷ c ∷ os) front r e h each apart = ⊎_elim
     (λ i. slash i (op_moves os (front ++ 47 ∷ c ∷ []) r (run_ending c)))
     (λ n. op_behind front (o ∷ []) (c ∷ os) r e (run_ending o) (op_one front e o each.0 n)
     (op_moves (c ∷ os) (front ++ o ∷ []) r (run_ending o) (run_ends front o) each.1
-    (or_false (begins_comment (o ∷ c ∷ os ++ r)) (comment_within (c ∷ os) r) apart).1))
+    (or_parts (begins_comment (o ∷ c ∷ os ++ r)) (comment_within (c ∷ os) r) apart).1))
     (eq_or o 47)
   where
     slash : o ≡ 47 → (EndsAs (run_ending c) (front ++ 47 ∷ c ∷ []) → Each is_operator_octet os → comment_within os r ≡ false
@@ -95,12 +84,12 @@ op_moves (o ∷ c ∷ os) front r e h each apart = ⊎_elim
     slash i f =
         let within : comment_within (47 ∷ c ∷ os) r ≡ false = subst (λ (x : ℕ). comment_within (x ∷ c ∷ os) r ≡ false) i apart in
         let parts : (((c == 47) || (c == 42)) ≡ false) × (comment_within (c ∷ os) r ≡ false) =
-        or_false ((c == 47) || (c == 42)) (comment_within (c ∷ os) r) within in
+        or_parts ((c == 47) || (c == 42)) (comment_within (c ∷ os) r) within in
         let n : (c ≢ 47) × (c ≢ 42) = no_comment c parts.0 in
         let last : EndsAs (run_ending c) (front ++ 47 ∷ c ∷ []) = subst (λ l. EndsAs (run_ending c) l) (two_kept front 47 c) (run_ends (front ++ 47 ∷ []) c) in
         subst (λ (x : ℕ). OpTo front e (x ∷ c ∷ os) r) (sym i)
         (op_behind front (47 ∷ c ∷ []) os r e (run_ending c) (op_two front e c each.1.0 n.0 n.1)
-        (f last each.1.1 (or_false (begins_comment (c ∷ os ++ r)) (comment_within os r) parts.1).1))
+        (f last each.1.1 (or_parts (begins_comment (c ∷ os ++ r)) (comment_within os r) parts.1).1))
 
 -- what ends a run
 abbrev Run : Bool → List ℕ → Ending → Type 0
@@ -114,21 +103,7 @@ digit_ends e x d (inr i) = subst (λ e. in_operator Place.Sexp e x ≡ Action.Be
 -- an octet of no operator that begins neither a number nor `inf` nor a comment ends one
 pub other_ends : (e : Ending) (x : ℕ) → is_digit x ≡ false → x ≢ 105 → x ≢ 47 → is_operator_octet x ≡ false → in_operator Place.Sexp e x
     ≡ Action.Before TokenKind.Operator Keep.Nothing Mode.Blank
-other_ends e x d i s o = by (is_digit x) (x == 105) (x == 47) (is_operator_octet x) d (not_is x 105 i) (not_is x 47 s) o where
-  not_is : (a b : ℕ) → a ≢ b → (a == b) ≡ false
-  not_is a b n = grind (arith, nat_tests)
-
-  by : (d i s o : Bool) → d ≡ false → i ≡ false → s ≡ false → o ≡ false
-      → cond d (Rattle.ion_tokens.specs.machine.Table.digit_behind Place.Sexp e x)
-      (cond (i && not (Rattle.ion_tokens.specs.machine.Table.is_other e)) (Rattle.ion_tokens.specs.machine.Table.go (Mode.Infinity 1))
-      (cond s (Rattle.ion_tokens.specs.machine.Table.go Mode.OperatorSlash)
-      (cond o (Rattle.ion_tokens.specs.machine.Table.add (Mode.Operator (run_ending x)) x) (Rattle.ion_tokens.specs.machine.Table.before TokenKind.Operator))))
-      ≡ Action.Before TokenKind.Operator Keep.Nothing Mode.Blank
-  by false false false false a b c d = refl
-  by true i s o a b c d = absurd (true≢false a)
-  by false true s o a b c d = absurd (true≢false b)
-  by false false true o a b c d = absurd (true≢false c)
-  by false false false true a b c d = absurd (true≢false d)
+other_ends e x d i s o = rw (o, d, ne_eqb x 105 i, ne_eqb x 47 s) refl
 
 -- an operator, read from a blank in an s-expression
 abbrev Read : Bool → List ℕ → List ℕ → Type 0
@@ -157,23 +132,15 @@ resumes_inf : Resumes (105 ∷ 110 ∷ 102 ∷ []) Mode.Word (105 ∷ 110 ∷ 10
 resumes_inf p colon end = let three : ((end + 1) + 1) + 1 ≡ end + 3 = omega arith in
     ap (λ (n : ℕ). Next (at Mode.Word (105 ∷ 110 ∷ 102 ∷ []) colon end n)) three
 
-not_same : (a b : ℕ) → a ≢ b → (a == b) ≡ false
-not_same a b n = grind (arith, nat_tests)
-
 split_one : (x : ℕ) → x ≢ 110 → in_infinity Place.Sexp 1 x ≡ Action.Split 1
-split_one x n = rw (not_same x 110 n)
+split_one x n = rw (ne_eqb x 110 n)
 
 split_two : (x : ℕ) → x ≢ 102 → in_infinity Place.Sexp 2 x ≡ Action.Split 2
-split_two x n = rw (not_same x 102 n)
-
-split_three : (x : ℕ) → is_word_octet x ≡ true → in_infinity Place.Sexp 3 x ≡ Action.Split 3
-split_three x h = rw h
+split_two x n = rw (ne_eqb x 102 n)
 
 i_opens : (e : Ending) → (e ≢ Ending.Other) → in_operator Place.Sexp e 105 ≡ Action.Go (Mode.Infinity 1) Keep.Nothing
-i_opens Ending.LoneMinus n = refl
-i_opens Ending.Minus n = refl
-i_opens Ending.Plus n = refl
 i_opens Ending.Other n = absurd (n refl)
+i_opens _ n = refl
 
 letter_on : (w : List ℕ) (n m x : ℕ) → in_infinity Place.Sexp n x ≡ Action.Go (Mode.Infinity m) Keep.Nothing
     → Moves Place.Sexp (Mode.Infinity n) w (x ∷ []) (Mode.Infinity m) w
@@ -196,7 +163,7 @@ takes_infinity colon w e rest f n h = one rest h where
 
   three : (rest : List ℕ) → begins_infinity (105 ∷ 110 ∷ 102 ∷ rest) ≡ false → Read colon w (105 ∷ 110 ∷ 102 ∷ rest)
   three [] h = absurd (true≢false h)
-  three (x ∷ rest) h = ⊎_elim (λ word. takes_split colon w (105 ∷ 110 ∷ 102 ∷ []) 3 x rest opens3 (split_three x word) refl refl resumes_inf)
+  three (x ∷ rest) h = ⊎_elim (λ word. takes_split colon w (105 ∷ 110 ∷ 102 ∷ []) 3 x rest opens3 (rw word) refl refl resumes_inf)
       (λ none. absurd (true≢false (sym (ap not none) ∙ h))) (bool_cases (is_word_octet x))
 
   two : (rest : List ℕ) → begins_infinity (105 ∷ 110 ∷ rest) ≡ false → Read colon w (105 ∷ 110 ∷ rest)
@@ -221,14 +188,11 @@ takes_infinity colon w e rest f n h = one rest h where
       (two rest (subst (λ (y : ℕ). begins_infinity (105 ∷ y ∷ rest) ≡ false) i h)))
       (λ n. takes_split colon w (105 ∷ []) 1 x rest opens1 (split_one x n) refl refl resumes_i) (eq_or x 110)
 
-op_slash_ends : (x : ℕ) → ((x == 47) || (x == 42)) ≡ true → in_operator_slash x ≡ Action.Before TokenKind.Operator Keep.Nothing Mode.Slash
-op_slash_ends x h = rw h
-
 -- a comment behind the operator
 comment_ends : (colon : Bool) (w : List ℕ) (e : Ending) (rest : List ℕ) → Run colon w e → begins_comment (47 ∷ rest) ≡ true → Read colon w (47 ∷ rest)
 comment_ends colon w e [] f h = absurd (false≢true h)
 comment_ends colon w e (x ∷ rest) f h = takes_before_slash Place.Sexp colon w x rest TokenKind.Operator Mode.OperatorSlash w (λ s u. refl)
-    (opens_then Place.Sexp colon w (47 ∷ []) (Mode.Operator e) Mode.OperatorSlash w w f (slash_one w e)) (λ c. op_slash_ends x h)
+    (opens_then Place.Sexp colon w (47 ∷ []) (Mode.Operator e) Mode.OperatorSlash w w f (slash_one w e)) (λ c. rw h)
 
 comment_first : (x : ℕ) (rest : List ℕ) → begins_comment (x ∷ rest) ≡ true → x ≡ 47
 comment_first x rest h = by (x == 47) refl h where
@@ -251,10 +215,9 @@ run_read colon w e (x ∷ rest) f h o =
     left_by e f g = takes_left Place.Sexp colon w x rest TokenKind.Operator (Mode.Operator e) w Keep.Nothing (λ s u. refl) f (λ c. g)
 
     digit : (e : Ending) → Run colon w e → EndsAs e w → is_digit x ≡ true → Read colon w (x ∷ rest)
-    digit Ending.LoneMinus f h d = absurd (true≢false (sym d ∙ o.no_number h.0))
-    digit Ending.Minus f h d = absurd (true≢false (sym d ∙ o.no_number h.0))
     digit Ending.Plus f h d = left_by Ending.Plus f (digit_ends Ending.Plus x d (inl refl))
     digit Ending.Other f h d = left_by Ending.Other f (digit_ends Ending.Other x d (inr refl))
+    digit _ f h d = absurd (true≢false (sym d ∙ o.no_number h.0))
 
     letter : (e : Ending) → Run colon w e → EndsAs e w → (ends (λ o. (o == 43) || (o == 45)) w ≡ true → begins_infinity (105 ∷ rest) ≡ false)
         → Read colon w (105 ∷ rest)
@@ -274,7 +237,7 @@ run_read colon w e (x ∷ rest) f h o =
 
 -- a run that ends in a / behind other characters
 slash_left : (x : ℕ) → x ≢ 47 → x ≢ 42 → is_operator_octet x ≡ false → in_operator_slash x ≡ Action.Before TokenKind.Operator (Keep.One 47) Mode.Blank
-slash_left x n m o = rw (o, not_same x 47 n, not_same x 42 m)
+slash_left x n m o = rw (o, ne_eqb x 47 n, ne_eqb x 42 m)
 
 after_slash : (r : List ℕ) (x : ℕ) (rest : List ℕ) → r ≡ x ∷ rest → begins_comment (47 ∷ r) ≡ false → (begins is_operator_octet r ≡ false)
     ⊎ (begins_comment r ≡ true) → (x ≢ 47) × (x ≢ 42) × (is_operator_octet x ≡ false)
@@ -340,7 +303,7 @@ lone_slash colon [] o = AtEnd refl (λ start used. (
       one,
 ))
 lone_slash colon (x ∷ r) o =
-    let n = after_slash (x ∷ r) x r refl (or_false (begins_comment (47 ∷ x ∷ r)) false o.apart).0 o.longest in
+    let n = after_slash (x ∷ r) x r refl (or_parts (begins_comment (47 ∷ x ∷ r)) false o.apart).0 o.longest in
     Later [] x r Mode.Blank [] refl Rattle.ion_tokens.proofs.complete.Moves.resumes_none (λ start used.
     let one : (used + 1) - 1 ≡ used = omega arith in
     let whole : (used + 1) - 0 ≡ used + 1 = omega arith in
@@ -350,7 +313,7 @@ lone_slash colon (x ∷ r) o =
     (past Place.Sexp TokenKind.Operator Mode.Blank [] (whole i) (none i))))
   where
     slash_lone : (x : ℕ) → x ≢ 47 → x ≢ 42 → is_operator_octet x ≡ false → in_slash Place.Sexp x ≡ Action.Before TokenKind.Operator (Keep.One 47) Mode.Blank
-    slash_lone x n m o = rw (o, not_same x 47 n, not_same x 42 m)
+    slash_lone x n m o = rw (o, ne_eqb x 47 n, ne_eqb x 42 m)
 
 in_sexp : (colon : Bool) (w r : List ℕ) → IsOperator w r → Read colon w r
 in_sexp colon [] r o = absurd (o.some refl)
@@ -362,24 +325,21 @@ in_sexp colon (x ∷ c ∷ os) r o = ⊎_elim
     (λ (i : x ≡ 47). subst (λ (y : ℕ). Read colon (y ∷ c ∷ os) r) (sym i) (slashed (subst (λ (y : ℕ). IsOperator (y ∷ c ∷ os) r) i o)))
     (λ n. run_on colon (x ∷ []) (c ∷ os) r (first_ending x)
     (opens_one Place.Sexp colon x (Mode.Operator (first_ending x)) (Keep.One x) (op_first colon x o.each.0 n))
-    (op_moves (c ∷ os) (x ∷ []) r (first_ending x) (first_ends x) o.each.1 (or_false (begins_comment (x ∷ c ∷ os ++ r)) (comment_within (c ∷ os) r) o.apart).1)
+    (op_moves (c ∷ os) (x ∷ []) r (first_ending x) (first_ends x) o.each.1 (or_parts (begins_comment (x ∷ c ∷ os ++ r)) (comment_within (c ∷ os) r) o.apart).1)
     o) (eq_or x 47)
   where
     slashed : IsOperator (47 ∷ c ∷ os) r → Read colon (47 ∷ c ∷ os) r
     slashed o =
         let parts : (((c == 47) || (c == 42)) ≡ false) × (comment_within (c ∷ os) r ≡ false) =
-        or_false ((c == 47) || (c == 42)) (comment_within (c ∷ os) r) o.apart in
+        or_parts ((c == 47) || (c == 42)) (comment_within (c ∷ os) r) o.apart in
         let n = no_comment c parts.0 in
         run_on colon (47 ∷ c ∷ []) os r (run_ending c) (opens_slashed colon c o.each.1.0 n.0 n.1)
-        (op_moves os (47 ∷ c ∷ []) r (run_ending c) (run_ends (47 ∷ []) c) o.each.1.1 (or_false (begins_comment (c ∷ os ++ r)) (comment_within os r) parts.1).1)
+        (op_moves os (47 ∷ c ∷ []) r (run_ending c) (run_ends (47 ∷ []) c) o.each.1.1 (or_parts (begins_comment (c ∷ os ++ r)) (comment_within os r) parts.1).1)
         o
 
 sexp_only : (p : Place) → is_sexp p ≡ true → p ≡ Place.Sexp
 sexp_only Place.Sexp h = refl
-sexp_only Place.Top h = absurd (false≢true h)
-sexp_only Place.List h = absurd (false≢true h)
-sexp_only Place.Name h = absurd (false≢true h)
-sexp_only Place.FieldValue h = absurd (false≢true h)
+sexp_only _ h = absurd (false≢true h)
 
 -- in an s-expression an operator is read as it is spelled, before what ends it
 pub takes_operator : (p : Place) (colon : Bool) (w r : List ℕ) → is_sexp p ≡ true → IsOperator w r → Takes p colon w r TokenKind.Operator w
@@ -393,13 +353,9 @@ low_operator o h = grind (arith, nat_tests)
 
 pub plain_is : (o : ℕ) → is_plain_operator o ≡ true → (is_operator_octet o ≡ true) × (o ≢ 47)
 plain_is o h = by (is_operator_octet o) (o == 47) refl refl h where
-  differs : (o == 47) ≡ false → o ≢ 47
-  differs e = grind (arith, nat_tests)
-
   by : (b c : Bool) → is_operator_octet o ≡ b → (o == 47) ≡ c → (b && not c) ≡ true → (is_operator_octet o ≡ true) × (o ≢ 47)
-  by false c e f h = absurd cc
-  by true false e f h = (e, differs f)
-  by true true e f h = absurd cc
+  by true false e f h = (e, grind (arith, nat_tests))
+  by _ _ e f h = absurd cc
 
 plain_moves : (os front : List ℕ) (e : Ending) → Each is_plain_operator os
     → (e' : Ending) × Moves Place.Sexp (Mode.Operator e) front os (Mode.Operator e') (front ++ os)

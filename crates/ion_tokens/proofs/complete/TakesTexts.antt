@@ -2,11 +2,10 @@
 use Rattle.std.proofs.Common.{◌≡◌, ◌≢◌, ℕ, ◌-◌, ⊎_elim, Bool, true, false, List, [], ◌∷◌, ◌++◌, length, refl, sym, ap, ◌∙◌, subst, arith, append_assoc, length-append, cond}
 use Rattle.std.specs.Prelude.{◌==◌, codes, take}
 use Rattle.std.specs.List.{flat_map, AllByRecursion}
-use Rattle.std.proofs.lemmas.Bool.{false≢true}
-use Rattle.std.proofs.lemmas.Bool.Decides.{nat_tests}
+use Rattle.std.proofs.lemmas.Bool.{false≢true, ne_eqb}
 use lib.Utf8.{encode, scalar_cases}
 use Rattle.std.proofs.Math.Seq.{take-append_seam}
-use Rattle.ion_tokens.specs.Names.{Action, Cr, CrLf, Element, Hex, Hidden, IsElement, IsQuoted, Keep, Known, Lf, LineEnd, Mode, Outcome, Pair, Place, Raw, RawLine, Simple, Style, TokenKind, Within, acts, begins, follow, go, in_text, is_long, kept_after, raw, run, spelling}
+use Rattle.ion_tokens.specs.Names.{Action, Element, Hidden, IsElement, IsQuoted, Keep, Known, Lf, Mode, Outcome, Place, Raw, RawLine, Style, TokenKind, Within, acts, begins, follow, go, in_text, is_long, kept_after, raw, run, spelling}
 use Rattle.ion_tokens.specs.machine.Table.{next}
 use Rattle.ion_tokens.proofs.complete.Moves.{Moves, Opens, Takes, at, moves_one, moves_then, opens_one, opens_then, takes_end, takes_left, takes_now}
 use Rattle.ion_tokens.proofs.texts.Encodings.{Encoding, encoding, four_octets, one_octet, three_octets, two_octets}
@@ -18,13 +17,7 @@ use Rattle.ion_tokens.proofs.texts.TextsComplete.{Ended, read_content}
 short_close : (v : Within) → Ended v → in_text Style.ShortString v 34 ≡ Action.Give TokenKind.ShortString Keep.Nothing
 short_close Within.Plain h = refl
 short_close Within.AfterReturn h = refl
-short_close Within.OneQuote h = absurd h
-short_close Within.TwoQuotes h = absurd h
-short_close (Within.Utf8 _ _ _) h = absurd h
-short_close Within.Escape h = absurd h
-short_close (Within.Hexadecimal _ _ _) h = absurd h
-short_close (Within.HighSurrogate _) h = absurd h
-short_close (Within.HighSurrogateEscape _) h = absurd h
+short_close _ h = absurd h
 
 -- a short string is read as the text that its content means
 pub takes_short : (p : Place) (colon : Bool) (content octets r : List ℕ) → IsQuoted Style.ShortString content octets
@@ -40,13 +33,7 @@ takes_short p colon content octets r q =
 symbol_close : (v : Within) → Ended v → in_text Style.QuotedSymbol v 39 ≡ Action.Give TokenKind.QuotedSymbol Keep.Nothing
 symbol_close Within.Plain h = refl
 symbol_close Within.AfterReturn h = refl
-symbol_close Within.OneQuote h = absurd h
-symbol_close Within.TwoQuotes h = absurd h
-symbol_close (Within.Utf8 _ _ _) h = absurd h
-symbol_close Within.Escape h = absurd h
-symbol_close (Within.Hexadecimal _ _ _) h = absurd h
-symbol_close (Within.HighSurrogate _) h = absurd h
-symbol_close (Within.HighSurrogateEscape _) h = absurd h
+symbol_close _ h = absurd h
 
 -- a `'` opens a quoted symbol or a long string
 pub opens_quote : (p : Place) (colon : Bool) → Opens p colon (39 ∷ []) Mode.Quote []
@@ -70,30 +57,17 @@ raw_other c n (four_octets x y z v l u f g h t e) = rw e ((λ f. cc), (λ i. ome
 element_other : (e : Element) → IsElement Style.QuotedSymbol e → (spelling e ≢ []) × BeginsOther (spelling e)
 element_other (Raw c) i = raw_other c (⊎_elim (λ l. absurd (false≢true l)) (λ n. n) i.2) (encoding c (scalar_cases c i.0))
 element_other (RawLine e) i = absurd (false≢true i)
-element_other (Simple letter o) i = ((λ f. cc), (λ i. omega arith))
 element_other (Hidden Lf) i = ((λ f. cc), (λ i. omega arith))
-element_other (Hidden Cr) i = ((λ f. cc), (λ i. omega arith))
-element_other (Hidden CrLf) i = ((λ f. cc), (λ i. omega arith))
-element_other (Hex letter os c) i = ((λ f. cc), (λ i. omega arith))
-element_other (Pair first second high low) i = ((λ f. cc), (λ i. omega arith))
+element_other _ i = ((λ f. cc), (λ i. omega arith))
 
 elements_other : (es : List Element) → AllByRecursion (IsElement Style.QuotedSymbol) es → BeginsOther (flat_map spelling es)
 elements_other [] h = tt
 elements_other (e ∷ es) h = let o = element_other e h.0 in begins_front (spelling e) (flat_map spelling es) o.0 o.1
 
--- behind the first quote a text that isn't empty is read as between quotes
-no_quote : (o : ℕ) → o ≢ 39 → (o == 39) ≡ false
-no_quote o n = grind (arith, nat_tests)
-
 same_quote : (p : Place) (colon : Bool) (start used o : ℕ) (f : Known → Outcome) (a : Action) → follow (acts p (at Mode.Quote [] colon start used) o a) f
     ≡ follow (acts p (at (Mode.Text Style.QuotedSymbol Within.Plain) [] colon start used) o a) f
 same_quote p colon start used o f (Action.Go m k) = refl
-same_quote p colon start used o f (Action.Give kind k) = refl
-same_quote p colon start used o f (Action.Before kind k m) = refl
-same_quote p colon start used o f Action.EndWord = refl
-same_quote p colon start used o f (Action.Split n) = refl
-same_quote p colon start used o f Action.EndBlob = refl
-same_quote p colon start used o f (Action.Refuse e) = refl
+same_quote p colon start used o f _ = refl
 
 -- behind the first quote, content that begins with no quote is read as that of a quoted symbol
 pub from_quote : (p : Place) (content octets : List ℕ) (v : Within) → content ≢ [] → BeginsOther content
@@ -101,7 +75,7 @@ pub from_quote : (p : Place) (content octets : List ℕ) (v : Within) → conten
 from_quote p [] octets v some other f = absurd (some refl)
 from_quote p (o ∷ os) octets v some other f = λ colon start used r.
     ap (λ b. follow (acts p (at Mode.Quote [] colon start used) o (cond b (go Mode.Quotes) (raw Style.QuotedSymbol o))) (λ t. run p (os ++ r) t))
-    (no_quote o other)
+    (ne_eqb o 39 other)
     ∙ same_quote p colon start used o (λ t. run p (os ++ r) t) (raw Style.QuotedSymbol o) ∙ f colon start used r
 
 -- behind two single quotes an octet that is none ends the empty symbol
@@ -148,13 +122,7 @@ takes_symbol p colon (x ∷ content) octets r q h =
 ended_quote : (s : Style) (v : Within) → is_long s ≡ true → Ended v → in_text s v 39 ≡ Action.Go (Mode.Text s Within.OneQuote) (Keep.One 39)
 ended_quote s Within.Plain l h = raw_quote s l
 ended_quote s Within.AfterReturn l h = raw_quote s l
-ended_quote s Within.OneQuote l h = absurd h
-ended_quote s Within.TwoQuotes l h = absurd h
-ended_quote s (Within.Utf8 _ _ _) l h = absurd h
-ended_quote s Within.Escape l h = absurd h
-ended_quote s (Within.Hexadecimal _ _ _) l h = absurd h
-ended_quote s (Within.HighSurrogate _) l h = absurd h
-ended_quote s (Within.HighSurrogateEscape _) l h = absurd h
+ended_quote s _ l h = absurd h
 
 -- the content of a long text, behind which it may end, and two of the quotes that close it
 pub long_quotes : (p : Place) (s : Style) (v : Within) (content kept kept' : List ℕ) → is_long s ≡ true → Ended v

@@ -5,12 +5,9 @@ use Rattle.std.specs.Str.{bytes_eq}
 use Rattle.std.proofs.lemmas.Bool.{false≢true}
 use Rattle.std.proofs.lemmas.Bool.Decides.{nat_tests}
 use Rattle.std.proofs.lemmas.Slice.Eq.{bytes_eq-Decides}
-use Rattle.ion_tokens.specs.Names.{Action, Each, Ending, IsNumeric, IsWord, Keep, Known, Left, Mark, MarkEnds, MarkStands, Mode, Next, Place, TokenKind, acts, add, before, begins, begins_comment, begins_number, begins_word, cut, follow, give, go, go_to, in_blank, in_kind_name, in_number, in_number_slash, in_operator, in_word, is_digit, is_name, is_stop, is_word_octet, mark_spelling, past, run}
+use Rattle.ion_tokens.specs.Names.{Action, Each, Ending, IsNumeric, IsWord, Keep, Known, Left, Mark, MarkEnds, MarkStands, Mode, Next, Place, TokenKind, acts, add, before, begins, begins_comment, begins_number, cut, follow, give, go, go_to, in_blank, in_kind_name, in_number, in_word, is_digit, is_name, is_stop, is_word_octet, mark_spelling, past, run}
 use Rattle.ion_tokens.specs.machine.Table.{next}
 use Rattle.ion_tokens.proofs.complete.Moves.{Later, Moves, Now, Opens, Resumes, Stays, Takes, at, blank, lexeme, moves_each, moves_one, opens_one, opens_then, resumes_none, takes_end, takes_left, takes_now}
-
-word_first : (p : Place) (colon : Bool) (o : ℕ) → begins_word o ≡ true → in_blank p colon o ≡ Action.Go Mode.Word (Keep.One o)
-word_first p colon o h = grind (arith, nat_tests)
 
 word_more : (o : ℕ) → is_word_octet o ≡ true → in_word o ≡ Action.Go Mode.Word (Keep.One o)
 word_more o h = ap (λ b. cond b (add Mode.Word o) Action.EndWord) h
@@ -23,16 +20,15 @@ word_ends o h = ap (λ b. cond b (add Mode.Word o) Action.EndWord) h
 pub opens_word : (p : Place) (colon : Bool) (w : List ℕ) → IsWord w → Opens p colon w Mode.Word w
 opens_word p colon [] h = absurd (false≢true h.0)
 opens_word p colon (o ∷ os) h = opens_then p colon (o ∷ []) os Mode.Word Mode.Word (o ∷ []) (o ∷ os)
-    (opens_one p colon o Mode.Word (Keep.One o) (word_first p colon o h.0))
+    (opens_one p colon o Mode.Word (Keep.One o) (grind (arith, nat_tests, h.0)))
     (moves_each p Mode.Word is_word_octet os (o ∷ []) (λ s u. refl) (λ x g c. word_more x g) h.1.1)
 
 -- the octet behind isn't the dot of a typed null
 pub no_dot : (w : List ℕ) (x : ℕ) → (w ≡ codes "null" → (x == 46) ≡ false) → ((x == 46) && bytes_eq w (codes "null")) ≡ false
 no_dot w x h = by (x == 46) (bytes_eq w (codes "null")) refl h where
   by : (b c : Bool) → bytes_eq w (codes "null") ≡ c → (w ≡ codes "null" → b ≡ false) → (b && c) ≡ false
-  by false c e g = refl
-  by true false e g = refl
   by true true e g = g ((bytes_eq-Decides w (codes "null")).0 e)
+  by _ _ e g = refl
 
 -- a word is read as it is spelled, before no octet of a word and, if it is `null`, no dot
 pub takes_word : (p : Place) (colon : Bool) (w r : List ℕ) → IsWord w → begins is_word_octet r ≡ false → (w ≡ codes "null" → begins (λ o. o == 46) r ≡ false)
@@ -81,8 +77,7 @@ number_more o h = by (is_stop o) (o == 47) h where
   by : (b c : Bool) → not (b || c) ≡ true → cond b (before TokenKind.Number) (cond c (go Mode.NumberSlash) (add Mode.Number o))
       ≡ Action.Go Mode.Number (Keep.One o)
   by false false h = refl
-  by true c h = absurd (false≢true h)
-  by false true h = absurd (false≢true h)
+  by _ _ h = absurd (false≢true h)
 
 -- a stop character ends a number
 pub number_stops : (o : ℕ) → is_stop o ≡ true → in_number o ≡ Action.Before TokenKind.Number Keep.Nothing Mode.Blank
@@ -90,12 +85,6 @@ number_stops o h = ap (λ b. cond b (before TokenKind.Number) (cond (o == 47) (g
 
 pub digit_first : (p : Place) (colon : Bool) (o : ℕ) → is_name p ≡ false → is_digit o ≡ true → in_blank p colon o ≡ Action.Go Mode.Number (Keep.One o)
 digit_first p colon o n h = grind (arith, nat_tests)
-
-minus_first : (p : Place) (colon : Bool) → is_name p ≡ false → in_blank p colon 45 ≡ Action.Go (Mode.Operator Ending.LoneMinus) (Keep.One 45)
-minus_first p colon n = grind (arith, nat_tests)
-
-minus_digit : (p : Place) (o : ℕ) → is_digit o ≡ true → in_operator p Ending.LoneMinus o ≡ Action.Go Mode.Number (Keep.One o)
-minus_digit p o h = rw h
 
 digits_move : (p : Place) (os kept : List ℕ) → Each (λ o. not (is_stop o || (o == 47))) os → Moves p Mode.Number kept os Mode.Number (kept ++ os)
 digits_move p os kept h = moves_each p Mode.Number (λ o. not (is_stop o || (o == 47))) os kept (λ s u. refl) (λ x g c. number_more x g) h
@@ -111,8 +100,8 @@ opens_number p colon (o ∷ os) n b h = by (is_digit o) refl where
   signed x (d ∷ rest) e g k = subst (λ (y : ℕ). Opens p colon (y ∷ d ∷ rest) Mode.Number (y ∷ d ∷ rest)) (sym e)
       (opens_then p colon (45 ∷ d ∷ []) rest Mode.Number Mode.Number (45 ∷ d ∷ []) (45 ∷ d ∷ rest)
       (opens_then p colon (45 ∷ []) (d ∷ []) (Mode.Operator Ending.LoneMinus) Mode.Number (45 ∷ []) (45 ∷ d ∷ [])
-      (opens_one p colon 45 (Mode.Operator Ending.LoneMinus) (Keep.One 45) (minus_first p colon n))
-      (moves_one p (Mode.Operator Ending.LoneMinus) d (45 ∷ []) Mode.Number (Keep.One d) (λ s u. refl) (λ c. minus_digit p d g)))
+      (opens_one p colon 45 (Mode.Operator Ending.LoneMinus) (Keep.One 45) (grind (arith, nat_tests)))
+      (moves_one p (Mode.Operator Ending.LoneMinus) d (45 ∷ []) Mode.Number (Keep.One d) (λ s u. refl) (λ c. rw g)))
       (digits_move p rest (45 ∷ d ∷ []) k.1))
 
   by : (c : Bool) → is_digit o ≡ c → Opens p colon (o ∷ os) Mode.Number (o ∷ os)
@@ -133,9 +122,6 @@ opens_number p colon (o ∷ os) n b h = by (is_digit o) refl where
 -- a comment behind the number
 slash_goes : (p : Place) (kept : List ℕ) → Moves p Mode.Number kept (47 ∷ []) Mode.NumberSlash kept
 slash_goes p kept = moves_one p Mode.Number 47 kept Mode.NumberSlash Keep.Nothing (λ s u. refl) (λ c. refl)
-
-slash_ends : (o : ℕ) → ((o == 47) || (o == 42)) ≡ true → in_number_slash o ≡ Action.Before TokenKind.Number Keep.Nothing Mode.Slash
-slash_ends o h = rw h
 
 pub resumes_slash : Resumes (47 ∷ []) Mode.Slash []
 resumes_slash p colon end = refl
@@ -168,7 +154,7 @@ takes_number p colon w (x ∷ r) n h = ⊎_elim (λ e. cc) (λ e. ⊎_elim stop 
   comment x (y ∷ r) e = subst (λ (z : ℕ). Takes p colon w (z ∷ y ∷ r) TokenKind.Number w) (sym (is (x == 47) ((y == 47) || (y == 42)) refl e))
       (takes_before_slash p colon w y r TokenKind.Number Mode.NumberSlash w (λ s u. refl)
       (opens_then p colon w (47 ∷ []) Mode.Number Mode.NumberSlash w w (opens_number p colon w n h.begun h.each) (slash_goes p w))
-      (λ c. slash_ends y (rest (x == 47) ((y == 47) || (y == 42)) e)))
+      (λ c. rw (rest (x == 47) ((y == 47) || (y == 42)) e)))
     where
       is : (b c : Bool) → (x == 47) ≡ b → (b && c) ≡ true → x ≡ 47
       is true c f g = grind (arith, nat_tests)
@@ -193,19 +179,13 @@ value_mark p colon o m r n (inr (inr (inl e))) = subst (λ x. in_blank p colon o
 value_mark p colon o m r n (inr (inr (inr e))) = subst (λ x. in_blank p colon o ≡ give x) (sym e.1)
     (subst (λ (x : ℕ). in_blank p colon x ≡ give Mark.SexpClose) (sym e.0) (rw n))
 
-brace_first : (p : Place) (colon : Bool) → is_name p ≡ false → in_blank p colon 123 ≡ Action.Go Mode.Brace Keep.Nothing
-brace_first p colon n = rw n
-
 -- a `{` opens a struct or a lob, where no field's name stands
 pub opens_brace : (p : Place) (colon : Bool) → is_name p ≡ false → Opens p colon (123 ∷ []) Mode.Brace []
-opens_brace p colon n = opens_one p colon 123 Mode.Brace Keep.Nothing (brace_first p colon n)
-
-colon_first : (p : Place) (colon : Bool) → colon ≡ true → in_blank p colon 58 ≡ Action.Go Mode.Colon Keep.Nothing
-colon_first p colon c = rw c
+opens_brace p colon n = opens_one p colon 123 Mode.Brace Keep.Nothing (rw n)
 
 -- a colon opens `:` or `::`, where it may stand
 pub opens_colon : (p : Place) (colon : Bool) → colon ≡ true → Opens p colon (58 ∷ []) Mode.Colon []
-opens_colon p colon c = opens_one p colon 58 Mode.Colon Keep.Nothing (colon_first p colon c)
+opens_colon p colon c = opens_one p colon 58 Mode.Colon Keep.Nothing (rw c)
 
 -- behind `{`, an octet other than `{` shows that it opens a struct
 pub brace_ends : (x : ℕ) → (x == 123) ≡ false → (c : Bool) (p : Place) → next p c Mode.Brace x ≡ Action.Before (TokenKind.Mark Mark.FieldsOpen) Keep.Nothing

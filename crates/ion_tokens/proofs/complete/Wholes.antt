@@ -5,7 +5,7 @@ use Rattle.std.proofs.lemmas.Bool.{false≢true, true≢false}
 use Rattle.std.proofs.Math.Seq.{drop-append_seam, drop-append-add}
 use Rattle.std.specs.List.{flat_map, AllByRecursion}
 use Rattle.std.proofs.lemmas.Bool.Decides.{nat_tests}
-use Rattle.ion_tokens.specs.Names.{BeginsWith, BlankPiece, BlockComment, Given, IsBlank, IsBlankPiece, IsLastBlank, IsLexeme, Known, Left, Lexeme, LexesBefore, LineComment, Mark, Mode, Next, Outcome, Place, Placed, TokenKind, White, begins, begins_word, blank_spelling, colon_behind, follow, is_white, mark_spelling, past, run, takes_colon}
+use Rattle.ion_tokens.specs.Names.{BeginsWith, BlankPiece, Given, IsBlank, IsBlankPiece, IsLastBlank, IsLexeme, Known, Left, Lexeme, LexesBefore, Mark, Mode, Next, Outcome, Place, Placed, TokenKind, White, begins, begins_word, blank_spelling, colon_behind, follow, mark_spelling, past, run, takes_colon}
 use Rattle.ion_tokens.proofs.complete.Found.{FindsUpTo, Gives, Last, Leaves, Unclosed, in_word}
 use Rattle.ion_tokens.proofs.complete.Moves.{AtEnd, Later, Now, Open, Takes, at, blank, lexeme}
 use Rattle.ion_tokens.proofs.complete.TakesAll.{takes_lexeme}
@@ -20,25 +20,13 @@ run_behind p xs ys s t e = run-append p xs ys s ∙ ap (λ x. follow x (λ t. ru
 -- a token has an octet
 pub some_octet : (p : Place) (colon : Bool) (r : List ℕ) (kind : TokenKind) (kept : List ℕ) → IsLexeme p colon [] r kind kept → ⊥
 some_octet p colon r TokenKind.Word kept h = false≢true h.1.0
-some_octet p colon r TokenKind.KindName kept h = cc
 some_octet p colon r TokenKind.Number kept h = false≢true h.2.begun
 some_octet p colon r TokenKind.Operator kept h = h.2.some refl
-some_octet p colon r TokenKind.QuotedSymbol kept h = cc
-some_octet p colon r TokenKind.ShortString kept h = cc
-some_octet p colon r TokenKind.LongString kept h = cc
-some_octet p colon r TokenKind.Clob kept h = cc
-some_octet p colon r TokenKind.Blob kept h = cc
 some_octet p colon r (TokenKind.Mark m) kept h = by m h.1 where
   by : (m : Mark) → [] ≡ mark_spelling m → ⊥
   by Mark.FieldsOpen e = cc
-  by Mark.FieldsClose e = cc
-  by Mark.ListOpen e = cc
-  by Mark.ListClose e = cc
-  by Mark.SexpOpen e = cc
-  by Mark.SexpClose e = cc
-  by Mark.Comma e = cc
-  by Mark.Colon e = cc
-  by Mark.Colons e = cc
+  by _ e = cc
+some_octet p colon r _ kept h = cc
 
 nothing_left : (xs ys : List ℕ) → xs ++ ys ≡ [] → ys ≡ []
 nothing_left [] ys e = e
@@ -63,11 +51,8 @@ same_lexeme l w start e f = λ i. record { start = e i; end = f i; kind = l.kind
 
 -- no blank begins with a letter
 piece_first : (b : BlankPiece) (more : List ℕ) → IsBlankPiece b → begins begins_word (blank_spelling b ++ more) ≡ false
-piece_first (White o) more h = no_letter o h where
-  no_letter : (o : ℕ) → is_white o ≡ true → begins_word o ≡ false
-  no_letter o h = grind (arith, nat_tests)
-piece_first (LineComment os o) more h = refl
-piece_first (BlockComment os) more h = refl
+piece_first (White o) more h = grind (arith, nat_tests)
+piece_first _ more h = refl
 
 pieces_first : (bs : List BlankPiece) (more : List ℕ) → AllByRecursion IsBlankPiece bs → begins begins_word more ≡ false
     → begins begins_word (flat_map blank_spelling bs ++ more) ≡ false

@@ -77,55 +77,25 @@ form_is p colon (Mode.Text Style.LongClob v) w kept (n, front, kept', part, q, f
 form_is p colon Mode.Brace w kept (e, k, n) i = other_if (begins (λ o. o == 123)) w (ap (begins (λ o. o == 123)) e) (λ x. refl)
 form_is p colon (Mode.Lob l) w kept (n, inside, e, h) i = other_if (begins (λ o. o == 123)) w (ap (begins (λ o. o == 123)) e) (λ x. refl)
 form_is p colon Mode.Colon w kept h i = cc
-form_is p colon Mode.Blank w kept h i = absurd h
-form_is p colon Mode.Slash w kept h i = absurd h
-form_is p colon Mode.LineComment w kept h i = absurd h
-form_is p colon Mode.BlockComment w kept h i = absurd h
-form_is p colon Mode.BlockCommentStar w kept h i = absurd h
+form_is p colon _ w kept h i = absurd h
 
 -- a / at the end of the token may open a comment
 slash_behind : (p : Place) (colon : Bool) (m : Mode) (w kept : List ℕ) → IsOpen p colon m w kept → (behind m ≡ 0)
     ⊎ ((behind m ≡ 1) × (front : List ℕ) × (w ≡ front ++ codes "/"))
 slash_behind p colon Mode.NumberSlash w kept (e, n) = inr (refl, kept, e)
 slash_behind p colon Mode.OperatorSlash w kept (e, s, h) = inr (refl, kept, e)
-slash_behind p colon Mode.Word w kept h = inl refl
-slash_behind p colon Mode.KindName w kept h = inl refl
-slash_behind p colon Mode.Number w kept h = inl refl
-slash_behind p colon (Mode.Operator x) w kept h = inl refl
-slash_behind p colon (Mode.Infinity n) w kept h = inl refl
-slash_behind p colon Mode.Quote w kept h = inl refl
-slash_behind p colon Mode.Quotes w kept h = inl refl
-slash_behind p colon (Mode.Text s v) w kept h = inl refl
-slash_behind p colon Mode.Brace w kept h = inl refl
-slash_behind p colon (Mode.Lob l) w kept h = inl refl
-slash_behind p colon Mode.Colon w kept h = inl refl
-slash_behind p colon Mode.Blank w kept h = inl refl
-slash_behind p colon Mode.Slash w kept h = inl refl
-slash_behind p colon Mode.LineComment w kept h = inl refl
-slash_behind p colon Mode.BlockComment w kept h = inl refl
-slash_behind p colon Mode.BlockCommentStar w kept h = inl refl
+slash_behind p colon _ w kept h = inl refl
 
 -- a token has begun
 open_token : (p : Place) (colon : Bool) (k : ℕ) (m : Mode) (kept : List ℕ) (start : ℕ) (since : List ℕ) → is_idle m ≡ false
     → InMode p colon k m kept start since → IsBegun p colon k m kept start since
-open_token p colon k Mode.Word kept start since i h = h
-open_token p colon k Mode.KindName kept start since i h = h
-open_token p colon k Mode.Number kept start since i h = h
-open_token p colon k Mode.NumberSlash kept start since i h = h
-open_token p colon k (Mode.Operator x) kept start since i h = h
-open_token p colon k Mode.OperatorSlash kept start since i h = h
-open_token p colon k (Mode.Infinity n) kept start since i h = h
-open_token p colon k Mode.Quote kept start since i h = h
-open_token p colon k Mode.Quotes kept start since i h = h
-open_token p colon k (Mode.Text s v) kept start since i h = h
-open_token p colon k Mode.Brace kept start since i h = h
-open_token p colon k (Mode.Lob l) kept start since i h = h
 open_token p colon k Mode.Colon kept start since i h = cc
 open_token p colon k Mode.Blank kept start since i h = cc
 open_token p colon k Mode.Slash kept start since i h = cc
 open_token p colon k Mode.LineComment kept start since i h = cc
 open_token p colon k Mode.BlockComment kept start since i h = cc
 open_token p colon k Mode.BlockCommentStar kept start since i h = cc
+open_token p colon k _ kept start since i h = h
 
 block_closes : (since front octets : List ℕ) → since ≡ front ++ codes "/*" ++ octets → since ++ codes "*/" ≡ front ++ (codes "/*" ++ octets ++ codes "*/")
 block_closes since front octets e = ap (λ l. l ++ codes "*/") e ∙ append_assoc (front ++ codes "/*") octets (codes "*/")
@@ -152,18 +122,7 @@ none_begun p u ts colon k Mode.BlockComment kept start since i (e, c) =
 none_begun p u ts colon k Mode.BlockCommentStar kept start since i (e, c) =
     inl (codes "*/", subst IsBlank (sym (block_closes since c.front c.octets c.cut)) (blank_more c.front (BlockComment c.octets) c.blank c.no_close))
 none_begun p u ts colon k Mode.Colon kept start since i h = let (w, kept, flag) = h.is in inr (flag, h.front, h.blank, h.cut ∙ ap (λ l. h.front ++ l) w)
-none_begun p u ts colon k Mode.Word kept start since i h = cc
-none_begun p u ts colon k Mode.KindName kept start since i h = cc
-none_begun p u ts colon k Mode.Number kept start since i h = cc
-none_begun p u ts colon k Mode.NumberSlash kept start since i h = cc
-none_begun p u ts colon k (Mode.Operator x) kept start since i h = cc
-none_begun p u ts colon k Mode.OperatorSlash kept start since i h = cc
-none_begun p u ts colon k (Mode.Infinity n) kept start since i h = cc
-none_begun p u ts colon k Mode.Quote kept start since i h = cc
-none_begun p u ts colon k Mode.Quotes kept start since i h = cc
-none_begun p u ts colon k (Mode.Text s v) kept start since i h = cc
-none_begun p u ts colon k Mode.Brace kept start since i h = cc
-none_begun p u ts colon k (Mode.Lob l) kept start since i h = cc
+none_begun p u ts colon k _ kept start since i h = cc
 
 -- where the end shows no token, none has begun
 pub end_idle : (p : Place) (s : Known) (m : Mode) → ends_at s (end_of p m) ≡ Ok None → is_idle m ≡ true
@@ -173,10 +132,6 @@ end_idle p s Mode.LineComment e = refl
 end_idle p s Mode.BlockComment e = refl
 end_idle p s Mode.BlockCommentStar e = refl
 end_idle p s Mode.Colon e = refl
-end_idle p s Mode.Word e = cc
-end_idle p s Mode.KindName e = cc
-end_idle p s Mode.Number e = cc
-end_idle p s Mode.NumberSlash e = cc
 end_idle p s (Mode.Operator x) e = by (is_sexp p) e where
   by : (b : Bool) → ends_at s (cond b (End.Token TokenKind.Operator Keep.Nothing) (End.Refuse Reason.Incomplete)) ≡ Ok None → false ≡ true
   by true f = cc
@@ -185,21 +140,15 @@ end_idle p s Mode.OperatorSlash e = by (is_sexp p) e where
   by : (b : Bool) → ends_at s (cond b (End.Token TokenKind.Operator (Keep.One 47)) (End.Refuse Reason.Incomplete)) ≡ Ok None → false ≡ true
   by true f = cc
   by false f = cc
-end_idle p s (Mode.Infinity n) e = cc
-end_idle p s Mode.Quote e = cc
-end_idle p s Mode.Quotes e = cc
-end_idle p s (Mode.Text x v) e = cc
-end_idle p s Mode.Brace e = cc
-end_idle p s (Mode.Lob l) e = cc
+end_idle p s _ e = cc
 
 -- a token at the end of the input
 end_token_is : (s : Known) (e : End) (l : Lexeme) → ends_at s e ≡ Ok (Some l) → (l.start ≡ start_of s.mode s.start s.used) × (l.end ≡ s.used)
-end_token_is s End.Blank l h = cc
 end_token_is s (End.Token kind k) l h = (sym (ap (λ x. (lexeme_in x l).start) h), sym (ap (λ x. (lexeme_in x l).end) h)) where
   lexeme_in : Result (Option Lexeme) Reason → Lexeme → Lexeme
   lexeme_in (Ok (Some l)) m = l
   lexeme_in _ m = m
-end_token_is s (End.Refuse e) l h = cc
+end_token_is s _ l h = cc
 
 -- where the end shows a colon, no token has begun
 colon_idle : (p : Place) (s : Known) (m : Mode) (l : Lexeme) → l.kind ≡ TokenKind.Mark Mark.Colon → ends_at s (end_of p m) ≡ Ok (Some l) → is_idle m ≡ true
@@ -216,12 +165,6 @@ colon_idle p s m l k e = by m (ends_at s (end_of p m)) refl e where
   run false c f = cc
 
   by : (m : Mode) (x : Result (Option Lexeme) Reason) → ends_at s (end_of p m) ≡ x → x ≡ Ok (Some l) → is_idle m ≡ true
-  by Mode.Blank x f g = refl
-  by Mode.Slash x f g = refl
-  by Mode.LineComment x f g = refl
-  by Mode.BlockComment x f g = refl
-  by Mode.BlockCommentStar x f g = refl
-  by Mode.Colon x f g = refl
   by Mode.Word x f g = let h = other (end_of p Mode.Word) TokenKind.Word Keep.Nothing refl (f ∙ g) in cc
   by Mode.KindName x f g = let h = other (end_of p Mode.KindName) TokenKind.KindName Keep.Nothing refl (f ∙ g) in cc
   by Mode.Number x f g = let h = other (end_of p Mode.Number) TokenKind.Number Keep.Nothing refl (f ∙ g) in cc
@@ -234,6 +177,7 @@ colon_idle p s m l k e = by m (ends_at s (end_of p m)) refl e where
   by (Mode.Text t v) x f g = let h = f ∙ g in cc
   by Mode.Brace x f g = let h = other (end_of p Mode.Brace) (TokenKind.Mark Mark.FieldsOpen) Keep.Nothing refl (f ∙ g) in cc
   by (Mode.Lob t) x f g = let h = f ∙ g in cc
+  by _ x f g = refl
 
 -- what comes of octets behind some that left a token open
 reached : (p : Place) (s0 s : Known) (octets rest : List ℕ) (start end : ℕ) → run p octets s0 ≡ Next s → Reaches start end (Next s) → (q : Place) (x : Outcome)

@@ -1,7 +1,8 @@
 -- What an octet shows of a token that may go on is so in the words of the grammar.
-use Rattle.std.proofs.Common.{◌≡◌, ℕ, ◌+◌, ◌-◌, inl, inr, Bool, true, false, cond, List, [], ◌∷◌, ◌++◌, length, refl, sym, ap, ◌∙◌, subst, arith, append-nil}
-use Rattle.std.specs.Prelude.{◌==◌, ◌&&◌, bytes_eq, codes, Option, Some, None, if◌then◌else◌}
-use Rattle.ion_tokens.specs.Names.{Action, Begun, Continues, ForeseenSo, Foresight, Form, Given, IsBlank, Known, Left, Lexeme, Lexes, LexesTo, Mark, Mode, Next, NextIs, Outcome, Place, Placed, Refused, Scanned, ShowsBegun, TokenKind, acts, behind, blob_ends, blob_of, cut, feed, follow, foresight, foresight_at, foresight_behind, foresight_by, form_of, go_to, is_idle, past, run}
+use Rattle.std.proofs.Common.{◌≡◌, ℕ, ◌+◌, ◌-◌, inl, inr, Bool, true, false, List, [], ◌∷◌, ◌++◌, length, refl, sym, ap, ◌∙◌, subst, arith, append-nil}
+use Rattle.std.specs.Prelude.{◌==◌, ◌&&◌, bytes_eq, codes, Some, None, if◌then◌else◌}
+use Rattle.std.proofs.lemmas.Bool.{cond_both}
+use Rattle.ion_tokens.specs.Names.{Action, Begun, Continues, ForeseenSo, Foresight, Form, Given, IsBlank, Known, Left, Lexeme, Lexes, LexesTo, Mark, Mode, Next, NextIs, Outcome, Place, Placed, Refused, Scanned, ShowsBegun, TokenKind, acts, behind, blob_ends, blob_of, feed, follow, foresight, foresight_at, foresight_behind, foresight_by, form_of, is_idle, run}
 use Rattle.ion_tokens.specs.machine.Table.{next}
 use Rattle.ion_tokens.proofs.foreseen.Begins.{begun_holds, begun_right}
 use Rattle.ion_tokens.proofs.foreseen.LeftSymbols.{leaves_quotes}
@@ -16,20 +17,10 @@ Ends used _ = Unit {0}
 
 acts_ends : (p : Place) (s : Known) (o : ℕ) (a : Action) → Ends s.used (acts p s o a)
 unfolding Ends
-acts_ends p s o (Action.Go m k) = tt
 acts_ends p s o (Action.Give kind k) = refl
-acts_ends p s o (Action.Before kind k m) = tt
-acts_ends p s o Action.EndWord = by ((o == 46) && bytes_eq s.kept (codes "null")) where
-  by : (b : Bool) → Ends s.used (cond b (Next (go_to s Mode.KindName []))
-      (Left (cut s TokenKind.Word s.kept s.used) (past p TokenKind.Word Mode.Blank [] s.used s.used)))
-  by true = tt
-  by false = tt
-acts_ends p s o (Action.Split n) = tt
-acts_ends p s o Action.EndBlob = by (blob_of s.kept) where
-  by : (b : Option (List ℕ)) → Ends s.used (blob_ends s b)
-  by None = tt
-  by (Some octets) = tt
-acts_ends p s o (Action.Refuse e) = tt
+acts_ends p s o Action.EndWord = cond_both ((o == 46) && bytes_eq s.kept (codes "null")) _ _ (Ends s.used) (λ _. tt) (λ _. tt)
+acts_ends p s o Action.EndBlob = elim (blob_of s.kept) as (λ b. Ends s.used (blob_ends s b)) [ None ↦ tt | Some octets ↦ tt ]
+acts_ends p s o _ = tt
 
 feed_ends : (p : Place) (s : Known) (o : ℕ) (x : Outcome) → feed p s o ≡ x → Ends s.used x
 feed_ends p s o x e = subst (λ y. Ends s.used y) e (acts_ends p s o (next p s.colon s.mode o))
@@ -68,8 +59,7 @@ module _ (p : Place) (s : Known) (u : List ℕ) (ts : List Placed) (h : Scanned 
       → ForeseenSo p u ts o (if b then Foresight.Blank else foresight_by f)
   goes true f begun e k = k
   goes false Form.Other begun e k = tt
-  goes false Form.Quote begun e k = inl (begun, (λ n. cc), k)
-  goes false Form.Long begun e k = inl (begun, (λ n. cc), k)
+  goes false _ begun e k = inl (begun, (λ n. cc), k)
 
   gives : (t : Known) (l : Lexeme) (k : TokenKind) → l.kind ≡ k → feed p s o ≡ Given l t → ForeseenSo p u ts o (foresight_at k)
   gives t l (TokenKind.Mark Mark.Colons) i e = (l, i, (given_end p s t o l e ∙ ap (λ (n : ℕ). n + 1) used), next_given t l e)

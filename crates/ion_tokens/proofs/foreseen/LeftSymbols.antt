@@ -27,8 +27,6 @@ other_kind : (kind : TokenKind) (k : Keep) (m : Mode) → ends_none (Action.Befo
 other_kind kind k m h e = let never : false ≡ true = subst (λ x. ends_none (Action.Before x k m) ≡ true) e h in cc
 
 acts_none : (p : Place) (s t : Known) (o : ℕ) (l : Lexeme) (a : Action) → ends_none a ≡ true → acts p s o a ≡ Left l t → l.kind ≡ TokenKind.QuotedSymbol → ⊥
-acts_none p s t o l (Action.Go m k) h e i = cc
-acts_none p s t o l (Action.Give kind k) h e i = cc
 acts_none p s t o l (Action.Before kind k m) h e i = other_kind kind k m h (ap (λ x. (lexeme_or l x).kind) e ∙ i)
 acts_none p s t o l Action.EndWord h e i = by ((o == 46) && bytes_eq s.kept (codes "null")) e where
   by : (b : Bool) → cond b (Next (go_to s Mode.KindName [])) (Left (cut s TokenKind.Word s.kept s.used) (past p TokenKind.Word Mode.Blank [] s.used s.used))
@@ -40,7 +38,7 @@ acts_none p s t o l Action.EndBlob h e i = by (blob_of s.kept) e where
   by : (b : Option (List ℕ)) → blob_ends s b ≡ Left l t → ⊥
   by None f = cc
   by (Some octets) f = cc
-acts_none p s t o l (Action.Refuse r) h e i = cc
+acts_none p s t o l _ h e i = cc
 
 -- A quoted symbol was left before an octet: behind `''`, and nothing more is kept of it.
 pub record LeavesQuotes (s : Known) (l : Lexeme) : Type 0 where

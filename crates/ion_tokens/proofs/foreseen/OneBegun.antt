@@ -24,9 +24,6 @@ lexes_same (t ∷ ts) c c1 c2 k e1 e2 o o1 o2 (r, b, l) (q, b', l') =
     lexes_same ts (colon_behind t) c1 c2 t.lexeme.end e1 e2 q o1 o2 (subst (λ x. LexesTo (colon_behind t) t.lexeme.end x ts c1 e1 o1) same l) l'
 
 same_form : (f g : Form) (w : List ℕ) → IsForm f w → IsForm g w → f ≡ g
-same_form Form.Quote Form.Quote w h k = refl
-same_form Form.Long Form.Long w h k = refl
-same_form Form.Other Form.Other w h k = refl
 same_form Form.Quote Form.Other w (inl e) k = absurd (k.0 e)
 same_form Form.Quote Form.Other w (inr e) k = absurd (k.1 e)
 same_form Form.Other Form.Quote w k (inl e) = absurd (k.0 e)
@@ -37,6 +34,7 @@ same_form Form.Quote Form.Long w (inl e) (part, f) = absurd (omega (arith, ap le
 same_form Form.Quote Form.Long w (inr e) (part, f) = absurd (omega (arith, ap length e, ap length f, length-append (codes "'''") part))
 same_form Form.Long Form.Quote w (part, f) (inl e) = absurd (omega (arith, ap length e, ap length f, length-append (codes "'''") part))
 same_form Form.Long Form.Quote w (part, f) (inr e) = absurd (omega (arith, ap length e, ap length f, length-append (codes "'''") part))
+same_form _ _ w h k = refl
 
 -- some document has these tokens and goes on with the octets
 abbrev GoesOnAs : Place → List ℕ → List Placed → Type 0

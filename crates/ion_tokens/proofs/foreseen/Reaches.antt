@@ -1,8 +1,9 @@
 -- A token that has begun goes on from where it began, at least over the octets that are part of a token.
-use Rattle.std.proofs.Common.{◌≡◌, ℕ, ◌+◌, ◌≤◌, ◌⊎◌, inl, inr, Bool, true, false, cond, List, [], ◌∷◌, refl, ap, ◌∙◌, arith, Option, Some, None}
+use Rattle.std.proofs.Common.{◌≡◌, ℕ, ◌+◌, ◌≤◌, ◌⊎◌, inl, inr, Bool, true, false, List, [], ◌∷◌, refl, ap, ◌∙◌, arith, Option, Some, None}
 use Rattle.std.specs.Prelude.{◌==◌, ◌&&◌, not, nat_le, bytes_eq, codes}
 use Rattle.std.proofs.lemmas.Bool.Decides.{nat_tests}
-use Rattle.ion_tokens.specs.Names.{Action, Given, Known, Left, Mode, Next, Outcome, Place, Refused, TokenKind, acts, behind, blob_ends, blob_of, cut, feed, follow, go_to, is_idle, left_of, past, run, start_of}
+use Rattle.std.proofs.lemmas.Bool.{cond_both, leb-true}
+use Rattle.ion_tokens.specs.Names.{Action, Given, Known, Left, Mode, Next, Outcome, Place, Refused, TokenKind, acts, behind, blob_ends, blob_of, feed, follow, is_idle, left_of, run, start_of}
 use Rattle.ion_tokens.specs.machine.Table.{next}
 use Rattle.ion_tokens.specs.laws.ByRows.{by_rows_where}
 
@@ -51,14 +52,10 @@ module _ (p : Place) (s : Known) (o : ℕ) (start end : ℕ) (begun : is_idle s.
         goes_parts : (x y : ℕ) (i : Bool) → (nat_le x (y + 1) && not i) ≡ true → (x ≤ y + 1) × (i ≡ false)
         goes_parts x y i h = grind (arith, nat_tests)
   acts_reaches (Action.Give _ _) h = (same_start, omega (arith, reached))
-  acts_reaches (Action.Before _ _ m) h = let less = left_less (left_of m) (behind s.mode) h in (same_start, inl (omega (arith, reached, less))) where
-    left_less : (x y : ℕ) → nat_le x y ≡ true → x ≤ y
-    left_less x y h = grind (arith, nat_tests)
-  acts_reaches Action.EndWord h = by ((o == 46) && bytes_eq s.kept (codes "null")) where
-    by : (b : Bool) → Reaches start end (cond b (Next (go_to s Mode.KindName []))
-        (Left (cut s TokenKind.Word s.kept s.used) (past p TokenKind.Word Mode.Blank [] s.used s.used)))
-    by true = (same_start, refl, omega (arith, reached))
-    by false = (same_start, inl (omega (arith, reached)))
+  acts_reaches (Action.Before _ _ m) h = (same_start, inl (omega (arith, reached, leb-true (left_of m) (behind s.mode) h)))
+  acts_reaches Action.EndWord h =
+      cond_both ((o == 46) && bytes_eq s.kept (codes "null")) _ _ (Reaches start end) (λ _. (same_start, refl, omega (arith, reached)))
+      (λ _. (same_start, inl (omega (arith, reached))))
   acts_reaches (Action.Split n) h = (same_start, inr (refl, refl, refl, omega (arith, reached)))
   acts_reaches Action.EndBlob h = blob_reaches (blob_of s.kept)
   acts_reaches (Action.Refuse e) h = tt
@@ -69,9 +66,7 @@ module _ (p : Place) (s : Known) (o : ℕ) (start end : ℕ) (begun : is_idle s.
 follow_reaches : (x : Outcome) (f : Known → Outcome) (start end : ℕ) → Reaches start end x
     → ((s : Known) → Reaches start end (Next s) → Reaches start end (f s)) → Reaches start end (follow x f)
 follow_reaches (Next s) f start end h k = k s h
-follow_reaches (Given l s) f start end h k = h
-follow_reaches (Left l s) f start end h k = h
-follow_reaches (Refused n e) f start end h k = h
+follow_reaches _ f start end h k = h
 
 -- what comes of more octets
 pub run_reaches : (p : Place) (os : List ℕ) (s : Known) (start end : ℕ) → Reaches start end (Next s) → Reaches start end (run p os s)

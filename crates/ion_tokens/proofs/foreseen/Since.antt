@@ -1,7 +1,8 @@
 -- Where a token begins that is open behind the next octet.
 use Rattle.std.proofs.Common.{◌≡◌, ℕ, Bool, true, false, cond, List, [], ◌∷◌, ◌++◌, refl, sym, ap, ◌∙◌, subst}
 use Rattle.std.specs.Prelude.{◌==◌, ◌&&◌, bytes_eq, codes, Option, Some, None}
-use Rattle.ion_tokens.specs.Names.{Action, Begun, Covers, Given, IsNext, Known, Left, Lexeme, Lexes, LooksIn, Mode, Next, Outcome, Place, Placed, Refused, Scanned, ShowsBegun, TokenKind, acts, blob_ends, blob_of, cut, feed, go_to, is_idle, past, start_of}
+use Rattle.std.proofs.lemmas.Bool.{cond_both}
+use Rattle.ion_tokens.specs.Names.{Action, Begun, Covers, Given, IsNext, Known, Left, Lexeme, Lexes, LooksIn, Next, Outcome, Place, Placed, Refused, Scanned, ShowsBegun, acts, blob_ends, blob_of, feed, is_idle, start_of}
 use Rattle.ion_tokens.specs.machine.Table.{next}
 use Rattle.ion_tokens.proofs.foreseen.Begins.{begun_right}
 use Rattle.ion_tokens.proofs.foreseen.Foresights.{from, next_given, next_left, ran}
@@ -18,20 +19,10 @@ Starts n (Refused k r) = Unit {0}
 
 acts_start : (p : Place) (s : Known) (o : ℕ) (a : Action) → Starts (start_of s.mode s.start s.used) (acts p s o a)
 unfolding Starts
-acts_start p s o (Action.Go m k) = refl
-acts_start p s o (Action.Give kind k) = refl
-acts_start p s o (Action.Before kind k m) = refl
-acts_start p s o Action.EndWord = by ((o == 46) && bytes_eq s.kept (codes "null")) where
-  by : (b : Bool) → Starts (start_of s.mode s.start s.used) (cond b (Next (go_to s Mode.KindName []))
-      (Left (cut s TokenKind.Word s.kept s.used) (past p TokenKind.Word Mode.Blank [] s.used s.used)))
-  by true = refl
-  by false = refl
-acts_start p s o (Action.Split n) = refl
-acts_start p s o Action.EndBlob = by (blob_of s.kept) where
-  by : (b : Option (List ℕ)) → Starts (start_of s.mode s.start s.used) (blob_ends s b)
-  by None = tt
-  by (Some octets) = refl
+acts_start p s o Action.EndWord = cond_both ((o == 46) && bytes_eq s.kept (codes "null")) _ _ (Starts (start_of s.mode s.start s.used)) (λ _. refl) (λ _. refl)
+acts_start p s o Action.EndBlob = elim (blob_of s.kept) as (λ b. Starts (start_of s.mode s.start s.used) (blob_ends s b)) [ None ↦ tt | Some octets ↦ refl ]
 acts_start p s o (Action.Refuse e) = tt
+acts_start p s o _ = refl
 
 begun_start : (idle : Bool) (a b : Begun) → cond idle None (Some a) ≡ Some b → b.start ≡ a.start
 begun_start true a b e = cc

@@ -2,8 +2,8 @@
 use Rattle.std.proofs.Common.{◌≡◌, ℕ, ◌-◌, ◌⊎◌, inl, inr, Bool, true, false, cond, List, [], ◌∷◌, ◌++◌, refl, sym, ap, ◌∙◌, subst, append_assoc}
 use Rattle.std.specs.Prelude.{◌==◌, ◌||◌, not, codes, Option, Some, None, Result, Ok, Err}
 use Rattle.std.specs.List.{list_any}
-use Rattle.std.proofs.lemmas.Bool.{true≢false, false≢true}
-use Rattle.ion_tokens.specs.Names.{Action, Each, Given, IsLexeme, Keep, Known, Leaved, Left, Lexeme, Lexes, LooksIn, Mode, Next, Outcome, Passes, Place, Placed, Reason, Refused, Scanned, Stands, TokenKind, acts, add, before, behind, cut, end_of, ends_at, feed, follow, go, go_to, in_number, in_number_slash, is_stop, past, run, start_of}
+use Rattle.std.proofs.lemmas.Bool.{cond_both, false≢true, true≢false}
+use Rattle.ion_tokens.specs.Names.{Action, Each, Given, IsLexeme, Keep, Known, Leaved, Left, Lexeme, Lexes, LooksIn, Mode, Next, Outcome, Passes, Place, Placed, Reason, Refused, Scanned, Stands, TokenKind, acts, behind, cut, end_of, ends_at, feed, follow, go_to, in_number, in_number_slash, is_stop, past, run, start_of}
 use Rattle.ion_tokens.specs.machine.Table.{next}
 use Rattle.ion_tokens.proofs.complete.Found.{Finds, Gives, Last, Leaves, Nothing, Unclosed}
 use Rattle.ion_tokens.proofs.complete.Wholes.{run_behind}
@@ -35,22 +35,17 @@ Slashed (Left l s) = (l.kind ≡ TokenKind.Number) × (has_slash l.octets ≡ tr
 Slashed (Refused n e) = Unit {0}
 
 module _ (p : Place) (s : Known) (o : ℕ) (has : has_slash s.kept ≡ true) where
+  on : (test : Bool) (x y : Action) → (test ≡ true → Slashed (acts p s o x)) → (test ≡ false → Slashed (acts p s o y)) → Slashed (acts p s o (cond test x y))
+  on test x y = cond_both test x y (λ a. Slashed (acts p s o a))
+
   number_slashed : Slashed (acts p s o (in_number o))
   unfolding Slashed
-  number_slashed = by (is_stop o) (o == 47) where
-    by : (b c : Bool) → Slashed (acts p s o (cond b (before TokenKind.Number) (cond c (go Mode.NumberSlash) (add Mode.Number o))))
-    by true c = (refl, has)
-    by false true = (refl, has)
-    by false false = (refl, has_longer s.kept (o ∷ []) has)
+  number_slashed = on (is_stop o) _ _ (λ _. (refl, has)) (λ _. on (o == 47) _ _ (λ _. (refl, has)) (λ _. (refl, has_longer s.kept (o ∷ []) has)))
 
   number_slash_slashed : Slashed (acts p s o (in_number_slash o))
   unfolding Slashed
-  number_slash_slashed = by ((o == 47) || (o == 42)) (is_stop o) where
-    by : (b c : Bool) → Slashed (acts p s o (cond b (Action.Before TokenKind.Number Keep.Nothing Mode.Slash)
-        (cond c (Action.Before TokenKind.Number (Keep.One 47) Mode.Blank) (Action.Go Mode.Number (Keep.Two 47 o)))))
-    by true c = (refl, has)
-    by false true = (refl, has_longer s.kept (47 ∷ []) has)
-    by false false = (refl, has_longer (s.kept ++ 47 ∷ []) (o ∷ []) (has_longer s.kept (47 ∷ []) has))
+  number_slash_slashed = let longer = has_longer s.kept (47 ∷ []) has in on ((o == 47) || (o == 42)) _ _ (λ _. (refl, has))
+      (λ _. on (is_stop o) _ _ (λ _. (refl, longer)) (λ _. (refl, has_longer (s.kept ++ 47 ∷ []) (o ∷ []) longer)))
 
   mode_slashed : (m : Mode) → in_numeric m ≡ true → Slashed (acts p s o (next p s.colon m o))
   mode_slashed Mode.Number h = number_slashed
@@ -59,9 +54,7 @@ module _ (p : Place) (s : Known) (o : ℕ) (has : has_slash s.kept ≡ true) whe
 
 follow_slashed : (x : Outcome) (f : Known → Outcome) → Slashed x → ((s : Known) → Slashed (Next s) → Slashed (f s)) → Slashed (follow x f)
 follow_slashed (Next s) f h k = k s h
-follow_slashed (Given l s) f h k = h
-follow_slashed (Left l s) f h k = h
-follow_slashed (Refused n e) f h k = h
+follow_slashed _ f h k = h
 
 run_slashed : (p : Place) (os : List ℕ) (s : Known) → Slashed (Next s) → Slashed (run p os s)
 unfolding Slashed
@@ -111,9 +104,8 @@ without_slash : (w : List ℕ) → Each (λ o. not (is_stop o || (o == 47))) w �
 without_slash [] h = refl
 without_slash (o ∷ w) h = by (is_stop o) (o == 47) h.0 (without_slash w h.1) where
   by : (b c : Bool) → not (b || c) ≡ true → has_slash w ≡ false → (c || has_slash w) ≡ false
-  by true c h f = absurd (false≢true h)
-  by false true h f = absurd (false≢true h)
   by false false h f = f
+  by _ _ h f = absurd (false≢true h)
 
 not_slashed : (ts others : List Placed) (colon : Bool) (k : ℕ) (octets : List ℕ) → Lexes colon k octets (ts ++ others) → NextSlashed others → ⊥
 not_slashed [] [] colon k octets lexes slashed = slashed

@@ -4,6 +4,7 @@ use Rattle.std.specs.Prelude.{IsUtf8}
 use Rattle.std.specs.Str.{IsAscii}
 use Rattle.std.proofs.lemmas.Str.{IsUtf8-from_ascii}
 use Rattle.std.proofs.lemmas.Bool.Decides.{nat_tests}
+use Rattle.std.proofs.lemmas.Bool.{cond_both}
 use Rattle.ion_tokens.specs.Names.{Each, End, IsBody, IsWordBody, Keep, Kind, Known, Lexeme, Mark, Mode, Place, Placed, Reason, Refusal, Scanned, TokenKind, at_end, end_of, ends_at, id_of, is_end_reason, is_operator_octet, is_sexp, is_word_octet, kept_after, kind_named, null_of}
 use Rattle.ion_tokens.specs.machine.Steps.{Ends}
 use Rattle.ion_tokens.specs.laws.Each.{each_last}
@@ -60,10 +61,7 @@ IsEndFair (Err e) = is_end_reason e ≡ true
 
 run_fair : (p : Place) (s : Known) (k : Keep) → Each is_operator_octet (kept_after k s.kept)
     → IsEndFair (ends_at s (cond (is_sexp p) (End.Token TokenKind.Operator k) (End.Refuse Reason.Incomplete)))
-run_fair p s k h = by (is_sexp p) where
-  by : (b : Bool) → IsEndFair (ends_at s (cond b (End.Token TokenKind.Operator k) (End.Refuse Reason.Incomplete)))
-  by true = operator_fair (kept_after k s.kept) h
-  by false = refl
+run_fair p s k h = cond_both (is_sexp p) _ _ (λ x. IsEndFair (ends_at s x)) (λ _. operator_fair (kept_after k s.kept) h) (λ _. refl)
 
 letters_fair : (b : Bool) → is_end_reason (cond b Reason.Float Reason.Incomplete) ≡ true
 letters_fair true = refl
@@ -83,33 +81,17 @@ open_fair p colon s Mode.Quotes w (e, none) = empty_fair s.kept none
 open_fair p colon s (Mode.Text t v) w h = refl
 open_fair p colon s Mode.Brace w h = mark_fair _ s.kept
 open_fair p colon s (Mode.Lob l) w h = refl
-open_fair p colon s Mode.Blank w h = absurd h
-open_fair p colon s Mode.Slash w h = absurd h
-open_fair p colon s Mode.LineComment w h = absurd h
-open_fair p colon s Mode.BlockComment w h = absurd h
-open_fair p colon s Mode.BlockCommentStar w h = absurd h
+open_fair p colon s _ w h = absurd h
 
 mode_fair : (p : Place) (colon : Bool) (k : ℕ) (s : Known) (m : Mode) (since : List ℕ) → InMode p colon k m s.kept s.start since
     → IsEndFair (ends_at s (end_of p m))
-mode_fair p colon k s Mode.Blank since h = tt
 mode_fair p colon k s Mode.Slash since (none, front, blank, cut) =
     run_fair p s (Keep.One 47) (subst (λ o. Each is_operator_octet (o ++ 47 ∷ [])) (sym none) (refl, tt))
+mode_fair p colon k s Mode.Blank since h = tt
 mode_fair p colon k s Mode.LineComment since h = tt
 mode_fair p colon k s Mode.BlockComment since h = refl
 mode_fair p colon k s Mode.BlockCommentStar since h = refl
-mode_fair p colon k s Mode.Colon since b = open_fair p colon s Mode.Colon b.token b.is
-mode_fair p colon k s Mode.Word since b = open_fair p colon s Mode.Word b.token b.is
-mode_fair p colon k s Mode.KindName since b = open_fair p colon s Mode.KindName b.token b.is
-mode_fair p colon k s Mode.Number since b = open_fair p colon s Mode.Number b.token b.is
-mode_fair p colon k s Mode.NumberSlash since b = open_fair p colon s Mode.NumberSlash b.token b.is
-mode_fair p colon k s (Mode.Operator x) since b = open_fair p colon s (Mode.Operator x) b.token b.is
-mode_fair p colon k s Mode.OperatorSlash since b = open_fair p colon s Mode.OperatorSlash b.token b.is
-mode_fair p colon k s (Mode.Infinity n) since b = open_fair p colon s (Mode.Infinity n) b.token b.is
-mode_fair p colon k s Mode.Quote since b = open_fair p colon s Mode.Quote b.token b.is
-mode_fair p colon k s Mode.Quotes since b = open_fair p colon s Mode.Quotes b.token b.is
-mode_fair p colon k s (Mode.Text t v) since b = open_fair p colon s (Mode.Text t v) b.token b.is
-mode_fair p colon k s Mode.Brace since b = open_fair p colon s Mode.Brace b.token b.is
-mode_fair p colon k s (Mode.Lob l) since b = open_fair p colon s (Mode.Lob l) b.token b.is
+mode_fair p colon k s m since b = open_fair p colon s m b.token b.is
 
 -- What the end shows behind octets that a scanner stands for is refused for its reasons alone.
 pub end_fair : (p : Place) (s : Known) (u : List ℕ) (ts : List Placed) → Scanned p s u ts [] → IsEndFair (at_end p s)

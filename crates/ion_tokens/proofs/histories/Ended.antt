@@ -35,12 +35,11 @@ stands_used s u ts ahead (Leaved s0 u0 ts0 ahead0 t octets more0 x s' h e f n) =
 
 -- a token at the end of the input ends there
 end_used : (s : Known) (e : End) (l : Lexeme) → ends_at s e ≡ Ok (Some l) → l.end ≡ s.used
-end_used s End.Blank l h = cc
 end_used s (End.Token kind k) l h = sym (ap (λ x. end_in x l) h) where
   end_in : Result (Option Lexeme) Reason → Lexeme → ℕ
   end_in (Ok (Some l)) m = l.end
   end_in _ m = m.end
-end_used s (End.Refuse e) l h = cc
+end_used s _ l h = cc
 
 abbrev lexeme_end : Outcome → ℕ
 lexeme_end (Given l s) = l.end

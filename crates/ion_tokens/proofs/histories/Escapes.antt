@@ -38,17 +38,11 @@ three o x y h k j = are_octets (o ∷ x ∷ y ∷ []) (h, (k, (j, tt)))
 module _ (colon : Bool) (start used : ℕ) (kept : List ℕ) where
   in_operator : (p : Place) (e : Ending) → Escape p (at (Mode.Operator e) kept colon start used)
   in_operator Place.Sexp e = record { octets = 43 ∷ []; are = one 43 refl; escapes = Goes _ refl (omega arith) (λ x. cc) }
-  in_operator Place.Top e = record { octets = 43 ∷ []; are = one 43 refl; escapes = Refuses _ _ refl }
-  in_operator Place.List e = record { octets = 43 ∷ []; are = one 43 refl; escapes = Refuses _ _ refl }
-  in_operator Place.Name e = record { octets = 43 ∷ []; are = one 43 refl; escapes = Refuses _ _ refl }
-  in_operator Place.FieldValue e = record { octets = 43 ∷ []; are = one 43 refl; escapes = Refuses _ _ refl }
+  in_operator _ e = record { octets = 43 ∷ []; are = one 43 refl; escapes = Refuses _ _ refl }
 
   in_operator_slash : (p : Place) → Escape p (at Mode.OperatorSlash kept colon start used)
   in_operator_slash Place.Sexp = record { octets = 43 ∷ []; are = one 43 refl; escapes = Goes _ refl (omega arith) (λ x. cc) }
-  in_operator_slash Place.Top = record { octets = 43 ∷ 43 ∷ []; are = two 43 43 refl refl; escapes = Refuses _ _ refl }
-  in_operator_slash Place.List = record { octets = 43 ∷ 43 ∷ []; are = two 43 43 refl refl; escapes = Refuses _ _ refl }
-  in_operator_slash Place.Name = record { octets = 43 ∷ 43 ∷ []; are = two 43 43 refl refl; escapes = Refuses _ _ refl }
-  in_operator_slash Place.FieldValue = record { octets = 43 ∷ 43 ∷ []; are = two 43 43 refl refl; escapes = Refuses _ _ refl }
+  in_operator_slash _ = record { octets = 43 ∷ 43 ∷ []; are = two 43 43 refl refl; escapes = Refuses _ _ refl }
 
   in_infinity : (p : Place) (n : ℕ) → 1 ≤ n → n ≤ 3 → Escape p (at (Mode.Infinity n) kept colon start used)
   in_infinity p n a b = ⊎_elim (λ e. subst P (sym e) first) (λ m. ⊎_elim (λ e. subst P (sym e) second) (λ e. subst P (sym e) third) m)
@@ -70,10 +64,7 @@ module _ (colon : Bool) (start used : ℕ) (kept : List ℕ) where
   in_utf8 p s left least most = let h = by (nat_lt 0 least || nat_lt most 0) (nat_le left 1) in Refuses h.0 h.1 h.2 where
     plain : (s : Style) → run p (0 ∷ []) (at (Mode.Text s Within.Plain) (kept ++ 0 ∷ []) colon start (used + 1)) ≡ Refused (used + 1 + 1) Reason.Unexpected
     plain Style.ShortString = refl
-    plain Style.QuotedSymbol = refl
-    plain Style.LongString = refl
-    plain Style.ShortClob = refl
-    plain Style.LongClob = refl
+    plain _ = refl
 
     by : (b c : Bool) → (n : ℕ) × (e : Reason) × (follow (acts p (at (Mode.Text s (Within.Utf8 left least most)) kept colon start used) 0
         (cond b (Action.Refuse Reason.BadUtf8) (cond c (add (Mode.Text s Within.Plain) 0) (add (Mode.Text s (Within.Utf8 (left - 1) 0x80 0xbf)) 0))))
@@ -83,43 +74,20 @@ module _ (colon : Bool) (start used : ℕ) (kept : List ℕ) where
     by false false = (used + 1 + 1, Reason.BadUtf8, refl)
 
   in_text : (p : Place) (s : Style) (w : Within) → Escape p (at (Mode.Text s w) kept colon start used)
-  in_text p Style.ShortString Within.Plain = record { octets = 0 ∷ []; are = one 0 refl; escapes = Refuses _ _ refl }
-  in_text p Style.QuotedSymbol Within.Plain = record { octets = 0 ∷ []; are = one 0 refl; escapes = Refuses _ _ refl }
-  in_text p Style.LongString Within.Plain = record { octets = 0 ∷ []; are = one 0 refl; escapes = Refuses _ _ refl }
-  in_text p Style.ShortClob Within.Plain = record { octets = 0 ∷ []; are = one 0 refl; escapes = Refuses _ _ refl }
-  in_text p Style.LongClob Within.Plain = record { octets = 0 ∷ []; are = one 0 refl; escapes = Refuses _ _ refl }
-  in_text p Style.ShortString Within.AfterReturn = record { octets = 0 ∷ []; are = one 0 refl; escapes = Refuses _ _ refl }
-  in_text p Style.QuotedSymbol Within.AfterReturn = record { octets = 0 ∷ []; are = one 0 refl; escapes = Refuses _ _ refl }
-  in_text p Style.LongString Within.AfterReturn = record { octets = 0 ∷ []; are = one 0 refl; escapes = Refuses _ _ refl }
-  in_text p Style.ShortClob Within.AfterReturn = record { octets = 0 ∷ []; are = one 0 refl; escapes = Refuses _ _ refl }
-  in_text p Style.LongClob Within.AfterReturn = record { octets = 0 ∷ []; are = one 0 refl; escapes = Refuses _ _ refl }
-  in_text p Style.ShortString Within.OneQuote = record { octets = 0 ∷ []; are = one 0 refl; escapes = Refuses _ _ refl }
-  in_text p Style.QuotedSymbol Within.OneQuote = record { octets = 0 ∷ []; are = one 0 refl; escapes = Refuses _ _ refl }
-  in_text p Style.LongString Within.OneQuote = record { octets = 0 ∷ []; are = one 0 refl; escapes = Refuses _ _ refl }
-  in_text p Style.ShortClob Within.OneQuote = record { octets = 0 ∷ []; are = one 0 refl; escapes = Refuses _ _ refl }
-  in_text p Style.LongClob Within.OneQuote = record { octets = 0 ∷ []; are = one 0 refl; escapes = Refuses _ _ refl }
-  in_text p Style.ShortString Within.TwoQuotes = record { octets = 0 ∷ []; are = one 0 refl; escapes = Refuses _ _ refl }
-  in_text p Style.QuotedSymbol Within.TwoQuotes = record { octets = 0 ∷ []; are = one 0 refl; escapes = Refuses _ _ refl }
-  in_text p Style.LongString Within.TwoQuotes = record { octets = 0 ∷ []; are = one 0 refl; escapes = Refuses _ _ refl }
-  in_text p Style.ShortClob Within.TwoQuotes = record { octets = 0 ∷ []; are = one 0 refl; escapes = Refuses _ _ refl }
-  in_text p Style.LongClob Within.TwoQuotes = record { octets = 0 ∷ []; are = one 0 refl; escapes = Refuses _ _ refl }
   in_text p s (Within.Utf8 left least most) = record { octets = 0 ∷ 0 ∷ []; are = two 0 0 refl refl; escapes = in_utf8 p s left least most }
-  in_text p s Within.Escape = record { octets = 0 ∷ []; are = one 0 refl; escapes = Refuses _ _ refl }
-  in_text p s (Within.Hexadecimal d left n) = record { octets = 0 ∷ []; are = one 0 refl; escapes = Refuses _ _ refl }
-  in_text p s (Within.HighSurrogate h) = record { octets = 0 ∷ []; are = one 0 refl; escapes = Refuses _ _ refl }
-  in_text p s (Within.HighSurrogateEscape h) = record { octets = 0 ∷ []; are = one 0 refl; escapes = Refuses _ _ refl }
+  in_text p Style.ShortString Within.Plain = record { octets = 0 ∷ []; are = one 0 refl; escapes = Refuses _ _ refl }
+  in_text p _ Within.Plain = record { octets = 0 ∷ []; are = one 0 refl; escapes = Refuses _ _ refl }
+  in_text p Style.ShortString Within.AfterReturn = record { octets = 0 ∷ []; are = one 0 refl; escapes = Refuses _ _ refl }
+  in_text p _ Within.AfterReturn = record { octets = 0 ∷ []; are = one 0 refl; escapes = Refuses _ _ refl }
+  in_text p Style.ShortString Within.OneQuote = record { octets = 0 ∷ []; are = one 0 refl; escapes = Refuses _ _ refl }
+  in_text p _ Within.OneQuote = record { octets = 0 ∷ []; are = one 0 refl; escapes = Refuses _ _ refl }
+  in_text p Style.ShortString Within.TwoQuotes = record { octets = 0 ∷ []; are = one 0 refl; escapes = Refuses _ _ refl }
+  in_text p _ Within.TwoQuotes = record { octets = 0 ∷ []; are = one 0 refl; escapes = Refuses _ _ refl }
+  in_text p s _ = record { octets = 0 ∷ []; are = one 0 refl; escapes = Refuses _ _ refl }
 
   in_lob : (p : Place) (l : Lob) → Escape p (at (Mode.Lob l) kept colon start used)
   in_lob p Lob.Start = record { octets = 0 ∷ []; are = one 0 refl; escapes = Refuses _ _ refl }
-  in_lob p Lob.StartQuote = record { octets = 0 ∷ []; are = one 0 refl; escapes = Refuses _ _ refl }
-  in_lob p Lob.StartQuotes = record { octets = 0 ∷ []; are = one 0 refl; escapes = Refuses _ _ refl }
-  in_lob p Lob.Base64 = record { octets = 0 ∷ []; are = one 0 refl; escapes = Refuses _ _ refl }
-  in_lob p Lob.BlobClose = record { octets = 0 ∷ []; are = one 0 refl; escapes = Refuses _ _ refl }
-  in_lob p Lob.AfterShort = record { octets = 0 ∷ []; are = one 0 refl; escapes = Refuses _ _ refl }
-  in_lob p Lob.AfterLong = record { octets = 0 ∷ []; are = one 0 refl; escapes = Refuses _ _ refl }
-  in_lob p Lob.AfterQuote = record { octets = 0 ∷ []; are = one 0 refl; escapes = Refuses _ _ refl }
-  in_lob p Lob.AfterQuotes = record { octets = 0 ∷ []; are = one 0 refl; escapes = Refuses _ _ refl }
-  in_lob p Lob.ClobClose = record { octets = 0 ∷ []; are = one 0 refl; escapes = Refuses _ _ refl }
+  in_lob p _ = record { octets = 0 ∷ []; are = one 0 refl; escapes = Refuses _ _ refl }
 
 module _ (p : Place) (colon : Bool) (k : ℕ) (start used : ℕ) (since : List ℕ) where
   in_mode : (m : Mode) (kept : List ℕ) → InMode p colon k m kept start since → Escape p (at m kept colon start used)
@@ -129,10 +97,6 @@ module _ (p : Place) (colon : Bool) (k : ℕ) (start used : ℕ) (since : List �
   in_mode Mode.BlockComment kept h = record { octets = 42 ∷ 47 ∷ []; are = two 42 47 refl refl; escapes = Goes _ refl (omega arith) (λ x. cc) }
   in_mode Mode.BlockCommentStar kept h = record { octets = 47 ∷ []; are = one 47 refl; escapes = Goes _ refl (omega arith) (λ x. cc) }
   in_mode Mode.Colon kept h = record { octets = 58 ∷ []; are = one 58 refl; escapes = Grows _ _ refl (omega arith) }
-  in_mode Mode.Word kept h = record { octets = 48 ∷ []; are = one 48 refl; escapes = Goes _ refl (omega arith) (λ x. cc) }
-  in_mode Mode.KindName kept h = record { octets = 48 ∷ []; are = one 48 refl; escapes = Goes _ refl (omega arith) (λ x. cc) }
-  in_mode Mode.Number kept h = record { octets = 48 ∷ []; are = one 48 refl; escapes = Goes _ refl (omega arith) (λ x. cc) }
-  in_mode Mode.NumberSlash kept h = record { octets = 48 ∷ []; are = one 48 refl; escapes = Goes _ refl (omega arith) (λ x. cc) }
   in_mode (Mode.Operator e) kept h = in_operator colon start used kept p e
   in_mode Mode.OperatorSlash kept h = in_operator_slash colon start used kept p
   in_mode (Mode.Infinity n) kept h = let (w, run, a, b) = h.is in in_infinity colon start used kept p n a b
@@ -141,6 +105,7 @@ module _ (p : Place) (colon : Bool) (k : ℕ) (start used : ℕ) (since : List �
   in_mode (Mode.Text s w) kept h = in_text colon start used kept p s w
   in_mode Mode.Brace kept h = record { octets = 123 ∷ 0 ∷ []; are = two 123 0 refl refl; escapes = Refuses _ _ refl }
   in_mode (Mode.Lob l) kept h = in_lob colon start used kept p l
+  in_mode _ kept h = record { octets = 48 ∷ []; are = one 48 refl; escapes = Goes _ refl (omega arith) (λ x. cc) }
 
 -- wherever the scanner stands behind the last token, some octets show that no other has ended
 pub escape : (p : Place) (colon : Bool) (k : ℕ) (s : Known) (since : List ℕ) → Holds p colon k s since → Escape p s

@@ -18,8 +18,7 @@ use Rattle.ion_tokens.proofs.sound.Told.{ends_in_blank, ends_in_token, told_righ
 -- at most one octet is left
 pub at_most_one : (s : Known) (u : List ℕ) (ts : List Placed) (ahead : List ℕ) → Stands s u ts ahead → length ahead ≤ 1
 at_most_one s u ts ahead Begun = omega arith
-at_most_one s u ts ahead (Gave s0 u0 ts0 ahead0 t octets more0 s' h e f n) = omega arith
-at_most_one s u ts ahead (Leaved s0 u0 ts0 ahead0 t octets more0 x s' h e f n) = omega arith
+at_most_one s u ts ahead _ = omega arith
 
 -- the front of octets that begin with at most one
 pub begins_front : (left octets rest more : List ℕ) → length left ≤ 1 → 1 ≤ length octets → octets ++ rest ≡ left ++ more → Continues octets left
@@ -280,8 +279,7 @@ module _ (p : Place) (s : Known) (u : List ℕ) (ts : List Placed) (h : Scanned 
       by x (sym e ∙ none) a where
         by : (x : Result (Option Lexeme) Reason) → x ≡ Ok None → Ends s.used x (Err r) → ⊥
         by (Ok None) f b = b n
-        by (Ok (Some l)) f b = cc
-        by (Err q) f b = cc
+        by _ f b = cc
   end_refuses x r n e a (t ∷ []) short looks say lexes =
       let c = all_since in
       let some : at_end p s ≡ Ok (Some t.lexeme) = end_token h.behind s h.front ts t h.left h.since c.0 p h.told c.1 h.ran looks (at_cut (t ∷ []) lexes) in

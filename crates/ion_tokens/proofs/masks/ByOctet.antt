@@ -29,7 +29,6 @@ same false c = cond c false true
 
 -- truth values that agree are the same
 pub same_is : (b c : Bool) → T (same b c) → b ≡ c
-same_is true true h = refl
-same_is false false h = refl
 same_is true false h = absurd h
 same_is false true h = absurd h
+same_is _ _ h = refl

@@ -8,11 +8,9 @@ pub used_within : (x : Outcome) (r : Result Scan Refusal) (left : Bool) (before 
     → Answers before x (answered r left) now
     → IfOk r (λ scan. scan.used ≤ n)
 unfolding Between
-used_within (Next s) (Ok scan) left before n now h a = let e = ap (λ (t : Known). t.used) a.0.known in let k = a.0.counted in omega arith
-used_within (Given l s) (Ok scan) left before n now h a = let e = ap (λ (t : Known). t.used) a.0.known in let k = a.0.counted in omega arith
-used_within (Left l s) (Ok scan) left before n now h a = let e = ap (λ (t : Known). t.used) a.0.known in let k = a.0.counted in omega arith
 used_within (Refused at reason) (Ok scan) left before n now h a = absurd a
 used_within x (Err r) left before n now h a = tt
+used_within _ (Ok scan) left before n now h a = let e = ap (λ (t : Known). t.used) a.0.known in let k = a.0.counted in omega arith
 
 gives_some : (l : Lexeme) (t : Option Token) → GivesToken l t → t ≡ None → ⊥
 gives_some l None g e = g
@@ -36,7 +34,6 @@ pub refused_within : (x : Outcome) (r : Result Scan Refusal) (left : Bool) (befo
 unfolding Between
 refused_within x (Ok scan) left before n now h a = tt
 refused_within (Next s) (Err r) left before n now h a = λ other. absurd (a other)
-refused_within (Given l s) (Err r) left before n now h a = λ other. let at = (a other).offset in (omega (arith, at, h.0), omega (arith, at, h.1))
-refused_within (Left l s) (Err r) left before n now h a = λ other. let at = (a other).offset in (omega (arith, at, h.0), omega (arith, at, h.1))
 refused_within (Refused k reason) (Err r) left before n now h a = λ other. let at = ap (λ (q : Refusal). q.offset) (a other) in
     (omega (arith, at, h.0), omega (arith, at, h.1))
+refused_within _ (Err r) left before n now h a = λ other. let at = (a other).offset in (omega (arith, at, h.0), omega (arith, at, h.1))

@@ -5,21 +5,17 @@ use Rattle.base64.specs.declared.decode.DecodeError.{DecodeError}
 use Rattle.base64.specs.Engines.{standard}
 use Rattle.base64.specs.GeneralPurpose.{decode_of, decoded_of}
 use Rattle.base64.proofs.EngineFacts.{decode_of_iff}
-use Rattle.ion_tokens.specs.Names.{AreOctets, Content, Given, IsBody, IsWordBody, Known, Left, Next, Number, Number', Outcome, Place, ReadsNumber, Reason, Refused, SaysNumber, Spells, TokenKind, Word, base64_of, blob_of, feed, follow, id_of, run}
+use Rattle.ion_tokens.specs.Names.{AreOctets, Content, IsBody, IsWordBody, Known, Next, Number, Number', Outcome, Place, ReadsNumber, Reason, SaysNumber, Spells, TokenKind, Word, base64_of, blob_of, feed, follow, id_of, run}
 use Rattle.ion_scalar.specs.text.laws.OneNumber.{one_answer}
 use Rattle.ion_tokens.specs.laws.Blobs.{octet_at}
 
 follow_follow : (x : Outcome) (f g : Known → Outcome) → follow (follow x f) g ≡ follow x (λ s. follow (f s) g)
 follow_follow (Next s) f g = refl
-follow_follow (Given _ _) f g = refl
-follow_follow (Left _ _) f g = refl
-follow_follow (Refused _ _) f g = refl
+follow_follow _ f g = refl
 
 follow_same : (x : Outcome) (f g : Known → Outcome) → ((s : Known) → f s ≡ g s) → follow x f ≡ follow x g
 follow_same (Next s) f g h = h s
-follow_same (Given _ _) f g h = refl
-follow_same (Left _ _) f g h = refl
-follow_same (Refused _ _) f g h = refl
+follow_same _ f g h = refl
 
 -- a run over octets is one over a front of them, and from there one over the rest
 pub run-append : (p : Place) (xs ys : List ℕ) (s : Known) → run p (xs ++ ys) s ≡ follow (run p xs s) (λ t. run p ys t)
@@ -63,15 +59,12 @@ one_number octets (Err e) (Err f) h k = ap Err (one_error octets e f h k)
 -- the octets of a token of one kind say one thing alone, or are refused for one reason
 pub one_body : (kind : TokenKind) (octets : List ℕ) (a b : Result Content Reason) → IsBody kind octets a → IsBody kind octets b → a ≡ b
 one_body TokenKind.Word octets a b h k = one_word octets (id_of octets) a b h k
-one_body TokenKind.KindName octets a b h k = h ∙ sym k
 one_body TokenKind.Number octets a b h k = one_number octets a b h k
 one_body TokenKind.Operator octets a b h k = one_spelled _ octets a b h k
 one_body TokenKind.QuotedSymbol octets a b h k = one_spelled _ octets a b h k
 one_body TokenKind.ShortString octets a b h k = one_spelled _ octets a b h k
 one_body TokenKind.LongString octets a b h k = one_spelled _ octets a b h k
-one_body TokenKind.Clob octets a b h k = h ∙ sym k
-one_body TokenKind.Blob octets a b h k = h ∙ sym k
-one_body (TokenKind.Mark m) octets a b h k = h ∙ sym k
+one_body _ octets a b h k = h ∙ sym k
 
 ok_of : (r : Result (List ℕ) DecodeError) (b : List ℕ) → result_ok r ≡ Some b → r ≡ Ok b
 ok_of (Ok c) b h = cc

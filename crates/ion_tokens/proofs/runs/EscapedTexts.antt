@@ -6,6 +6,7 @@ use Rattle.std.proofs.lemmas.Bool.Decides.{nat_tests}
 use Rattle.std.proofs.Math.Seq.{take-add, take-nil}
 use Rattle.std.specs.Char.{IsScalar}
 use Rattle.std.proofs.lemmas.List.{length-take, length-take-le}
+use Rattle.std.proofs.lemmas.Bool.{ne_eqb}
 use lib.Utf8.{encode}
 use Rattle.ion_tokens.specs.Names.{AreKept, FoundToken, Hex, IsElement, IsFound, IsHexAfter, Keep, LeadsOn, Mode, Place, Rest, StandsWhole, Style, TokenKind, Within, hex_length, is_clob, is_high, is_low, is_word_octet}
 use Rattle.ion_tokens.specs.Octets.{escaped}
@@ -13,7 +14,7 @@ use Rattle.ion_tokens.specs.machine.Table.{next}
 use Rattle.ion_tokens.proofs.complete.Moves.{Opens, opens_one, opens_then}
 use Rattle.ion_tokens.proofs.complete.TakesTexts.{BeginsOther, from_quote, opens_quote, opens_quotes, quotes_end}
 use Rattle.ion_tokens.proofs.complete.TakesWords.{kind_ends, opens_kind}
-use Rattle.ion_tokens.proofs.runs.WholeTokens.{front_each, front_stops, long_closes, not_same, opened_given, opened_left}
+use Rattle.ion_tokens.proofs.runs.WholeTokens.{front_each, front_stops, long_closes, opened_given, opened_left}
 use Rattle.ion_tokens.proofs.texts.Characters.{kept_goes}
 use Rattle.ion_tokens.proofs.texts.TextElements.{goes_one, goes_then, read_hex, read_pair}
 use Rattle.ion_tokens.proofs.texts.TextSteps.{in_simple}
@@ -56,29 +57,17 @@ pair_leads_on : (s : Style) (first second kept : List ℕ) (h l : ℕ) → is_cl
     → IsHexAfter 0 first h → IsHexAfter 0 second l → is_high h ≡ true → is_low l ≡ true
     → LeadsOn s ((92 ∷ 117 ∷ first) ++ (92 ∷ 117 ∷ second)) kept (kept ++ encode (0x10000 + (h - 0xd800) * 1024 + (l - 0xdc00)))
 pair_leads_on s first second kept h l text four four' high low is_h is_l =
-    let above : h ≡ 0xd800 + (h - 0xd800) = high_is h is_h in
-    let above' : l ≡ 0xdc00 + (l - 0xdc00) = low_is l is_l in
+    let above : h ≡ 0xd800 + (h - 0xd800) = grind (arith, nat_tests) in
+    let above' : l ≡ 0xdc00 + (l - 0xdc00) = grind (arith, nat_tests) in
     λ p. read_pair p s Within.Plain kept first second (h - 0xd800) (l - 0xdc00) tt (
       text,
       four,
       four',
       subst (λ (n : ℕ). IsHexAfter 0 first n) above high,
-      high_small h is_h,
+      grind (arith, nat_tests),
       subst (λ (n : ℕ). IsHexAfter 0 second n) above' low,
-      low_small l is_l,
+      grind (arith, nat_tests),
     )
-  where
-    high_is : (h : ℕ) → is_high h ≡ true → h ≡ 0xd800 + (h - 0xd800)
-    high_is h e = grind (arith, nat_tests)
-
-    low_is : (l : ℕ) → is_low l ≡ true → l ≡ 0xdc00 + (l - 0xdc00)
-    low_is l e = grind (arith, nat_tests)
-
-    high_small : (h : ℕ) → is_high h ≡ true → h - 0xd800 < 1024
-    high_small h e = grind (arith, nat_tests)
-
-    low_small : (l : ℕ) → is_low l ≡ true → l - 0xdc00 < 1024
-    low_small l e = grind (arith, nat_tests)
 
 -- two escapes of a surrogate pair lead on, and their character is kept
 pub pair_leads : (s : Style) (octets first second kept kept' : List ℕ) (h l : ℕ) → is_clob s ≡ false → take 6 octets ≡ 92 ∷ 117 ∷ first
@@ -152,7 +141,7 @@ symbol_stands content kept n more last first leads p r =
 pub empty_stands : (x : ℕ) (os : List ℕ) → x ≢ 39 → (p : Place) (r : Rest) → IsFound p r (39 ∷ 39 ∷ x ∷ os) TokenKind.QuotedSymbol [] 2 true
 empty_stands x os other p r =
     opened_left p r (39 ∷ 39 ∷ x ∷ os) 2 TokenKind.QuotedSymbol Mode.Quotes [] Keep.Nothing (opens_quotes p r.colon) (λ s u. refl) (omega arith) (omega arith)
-    (quotes_end x (not_same x 39 other) r.colon p)
+    (quotes_end x (ne_eqb x 39 other) r.colon p)
 
 -- what leads on up to three quotes stands whole behind three as a segment of a long string
 pub segment_stands : (content kept us : List ℕ) (n : ℕ) → n < length content → drop n content ≡ 39 ∷ 39 ∷ 39 ∷ us

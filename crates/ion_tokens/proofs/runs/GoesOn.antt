@@ -7,7 +7,7 @@ use Rattle.std.proofs.lemmas.List.Folds.{length-prefix_len}
 use Rattle.std.proofs.lemmas.Grind.{common_steps}
 use Rattle.std.proofs.lemmas.Bool.Decides.{nat_tests}
 use Rattle.std.proofs.lemmas.List.Sums.{take_while-cons}
-use Rattle.ion_tokens.specs.Names.{Action, Each, Given, GoesOver, IsSteady, Keep, Known, Left, Lob, Mode, Next, Outcome, Place, Refused, StaysSteady, Within, acts, feed, follow, go_to, goes_on, gone_on, in_blank, in_lob, is_base64, is_line_end, is_stop, is_white, is_word_octet, keeps_them, kept_after, run, start_of}
+use Rattle.ion_tokens.specs.Names.{Action, Each, GoesOver, IsSteady, Keep, Known, Lob, Mode, Next, Outcome, Place, StaysSteady, Within, acts, feed, follow, go_to, goes_on, gone_on, in_blank, is_line_end, is_stop, is_white, is_word_octet, keeps_them, kept_after, run, start_of}
 use Rattle.ion_tokens.specs.machine.Table.{next}
 use Rattle.ion_tokens.proofs.bounds.Steady.{feed_steady}
 use Rattle.ion_tokens.proofs.runs.Cutting.{run-append}
@@ -32,11 +32,7 @@ word_more false a e h = cc
 
 number_more : (a b : Bool) (x y z : Action) → not (a || b) ≡ true → cond a x (cond b y z) ≡ z
 number_more false false x y z h = refl
-number_more false true x y z h = cc
-number_more true b x y z h = cc
-
-base64_more : (o : ℕ) → is_base64 o ≡ true → in_lob Lob.Base64 o ≡ Action.Go (Mode.Lob Lob.Base64) (Keep.One o)
-base64_more o h = grind (arith, nat_tests)
+number_more _ _ x y z h = cc
 
 pub stays : (p : Place) (colon : Bool) (m : Mode) (o : ℕ) → goes_on m o ≡ true → next p colon m o ≡ Action.Go m (keep_of m o)
 stays p colon Mode.Blank o h = white_more p colon o h
@@ -45,7 +41,7 @@ stays p colon Mode.BlockComment o h = comment_more (o == 42) Mode.BlockCommentSt
 stays p colon Mode.Word o h = word_more (is_word_octet o) _ _ h
 stays p colon Mode.Number o h = number_more (is_stop o) (o == 47) _ _ _ h
 stays p colon (Mode.Text s Within.Plain) o h = plain_stays s o h
-stays p colon (Mode.Lob Lob.Base64) o h = base64_more o h
+stays p colon (Mode.Lob Lob.Base64) o h = grind (arith, nat_tests)
 stays p colon _ o h = cc h
 
 kept_one : (b : Bool) (o : ℕ) (k : List ℕ) → kept_after (cond b (Keep.One o) Keep.Nothing) k ≡ cond b (k ++ o ∷ []) k
@@ -101,9 +97,7 @@ run_over p s w some h = by s.mode s.kept s.colon s.start s.used h where
 -- where all octets are used, the first one is
 pub through : (x : Outcome) (f : Known → Outcome) (t : Known) (Q : Type 0) → follow x f ≡ Next t → ((s : Known) → x ≡ Next s → f s ≡ Next t → Q) → Q
 through (Next s) f t Q e h = h s refl e
-through (Given _ _) f t Q e h = cc
-through (Left _ _) f t Q e h = cc
-through (Refused _ _) f t Q e h = cc
+through _ f t Q e h = cc
 
 -- Octets that are all used keep a scanner steady.
 run_steady : (p : Place) (w : List ℕ) (s t : Known) (n : ℕ) → run p w s ≡ Next t → IsSteady s n → s.used + length w < 2 ^ 63 → IsSteady t (n + length w)

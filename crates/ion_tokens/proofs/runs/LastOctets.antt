@@ -1,6 +1,6 @@
 -- Where something comes of octets: the last one that was looked at, and what the scanner knew before it. Crates above cite these names.
 use Rattle.std.proofs.Common.{◌≡◌, ℕ, ◌+◌, List, [], ◌∷◌, ◌++◌, length, refl, sym, ap, ◌∙◌, subst, arith}
-use Rattle.ion_tokens.specs.Names.{Given, Known, Left, Next, Outcome, Place, Reason, Refused, feed, follow, run}
+use Rattle.ion_tokens.specs.Names.{Known, Next, Outcome, Place, Reason, Refused, feed, follow, run}
 use Rattle.ion_tokens.specs.machine.Table.{next}
 use Rattle.ion_tokens.proofs.runs.Runs.{Between, acts_between, feed_used}
 
@@ -40,9 +40,7 @@ last_octet p (o ∷ os) s y l e = by (feed p s o) refl e (λ t. last_octet p os 
         fed = r.fed;
         counted = omega (arith, feed_used p s t o f, r.counted);
       }
-  by (Given m t) f g more = here (f ∙ g)
-  by (Left m t) f g more = here (f ∙ g)
-  by (Refused n r) f g more = here (f ∙ g)
+  by _ f g more = here (f ∙ g)
 
 -- A refusal counts the octets up to the one that decides it.
 pub refused_here : (p : Place) (s : Known) (o n : ℕ) (e : Reason) → feed p s o ≡ Refused n e → n ≡ s.used + 1

@@ -70,13 +70,10 @@ word_octets TokenKind.Word octets w h = by (id_of octets) h where
   by (Some id) h = cc
 word_octets TokenKind.KindName octets w h = absurd (no_null (Word w) (kind_named octets) (λ kind e. cc) h)
 word_octets TokenKind.Number octets w h = absurd h
-word_octets TokenKind.Operator octets w h = let e = h.0 in cc
-word_octets TokenKind.QuotedSymbol octets w h = let e = h.0 in cc
-word_octets TokenKind.ShortString octets w h = let e = h.0 in cc
-word_octets TokenKind.LongString octets w h = let e = h.0 in cc
 word_octets TokenKind.Clob octets w h = cc
 word_octets TokenKind.Blob octets w h = cc
 word_octets (TokenKind.Mark m) octets w h = cc
+word_octets _ octets w h = let e = h.0 in cc
 
 operator_octets : (k : TokenKind) (octets w : List ℕ) → IsBody k octets (Ok (Operator w)) → (w ≡ octets) × IsKept k
 operator_octets TokenKind.Word octets w h = by (id_of octets) h where
@@ -86,12 +83,10 @@ operator_octets TokenKind.Word octets w h = by (id_of octets) h where
 operator_octets TokenKind.KindName octets w h = absurd (no_null (Operator w) (kind_named octets) (λ kind e. cc) h)
 operator_octets TokenKind.Number octets w h = absurd h
 operator_octets TokenKind.Operator octets w h = (let e = h.0 in cc, tt)
-operator_octets TokenKind.QuotedSymbol octets w h = let e = h.0 in cc
-operator_octets TokenKind.ShortString octets w h = let e = h.0 in cc
-operator_octets TokenKind.LongString octets w h = let e = h.0 in cc
 operator_octets TokenKind.Clob octets w h = cc
 operator_octets TokenKind.Blob octets w h = cc
 operator_octets (TokenKind.Mark m) octets w h = cc
+operator_octets _ octets w h = let e = h.0 in cc
 
 module _ (before : ℕ) (u piece : List ℕ) (l : Lexeme) (start end : ℕ) (used : before ≡ length u) (h : LastOf 0 (u ++ piece) l) (first : start ≡ l.start)
     (last : end ≡ l.end) where
@@ -124,15 +119,7 @@ module _ (before : ℕ) (u piece : List ℕ) (l : Lexeme) (start end : ℕ) (use
       let is = operator_octets l.kind l.octets (cow_str_bytes w) says in
       let same : cow_str_bytes w ≡ h.token = is.0 ∙ h.kept is.1 in
       (λ le. from.0 (lent_is lent (cow_str_bytes w) s same le), λ lt. from.1 (lent_not lent (cow_str_bytes w) s same lt))
-  lends (Body.Id _) says b = tt
-  lends (Body.Quoted _) says b = tt
-  lends (Body.Short _) says b = tt
-  lends (Body.Long _) says b = tt
-  lends (Body.Number _) says b = tt
-  lends (Body.TypedNull _) says b = tt
-  lends (Body.Clob _) says b = tt
-  lends (Body.Blob _) says b = tt
-  lends (Body.Mark _) says b = tt
+  lends _ says b = tt
 
 -- What a step's token is lent.
 pub step_lends : (p : Place) (s : Known) (u : List ℕ) (ts : List Placed) (ahead : List ℕ) → Scanned p s u ts ahead
@@ -151,15 +138,7 @@ step_lends p s u ts ahead h piece scan t now tells b =
 owned : (before start : ℕ) (b : Body) → start < before → IsLentBody before start b → IsOwnedBody b
 owned before start (Body.Word w) lt h = h.1 lt
 owned before start (Body.Operator w) lt h = h.1 lt
-owned before start (Body.Id _) lt h = tt
-owned before start (Body.Quoted _) lt h = tt
-owned before start (Body.Short _) lt h = tt
-owned before start (Body.Long _) lt h = tt
-owned before start (Body.Number _) lt h = tt
-owned before start (Body.TypedNull _) lt h = tt
-owned before start (Body.Clob _) lt h = tt
-owned before start (Body.Blob _) lt h = tt
-owned before start (Body.Mark _) lt h = tt
+owned before start _ lt h = tt
 
 some_long : (w : List ℕ) → w ≢ [] → 1 ≤ length w
 some_long [] n = absurd (n refl)
@@ -191,12 +170,4 @@ pub lends_there : (before start end : ℕ) (piece lent : List ℕ) (b : Body) �
     → BorrowsAt before start end piece b
 lends_there before start end piece lent (Body.Word w) s b = (lent, s, b)
 lends_there before start end piece lent (Body.Operator w) s b = (lent, s, b)
-lends_there before start end piece lent (Body.Id _) s b = tt
-lends_there before start end piece lent (Body.Quoted _) s b = tt
-lends_there before start end piece lent (Body.Short _) s b = tt
-lends_there before start end piece lent (Body.Long _) s b = tt
-lends_there before start end piece lent (Body.Number _) s b = tt
-lends_there before start end piece lent (Body.TypedNull _) s b = tt
-lends_there before start end piece lent (Body.Clob _) s b = tt
-lends_there before start end piece lent (Body.Blob _) s b = tt
-lends_there before start end piece lent (Body.Mark _) s b = tt
+lends_there before start end piece lent _ s b = tt

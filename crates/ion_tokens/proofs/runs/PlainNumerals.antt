@@ -14,9 +14,6 @@ use Rattle.ion_tokens.proofs.runs.WholeTokens.{number_found}
 plain_digit : (o : ℕ) → is_digit o ≡ true → IsPlainDigit o
 plain_digit o h = (grind (arith, nat_tests), grind (arith, nat_tests))
 
-digit_of : (o : ℕ) → IsPlainDigit o → is_digit o ≡ true
-digit_of o h = grind (arith, nat_tests)
-
 numeric_digit : (o : ℕ) → IsPlainDigit o → is_numeric o ≡ true
 numeric_digit o h = grind (arith, nat_tests)
 
@@ -97,7 +94,7 @@ no_slash o h e = let f : is_stop 47 ≡ true = subst (λ x. is_stop x ≡ true) 
 first_digit : (os : List ℕ) (count : ℕ) → PlainNumeral os count → (0 < count) × (is_digit (slice_index os 0) ≡ true)
 first_digit os count h =
     let some = h.some in
-    (elim h.behind [ inl all ↦ omega arith | inr point ↦ omega (arith, point.0) ], digit_of _ (h.digits 0 h.some))
+    (elim h.behind [ inl all ↦ omega arith | inr point ↦ omega (arith, point.0) ], grind (arith, nat_tests, (h.digits 0 h.some)))
 
 begins_same : (negative : Bool) (os : List ℕ) (n : ℕ) → 0 < n → BeginsWithMinus negative os → BeginsWithMinus negative (take n os)
 begins_same negative os zero some b = absurd (omega arith)

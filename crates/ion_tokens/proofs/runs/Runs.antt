@@ -1,6 +1,7 @@
 -- What one octet does to a run.
 use Rattle.std.proofs.Common.{◌≡◌, ℕ, ◌+◌, ◌<◌, ◌≤◌, refl, subst, arith, Bool, true, false, cond, List, [], ◌∷◌, length, drop, get_or, sym, ap, suc, drop-cons, add-one, Option}
 use Rattle.std.specs.Prelude.{◌==◌, ◌&&◌, bytes_eq, codes, Some, None}
+use Rattle.std.proofs.lemmas.Bool.{cond_both}
 use Rattle.ion_tokens.specs.Names.{Action, Given, Known, Left, Lexeme, Mode, Next, Outcome, Place, Refused, TokenKind, acts, blob_ends, blob_of, cut, feed, follow, go_to, past, run}
 use Rattle.ion_tokens.specs.machine.Table.{next}
 
@@ -17,16 +18,13 @@ blob_used s s' (Some b) e = sym (ap (λ x. used_in x 0) e)
 acts_used : (p : Place) (s s' : Known) (o : ℕ) (a : Action) → acts p s o a ≡ Next s' → s'.used ≡ s.used + 1
 unfolding used_in
 acts_used p s s' o (Action.Go m k) e = sym (ap (λ x. used_in x 0) e)
-acts_used p s s' o (Action.Give _ _) e = cc
-acts_used p s s' o (Action.Before _ _ _) e = cc
 acts_used p s s' o Action.EndWord e = sym (one ((o == 46) && bytes_eq s.kept (codes "null")) e) where
   one : (b : Bool) → cond b (Next (go_to s Mode.KindName [])) (Left (cut s TokenKind.Word s.kept s.used) (past p TokenKind.Word Mode.Blank [] s.used s.used))
       ≡ Next s' → s.used + 1 ≡ s'.used
   one true h = ap (λ x. used_in x 0) h
   one false h = cc
-acts_used p s s' o (Action.Split _) e = cc
 acts_used p s s' o Action.EndBlob e = blob_used s s' (blob_of s.kept) e
-acts_used p s s' o (Action.Refuse _) e = cc
+acts_used p s s' o _ e = cc
 
 -- where an octet was used, it is one more
 pub feed_used : (p : Place) (s s' : Known) (o : ℕ) → feed p s o ≡ Next s' → s'.used ≡ s.used + 1
@@ -53,32 +51,22 @@ blob_between s (Some b) = refl
 pub acts_between : (p : Place) (s : Known) (o : ℕ) (a : Action) → Between (acts p s o a) s.used 1
 unfolding Between
 acts_between p s o (Action.Go m k) = refl
-acts_between p s o (Action.Give _ _) = (omega arith, omega arith)
-acts_between p s o (Action.Before _ _ _) = (omega arith, omega arith)
-acts_between p s o Action.EndWord = one ((o == 46) && bytes_eq s.kept (codes "null")) where
-  one : (b : Bool) → Between (cond b (Next (go_to s Mode.KindName []))
-      (Left (cut s TokenKind.Word s.kept s.used) (past p TokenKind.Word Mode.Blank [] s.used s.used))) s.used 1
-  one true = refl
-  one false = (omega arith, omega arith)
-acts_between p s o (Action.Split _) = (omega arith, omega arith)
+acts_between p s o Action.EndWord =
+    cond_both ((o == 46) && bytes_eq s.kept (codes "null")) _ _ (λ x. Between x s.used 1) (λ _. refl) (λ _. (omega arith, omega arith))
 acts_between p s o Action.EndBlob = blob_between s (blob_of s.kept)
-acts_between p s o (Action.Refuse _) = (omega arith, omega arith)
+acts_between p s o _ = (omega arith, omega arith)
 
 -- behind one octet more
 between_next : (x : Outcome) (before n : ℕ) → Between x (before + 1) n → Between x before (suc n)
 unfolding Between
 between_next (Next s) before n h = omega arith
-between_next (Given l s) before n h = (omega arith, omega arith)
-between_next (Left l s) before n h = (omega arith, omega arith)
-between_next (Refused at r) before n h = (omega arith, omega arith)
+between_next _ before n h = (omega arith, omega arith)
 
 between_follow : (x : Outcome) (f : Known → Outcome) (before n : ℕ) → Between x before 1 → ((t : Known) → Between (f t) t.used n)
     → Between (follow x f) before (suc n)
 unfolding Between
 between_follow (Next s) f before n h k = between_next (f s) before n (subst (λ u. Between (f s) u n) h (k s))
-between_follow (Given l s) f before n h k = (omega arith, omega arith)
-between_follow (Left l s) f before n h k = (omega arith, omega arith)
-between_follow (Refused at r) f before n h k = (omega arith, omega arith)
+between_follow _ f before n h k = (omega arith, omega arith)
 
 -- a run uses all its octets, unless a token or a refusal comes of one of them
 pub run_between : (p : Place) (os : List ℕ) (s : Known) → Between (run p os s) s.used (length os)

@@ -1,6 +1,6 @@
 -- Where in a piece a token came.
 use Rattle.std.proofs.Common.{◌≡◌, ℕ, ◌+◌, ◌≤◌, List, [], ◌∷◌, ◌++◌, length, refl, ap, ◌∙◌, subst, arith}
-use Rattle.ion_tokens.specs.Names.{Given, Known, Left, Lexeme, Next, Outcome, Place, Refused, feed, follow, run}
+use Rattle.ion_tokens.specs.Names.{Given, Known, Left, Lexeme, Next, Outcome, Place, feed, follow, run}
 use Rattle.ion_tokens.specs.machine.Table.{next}
 use Rattle.ion_tokens.proofs.runs.Runs.{Between, acts_between, feed_used}
 
@@ -55,8 +55,7 @@ given_split p (o ∷ os) s s' l e = by (feed p s o) refl e (λ t. given_split p 
         ap (λ x. follow x (λ t. Next t)) (f ∙ g);
     used = given_one p o s s' l (f ∙ g);
   }
-  by (Left m t) f g more = cc
-  by (Refused n r) f g more = cc
+  by _ f g more = cc
 
 -- a piece in which a token ended before an octet is cut at that octet
 pub left_split : (p : Place) (piece : List ℕ) (s s' : Known) (l : Lexeme) → run p piece s ≡ Left l s' → LeftSplit p piece s s' l
@@ -75,7 +74,6 @@ left_split p (o ∷ os) s s' l e = by (feed p s o) refl e (λ t. left_split p os
             ap (λ x. follow x (λ t. run p (r.octets ++ r.octet ∷ []) t)) f ∙ r.ran;
         used = omega (arith, feed_used p s t o f, r.used);
       }
-  by (Given m t) f g more = cc
   by (Left m t) f g more = record {
     octets = [];
     octet = o;
@@ -85,7 +83,7 @@ left_split p (o ∷ os) s s' l e = by (feed p s o) refl e (λ t. left_split p os
     used = let h =
         left_one p o s s' l (f ∙ g) in omega (arith, h);
   }
-  by (Refused n r) f g more = cc
+  by _ f g more = cc
 
 -- a token that is given has an octet
 pub given_some : (p : Place) (octets : List ℕ) (s s' : Known) (l : Lexeme) → run p octets s ≡ Given l s' → 1 ≤ length octets

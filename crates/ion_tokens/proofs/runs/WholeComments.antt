@@ -2,8 +2,8 @@
 use Rattle.std.proofs.Common.{◌≡◌, ℕ, zero, suc, ◌+◌, ◌-◌, ◌<◌, ◌≤◌, Bool, true, false, List, [], ◌∷◌, ◌++◌, length, length-drop, take, take-add, drop, get_or, append_assoc, refl, sym, ap, ◌∙◌, subst, arith, append-nil}
 use Rattle.std.specs.Prelude.{not, codes, ◌&&◌, ◌==◌, if◌then◌else◌}
 use Rattle.std.specs.List.{take_while}
-use Rattle.std.proofs.lemmas.Bool.Decides.{nat_tests}
 use Rattle.std.proofs.lemmas.List.{length-take-le, take_more}
+use Rattle.std.proofs.lemmas.Bool.{not-true, not-false, eqb-true}
 use Rattle.ion_tokens.specs.Names.{Each, HasNoClose, HasNoLineEnd, IsPassed, Mode, Next, Place, Rest, RestsBehind, follow, goes_on, is_line_end, past_blank, past_comment, resting, run}
 use Rattle.ion_tokens.proofs.complete.Moves.{Opens, at}
 use Rattle.ion_tokens.proofs.complete.TakesBlanks.{block_opens, line_opens}
@@ -40,11 +40,7 @@ three_more second n content = ap (λ k. take k (47 ∷ second ∷ content)) (let
 
 open_line : (w : List ℕ) → Each (goes_on Mode.LineComment) w → HasNoLineEnd w
 open_line [] h = tt
-open_line (o ∷ os) h = (not_true (is_line_end o) h.0, open_line os h.1)
-  where
-    not_true : (b : Bool) → not b ≡ true → b ≡ false
-    not_true false e = refl
-    not_true true e = absurd cc
+open_line (o ∷ os) h = (not-true (is_line_end o) h.0, open_line os h.1)
 
 -- a line comment, with the end of its line
 pub line_rests : (octets content : List ℕ) (n : ℕ) → 1 < length octets → get_or octets 0 0 ≡ 47 → get_or octets 1 0 ≡ 47 → content ≡ drop 2 octets
@@ -56,11 +52,7 @@ line_rests octets content n more one two is e within r =
     comment_rests octets (codes "//" ++ take n content ++ get_or content n 0 ∷ []) (n + 3)
     (ap (take (n + 3)) b.is ∙ (three_more 47 n content ∙ ap (λ w. 47 ∷ 47 ∷ w) (take_more content n 0 within))) (omega arith)
     (λ p colon. line_opens p colon (take n content) (get_or content n 0) (open_line (take n content) (front_each (goes_on Mode.LineComment) content n e))
-    (ends (is_line_end (get_or content n 0)) (front_stops (goes_on Mode.LineComment) content n e within))) r
-  where
-    ends : (b : Bool) → not b ≡ false → b ≡ true
-    ends true h = refl
-    ends false h = absurd cc
+    (not-false (is_line_end (get_or content n 0)) (front_stops (goes_on Mode.LineComment) content n e within))) r
 
 -- a block comment
 pub block_rests : (octets content : List ℕ) (n : ℕ) → 1 < length octets → get_or octets 0 0 ≡ 47 → get_or octets 1 0 ≡ 42 → content ≡ drop 2 octets
@@ -169,8 +161,5 @@ pub white_rests : (octets : List ℕ) (n : ℕ) → n ≤ length octets → IsPa
 white_rests octets n within passed r = record { ran = λ p. passed p r; within = within; used = by (n == 0) refl }
   where
     by : (b : Bool) → (n == 0) ≡ b → (if b then r else record { start = r.used + (n - 1); used = r.used + n; colon = r.colon }).used ≡ r.used + n
-    by true e = let z : n ≡ 0 = is_zero n e in omega arith
-      where
-        is_zero : (n : ℕ) → (n == 0) ≡ true → n ≡ 0
-        is_zero n e = grind (arith, nat_tests)
+    by true e = let z : n ≡ 0 = eqb-true n 0 e in omega arith
     by false e = refl

@@ -8,6 +8,7 @@ use Rattle.std.proofs.lemmas.List.{length-take, length-take-le}
 use Rattle.std.proofs.lemmas.List.Folds.{length-prefix_len}
 use Rattle.std.proofs.lemmas.List.Sums.{prefix_len_stops, prefix_len-le-length}
 use Rattle.std.proofs.lemmas.Str.{IsUtf8-from_ascii}
+use Rattle.std.proofs.lemmas.Bool.{ne_eqb}
 use Rattle.ion_tokens.specs.Names.{Action, AreKept, Each, Given, IsFound, IsPassed, IsWord, Keep, Known, LeadsOn, Left, Mark, Mode, Next, Place, Rest, Style, TokenKind, Within, acts, begins, begins_number, begins_word, cut, feed, go_to, in_blank, is_digit, is_name, is_numeric, is_operator_octet, is_plain_operator, is_raw, is_stop, is_white, is_word_octet, kept_after, past, past_blank, resting, run}
 use Rattle.ion_tokens.specs.machine.Table.{next}
 use Rattle.ion_tokens.proofs.complete.Moves.{Moves, Opens, Stays, at, moves_one, moves_then, opens_one, opens_then}
@@ -109,9 +110,8 @@ front_stops class octets n e more =
     subst (λ (i : ℕ). class (slice_index octets i) ≡ false) (sym is) (prefix_len_stops class octets 0 (omega arith))
 
 front_begins : (class : ℕ → Bool) (octets : List ℕ) (n : ℕ) → 0 < n → 0 < length octets → begins class (take n octets) ≡ class (slice_index octets 0)
-front_begins class [] n some more = absurd (omega arith)
-front_begins class (o ∷ os) zero some more = absurd (omega arith)
 front_begins class (o ∷ os) (suc k) some more = refl
+front_begins class _ _ some more = absurd (omega arith)
 
 -- octets of a class of ASCII are a text
 front_text : (class : ℕ → Bool) (octets : List ℕ) (n : ℕ) → ((o : ℕ) → class o ≡ true → o < 128) → n ≡ length (take_while class octets) → IsUtf8 (take n octets)
@@ -128,14 +128,6 @@ word_text octets n e = front_text is_word_octet octets n word_ascii e
 
 first_in_word : (o : ℕ) → begins_word o ≡ true → is_word_octet o ≡ true
 first_in_word o h = ap (λ b. b || is_digit o) h
-
--- numbers that the test finds equal are the same
-pub same_is : (a b : ℕ) → (a == b) ≡ true → a ≡ b
-same_is a b h = grind (arith, nat_tests)
-
--- octets that differ are told apart
-pub not_same : (a b : ℕ) → a ≢ b → (a == b) ≡ false
-not_same a b n = grind (arith, nat_tests)
 
 -- a word stands whole before an octet of no word that is no dot
 pub word_found : (octets : List ℕ) (n : ℕ) → 0 < length octets → begins_word (slice_index octets 0) ≡ true → n ≡ length (take_while is_word_octet octets)
@@ -156,7 +148,7 @@ word_found octets n first begun e more dot p r =
       ends =
           ap (λ a. acts p s x a) (word_ends x (front_stops is_word_octet octets n e more))
           ∙ ap (λ b. cond b (Next (go_to s Mode.KindName [])) (Left (cut s TokenKind.Word w u) (past p TokenKind.Word Mode.Blank [] u u)))
-          (no_dot w x (λ _. not_same x 46 dot));
+          (no_dot w x (λ _. ne_eqb x 46 dot));
     }
 
 -- A number.
@@ -165,7 +157,7 @@ digit_numeric : (o : ℕ) → is_digit o ≡ true → is_numeric o ≡ true
 digit_numeric o h = grind (arith, nat_tests)
 
 stop_is : (o : ℕ) → is_numeric o ≡ false → o ≢ 47 → is_stop o ≡ true
-stop_is o h n = by (is_stop o) (o == 47) h (not_same o 47 n) where
+stop_is o h n = by (is_stop o) (o == 47) h (ne_eqb o 47 n) where
   by : (b c : Bool) → not (b || c) ≡ false → c ≡ false → b ≡ true
   by true c h f = refl
   by false true h f = cc
@@ -209,7 +201,7 @@ number_found octets n first begun e more slash p r name =
 -- An operator.
 
 no_operator : (o : ℕ) → is_plain_operator o ≡ false → o ≢ 47 → is_operator_octet o ≡ false
-no_operator o h n = by (is_operator_octet o) (o == 47) h (not_same o 47 n) where
+no_operator o h n = by (is_operator_octet o) (o == 47) h (ne_eqb o 47 n) where
   by : (b c : Bool) → (b && not c) ≡ false → c ≡ false → b ≡ false
   by false c h f = refl
   by true false h f = cc
@@ -432,7 +424,7 @@ fields_open_found p r octets name some e n =
     opened_left p r octets 1 (TokenKind.Mark Mark.FieldsOpen) Mode.Brace [] Keep.Nothing
     (subst (λ w. Opens p r.colon w Mode.Brace []) (sym (first_of octets 123 (omega arith) e)) (opens_brace p r.colon name)) (λ s u. refl) (omega arith)
     some
-    (brace_ends (slice_index octets 1) (not_same (slice_index octets 1) 123 n) r.colon p)
+    (brace_ends (slice_index octets 1) (ne_eqb (slice_index octets 1) 123 n) r.colon p)
 
 -- a single colon stands whole before an octet other than a colon, where one may stand
 pub colon_found : (p : Place) (r : Rest) (octets : List ℕ) → r.colon ≡ true → 1 < length octets → slice_index octets 0 ≡ 58 → slice_index octets 1 ≢ 58
@@ -441,7 +433,7 @@ colon_found p r octets stands some e n =
     opened_left p r octets 1 (TokenKind.Mark Mark.Colon) Mode.Colon [] Keep.Nothing
     (subst (λ w. Opens p r.colon w Mode.Colon []) (sym (first_of octets 58 (omega arith) e)) (opens_colon p r.colon stands)) (λ s u. refl) (omega arith)
     some
-    (colon_ends (slice_index octets 1) (not_same (slice_index octets 1) 58 n) r.colon p)
+    (colon_ends (slice_index octets 1) (ne_eqb (slice_index octets 1) 58 n) r.colon p)
 
 -- two colons stand whole, where one may stand
 pub colons_found : (p : Place) (r : Rest) (octets : List ℕ) → r.colon ≡ true → 1 < length octets → slice_index octets 0 ≡ 58 → slice_index octets 1 ≡ 58

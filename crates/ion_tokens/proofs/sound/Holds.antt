@@ -1,5 +1,5 @@
 -- What the octets behind the last token are, by what the scanner knows.
-use Rattle.std.proofs.Common.{◌≡◌, ℕ, ◌+◌, ◌<◌, ◌≤◌, ◌⊎◌, ⊎_elim, Bool, true, false, List, [], ◌∷◌, ◌++◌, length, refl, sym, ap, ◌∙◌, subst, arith, append_assoc, append-nil, cond}
+use Rattle.std.proofs.Common.{◌≡◌, ℕ, ◌+◌, ◌≤◌, ◌⊎◌, ⊎_elim, Bool, true, false, List, [], ◌∷◌, ◌++◌, length, refl, sym, ap, ◌∙◌, subst, arith, append_assoc, append-nil, cond}
 use Rattle.std.specs.Prelude.{◌==◌, ◌||◌, not, codes, take, Some, Ok, Err}
 use Rattle.std.specs.Result.{result_ok}
 use Rattle.std.specs.List.{flat_map, AllByRecursion}
@@ -91,9 +91,7 @@ blank_more w b h i = record {
 -- blobs
 base_octets : (os : List ℕ) → Each is_base64 os → AreOctets os
 base_octets [] h = tt
-base_octets (o ∷ os) h = (base_low o h.0, base_octets os h.1) where
-  base_low : (o : ℕ) → is_base64 o ≡ true → o < 256
-  base_low o h = grind (arith, nat_tests)
+base_octets (o ∷ os) h = (grind (arith, nat_tests, h.0), base_octets os h.1)
 
 solid_base : (os : List ℕ) → Each AnyBlob os → Each is_base64 (solid os)
 solid_base [] h = tt
@@ -128,19 +126,7 @@ in_mode p colon k Mode.Slash kept start front token b e h = absurd h
 in_mode p colon k Mode.LineComment kept start front token b e h = absurd h
 in_mode p colon k Mode.BlockComment kept start front token b e h = absurd h
 in_mode p colon k Mode.BlockCommentStar kept start front token b e h = absurd h
-in_mode p colon k Mode.Colon kept start front token b e h = record { front = front; token = token; blank = b; cut = refl; begins = e; is = h }
-in_mode p colon k Mode.Word kept start front token b e h = record { front = front; token = token; blank = b; cut = refl; begins = e; is = h }
-in_mode p colon k Mode.KindName kept start front token b e h = record { front = front; token = token; blank = b; cut = refl; begins = e; is = h }
-in_mode p colon k Mode.Number kept start front token b e h = record { front = front; token = token; blank = b; cut = refl; begins = e; is = h }
-in_mode p colon k Mode.NumberSlash kept start front token b e h = record { front = front; token = token; blank = b; cut = refl; begins = e; is = h }
-in_mode p colon k (Mode.Operator x) kept start front token b e h = record { front = front; token = token; blank = b; cut = refl; begins = e; is = h }
-in_mode p colon k Mode.OperatorSlash kept start front token b e h = record { front = front; token = token; blank = b; cut = refl; begins = e; is = h }
-in_mode p colon k (Mode.Infinity x) kept start front token b e h = record { front = front; token = token; blank = b; cut = refl; begins = e; is = h }
-in_mode p colon k Mode.Quote kept start front token b e h = record { front = front; token = token; blank = b; cut = refl; begins = e; is = h }
-in_mode p colon k Mode.Quotes kept start front token b e h = record { front = front; token = token; blank = b; cut = refl; begins = e; is = h }
-in_mode p colon k (Mode.Text s v) kept start front token b e h = record { front = front; token = token; blank = b; cut = refl; begins = e; is = h }
-in_mode p colon k Mode.Brace kept start front token b e h = record { front = front; token = token; blank = b; cut = refl; begins = e; is = h }
-in_mode p colon k (Mode.Lob l) kept start front token b e h = record { front = front; token = token; blank = b; cut = refl; begins = e; is = h }
+in_mode p colon k _ kept start front token b e h = record { front = front; token = token; blank = b; cut = refl; begins = e; is = h }
 
 -- behind a token
 pub blank_behind : (q : Place) (colon : Bool) (end : ℕ) → Holds q colon end (at Mode.Blank [] colon end end) []

@@ -1,16 +1,12 @@
 -- One octet more behind a blank, or in a comment.
 use Rattle.std.proofs.Common.{◌≡◌, ℕ, ◌+◌, ◌-◌, Bool, true, false, List, [], ◌∷◌, ◌++◌, length, refl, sym, ap, ◌∙◌, subst, arith, append_assoc, append-nil, length-append, cond}
 use Rattle.std.specs.Prelude.{◌==◌, ◌&&◌, codes}
-use Rattle.std.proofs.lemmas.Bool.{false≢true}
-use Rattle.std.proofs.lemmas.Bool.Decides.{nat_tests}
+use Rattle.std.proofs.lemmas.Bool.{false≢true, eqb-true}
 use Rattle.ion_tokens.specs.Names.{Action, BlockComment, HasNoClose, HasNoLineEnd, IsBlank, IsOpenComment, LineComment, Mode, Next, Place, White, acts, feed, go, is_line_end, kept_after, takes_colon}
 use Rattle.ion_tokens.specs.Lexemes.{ends}
 use Rattle.ion_tokens.proofs.complete.Moves.{at}
 use Rattle.ion_tokens.proofs.sound.Holds.{InMode, IsOpenBlock, Sound, blank_behind, blank_more, blank_none, in_mode}
 use Rattle.ion_tokens.proofs.sound.TurnsBlanks.{First, Second}
-
-eq_of : (a b : ℕ) → (a == b) ≡ true → a ≡ b
-eq_of a b h = grind (arith, nat_tests)
 
 no_line_end_more : (os : List ℕ) (o : ℕ) → HasNoLineEnd os → is_line_end o ≡ false → HasNoLineEnd (os ++ o ∷ [])
 no_line_end_more [] o h e = (e, tt)
@@ -30,7 +26,7 @@ no_close_front (x ∷ y ∷ os) o h = (h.0, no_close_front (y ∷ os) o h.1)
 -- what ends in a star
 but_star : (os : List ℕ) → ends (λ o. o == 42) os ≡ true → (front : List ℕ) × (os ≡ front ++ 42 ∷ [])
 but_star [] h = absurd (false≢true h)
-but_star (x ∷ []) h = let is : x ≡ 42 = eq_of x 42 h in ([], ap (λ (y : ℕ). y ∷ []) is)
+but_star (x ∷ []) h = let is : x ≡ 42 = eqb-true x 42 h in ([], ap (λ (y : ℕ). y ∷ []) is)
 but_star (x ∷ y ∷ os) h = let rest = but_star (y ∷ os) h in (x ∷ rest.0, ap (λ l. x ∷ l) rest.1)
 
 ends_last : (xs : List ℕ) (o : ℕ) → ends (λ o. o == 42) (xs ++ o ∷ []) ≡ (o == 42)
@@ -194,5 +190,5 @@ module _ (p : Place) (colon : Bool) (k : ℕ) (start used : ℕ) (since : List �
     by : (b : Bool) → (o == 47) ≡ b → Sound p colon k since o
         (acts p (at Mode.BlockCommentStar [] colon start used) o
         (cond b (go Mode.Blank) (cond (o == 42) (go Mode.BlockCommentStar) (go Mode.BlockComment))))
-    by true e = record { flag = refl; used = used_more; mode = (refl, closed (eq_of o 47 e)) }
+    by true e = record { flag = refl; used = used_more; mode = (refl, closed (eqb-true o 47 e)) }
     by false e = star (o == 42) refl e

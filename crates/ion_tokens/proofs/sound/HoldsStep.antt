@@ -2,8 +2,7 @@
 use Rattle.std.proofs.Common.{◌≡◌, ℕ, ◌+◌, ◌-◌, ◌≤◌, Bool, true, false, List, [], ◌∷◌, ◌++◌, length, refl, sym, ap, ◌∙◌, subst, arith, append_assoc, append-nil, length-append, cond}
 use Rattle.std.specs.Prelude.{◌==◌, ◌&&◌, codes, take, Option, Some, None}
 use Rattle.std.specs.Str.{bytes_eq}
-use Rattle.std.proofs.lemmas.Bool.{true≢false}
-use Rattle.std.proofs.lemmas.Bool.Decides.{nat_tests}
+use Rattle.std.proofs.lemmas.Bool.{true≢false, eqb-true}
 use Rattle.std.proofs.lemmas.Slice.Eq.{bytes_eq-Decides}
 use Rattle.ion_tokens.specs.Names.{Action, Given, IsBlank, IsWord, Known, Left, Lob, Mode, Next, Place, TokenKind, acts, blob_ends, blob_of, cut, go_to, is_word_octet, kept_after, past, start_of, takes_colon}
 use Rattle.ion_tokens.proofs.complete.Moves.{Stays, at}
@@ -134,10 +133,7 @@ module _ (p : Place) (colon : Bool) (k : ℕ) (m : Mode) (kept : List ℕ) (star
     by : (b c : Bool) → (o == 46) ≡ b → bytes_eq kept (codes "null") ≡ c
         → Sound p colon k (front ++ w) o (cond (b && c) (Next (go_to (at m kept colon start used) Mode.KindName []))
         (Left (cut (at m kept colon start used) TokenKind.Word kept used) (past p TokenKind.Word Mode.Blank [] used used)))
-    by true true f g = goes Mode.KindName [] (kind_name (eq_of o 46 f) (null_is g), tt) where
-      eq_of : (a b : ℕ) → (a == b) ≡ true → a ≡ b
-      eq_of a b h = grind (arith, nat_tests)
-
+    by true true f g = goes Mode.KindName [] (kind_name (eqb-true o 46 f) (null_is g), tt) where
       kind_name : o ≡ 46 → w ≡ codes "null" → w ++ o ∷ [] ≡ codes "null." ++ []
       kind_name i null = λ j. null j ++ i j ∷ []
     by true false f g = word true false f g refl

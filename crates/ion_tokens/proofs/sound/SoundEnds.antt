@@ -1,13 +1,13 @@
 -- What the scanner tells at the end of the octets is so.
-use Rattle.std.proofs.Common.{◌≡◌, ℕ, ◌+◌, inl, inr, Bool, true, false, List, [], ◌∷◌, ◌++◌, length, refl, sym, ap, ◌∙◌, subst, arith, length-append, cond}
+use Rattle.std.proofs.Common.{◌≡◌, ℕ, ◌+◌, inl, inr, Bool, List, [], ◌∷◌, ◌++◌, length, refl, sym, ap, ◌∙◌, subst, arith, length-append}
 use Rattle.std.specs.Prelude.{Option, Some, None, Result, Ok, Err}
-use Rattle.std.proofs.lemmas.Bool.{true≢false}
+use Rattle.std.proofs.lemmas.Bool.{cond_both, or_from, true≢false}
 use Rattle.ion_tokens.specs.Names.{End, IsBlank, IsLastBlank, IsOperator, Keep, Known, Lexeme, Mode, Place, Reason, Style, TokenKind, at_end, comment_within, end_of, ends_at, is_sexp, kept_after, operator_end}
 use Rattle.ion_tokens.specs.laws.Each.{each_last}
 use Rattle.ion_tokens.proofs.complete.Moves.{Stays, at}
 use Rattle.ion_tokens.proofs.sound.Holds.{Holds, InMode, IsBegun}
 use Rattle.ion_tokens.proofs.sound.Opens.{IsOpen, IsOpenRun, IsUnjudgedToken}
-use Rattle.ion_tokens.proofs.sound.TurnsOperators.{apart_more, both_false, comment_append, found_run, not_empty}
+use Rattle.ion_tokens.proofs.sound.TurnsOperators.{apart_more, comment_append, found_run, not_empty}
 use Rattle.ion_tokens.proofs.sound.TurnsWords.{empty_symbol, number_found, slash_in}
 
 -- behind a blank, a token up to the end of the input
@@ -33,17 +33,15 @@ EndTurns p colon w kept (End.Token kind k) = IsUnjudgedToken p colon w [] kind (
 EndTurns p colon w kept (End.Refuse r) = Unit {0}
 
 run_ended : (p : Place) (colon : Bool) (w : List ℕ) → IsOpenRun w → EndTurns p colon w w (operator_end p Keep.Nothing)
-run_ended p colon w h = by (is_sexp p) refl where
-  by : (b : Bool) → is_sexp p ≡ b → EndTurns p colon w w (cond b (End.Token TokenKind.Operator Keep.Nothing) (End.Refuse Reason.Incomplete))
-  by true s = λ j. found_run p colon w [] s h (inl refl) (λ m. refl) (λ m. refl)
-  by false s = tt
+run_ended p colon w h = cond_both (is_sexp p) _ _ (EndTurns p colon w w)
+    (λ s j. found_run p colon w [] s h (inl refl) (λ m. refl) (λ m. refl)) (λ s. tt)
 
 -- a run and a / up to the end
 slash_operator : (kept : List ℕ) → IsOpenRun kept → IsOperator (kept ++ 47 ∷ []) []
 slash_operator kept h = record {
   some = not_empty kept 47;
   each = each_last _ kept 47 h.each refl;
-  apart = comment_append kept (47 ∷ []) [] ∙ both_false (comment_within kept (47 ∷ [])) (comment_within (47 ∷ []) []) (apart_more kept (47 ∷ []) h.apart h.last)
+  apart = comment_append kept (47 ∷ []) [] ∙ or_from (comment_within kept (47 ∷ [])) (comment_within (47 ∷ []) []) (apart_more kept (47 ∷ []) h.apart h.last)
       refl;
   longest = inl refl;
   no_number = λ m. refl;
@@ -51,10 +49,8 @@ slash_operator kept h = record {
 }
 
 slash_ended : (p : Place) (colon : Bool) (w kept : List ℕ) → w ≡ kept ++ 47 ∷ [] → IsOpenRun kept → EndTurns p colon w kept (operator_end p (Keep.One 47))
-slash_ended p colon w kept e h = by (is_sexp p) refl where
-  by : (b : Bool) → is_sexp p ≡ b → EndTurns p colon w kept (cond b (End.Token TokenKind.Operator (Keep.One 47)) (End.Refuse Reason.Incomplete))
-  by true s = λ j. (sym e, s, subst (λ l. IsOperator l []) (sym e) (slash_operator kept h))
-  by false s = tt
+slash_ended p colon w kept e h = cond_both (is_sexp p) _ _ (EndTurns p colon w kept)
+    (λ s j. (sym e, s, subst (λ l. IsOperator l []) (sym e) (slash_operator kept h))) (λ s. tt)
 
 token_ends : (p : Place) (colon : Bool) (m : Mode) (w kept : List ℕ) → IsOpen p colon m w kept → EndTurns p colon w kept (end_of p m)
 token_ends p colon Mode.Colon w kept (e, k, c) = λ j. (k, e, c, refl)
@@ -75,11 +71,7 @@ token_ends p colon Mode.Quotes w kept (e, k) = λ j. (
 token_ends p colon (Mode.Text s v) w kept h = tt
 token_ends p colon Mode.Brace w kept (e, k, n) = λ j. (k, e, n, refl)
 token_ends p colon (Mode.Lob l) w kept h = tt
-token_ends p colon Mode.Blank w kept h = absurd h
-token_ends p colon Mode.Slash w kept h = absurd h
-token_ends p colon Mode.LineComment w kept h = absurd h
-token_ends p colon Mode.BlockComment w kept h = absurd h
-token_ends p colon Mode.BlockCommentStar w kept h = absurd h
+token_ends p colon _ w kept h = absurd h
 
 module _ (p : Place) (colon : Bool) (k : ℕ) (start used : ℕ) (since : List ℕ) (uses : used ≡ k + length since) where
   in_token : (m : Mode) (kept : List ℕ) → Stays m → IsBegun p colon k m kept start since
@@ -101,51 +93,39 @@ module _ (p : Place) (colon : Bool) (k : ℕ) (start used : ℕ) (since : List �
 
   lone_slash : (kept : List ℕ) (front : List ℕ) → kept ≡ [] → IsBlank front → since ≡ front ++ 47 ∷ []
       → EndSound p colon k since (ends_at (at Mode.Slash kept colon start used) (operator_end p (Keep.One 47)))
-  lone_slash kept front e b c = by (is_sexp p) refl where
-    by : (x : Bool) → is_sexp p ≡ x → EndSound p colon k since
-        (ends_at (at Mode.Slash kept colon start used) (cond x (End.Token TokenKind.Operator (Keep.One 47)) (End.Refuse Reason.Incomplete)))
-    by true s = record {
-      front = front;
-      token = 47 ∷ [];
-      blank = b;
-      cut = c;
-      start = omega (arith, uses, ap length c, length-append front (47 ∷ []));
-      end = omega (arith, uses, ap length c, length-append front (47 ∷ []));
-      found = λ j. (
-        ap (λ l. l ++ 47 ∷ []) e,
-        s,
-        record {
-          some = λ f. cc;
-          each = (refl, tt);
-          apart = refl;
-          longest =
-              inl refl;
-          no_number = λ m. refl;
-          no_float = λ m. refl;
-        },
-      );
-    }
-    by false s = tt
+  lone_slash kept front e b c =
+      cond_both (is_sexp p) _ _ (λ x. EndSound p colon k since (ends_at (at Mode.Slash kept colon start used) x))
+      (λ s. record {
+        front = front;
+        token = 47 ∷ [];
+        blank = b;
+        cut = c;
+        start = omega (arith, uses, ap length c, length-append front (47 ∷ []));
+        end = omega (arith, uses, ap length c, length-append front (47 ∷ []));
+        found = λ j. (
+          ap (λ l. l ++ 47 ∷ []) e,
+          s,
+          record {
+            some = λ f. cc;
+            each = (refl, tt);
+            apart = refl;
+            longest = inl refl;
+            no_number = λ m. refl;
+            no_float = λ m. refl;
+          },
+        );
+      }) (λ s. tt)
 
   mode_ends : (m : Mode) (kept : List ℕ) → InMode p colon k m kept start since → EndSound p colon k since (at_end p (at m kept colon start used))
   mode_ends Mode.Blank kept (e, b) = inl b
   mode_ends Mode.Slash kept (e, front, b, c) = lone_slash kept front e b c
   mode_ends Mode.LineComment kept (e, c) = inr c
-  mode_ends Mode.BlockComment kept h = tt
-  mode_ends Mode.BlockCommentStar kept h = tt
-  mode_ends Mode.Colon kept b = in_token Mode.Colon kept (λ s u. refl) b
-  mode_ends Mode.Word kept b = in_token Mode.Word kept (λ s u. refl) b
-  mode_ends Mode.KindName kept b = in_token Mode.KindName kept (λ s u. refl) b
-  mode_ends Mode.Number kept b = in_token Mode.Number kept (λ s u. refl) b
-  mode_ends Mode.NumberSlash kept b = in_token Mode.NumberSlash kept (λ s u. refl) b
-  mode_ends (Mode.Operator x) kept b = in_token (Mode.Operator x) kept (λ s u. refl) b
-  mode_ends Mode.OperatorSlash kept b = in_token Mode.OperatorSlash kept (λ s u. refl) b
-  mode_ends (Mode.Infinity n) kept b = in_token (Mode.Infinity n) kept (λ s u. refl) b
+  mode_ends Mode.BlockComment kept b = tt
+  mode_ends Mode.BlockCommentStar kept b = tt
   mode_ends Mode.Quote kept b = tt
-  mode_ends Mode.Quotes kept b = in_token Mode.Quotes kept (λ s u. refl) b
   mode_ends (Mode.Text s v) kept b = tt
-  mode_ends Mode.Brace kept b = in_token Mode.Brace kept (λ s u. refl) b
   mode_ends (Mode.Lob l) kept b = tt
+  mode_ends m kept b = in_token m kept (λ s u. refl) b
 
 -- What the end of the octets shows is so: they are a blank, or a blank and this token.
 pub end_sound : (p : Place) (colon : Bool) (k : ℕ) (s : Known) (since : List ℕ) → Holds p colon k s since → EndSound p colon k since (at_end p s)

@@ -120,9 +120,8 @@ stands_tells s u ts ahead (Leaved s0 u0 ts0 ahead0 t octets more0 x s' h e f n) 
             where
               last_same : (xs ys : List ℕ) (x y : ℕ) (rest : List ℕ) → xs ++ x ∷ [] ≡ ys ++ y ∷ rest → length xs ≡ length ys → (xs ≡ ys) × (x ≡ y)
               last_same [] [] x y rest e f = (refl, ap (λ l. Rattle.std.specs.Prelude.slice_index l 0) e)
-              last_same [] (z ∷ ys) x y rest e f = absurd (omega arith)
-              last_same (z ∷ xs) [] x y rest e f = absurd (omega arith)
               last_same (a ∷ xs) (b ∷ ys) x y rest e f =
                   let heads : a ≡ b = ap (λ l. Rattle.std.specs.Prelude.slice_index l 0) e in
                   let rests = last_same xs ys x y rest (ap (λ l. Rattle.std.specs.Prelude.drop 1 l) e) (omega arith) in
                   ((λ i. heads i ∷ rests.0 i), rests.1)
+              last_same _ _ x y rest e f = absurd (omega arith)

@@ -1,14 +1,13 @@
 -- What an octet says of an open quoted text.
-use Rattle.std.proofs.Common.{◌≡◌, ℕ, Bool, true, false, List, [], ◌∷◌, ◌++◌, refl, sym, ap, ◌∙◌, subst, arith, append_assoc, append-nil, cond}
+use Rattle.std.proofs.Common.{◌≡◌, ℕ, Bool, true, false, List, [], ◌∷◌, ◌++◌, refl, sym, ap, ◌∙◌, subst, append_assoc, append-nil}
 use Rattle.std.specs.Prelude.{◌==◌, not}
 use Rattle.std.specs.List.{flat_map}
-use Rattle.std.proofs.lemmas.Bool.{true≢false}
-use Rattle.std.proofs.lemmas.Bool.Decides.{nat_tests}
-use Rattle.ion_tokens.specs.Names.{Action, Each, Lob, Mode, Place, Segment, Style, TokenKind, Within, before, begins, go, in_quote, in_quotes, in_text, is_name, kept_after, raw, segment_spelling}
+use Rattle.std.proofs.lemmas.Bool.{cond_both, eqb-true, true≢false}
+use Rattle.ion_tokens.specs.Names.{Action, Each, Lob, Mode, Place, Segment, Style, TokenKind, Within, before, begins, in_quote, in_quotes, in_text, is_name, kept_after, raw, segment_spelling}
 use Rattle.ion_tokens.proofs.sound.Opens.{InText, IsLongFront, IsLongText, IsOpen, Turns}
 use Rattle.ion_tokens.proofs.sound.TurnsWords.{empty_symbol}
 use Rattle.ion_tokens.proofs.texts.TextsRead.{LeadsText, keeps_behind, reads_none, text_step}
-use Rattle.ion_tokens.proofs.texts.TextsSound.{Closes, EndsText}
+use Rattle.ion_tokens.proofs.texts.TextsSound.{Closes}
 
 in_style : (p : Place) (s t : Style) (v : Within) (w kept : List ℕ) → s ≡ t → InText p t v w kept → InText p s v w kept
 in_style p s t v w kept e h = subst (λ x. InText p x v w kept) (sym e) h
@@ -18,9 +17,7 @@ short_turns : (p : Place) (colon : Bool) (part kept : List ℕ) (o : ℕ) (a : A
     → Turns p colon (34 ∷ part) kept o a
 short_turns p colon part kept o (Action.Go (Mode.Text s v) k) (d, (e, h)) =
     in_style p s Style.ShortString v (34 ∷ part ++ o ∷ []) (kept_after k kept) e (part ++ o ∷ [], h, refl)
-short_turns p colon part kept o (Action.Go (Mode.Lob l) k) (d, (e, h)) = absurd (none l e) where
-  none : (l : Lob) → EndsText Style.ShortString l → ⊥
-  none l e = e
+short_turns p colon part kept o (Action.Go (Mode.Lob l) k) (d, (e, h)) = absurd e
 short_turns p colon part kept o (Action.Go m k) h = absurd h.1
 short_turns p colon part kept o (Action.Give TokenKind.ShortString k) (d, g, c) = λ r j. (c.content, c.is, ap (λ l. 34 ∷ l) c.spelled)
 short_turns p colon part kept o (Action.Give kind k) h = absurd h.1
@@ -32,9 +29,7 @@ long_turns : (p : Place) (colon : Bool) (part kept : List ℕ) (o : ℕ) (a : Ac
     → Turns p colon (39 ∷ 39 ∷ 39 ∷ part) kept o a
 long_turns p colon part kept o (Action.Go (Mode.Text s v) k) (d, (e, h)) =
     in_style p s Style.LongString v (39 ∷ 39 ∷ 39 ∷ part ++ o ∷ []) (kept_after k kept) e (part ++ o ∷ [], h, refl)
-long_turns p colon part kept o (Action.Go (Mode.Lob l) k) (d, (e, h)) = absurd (none l e) where
-  none : (l : Lob) → EndsText Style.LongString l → ⊥
-  none l e = e
+long_turns p colon part kept o (Action.Go (Mode.Lob l) k) (d, (e, h)) = absurd e
 long_turns p colon part kept o (Action.Go m k) h = absurd h.1
 long_turns p colon part kept o (Action.Give TokenKind.LongString k) (d, g, c) = λ r j. (c.content, c.is, ap (λ l. 39 ∷ 39 ∷ 39 ∷ l) c.spelled)
 long_turns p colon part kept o (Action.Give kind k) h = absurd h.1
@@ -53,9 +48,7 @@ symbol_turns : (p : Place) (colon : Bool) (part kept : List ℕ) (o : ℕ) (a : 
     → LeadsText Style.QuotedSymbol a (part ++ o ∷ []) kept → Turns p colon (39 ∷ part) kept o a
 symbol_turns p colon part kept o (Action.Go (Mode.Text s v) k) n (d, (e, h)) =
     in_style p s Style.QuotedSymbol v (39 ∷ part ++ o ∷ []) (kept_after k kept) e (part ++ o ∷ [], h, refl, n)
-symbol_turns p colon part kept o (Action.Go (Mode.Lob l) k) n (d, (e, h)) = absurd (none l e) where
-  none : (l : Lob) → EndsText Style.QuotedSymbol l → ⊥
-  none l e = e
+symbol_turns p colon part kept o (Action.Go (Mode.Lob l) k) n (d, (e, h)) = absurd e
 symbol_turns p colon part kept o (Action.Go m k) n h = absurd h.1
 symbol_turns p colon part kept o (Action.Give TokenKind.QuotedSymbol k) n (d, g, c) =
     λ r j. (c.content, c.is, ap (λ l. 39 ∷ l) c.spelled, λ e. absurd (some_behind part c.content o c.spelled n e))
@@ -163,16 +156,14 @@ text_turns p colon Style.LongClob v w kept o (n, front, kept', part, q, f, h, e,
 -- behind one quote, and behind two
 pub quote_turns : (p : Place) (colon : Bool) (w kept : List ℕ) (o : ℕ) → IsOpen p colon Mode.Quote w kept → Turns p colon w kept o (in_quote o)
 quote_turns p colon w kept o (e, k) = subst (λ l. Turns p colon l kept o (in_quote o)) (sym e)
-    (subst (λ l. Turns p colon (39 ∷ []) l o (in_quote o)) (sym k) (by (o == 39) refl)) where
-      by : (b : Bool) → (o == 39) ≡ b → Turns p colon (39 ∷ []) [] o (cond b (go Mode.Quotes) (raw Style.QuotedSymbol o))
-      by true f = let is : o ≡ 39 = grind (arith, nat_tests) in ((λ i. 39 ∷ is i ∷ []), refl)
-      by false f = symbol_turns p colon [] [] o (raw Style.QuotedSymbol o) (ap not f)
-          (text_step Style.QuotedSymbol Within.Plain o [] [] (reads_none Style.QuotedSymbol))
+    (subst (λ l. Turns p colon (39 ∷ []) l o (in_quote o)) (sym k)
+    (cond_both (o == 39) _ _ (Turns p colon (39 ∷ []) [] o) (λ f. ((λ i. 39 ∷ eqb-true o 39 f i ∷ []), refl))
+    (λ f. symbol_turns p colon [] [] o (raw Style.QuotedSymbol o) (ap not f)
+    (text_step Style.QuotedSymbol Within.Plain o [] [] (reads_none Style.QuotedSymbol)))))
 
 -- what the table does with an octet behind `''` fits the quotes
 pub quotes_turns : (p : Place) (colon : Bool) (w kept : List ℕ) (o : ℕ) → IsOpen p colon Mode.Quotes w kept → Turns p colon w kept o (in_quotes o)
 quotes_turns p colon w kept o (e, k) = subst (λ l. Turns p colon l kept o (in_quotes o)) (sym e)
-    (subst (λ l. Turns p colon (39 ∷ 39 ∷ []) l o (in_quotes o)) (sym k) (by (o == 39) refl)) where
-      by : (b : Bool) → (o == 39) ≡ b → Turns p colon (39 ∷ 39 ∷ []) [] o (cond b (go (Mode.Text Style.LongString Within.Plain)) (before TokenKind.QuotedSymbol))
-      by true f = let is : o ≡ 39 = grind (arith, nat_tests) in ([], reads_none Style.LongString, (λ i. 39 ∷ 39 ∷ is i ∷ []))
-      by false f = λ r j. ([], empty_symbol, refl, λ i. f)
+    (subst (λ l. Turns p colon (39 ∷ 39 ∷ []) l o (in_quotes o)) (sym k)
+    (cond_both (o == 39) _ _ (Turns p colon (39 ∷ 39 ∷ []) [] o)
+    (λ f. ([], reads_none Style.LongString, (λ i. 39 ∷ 39 ∷ eqb-true o 39 f i ∷ []))) (λ f r j. ([], empty_symbol, refl, λ i. f))))

@@ -1,26 +1,22 @@
 -- What an octet says of an open word, number, mark or quote.
-use Rattle.std.proofs.Common.{◌≡◌, ℕ, ◌⊎◌, inl, inr, ⊎_elim, Bool, true, false, List, [], ◌∷◌, ◌++◌, refl, sym, ap, ◌∙◌, subst, arith, cond}
-use Rattle.std.specs.Prelude.{◌==◌, ◌&&◌, ◌||◌, not}
+use Rattle.std.proofs.Common.{◌≡◌, ℕ, ◌⊎◌, inl, inr, ⊎_elim, Bool, true, false, List, [], ◌∷◌, ◌++◌, refl, sym, ap, ◌∙◌, subst, arith}
+use Rattle.std.specs.Prelude.{◌==◌, ◌||◌, not}
 use Rattle.std.specs.List.{list_any}
-use Rattle.std.proofs.lemmas.Bool.{false≢true, true≢false}
+use Rattle.std.proofs.lemmas.Bool.{cond_both, eqb-true, false≢true, or_right, true≢false}
 use Rattle.std.proofs.lemmas.Bool.Decides.{nat_tests}
-use Rattle.ion_tokens.specs.Names.{Action, Each, IsQuoted, Keep, Lob, Mark, Mode, Place, Style, TokenKind, add, before, begins, begins_comment, begins_number, begins_word, give, go, in_brace, in_colon, in_kind_name, in_number, in_number_slash, in_word, is_digit, is_stop, is_word_octet}
+use Rattle.ion_tokens.specs.Names.{Each, IsQuoted, Mode, Place, Style, TokenKind, begins, begins_comment, begins_number, begins_word, in_brace, in_colon, in_kind_name, in_number, in_number_slash, in_word, is_stop, is_word_octet}
 use Rattle.ion_tokens.specs.laws.Each.{begins_more, each_last}
 use Rattle.ion_tokens.proofs.sound.Opens.{IsOpen, IsOpenNumber, IsUnjudgedToken, Turns}
 
 -- words
 pub word_turns : (p : Place) (colon : Bool) (w kept : List ℕ) (o : ℕ) → IsOpen p colon Mode.Word w kept → Turns p colon w kept o (in_word o)
-word_turns p colon w kept o (e, h) = by (is_word_octet o) refl where
-  by : (b : Bool) → is_word_octet o ≡ b → Turns p colon w kept o (cond b (add Mode.Word o) Action.EndWord)
-  by true f = (ap (λ l. l ++ o ∷ []) e, (begins_more begins_word w (o ∷ []) h.0, each_last is_word_octet w o h.1 f))
-  by false f = (e, h, f)
+word_turns p colon w kept o (e, h) = cond_both (is_word_octet o) _ _ (Turns p colon w kept o)
+    (λ f. (ap (λ l. l ++ o ∷ []) e, (begins_more begins_word w (o ∷ []) h.0, each_last is_word_octet w o h.1 f))) (λ f. (e, h, f))
 
 -- what the table does with an octet of the name behind `null.` fits the name
 pub kind_turns : (p : Place) (colon : Bool) (w kept : List ℕ) (o : ℕ) → IsOpen p colon Mode.KindName w kept → Turns p colon w kept o (in_kind_name o)
-kind_turns p colon w kept o (e, h) = by (is_word_octet o) refl where
-  by : (b : Bool) → is_word_octet o ≡ b → Turns p colon w kept o (cond b (add Mode.KindName o) (before TokenKind.KindName))
-  by true f = (ap (λ l. l ++ o ∷ []) e, each_last is_word_octet kept o h f)
-  by false f = λ r j. (e, h, f)
+kind_turns p colon w kept o (e, h) = cond_both (is_word_octet o) _ _ (Turns p colon w kept o)
+    (λ f. (ap (λ l. l ++ o ∷ []) e, each_last is_word_octet kept o h f)) (λ f r j. (e, h, f))
 
 -- numbers
 no_slash : (w : List ℕ) → Each (λ o. not (is_stop o)) w → (list_any (λ o. o == 47) w ≡ true) ⊎ Each (λ o. not (is_stop o || (o == 47))) w
@@ -39,22 +35,14 @@ pub number_found : (p : Place) (colon : Bool) (w r : List ℕ) → IsOpenNumber 
 number_found p colon w r n l j = ⊎_elim (λ s. absurd (true≢false (sym s ∙ j))) (λ e. (refl, n.place, record { begun = n.begun; each = e; longest = l }))
     (no_slash w n.each)
 
-or_true : (a b : Bool) → b ≡ true → (a || b) ≡ true
-or_true true b e = refl
-or_true false b e = e
-
 -- what ends in a `/` has one
 pub slash_in : (w : List ℕ) → list_any (λ o. o == 47) (w ++ 47 ∷ []) ≡ true
 slash_in [] = refl
-slash_in (o ∷ w) = or_true (o == 47) (list_any (λ o. o == 47) (w ++ 47 ∷ [])) (slash_in w)
+slash_in (o ∷ w) = or_right (o == 47) (list_any (λ o. o == 47) (w ++ 47 ∷ [])) (slash_in w)
 
 number_more : (w more : List ℕ) → begins_number w ≡ true → begins_number (w ++ more) ≡ true
 number_more [] more h = absurd (false≢true h)
-number_more (o ∷ []) more h = by (is_digit o) (o == 45) h where
-  by : (a b : Bool) → (a || (b && false)) ≡ true → (a || (b && begins is_digit more)) ≡ true
-  by true b h = refl
-  by false true h = absurd (false≢true h)
-  by false false h = absurd (false≢true h)
+number_more (o ∷ []) more h = grind (arith, nat_tests)
 number_more (o ∷ x ∷ w) more h = h
 
 open_more : (p : Place) (w : List ℕ) (o : ℕ) → IsOpenNumber p w → is_stop o ≡ false → IsOpenNumber p (w ++ o ∷ [])
@@ -62,43 +50,29 @@ open_more p w o n e = record { place = n.place; begun = number_more w (o ∷ [])
 
 -- what the table does with an octet of an open number fits the number
 pub number_turns : (p : Place) (colon : Bool) (w kept : List ℕ) (o : ℕ) → IsOpen p colon Mode.Number w kept → Turns p colon w kept o (in_number o)
-number_turns p colon w kept o (e, n) = by (is_stop o) refl where
-  slash : (b : Bool) → (o == 47) ≡ b → is_stop o ≡ false → Turns p colon w kept o (cond b (go Mode.NumberSlash) (add Mode.Number o))
-  slash true f g = let is : o ≡ 47 = grind (arith, nat_tests) in ((λ i. sym e i ++ is i ∷ []), subst (λ l. IsOpenNumber p l) (sym e) n)
-  slash false f g = (ap (λ l. l ++ o ∷ []) e, open_more p w o n g)
-
-  by : (b : Bool) → is_stop o ≡ b → Turns p colon w kept o (cond b (before TokenKind.Number) (cond (o == 47) (go Mode.NumberSlash) (add Mode.Number o)))
-  by true f = λ r. subst (λ l. IsUnjudgedToken p colon w (o ∷ r) TokenKind.Number l) (sym e) (number_found p colon w (o ∷ r) n (inr (inl f)))
-  by false f = slash (o == 47) refl f
+number_turns p colon w kept o (e, n) = cond_both (is_stop o) _ _ (Turns p colon w kept o)
+    (λ f r. subst (λ l. IsUnjudgedToken p colon w (o ∷ r) TokenKind.Number l) (sym e) (number_found p colon w (o ∷ r) n (inr (inl f))))
+    (λ g. cond_both (o == 47) _ _ (Turns p colon w kept o)
+    (λ f. ((λ i. sym e i ++ eqb-true o 47 f i ∷ []), subst (λ l. IsOpenNumber p l) (sym e) n))
+    (λ f. (ap (λ l. l ++ o ∷ []) e, open_more p w o n g)))
 
 -- what the table does with an octet behind a number and a `/` fits them
 pub number_slash_turns : (p : Place) (colon : Bool) (w kept : List ℕ) (o : ℕ) → IsOpen p colon Mode.NumberSlash w kept
     → Turns p colon w kept o (in_number_slash o)
-number_slash_turns p colon w kept o (e, n) = by ((o == 47) || (o == 42)) refl where
-  stop : (b : Bool) → is_stop o ≡ b → Turns p colon w kept o
-      (cond b (Action.Before TokenKind.Number (Keep.One 47) Mode.Blank) (Action.Go Mode.Number (Keep.Two 47 o)))
-  stop true f = λ r j. absurd (true≢false (sym (slash_in kept) ∙ j))
-  stop false f = (ap (λ l. l ++ o ∷ []) (sym e), open_more p w o (subst (λ l. IsOpenNumber p l) (sym e) (open_more p kept 47 n refl)) f)
-
-  by : (b : Bool) → ((o == 47) || (o == 42)) ≡ b → Turns p colon w kept o
-      (cond b (Action.Before TokenKind.Number Keep.Nothing Mode.Slash)
-      (cond (is_stop o) (Action.Before TokenKind.Number (Keep.One 47) Mode.Blank) (Action.Go Mode.Number (Keep.Two 47 o))))
-  by true f = (kept, e, λ r. number_found p colon kept (47 ∷ o ∷ r) n (inr (inr f)))
-  by false f = stop (is_stop o) refl
+number_slash_turns p colon w kept o (e, n) = cond_both ((o == 47) || (o == 42)) _ _ (Turns p colon w kept o)
+    (λ f. (kept, e, λ r. number_found p colon kept (47 ∷ o ∷ r) n (inr (inr f))))
+    (λ _. cond_both (is_stop o) _ _ (Turns p colon w kept o) (λ f r j. absurd (true≢false (sym (slash_in kept) ∙ j)))
+    (λ f. (ap (λ l. l ++ o ∷ []) (sym e), open_more p w o (subst (λ l. IsOpenNumber p l) (sym e) (open_more p kept 47 n refl)) f)))
 
 -- marks
 pub colon_turns : (p : Place) (colon : Bool) (w kept : List ℕ) (o : ℕ) → IsOpen p colon Mode.Colon w kept → Turns p colon w kept o (in_colon o)
-colon_turns p colon w kept o (e, k, c) = by (o == 58) refl where
-  by : (b : Bool) → (o == 58) ≡ b → Turns p colon w kept o (cond b (give Mark.Colons) (before (TokenKind.Mark Mark.Colon)))
-  by true f = let is : o ≡ 58 = grind (arith, nat_tests) in λ r j. (k, (λ i. e i ++ is i ∷ []), c, tt)
-  by false f = λ r j. (k, e, c, f)
+colon_turns p colon w kept o (e, k, c) = cond_both (o == 58) _ _ (Turns p colon w kept o)
+    (λ f r j. (k, (λ i. e i ++ eqb-true o 58 f i ∷ []), c, tt)) (λ f r j. (k, e, c, f))
 
 -- what the table does with an octet behind one `{` fits the brace
 pub brace_turns : (p : Place) (colon : Bool) (w kept : List ℕ) (o : ℕ) → IsOpen p colon Mode.Brace w kept → Turns p colon w kept o (in_brace o)
-brace_turns p colon w kept o (e, k, n) = by (o == 123) refl where
-  by : (b : Bool) → (o == 123) ≡ b → Turns p colon w kept o (cond b (go (Mode.Lob Lob.Start)) (before (TokenKind.Mark Mark.FieldsOpen)))
-  by true f = let is : o ≡ 123 = grind (arith, nat_tests) in (n, [], (λ i. e i ++ is i ∷ []), (k, tt))
-  by false f = λ r j. (k, e, n, f)
+brace_turns p colon w kept o (e, k, n) = cond_both (o == 123) _ _ (Turns p colon w kept o)
+    (λ f. (n, [], (λ i. e i ++ eqb-true o 123 f i ∷ []), (k, tt))) (λ f r j. (k, e, n, f))
 
 -- the empty symbol, or a long string
 pub empty_symbol : IsQuoted Style.QuotedSymbol [] []

@@ -3,7 +3,7 @@ use Rattle.std.proofs.Common.{◌≡◌, ℕ, zero, suc, ◌+◌, ◌<◌, ◌�
 use Rattle.std.specs.Prelude.{◌==◌, ◌&&◌, ◌||◌, not, nat_le, IsUtf8}
 use Rattle.std.specs.Str.{IsAscii}
 use Rattle.std.proofs.Math.Seq.{take-nil, take-add}
-use Rattle.std.proofs.lemmas.Bool.{true≢false}
+use Rattle.std.proofs.lemmas.Bool.{true≢false, and_parts}
 use Rattle.std.proofs.lemmas.Bool.Decides.{nat_tests}
 use Rattle.std.proofs.lemmas.Str.{IsUtf8-from_ascii, IsUtf8-append}
 use lib.Utf8.{encode, encodes, scalar, scalars, scalar_cases}
@@ -34,9 +34,7 @@ each_shorter class (o ∷ os) (suc m) (suc n) le h = (h.0, each_shorter class os
 between_raw : (a b c d : Bool) → ((a || b) && d) ≡ true → ((a || b || c) && d) ≡ true
 between_raw true b c true h = refl
 between_raw false true c true h = refl
-between_raw true b c false h = cc
-between_raw false true c false h = cc
-between_raw false false c d h = cc
+between_raw _ _ c _ h = cc
 
 plain_raw : (s : Style) (w : List ℕ) → Each (is_plain s) w → Each (is_raw (is_long s) (quote_of s)) w
 plain_raw s [] h = tt
@@ -85,10 +83,8 @@ pub plain_stays : (s : Style) (o : ℕ) → is_plain s o ≡ true → in_text s 
 plain_stays s o h = text_more (o == 92) (o == quote_of s) (is_long s && (o == 13)) (stands o || (is_long s && (o == 10))) _ _ _ _ _ h (no_return (is_long s) o)
 
 raw_low : (a b c d : Bool) → c ≡ false → ((a || b || c) && d) ≡ true → ((a || b) && d) ≡ true
-raw_low true b c d e h = h
-raw_low false true c d e h = h
 raw_low false false true d e h = cc
-raw_low false false false d e h = h
+raw_low _ _ _ d e h = h
 
 -- an ASCII one
 low_plain : (s : Style) (c : ℕ) → c < 128 → is_raw (is_long s) (quote_of s) c ≡ true → is_plain s c ≡ true
@@ -116,15 +112,11 @@ chars_kept : (p : Place) (s : Style) (cs kept : List ℕ) → is_clob s ≡ fals
 chars_kept p s [] kept text u h = goes_to p s Within.Plain Within.Plain [] kept kept (kept ++ []) (sym (append-nil kept)) (goes_none p s Within.Plain kept)
 chars_kept p s (c ∷ cs) kept text u h =
     let parts = each_split (is_raw (is_long s) (quote_of s)) (encode c) (encodes cs) h in
-    let each = both (scalar c) (scalars cs) u in
+    let each = and_parts (scalar c) (scalars cs) u in
     goes_to p s Within.Plain Within.Plain (encode c ++ encodes cs) kept ((kept ++ encode c) ++ encodes cs) (kept ++ (encode c ++ encodes cs))
     (append_assoc kept (encode c) (encodes cs))
     (goes_then p s Within.Plain Within.Plain Within.Plain (encode c) (encodes cs) kept (kept ++ encode c) ((kept ++ encode c) ++ encodes cs)
     (one_kept p s c kept text each.0 parts.0) (chars_kept p s cs (kept ++ encode c) text each.1 parts.1))
-  where
-    both : (a b : Bool) → (a && b) ≡ true → (a ≡ true) × (b ≡ true)
-    both true b e = (refl, e)
-    both false b e = cc
 
 each_kept : (p : Place) (s : Style) (w kept : List ℕ) → Each (is_plain s) w → GoesInText p s Within.Plain kept w Within.Plain (kept ++ w)
 each_kept p s [] kept h = goes_to p s Within.Plain Within.Plain [] kept kept (kept ++ []) (sym (append-nil kept)) (goes_none p s Within.Plain kept)

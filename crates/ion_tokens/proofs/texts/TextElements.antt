@@ -60,12 +60,6 @@ at_least_2048 c h = ⊎_elim (λ l. absurd (omega (arith, ap length (law.two c (
 at_least_65536 : (c : ℕ) → 3 < length (encode c) → 65536 ≤ c
 at_least_65536 c h = ⊎_elim (λ l. absurd (omega (arith, ap length (law.three c (at_least_2048 c (omega arith)) l)))) (λ l. l) (order c 65536)
 
-three_kept : (kept : List ℕ) (x y z : ℕ) → ((kept ++ x ∷ []) ++ y ∷ []) ++ z ∷ [] ≡ kept ++ x ∷ y ∷ z ∷ []
-three_kept kept x y z = simp append_assoc
-
-four_kept : (kept : List ℕ) (x y z v : ℕ) → (((kept ++ x ∷ []) ++ y ∷ []) ++ z ∷ []) ++ v ∷ [] ≡ kept ++ x ∷ y ∷ z ∷ v ∷ []
-four_kept kept x y z v = simp append_assoc
-
 no_clob : (s : Style) (c : ℕ) → (IsTrue (is_clob s) → c < 128) → 128 ≤ c → is_clob s ≡ false
 no_clob s c h l = by (is_clob s) h where
   by : (b : Bool) → (IsTrue b → c < 128) → b ≡ false
@@ -91,7 +85,7 @@ read_raw p s c w kept a scalar slash quote stands clob (three_octets x y z l u f
     let k : (c < 55296) ⊎ ((57344 ≤ c) × (c < 1114112)) = scalar_cases c scalar in
     let second : (least_three x ≤ y) × (y ≤ most_three x) =
     between_three x y (λ h. omega arith) (λ h. ⊎_elim (λ i. omega arith) (λ i. omega arith) k) f.0 f.1 in
-    rw e (goes_to p s w Within.Plain (x ∷ y ∷ z ∷ []) kept (((kept ++ x ∷ []) ++ y ∷ []) ++ z ∷ []) (kept ++ x ∷ y ∷ z ∷ []) (three_kept kept x y z)
+    rw e (goes_to p s w Within.Plain (x ∷ y ∷ z ∷ []) kept (((kept ++ x ∷ []) ++ y ∷ []) ++ z ∷ []) (kept ++ x ∷ y ∷ z ∷ []) (simp append_assoc)
     (goes_then p s w (Within.Utf8 2 (least_three x) (most_three x)) Within.Plain (x ∷ []) (y ∷ z ∷ []) kept (kept ++ x ∷ [])
     (((kept ++ x ∷ []) ++ y ∷ []) ++ z ∷ [])
     (raw_step p s w x kept (Within.Utf8 2 (least_three x) (most_three x)) (Keep.One x) (a x (inr (omega arith))) (raw_three s x text (quote_small s) l u))
@@ -107,7 +101,7 @@ read_raw p s c w kept a scalar slash quote stands clob (four_octets x y z v l u 
     let most : c < 1114112 = ⊎_elim (λ i. omega arith) (λ i. i.1) k in
     let second : (least_four x ≤ y) × (y ≤ most_four x) = between_four x y (λ is_f0. omega arith) (λ is_f4. omega arith) f.0 f.1 in
     rw e (goes_to p s w Within.Plain (x ∷ y ∷ z ∷ v ∷ []) kept ((((kept ++ x ∷ []) ++ y ∷ []) ++ z ∷ []) ++ v ∷ []) (kept ++ x ∷ y ∷ z ∷ v ∷ [])
-    (four_kept kept x y z v)
+    (simp append_assoc)
     (goes_then p s w (Within.Utf8 3 (least_four x) (most_four x)) Within.Plain (x ∷ []) (y ∷ z ∷ v ∷ []) kept (kept ++ x ∷ [])
     ((((kept ++ x ∷ []) ++ y ∷ []) ++ z ∷ []) ++ v ∷ [])
     (raw_step p s w x kept (Within.Utf8 3 (least_four x) (most_four x)) (Keep.One x) (a x (inr (omega arith)))

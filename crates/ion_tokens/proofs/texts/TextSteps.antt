@@ -64,33 +64,25 @@ utf8_wrong s left least most o (inr h) = grind (arith, nat_tests)
 pub raw_quote : (s : Style) → is_long s ≡ true → raw s 39 ≡ Action.Go (Mode.Text s Within.OneQuote) (Keep.One 39)
 raw_quote Style.LongString h = refl
 raw_quote Style.LongClob h = refl
-raw_quote Style.ShortString h = cc
-raw_quote Style.ShortClob h = cc
-raw_quote Style.QuotedSymbol h = cc
+raw_quote _ h = cc
 
 -- an LF in a long text is kept
 pub raw_lf : (s : Style) → is_long s ≡ true → raw s 10 ≡ Action.Go (Mode.Text s Within.Plain) (Keep.One 10)
 raw_lf Style.LongString h = refl
 raw_lf Style.LongClob h = refl
-raw_lf Style.ShortString h = cc
-raw_lf Style.ShortClob h = cc
-raw_lf Style.QuotedSymbol h = cc
+raw_lf _ h = cc
 
 -- a CR in a long text is kept as LF, and takes an LF behind it
 pub raw_cr : (s : Style) → is_long s ≡ true → raw s 13 ≡ Action.Go (Mode.Text s Within.AfterReturn) (Keep.One 10)
 raw_cr Style.LongString h = refl
 raw_cr Style.LongClob h = refl
-raw_cr Style.ShortString h = cc
-raw_cr Style.ShortClob h = cc
-raw_cr Style.QuotedSymbol h = cc
+raw_cr _ h = cc
 
 -- the quote of each style is `"` or `'`
 pub quote_low : (s : Style) → (quote_of s ≡ 34) ⊎ (quote_of s ≡ 39)
 quote_low Style.ShortString = inl refl
 quote_low Style.ShortClob = inl refl
-quote_low Style.QuotedSymbol = inr refl
-quote_low Style.LongString = inr refl
-quote_low Style.LongClob = inr refl
+quote_low _ = inr refl
 
 -- the quote of each style is ASCII
 pub quote_small : (s : Style) → quote_of s < 128
@@ -118,11 +110,7 @@ as_raw s Within.Plain o a = refl
 as_raw s Within.AfterReturn o a = grind (arith, nat_tests)
 as_raw s Within.OneQuote o a = grind (arith, nat_tests)
 as_raw s Within.TwoQuotes o a = grind (arith, nat_tests)
-as_raw s (Within.Utf8 _ _ _) o a = absurd a
-as_raw s Within.Escape o a = absurd a
-as_raw s (Within.Hexadecimal _ _ _) o a = absurd a
-as_raw s (Within.HighSurrogate _) o a = absurd a
-as_raw s (Within.HighSurrogateEscape _) o a = absurd a
+as_raw s _ o a = absurd a
 
 -- the number so far is right, or both are too great
 abbrev pub Caps : ℕ → ℕ → Type 0
@@ -181,15 +169,12 @@ pub after_high : (s : Style) (h : ℕ) → h < 1024 → after_digits s Digits.Un
     Keep.Nothing
 after_high s h l = grind (arith, nat_tests)
 
-pair_scalar : (h l : ℕ) → h < 1024 → l < 1024 → scalar (0x10000 + h * 1024 + l) ≡ true
-pair_scalar h l a b = grind (arith, nat_tests)
-
 -- the digits of a low surrogate behind a high one are kept as the pair's character
 pub after_low : (s : Style) (h l : ℕ) → h < 1024 → l < 1024 → after_digits s (Digits.LowSurrogate (0xd800 + h)) (0xdc00 + l)
     ≡ Action.Go (Mode.Text s Within.Plain) (Keep.Character (0x10000 + h * 1024 + l))
 after_low s h l a b = let high : (0xd800 + h) - 0xd800 ≡ h = omega arith in let low : (0xdc00 + l) - 0xdc00 ≡ l = omega arith in
     after_pair (0xd800 + h) (0xdc00 + l) (omega arith) (omega arith) (omega arith) (omega arith) ∙ ap (character s) ((λ i. 0x10000 + high i * 1024 + low i))
-    ∙ char_is s (0x10000 + h * 1024 + l) (pair_scalar h l a b)
+    ∙ char_is s (0x10000 + h * 1024 + l) (grind (arith, nat_tests))
   where
     after_pair : (x y : ℕ) → 0xd800 ≤ x → x ≤ 0xdbff → 0xdc00 ≤ y → y ≤ 0xdfff → after_digits s (Digits.LowSurrogate x) y
         ≡ character s (0x10000 + (x - 0xd800) * 1024 + (y - 0xdc00))

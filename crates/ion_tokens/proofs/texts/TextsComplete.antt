@@ -26,9 +26,7 @@ Ready s _ es = ⊥
 pub long_quote : (s : Style) → is_long s ≡ true → quote_of s ≡ 39
 long_quote Style.LongString h = refl
 long_quote Style.LongClob h = refl
-long_quote Style.ShortString h = cc
-long_quote Style.ShortClob h = cc
-long_quote Style.QuotedSymbol h = cc
+long_quote _ h = cc
 
 -- a test holds or fails
 pub bool_cases : (b : Bool) → (b ≡ true) ⊎ (b ≡ false)
@@ -45,22 +43,14 @@ ready_slash s Within.Plain es h = tt
 ready_slash s Within.AfterReturn es h = λ e. omega arith
 ready_slash s Within.OneQuote es h = λ e. omega arith
 ready_slash s Within.TwoQuotes es h = λ e. omega arith
-ready_slash s (Within.Utf8 _ _ _) es h = h
-ready_slash s Within.Escape es h = h
-ready_slash s (Within.Hexadecimal _ _ _) es h = h
-ready_slash s (Within.HighSurrogate _) es h = h
-ready_slash s (Within.HighSurrogateEscape _) es h = h
+ready_slash s _ es h = h
 
 ready_octet : (s : Style) (w : Within) (es : List Element) (o : ℕ) → Ready s w es → o ≢ 10 → (is_long s ≡ true → o ≢ 39) → Admits w o
 ready_octet s Within.Plain es o h n q = tt
 ready_octet s Within.AfterReturn es o h n q = n
 ready_octet s Within.OneQuote es o h n q = q h.0
 ready_octet s Within.TwoQuotes es o h n q = q h.0
-ready_octet s (Within.Utf8 _ _ _) es o h n q = h
-ready_octet s Within.Escape es o h n q = h
-ready_octet s (Within.Hexadecimal _ _ _) es o h n q = h
-ready_octet s (Within.HighSurrogate _) es o h n q = h
-ready_octet s (Within.HighSurrogateEscape _) es o h n q = h
+ready_octet s _ es o h n q = h
 
 -- a raw line end may follow
 ready_line : (s : Style) (w : Within) (e : LineEnd) (es : List Element) (o : ℕ) → Ready s w (RawLine e ∷ es) → (is_raw_lf (RawLine e) ≡ false → o ≢ 10) → o ≢ 39
@@ -69,11 +59,7 @@ ready_line s Within.Plain e es o h n q = tt
 ready_line s Within.AfterReturn e es o h n q = n h
 ready_line s Within.OneQuote e es o h n q = q
 ready_line s Within.TwoQuotes e es o h n q = q
-ready_line s (Within.Utf8 _ _ _) e es o h n q = h
-ready_line s Within.Escape e es o h n q = h
-ready_line s (Within.Hexadecimal _ _ _) e es o h n q = h
-ready_line s (Within.HighSurrogate _) e es o h n q = h
-ready_line s (Within.HighSurrogateEscape _) e es o h n q = h
+ready_line s _ e es o h n q = h
 
 behind_cr : (e : Element) (es : List Element) → IsTrue (ends_in_cr e) → CrTakesLf (e ∷ es) → NoLf es
 behind_cr e [] h c = tt
@@ -104,11 +90,7 @@ read_quote p s Within.OneQuote kept es long h room = (
   goes_one p s Within.OneQuote 39 kept Within.TwoQuotes (Keep.One 39) refl,
 )
 read_quote p s Within.TwoQuotes kept es long h room = absurd (omega (arith, h.1))
-read_quote p s (Within.Utf8 _ _ _) kept es long h room = absurd h
-read_quote p s Within.Escape kept es long h room = absurd h
-read_quote p s (Within.Hexadecimal _ _ _) kept es long h room = absurd h
-read_quote p s (Within.HighSurrogate _) kept es long h room = absurd h
-read_quote p s (Within.HighSurrogateEscape _) kept es long h room = absurd h
+read_quote p s _ kept es long h room = absurd h
 
 read_plain : (p : Place) (s : Style) (w : Within) (kept : List ℕ) (c : ℕ) (es : List Element) → (is_long s ≡ true → c ≢ 39) → Ready s w (Raw c ∷ es) → IsRaw s c
     → ReadsElement p s w kept (Raw c) es
@@ -206,11 +188,7 @@ ended s Within.Plain h = tt
 ended s Within.AfterReturn h = tt
 ended s Within.OneQuote h = omega (arith, h.1)
 ended s Within.TwoQuotes h = omega (arith, h.1)
-ended s (Within.Utf8 _ _ _) h = h
-ended s Within.Escape h = h
-ended s (Within.Hexadecimal _ _ _) h = h
-ended s (Within.HighSurrogate _) h = h
-ended s (Within.HighSurrogateEscape _) h = h
+ended s _ h = h
 
 more_crs : (e : Element) (es : List Element) → CrTakesLf (e ∷ es) → CrTakesLf es
 more_crs e [] h = tt

@@ -3,7 +3,7 @@ use Rattle.std.proofs.Common.{◌≡◌, ◌≢◌, ℕ, zero, suc, ◌+◌, ◌
 use Rattle.std.specs.Prelude.{Option, Some, None, ◌==◌}
 use Rattle.std.specs.List.{flat_map, AllByRecursion}
 use Rattle.std.specs.Char.{IsScalar}
-use Rattle.std.proofs.lemmas.Bool.{false≢true, true≢false}
+use Rattle.std.proofs.lemmas.Bool.{cond_both, false≢true, ne_eqb, not-true, true≢false}
 use Rattle.std.proofs.lemmas.Bool.Decides.{nat_tests}
 use lib.Utf8.{encode, scalar, scalar_cases}
 use Rattle.ion_tokens.specs.Names.{Action, Cr, CrLf, Digits, Element, Hex, Hidden, IsElement, IsHexAfter, IsQuoted, Keep, Lf, Mode, Pair, Raw, RawLine, Reason, Simple, Style, Within, after_digits, character, close_long, ends_in_cr, grow, hex_length, hexadecimal_digit, in_escape, in_text, in_utf8, is_clob, is_long, is_raw_lf, is_raw_quote, kept_after, meaning, meant, quote_of, raw, spelling, with_digit}
@@ -56,18 +56,14 @@ simple_leads s es o None b e = tt
 simple_leads s es o (Some m) b e = (tt, one_element s es (Simple o m) (92 ∷ o ∷ []) (m ∷ []) b (fits s es (Simple o m) e refl refl refl) refl refl)
 
 unit_opens : (s : Style) (es : List Element) → Base s es → Leads s es (in_escape s 117) (92 ∷ 117 ∷ []) []
-unit_opens s es b = by (is_clob s) refl where
-  by : (c : Bool) → is_clob s ≡ c → Leads s es (cond (Rattle.std.specs.Prelude.not c)
-      (Action.Go (Mode.Text s (Within.Hexadecimal Digits.Unit 4 0)) Keep.Nothing) (meant s (escaped 117))) (92 ∷ 117 ∷ []) []
-  by true e = tt
-  by false e = (tt, part_only s es (Within.Hexadecimal Digits.Unit 4 0) (92 ∷ 117 ∷ []) [] b tt (refl, e, ([], refl, (0, refl, omega arith, refl, inl refl))))
+unit_opens s es b = cond_both (Rattle.std.specs.Prelude.not (is_clob s)) _ _ (λ a. Leads s es a (92 ∷ 117 ∷ []) [])
+    (λ f. let e = not-true (is_clob s) f in
+    (tt, part_only s es (Within.Hexadecimal Digits.Unit 4 0) (92 ∷ 117 ∷ []) [] b tt (refl, e, ([], refl, (0, refl, omega arith, refl, inl refl))))) (λ e. tt)
 
 scalar_opens : (s : Style) (es : List Element) → Base s es → Leads s es (in_escape s 85) (92 ∷ 85 ∷ []) []
-scalar_opens s es b = by (is_clob s) refl where
-  by : (c : Bool) → is_clob s ≡ c → Leads s es (cond (Rattle.std.specs.Prelude.not c)
-      (Action.Go (Mode.Text s (Within.Hexadecimal Digits.Scalar 8 0)) Keep.Nothing) (meant s (escaped 85))) (92 ∷ 85 ∷ []) []
-  by true e = tt
-  by false e = (tt, part_only s es (Within.Hexadecimal Digits.Scalar 8 0) (92 ∷ 85 ∷ []) [] b tt (refl, e, ([], refl, (0, refl, omega arith, refl, inl refl))))
+scalar_opens s es b = cond_both (Rattle.std.specs.Prelude.not (is_clob s)) _ _ (λ a. Leads s es a (92 ∷ 85 ∷ []) [])
+    (λ f. let e = not-true (is_clob s) f in
+    (tt, part_only s es (Within.Hexadecimal Digits.Scalar 8 0) (92 ∷ 85 ∷ []) [] b tt (refl, e, ([], refl, (0, refl, omega arith, refl, inl refl))))) (λ e. tt)
 
 escape_leads : (s : Style) (es : List Element) (o : ℕ) → Base s es → Leads s es (in_escape s o) (92 ∷ o ∷ []) []
 escape_leads s es o b =
@@ -121,27 +117,20 @@ hex_is s letter m os t = ap (λ b. cond b (m ∷ []) (encode m)) (sym t)
 
 char_leads : (s : Style) (es : List Element) (letter total m : ℕ) (os : List ℕ) → Base s es → is_clob s ≡ false → hex_length letter ≡ Some total
     → Full total m os → Leads s es (character s m) (92 ∷ letter ∷ os) []
-char_leads s es letter total m os b t k (n, e, h, c) = by (scalar m) refl where
-  by : (x : Bool) → scalar m ≡ x → Leads s es (cond x (Action.Go (Mode.Text s Within.Plain) (Keep.Character m)) (Action.Refuse Reason.BadEscape))
-      (92 ∷ letter ∷ os) []
-  by false z = tt
-  by true z =
-      let small : m < 0x110000 = below_max m (scalar_cases m z) in
-      let same : m ≡ n = ⊎_elim (λ i. i) (λ i. absurd (omega arith)) c in (
-        tt,
-        one_element s es (Hex letter os m) (92 ∷ letter ∷ os) (encode m) b
-            (fits s es (Hex letter os m) (k ∙ ap Some (sym e), subst (IsHexAfter 0 os) (sym same) h, z, λ i. absurd (true≢false (sym i ∙ t))) refl refl refl)
-            refl (hex_is s letter m os t),
-      )
+char_leads s es letter total m os b t k (n, e, h, c) = cond_both (scalar m) _ _ (λ a. Leads s es a (92 ∷ letter ∷ os) []) (λ z.
+    let small : m < 0x110000 = below_max m (scalar_cases m z) in
+    let same : m ≡ n = ⊎_elim (λ i. i) (λ i. absurd (omega arith)) c in (
+      tt,
+      one_element s es (Hex letter os m) (92 ∷ letter ∷ os) (encode m) b
+          (fits s es (Hex letter os m) (k ∙ ap Some (sym e), subst (IsHexAfter 0 os) (sym same) h, z, λ i. absurd (true≢false (sym i ∙ t))) refl refl refl)
+          refl (hex_is s letter m os t),
+    )) (λ z. tt)
 
 two_small : (os : List ℕ) (c : ℕ) → length os ≡ 2 → IsHexAfter 0 os c → c < 256
 two_small [] c e h = absurd (omega arith)
 two_small (o ∷ []) c e h = absurd (omega arith)
 two_small (o ∷ p ∷ []) c e (d, f, (d', f', g)) = let a : d < 16 = digit_small o d f in let b : d' < 16 = digit_small p d' f' in omega arith
 two_small (o ∷ p ∷ q ∷ os) c e h = absurd (omega arith)
-
-octet_scalar : (n : ℕ) → n < 256 → scalar n ≡ true
-octet_scalar n h = grind (arith, nat_tests)
 
 -- \x: in a clob an octet
 octet_leads : (s : Style) (es : List Element) (m : ℕ) (os : List ℕ) → Base s es → Full 2 m os → Leads s es (after_digits s Digits.Octet m) (92 ∷ 120 ∷ os) []
@@ -154,7 +143,7 @@ octet_leads s es m os b f = by (is_clob s) refl where
       let rest : m % 256 ≡ f.0 = omega arith in (
         tt,
         one_element s es (Hex 120 os f.0) (92 ∷ 120 ∷ os) (m % 256 ∷ []) b
-            (fits s es (Hex 120 os f.0) (ap Some (sym f.1), f.2, octet_scalar f.0 small, λ i. refl) refl refl refl) refl
+            (fits s es (Hex 120 os f.0) (ap Some (sym f.1), f.2, grind (arith, nat_tests), λ i. refl) refl refl refl) refl
             (ap (λ (n : ℕ). n ∷ []) rest ∙ ap (λ c. cond c (f.0 ∷ []) (encode f.0)) (sym t)),
       )
 
@@ -227,10 +216,8 @@ digit_leads s es d left m o p (Some v) b t l h e =
     (eq_or left 1)
 
 some_left : (d : Digits) (p : List ℕ) (left m : ℕ) → HexPart d p left m → 0 < left
-some_left Digits.Octet p left m h = h.2.2
-some_left Digits.Unit p left m h = h.2.2
-some_left Digits.Scalar p left m h = h.2.2
 some_left (Digits.LowSurrogate x) p left m h = h.4.2
+some_left _ p left m h = h.2.2
 
 -- behind a CR that takes no LF
 return_over : (s : Style) (es : List Element) (f : Element) (o : ℕ) → Base s es → IsElement s f → ends_in_cr f ≡ true → is_raw_lf f ≡ false
@@ -294,9 +281,7 @@ long_closes : (s : Style) (es : List Element) → Base s es → is_long s ≡ tr
     → Leads s es (close_long s) (39 ∷ 39 ∷ 39 ∷ []) (39 ∷ 39 ∷ [])
 long_closes Style.LongString es b l h = (([], refl), tt, closed_long Style.LongString es b refl h)
 long_closes Style.LongClob es b l h = (([], refl), (tt, closed_long Style.LongClob es b refl h))
-long_closes Style.ShortString es b l h = absurd (false≢true l)
-long_closes Style.QuotedSymbol es b l h = absurd (false≢true l)
-long_closes Style.ShortClob es b l h = absurd (false≢true l)
+long_closes _ es b l h = absurd (false≢true l)
 
 quotes_pending : (s : Style) (es : List Element) (o : ℕ) (p q : List ℕ) → Base s es → last_is is_raw_quote es ≡ false → Part s Within.TwoQuotes p q
     → Leads s es (in_text s Within.TwoQuotes o) (p ++ o ∷ []) q
@@ -304,9 +289,6 @@ quotes_pending s es o p q b h (l, e, f) = subst (λ x. Leads s es (in_text s Wit
     (subst (λ x. Leads s es (in_text s Within.TwoQuotes o) (39 ∷ 39 ∷ o ∷ []) x) (sym f)
     (⊎_elim (λ (i : o ≡ 39). subst (λ (x : ℕ). Leads s es (in_text s Within.TwoQuotes x) (39 ∷ 39 ∷ x ∷ []) (39 ∷ 39 ∷ [])) (sym i) (long_closes s es b l h))
     (λ n. by_action s es (39 ∷ 39 ∷ o ∷ []) (39 ∷ 39 ∷ []) (as_raw s Within.TwoQuotes o n) (two_quotes_over s es o b l h n)) (eq_or o 39)))
-
-not_same : (a b : ℕ) → a ≢ b → (a == b) ≡ false
-not_same a b n = grind (arith, nat_tests)
 
 -- one octet more, in each state
 step_leads : (s : Style) (v : Within) (es : List Element) (o : ℕ) (p q : List ℕ) → Base s es → After s v es → Part s v p q
@@ -331,7 +313,7 @@ step_leads s (Within.HighSurrogate x) es o p q b a (e, t, first, f, h) =
     (λ n. by_action s es (92 ∷ 117 ∷ first ++ o ∷ []) [] (wrong o n) tt) (eq_or o 92)))
   where
     wrong : (o : ℕ) → o ≢ 92 → in_text s (Within.HighSurrogate x) o ≡ Action.Refuse Reason.BadEscape
-    wrong o n = rw (not_same o 92 n)
+    wrong o n = rw (ne_eqb o 92 n)
 step_leads s (Within.HighSurrogateEscape x) es o p q b a (e, t, first, f, h) =
     subst (λ l. Leads s es (in_text s (Within.HighSurrogateEscape x) o) (l ++ o ∷ []) q) (sym f)
     (subst (λ l. Leads s es (in_text s (Within.HighSurrogateEscape x) o) ((92 ∷ 117 ∷ first ++ 92 ∷ []) ++ o ∷ []) l) (sym e)
@@ -343,7 +325,7 @@ step_leads s (Within.HighSurrogateEscape x) es o p q b a (e, t, first, f, h) =
     (λ n. by_action s es ((92 ∷ 117 ∷ first ++ 92 ∷ []) ++ o ∷ []) [] (wrong o n) tt) (eq_or o 117)))
   where
     wrong : (o : ℕ) → o ≢ 117 → in_text s (Within.HighSurrogateEscape x) o ≡ Action.Refuse Reason.BadEscape
-    wrong o n = rw (not_same o 117 n)
+    wrong o n = rw (ne_eqb o 117 n)
 
 -- what an action does to a text that was read so far, of which these octets are kept
 abbrev pub LeadsText : Style → Action → List ℕ → List ℕ → Type 0
@@ -365,11 +347,8 @@ keeps_behind front q Keep.DropQuotes (rest, e) = subst (λ l. kept_after Keep.Dr
     drops k = ap (kept_after Keep.DropQuotes) (sym (append_assoc k (39 ∷ []) (39 ∷ []))) ∙ drops_two k 39 39
 
 keeps_more : (front q kept : List ℕ) (k : _) → kept ≡ front ++ q → Keeps k q → Keeps k kept
-keeps_more front q kept Keep.Nothing e h = tt
-keeps_more front q kept (Keep.One o) e h = tt
-keeps_more front q kept (Keep.Two o x) e h = tt
-keeps_more front q kept (Keep.Character c) e h = tt
 keeps_more front q kept Keep.DropQuotes e (rest, f) = (front ++ rest, e ∙ ap (λ l. front ++ l) f ∙ sym (append_assoc front rest (39 ∷ 39 ∷ [])))
+keeps_more front q kept _ e h = tt
 
 -- behind the elements
 lift : (s : Style) (es : List Element) (a : Action) (w kept p q : List ℕ) → w ≡ flat_map spelling es ++ p → kept ≡ flat_map (meaning s) es ++ q
@@ -386,10 +365,7 @@ lift s es (Action.Give kind k) w kept p q e f (h, g, l) = (
       (subst (λ x. Closes s (flat_map spelling es ++ p) x) (sym (ap (kept_after k) f ∙ keeps_behind (flat_map (meaning s) es) q k h)) l),
 )
 lift s es (Action.Refuse r) w kept p q e f h = tt
-lift s es (Action.Before _ _ _) w kept p q e f h = h
-lift s es Action.EndWord w kept p q e f h = h
-lift s es (Action.Split _) w kept p q e f h = h
-lift s es Action.EndBlob w kept p q e f h = h
+lift s es _ w kept p q e f h = h
 
 -- One octet more of a text leads to what was read with it: more of the text, or all of it, or a refusal.
 pub text_step : (s : Style) (v : Within) (o : ℕ) (w kept : List ℕ) → Reads s v w kept → LeadsText s (in_text s v o) (w ++ o ∷ []) kept

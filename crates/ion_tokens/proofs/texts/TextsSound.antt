@@ -191,24 +191,17 @@ four_whole x y z v a b d e f g h k =
 
 raw_white : (s : Style) (o : ℕ) → o < 32 → o ≢ 9 → o ≢ 10 → o ≢ 11 → o ≢ 12 → o ≢ 13 → raw s o ≡ Action.Refuse Reason.Unexpected
 raw_white Style.ShortString o l a b c d e = grind (arith, nat_tests)
-raw_white Style.QuotedSymbol o l a b c d e = grind (arith, nat_tests)
-raw_white Style.LongString o l a b c d e = grind (arith, nat_tests)
-raw_white Style.ShortClob o l a b c d e = grind (arith, nat_tests)
-raw_white Style.LongClob o l a b c d e = grind (arith, nat_tests)
+raw_white _ o l a b c d e = grind (arith, nat_tests)
 
 no_lf : (s : Style) → is_long s ≡ false → raw s 10 ≡ Action.Refuse Reason.Unexpected
-no_lf Style.ShortString h = refl
-no_lf Style.QuotedSymbol h = refl
-no_lf Style.ShortClob h = refl
 no_lf Style.LongString h = cc
 no_lf Style.LongClob h = cc
+no_lf _ h = refl
 
 no_cr : (s : Style) → is_long s ≡ false → raw s 13 ≡ Action.Refuse Reason.Unexpected
-no_cr Style.ShortString h = refl
-no_cr Style.QuotedSymbol h = refl
-no_cr Style.ShortClob h = refl
 no_cr Style.LongString h = cc
 no_cr Style.LongClob h = cc
+no_cr _ h = refl
 
 raw_clob : (s : Style) (o : ℕ) → is_clob s ≡ true → quote_of s < 128 → 128 ≤ o → raw s o ≡ Action.Refuse Reason.Unexpected
 raw_clob s o c q l = grind (arith, nat_tests)
@@ -274,8 +267,7 @@ short_closes : (s : Style) (es : List Element) → Base s es → is_long s ≡ f
 short_closes Style.ShortString es b l = (tt, tt, closed_short Style.ShortString es b refl)
 short_closes Style.QuotedSymbol es b l = (tt, tt, closed_short Style.QuotedSymbol es b refl)
 short_closes Style.ShortClob es b l = (tt, (tt, closed_short Style.ShortClob es b refl))
-short_closes Style.LongString es b l = cc
-short_closes Style.LongClob es b l = cc
+short_closes _ es b l = cc
 
 quote_leads : (s : Style) (es : List Element) (o : ℕ) → Behind s es o → o ≡ quote_of s → Leads s es (raw s o) (o ∷ []) []
 quote_leads s es o b e = ⊎_elim
@@ -358,10 +350,7 @@ rebase s es f (Action.Give kind (Keep.Two o x)) p (t, g, h) =
 rebase s es f (Action.Give kind (Keep.Character c)) p (t, g, h) = (tt, g, shift_closes s es f p (encode c) (meaning s f ++ encode c) refl h)
 rebase s es f (Action.Give kind Keep.DropQuotes) p (t, g, h) = absurd (no_drop [] t)
 rebase s es f (Action.Refuse e) p h = tt
-rebase s es f (Action.Before _ _ _) p h = h
-rebase s es f Action.EndWord p h = h
-rebase s es f (Action.Split _) p h = h
-rebase s es f Action.EndBlob p h = h
+rebase s es f _ p h = h
 
 -- the same where something was kept that isn't dropped
 abbrev NoDrop : Action → Type 0
@@ -396,25 +385,10 @@ rebase_kept s es f (Action.Give kind (Keep.Character c)) p q n (t, g, h) =
     (tt, g, shift_closes s es f p (q ++ encode c) ((meaning s f ++ q) ++ encode c) (append_assoc (meaning s f) q (encode c)) h)
 rebase_kept s es f (Action.Give kind Keep.DropQuotes) p q n h = absurd n
 rebase_kept s es f (Action.Refuse e) p q n h = tt
-rebase_kept s es f (Action.Before _ _ _) p q n h = h
-rebase_kept s es f Action.EndWord p q n h = h
-rebase_kept s es f (Action.Split _) p q n h = h
-rebase_kept s es f Action.EndBlob p q n h = h
+rebase_kept s es f _ p q n h = h
 
 -- an action behind a part of which nothing is kept drops no quotes
 pub leads_no_drop : (s : Style) (es : List Element) (a : Action) (p : List ℕ) → Leads s es a p [] → NoDrop a
-leads_no_drop s es (Action.Go m Keep.Nothing) p h = tt
-leads_no_drop s es (Action.Go m (Keep.One o)) p h = tt
-leads_no_drop s es (Action.Go m (Keep.Two o x)) p h = tt
-leads_no_drop s es (Action.Go m (Keep.Character c)) p h = tt
 leads_no_drop s es (Action.Go m Keep.DropQuotes) p h = no_drop [] h.0
-leads_no_drop s es (Action.Give kind Keep.Nothing) p h = tt
-leads_no_drop s es (Action.Give kind (Keep.One o)) p h = tt
-leads_no_drop s es (Action.Give kind (Keep.Two o x)) p h = tt
-leads_no_drop s es (Action.Give kind (Keep.Character c)) p h = tt
 leads_no_drop s es (Action.Give kind Keep.DropQuotes) p h = no_drop [] h.0
-leads_no_drop s es (Action.Refuse e) p h = tt
-leads_no_drop s es (Action.Before _ _ _) p h = tt
-leads_no_drop s es Action.EndWord p h = tt
-leads_no_drop s es (Action.Split _) p h = tt
-leads_no_drop s es Action.EndBlob p h = tt
+leads_no_drop s es _ p h = tt

@@ -14,10 +14,9 @@ told_one : (places : Places) (before : List Told) (ts : List Placed) (xs : List 
     → t.place ≡ places (before ++ xs) → TellsLexeme t.lexeme x
     → AreTold places before (ts ++ t ∷ []) (xs ++ x ∷ [])
 told_one places before [] [] t x h p i = (p ∙ ap places (append-nil before), i, tt)
-told_one places before [] (y ∷ ys) t x h p i = absurd h
-told_one places before (u ∷ us) [] t x h p i = absurd h
 told_one places before (u ∷ us) (y ∷ ys) t x h p i =
     (h.0, h.1, told_one places (before ++ y ∷ []) us ys t x h.2 (p ∙ ap places (sym (append_assoc before (y ∷ []) ys))) i)
+told_one places before _ _ t x h p i = absurd h
 
 -- a scanner that told tokens as a trace does, behind these octets
 record TellsFurther (places : Places) (told : List Told) (s : Known) (u ahead : List ℕ) : Type 0 where

@@ -1,10 +1,11 @@
 -- The calls of a scanner answer what the trace says.
-use Rattle.std.proofs.Common.{◌≡◌, ℕ, zero, suc, ◌+◌, ◌<◌, ◌≤◌, Bool, true, false, cond, List, [], ◌∷◌, ◌++◌, length, take, drop, refl, sym, ap, ◌∙◌, subst, arith, append_assoc, append-nil, length-append}
+use Rattle.std.proofs.Common.{◌≡◌, ℕ, zero, suc, ◌+◌, ◌<◌, ◌≤◌, Bool, true, false, List, [], ◌∷◌, ◌++◌, length, take, drop, refl, sym, ap, ◌∙◌, subst, arith, append_assoc, append-nil, length-append}
 use Rattle.std.specs.Prelude.{◌==◌, ◌&&◌, bytes_eq, codes, nat_lt, nat_le, Option, Some, None, Result, Ok, Err}
 use Rattle.std.specs.List.{flat_map}
 use Rattle.std.proofs.lemmas.Bool.Decides.{nat_tests}
 use Rattle.std.proofs.Math.Seq.{drop-append_seam}
-use Rattle.ion_tokens.specs.Names.{Action, Answers, AnswersTrace, Content, Continues, EndsTrace, Given, GivesToken, IsToken, IsTraced, Known, Leads, Left, Lexeme, Mode, Next, Outcome, Place, Places, Reason, Refusal, Refused, RefusesToken, Stepped, Stops, Token, TokenKind, Told, Trail, acts, at_end, blob_ends, blob_of, comes, cut, debt, deciding, end_judged, feed, follow, go_to, initial, is_idle, judged, last_judged, last_of, left_by, over, over_pieces, past, run, said, says, takes, then_by, told_as, told_by, trace, traced, unkept}
+use Rattle.std.proofs.lemmas.Bool.{cond_both}
+use Rattle.ion_tokens.specs.Names.{Action, Answers, AnswersTrace, Content, Continues, EndsTrace, Given, GivesToken, IsToken, IsTraced, Known, Leads, Left, Lexeme, Mode, Next, Outcome, Place, Places, Reason, Refusal, Refused, RefusesToken, Stepped, Stops, Token, Told, Trail, acts, at_end, blob_ends, blob_of, comes, debt, deciding, end_judged, feed, follow, initial, is_idle, judged, last_judged, last_of, left_by, over, over_pieces, run, said, says, takes, then_by, told_as, told_by, trace, traced, unkept}
 use Rattle.ion_tokens.specs.Bodies.{content}
 use Rattle.ion_tokens.specs.machine.Steps.{Ends}
 use Rattle.ion_tokens.specs.machine.Table.{next}
@@ -22,8 +23,7 @@ OwesLess d _ = Unit {0}
 
 first_less : (a b : ℕ) (x y : Bool) → (nat_lt a b && x && y) ≡ true → a < b
 first_less a b true true h = grind (arith, nat_tests)
-first_less a b true false h = grind (arith, nat_tests)
-first_less a b false y h = grind (arith, nat_tests)
+first_less a b _ _ h = grind (arith, nat_tests)
 
 last_least : (a b : ℕ) (x : Bool) → (x && nat_le a b) ≡ true → a ≤ b
 last_least a b true h = grind (arith, nat_tests)
@@ -31,20 +31,15 @@ last_least a b false h = cc
 
 acts_owe : (p : Place) (s : Known) (o : ℕ) (a : Action) → Fits (unkept s.mode) (debt s.mode) (is_idle s.mode) a → OwesLess (debt s.mode) (acts p s o a)
 unfolding OwesLess
-acts_owe p s o (Action.Go m k) f = tt
-acts_owe p s o (Action.Give _ _) f = tt
 acts_owe p s o (Action.Before _ _ m) f = first_less (debt m) (debt s.mode) _ _ f.is
-acts_owe p s o Action.EndWord f = by ((o == 46) && bytes_eq s.kept (codes "null")) where
-  by : (b : Bool) → OwesLess (debt s.mode) (cond b (Next (go_to s Mode.KindName []))
-      (Left (cut s TokenKind.Word s.kept s.used) (past p TokenKind.Word Mode.Blank [] s.used s.used)))
-  by true = tt
-  by false = last_least 1 (debt s.mode) true f.is
+acts_owe p s o Action.EndWord f =
+    cond_both ((o == 46) && bytes_eq s.kept (codes "null")) _ _ (OwesLess (debt s.mode)) (λ _. tt) (λ _. last_least 1 (debt s.mode) true f.is)
 acts_owe p s o (Action.Split n) f = last_least 2 (debt s.mode) _ f.is
 acts_owe p s o Action.EndBlob f = by (blob_of s.kept) where
   by : (b : Option (List ℕ)) → OwesLess (debt s.mode) (blob_ends s b)
   by None = tt
   by (Some octets) = tt
-acts_owe p s o (Action.Refuse e) f = tt
+acts_owe p s o _ f = tt
 
 -- no more than two octets may be taken up again before another is used
 pub debt_small : (m : Mode) → debt m < 3
@@ -70,10 +65,8 @@ settles (suc n) places o ts s h = by (feed (places ts) s o) refl (λ us t less. 
 
   by : (x : Outcome) → feed (places ts) s o ≡ x → ((us : List Told) (t : Known) → debt t.mode < n → takes n places o us t ≡ takes (suc n) places o us t)
       → comes (takes n places o) ts x ≡ comes (takes (suc n) places o) ts x
-  by (Next t) e more = refl
-  by (Given l t) e more = refl
   by (Left l t) e more = let less = left_owes (places ts) s t o l e in again (said l.kind l.octets) l t _ _ (λ us. more us t (omega (arith, less, h)))
-  by (Refused k r) e more = refl
+  by _ e more = refl
 
 abbrev state_in : Outcome → Known → Known
 state_in (Next s) t = s
@@ -91,9 +84,7 @@ over_next places ts p (o ∷ os) rest s t place e = by (feed p s o) refl e (λ s
       ap (λ q. then_by (comes (takes 2 places o) ts (feed q s o)) (over places (os ++ rest))) place
       ∙ ap (λ x. then_by (comes (takes 2 places o) ts x) (over places (os ++ rest))) f
       ∙ more s' g
-  by (Given l s') f g more = cc
-  by (Left l s') f g more = cc
-  by (Refused k r) f g more = cc
+  by _ f g more = cc
 
 -- and up to a token or a refusal
 pub over_end : (places : Places) (ts : List Told) (p : Place) (piece rest : List ℕ) (s : Known) (x : Outcome) → places ts ≡ p → (d : LastOctet p piece s x)

@@ -1,8 +1,9 @@
 -- An octet that ended a token before it is taken up again, in a blank, a comment or a word, and is left at most twice. Crates above cite
 -- these names.
-use Rattle.std.proofs.Common.{◌≡◌, ℕ, Bool, true, false, cond, List, [], refl, sym, ap, ◌∙◌, subst, ◌⊎◌, inl, inr, Option, Some, None}
+use Rattle.std.proofs.Common.{◌≡◌, ℕ, Bool, true, false, cond, List, [], refl, sym, ap, ◌∙◌, subst, Option, Some, None}
 use Rattle.std.specs.Prelude.{◌==◌, ◌&&◌, ◌||◌, not, bytes_eq, codes}
-use Rattle.ion_tokens.specs.Names.{Action, Given, Keep, Known, Left, Lexeme, Mode, Next, Outcome, Place, Refused, TokenKind, acts, add, blob_ends, blob_of, cut, feed, go, go_to, is_operator_octet, is_stop, is_word_octet, past}
+use Rattle.std.proofs.lemmas.Bool.{cond_both}
+use Rattle.ion_tokens.specs.Names.{Action, Keep, Known, Left, Lexeme, Mode, Next, Place, TokenKind, acts, add, blob_ends, blob_of, cut, feed, go, go_to, is_operator_octet, is_stop, is_word_octet, past}
 use Rattle.ion_tokens.specs.machine.Ahead.{IsUsed, LeavesIn, LeftIn}
 use Rattle.ion_tokens.specs.machine.Table.{next}
 use Rattle.ion_tokens.specs.laws.ByRows.{by_rows_where}
@@ -17,10 +18,7 @@ acts_used : (p : Place) (s : Known) (o : ℕ) (a : Action) → used a ≡ true �
 acts_used p s o (Action.Go m k) h = tt
 acts_used p s o (Action.Give kind k) h = tt
 acts_used p s o (Action.Refuse e) h = tt
-acts_used p s o (Action.Before kind k m) h = absurd cc
-acts_used p s o Action.EndWord h = absurd cc
-acts_used p s o (Action.Split k) h = absurd cc
-acts_used p s o Action.EndBlob h = absurd cc
+acts_used p s o _ h = absurd cc
 
 abbrev is_blank : Mode → Bool
 is_blank Mode.Blank = true
@@ -37,9 +35,8 @@ slash_used : (p : Place) (colon : Bool) (m : Mode) (o : ℕ) → m ≡ Mode.Slas
 slash_used p colon m o e h = subst (λ n. used (next p colon n o) ≡ true) (sym e) (one_of (o == 47) (o == 42) _ h)
   where
     one_of : (a b : Bool) (x : Action) → (a || b) ≡ true → used (cond a (go Mode.LineComment) (cond b (go Mode.BlockComment) x)) ≡ true
-    one_of true b x k = refl
-    one_of false true x k = refl
     one_of false false x k = absurd cc
+    one_of _ _ x k = refl
 
 -- Behind a `/` one that opens a comment is.
 pub slash_uses : (p : Place) (s : Known) (o : ℕ) → s.mode ≡ Mode.Slash → ((o == 47) || (o == 42)) ≡ true → IsUsed (feed p s o)
@@ -98,17 +95,10 @@ blob_leaves s o None = tt
 blob_leaves s o (Some octets) = tt
 
 acts_leave : (p : Place) (s : Known) (o : ℕ) (a : Action) → left_in o a ≡ true → LeavesIn o (acts p s o a)
-acts_leave p s o (Action.Go m k) h = tt
-acts_leave p s o (Action.Give kind k) h = tt
 acts_leave p s o (Action.Before kind k m) h = before_leaves o kind k m h
-acts_leave p s o Action.EndWord h = word ((o == 46) && bytes_eq s.kept (codes "null")) where
-  word : (b : Bool) → LeavesIn o (cond b (Next (go_to s Mode.KindName []))
-      (Left (cut s TokenKind.Word s.kept s.used) (past p TokenKind.Word Mode.Blank [] s.used s.used)))
-  word true = tt
-  word false = tt
-acts_leave p s o (Action.Split n) h = tt
+acts_leave p s o Action.EndWord h = cond_both ((o == 46) && bytes_eq s.kept (codes "null")) _ _ (LeavesIn o) (λ _. tt) (λ _. tt)
 acts_leave p s o Action.EndBlob h = blob_leaves s o (blob_of s.kept)
-acts_leave p s o (Action.Refuse e) h = tt
+acts_leave p s o _ h = tt
 
 -- An octet before which a token ended is looked at again in a blank, behind the `/` of a comment that it opens, or behind letters of a word.
 pub feed_leaves : (p : Place) (s : Known) (o : ℕ) → LeavesIn o (feed p s o)

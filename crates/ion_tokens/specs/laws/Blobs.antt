@@ -29,9 +29,8 @@ octets_append [] ys h k = k
 octets_append (x ∷ xs) ys h k = (h.0, octets_append xs ys h.1 k)
 
 pub octets_take : (n : ℕ) (octets : List ℕ) → AreOctets octets → AreOctets (take n octets)
-octets_take zero octets h = tt
-octets_take (suc n) [] h = tt
 octets_take (suc n) (o ∷ os) h = (h.0, octets_take n os h.1)
+octets_take _ _ h = tt
 
 pub octets_drop : (n : ℕ) (octets : List ℕ) → AreOctets octets → AreOctets (drop n octets)
 octets_drop zero octets h = h

@@ -199,8 +199,6 @@ module _ (f : Action → Bool) where
   text_octet : (s : Style) (w : Within) (o : ℕ) → Pass f (text_rows (is_last (Mode.Text s w)) s w) → f (in_text s w o) ≡ true
   text_octet s Within.Plain o g = raw_octet s (λ t k. g t (suc k)) o (λ _. g (taken o) 0)
   text_octet s Within.AfterReturn o g = both (o == 10) (g (taken o) 1) (raw_octet s (λ t k. g t (suc (suc k))) o (λ _. g (taken o) 0))
-  text_octet s Within.OneQuote o g = both (o == 39) (g (taken o) 1) (raw_octet s (λ t k. g t (suc (suc k))) o (λ _. g (taken o) 0))
-  text_octet s Within.TwoQuotes o g = both (o == 39) (g (taken o) 1) (raw_octet s (λ t k. g t (suc (suc k))) o (λ _. g (taken o) 0))
   text_octet s (Within.Utf8 left least most) o g =
       both (nat_lt o least || nat_lt most o) (g (taken o) 0)
       (both (nat_le left 1) (g (taken o) 1) (g (record { octet = o; left = left - 1; least = 0x80; most = 0xbf }) 2))
@@ -208,18 +206,16 @@ module _ (f : Action → Bool) where
   text_octet s (Within.Hexadecimal d left n) o g = hexadecimal s d left n (hexadecimal_digit o) g
   text_octet s (Within.HighSurrogate high) o g = both (o == 92) (g (taken o) 1) (g (taken o) 0)
   text_octet s (Within.HighSurrogateEscape high) o g = both (o == 117) (g (taken o) 1) (g (taken o) 0)
+  text_octet s _ o g = both (o == 39) (g (taken o) 1) (raw_octet s (λ t k. g t (suc (suc k))) o (λ _. g (taken o) 0))
 
   lob_octet : (l : Lob) (o : ℕ) → ((k : ℕ) → PassesAt f (lob_rows l (taken o)) k) → f (in_lob l o) ≡ true
   lob_octet Lob.Start o g = both (is_white o) (g 3) (both (o == 34) (g 4) (both (o == 39) (g 5) (both (o == 125) (g 0) (both (is_base64 o) (g 1) (g 2)))))
-  lob_octet Lob.StartQuote o g = both (o == 39) (g 1) (g 0)
-  lob_octet Lob.StartQuotes o g = both (o == 39) (g 1) (g 0)
   lob_octet Lob.Base64 o g = both (is_white o) (g 3) (both (o == 125) (g 0) (both (is_base64 o) (g 1) (g 2)))
   lob_octet Lob.BlobClose o g = both (o == 125) (g 1) (g 0)
   lob_octet Lob.AfterShort o g = both (is_white o) (g 1) (both (o == 125) (g 2) (g 0))
   lob_octet Lob.AfterLong o g = both (is_white o) (g 1) (both (o == 125) (g 2) (both (o == 39) (g 3) (g 0)))
-  lob_octet Lob.AfterQuote o g = both (o == 39) (g 1) (g 0)
-  lob_octet Lob.AfterQuotes o g = both (o == 39) (g 1) (g 0)
   lob_octet Lob.ClobClose o g = both (o == 125) (g 1) (g 0)
+  lob_octet _ o g = both (o == 39) (g 1) (g 0)
 
   walk : (p : Place) (colon : Bool) (m : Mode) (o : ℕ) → Pass f (rows (is_sexp p) (is_last m) m) → f (next p colon m o) ≡ true
   walk p colon Mode.Blank o g = blank p colon o (g (taken o))
@@ -237,8 +233,6 @@ module _ (f : Action → Bool) where
       comment false = g (taken o) 1
   walk p colon Mode.BlockCommentStar o g = both (o == 47) (g (taken o) 0) (both (o == 42) (g (taken o) 1) (g (taken o) 2))
   walk p colon Mode.Colon o g = both (o == 58) (g (taken o) 0) (g (taken o) 1)
-  walk p colon Mode.Word o g = both (is_word_octet o) (g (taken o) 0) (g (taken o) 1)
-  walk p colon Mode.KindName o g = both (is_word_octet o) (g (taken o) 0) (g (taken o) 1)
   walk p colon Mode.Number o g = both (is_stop o) (g (taken o) 0) (both (o == 47) (g (taken o) 1) (g (taken o) 2))
   walk p colon Mode.NumberSlash o g = both ((o == 47) || (o == 42)) (g (taken o) 0) (both (is_stop o) (g (taken o) 1) (g (taken o) 2))
   walk p colon (Mode.Operator e) o g = operator p e o (g (taken o))
@@ -254,6 +248,7 @@ module _ (f : Action → Bool) where
   walk p colon (Mode.Text s w) o g = text_octet s w o g
   walk p colon Mode.Brace o g = both (o == 123) (g (taken o) 0) (g (taken o) 1)
   walk p colon (Mode.Lob l) o g = lob_octet l o (g (taken o))
+  walk p colon _ o g = both (is_word_octet o) (g (taken o) 0) (g (taken o) 1)
 
   -- What passes in each row of a mode passes for what an octet does there.
   pub by_mode : (p : Place) (colon : Bool) (m : Mode) (o : ℕ) → ((t : Taken) → list_all f (rows (is_sexp p) (is_last m) m t) ≡ true)

@@ -1,8 +1,8 @@
 -- What the scanner's table promises to who looks one octet ahead, shown for each of its rows. Crates above cite `feed_follows`.
-use Rattle.std.proofs.Common.{◌≡◌, ℕ, Bool, true, false, cond, List, [], refl, sym, ◌∙◌, Option, Some, None}
+use Rattle.std.proofs.Common.{◌≡◌, ℕ, Bool, true, false, List, refl, sym, ◌∙◌, Option, Some, None}
 use Rattle.std.specs.Prelude.{◌==◌, ◌&&◌, ◌||◌, not, bytes_eq, codes}
-use Rattle.std.proofs.lemmas.Bool.{and_parts}
-use Rattle.ion_tokens.specs.Names.{Action, Known, Left, Mode, Next, Place, TokenKind, acts, blob_ends, blob_of, cut, feed, go_to, is_idle, is_segment, is_sexp, past}
+use Rattle.std.proofs.lemmas.Bool.{and_parts, cond_both, not-true}
+use Rattle.ion_tokens.specs.Names.{Action, Known, Mode, Place, acts, blob_ends, blob_of, feed, is_idle, is_segment, is_sexp}
 use Rattle.ion_tokens.specs.machine.Ahead.{Follows, is_closing, is_mark, is_quoting, is_sane}
 use Rattle.ion_tokens.specs.machine.Table.{next}
 use Rattle.ion_tokens.specs.laws.ByRows.{by_rows_where, modes_imply}
@@ -28,13 +28,9 @@ table_follows : (p : Place) (colon : Bool) (m : Mode) (o : ℕ) → is_sane m �
     → action_follows (is_sexp p) (is_idle m) (is_quoting m) (next p colon m o) ≡ true
 table_follows = by_rows_where is_sane (λ sexp m. action_follows sexp (is_idle m) (is_quoting m)) (λ c t. refl)
 
-not_true : (b : Bool) → not b ≡ true → b ≡ false
-not_true false h = refl
-not_true true h = absurd cc
-
 went : (i q n z : Bool) → (i || (not n && (not z || q))) ≡ true → (i ≡ false → n ≡ false) × (i ≡ false → q ≡ false → z ≡ false)
 went true q n z h = ((λ e. absurd cc), (λ e f. absurd cc))
-went false q n z h = let p = and_parts _ _ h in ((λ e. not_true n p.0), (λ e f. or_false z q p.1 f))
+went false q n z h = let p = and_parts _ _ h in ((λ e. not-true n p.0), (λ e f. or_false z q p.1 f))
   where
     or_false : (z q : Bool) → (not z || q) ≡ true → q ≡ false → z ≡ false
     or_false false q h f = refl
@@ -58,15 +54,11 @@ acts_follow p s o (Action.Before kind k n) h =
   where
     or_not : (i c : Bool) → (i || not c) ≡ true → i ≡ false → c ≡ false
     or_not true c h e = absurd cc
-    or_not false c h e = not_true c h
-acts_follow p s o Action.EndWord h = word ((o == 46) && bytes_eq s.kept (codes "null"))
-  where
-    word : (b : Bool) → Follows p s.mode (cond b (Next (go_to s Mode.KindName []))
-        (Left (cut s TokenKind.Word s.kept s.used) (past p TokenKind.Word Mode.Blank [] s.used s.used)))
-    word true = (refl, (λ e. refl), (λ e f. refl))
-    word false = ((λ e. refl), (λ e. refl))
+    or_not false c h e = not-true c h
+acts_follow p s o Action.EndWord h =
+    cond_both ((o == 46) && bytes_eq s.kept (codes "null")) _ _ (Follows p s.mode) (λ _. (refl, (λ e. refl), (λ e f. refl))) (λ _. ((λ e. refl), (λ e. refl)))
 acts_follow p s o (Action.Split n) h = let x = and_parts _ _ h in ((λ e. let never : true ≡ false = sym x.0 ∙ e in absurd cc), (λ e. refl))
-acts_follow p s o Action.EndBlob h = blob_follows p s (blob_of s.kept) (not_true (is_idle s.mode) h)
+acts_follow p s o Action.EndBlob h = blob_follows p s (blob_of s.kept) (not-true (is_idle s.mode) h)
 acts_follow p s o (Action.Refuse e) h = tt
 
 -- What comes of an octet where quotes are kept open in long texts alone.

@@ -5,13 +5,9 @@ use Rattle.std.proofs.lemmas.Bool.{false≢true}
 use Rattle.std.proofs.lemmas.Bool.Decides.{nat_tests}
 use Rattle.std.proofs.lemmas.Str.{encode_ascii}
 use Rattle.ion_tokens.specs.Names.{AreOctets, Blob, Clob, Content, Element, Fits, Hex, Hidden, Id, IsBody, IsClobContent, IsElement, IsHexAfter, IsLexeme, IsQuoted, IsSegment, IsThere, IsWordBody, Kind, LexesBefore, Long, LongTexts, Mark', Number', Operator, Pair, Place, Placed, Quoted, Raw, RawLine, Reason, SaysNumber, Segment, Short, ShortText, Simple, Style, TokenKind, TypedNull, Word, colon_behind, hex_length, hexadecimal_digit, id_of, is_clob, kind_named, meaning, null_of}
-use Rattle.ion_tokens.specs.Octets.{escaped}
 use Rattle.ion_tokens.specs.laws.Blobs.{octets_append}
 
 -- 1. The octets of a lob.
-
-escape_small : (letter o : ℕ) → escaped letter ≡ Some o → o < 256
-escape_small letter o e = grind (arith, nat_tests)
 
 digit_small : (o d : ℕ) → hexadecimal_digit o ≡ Some d → d < 16
 digit_small o d e = grind (arith, nat_tests)
@@ -31,7 +27,7 @@ by_letter letter digits c e l h = hex_small digits c (two_long (length digits) (
 element_octets : (s : Style) (e : Element) → is_clob s ≡ true → IsElement s e → AreOctets (meaning s e)
 element_octets s (Raw c) k h = let low = h.4 k in subst AreOctets (sym (encode_ascii c low)) (omega arith, tt)
 element_octets s (RawLine _) k h = (omega arith, tt)
-element_octets s (Simple letter o) k h = (escape_small letter o h, tt)
+element_octets s (Simple letter o) k h = (grind (arith, nat_tests), tt)
 element_octets s (Hidden _) k h = tt
 element_octets s (Hex letter digits c) k h = rw k (by_letter letter digits c (h.3 k) h.0 h.1, tt)
 element_octets s (Pair _ _ _ _) k h = absurd (false≢true (sym h.0 ∙ k))
@@ -61,14 +57,7 @@ IsLobKept _ octets = Unit {0}
 pub lexeme_kept : (p : Place) (colon : Bool) (w r : List ℕ) (k : TokenKind) (octets : List ℕ) → IsLexeme p colon w r k octets → IsLobKept k octets
 lexeme_kept p colon w r TokenKind.Clob octets (n, content, h, e) = clob_octets content octets h
 lexeme_kept p colon w r TokenKind.Blob octets (n, content, h, e) = h.1.octets_are
-lexeme_kept p colon w r TokenKind.Word octets h = tt
-lexeme_kept p colon w r TokenKind.KindName octets h = tt
-lexeme_kept p colon w r TokenKind.Number octets h = tt
-lexeme_kept p colon w r TokenKind.Operator octets h = tt
-lexeme_kept p colon w r TokenKind.QuotedSymbol octets h = tt
-lexeme_kept p colon w r TokenKind.ShortString octets h = tt
-lexeme_kept p colon w r TokenKind.LongString octets h = tt
-lexeme_kept p colon w r (TokenKind.Mark m) octets h = tt
+lexeme_kept p colon w r _ octets h = tt
 
 -- 2. What a token says.
 
@@ -86,16 +75,7 @@ IsContentKept _ = Unit {0}
 
 number_kept : (octets : List ℕ) (c : Content) → SaysNumber octets c → IsContentKept c
 number_kept octets (Number' n) h = (h.1, h.2)
-number_kept octets (Word w) h = absurd h
-number_kept octets (Id n) h = absurd h
-number_kept octets (Quoted w) h = absurd h
-number_kept octets (Short w) h = absurd h
-number_kept octets (Long w) h = absurd h
-number_kept octets (TypedNull k) h = absurd h
-number_kept octets (Operator w) h = absurd h
-number_kept octets (Clob o) h = absurd h
-number_kept octets (Blob o) h = absurd h
-number_kept octets (Mark' m) h = absurd h
+number_kept octets _ h = absurd h
 
 said_by : (c said : Content) → c ≡ said → IsContentKept said → IsContentKept c
 said_by c said e h = subst IsContentKept (sym e) h

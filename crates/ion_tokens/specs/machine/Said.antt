@@ -51,12 +51,9 @@ number_says octets (Err e) h = h
 pub says : (k : TokenKind) (octets : List ℕ) → IsBody k octets (said k octets)
 unfolding said
 says TokenKind.Word octets = word_says octets (id_of octets)
-says TokenKind.KindName octets = refl
 says TokenKind.Number octets = number_says octets (number_read octets) (number_reads octets)
 says TokenKind.Operator octets = spells (Operator octets) octets
 says TokenKind.QuotedSymbol octets = spells (Quoted octets) octets
 says TokenKind.ShortString octets = spells (Short octets) octets
 says TokenKind.LongString octets = spells (Long octets) octets
-says TokenKind.Clob octets = refl
-says TokenKind.Blob octets = refl
-says (TokenKind.Mark m) octets = refl
+says _ octets = refl

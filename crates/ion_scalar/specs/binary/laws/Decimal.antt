@@ -1,9 +1,9 @@
 -- A decimal's body is read as what it is.
 use Rattle.std.proofs.Common.{◌≡◌, ◌≢◌, ◌⊎◌, ℕ, ℤ, cond, pos, negsuc, neg_ℤ, ◌≤ℤ◌, ◌<ℤ◌, Bool, true, false, [], ◌∷◌, ◌++◌, ◌^◌, ◌<◌, List, take, drop, refl, sym, ap, ◌∙◌, arith, Ok, Err, Result, inl, inr}
-use Rattle.std.specs.Prelude.{unsigned_abs, int_lt, ◌&&◌, ◌==◌}
+use Rattle.std.specs.Prelude.{unsigned_abs, int_lt, ◌==◌}
 use Rattle.std.specs.Ordering.{int_eq}
 use Rattle.std.proofs.lemmas.Bool.Decides.{Decides-int_eq}
-use Rattle.std.proofs.lemmas.Bool.{eqb-true, false≢true, lt-ltb, le-ltb, le-leb, lt-leb, cases_lt}
+use Rattle.std.proofs.lemmas.Bool.{eqb-true, false≢true, lt-ltb, le-ltb, le-leb, lt-leb, cases_lt, and_parts}
 use Rattle.std.proofs.Math.Seq.{drop-append_seam}
 use Rattle.std.proofs.lemmas.List.{take-append-drop}
 use Rattle.std.proofs.lemmas.Int.{ints}
@@ -160,14 +160,10 @@ spelled negative m e h =
       magnitude = sym int.1;
     })
 
-both : (x y : Bool) → (x && y) ≡ true → (x ≡ true) × (y ≡ true)
-both true y h = (refl, h)
-both false y h = absurd (false≢true h)
-
 zero_is : (negative : Bool) (m : ℕ) (e : ℤ) → is_zero negative m e ≡ true → (negative ≡ false) × (m ≡ 0) × (e ≡ pos 0)
 zero_is true m e h = absurd (false≢true h)
 zero_is false m e h =
-    let parts = both (m == 0) (int_eq e (pos 0)) h in
+    let parts = and_parts (m == 0) (int_eq e (pos 0)) h in
     (refl, eqb-true m 0 parts.0, (Decides-int_eq e (pos 0)).0 parts.1)
 
 -- one of the two spellings

@@ -61,12 +61,9 @@ decimal_fewest w d octets (inr p) =
 
 -- what stands behind the fields, part by part, at most
 minute_size : (p : Precision) (utc : Utc) → length (octets_behind_minute p utc) ≤ length (var_uint_octets utc.second) + length (octets_behind_second p utc)
-minute_size Precision.Year utc = omega arith
-minute_size Precision.Month utc = omega arith
-minute_size Precision.Day utc = omega arith
-minute_size Precision.Minute utc = omega arith
 minute_size Precision.Second utc = omega (arith, length-append (var_uint_octets utc.second) (octets_behind_second Precision.Second utc))
 minute_size (Precision.Fraction n) utc = omega (arith, length-append (var_uint_octets utc.second) (octets_behind_second (Precision.Fraction n) utc))
+minute_size _ utc = omega arith
 
 abbrev clock_octets : Precision → Utc → List ℕ
 clock_octets p utc = var_uint_octets utc.minute.minute ++ octets_behind_minute p utc
@@ -75,26 +72,17 @@ day_size : (p : Precision) (utc : Utc) → length (octets_behind_day p utc) ≤ 
 day_size Precision.Year utc = omega arith
 day_size Precision.Month utc = omega arith
 day_size Precision.Day utc = omega arith
-day_size Precision.Minute utc = omega (arith, length-append (var_uint_octets utc.minute.hour) (clock_octets Precision.Minute utc))
-day_size Precision.Second utc = omega (arith, length-append (var_uint_octets utc.minute.hour) (clock_octets Precision.Second utc))
-day_size (Precision.Fraction n) utc = omega (arith, length-append (var_uint_octets utc.minute.hour) (clock_octets (Precision.Fraction n) utc))
+day_size p utc = omega (arith, length-append (var_uint_octets utc.minute.hour) (clock_octets p utc))
 
 month_size : (p : Precision) (utc : Utc) → length (octets_behind_month p utc) ≤ length (var_uint_octets utc.minute.date.day) + length (octets_behind_day p utc)
 month_size Precision.Year utc = omega arith
 month_size Precision.Month utc = omega arith
-month_size Precision.Day utc = omega (arith, length-append (var_uint_octets utc.minute.date.day) (octets_behind_day Precision.Day utc))
-month_size Precision.Minute utc = omega (arith, length-append (var_uint_octets utc.minute.date.day) (octets_behind_day Precision.Minute utc))
-month_size Precision.Second utc = omega (arith, length-append (var_uint_octets utc.minute.date.day) (octets_behind_day Precision.Second utc))
-month_size (Precision.Fraction n) utc = omega (arith, length-append (var_uint_octets utc.minute.date.day) (octets_behind_day (Precision.Fraction n) utc))
+month_size p utc = omega (arith, length-append (var_uint_octets utc.minute.date.day) (octets_behind_day p utc))
 
 year_size : (p : Precision) (utc : Utc) → length (octets_behind_year p utc) ≤ length (var_uint_octets utc.minute.date.month)
     + length (octets_behind_month p utc)
 year_size Precision.Year utc = omega arith
-year_size Precision.Month utc = omega (arith, length-append (var_uint_octets utc.minute.date.month) (octets_behind_month Precision.Month utc))
-year_size Precision.Day utc = omega (arith, length-append (var_uint_octets utc.minute.date.month) (octets_behind_month Precision.Day utc))
-year_size Precision.Minute utc = omega (arith, length-append (var_uint_octets utc.minute.date.month) (octets_behind_month Precision.Minute utc))
-year_size Precision.Second utc = omega (arith, length-append (var_uint_octets utc.minute.date.month) (octets_behind_month Precision.Second utc))
-year_size (Precision.Fraction n) utc = omega (arith, length-append (var_uint_octets utc.minute.date.month) (octets_behind_month (Precision.Fraction n) utc))
+year_size p utc = omega (arith, length-append (var_uint_octets utc.minute.date.month) (octets_behind_month p utc))
 
 -- a field and what stands behind it
 field_size : (w field rest : List ℕ) (n m a : ℕ) → AreBelow 256 w → w ≡ field ++ rest → VarUInt field n → m ≡ n → a ≤ length rest
@@ -221,12 +209,10 @@ offset_size w negative n octets is = by (negative && (n == 0)) where
   by false = omega (arith, size, signed_size negative n)
 
 kept_size : (p : Precision) (offset : Option ℤ) (n : ℕ) → 1 ≤ n → length (ahead_octets offset) ≤ n → length (ahead_octets (kept_offset p offset)) ≤ n
-kept_size Precision.Year offset n one h = one
-kept_size Precision.Month offset n one h = one
-kept_size Precision.Day offset n one h = one
 kept_size Precision.Minute offset n one h = h
 kept_size Precision.Second offset n one h = h
 kept_size (Precision.Fraction digits) offset n one h = h
+kept_size _ offset n one h = one
 
 -- the fields of a body are those of the timestamp in UTC
 utc_is : (body : List ℕ) (t : TimestampParts) (b : IsTimestampBody body t) → utc_of t ≡ b.utc

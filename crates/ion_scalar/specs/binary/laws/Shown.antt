@@ -27,26 +27,19 @@ near_fits z h = fits_signed_from_abs w16 z (abs_small z h)
 
 -- the offset that is kept is less than a day
 near_kept : (p : Precision) (offset : Option ℤ) → IfSome offset IsOffset → IsOffset (minutes_ahead (kept_offset p offset))
-near_kept Precision.Year offset h = zero_near
-near_kept Precision.Month offset h = zero_near
-near_kept Precision.Day offset h = zero_near
-near_kept Precision.Minute None h = zero_near
 near_kept Precision.Minute (Some z) h = h
-near_kept Precision.Second None h = zero_near
 near_kept Precision.Second (Some z) h = h
-near_kept (Precision.Fraction digits) None h = zero_near
 near_kept (Precision.Fraction digits) (Some z) h = h
+near_kept _ _ h = zero_near
 
 has_offset : (p : Precision) (offset : Option ℤ) → IfSome offset IsOffset → HasOffset p (kept_offset p offset)
-has_offset Precision.Year offset h = refl
-has_offset Precision.Month offset h = refl
-has_offset Precision.Day offset h = refl
 has_offset Precision.Minute None h = tt
 has_offset Precision.Minute (Some z) h = h
 has_offset Precision.Second None h = tt
 has_offset Precision.Second (Some z) h = h
 has_offset (Precision.Fraction digits) None h = tt
 has_offset (Precision.Fraction digits) (Some z) h = h
+has_offset _ offset h = refl
 
 -- moving the minute leaves the fields cut
 pub cut_kept : (p : Precision) (offset : Option ℤ) (l k : Local) → IsCut p l → k.second ≡ l.second → k.fraction ≡ l.fraction

@@ -76,9 +76,8 @@ LargeParts below power octets = ((below ≡ true) × (most_digits < power)) ⊎ 
 
 module _ (minute : Minute) (second : ℕ) (octets : List ℕ) (reason : Reason) where
   picked : (b c : Bool) (utc : Utc) → cond b (Err Malformed) (cond c (Ok utc) (Err Malformed)) ≡ Err reason → reason ≡ Malformed
-  picked true c utc e = cc
   picked false true utc e = absurd cc
-  picked false false utc e = cc
+  picked _ _ utc e = cc
 
   picked_none : (b : Bool) (utc : Utc) → cond b (Err Malformed) (Ok utc) ≡ Err reason → reason ≡ Malformed
   picked_none true utc e = cc

@@ -122,23 +122,19 @@ none_near : (offset : Option ℤ) → offset ≡ None → IfSome offset IsOffset
 none_near offset e = let P : Option ℤ → Type 0 = λ x. IfSome x IsOffset in subst P (sym e) tt
 
 near_offset : (p : Precision) (offset : Option ℤ) → HasOffset p offset → IfSome offset IsOffset
-near_offset Precision.Year offset h = none_near offset h
-near_offset Precision.Month offset h = none_near offset h
-near_offset Precision.Day offset h = none_near offset h
 near_offset Precision.Minute None h = tt
 near_offset Precision.Minute (Some z) h = h
 near_offset Precision.Second None h = tt
 near_offset Precision.Second (Some z) h = h
 near_offset (Precision.Fraction digits) None h = tt
 near_offset (Precision.Fraction digits) (Some z) h = h
+near_offset _ offset h = none_near offset h
 
 kept_is : (p : Precision) (offset : Option ℤ) → HasOffset p offset → offset ≡ kept_offset p offset
-kept_is Precision.Year offset h = h
-kept_is Precision.Month offset h = h
-kept_is Precision.Day offset h = h
 kept_is Precision.Minute offset h = refl
 kept_is Precision.Second offset h = refl
 kept_is (Precision.Fraction digits) offset h = refl
+kept_is _ offset h = h
 
 pub near_back : (offset : Option ℤ) → IfSome offset IsOffset → IsOffset (neg_ℤ (minutes_ahead offset))
 near_back None h = (omega (arith, ints), omega (arith, ints))

@@ -134,15 +134,13 @@ near : (z : ℤ) → Dec (IsOffset z)
 near z = both (at_most (neg_ℤ (pos farthest_offset)) z) (at_most z (pos farthest_offset))
 
 offset_there : (p : Precision) (o : Option ℤ) → Dec (HasOffset p o)
-offset_there Precision.Year o = unknown o
-offset_there Precision.Month o = unknown o
-offset_there Precision.Day o = unknown o
 offset_there Precision.Minute None = yes tt
 offset_there Precision.Second None = yes tt
 offset_there (Precision.Fraction digits) None = yes tt
 offset_there Precision.Minute (Some z) = near z
 offset_there Precision.Second (Some z) = near z
 offset_there (Precision.Fraction digits) (Some z) = near z
+offset_there _ o = unknown o
 
 in_years : (z : ℤ) → Dec (InYears z)
 in_years z = both (at_most (pos (first_day * 1440)) z) (below z (pos ((last_day + 1) * 1440)))
@@ -155,9 +153,5 @@ there t =
 
 -- whether a precision has at most 38 fraction digits is decided
 pub short : (p : Precision) → Dec (IsShort p)
-short Precision.Year = yes tt
-short Precision.Month = yes tt
-short Precision.Day = yes tt
-short Precision.Minute = yes tt
-short Precision.Second = yes tt
 short (Precision.Fraction digits) = dec_le digits most_digits
+short _ = yes tt

@@ -19,16 +19,14 @@ letter true c (inr e) = let P : ℕ → Type 0 = λ x. (10 ≤ digit_value x) ×
 -- an end begins with no digit
 pub end_stops : (rest : List ℕ) (float s : Bool) (n : ℕ) → IsEnd rest float s n → GoesNotOn 10 rest
 end_stops [] float s n e = tt
-end_stops (c ∷ []) float s n (inl e) = cc
-end_stops (c ∷ d ∷ os) float s n (inl e) = cc
 end_stops (c ∷ []) float s n (inr e) = (letter float c (e.0)).0
 end_stops (c ∷ d ∷ os) float s n (inr e) = let l = letter float c (e.0) in (l.0, λ m. absurd (l.1 m))
+end_stops _ float s n (inl e) = cc
 
 -- digits in front of what begins with none
 front : (base used : ℕ) (os : List ℕ) → IsDigits base (take used os) → BeginsWithNone base os → ⊥
-front base zero os h n = h
-front base (suc k) [] h n = h
 front base (suc k) (c ∷ os) h n = absurd (omega (arith, first_digit base c (take k os) h))
+front base _ _ h n = h
 
 -- what doesn't go on with digits begins with none
 pub none_first : (base : ℕ) (os : List ℕ) → GoesNotOn base os → BeginsWithNone base os

@@ -1,6 +1,5 @@
 -- A token spells one number, or is a float, and not both.
 use Rattle.std.proofs.Common.{◌≡◌, ◌≢◌, ℕ, ◌<◌, ◌≤◌, ◌⊎◌, inl, inr, List, [], ◌∷◌, ◌++◌, length, Bool, true, false, ℤ, pos, ◌-ℤ◌, refl, sym, ap, subst, ◌∙◌, arith, Result, Ok, Err}
-use Rattle.std.specs.Prelude.{is_ok}
 use Rattle.std.proofs.lemmas.Bool.{false≢true, true≢false}
 use Rattle.std.proofs.lemmas.List.{append-nil, append_cancel_left}
 use Rattle.std.specs.Char.{digit_value}
@@ -30,18 +29,9 @@ one_signed (c ∷ os) s t m n (inr (inr a)) (inr (inl b)) = absurd (plain_first 
 one_signed (c ∷ os) s t m n (inr (inr a)) (inr (inr b)) = (a.0 ∙ sym (b.0), a.2 ∙ sym (b.2))
 
 one_letter : (f g : Bool) (c : ℕ) → IsLetter f c → IsLetter g c → f ≡ g
-one_letter false false c a b = refl
-one_letter true true c a b = refl
-one_letter false true c a b = absurd (elim a [
-  | inl x ↦ elim b [ inl y ↦ omega arith | inr y ↦ omega arith ]
-  | inr x ↦ elim b
-      [ inl y ↦ omega arith | inr y ↦ omega arith ]
-])
-one_letter true false c a b = absurd (elim a [
-  | inl x ↦ elim b [ inl y ↦ omega arith | inr y ↦ omega arith ]
-  | inr x ↦ elim b
-      [ inl y ↦ omega arith | inr y ↦ omega arith ]
-])
+one_letter false true c a b = absurd (grind arith)
+one_letter true false c a b = absurd (grind arith)
+one_letter _ _ c a b = refl
 
 -- float, minus and magnitude of an exponent
 abbrev Agree : (f g s t : Bool) (m n : ℕ) → Type 0
@@ -125,13 +115,12 @@ same_parts d e a b c = λ i. record { negative = a i; magnitude = b i; exponent 
 one_behind : (s : Bool) (body : List ℕ) (x y : Number) → IsBehind s body x → IsBehind s body y → x ≡ y
 one_behind s body (Number.Int x) (Number.Int y) a b = ap Number.Int (a.2 ∙ (ap (signed s) (one_magnitude body a.0 b.0 a.1 b.1) ∙ sym b.2))
 one_behind s body (Number.Timestamp t) y a b = absurd a
-one_behind s body (Number.Int x) (Number.Timestamp t) a b = absurd b
-one_behind s body (Number.Decimal d) (Number.Timestamp t) a b = absurd b
 one_behind s body (Number.Int x) (Number.Decimal d) a b = absurd (int_or_decimal body a.0 d.magnitude false d.exponent a.1 b.1)
 one_behind s body (Number.Decimal d) (Number.Int y) a b = absurd (int_or_decimal body b.0 d.magnitude false d.exponent b.1 a.1)
 one_behind s body (Number.Decimal d) (Number.Decimal e) a b =
     let one = one_decimal body false false d.magnitude e.magnitude d.exponent e.exponent a.1 b.1 in
     ap Number.Decimal (same_parts d e (a.0 ∙ sym b.0) (one.1) (one.2))
+one_behind s body _ (Number.Timestamp t) a b = absurd b
 
 float_or_number : (s : Bool) (body : List ℕ) (x : Number) → IsFloatBody body → IsBehind s body x → ⊥
 float_or_number s body (Number.Int z) f is = int_or_decimal body is.0 f.magnitude true f.exponent is.1 f.is
@@ -168,17 +157,9 @@ front_stops e (f ∷ rest) (inl h) = (let P : ℕ → Type 0 = λ x. 10 ≤ digi
 front_stops e (f ∷ rest) (inr h) = (let P : ℕ → Type 0 = λ x. 10 ≤ digit_value x in subst P (sym h) (omega arith), λ m. absurd (omega arith))
 
 front_no_tail : (e : ℕ) (rest f : List ℕ) (float s : Bool) (n : ℕ) → (e ≡ 45) ⊎ (e ≡ 84) → IsTail (e ∷ rest) f float s n → ⊥
-front_no_tail e rest f float s n is (inl p) = elim is [ inl a ↦ omega (arith, a, p.0) | inr a ↦ omega (arith, a, p.0) ]
-front_no_tail e rest f false s n is (inr p) = elim is [
-  | inl a ↦ elim (p.1.0) [ inl b ↦ omega arith | inr b ↦ omega arith ]
-  | inr a ↦ elim (p.1.0)
-      [ inl b ↦ omega arith | inr b ↦ omega arith ]
-]
-front_no_tail e rest f true s n is (inr p) = elim is [
-  | inl a ↦ elim (p.1.0) [ inl b ↦ omega arith | inr b ↦ omega arith ]
-  | inr a ↦ elim (p.1.0)
-      [ inl b ↦ omega arith | inr b ↦ omega arith ]
-]
+front_no_tail e rest f float s n is (inl p) = grind (arith, p.0)
+front_no_tail e rest f false s n is (inr p) = grind (arith, p.1.0)
+front_no_tail e rest f true s n is (inr p) = grind (arith, p.1.0)
 
 module _ (a b c d e : ℕ) (rest : List ℕ) (da : digit_value a < 10) (db : digit_value b < 10) (dc : digit_value c < 10) (dd : digit_value d < 10)
     (stop : (e ≡ 45) ⊎ (e ≡ 84)) where
@@ -272,8 +253,7 @@ no_there token none h (Number.Decimal d) is = absurd (none (Number.Decimal d) is
 -- a timestamp that a token spells is the number that it is read as
 pub timestamp_answer : (token : List ℕ) (x : Number) → ReadsTimestamp token (Ok x) → ReadsNumber token (Ok x)
 timestamp_answer token (Number.Timestamp t) h = (h.0, there_short t (h.1), h.1)
-timestamp_answer token (Number.Int z) h = absurd h
-timestamp_answer token (Number.Decimal d) h = absurd h
+timestamp_answer token _ h = absurd h
 
 -- of a token that is no int, decimal or float, the forms of a timestamp alone decide
 pub stamp_answer : (token : List ℕ) (r : Result Number Reason) → ReadsNumeral token (Err Malformed) → ReadsTimestamp token r → ReadsNumber token r

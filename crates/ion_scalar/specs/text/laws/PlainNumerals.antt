@@ -79,9 +79,8 @@ body_reads negative body h = elim h.behind [
 ]
 
 number_of_numeral : (token : List ℕ) (x : Number) → ReadsNumeral token (Ok x) → ReadsNumber token (Ok x)
-number_of_numeral token (Number.Int z) h = (h.0, h.1, tt)
-number_of_numeral token (Number.Decimal d) h = (h.0, h.1, tt)
 number_of_numeral token (Number.Timestamp t) h = absurd h.0.is
+number_of_numeral token _ h = (h.0, h.1, tt)
 
 -- what the numeral says doesn't hang on the octets behind it
 alone : (os : List ℕ) (count : ℕ) → PlainNumeral os count → PlainNumeral (take count os) (length (take count os))

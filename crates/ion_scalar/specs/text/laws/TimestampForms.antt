@@ -289,11 +289,6 @@ power_small k h = let m : 10 ^ k ≤ 10 ^ most_digits = pow-le-pow_right (omega 
 -- parts with at most 38 fraction digits are read as they are
 pub read_short : (os : List ℕ) (t : TimestampParts) → IsTimestampToken os t → IsShort (read_precision t.precision) → IsShort t.precision
     × (stamp t ≡ record { local = t.local; precision = t.precision; offset = t.offset })
-read_short os _ (year h) s = (tt, refl)
-read_short os _ (month h) s = (tt, refl)
-read_short os _ (day h) s = (tt, refl)
-read_short os _ (minute h o) s = (tt, refl)
-read_short os _ (second h o) s = (tt, refl)
 read_short os _ (fraction h p digits rest e) s =
     let few : length digits ≤ most_digits = omega arith in
     let small = number_small digits (e.plain.0) in
@@ -309,14 +304,11 @@ read_short os _ (fraction h p digits rest e) s =
         offset = offset_read rest;
       },
     )
+read_short os _ _ s = (tt, refl)
 
 pub short_read : (p : Precision) → IsShort p → IsShort (read_precision p)
-short_read Precision.Year h = tt
-short_read Precision.Month h = tt
-short_read Precision.Day h = tt
-short_read Precision.Minute h = tt
-short_read Precision.Second h = tt
 short_read (Precision.Fraction digits) h = omega arith
+short_read _ h = tt
 
 -- the parts of what is read of a token with at most 38 fraction digits
 pub short_parts : (os : List ℕ) (t : TimestampParts) (s : Stamp) → IsTimestampToken os t → s ≡ stamp t → IsShort s.precision → IsShort t.precision
@@ -345,12 +337,8 @@ pub made : (os : List ℕ) (t x y : TimestampParts) → IsTimestampToken os t �
 made os t x y is e h = (subst (IsTimestampToken os) (e ∙ sym (h.1)) is, subst IsTimestamp (sym (h.1)) (h.0))
 
 cut_short : (p : Precision) (l : Local) → IsCut p l → IsShort p
-cut_short Precision.Year l h = tt
-cut_short Precision.Month l h = tt
-cut_short Precision.Day l h = tt
-cut_short Precision.Minute l h = tt
-cut_short Precision.Second l h = tt
 cut_short (Precision.Fraction digits) l h = h.1
+cut_short _ l h = tt
 
 -- a timestamp has at most 38 fraction digits
 pub there_short : (t : TimestampParts) → IsTimestamp t → IsShort t.precision

@@ -47,12 +47,10 @@ small_fields t h =
 
 pub near_offset : (p : Precision) (o : Option ℤ) → HasOffset p o → IfSome o IsOffset
 near_offset p None h = tt
-near_offset Precision.Year (Some z) h = cc
-near_offset Precision.Month (Some z) h = cc
-near_offset Precision.Day (Some z) h = cc
 near_offset Precision.Minute (Some z) h = h
 near_offset Precision.Second (Some z) h = h
 near_offset (Precision.Fraction d) (Some z) h = h
+near_offset _ (Some z) h = cc
 
 clock_is : (c n : ℕ) → n ≤ farthest_offset → let os = c ∷ clock_text n in AreTwoAt os 1 × IsAt os 3 58 × AreTwoAt os 4 × (two os 1 ≤ last_hour)
     × (two os 4 ≤ last_minute) × (offset_minutes os ≡ n)

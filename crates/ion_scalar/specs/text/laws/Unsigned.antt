@@ -11,28 +11,8 @@ use Rattle.ion_scalar.specs.text.laws.Signs.{no_sign}
 -- the letters of a base are none that a tail begins with
 no_letter : (float : Bool) (x : ℕ) → (x ≡ 46) ⊎ IsLetter float x → (base : ℕ) → ((base ≡ 16) × ((x ≡ 120) ⊎ (x ≡ 88))) ⊎ ((base ≡ 2) × ((x ≡ 98) ⊎ (x ≡ 66)))
     → ⊥
-no_letter float x (inl dot) base (inl h) = elim (h.1) [ inl a ↦ omega arith | inr a ↦ omega arith ]
-no_letter float x (inl dot) base (inr h) = elim (h.1) [ inl a ↦ omega arith | inr a ↦ omega arith ]
-no_letter false x (inr l) base (inl h) = elim (h.1) [
-  | inl a ↦ elim l [ inl b ↦ omega arith | inr b ↦ omega arith ]
-  | inr a ↦ elim l
-      [ inl b ↦ omega arith | inr b ↦ omega arith ]
-]
-no_letter false x (inr l) base (inr h) = elim (h.1) [
-  | inl a ↦ elim l [ inl b ↦ omega arith | inr b ↦ omega arith ]
-  | inr a ↦ elim l
-      [ inl b ↦ omega arith | inr b ↦ omega arith ]
-]
-no_letter true x (inr l) base (inl h) = elim (h.1) [
-  | inl a ↦ elim l [ inl b ↦ omega arith | inr b ↦ omega arith ]
-  | inr a ↦ elim l
-      [ inl b ↦ omega arith | inr b ↦ omega arith ]
-]
-no_letter true x (inr l) base (inr h) = elim (h.1) [
-  | inl a ↦ elim l [ inl b ↦ omega arith | inr b ↦ omega arith ]
-  | inr a ↦ elim l
-      [ inl b ↦ omega arith | inr b ↦ omega arith ]
-]
+no_letter false x letter base announced = grind arith
+no_letter true x letter base announced = grind arith
 
 tail_first : (c : ℕ) (os f : List ℕ) (float s : Bool) (n : ℕ) → IsTail (c ∷ os) f float s n → (c ≡ 46) ⊎ IsLetter float c
 tail_first c os f float s n (inl p) = inl (p.0)
@@ -230,12 +210,11 @@ decimal_first float c os m e d = whole_first c os d.whole d.tail d.octets d.is_w
 -- one sign and one body: a body doesn't begin with `-`
 pub one_sign : (negative s : Bool) (token body other : List ℕ) → BeginsWithMinus negative token → token ≡ minus negative ++ body → token ≡ minus s ++ other
     → ((c : ℕ) (os : List ℕ) → other ≡ c ∷ os → c ≢ 45) → (negative ≡ s) × (other ≡ body)
-one_sign true true token body other b e f first = (refl, cc)
-one_sign false false token body other b e f first = (refl, cc)
 one_sign true false token body [] b e f first = cc
 one_sign true false token body (c ∷ other) b e f first = absurd (first c other refl cc)
 one_sign false true [] body other b e f first = cc
 one_sign false true (c ∷ token) body other b e f first = absurd (false≢true (b.1 cc))
+one_sign _ _ token body other b e f first = (refl, cc)
 
 -- what stands behind a sign doesn't begin with `-`
 pub behind_first : (negative : Bool) (c : ℕ) (os : List ℕ) (x : Number) → IsBehind negative (c ∷ os) x → c ≢ 45

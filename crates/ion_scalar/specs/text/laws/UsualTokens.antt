@@ -65,15 +65,13 @@ offset_near os (inr h) =
     rw (ne_eqb (get_or os 0 0) 90 no_z) (signed_near (get_or os 0 0) (offset_minutes os) (omega (arith, h.5, h.6)))
 
 timed_offset : (p : Precision) (o : Option ℤ) → 3 ≤ precision_rank p → IfSome o IsOffset → HasOffset p o
-timed_offset Precision.Year o late near = absurd (omega arith)
-timed_offset Precision.Month o late near = absurd (omega arith)
-timed_offset Precision.Day o late near = absurd (omega arith)
 timed_offset Precision.Minute None late near = tt
 timed_offset Precision.Minute (Some minutes) late near = near
 timed_offset Precision.Second None late near = tt
 timed_offset Precision.Second (Some minutes) late near = near
 timed_offset (Precision.Fraction digits) None late near = tt
 timed_offset (Precision.Fraction digits) (Some minutes) late near = near
+timed_offset _ o late near = absurd (omega arith)
 
 ahead_near : (o : Option ℤ) → IfSome o IsOffset → IsOffset (minutes_ahead o)
 ahead_near None near = (omega (arith, ints), omega (arith, ints))

@@ -1,4 +1,4 @@
-use Rattle.std.proofs.Common.{◌≡◌, ◌≢◌, ℕ, suc, ◌+◌, ◌-◌, ◌<◌, ◌∙◌, false, List, length, take, drop, get_or, get_or-drop, length-drop, ap, subst, sym, arith}
+use Rattle.std.proofs.Common.{◌≡◌, ℕ, suc, ◌+◌, ◌-◌, ◌<◌, ◌∙◌, false, List, length, take, drop, get_or, get_or-drop, length-drop, ap, subst, sym, arith}
 use Rattle.std.specs.Prelude.{◌==◌, not}
 use Rattle.std.specs.List.{take_while}
 use Rattle.std.proofs.lemmas.Bool.Decides.{nat_tests}
@@ -46,8 +46,5 @@ loop-preserved c =
     let within : c.loop.at + c.of_comment.result + 1 < length octets = omega (arith, c.if-octets-star-lt2.false) in (
       omega arith,
       star_open octets (c.loop.at + c.of_comment.result) within
-          (open_up_to octets c.loop.at c.of_comment.result c.loop.invariant.1 c.of_comment.ensures) (no_slash _ c.if-octets-star-eq47.false),
+          (open_up_to octets c.loop.at c.of_comment.result c.loop.invariant.1 c.of_comment.ensures) (grind (arith, nat_tests, c.if-octets-star-eq47.false)),
     )
-  where
-    no_slash : (o : ℕ) → o ≢ 47 → (o == 47) ≡ false
-    no_slash o e = grind (arith, nat_tests)
