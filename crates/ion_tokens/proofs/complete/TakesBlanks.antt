@@ -2,7 +2,7 @@
 use Rattle.std.proofs.Common.{◌≡◌, ◌≢◌, ℕ, ◌+◌, ◌-◌, inl, inr, ⊎_elim, Bool, true, false, List, [], ◌∷◌, ◌++◌, length, refl, sym, ap, ◌∙◌, subst, arith, append_assoc, append-nil, length-append, cond}
 use Rattle.std.specs.Prelude.{◌==◌, ◌&&◌, not, codes, None, Ok}
 use Rattle.std.specs.List.{flat_map, AllByRecursion}
-use Rattle.std.proofs.lemmas.Bool.{false≢true, true≢false, ne_eqb}
+use Rattle.std.proofs.lemmas.Bool.{false≢true, ne_eqb, not-true, true≢false}
 use Rattle.ion_tokens.specs.Names.{Action, BlankPiece, BlockComment, HasNoClose, HasNoLineEnd, IsBlank, IsBlankPiece, IsLastBlank, Keep, Known, LineComment, Mode, Next, Place, White, acts, at_end, blank_spelling, follow, go, in_blank, is_line_end, is_white, run}
 use Rattle.ion_tokens.specs.machine.Table.{next}
 use Rattle.ion_tokens.proofs.complete.Moves.{Moves, Opens, at, blank, moves_one, moves_past, moves_then, opens_then}
@@ -47,10 +47,7 @@ opens_block p colon = λ start used r.
     λ i. run p r (at Mode.BlockComment [] colon (one i) (two i))
 
 line_on : (o : ℕ) → not (is_line_end o) ≡ true → (c : Bool) (p : Place) → next p c Mode.LineComment o ≡ Action.Go Mode.LineComment Keep.Nothing
-line_on o h c p = by (is_line_end o) h where
-  by : (b : Bool) → not b ≡ true → go (cond b Mode.Blank Mode.LineComment) ≡ Action.Go Mode.LineComment Keep.Nothing
-  by false h = refl
-  by true h = absurd (false≢true h)
+line_on o h c p = rw (not-true (is_line_end o) h)
 
 line_ends : (o : ℕ) → is_line_end o ≡ true → (c : Bool) (p : Place) → next p c Mode.LineComment o ≡ Action.Go Mode.Blank Keep.Nothing
 line_ends o h c p = ap (λ b. go (cond b Mode.Blank Mode.LineComment)) h

@@ -1,7 +1,7 @@
 -- Operators are read as they are spelled.
 use Rattle.std.proofs.Common.{◌≡◌, ◌≢◌, ℕ, ◌+◌, ◌-◌, ◌<◌, ◌⊎◌, inl, inr, ⊎_elim, Bool, true, false, List, [], ◌∷◌, ◌++◌, length, refl, sym, ap, ◌∙◌, subst, arith, append_assoc, append-nil, length-append, cond}
-use Rattle.std.specs.Prelude.{◌==◌, ◌&&◌, ◌||◌, not, codes, take, Some, Ok}
-use Rattle.std.proofs.lemmas.Bool.{false≢true, true≢false, ne_eqb, or_parts}
+use Rattle.std.specs.Prelude.{◌==◌, ◌||◌, not, codes, take, Some, Ok}
+use Rattle.std.proofs.lemmas.Bool.{and_parts, eqb-false, eqb-true, false≢true, ne_eqb, not-true, or_parts, true≢false}
 use Rattle.std.proofs.lemmas.Bool.Decides.{nat_tests}
 use Rattle.ion_tokens.specs.Names.{Action, Each, Ending, IsOperator, Keep, Left, Mode, Next, Place, TokenKind, acts, begins, begins_comment, begins_infinity, comment_within, follow, in_blank, in_infinity, in_operator, in_operator_slash, in_slash, is_digit, is_operator_octet, is_plain_operator, is_sexp, is_word_octet, past, run, run_ending}
 use Rattle.ion_tokens.specs.Lexemes.{ends}
@@ -16,7 +16,8 @@ EndsAs Ending.Minus w = (ends (λ o. o == 45) w ≡ true) × (ends (λ o. (o == 
 EndsAs Ending.Plus w = ends (λ o. (o == 43) || (o == 45)) w ≡ true
 EndsAs Ending.Other w = Unit {0}
 
-ends_last : (class : ℕ → Bool) (xs : List ℕ) (o : ℕ) → ends class (xs ++ o ∷ []) ≡ class o
+-- how octets end, with one more behind them
+pub ends_last : (class : ℕ → Bool) (xs : List ℕ) (o : ℕ) → ends class (xs ++ o ∷ []) ≡ class o
 ends_last class [] o = refl
 ends_last class (x ∷ []) o = refl
 ends_last class (x ∷ y ∷ xs) o = ends_last class (y ∷ xs) o
@@ -195,10 +196,7 @@ comment_ends colon w e (x ∷ rest) f h = takes_before_slash Place.Sexp colon w 
     (opens_then Place.Sexp colon w (47 ∷ []) (Mode.Operator e) Mode.OperatorSlash w w f (slash_one w e)) (λ c. rw h)
 
 comment_first : (x : ℕ) (rest : List ℕ) → begins_comment (x ∷ rest) ≡ true → x ≡ 47
-comment_first x rest h = by (x == 47) refl h where
-  by : (b : Bool) → (x == 47) ≡ b → (b && begins (λ p. (p == 47) || (p == 42)) rest) ≡ true → x ≡ 47
-  by true e h = grind (arith, nat_tests)
-  by false e h = absurd (false≢true h)
+comment_first x rest h = eqb-true x 47 (and_parts (x == 47) (begins (λ p. (p == 47) || (p == 42)) rest) h).0
 
 -- a run of which no / is pending
 run_read : (colon : Bool) (w : List ℕ) (e : Ending) (r : List ℕ) → Run colon w e → EndsAs e w → IsOperator w r → Read colon w r
@@ -352,10 +350,7 @@ low_operator o h = grind (arith, nat_tests)
 -- octets of an operator that begin no comment
 
 pub plain_is : (o : ℕ) → is_plain_operator o ≡ true → (is_operator_octet o ≡ true) × (o ≢ 47)
-plain_is o h = by (is_operator_octet o) (o == 47) refl refl h where
-  by : (b c : Bool) → is_operator_octet o ≡ b → (o == 47) ≡ c → (b && not c) ≡ true → (is_operator_octet o ≡ true) × (o ≢ 47)
-  by true false e f h = (e, grind (arith, nat_tests))
-  by _ _ e f h = absurd cc
+plain_is o h = let p = and_parts (is_operator_octet o) (not (o == 47)) h in (p.0, eqb-false o 47 (not-true (o == 47) p.1))
 
 plain_moves : (os front : List ℕ) (e : Ending) → Each is_plain_operator os
     → (e' : Ending) × Moves Place.Sexp (Mode.Operator e) front os (Mode.Operator e') (front ++ os)

@@ -2,7 +2,7 @@
 use Rattle.std.proofs.Common.{◌≡◌, ℕ, ◌+◌, ◌-◌, ◌⊎◌, inl, inr, ⊎_elim, Bool, true, false, List, [], ◌∷◌, ◌++◌, length, refl, sym, ap, ◌∙◌, subst, arith, append_assoc, length-append, cond}
 use Rattle.std.specs.Prelude.{◌==◌, ◌&&◌, ◌||◌, not, codes}
 use Rattle.std.specs.Str.{bytes_eq}
-use Rattle.std.proofs.lemmas.Bool.{false≢true}
+use Rattle.std.proofs.lemmas.Bool.{and_parts, eqb-true, false≢true, not-true, or_parts}
 use Rattle.std.proofs.lemmas.Bool.Decides.{nat_tests}
 use Rattle.std.proofs.lemmas.Slice.Eq.{bytes_eq-Decides}
 use Rattle.ion_tokens.specs.Names.{Action, Each, Ending, IsNumeric, IsWord, Keep, Known, Left, Mark, MarkEnds, MarkStands, Mode, Next, Place, TokenKind, acts, add, before, begins, begins_comment, begins_number, cut, follow, give, go, go_to, in_blank, in_kind_name, in_number, in_word, is_digit, is_name, is_stop, is_word_octet, mark_spelling, past, run}
@@ -73,11 +73,7 @@ takes_kind p colon name (x ∷ r) h ends = takes_left p colon (codes "null." ++ 
 
 -- numbers
 number_more : (o : ℕ) → not (is_stop o || (o == 47)) ≡ true → in_number o ≡ Action.Go Mode.Number (Keep.One o)
-number_more o h = by (is_stop o) (o == 47) h where
-  by : (b c : Bool) → not (b || c) ≡ true → cond b (before TokenKind.Number) (cond c (go Mode.NumberSlash) (add Mode.Number o))
-      ≡ Action.Go Mode.Number (Keep.One o)
-  by false false h = refl
-  by _ _ h = absurd (false≢true h)
+number_more o h = let p = or_parts (is_stop o) (o == 47) (not-true (is_stop o || (o == 47)) h) in rw (p.0, p.1)
 
 -- a stop character ends a number
 pub number_stops : (o : ℕ) → is_stop o ≡ true → in_number o ≡ Action.Before TokenKind.Number Keep.Nothing Mode.Blank
@@ -109,15 +105,8 @@ opens_number p colon (o ∷ os) n b h = by (is_digit o) refl where
       (opens_one p colon o Mode.Number (Keep.One o) (digit_first p colon o n e)) (digits_move p os (o ∷ []) h.1)
   by false e =
       let both : ((o == 45) && begins is_digit os) ≡ true = sym (ap (λ c. c || ((o == 45) && begins is_digit os)) e) ∙ b in
-      signed o os (minus (o == 45) (begins is_digit os) refl both) (rest (o == 45) (begins is_digit os) both) h.1
-    where
-      minus : (b c : Bool) → (o == 45) ≡ b → (b && c) ≡ true → o ≡ 45
-      minus true c f g = grind (arith, nat_tests)
-      minus false c f g = absurd (false≢true g)
-
-      rest : (b c : Bool) → (b && c) ≡ true → c ≡ true
-      rest true c g = g
-      rest false c g = absurd (false≢true g)
+      let parts = and_parts (o == 45) (begins is_digit os) both in
+      signed o os (eqb-true o 45 parts.0) parts.1 h.1
 
 -- a comment behind the number
 slash_goes : (p : Place) (kept : List ℕ) → Moves p Mode.Number kept (47 ∷ []) Mode.NumberSlash kept
@@ -147,22 +136,11 @@ takes_number p colon w (x ∷ r) n h = ⊎_elim (λ e. cc) (λ e. ⊎_elim stop 
   stop e = takes_left p colon w x r TokenKind.Number Mode.Number w Keep.Nothing (λ s u. refl) (opens_number p colon w n h.begun h.each) (λ c. number_stops x e)
 
   comment : (x : ℕ) (r : List ℕ) → begins_comment (x ∷ r) ≡ true → Takes p colon w (x ∷ r) TokenKind.Number w
-  comment x [] e = absurd (both (x == 47) e) where
-    both : (b : Bool) → (b && false) ≡ true → ⊥
-    both true e = false≢true e
-    both false e = false≢true e
-  comment x (y ∷ r) e = subst (λ (z : ℕ). Takes p colon w (z ∷ y ∷ r) TokenKind.Number w) (sym (is (x == 47) ((y == 47) || (y == 42)) refl e))
+  comment x [] e = absurd (false≢true ((and_parts (x == 47) false e).1))
+  comment x (y ∷ r) e = subst (λ (z : ℕ). Takes p colon w (z ∷ y ∷ r) TokenKind.Number w) (sym (eqb-true x 47 (and_parts (x == 47) _ e).0))
       (takes_before_slash p colon w y r TokenKind.Number Mode.NumberSlash w (λ s u. refl)
       (opens_then p colon w (47 ∷ []) Mode.Number Mode.NumberSlash w w (opens_number p colon w n h.begun h.each) (slash_goes p w))
-      (λ c. rw (rest (x == 47) ((y == 47) || (y == 42)) e)))
-    where
-      is : (b c : Bool) → (x == 47) ≡ b → (b && c) ≡ true → x ≡ 47
-      is true c f g = grind (arith, nat_tests)
-      is false c f g = absurd (false≢true g)
-
-      rest : (b c : Bool) → (b && c) ≡ true → c ≡ true
-      rest true c g = g
-      rest false c g = absurd (false≢true g)
+      (λ c. rw (and_parts (x == 47) ((y == 47) || (y == 42)) e).1))
 
 -- marks
 mark_one : (p : Place) (colon : Bool) (o : ℕ) (m : Mark) (r : List ℕ) → in_blank p colon o ≡ give m → Takes p colon (o ∷ []) r (TokenKind.Mark m) []

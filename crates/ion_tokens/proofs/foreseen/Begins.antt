@@ -15,6 +15,7 @@ use Rattle.ion_tokens.proofs.sound.Opens.{IsOpen, IsOpenRun}
 use Rattle.ion_tokens.proofs.sound.SoundHistories.{stands_tells}
 use Rattle.ion_tokens.proofs.sound.Sounds.{RunSound, run_sound}
 use Rattle.ion_tokens.proofs.sound.Told.{lexes_behind}
+use Rattle.ion_tokens.specs.laws.Each.{begins_more}
 
 -- what doesn't begin with a quote
 other_if : (f : List ℕ → Bool) (w : List ℕ) → f w ≡ true → ((x : List ℕ) → f (39 ∷ x) ≡ false) → IsForm Form.Other w
@@ -26,10 +27,6 @@ other_if f w h n = (
 
 no_quote : ℕ → Bool
 no_quote o = not (o == 39)
-
-begins_longer : (class : ℕ → Bool) (w r : List ℕ) → begins class w ≡ true → begins class (w ++ r) ≡ true
-begins_longer class [] r h = cc
-begins_longer class (o ∷ w) r h = h
 
 run_begins : (w : List ℕ) → IsOpenRun w → begins is_operator_octet w ≡ true
 run_begins [] h = absurd (h.some refl)
@@ -58,12 +55,12 @@ form_is p colon Mode.Word w kept (e, h) i = other_if (begins begins_word) w h.0 
 form_is p colon Mode.KindName w kept (e, h) i = other_if (begins (λ o. o == 110)) w (ap (begins (λ o. o == 110)) e) (λ x. refl)
 form_is p colon Mode.Number w kept (e, n) i = other_if begins_number w n.begun (λ x. refl)
 form_is p colon Mode.NumberSlash w kept (e, n) i = other_if (begins no_quote) w
-    (ap (begins no_quote) e ∙ begins_longer no_quote kept (47 ∷ []) (number_begins kept n.begun)) (λ x. refl)
+    (ap (begins no_quote) e ∙ begins_more no_quote kept (47 ∷ []) (number_begins kept n.begun)) (λ x. refl)
 form_is p colon (Mode.Operator x) w kept (e, n, h, s) i = other_if (begins is_operator_octet) w (run_begins w h) (λ x. refl)
 form_is p colon Mode.OperatorSlash w kept (e, s, h) i =
-    other_if (begins is_operator_octet) w (ap (begins is_operator_octet) e ∙ begins_longer is_operator_octet kept (47 ∷ []) (run_begins kept h)) (λ x. refl)
+    other_if (begins is_operator_octet) w (ap (begins is_operator_octet) e ∙ begins_more is_operator_octet kept (47 ∷ []) (run_begins kept h)) (λ x. refl)
 form_is p colon (Mode.Infinity n) w kept (e, h, a, b) i =
-    other_if (begins is_operator_octet) w (ap (begins is_operator_octet) e ∙ begins_longer is_operator_octet kept (take n (codes "inf")) (run_begins kept h))
+    other_if (begins is_operator_octet) w (ap (begins is_operator_octet) e ∙ begins_more is_operator_octet kept (take n (codes "inf")) (run_begins kept h))
     (λ x. refl)
 form_is p colon Mode.Quote w kept (e, k) i = inl e
 form_is p colon Mode.Quotes w kept (e, k) i = inr e

@@ -1,10 +1,11 @@
 -- A `/` behind a number or a run of operator characters: another one makes a comment of it, unless no document goes on so.
 use Rattle.std.proofs.Common.{◌≡◌, ℕ, ◌-◌, ◌⊎◌, inl, inr, Bool, true, false, cond, List, [], ◌∷◌, ◌++◌, refl, sym, ap, ◌∙◌, subst, append_assoc}
-use Rattle.std.specs.Prelude.{◌==◌, ◌||◌, not, codes, Option, Some, None, Result, Ok, Err}
+use Rattle.std.specs.Prelude.{◌==◌, ◌||◌, codes, Option, Some, None, Result, Ok, Err}
 use Rattle.std.specs.List.{list_any}
-use Rattle.std.proofs.lemmas.Bool.{cond_both, false≢true, true≢false}
-use Rattle.ion_tokens.specs.Names.{Action, Each, Given, IsLexeme, Keep, Known, Leaved, Left, Lexeme, Lexes, LooksIn, Mode, Next, Outcome, Passes, Place, Placed, Reason, Refused, Scanned, Stands, TokenKind, acts, behind, cut, end_of, ends_at, feed, follow, go_to, in_number, in_number_slash, is_stop, past, run, start_of}
+use Rattle.std.proofs.lemmas.Bool.{cond_both, false≢true, or_cases, or_left, or_right, true≢false}
+use Rattle.ion_tokens.specs.Names.{Action, Given, IsLexeme, Keep, Known, Leaved, Left, Lexeme, Lexes, LooksIn, Mode, Next, Outcome, Passes, Place, Placed, Reason, Refused, Scanned, Stands, TokenKind, acts, behind, cut, end_of, ends_at, feed, follow, go_to, in_number, in_number_slash, is_stop, past, run, start_of}
 use Rattle.ion_tokens.specs.machine.Table.{next}
+use Rattle.ion_tokens.specs.laws.Numerals.{run_without_slash}
 use Rattle.ion_tokens.proofs.complete.Found.{Finds, Gives, Last, Leaves, Nothing, Unclosed}
 use Rattle.ion_tokens.proofs.complete.Wholes.{run_behind}
 use Rattle.ion_tokens.proofs.histories.Histories.{stands_finds}
@@ -17,10 +18,10 @@ has_slash w = list_any (λ o. o == 47) w
 
 has_longer : (w r : List ℕ) → has_slash w ≡ true → has_slash (w ++ r) ≡ true
 has_longer [] r h = absurd (false≢true h)
-has_longer (o ∷ w) r h = by (o == 47) h (has_longer w r) where
-  by : (b : Bool) → (b || has_slash w) ≡ true → (has_slash w ≡ true → has_slash (w ++ r) ≡ true) → (b || has_slash (w ++ r)) ≡ true
-  by true h f = refl
-  by false h f = f h
+has_longer (o ∷ w) r h = elim (or_cases (o == 47) (has_slash w) h) [
+  | inl e ↦ or_left (o == 47) (has_slash (w ++ r)) e
+  | inr e ↦ or_right (o == 47) (has_slash (w ++ r)) (has_longer w r e)
+]
 
 abbrev in_numeric : Mode → Bool
 in_numeric Mode.Number = true
@@ -99,20 +100,12 @@ finds_slashed p s0 s octets rest ran slashed others looks found = by others look
       let (number, has) = comes t.place (Next s') looks e in
       absurd (subst (λ x. EndSlashed x) f (end_slashed s' t.place s'.mode number has))
 
--- no number has a `/`
-without_slash : (w : List ℕ) → Each (λ o. not (is_stop o || (o == 47))) w → has_slash w ≡ false
-without_slash [] h = refl
-without_slash (o ∷ w) h = by (is_stop o) (o == 47) h.0 (without_slash w h.1) where
-  by : (b c : Bool) → not (b || c) ≡ true → has_slash w ≡ false → (c || has_slash w) ≡ false
-  by false false h f = f
-  by _ _ h f = absurd (false≢true h)
-
 not_slashed : (ts others : List Placed) (colon : Bool) (k : ℕ) (octets : List ℕ) → Lexes colon k octets (ts ++ others) → NextSlashed others → ⊥
 not_slashed [] [] colon k octets lexes slashed = slashed
 not_slashed [] (t ∷ others) colon k octets (rest, b, more) (number, has) =
     let is : IsLexeme t.place colon b.token rest TokenKind.Number t.lexeme.octets =
     subst (λ kind. IsLexeme t.place colon b.token rest kind t.lexeme.octets) number b.is in
-    true≢false (sym has ∙ ap has_slash is.0 ∙ without_slash b.token is.2.each)
+    true≢false (sym has ∙ ap has_slash is.0 ∙ run_without_slash b.token is.2.each)
 not_slashed (t ∷ ts) others colon k octets (rest, b, more) slashed = not_slashed ts others _ t.lexeme.end rest more slashed
 
 -- the kind of the token that the `/` is behind

@@ -1,5 +1,5 @@
 -- The reasons for which the end of the octets is refused.
-use Rattle.std.proofs.Common.{◌≡◌, ◌≢◌, ℕ, zero, suc, ◌<◌, Bool, true, false, cond, refl, sym, ap, subst, ◌∙◌, arith, List, [], ◌∷◌, ◌++◌, Option, Some, None, Result, Ok, Err}
+use Rattle.std.proofs.Common.{◌≡◌, ◌≢◌, ℕ, ◌<◌, Bool, true, false, cond, refl, sym, ap, subst, ◌∙◌, arith, List, [], ◌∷◌, ◌++◌, Option, Some, None, Result, Ok, Err}
 use Rattle.std.specs.Prelude.{IsUtf8}
 use Rattle.std.specs.Str.{IsAscii}
 use Rattle.std.proofs.lemmas.Str.{IsUtf8-from_ascii}
@@ -12,12 +12,7 @@ use Rattle.ion_tokens.proofs.complete.TakesOperators.{low_operator}
 use Rattle.ion_tokens.proofs.foreseen.Begins.{begun_holds}
 use Rattle.ion_tokens.proofs.sound.Holds.{InMode}
 use Rattle.ion_tokens.proofs.sound.Opens.{IsOpen}
-
--- octets of a class of ASCII are UTF-8
-ascii_each : (class : ℕ → Bool) (w : List ℕ) → ((o : ℕ) → class o ≡ true → o < 128) → Each class w → IsAscii w
-ascii_each class [] low h i = omega arith
-ascii_each class (o ∷ os) low h zero = low o h.0
-ascii_each class (o ∷ os) low h (suc i) = ascii_each class os low h.1 i
+use Rattle.ion_tokens.proofs.texts.Characters.{ascii_each}
 
 low_word : (o : ℕ) → is_word_octet o ≡ true → o < 128
 low_word o h = grind (arith, nat_tests)

@@ -8,6 +8,7 @@ use Rattle.std.proofs.lemmas.Grind.{common_steps}
 use Rattle.std.proofs.lemmas.Bool.Decides.{nat_tests}
 use Rattle.std.proofs.lemmas.List.Sums.{take_while-cons}
 use Rattle.ion_tokens.specs.Names.{Action, Each, GoesOver, IsSteady, Keep, Known, Lob, Mode, Next, Outcome, Place, StaysSteady, Within, acts, feed, follow, go_to, goes_on, gone_on, in_blank, is_line_end, is_stop, is_white, is_word_octet, keeps_them, kept_after, run, start_of}
+use Rattle.std.proofs.lemmas.Bool.{cond_both}
 use Rattle.ion_tokens.specs.machine.Table.{next}
 use Rattle.ion_tokens.proofs.bounds.Steady.{feed_steady}
 use Rattle.ion_tokens.proofs.runs.Cutting.{run-append}
@@ -113,10 +114,8 @@ run_steady p (o ∷ os) s t n e h room =
 -- the octets at the front of a class are of the class
 pub each_front : (class : ℕ → Bool) (w : List ℕ) → Each class (take_while class w)
 each_front class [] = tt
-each_front class (o ∷ os) = subst (λ l. Each class l) (sym (take_while-cons class o os)) (one (class o) refl (each_front class os)) where
-  one : (b : Bool) → class o ≡ b → Each class (take_while class os) → Each class (cond b (o ∷ take_while class os) [])
-  one true e h = (e, h)
-  one false e h = tt
+each_front class (o ∷ os) = subst (λ l. Each class l) (sym (take_while-cons class o os))
+    (cond_both (class o) _ _ (Each class) (λ e. (e, each_front class os)) (λ _. tt))
 
 -- as many octets as there are at the front of a class
 fronts : (class : ℕ → Bool) (w : List ℕ) → take (length (take_while class w)) w ≡ take_while class w

@@ -1,18 +1,14 @@
 -- What one octet makes of what a scanner stands for. Crates above cite these names.
 use Rattle.std.proofs.Common.{◌≡◌, ℕ, ◌+◌, List, [], ◌∷◌, ◌++◌, length, refl, sym, ap, ◌∙◌, subst, arith, append_assoc, append-nil, length-append, inl, inr}
-use Rattle.ion_tokens.specs.Names.{AllPass, Continues, Gave, Given, IsAhead, Known, Leaved, Left, Lexeme, Next, Outcome, Passes, Place, Placed, Scanned, Stands, feed, follow, run}
+use Rattle.ion_tokens.specs.Names.{Continues, Gave, Given, IsAhead, Known, Leaved, Left, Lexeme, Next, Outcome, Passes, Place, Placed, Scanned, Stands, feed, follow, run}
 use Rattle.ion_tokens.proofs.complete.Wholes.{run_behind}
-use Rattle.ion_tokens.proofs.histories.Stepped.{goes_on}
+use Rattle.ion_tokens.proofs.histories.Stepped.{goes_on, pass_more}
 use Rattle.ion_tokens.proofs.runs.Runs.{next_used}
 use Rattle.ion_tokens.proofs.runs.Splits.{GivenSplit, LeftSplit, given_split, left_split}
 
 -- a token, and the place that it was looked for in
 abbrev pub placed : Place → Lexeme → Placed
 placed p x = record { place = p; lexeme = x }
-
-pass_more : (ts : List Placed) (t : Placed) → AllPass ts → Passes t.lexeme.kind t.lexeme.octets → AllPass (ts ++ t ∷ [])
-pass_more [] t h k = (k, tt)
-pass_more (x ∷ ts) t h k = (h.0, pass_more ts t h.1 k)
 
 module _ (p : Place) (s : Known) (u : List ℕ) (ts : List Placed) (ahead : List ℕ) (h : Scanned p s u ts ahead) (o : ℕ) (c : Continues (o ∷ []) ahead) where
   -- the octets since the last token and this one begin with what was left

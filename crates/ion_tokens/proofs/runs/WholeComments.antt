@@ -1,9 +1,9 @@
 -- Comments that lie whole in memory, and the blanks between them.
 use Rattle.std.proofs.Common.{◌≡◌, ℕ, zero, suc, ◌+◌, ◌-◌, ◌<◌, ◌≤◌, Bool, true, false, List, [], ◌∷◌, ◌++◌, length, length-drop, take, take-add, drop, get_or, append_assoc, refl, sym, ap, ◌∙◌, subst, arith, append-nil}
-use Rattle.std.specs.Prelude.{not, codes, ◌&&◌, ◌==◌, if◌then◌else◌}
+use Rattle.std.specs.Prelude.{codes, ◌&&◌, ◌==◌, if◌then◌else◌}
 use Rattle.std.specs.List.{take_while}
 use Rattle.std.proofs.lemmas.List.{length-take-le, take_more}
-use Rattle.std.proofs.lemmas.Bool.{not-true, not-false, eqb-true}
+use Rattle.std.proofs.lemmas.Bool.{and_left, and_right, eqb-true, not-false, not-true}
 use Rattle.ion_tokens.specs.Names.{Each, HasNoClose, HasNoLineEnd, IsPassed, Mode, Next, Place, Rest, RestsBehind, follow, goes_on, is_line_end, past_blank, past_comment, resting, run}
 use Rattle.ion_tokens.proofs.complete.Moves.{Opens, at}
 use Rattle.ion_tokens.proofs.complete.TakesBlanks.{block_opens, line_opens}
@@ -104,11 +104,7 @@ front_open : (octets : List ℕ) (n : ℕ) → Each (goes_on Mode.BlockComment) 
 front_open [] n stars = tt
 front_open (o ∷ os) zero stars = tt
 front_open (o ∷ []) (suc n) stars = tt
-front_open (o ∷ p ∷ os) (suc n) stars = (no_star (o == 42) stars.0, front_open (p ∷ os) n stars.1)
-  where
-    no_star : (b : Bool) → not b ≡ true → (b && (p == 47)) ≡ false
-    no_star false e = refl
-    no_star true e = absurd cc
+front_open (o ∷ p ∷ os) (suc n) stars = (and_left (o == 42) (p == 47) (not-true (o == 42) stars.0), front_open (p ∷ os) n stars.1)
 
 -- nor where nothing closed before them
 pub stars_open : (octets : List ℕ) (at n : ℕ) → HasNoClose (take (at + 1) octets) → Each (goes_on Mode.BlockComment) (take n (drop at octets))
@@ -131,11 +127,7 @@ stars_open octets at n none stars =
 pub star_open : (octets : List ℕ) (n : ℕ) → n + 1 < length octets → HasNoClose (take (n + 1) octets) → (get_or octets (n + 1) 0 == 47) ≡ false
     → HasNoClose (take (n + 1 + 1) octets)
 star_open octets n within none no_slash =
-    still_open octets (n + 1) (omega arith) within none (ap (λ b. (get_or octets (n + 1 - 1) 0 == 42) && b) no_slash ∙ either (get_or octets (n + 1 - 1) 0 == 42))
-  where
-    either : (b : Bool) → (b && false) ≡ false
-    either false = refl
-    either true = refl
+    still_open octets (n + 1) (omega arith) within none (and_right (get_or octets (n + 1 - 1) 0 == 42) (get_or octets (n + 1) 0 == 47) no_slash)
 
 -- one blank behind the other
 pub rests_on : (octets rest : List ℕ) (m n : ℕ) (a b c : Rest) → rest ≡ drop m octets → RestsBehind octets m a b → RestsBehind rest n b c

@@ -8,7 +8,7 @@ use Rattle.std.proofs.lemmas.List.{length-take, length-take-le}
 use Rattle.std.proofs.lemmas.List.Folds.{length-prefix_len}
 use Rattle.std.proofs.lemmas.List.Sums.{prefix_len_stops, prefix_len-le-length}
 use Rattle.std.proofs.lemmas.Str.{IsUtf8-from_ascii}
-use Rattle.std.proofs.lemmas.Bool.{ne_eqb}
+use Rattle.std.proofs.lemmas.Bool.{and_cases, eqb-true, ne_eqb, not-false, or_cases}
 use Rattle.ion_tokens.specs.Names.{Action, AreKept, Each, Given, IsFound, IsPassed, IsWord, Keep, Known, LeadsOn, Left, Mark, Mode, Next, Place, Rest, Style, TokenKind, Within, acts, begins, begins_number, begins_word, cut, feed, go_to, in_blank, is_digit, is_name, is_numeric, is_operator_octet, is_plain_operator, is_raw, is_stop, is_white, is_word_octet, kept_after, past, past_blank, resting, run}
 use Rattle.ion_tokens.specs.machine.Table.{next}
 use Rattle.ion_tokens.proofs.complete.Moves.{Moves, Opens, Stays, at, moves_one, moves_then, opens_one, opens_then}
@@ -157,11 +157,7 @@ digit_numeric : (o : ℕ) → is_digit o ≡ true → is_numeric o ≡ true
 digit_numeric o h = grind (arith, nat_tests)
 
 stop_is : (o : ℕ) → is_numeric o ≡ false → o ≢ 47 → is_stop o ≡ true
-stop_is o h n = by (is_stop o) (o == 47) h (ne_eqb o 47 n) where
-  by : (b c : Bool) → not (b || c) ≡ false → c ≡ false → b ≡ true
-  by true c h f = refl
-  by false true h f = cc
-  by false false h f = cc
+stop_is o h n = elim (or_cases (is_stop o) (o == 47) (not-false (is_stop o || (o == 47)) h)) [ inl s ↦ s | inr e ↦ absurd (n (eqb-true o 47 e)) ]
 
 -- a digit, or `-` and a digit
 abbrev pub StartsNumber : List ℕ → Type 0
@@ -201,11 +197,8 @@ number_found octets n first begun e more slash p r name =
 -- An operator.
 
 no_operator : (o : ℕ) → is_plain_operator o ≡ false → o ≢ 47 → is_operator_octet o ≡ false
-no_operator o h n = by (is_operator_octet o) (o == 47) h (ne_eqb o 47 n) where
-  by : (b c : Bool) → (b && not c) ≡ false → c ≡ false → b ≡ false
-  by false c h f = refl
-  by true false h f = cc
-  by true true h f = cc
+no_operator o h n =
+    elim (and_cases (is_operator_octet o) (not (o == 47)) h) [ inl e ↦ e | inr e ↦ absurd (n (eqb-true o 47 (not-false (o == 47) e))) ]
 
 operator_ascii : (o : ℕ) → is_plain_operator o ≡ true → o < 128
 operator_ascii o h = low_operator o (plain_is o h).0

@@ -1,12 +1,13 @@
 -- One octet more behind a blank, or in a comment.
-use Rattle.std.proofs.Common.{◌≡◌, ℕ, ◌+◌, ◌-◌, Bool, true, false, List, [], ◌∷◌, ◌++◌, length, refl, sym, ap, ◌∙◌, subst, arith, append_assoc, append-nil, length-append, cond}
+use Rattle.std.proofs.Common.{◌≡◌, ℕ, ◌+◌, ◌-◌, Bool, true, false, List, [], ◌∷◌, ◌++◌, length, refl, sym, ap, ◌∙◌, subst, arith, append_assoc, append-nil, length-append}
 use Rattle.std.specs.Prelude.{◌==◌, ◌&&◌, codes}
-use Rattle.std.proofs.lemmas.Bool.{false≢true, eqb-true}
+use Rattle.std.proofs.lemmas.Bool.{cond_both, eqb-true, false≢true}
 use Rattle.ion_tokens.specs.Names.{Action, BlockComment, HasNoClose, HasNoLineEnd, IsBlank, IsOpenComment, LineComment, Mode, Next, Place, White, acts, feed, go, is_line_end, kept_after, takes_colon}
 use Rattle.ion_tokens.specs.Lexemes.{ends}
 use Rattle.ion_tokens.proofs.complete.Moves.{at}
 use Rattle.ion_tokens.proofs.sound.Holds.{InMode, IsOpenBlock, Sound, blank_behind, blank_more, blank_none, in_mode}
 use Rattle.ion_tokens.proofs.sound.TurnsBlanks.{First, Second}
+use Rattle.ion_tokens.proofs.complete.TakesOperators.{ends_last}
 
 no_line_end_more : (os : List ℕ) (o : ℕ) → HasNoLineEnd os → is_line_end o ≡ false → HasNoLineEnd (os ++ o ∷ [])
 no_line_end_more [] o h e = (e, tt)
@@ -28,11 +29,6 @@ but_star : (os : List ℕ) → ends (λ o. o == 42) os ≡ true → (front : Lis
 but_star [] h = absurd (false≢true h)
 but_star (x ∷ []) h = let is : x ≡ 42 = eqb-true x 42 h in ([], ap (λ (y : ℕ). y ∷ []) is)
 but_star (x ∷ y ∷ os) h = let rest = but_star (y ∷ os) h in (x ∷ rest.0, ap (λ l. x ∷ l) rest.1)
-
-ends_last : (xs : List ℕ) (o : ℕ) → ends (λ o. o == 42) (xs ++ o ∷ []) ≡ (o == 42)
-ends_last [] o = refl
-ends_last (x ∷ []) o = refl
-ends_last (x ∷ y ∷ xs) o = ends_last (y ∷ xs) o
 
 module _ (p : Place) (colon : Bool) (k : ℕ) (start used : ℕ) (since : List ℕ) (o : ℕ) (uses : used ≡ k + length since) where
   used_more : used + 1 ≡ k + length (since ++ o ∷ [])
@@ -122,33 +118,29 @@ module _ (p : Place) (colon : Bool) (k : ℕ) (start used : ℕ) (since : List �
 
   -- what comes of an octet in a line comment is so
   pub line_turned : IsOpenComment since → Sound p colon k since o (feed p (at Mode.LineComment [] colon start used) o)
-  line_turned c = by (is_line_end o) refl where
-    over : (c.front ++ codes "//" ++ c.octets) ++ o ∷ [] ≡ c.front ++ (codes "//" ++ c.octets ++ o ∷ [])
-    over = ap (λ l. l ++ o ∷ []) (append_assoc c.front (codes "//") c.octets) ∙ append_assoc c.front (codes "//" ++ c.octets) (o ∷ [])
-
-    by : (b : Bool) → is_line_end o ≡ b → Sound p colon k since o
-        (acts p (at Mode.LineComment [] colon start used) o (go (cond b Mode.Blank Mode.LineComment)))
-    by true e = record {
-      flag = refl;
-      used = used_more;
-      mode =
-          (refl, subst IsBlank (sym (ap (λ l. l ++ o ∷ []) c.cut ∙ over)) (blank_more c.front (LineComment c.octets o) c.blank (c.one_line, e)));
-    }
-    by false e = record {
-      flag = refl;
-      used = used_more;
-      mode = (
-        refl,
-        record {
-          front = c.front;
-          octets = c.octets ++ o ∷ [];
-          blank = c.blank;
-          one_line = no_line_end_more c.octets o c.one_line e;
-          cut =
-              ap (λ l. l ++ o ∷ []) c.cut ∙ append_assoc (c.front ++ codes "//") c.octets (o ∷ []);
-        },
-      );
-    }
+  line_turned c = cond_both (is_line_end o) _ _ (λ m. Sound p colon k since o (acts p (at Mode.LineComment [] colon start used) o (go m)))
+      (λ e. record {
+        flag = refl;
+        used = used_more;
+        mode = (refl, subst IsBlank (sym (ap (λ l. l ++ o ∷ []) c.cut ∙ over)) (blank_more c.front (LineComment c.octets o) c.blank (c.one_line, e)));
+      })
+      (λ e. record {
+        flag = refl;
+        used = used_more;
+        mode = (
+          refl,
+          record {
+            front = c.front;
+            octets = c.octets ++ o ∷ [];
+            blank = c.blank;
+            one_line = no_line_end_more c.octets o c.one_line e;
+            cut = ap (λ l. l ++ o ∷ []) c.cut ∙ append_assoc (c.front ++ codes "//") c.octets (o ∷ []);
+          },
+        );
+      })
+    where
+      over : (c.front ++ codes "//" ++ c.octets) ++ o ∷ [] ≡ c.front ++ (codes "//" ++ c.octets ++ o ∷ [])
+      over = ap (λ l. l ++ o ∷ []) (append_assoc c.front (codes "//") c.octets) ∙ append_assoc c.front (codes "//" ++ c.octets) (o ∷ [])
 
   block_more : (star star' : Bool) (c : IsOpenBlock since star) → (star && (o == 47)) ≡ false → (o == 42) ≡ star' → IsOpenBlock (since ++ o ∷ []) star'
   block_more star star' c n e = record {
@@ -156,39 +148,33 @@ module _ (p : Place) (colon : Bool) (k : ℕ) (start used : ℕ) (since : List �
     octets = c.octets ++ o ∷ [];
     blank = c.blank;
     no_close = no_close_more c.octets o c.no_close (ap (λ b. b && (o == 47)) c.last ∙ n);
-    last = ends_last c.octets o ∙ e;
+    last = ends_last (λ o. o == 42) c.octets o ∙ e;
     cut = ap (λ l. l ++ o ∷ []) c.cut ∙ append_assoc (c.front ++ codes "/*") c.octets (o ∷ []);
   }
 
   -- what comes of an octet in a block comment, behind no `*`, is so
   pub block_turned : IsOpenBlock since false → Sound p colon k since o (feed p (at Mode.BlockComment [] colon start used) o)
-  block_turned c = by (o == 42) refl where
-    by : (b : Bool) → (o == 42) ≡ b → Sound p colon k since o
-        (acts p (at Mode.BlockComment [] colon start used) o (go (cond b Mode.BlockCommentStar Mode.BlockComment)))
-    by true e = record { flag = refl; used = used_more; mode = (refl, block_more false true c refl e) }
-    by false e = record { flag = refl; used = used_more; mode = (refl, block_more false false c refl e) }
+  block_turned c = cond_both (o == 42) _ _ (λ m. Sound p colon k since o (acts p (at Mode.BlockComment [] colon start used) o (go m)))
+      (λ e. record { flag = refl; used = used_more; mode = (refl, block_more false true c refl e) })
+      (λ e. record { flag = refl; used = used_more; mode = (refl, block_more false false c refl e) })
+
+  abbrev Starred : Action → Type 0
+  Starred a = Sound p colon k since o (acts p (at Mode.BlockCommentStar [] colon start used) o a)
 
   -- what comes of an octet in a block comment, behind a `*`, is so
   pub star_turned : IsOpenBlock since true → Sound p colon k since o (feed p (at Mode.BlockCommentStar [] colon start used) o)
-  star_turned c = by (o == 47) refl where
-    closed : o ≡ 47 → IsBlank (since ++ o ∷ [])
-    closed i =
-        let star = but_star c.octets c.last in
-        let cut : since ++ o ∷ [] ≡ c.front ++ (codes "/*" ++ star.0 ++ codes "*/") =
-        (λ j. c.cut j ++ i j ∷ []) ∙ ap (λ l. (c.front ++ codes "/*" ++ l) ++ 47 ∷ []) star.1 ∙ shape star.0 in
-        subst IsBlank (sym cut) (blank_more c.front (BlockComment star.0) c.blank (no_close_front star.0 42 (subst HasNoClose star.1 c.no_close)))
-      where
-        shape : (os : List ℕ) → (c.front ++ codes "/*" ++ (os ++ 42 ∷ [])) ++ 47 ∷ [] ≡ c.front ++ (codes "/*" ++ os ++ codes "*/")
-        shape os = append_assoc (c.front ++ codes "/*") (os ++ 42 ∷ []) (47 ∷ []) ∙ ap (λ l. (c.front ++ codes "/*") ++ l) (append_assoc os (42 ∷ []) (47 ∷ []))
-            ∙ append_assoc c.front (codes "/*") (os ++ codes "*/")
-
-    star : (b : Bool) → (o == 42) ≡ b → (o == 47) ≡ false → Sound p colon k since o
-        (acts p (at Mode.BlockCommentStar [] colon start used) o (cond b (go Mode.BlockCommentStar) (go Mode.BlockComment)))
-    star true e n = record { flag = refl; used = used_more; mode = (refl, block_more true true c n e) }
-    star false e n = record { flag = refl; used = used_more; mode = (refl, block_more true false c n e) }
-
-    by : (b : Bool) → (o == 47) ≡ b → Sound p colon k since o
-        (acts p (at Mode.BlockCommentStar [] colon start used) o
-        (cond b (go Mode.Blank) (cond (o == 42) (go Mode.BlockCommentStar) (go Mode.BlockComment))))
-    by true e = record { flag = refl; used = used_more; mode = (refl, closed (eqb-true o 47 e)) }
-    by false e = star (o == 42) refl e
+  star_turned c = cond_both (o == 47) _ _ Starred (λ e. record { flag = refl; used = used_more; mode = (refl, closed (eqb-true o 47 e)) })
+      (λ n. cond_both (o == 42) _ _ Starred (λ e. record { flag = refl; used = used_more; mode = (refl, block_more true true c n e) })
+      (λ e. record { flag = refl; used = used_more; mode = (refl, block_more true false c n e) }))
+    where
+      closed : o ≡ 47 → IsBlank (since ++ o ∷ [])
+      closed i =
+          let star = but_star c.octets c.last in
+          let cut : since ++ o ∷ [] ≡ c.front ++ (codes "/*" ++ star.0 ++ codes "*/") =
+          (λ j. c.cut j ++ i j ∷ []) ∙ ap (λ l. (c.front ++ codes "/*" ++ l) ++ 47 ∷ []) star.1 ∙ shape star.0 in
+          subst IsBlank (sym cut) (blank_more c.front (BlockComment star.0) c.blank (no_close_front star.0 42 (subst HasNoClose star.1 c.no_close)))
+        where
+          shape : (os : List ℕ) → (c.front ++ codes "/*" ++ (os ++ 42 ∷ [])) ++ 47 ∷ [] ≡ c.front ++ (codes "/*" ++ os ++ codes "*/")
+          shape os = append_assoc (c.front ++ codes "/*") (os ++ 42 ∷ []) (47 ∷ [])
+              ∙ ap (λ l. (c.front ++ codes "/*") ++ l) (append_assoc os (42 ∷ []) (47 ∷ []))
+              ∙ append_assoc c.front (codes "/*") (os ++ codes "*/")

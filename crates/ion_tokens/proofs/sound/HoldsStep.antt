@@ -1,8 +1,8 @@
 -- One octet more behind the last token.
-use Rattle.std.proofs.Common.{◌≡◌, ℕ, ◌+◌, ◌-◌, ◌≤◌, Bool, true, false, List, [], ◌∷◌, ◌++◌, length, refl, sym, ap, ◌∙◌, subst, arith, append_assoc, append-nil, length-append, cond}
+use Rattle.std.proofs.Common.{◌≡◌, ℕ, ◌+◌, ◌-◌, ◌≤◌, Bool, false, List, [], ◌∷◌, ◌++◌, length, refl, sym, ap, ◌∙◌, subst, arith, append_assoc, append-nil, length-append, ◌⊎◌, inl, inr}
 use Rattle.std.specs.Prelude.{◌==◌, ◌&&◌, codes, take, Option, Some, None}
 use Rattle.std.specs.Str.{bytes_eq}
-use Rattle.std.proofs.lemmas.Bool.{true≢false, eqb-true}
+use Rattle.std.proofs.lemmas.Bool.{and_cases, and_parts, cond_both, eqb-true, true≢false}
 use Rattle.std.proofs.lemmas.Slice.Eq.{bytes_eq-Decides}
 use Rattle.ion_tokens.specs.Names.{Action, Given, IsBlank, IsWord, Known, Left, Lob, Mode, Next, Place, TokenKind, acts, blob_ends, blob_of, cut, go_to, is_word_octet, kept_after, past, start_of, takes_colon}
 use Rattle.ion_tokens.proofs.complete.Moves.{Stays, at}
@@ -117,27 +117,15 @@ module _ (p : Place) (colon : Bool) (k : ℕ) (m : Mode) (kept : List ℕ) (star
 
   -- a word ends, unless it is `null` before a dot
   ends_word : kept ≡ w → IsWord w → is_word_octet o ≡ false → Sound p colon k (front ++ w) o (acts p (at m kept colon start used) o Action.EndWord)
-  ends_word e h n = by (o == 46) (bytes_eq kept (codes "null")) refl refl where
-    null_is : bytes_eq kept (codes "null") ≡ true → w ≡ codes "null"
-    null_is f = sym e ∙ (bytes_eq-Decides kept (codes "null")).0 f
-
-    whole : (b c : Bool) → (o == 46) ≡ b → bytes_eq kept (codes "null") ≡ c → (b && c) ≡ false → w ≡ codes "null" → (o == 46) ≡ false
-    whole false c f g h i = f
-    whole true true f g h i = absurd (true≢false h)
-    whole true false f g h i = absurd (true≢false (sym ((bytes_eq-Decides kept (codes "null")).1 (e ∙ i)) ∙ g))
-
-    word : (b c : Bool) → (o == 46) ≡ b → bytes_eq kept (codes "null") ≡ c → (b && c) ≡ false
-        → Sound p colon k (front ++ w) o (Left (cut (at m kept colon start used) TokenKind.Word kept used) (past p TokenKind.Word Mode.Blank [] used used))
-    word b c f g i = leaves_blank TokenKind.Word kept used refl (λ r j. (e, h, n, λ null. whole b c f g i null))
-
-    by : (b c : Bool) → (o == 46) ≡ b → bytes_eq kept (codes "null") ≡ c
-        → Sound p colon k (front ++ w) o (cond (b && c) (Next (go_to (at m kept colon start used) Mode.KindName []))
-        (Left (cut (at m kept colon start used) TokenKind.Word kept used) (past p TokenKind.Word Mode.Blank [] used used)))
-    by true true f g = goes Mode.KindName [] (kind_name (eqb-true o 46 f) (null_is g), tt) where
-      kind_name : o ≡ 46 → w ≡ codes "null" → w ++ o ∷ [] ≡ codes "null." ++ []
-      kind_name i null = λ j. null j ++ i j ∷ []
-    by true false f g = word true false f g refl
-    by false c f g = word false c f g refl
+  ends_word e h n = cond_both ((o == 46) && bytes_eq kept (codes "null")) _ _ (Sound p colon k (front ++ w) o)
+      (λ f. let both = and_parts (o == 46) (bytes_eq kept (codes "null")) f in
+      let null : w ≡ codes "null" = sym e ∙ (bytes_eq-Decides kept (codes "null")).0 both.1 in
+      goes Mode.KindName [] ((λ j. null j ++ eqb-true o 46 both.0 j ∷ []), tt))
+      (λ f. leaves_blank TokenKind.Word kept used refl (λ r j. (e, h, n, no_dot (and_cases (o == 46) (bytes_eq kept (codes "null")) f))))
+    where
+      no_dot : ((o == 46) ≡ false) ⊎ (bytes_eq kept (codes "null") ≡ false) → w ≡ codes "null" → (o == 46) ≡ false
+      no_dot (inl f) null = f
+      no_dot (inr g) null = absurd (true≢false (sym ((bytes_eq-Decides kept (codes "null")).1 (e ∙ null)) ∙ g))
 
   -- the content of a blob is decoded
   ends_blob : Turns p colon w kept o Action.EndBlob → Sound p colon k (front ++ w) o (blob_ends (at m kept colon start used) (blob_of kept))

@@ -1,11 +1,10 @@
 -- What an octet says of a blank, and of a / that is part of no token yet.
-use Rattle.std.proofs.Common.{◌≡◌, ℕ, inl, Bool, true, false, List, [], ◌∷◌, refl, ap, ◌∙◌, arith, cond}
+use Rattle.std.proofs.Common.{◌≡◌, ℕ, inl, Bool, true, false, List, [], ◌∷◌, refl, ap, ◌∙◌, cond}
 use Rattle.std.specs.Prelude.{◌==◌, ◌&&◌, ◌||◌, not}
 use Rattle.std.proofs.lemmas.Bool.{and_parts, cond_both, eqb-true, false≢true, not-false}
-use Rattle.std.proofs.lemmas.Bool.Decides.{nat_tests}
-use Rattle.ion_tokens.specs.Names.{Action, IsLexeme, Mark, MarkEnds, MarkStands, Mode, Place, Style, TokenKind, begins_value, begins_word, give, in_blank, in_slash, is_digit, is_name, is_operator_octet, is_sexp, is_stop, is_white, kept_after, mark_spelling}
+use Rattle.ion_tokens.specs.Names.{Action, IsLexeme, Mark, MarkEnds, MarkStands, Mode, Place, Style, TokenKind, begins_value, begins_word, give, in_blank, in_slash, is_digit, is_name, is_operator_octet, is_sexp, is_white, kept_after, mark_spelling}
 use Rattle.ion_tokens.proofs.sound.Opens.{IsOpen, IsOpenNumber, IsOpenRun, IsUnjudgedToken}
-use Rattle.ion_tokens.proofs.sound.TurnsOperators.{ends_so, sexp_no_name}
+use Rattle.ion_tokens.proofs.sound.TurnsOperators.{digit_no_stop, ends_so, sexp_no_name}
 use Rattle.ion_tokens.proofs.texts.TextsRead.{reads_none}
 
 -- what an action at an octet says of a blank before it
@@ -18,9 +17,7 @@ First p colon o (Action.Refuse e) = Unit {0}
 First p colon o _ = ⊥
 
 digit_open : (p : Place) (o : ℕ) → is_name p ≡ false → is_digit o ≡ true → IsOpenNumber p (o ∷ [])
-digit_open p o n h = record { place = n; begun = ap (λ b. b || ((o == 45) && false)) h; each = (ap not (no_stop o h), tt) } where
-  no_stop : (o : ℕ) → is_digit o ≡ true → is_stop o ≡ false
-  no_stop o h = grind (arith, nat_tests)
+digit_open p o n h = record { place = n; begun = ap (λ b. b || ((o == 45) && false)) h; each = (ap not (digit_no_stop o h), tt) }
 
 run_open : (o : ℕ) → is_operator_octet o ≡ true → (o == 47) ≡ false → IsOpenRun (o ∷ [])
 run_open o h n = record { some = λ e. cc; each = (h, tt); apart = ap (λ b. (b && false) || false) n; last = n }

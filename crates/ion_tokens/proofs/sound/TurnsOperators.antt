@@ -7,6 +7,7 @@ use Rattle.ion_tokens.specs.Names.{Action, Ending, IsLexeme, IsOperator, Mode, P
 use Rattle.ion_tokens.specs.Lexemes.{ends}
 use Rattle.ion_tokens.specs.laws.Each.{each_last}
 use Rattle.ion_tokens.proofs.sound.Opens.{IsOpen, IsOpenNumber, IsOpenRun, RunEndsSo, Turns}
+use Rattle.ion_tokens.proofs.complete.TakesOperators.{ends_last}
 
 -- a comment in a whole begins in its front or in its rest
 pub comment_append : (w x r : List ℕ) → comment_within (w ++ x) r ≡ comment_within w (x ++ r) || comment_within x r
@@ -26,11 +27,6 @@ apart_more (o ∷ x ∷ w) r h e = by ((o == 47) && ((x == 47) || (x == 42))) h 
       → (comment_within (x ∷ w) [] ≡ false → ends (λ o. o == 47) (x ∷ w) ≡ false → comment_within (x ∷ w) r ≡ false) → (b || comment_within (x ∷ w) r) ≡ false
   by true h f = absurd (true≢false h)
   by false h f = f h e
-
-pub ends_last : (class : ℕ → Bool) (xs : List ℕ) (o : ℕ) → ends class (xs ++ o ∷ []) ≡ class o
-ends_last class [] o = refl
-ends_last class (x ∷ []) o = refl
-ends_last class (x ∷ y ∷ xs) o = ends_last class (y ∷ xs) o
 
 -- octets and one more are some
 pub not_empty : (xs : List ℕ) (o : ℕ) → xs ++ o ∷ [] ≢ []
@@ -58,7 +54,8 @@ ends_so p w o s = by (o == 43) (o == 45) refl refl where
 digit_no_operator : (o : ℕ) → is_digit o ≡ true → is_operator_octet o ≡ false
 digit_no_operator o h = grind (arith, nat_tests)
 
-digit_no_stop : (o : ℕ) → is_digit o ≡ true → is_stop o ≡ false
+-- a digit ends no number
+pub digit_no_stop : (o : ℕ) → is_digit o ≡ true → is_stop o ≡ false
 digit_no_stop o h = grind (arith, nat_tests)
 
 digit_no_i : (o : ℕ) (r : List ℕ) → is_digit o ≡ true → begins_infinity (o ∷ r) ≡ false

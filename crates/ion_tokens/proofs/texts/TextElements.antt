@@ -3,6 +3,7 @@ use Rattle.std.proofs.Common.{◌≡◌, ◌≢◌, ℕ, ◌+◌, ◌-◌, ◌*�
 use Rattle.std.specs.Prelude.{Some}
 use Rattle.std.specs.Char.{IsScalar}
 use Rattle.std.proofs.lemmas.Bool.Decides.{nat_tests}
+use Rattle.std.proofs.lemmas.Bool.{false_from_ne_true}
 use lib.Utf8.{encode, scalar, scalar_cases}
 use Rattle.ion_tokens.specs.Names.{Action, Digits, Hex, IsElement, IsHexAfter, Keep, Known, Mode, Pair, Place, Style, Within, acts, after_digits, follow, grow, hex_length, hexadecimal_digit, in_escape, in_text, is_clob, kept_after, meaning, quote_of, raw, run}
 use Rattle.ion_tokens.proofs.texts.Encodings as law
@@ -61,10 +62,7 @@ at_least_65536 : (c : ℕ) → 3 < length (encode c) → 65536 ≤ c
 at_least_65536 c h = ⊎_elim (λ l. absurd (omega (arith, ap length (law.three c (at_least_2048 c (omega arith)) l)))) (λ l. l) (order c 65536)
 
 no_clob : (s : Style) (c : ℕ) → (IsTrue (is_clob s) → c < 128) → 128 ≤ c → is_clob s ≡ false
-no_clob s c h l = by (is_clob s) h where
-  by : (b : Bool) → (IsTrue b → c < 128) → b ≡ false
-  by false h = refl
-  by true h = absurd (omega (arith, h refl))
+no_clob s c h l = false_from_ne_true (is_clob s) (λ e. omega (arith, h e))
 
 -- a raw character that isn't a long string's quote
 pub read_raw : (p : Place) (s : Style) (c : ℕ) (w : Within) (kept : List ℕ) → ((o : ℕ) → (o ≡ c) ⊎ (128 ≤ o) → Admits w o) → IsScalar c → c ≢ 92
@@ -147,7 +145,8 @@ keep_of s c = cond (is_clob s) (Keep.One (c % 256)) (Keep.Character c)
 pub digit_small : (o d : ℕ) → hexadecimal_digit o ≡ Some d → d < 16
 digit_small o d h = grind (arith, nat_tests)
 
-two_small : (os : List ℕ) (c : ℕ) → length os ≡ 2 → IsHexAfter 0 os c → c < 256
+-- two hexadecimal digits are an octet
+pub two_small : (os : List ℕ) (c : ℕ) → length os ≡ 2 → IsHexAfter 0 os c → c < 256
 two_small [] c e h = absurd (omega arith)
 two_small (o ∷ []) c e h = absurd (omega arith)
 two_small (o ∷ p ∷ []) c e (d, f, (d', f', g)) = let a : d < 16 = digit_small o d f in let b : d' < 16 = digit_small p d' f' in omega arith
@@ -174,10 +173,7 @@ in_text_style : (s : Style) (c : ℕ) → is_clob s ≡ false → Action.Go (Mod
 in_text_style s c e = ap (λ b. Action.Go (Mode.Text s Within.Plain) (cond b (Keep.One (c % 256)) (Keep.Character c))) (sym e)
 
 no_clob_letter : (s : Style) (letter : ℕ) → (IsTrue (is_clob s) → letter ≡ 120) → letter ≢ 120 → is_clob s ≡ false
-no_clob_letter s letter h n = by (is_clob s) h where
-  by : (b : Bool) → (IsTrue b → letter ≡ 120) → b ≡ false
-  by false h = refl
-  by true h = absurd (n (h refl))
+no_clob_letter s letter h n = false_from_ne_true (is_clob s) (λ e. n (h e))
 
 opens_unit : (s : Style) → is_clob s ≡ false → in_escape s 117 ≡ Action.Go (Mode.Text s (Within.Hexadecimal Digits.Unit 4 0)) Keep.Nothing
 opens_unit s e = grind (arith, nat_tests)

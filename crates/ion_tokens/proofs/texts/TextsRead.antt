@@ -10,7 +10,7 @@ use Rattle.ion_tokens.specs.Names.{Action, Cr, CrLf, Digits, Element, Hex, Hidde
 use Rattle.ion_tokens.specs.Octets.{escaped}
 use Rattle.ion_tokens.proofs.complete.TakesTexts.{drops_two}
 use Rattle.ion_tokens.proofs.texts.Encodings.{order}
-use Rattle.ion_tokens.proofs.texts.TextElements.{below_max, digit_small}
+use Rattle.ion_tokens.proofs.texts.TextElements.{below_max, two_small}
 use Rattle.ion_tokens.proofs.texts.TextOrders.{Base, base_more, base_none, base_quote, base_quotes, last_is, last_is_last, quoted}
 use Rattle.ion_tokens.proofs.texts.TextSteps.{Caps, after_high, after_low, as_raw, caps_grow, exact, letter_only, more_digits, quote_low, utf8_last, utf8_more, utf8_wrong}
 use Rattle.ion_tokens.proofs.texts.TextsComplete.{eq_or}
@@ -125,12 +125,6 @@ char_leads s es letter total m os b t k (n, e, h, c) = cond_both (scalar m) _ _ 
           (fits s es (Hex letter os m) (k ∙ ap Some (sym e), subst (IsHexAfter 0 os) (sym same) h, z, λ i. absurd (true≢false (sym i ∙ t))) refl refl refl)
           refl (hex_is s letter m os t),
     )) (λ z. tt)
-
-two_small : (os : List ℕ) (c : ℕ) → length os ≡ 2 → IsHexAfter 0 os c → c < 256
-two_small [] c e h = absurd (omega arith)
-two_small (o ∷ []) c e h = absurd (omega arith)
-two_small (o ∷ p ∷ []) c e (d, f, (d', f', g)) = let a : d < 16 = digit_small o d f in let b : d' < 16 = digit_small p d' f' in omega arith
-two_small (o ∷ p ∷ q ∷ os) c e h = absurd (omega arith)
 
 -- \x: in a clob an octet
 octet_leads : (s : Style) (es : List Element) (m : ℕ) (os : List ℕ) → Base s es → Full 2 m os → Leads s es (after_digits s Digits.Octet m) (92 ∷ 120 ∷ os) []

@@ -278,28 +278,26 @@ stands_at : (places : Places) (s : Known) (u : List ℕ) (ts : List Told) → Is
 stands_at places s u ts h = ap (λ l. over places l [] initial) (sym (append-nil u)) ∙ h.leads [] ([], refl)
 
 module _ (p : Place) (s : Known) where
+  ends : (places : Places) (u : List ℕ) (ts : List Told) → IsTraced places s u ts [] → places ts ≡ p → (x : Result (Option Lexeme) Reason) → at_end p s ≡ x
+      → trace places u ≡ record { told = ts; refused = None; ends = end_judged s.used x }
+  ends places u ts h place x e = ap (λ t. traced places t) (stands_at places s u ts h)
+      ∙ (λ i. record { told = ts; refused = None; ends = end_judged s.used ((ap (λ q. at_end q s) place ∙ e) i) })
+
   -- The end answers what the trace says.
   pub end_traced : (x : Result (Option Lexeme) Reason) (r : Result (Option Token) Refusal) → at_end p s ≡ x → Ends s.used x r → EndsTrace p s r
-  end_traced x r e a = by x r e a where
-    ends : (places : Places) (u : List ℕ) (ts : List Told) → IsTraced places s u ts [] → places ts ≡ p → (x : Result (Option Lexeme) Reason) → at_end p s ≡ x
-        → trace places u ≡ record { told = ts; refused = None; ends = end_judged s.used x }
-    ends places u ts h place x e = ap (λ t. traced places t) (stands_at places s u ts h)
-        ∙ (λ i. record { told = ts; refused = None; ends = end_judged s.used ((ap (λ q. at_end q s) place ∙ e) i) })
-
-    by : (x : Result (Option Lexeme) Reason) (r : Result (Option Token) Refusal) → at_end p s ≡ x → Ends s.used x r → EndsTrace p s r
-    by (Ok None) (Ok token) e a = λ places u ts h place. ends places u ts h place (Ok None) e
-        ∙ (λ i. record { told = ts; refused = None; ends = Ok (last_of (sym a i) s.used) })
-    by (Ok (Some l)) (Ok None) e a = absurd a
-    by (Ok (Some l)) (Ok (Some t)) e a = λ places u ts h place. ends places u ts h place (Ok (Some l)) e
-        ∙ (λ i. record { told = ts; refused = None; ends = last_judged l s.used (said_so l t a i) })
-        ∙ (λ i. record { told = ts; refused = None; ends = Ok (Some (told_is l t s.used a i)) })
-    by (Err reason) (Ok token) e a = absurd a
-    by (Ok None) (Err r) e a = λ n. absurd (a n)
-    by (Ok (Some l)) (Err r) e a = λ n places u ts h place. ends places u ts h place (Ok (Some l)) e
-        ∙ (λ i. record { told = ts; refused = None; ends = last_judged l s.used (refused_so l s.used r (a n) i) })
-        ∙ (λ i. record { told = ts; refused = None; ends = Err (record { offset = sym (a n).offset i; reason = r.reason }) })
-    by (Err reason) (Err r) e a = λ n places u ts h place. ends places u ts h place (Err reason) e
-        ∙ (λ i. record { told = ts; refused = None; ends = Err (sym (a n) i) })
+  end_traced (Ok None) (Ok token) e a = λ places u ts h place. ends places u ts h place (Ok None) e
+      ∙ (λ i. record { told = ts; refused = None; ends = Ok (last_of (sym a i) s.used) })
+  end_traced (Ok (Some l)) (Ok None) e a = absurd a
+  end_traced (Ok (Some l)) (Ok (Some t)) e a = λ places u ts h place. ends places u ts h place (Ok (Some l)) e
+      ∙ (λ i. record { told = ts; refused = None; ends = last_judged l s.used (said_so l t a i) })
+      ∙ (λ i. record { told = ts; refused = None; ends = Ok (Some (told_is l t s.used a i)) })
+  end_traced (Err reason) (Ok token) e a = absurd a
+  end_traced (Ok None) (Err r) e a = λ n. absurd (a n)
+  end_traced (Ok (Some l)) (Err r) e a = λ n places u ts h place. ends places u ts h place (Ok (Some l)) e
+      ∙ (λ i. record { told = ts; refused = None; ends = last_judged l s.used (refused_so l s.used r (a n) i) })
+      ∙ (λ i. record { told = ts; refused = None; ends = Err (record { offset = sym (a n).offset i; reason = r.reason }) })
+  end_traced (Err reason) (Err r) e a = λ n places u ts h place. ends places u ts h place (Err reason) e
+      ∙ (λ i. record { told = ts; refused = None; ends = Err (sym (a n) i) })
 
 -- before any octet
 pub begins_traced : (places : Places) (s : Known) → s ≡ initial → IsTraced places s [] [] []

@@ -4,7 +4,7 @@ use Rattle.std.proofs.Common.{◌≡◌, ◌⊎◌, inl, inr, ⊎_elim, ℕ, ℤ
 use Rattle.std.specs.Prelude.{◌==◌, ◌&&◌, ◌||◌, not}
 use Rattle.std.specs.Char.{digit_value}
 use Rattle.std.specs.List.{list_any}
-use Rattle.std.proofs.lemmas.Bool.{false≢true}
+use Rattle.std.proofs.lemmas.Bool.{false≢true, not-true, or_from, or_parts}
 use Rattle.std.proofs.lemmas.Bool.Decides.{nat_tests}
 use Rattle.std.proofs.lemmas.List.{take_all, take_more, take-append-drop}
 use Rattle.ion_tokens.specs.Names.{Each, IsBehind, IsDigits, IsMagnitude, IsNumber, IsNumeral, IsRadix, IsWholePart, Number, ReadsNumber, begins, begins_number, is_digit, is_stop, minus}
@@ -217,13 +217,11 @@ number_run token (Number.Timestamp t) h = record { begun = place_begins token (t
 pub numeric_run : (token : List ℕ) (x : Number) → ReadsNumber token (Ok x) → IsNumericRun token
 numeric_run token x h = number_run token x h.0
 
-run_without_slash : (os : List ℕ) → Each is_numeric_octet os → list_any (λ o. o == 47) os ≡ false
+-- What may stand in a number is no `/`.
+pub run_without_slash : (os : List ℕ) → Each is_numeric_octet os → list_any (λ o. o == 47) os ≡ false
 run_without_slash [] h = refl
-run_without_slash (o ∷ os) h = by (is_stop o) (o == 47) h.0 (run_without_slash os h.1) where
-  by : (b c : Bool) → not (b || c) ≡ true → list_any (λ o. o == 47) os ≡ false → (c || list_any (λ o. o == 47) os) ≡ false
-  by b false e g = g
-  by true true e g = absurd (false≢true e)
-  by false true e g = absurd (false≢true e)
+run_without_slash (o ∷ os) h = or_from (o == 47) (list_any (λ o. o == 47) os)
+    (or_parts (is_stop o) (o == 47) (not-true (is_stop o || (o == 47)) h.0)).1 (run_without_slash os h.1)
 
 -- What reads as a number has no `/`.
 pub number_without_slash : (token : List ℕ) (x : Number) → ReadsNumber token (Ok x) → list_any (λ o. o == 47) token ≡ false

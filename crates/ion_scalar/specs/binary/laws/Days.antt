@@ -5,36 +5,31 @@ use Rattle.ion_scalar.specs.Names.{Incomplete, Malformed, ReadsVarUInt, Reason, 
 use Rattle.ion_scalar.specs.binary.laws.VarUInt.{var_uint_answers}
 
 module _ (last : ℕ) (few : last ≤ 31) (octets : List ℕ) where
-  within : (r : Result (ℕ × ℕ) Reason) (x : ℕ × ℕ) → ReadsVarUInt octets r → in_range 1 31 r ≡ Ok x → x.0 ≤ last → in_range 1 last r ≡ Ok x
-  within (Ok read) x a e most =
+  -- what is read as a number up to 31 is one
+  read_so : (read x : ℕ × ℕ) → in_range 1 31 (Ok read) ≡ Ok x → (1 ≤ read.0) × (read ≡ x)
+  read_so read x e =
       elim (cases_lt read.0 1) [
         | inl low ↦ absurd (let h = rw (lt-leb 1 read.0 low) at e in cc)
         | inr high ↦ elim (cases_lt 31 read.0) [
-          | inl beyond ↦ absurd (let h = rw (le-leb 1 read.0 high, lt-leb read.0 31 beyond) at e in cc)
-          | inr some ↦
-              let h = rw (le-leb 1 read.0 high, le-leb read.0 31 some) at e in
-              let same : read ≡ x = cc in
-              let there : read.0 ≤ last = subst (λ (y : ℕ × ℕ). y.0 ≤ last) (sym same) most in
-              rw (le-leb 1 read.0 high, le-leb read.0 last there) (ap Ok same)
+          | inl past ↦ absurd (let h = rw (le-leb 1 read.0 high, lt-leb read.0 31 past) at e in cc)
+          | inr some ↦ (high, (let h = rw (le-leb 1 read.0 high, le-leb read.0 31 some) at e in cc))
         ]
       ]
+
+  within : (r : Result (ℕ × ℕ) Reason) (x : ℕ × ℕ) → ReadsVarUInt octets r → in_range 1 31 r ≡ Ok x → x.0 ≤ last → in_range 1 last r ≡ Ok x
+  within (Ok read) x a e most =
+      let is = read_so read x e in
+      let there : read.0 ≤ last = subst (λ (y : ℕ × ℕ). y.0 ≤ last) (sym is.1) most in
+      rw (le-leb 1 read.0 is.0, le-leb read.0 last there) (ap Ok is.1)
   within (Err TooLarge) x a e most = absurd cc
   within (Err Incomplete) x a e most = absurd cc
   within (Err _) x a e most = absurd a
 
   beyond : (r : Result (ℕ × ℕ) Reason) (x : ℕ × ℕ) → ReadsVarUInt octets r → in_range 1 31 r ≡ Ok x → last < x.0 → in_range 1 last r ≡ Err Malformed
   beyond (Ok read) x a e more =
-      elim (cases_lt read.0 1) [
-        | inl low ↦ absurd (let h = rw (lt-leb 1 read.0 low) at e in cc)
-        | inr high ↦ elim (cases_lt 31 read.0) [
-          | inl past ↦ absurd (let h = rw (le-leb 1 read.0 high, lt-leb read.0 31 past) at e in cc)
-          | inr some ↦
-              let h = rw (le-leb 1 read.0 high, le-leb read.0 31 some) at e in
-              let same : read ≡ x = cc in
-              let there : last < read.0 = subst (λ (y : ℕ × ℕ). last < y.0) (sym same) more in
-              rw (le-leb 1 read.0 high, lt-leb read.0 last there) refl
-        ]
-      ]
+      let is = read_so read x e in
+      let there : last < read.0 = subst (λ (y : ℕ × ℕ). last < y.0) (sym is.1) more in
+      rw (le-leb 1 read.0 is.0, lt-leb read.0 last there) refl
   beyond (Err TooLarge) x a e more = absurd cc
   beyond (Err Incomplete) x a e more = absurd cc
   beyond (Err _) x a e more = absurd a

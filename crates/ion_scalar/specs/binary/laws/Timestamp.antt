@@ -1,7 +1,7 @@
 -- The fields of a timestamp's body are read as what they are.
 use Rattle.std.proofs.Common.{◌≡◌, ◌⊎◌, ℕ, cond, Bool, true, false, [], ◌∷◌, ◌++◌, ◌^◌, ◌<◌, ◌≤◌, List, length, take, drop, refl, sym, ap, subst, ◌+◌, arith, length-append, Ok, Err, Result, inl, inr}
 use Rattle.std.specs.Prelude.{nat_lt, ◌&&◌}
-use Rattle.std.proofs.lemmas.Bool.{lt-ltb, le-ltb, lt-leb, le-leb, cases_lt}
+use Rattle.std.proofs.lemmas.Bool.{and_right, cases_lt, le-leb, le-ltb, lt-leb, lt-ltb}
 use Rattle.std.proofs.lemmas.List.{take-append-drop}
 use Rattle.std.proofs.Math.Nat.{pow-le-pow_right}
 use Rattle.std.proofs.Math.Seq.{drop-append_seam}
@@ -84,10 +84,6 @@ pub begins_some : (least most : ℕ) (Behind : ℕ → List ℕ → Type 0) → 
 begins_some least most Behind b =
     absurd (omega (arith, ap length b.cut, ap length b.is.octets, length-append b.field b.rest, length-append b.is.digits ((128 + b.is.last) ∷ [])))
 
-and_false : (b : Bool) → (b && false) ≡ false
-and_false true = refl
-and_false false = refl
-
 -- a coefficient and its exponent
 module _ (minute : Minute) (second : ℕ) (octets : List ℕ) (utc : Utc) where
   abbrev DigitsTold : ℕ → Type 0
@@ -162,7 +158,7 @@ module _ (minute : Minute) (second : ℕ) (octets : List ℕ) (utc : Utc) where
       let small : int_magnitude octets < 2 ^ 127 = omega (arith, most) in
       let no_minus : (int_negative octets && nat_lt 0 (int_magnitude octets)) ≡ false = elim sign [
         | inl plus ↦ rw plus refl
-        | inr nothing ↦ rw nothing (and_false (int_negative octets))
+        | inr nothing ↦ rw nothing (and_right (int_negative octets) false refl)
       ] in
       rw (
         b,
@@ -175,11 +171,11 @@ module _ (minute : Minute) (second : ℕ) (octets : List ℕ) (utc : Utc) where
   fraction_read below power (inr (whole, nothing, same)) =
       let few : (below && nat_lt most_digits power) ≡ false = elim whole [
         | inl plus ↦ rw plus refl
-        | inr zeroth ↦ rw zeroth (and_false below)
+        | inr zeroth ↦ rw zeroth (and_right below false refl)
       ] in
       let no_power : (below && nat_lt 0 power) ≡ false = elim whole [
         | inl plus ↦ rw plus refl
-        | inr zeroth ↦ rw zeroth (and_false below)
+        | inr zeroth ↦ rw zeroth (and_right below false refl)
       ] in
       rw (few, nothing, no_power) (ap Ok (sym same))
 

@@ -1,5 +1,5 @@
 -- A timestamp that is written is read back.
-use Rattle.std.proofs.Common.{◌≡◌, ℕ, suc, ◌^◌, ◌<◌, ◌≤◌, ℤ, pos, negsuc, neg_ℤ, ◌+ℤ◌, Bool, true, false, List, ◌++◌, refl, sym, append_assoc, ap, subst, ◌∙◌, arith, Ok, inl, inr, Option, Some, None}
+use Rattle.std.proofs.Common.{◌≡◌, ℕ, suc, ◌^◌, ◌<◌, ◌≤◌, ℤ, pos, negsuc, neg_ℤ, ◌+ℤ◌, Bool, true, false, List, ◌++◌, refl, sym, append_assoc, ap, ◌∙◌, arith, Ok, inl, inr, Option, Some, None}
 use Rattle.std.specs.Prelude.{IfSome, ◌==◌}
 use Rattle.std.proofs.Math.Nat.{pow-le-pow_right}
 use Rattle.std.proofs.lemmas.Int.{ints}
@@ -12,6 +12,7 @@ use Rattle.ion_scalar.specs.binary.laws.Shifted.{moved_is}
 use Rattle.ion_scalar.specs.binary.laws.Shown.{cut_kept, timestamp_read}
 use Rattle.ion_scalar.specs.binary.laws.Spellings.{int_parts, var_int_spelled, var_uint_spelled}
 use Rattle.ion_scalar.specs.binary.laws.Timestamp.{IsUtc}
+use Rattle.ion_scalar.specs.text.laws.TimestampTexts.{near_offset}
 
 begins : (least most : ℕ) (Behind : ℕ → List ℕ → Type 0) (n : ℕ) (rest : List ℕ) → most < 2 ^ 63 → least ≤ n → n ≤ most → Behind n rest
     → Begins least most Behind (var_uint_octets n ++ rest)
@@ -117,18 +118,6 @@ ahead_spelled (Some (negsuc n)) h = record {
   range = omega (arith, ints, h.0);
   same = not_zero n (suc n == 0) refl;
 }
-
-none_near : (offset : Option ℤ) → offset ≡ None → IfSome offset IsOffset
-none_near offset e = let P : Option ℤ → Type 0 = λ x. IfSome x IsOffset in subst P (sym e) tt
-
-near_offset : (p : Precision) (offset : Option ℤ) → HasOffset p offset → IfSome offset IsOffset
-near_offset Precision.Minute None h = tt
-near_offset Precision.Minute (Some z) h = h
-near_offset Precision.Second None h = tt
-near_offset Precision.Second (Some z) h = h
-near_offset (Precision.Fraction digits) None h = tt
-near_offset (Precision.Fraction digits) (Some z) h = h
-near_offset _ offset h = none_near offset h
 
 kept_is : (p : Precision) (offset : Option ℤ) → HasOffset p offset → offset ≡ kept_offset p offset
 kept_is Precision.Minute offset h = refl

@@ -1,14 +1,15 @@
 -- What is written of a timestamp spells it.
-use Rattle.std.proofs.Common.{◌≡◌, ℕ, zero, suc, ◌+◌, ◌/◌, ◌%◌, ◌^◌, ◌<◌, ◌≤◌, inl, inr, List, [], ◌∷◌, ◌++◌, length, get_or, Bool, true, false, cond, ℤ, pos, negsuc, refl, sym, ap, subst, ◌∙◌, arith, length-append, append_assoc, Option, Some, None, IfSome, Ok}
+use Rattle.std.proofs.Common.{◌≡◌, ℕ, zero, suc, ◌+◌, ◌/◌, ◌%◌, ◌^◌, ◌<◌, ◌≤◌, inl, inr, List, [], ◌∷◌, ◌++◌, length, get_or, ℤ, pos, negsuc, refl, sym, ap, subst, ◌∙◌, arith, length-append, append_assoc, Option, Some, None, IfSome, Ok}
 use Rattle.std.specs.Char.{digit_value}
 use Rattle.std.proofs.Math.Nat.{pow-suc}
 use Rattle.std.proofs.lemmas.Nat.{div_below}
 use Rattle.std.proofs.lemmas.Int.{ints}
 use Rattle.std.proofs.lemmas.Bool.{ne_eqb}
-use Rattle.ion_scalar.specs.Names.{AreFourAt, AreTwoAt, BeginsWithDay, BeginsWithMinute, BeginsWithMonth, BeginsWithSecond, HasOffset, IsAt, IsCut, IsDigits, IsOffset, IsOffsetToken, IsTimestamp, IsTimestampToken, Local, Number, Precision, ReadsNumber, TimestampParts, clock_text, cut_text, dated, day, day_text, digits_in, farthest_offset, four, four_digits, fraction, is_leap, last_hour, last_minute, minute, minute_read, minute_text, month, month_length, month_text, number, number_text, offset_minutes, offset_read, offset_text, padded, positional, positional_push, second, second_text, timed, timestamp_text, two, two_digits, year}
+use Rattle.ion_scalar.specs.Names.{AreFourAt, AreTwoAt, BeginsWithDay, BeginsWithMinute, BeginsWithMonth, BeginsWithSecond, HasOffset, IsAt, IsCut, IsDigits, IsOffset, IsOffsetToken, IsTimestamp, IsTimestampToken, Local, Number, Precision, ReadsNumber, TimestampParts, clock_text, cut_text, dated, day, day_text, digits_in, farthest_offset, four, four_digits, fraction, last_hour, last_minute, minute, minute_read, minute_text, month, month_text, number, number_text, offset_minutes, offset_read, offset_text, padded, positional, positional_push, second, second_text, timed, timestamp_text, two, two_digits, year}
 use Rattle.ion_scalar.specs.text.laws.DigitRuns.{digits_in_one, digits_in_push, digits_push}
 use Rattle.ion_scalar.specs.text.laws.Texts.{digit_of}
 use Rattle.ion_scalar.specs.text.laws.TimestampForms.{there_short}
+use Rattle.ion_atoms.specs.laws.Neighbours.{month_most}
 
 -- the last digit of a number of so many digits goes in front of what stands
 pub padded_step : (w n : ℕ) (tail more text : List ℕ) → padded (suc w) n ++ tail ≡ text → more ≡ (48 + n % 10) ∷ tail → padded w (n / 10) ++ more ≡ text
@@ -26,17 +27,10 @@ four_at os n h within a b c d =
     let back = two_at os 2 (n % 100) (omega arith) (omega arith) c d in
     ((front.0, back.0), omega (arith, front.1, back.1))
 
-if_le : (b : Bool) (x y k : ℕ) → x ≤ k → y ≤ k → cond b x y ≤ k
-if_le true x y k p q = p
-if_le false x y k p q = q
-
-month_short : (y m : ℕ) → month_length y m ≤ 31
-month_short y m = if_le _ _ _ 31 (if_le (is_leap y) 29 28 31 (omega arith) (omega arith)) (if_le _ 30 31 31 (omega arith) (omega arith))
-
 pub small_fields : (t : TimestampParts) → IsTimestamp t → (t.local.year < 10000) × (t.local.month < 100) × (t.local.day < 100) × (t.local.hour < 100)
     × (t.local.minute < 100) × (t.local.second < 100)
 small_fields t h =
-    let short = month_short t.local.year t.local.month in (
+    let short = month_most t.local.year t.local.month in (
       omega (arith, h.date.year.1),
       omega (arith, h.date.month.1),
       omega (arith, h.date.day.1),
