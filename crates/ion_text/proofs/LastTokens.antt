@@ -1,26 +1,22 @@
 -- Tokens that a reader without values takes up at once, and that end a value of the top level.
-use Rattle.std.proofs.Common.{◌≡◌, ℕ, ◌+◌, ◌-◌, ◌<◌, ◌≤◌, Bool, true, false, List, [], ◌∷◌, length, take, drop, get_or, Result, Some, Ok, Err, refl, ap, sym, ◌∙◌, subst, arith, length-drop, get_or-drop, inl, inr}
-use Rattle.std.specs.Prelude.{◌&&◌, ◌||◌, if◌then◌else◌}
+use Rattle.std.proofs.Common.{◌≡◌, ℕ, ◌+◌, ◌-◌, ◌<◌, ◌≤◌, Bool, true, false, List, [], ◌∷◌, length, take, drop, get_or, Option, Result, Some, Ok, Err, refl, ap, sym, ◌∙◌, subst, arith, length-drop, get_or-drop, inl, inr}
+use Rattle.std.specs.Prelude.{◌||◌, if◌then◌else◌, nat_le}
 use Rattle.std.proofs.lemmas.Grind.{common_steps}
 use Rattle.std.proofs.lemmas.List.{length-take-le}
-use Rattle.ion_text.specs.Names.{Ahead, BeginsValue, Bracket, Catalog, Content, Does, Effect, Ended, EndsAtOnce, EndsBy, EndsSo, Event, FoundSymbol, FoundToken, Frame, Gives, Held, Holds, IsFound, IsPassed, IsStill, IsValue, Known, Limits, Mark', Now, Passes, Payload, Pays, Place, Quiet, Reading, Reason, Rest, SameSetting, Scalar, Scanner, Setting, Spot, State, StridesBy, Strode, Symbols, Taken, TextWalk, TokenKind, TookSo, Turn, annotated, at, begun_at, behind_left, close_mark, close_octet, closed, closes, drive, eats, ended, ends_symbol, events_of, feed, gives, go_on, goes, heard, held_of, held_payload, is_fields, is_marker, is_table, is_top, layer_kind, leaves, led, lexeme_at, names_table, on_said, on_scan, on_settled, paid, past_blank, past_token, place, reading_of, released, resting, resting_at, run, said, scanned, settle, spot_at, state_of, takes as takes_up, token_at, token_of, told, turn, turn_now, under, unsettled, with_scan}
+use Rattle.ion_text.specs.Names.{Ahead, BeginsValue, Bracket, Catalog, Content, Does, Effect, Ended, EndsAtOnce, EndsBy, EndsSo, Event, FoundToken, Frame, Gives, Goes, Held, Holds, IsFound, IsHere, IsStill, Known, Late, Limits, Mark', Now, Part, Passes, Payload, Place, Quiet, Reading, Reason, Rest, RestsBehind, SameSetting, Scanner, Setting, Spot, State, Strode, StrodeFrom, Symbols, Taken, Takes, TextWalk, TokenKind, TookSo, Turn, Turned, Value, WaitsThere, annotated, at, begun_at, behind_left, close_mark, close_octet, closed, closes, drive, eats, ended, ends_symbol, events_of, feed, fresh, gives, go_on, goes, heard, held_payload, is_fields, is_marker, is_null_struct, is_table, is_top, layer_kind, leaves, led, lexeme_at, next, on_said, on_scan, on_settled, paid, past_token, payload_of, place, reading_of, refuses, released, resting, resting_at, run, said, scanned, setting_of, settle, spot_at, spot_of, state_of, takes as takes_up, token_at, token_of, told, turn, turn_now, turned, under, unsettled, value_took, with_scan, within}
 use Rattle.ion_model.specs.declared.value.Payload.TheVariants as payloads
 use Rattle.ion_model.specs.declared.value.Payload.TheViews as views
 use Rattle.ion_visiting.specs.laws.Filters.{hears_both}
+use Rattle.ion_text.specs.laws.deciding.Turns.{no_table}
 use Rattle.ion_text.specs.machine.LongStrings.{LongThere}
-use Rattle.ion_text.proofs.Arms.{blank_used, given_found, left_found, mark_says}
+use Rattle.ion_text.proofs.Arms.{given_found, left_found, mark_says}
 use Rattle.ion_text.proofs.LongStrings.{long_unsettled}
 use Rattle.ion_text.proofs.Nested.{close_found, closing}
 use Rattle.ion_text.proofs.Passing.{NoticesNothing, blank_quiet, blank_waits}
-use Rattle.ion_text.proofs.Strides.{front_same, settings_none, settings_on, strides_there, strode_none, strode_on, take_short, with_moved}
+use Rattle.ion_text.proofs.Strides.{IsBegun, begun_with, ends_so, front_same, long_strode, settings_begun, settings_on, strides_there, strode_on, take_short, value_strode, with_moved, word_strode}
 use Rattle.ion_text.proofs.Striding.{still_settles}
-use Rattle.ion_text.proofs.Symbols.{ends_waits, held_in, waits_so}
+use Rattle.ion_text.proofs.Symbols.{ends_waits}
 use Rattle.ion_text.proofs.Tops.{passes_then, token_gives, top_ended, top_quiet, waits_notices}
-
--- what holds where no container is open
-pub top_only : (P : List Frame → Type 0) (fs : List Frame) → is_top fs ≡ true → P [] → P fs
-top_only P [] h p = p
-top_only P (f ∷ fs) h p = absurd cc
 
 -- what is no version marker is paid where no container is open, whatever annotations were read
 released_top : (setting : Setting) (spot : Spot) (ss : Symbols) (h : Held) → is_marker h ≡ false → released setting spot [] ss h
@@ -32,13 +28,38 @@ released_top setting spot [] (Held.Truth b) e = refl
 released_top setting spot [] Held.Nan e = refl
 released_top setting spot (x ∷ ss) h e = refl
 
--- a text is no local symbol table
-text_free : (ss : Symbols) (w : List ℕ) → is_table (annotated ss (payloads.Str w)) ≡ false
-text_free [] w = refl
-text_free (s ∷ ss) w = ap (λ k. names_table s && is_fields (layer_kind k)) (views.outs-Str w) ∙ neither (names_table s) where
-  neither : (b : Bool) → (b && false) ≡ false
-  neither true = refl
-  neither false = refl
+-- a payload that holds no fields, with which a value is no local symbol table
+abbrev pub IsFlat : Payload → Type 0
+IsFlat payload = is_fields (layer_kind (views.out-Payload payload)) ≡ false
+
+pub symbol_flat : (s : Option (List ℕ)) → IsFlat (payloads.Symbol s)
+symbol_flat s = ap (λ k. is_fields (layer_kind k)) (views.outs-Symbol s)
+
+pub text_flat : (w : List ℕ) → IsFlat (payloads.Str w)
+text_flat w = ap (λ k. is_fields (layer_kind k)) (views.outs-Str w)
+
+pub part_flat : (said : Part) → is_null_struct said ≡ false → IsFlat (payload_of said)
+part_flat (Part.Null kind) h = ap (λ k. is_fields (layer_kind k)) (views.outs-Null kind) ∙ h
+part_flat (Part.Truth b) h = ap (λ k. is_fields (layer_kind k)) (views.outs-Truth b)
+part_flat (Part.Symbol w) h = symbol_flat (Some w.now)
+part_flat (Part.Str w) h = text_flat w.now
+part_flat (Part.Clob w) h = ap (λ k. is_fields (layer_kind k)) (views.outs-Clob w.now)
+part_flat (Part.Blob w) h = ap (λ k. is_fields (layer_kind k)) (views.outs-Blob w.now)
+
+-- what is no local symbol table goes on nowhere but in a container, and is given nowhere else
+no_goes : (setting : Setting) (spot : Spot) (v : Value) (q : Reading) → is_table v ≡ false → ended setting spot [] v ≡ goes q → ⊥
+no_goes setting spot v q free e = by (nat_le spot.end (spot.start + setting.limits.item)) (sym (ap (λ b. if b
+    then turned setting.limits.item spot.start spot.end (next spot.context v setting.catalog)
+    else within setting.limits.item spot.start spot.end (gives v (fresh spot.context))) free) ∙ e)
+  where
+    by : (b : Bool) → (if b then gives v (fresh spot.context) else refuses Reason.ItemTooLong) ≡ goes q → ⊥
+    by true e = cc
+    by false e = cc
+
+no_gives : (setting : Setting) (spot : Spot) (f : Frame) (fs : List Frame) (v w : Value) (q : Reading) → ended setting spot (f ∷ fs) v ≡ gives w q → ⊥
+no_gives setting spot (Frame.Items listing ss vs) fs v w q e = cc
+no_gives setting spot (Frame.Named ss ms name) fs v w q e = cc
+no_gives setting spot (Frame.Fields ss ms) fs v w q e = cc
 
 module _ {V : Type 0} (leads : V → Event → V → Type 0) (old new : TextWalk) (rest : Rest) (octets : List ℕ) (a b : V) (fs : List Frame) (ss : Symbols)
     (h : Ahead old fs ss rest (length octets)) where
@@ -129,87 +150,81 @@ module _ {V : Type 0} (leads : V → Event → V → Type 0) (old new : TextWalk
   turns_so kind kept n c payload at_once =
       ap (turn_now (under g' l') q (token_at rest.used (rest.used + n) c)) now ∙ at_once (under g' l') (spot_at (rest.used + n) begun old.context) [] ss
 
-  pub value_tells : (kind : TokenKind) (kept : List ℕ) (n : ℕ) (c : Content) (payload : Payload) → IsFound Place.Top rest octets kind kept n false
-      → said kind kept ≡ Ok c → EndsAtOnce c payload
+  value_ends : (here : Place) (kind : TokenKind) (kept : List ℕ) (n : ℕ) (left : Bool) (c : Content) (payload : Payload) → here ≡ Place.Top
+      → IsFound here rest octets kind kept n left → said kind kept ≡ Ok c → EndsAtOnce c payload
       → Does leads (told [] ss) (ended (under g' l') (spot_at (rest.used + n) begun old.context) [] (annotated ss payload)) (Ok Gives) new a b
-      → EndsSo leads [] ss old new rest (past_token Place.Top rest kind n) octets n a b Taken.Tells
-  value_tells kind kept n c payload found says at_once does =
+      → EndsSo leads [] ss old new rest (past_token here rest kind n) octets n a b (if left then Taken.Leaves else Taken.Tells)
+  value_ends here kind kept n true c payload is found says at_once does =
       let shown = found.shown in
-      given_ends leads old new rest octets a b [] ss h Place.Top kind kept n c _ refl found (quiet (n - 1) (omega arith)) says
-      (turns_so kind kept n c payload at_once) does
-
-  pub value_leaves : (kind : TokenKind) (kept : List ℕ) (n : ℕ) (c : Content) (payload : Payload) → IsFound Place.Top rest octets kind kept n true
-      → said kind kept ≡ Ok c → EndsAtOnce c payload
-      → Does leads (told [] ss) (ended (under g' l') (spot_at (rest.used + n) begun old.context) [] (annotated ss payload)) (Ok Gives) new a b
-      → EndsSo leads [] ss old new rest (past_token Place.Top rest kind n) octets n a b Taken.Leaves
-  value_leaves kind kept n c payload found says at_once does =
+      left_ends leads old new rest octets a b [] ss h here kind kept n c _ is found (quiet n (omega arith)) says (turns_so kind kept n c payload at_once) does
+  value_ends here kind kept n false c payload is found says at_once does =
       let shown = found.shown in
-      left_ends leads old new rest octets a b [] ss h Place.Top kind kept n c _ refl found (quiet n (omega arith)) says
+      given_ends leads old new rest octets a b [] ss h here kind kept n c _ is found (quiet (n - 1) (omega arith)) says
       (turns_so kind kept n c payload at_once) does
 
   -- a symbol, null or truth, and the blank behind it
-  module _ (kind : TokenKind) (kept : List ℕ) (n m : ℕ) (left : Bool) (c : Content) (payload : Payload) (some : 0 < m) (more : n + m < length octets)
-      (found : IsFound Place.Top rest octets kind kept n left) (says : said kind kept ≡ Ok c) (passed : IsPassed (drop n octets) m)
-      (ends : ends_symbol (get_or octets (n + m) 0) ≡ true) (pays : Pays (held_of c) payload)
-      (free : (x : Held) → held_of c ≡ Some x → is_marker x ≡ false)
-      (does : Does leads (told [] ss) (ended (under g' l') (spot_at (rest.used + n) begun old.context) [] (annotated ss payload)) (Ok Gives) new a b) where
-    held : (x : Held) × (held_of c ≡ Some x) × (held_payload x ≡ Ok payload)
-    held = held_in (held_of c) payload pays
+  module _ (token : FoundToken) (m : ℕ) (behind : Rest) (held : Held) (payload : Payload) (some : 0 < m) (more : token.count + m < length octets)
+      (x : WaitsThere old.context Place.Top rest octets token held) (pays : held_payload held ≡ Ok payload) (free : is_marker held ≡ false)
+      (rests : RestsBehind (drop token.count octets) m (past_token Place.Top rest token.kind token.count) behind)
+      (ends : ends_symbol (get_or octets (token.count + m) 0) ≡ true)
+      (does : Does leads (told [] ss) (ended (under g' l') (spot_at (rest.used + token.count) begun old.context) [] (annotated ss payload)) (Ok Gives)
+      new a b) where
+    abbrev n : ℕ
+    n = token.count
 
     abbrev waiting : Reading
-    waiting = at begun old.context [] ss (Now.Pending held.0 (rest.used + n))
+    waiting = at begun old.context [] ss (Now.Pending held (rest.used + n))
 
     abbrev past_symbol : Rest
-    past_symbol = past_token Place.Top rest kind n
-
-    abbrev past_between : Rest
-    past_between = past_blank past_symbol m
+    past_symbol = past_token Place.Top rest token.kind n
 
     waits : NoticesNothing l' waiting (rest.used + length octets)
-    waits = let fits = h.fits in waits_notices l' begun old.context ss held.0 (rest.used + n) (rest.used + length octets) (omega arith)
+    waits = let fits = h.fits in waits_notices l' begun old.context ss held (rest.used + n) (rest.used + length octets) (omega arith)
 
-    turns : turn g' l' q (token_of (lexeme_at rest kind kept n) c) ≡ goes waiting
-    turns = ap (turn_now (under g' l') q (token_at rest.used (rest.used + n) c)) now
-        ∙ waits_so (under g' l') (spot_at (rest.used + n) begun old.context) [] ss c held.0 held.1
+    turns : turn g' l' q (token_of (lexeme_at rest token.kind x.there.kept n) x.content) ≡ goes waiting
+    turns = ap (turn_now (under g' l') q (token_at rest.used (rest.used + n) x.content)) now ∙ x.waits (under g' l') (rest.used + n) begun [] ss
 
-    symbol_led : (x : Bool) → IsFound Place.Top rest octets kind kept n x
+    symbol_led : (left : Bool) → IsFound Place.Top rest octets token.kind x.there.kept n left
         → Passes g' l' (with_scan (resting rest) q) octets n (with_scan (resting past_symbol) waiting)
-    symbol_led true f = left_found g' l' q (still_settles g' l' q h.still) rest octets kind kept n c waiting says turns f (quiet n (omega arith))
-    symbol_led false f = given_found g' l' q (still_settles g' l' q h.still) rest octets kind kept n c waiting says turns f (quiet (n - 1) (omega arith))
-        (rest.used + length octets) waits (omega arith)
+    symbol_led true f =
+        left_found g' l' q (still_settles g' l' q h.still) rest octets token.kind x.there.kept n x.content waiting x.there.says turns f (quiet n (omega arith))
+    symbol_led false f =
+        given_found g' l' q (still_settles g' l' q h.still) rest octets token.kind x.there.kept n x.content waiting x.there.says turns f
+        (quiet (n - 1) (omega arith)) (rest.used + length octets) waits (omega arith)
 
-    blank_ran : run g' l' past_symbol.used (with_scan (resting past_symbol) waiting) (take m (drop n octets)) ≡ led (with_scan (resting past_between) waiting)
+    blank_ran : run g' l' past_symbol.used (with_scan (resting past_symbol) waiting) (take m (drop n octets)) ≡ led (with_scan (resting behind) waiting)
     blank_ran =
         let size = length-drop n octets in
         let few = length-take-le m (drop n octets) (omega arith) in
-        let ran = passed (place waiting) past_symbol in
-        drive g' l' (take m (drop n octets)) past_symbol.used waiting (resting past_symbol) (resting past_between) ran
-        (blank_quiet g' l' waiting (rest.used + length octets) waits (place waiting) (take m (drop n octets)) (resting past_symbol) (resting past_between) refl
+        let ran = rests.ran (place waiting) in
+        drive g' l' (take m (drop n octets)) past_symbol.used waiting (resting past_symbol) (resting behind) ran
+        (blank_quiet g' l' waiting (rest.used + length octets) waits (place waiting) (take m (drop n octets)) (resting past_symbol) (resting behind) refl
         refl ran (omega arith))
-        (inr (blank_waits g' l' waiting held.0 (rest.used + n) refl (place waiting) (take m (drop n octets)) (resting past_symbol) (resting past_between) refl refl
+        (inr (blank_waits g' l' waiting held (rest.used + n) refl (place waiting) (take m (drop n octets)) (resting past_symbol) (resting behind) refl refl
         ran))
 
     settles : settle g' l' waiting ≡ gives does.0 (reading_of new [] [])
-    settles = released_top (under g' l') (spot_at (rest.used + n) begun old.context) ss held.0 (free held.0 held.1)
-        ∙ (ap (paid (under g' l') (spot_at (rest.used + n) begun old.context) [] ss) held.2 ∙ does.1)
+    settles = released_top (under g' l') (spot_at (rest.used + n) begun old.context) ss held free
+        ∙ (ap (paid (under g' l') (spot_at (rest.used + n) begun old.context) [] ss) pays ∙ does.1)
 
-    pub word_leaves : EndsSo leads [] ss old new rest past_between octets (n + m) a b Taken.Leaves
+    word_leaves : EndsSo leads [] ss old new rest behind octets (n + m) a b Taken.Leaves
     word_leaves =
         let o = get_or octets (n + m) 0 in
-        let x = feed (place waiting) (resting past_between) o in
+        let x' = feed (place waiting) (resting behind) o in
         let again : State → Effect = λ k. takes_up g' l' 2 k o in (
           (let i : 0 < n + m = omega arith in i),
           does.0,
-          with_scan (resting past_between) waiting,
-          passes_then g' l' (with_scan (resting rest) q) (with_scan (resting past_symbol) waiting) octets n m some (symbol_led left found) ∙ blank_ran,
-          ap (λ y. if y || false then on_scan g' l' again waiting x else on_settled g' l' again (resting past_between) x (settle g' l' waiting))
-              (ends_waits (place waiting) past_between o ends)
-              ∙ ap (on_settled g' l' again (resting past_between) x) settles,
+          with_scan (resting behind) waiting,
+          passes_then g' l' (with_scan (resting rest) q) (with_scan (resting past_symbol) waiting) octets n m some (symbol_led token.left x.there.found)
+              ∙ blank_ran,
+          ap (λ y. if y || false then on_scan g' l' again waiting x' else on_settled g' l' again (resting behind) x' (settle g' l' waiting))
+              (ends_waits (place waiting) behind o ends)
+              ∙ ap (on_settled g' l' again (resting behind) x') settles,
           does.2,
         )
 
   -- a long string and the blank behind it, where the octet behind them shows that no segment follows
-  pub long_leaves : (count : ℕ) (after : Rest) (text : List ℕ) → LongThere Place.Top rest octets count after text
+  long_leaves : (count : ℕ) (after : Rest) (text : List ℕ) → LongThere Place.Top rest octets count after text
       → Does leads (told [] ss) (ended (under g' l') (spot_at after.used begun old.context) [] (annotated ss (payloads.Str text))) (Ok Gives) new a b
       → EndsSo leads [] ss old new rest after octets count a b Taken.Leaves
   long_leaves count after text x does =
@@ -219,7 +234,7 @@ module _ {V : Type 0} (leads : V → Event → V → Type 0) (old new : TextWalk
       let s = x.segments.leads g' l' old.start old.context ss [] refl fits in
       let early = s.1 in
       let v = annotated ss (payloads.Str text) in
-      let free = text_free ss text in
+      let free = no_table ss (payloads.Str text) (text_flat text) in
       let waiting = at begun old.context [] ss (Now.Long text s.0) in
       let o = get_or octets count 0 in
       let known = feed (place waiting) (resting after) o in
@@ -240,104 +255,121 @@ module _ {V : Type 0} (leads : V → Event → V → Type 0) (old new : TextWalk
 
 -- what each token answers, from what its method does
 module _ {V : Type 0} (leads : V → Event → V → Type 0) where
-  pub ends_none : (r : TextWalk) (rest : Rest) (octets : List ℕ) (a : V) → EndsBy leads r r rest rest octets (Ok (0, Taken.Uses)) a a
-  ends_none r rest octets a =
-      let x = strode_none leads r rest octets a in
-      record { ended = record { leads = x.leads; within = x.within; used = x.used }; memory = tt; same = settings_none r }
+  pub container_answer : (old new : TextWalk) (rest after : Rest) (octets : List ℕ) (a b : V) (same : SameSetting old new) (here : Place) (x : Bracket)
+      → after ≡ past_token here rest (TokenKind.Mark (close_mark x)) 1 → 1 < length octets → get_or octets 0 0 ≡ close_octet x
+      → ((fs : List Frame) (ss : Symbols) → Holds old fs ss → (closes x fs old.stage ≡ true) × (ss ≡ [])) → IsHere old here
+      → ((fs : List Frame) → Holds old fs [] → Does leads (told fs []) (closed x (setting_of old) (spot_of old after.used) fs) (Ok Gives) new a b)
+      → EndsBy leads old new rest after octets (Ok (1, Taken.Tells)) a b
+  container_answer old new rest after octets a b same here x there more first fits is does =
+      ends_so leads old new rest after octets 1 Taken.Tells a b
+      (λ fs ss h.
+      let k = fits fs ss h.holds in
+      subst (λ r. EndsSo leads fs ss old new rest r octets 1 a b Taken.Tells) (sym there)
+      (close_ends leads old new rest octets a b fs ss h here x more k.1 first k.0 (is fs ss h.holds)
+      (subst (λ ns. Does leads (told fs ns) (closed x (setting_of old) (spot_of old (rest.used + 1)) fs) (Ok Gives) new a b) (sym k.1)
+      (subst (λ (r : Rest). Does leads (told fs []) (closed x (setting_of old) (spot_of old r.used) fs) (Ok Gives) new a b) there
+      (does fs (subst (λ ns. Holds old fs ns) k.1 h.holds)))))) more (ap (λ (r : Rest). r.used) there) same
 
-  pub ends_so : (old new : TextWalk) (before after : Rest) (octets : List ℕ) (count : ℕ) (t : Taken) (a b : V)
-      → ((fs : List Frame) (ss : Symbols) → Ahead old fs ss before (length octets) → EndsSo leads fs ss old new before after octets count a b t)
-      → count < length octets → after.used ≡ before.used + count → SameSetting old new → EndsBy leads old new before after octets (Ok (count, t)) a b
-  ends_so old new before after octets count t a b h within used same =
-      record { ended = record { leads = h; within = omega arith; used = used }; memory = tt; same = same }
+  -- a method did what ends such a value at `end`, of an item that begins at `start`
+  abbrev pub EndsAt : TextWalk → TextWalk → V → V → Payload → ℕ → ℕ → List Frame → Symbols → Result Turned Reason → Type 0
+  EndsAt old new a b payload end start fs ss x =
+      Does leads (told fs ss) (ended (under old.catalog.now old.limits) (spot_at end start old.context) fs (annotated ss payload)) x new a b
 
-  -- what goes on ends no value
-  pub strides_ends : (old new : TextWalk) (before after : Rest) (octets : List ℕ) (count : ℕ) (a b : V)
-      → StridesBy leads old new before after octets (Ok count) a b → EndsBy leads old new before after octets (Ok (count, Taken.Uses)) a b
-  strides_ends old new before after octets count a b x =
-      record { ended = record { leads = x.strode.leads; within = x.strode.within; used = x.strode.used }; memory = tt; same = x.same }
+  -- a token with which a value ends, which begins an item where no container is open
+  module _ (old new : TextWalk) (rest after : Rest) (octets : List ℕ) (a b : V) (k : ℕ) (s : SameSetting (begun_with old k) new) (begins : IsBegun old rest k)
+      (here : Place) (is : IsHere old here) (t : Takes Now.Ready old rest octets) (payload : Payload)
+      (flat : (fs : List Frame) (ss : Symbols) → Holds old fs ss → is_top fs ≡ true → IsFlat payload) where
+    abbrev Ends : ℕ → ℕ → List Frame → Symbols → Result Turned Reason → Type 0
+    Ends end start fs ss x = EndsAt old new a b payload end start fs ss x
 
-  pub ends_strode : (old new : TextWalk) (before after : Rest) (octets : List ℕ) (count : ℕ) (t : Taken) (a b : V) → t ≡ Taken.Uses
-      → EndsBy leads old new before after octets (Ok (count, t)) a b → Strode leads old new before after octets count a b
-  ends_strode old new before after octets count t a b is x =
-      let y = subst (λ t. Ended leads old new before after octets (count, t) a b) is x.ended in
-      record { leads = y.leads; within = y.within; used = y.used }
+    -- in a container it goes on, and ends an item of the top level elsewhere
+    module _ (end n : ℕ) (more : n < length octets) (used : after.used ≡ rest.used + n)
+        (inner : (fs : List Frame) (ss : Symbols) → Ahead old fs ss rest (length octets) → is_top fs ≡ false → Ends end old.start fs ss (Ok Goes)
+        → StrodeFrom leads fs ss old new rest after octets n a b) where
+      begun_so : (x : Result Turned Reason) (fs : List Frame) (ss : Symbols) → Holds old fs ss → Ends end k fs ss x
+          → Ends end (begun_at old.start rest.used fs ss) fs ss x
+      begun_so x fs ss h d = subst (λ i. Ends end i fs ss x) (begins fs ss h) d
 
-  module _ (old new : TextWalk) (rest : Rest) (octets : List ℕ) (a b : V) (same : SameSetting old new) where
-    abbrev g'' : Catalog
-    g'' = old.catalog.now
+      goes_in : (fs : List Frame) (ss : Symbols) → Ahead old fs ss rest (length octets) → Ends end (begun_at old.start rest.used fs ss) fs ss (Ok Goes)
+          → StrodeFrom leads fs ss old new rest after octets n a b
+      goes_in [] ss h d = absurd (no_goes (under old.catalog.now old.limits) (spot_at end (begun_at old.start rest.used [] ss) old.context) (annotated ss payload)
+          (reading_of new d.0 d.1) (no_table ss payload (flat [] ss h.holds refl)) d.2)
+      goes_in (f ∷ fs) ss h d = inner (f ∷ fs) ss h refl d
 
-    abbrev l'' : Limits
-    l'' = old.limits
+      abbrev AtTop : Taken → Type 0
+      AtTop e = (ss : Symbols) → Ahead old [] ss rest (length octets) → Ends end (begun_at old.start rest.used [] ss) [] ss (Ok Gives)
+          → EndsSo leads [] ss old new rest after octets n a b e
 
-    pub container_answer : (here : Place) (x : Bracket) → 1 < length octets → get_or octets 0 0 ≡ close_octet x
-        → ((fs : List Frame) (ss : Symbols) → Holds old fs ss → (closes x fs old.stage ≡ true) × (ss ≡ []))
-        → ((fs : List Frame) (ss : Symbols) → Holds old fs ss → here ≡ place (reading_of old fs ss))
-        → ((fs : List Frame) → Holds old fs [] → Does leads (told fs []) (closed x (under g'' l'') (spot_at (rest.used + 1) old.start old.context) fs) (Ok Gives)
-        new a b)
-        → EndsBy leads old new rest (past_token here rest (TokenKind.Mark (close_mark x)) 1) octets (Ok (1, Taken.Tells)) a b
-    container_answer here x more first fits is does =
-        ends_so old new rest (past_token here rest (TokenKind.Mark (close_mark x)) 1) octets 1 Taken.Tells a b
-        (λ fs ss h.
-        let k = fits fs ss h.holds in
-        close_ends leads old new rest octets a b fs ss h here x more k.1 first k.0 (is fs ss h.holds)
-        (subst (λ ns. Does leads (told fs ns) (closed x (under g'' l'') (spot_at (rest.used + 1) old.start old.context) fs) (Ok Gives) new a b) (sym k.1)
-        (does fs (subst (λ ns. Holds old fs ns) k.1 h.holds)))) more refl same
+      gives_out : (e : Taken) → AtTop e → (fs : List Frame) (ss : Symbols) → Ahead old fs ss rest (length octets)
+          → Ends end (begun_at old.start rest.used fs ss) fs ss (Ok Gives) → EndsSo leads fs ss old new rest after octets n a b e
+      gives_out e top [] ss h d = top ss h d
+      gives_out e top (f ∷ fs) ss h d = absurd (no_gives (under old.catalog.now old.limits) (spot_at end old.start old.context) f fs (annotated ss payload) d.0
+          (reading_of new [] []) d.1)
 
-    -- no container is open, and such a value of the top level ended with the token
-    abbrev TopDoes : ℕ → Payload → Type 0
-    TopDoes n payload = (fs : List Frame) (ss : Symbols) → Holds old fs ss
-        → Does leads (told fs ss) (ended (under g'' l'') (spot_at (rest.used + n) (begun_at old.start rest.used fs ss) old.context) fs (annotated ss payload))
-        (Ok Gives) new a b
+      value_so : (x : Result Turned Reason) (left : Bool) → AtTop (if left then Taken.Leaves else Taken.Tells)
+          → ((fs : List Frame) (ss : Symbols) → Holds old fs ss → Ends end k fs ss x) → EndsBy leads old new rest after octets (value_took x n left) a b
+      value_so (Ok Goes) left top does =
+          ends_so leads old new rest after octets n Taken.Uses a b
+          (λ fs ss h. goes_in fs ss h (begun_so (Ok Goes) fs ss h.holds (does fs ss h.holds))) more used (settings_begun old new k s)
+      value_so (Ok Gives) true top does =
+          ends_so leads old new rest after octets n Taken.Leaves a b
+          (λ fs ss h. gives_out Taken.Leaves top fs ss h (begun_so (Ok Gives) fs ss h.holds (does fs ss h.holds))) more used (settings_begun old new k s)
+      value_so (Ok Gives) false top does =
+          ends_so leads old new rest after octets n Taken.Tells a b
+          (λ fs ss h. gives_out Taken.Tells top fs ss h (begun_so (Ok Gives) fs ss h.holds (does fs ss h.holds))) more used (settings_begun old new k s)
+      value_so (Ok (Late e)) left top does = record { ended = tt; memory = refl; same = settings_begun old new k s }
+      value_so (Err e) left top does = record { ended = tt; memory = refl; same = settings_begun old new k s }
 
-    abbrev IsTop : Type 0
-    IsTop = (fs : List Frame) (ss : Symbols) → Holds old fs ss → is_top fs ≡ true
+    -- a token that is a value at once
+    pub value_answer : (token : FoundToken) (x : Result Turned Reason) → after ≡ past_token here rest token.kind token.count → token.count < length octets
+        → ((fs : List Frame) (ss : Symbols) → Holds old fs ss → BeginsValue false here rest octets token payload)
+        → ((fs : List Frame) (ss : Symbols) → Holds old fs ss → Ends after.used k fs ss x)
+        → EndsBy leads old new rest after octets (value_took x token.count token.left) a b
+    value_answer token x there more begins' does =
+        let used = ap (λ (r : Rest). r.used) there in
+        value_so (rest.used + token.count) token.count more used
+        (λ fs ss h inner d.
+        let v = begins' fs ss h.holds in
+        subst (λ r. StrodeFrom leads fs ss old new rest r octets token.count a b) (sym there)
+        (value_strode leads old new rest octets a b fs ss h (settings_begun old new k s) here token.kind v.kept token.count token.left v.content payload more
+        t.stage inner (is fs ss h.holds) v.found v.says v.is d)) x token.left
+        (λ ss h d.
+        let v = begins' [] ss h.holds in
+        subst (λ r. EndsSo leads [] ss old new rest r octets token.count a b (if token.left then Taken.Leaves else Taken.Tells)) (sym there)
+        (value_ends leads old new rest octets a b ss h t.stage here token.kind v.kept token.count token.left v.content payload (is [] ss h.holds) v.found v.says
+        v.is d))
+        (λ fs ss h. subst (λ end. Ends end k fs ss x) used (does fs ss h))
 
-    pub leaves_answer : (token : FoundToken) (payload : Payload) → token.left ≡ true → token.count < length octets → old.stage ≡ Now.Ready → IsTop
-        → BeginsValue false Place.Top rest octets token payload → TopDoes token.count payload
-        → EndsBy leads old new rest (past_token Place.Top rest token.kind token.count) octets (Ok (token.count, Taken.Leaves)) a b
-    leaves_answer token payload left more now top x does =
-        ends_so old new rest (past_token Place.Top rest token.kind token.count) octets token.count Taken.Leaves a b
-        (λ fs ss h. top_only (λ fs. Ahead old fs ss rest (length octets)
-        → EndsSo leads fs ss old new rest (past_token Place.Top rest token.kind token.count) octets token.count a b Taken.Leaves) fs (top fs ss h.holds)
-        (λ h. value_leaves leads old new rest octets a b ss h now token.kind x.kept token.count x.content payload
-        (subst (λ w. IsFound Place.Top rest octets token.kind x.kept token.count w) left x.found) x.says x.is (does [] ss h.holds)) h) more refl same
+    -- a symbol, null or truth, and the blank behind it
+    pub word_answer : (token : FoundToken) (m : ℕ) (held : Held) (x : Result Turned Reason) → token.count + m < length octets
+        → ((fs : List Frame) (ss : Symbols) → Holds old fs ss → is_top fs ≡ true → 0 < m)
+        → WaitsThere old.context here rest octets token held → held_payload held ≡ Ok payload → is_marker held ≡ false
+        → RestsBehind (drop token.count octets) m (past_token here rest token.kind token.count) after
+        → ends_symbol (get_or octets (token.count + m) 0) ≡ true
+        → ((fs : List Frame) (ss : Symbols) → Holds old fs ss → Ends (rest.used + token.count) k fs ss x)
+        → EndsBy leads old new rest after octets (value_took x (token.count + m) true) a b
+    word_answer token m held x more some waits pays free rests ends does =
+        let used = rests.used in
+        value_so (rest.used + token.count) (token.count + m) more (omega arith)
+        (λ fs ss h inner d. word_strode leads old new rest octets a b fs ss h (settings_begun old new k s) here token m after held payload more t.stage inner
+        (is fs ss h.holds) waits pays rests ends d) x true
+        (λ ss h d. word_leaves leads old new rest octets a b ss h t.stage token m after held payload (some [] ss h.holds refl) more
+        (subst (λ p. WaitsThere old.context p rest octets token held) (is [] ss h.holds) waits) pays free
+        (subst (λ p. RestsBehind (drop token.count octets) m (past_token p rest token.kind token.count) after) (is [] ss h.holds) rests) ends d) does
 
-    pub tells_answer : (token : FoundToken) (payload : Payload) → token.left ≡ false → token.count < length octets → old.stage ≡ Now.Ready → IsTop
-        → BeginsValue false Place.Top rest octets token payload → TopDoes token.count payload
-        → EndsBy leads old new rest (past_token Place.Top rest token.kind token.count) octets (Ok (token.count, Taken.Tells)) a b
-    tells_answer token payload left more now top x does =
-        ends_so old new rest (past_token Place.Top rest token.kind token.count) octets token.count Taken.Tells a b
-        (λ fs ss h. top_only (λ fs. Ahead old fs ss rest (length octets)
-        → EndsSo leads fs ss old new rest (past_token Place.Top rest token.kind token.count) octets token.count a b Taken.Tells) fs (top fs ss h.holds)
-        (λ h. value_tells leads old new rest octets a b ss h now token.kind x.kept token.count x.content payload
-        (subst (λ w. IsFound Place.Top rest octets token.kind x.kept token.count w) left x.found) x.says x.is (does [] ss h.holds)) h) more refl same
-
-    pub word_ends_answer : (s : Scalar) (m : ℕ) (payload : Payload) → FoundSymbol Place.Top rest octets s payload → 0 < m
-        → s.token.count + m < length octets → old.stage ≡ Now.Ready → IsTop → IsPassed (drop s.token.count octets) m
-        → ends_symbol (get_or octets (s.token.count + m) 0) ≡ true → TopDoes s.token.count payload
-        → EndsBy leads old new rest (past_blank (past_token Place.Top rest s.token.kind s.token.count) m) octets (Ok (s.token.count + m, Taken.Leaves)) a b
-    word_ends_answer s m payload f some more now top passed ends does =
-        let content = f.part.token.content in
-        let pays : Pays (held_of content) payload =
-        subst (λ q. IsValue true content q) f.part.is (subst (λ w. IsValue w content f.part.token.payload) f.waits f.part.token.is) in
-        let used = blank_used (past_token Place.Top rest s.token.kind s.token.count) m in
-        let after = past_blank (past_token Place.Top rest s.token.kind s.token.count) m in
-        ends_so old new rest after octets (s.token.count + m) Taken.Leaves a b
-        (λ fs ss h. top_only (λ fs. Ahead old fs ss rest (length octets)
-        → EndsSo leads fs ss old new rest after octets (s.token.count + m) a b Taken.Leaves) fs (top fs ss h.holds)
-        (λ h. word_leaves leads old new rest octets a b ss h now s.token.kind f.part.token.kept s.token.count m s.token.left content payload some
-        more f.part.token.found f.part.token.says passed ends pays f.free (does [] ss h.holds)) h) more (omega arith) same
-
-    pub long_ends_answer : (count : ℕ) (after : Rest) (text : List ℕ) → old.stage ≡ Now.Ready → IsTop → LongThere Place.Top rest octets count after text
-        → ((fs : List Frame) (ss : Symbols) → Holds old fs ss
-        → Does leads (told fs ss) (ended (under g'' l'') (spot_at after.used (begun_at old.start rest.used fs ss) old.context) fs
-        (annotated ss (payloads.Str text))) (Ok Gives) new a b)
-        → EndsBy leads old new rest after octets (Ok (count, Taken.Leaves)) a b
-    long_ends_answer count after text now top x does =
-        ends_so old new rest after octets count Taken.Leaves a b
-        (λ fs ss h. top_only (λ fs. Ahead old fs ss rest (length octets) → EndsSo leads fs ss old new rest after octets count a b Taken.Leaves) fs
-        (top fs ss h.holds) (λ h. long_leaves leads old new rest octets a b ss h now count after text x (does [] ss h.holds)) h) x.more x.segments.used same
+  -- a long string
+  pub long_answer : (old new : TextWalk) (rest after : Rest) (octets : List ℕ) (a b : V) (k : ℕ) (s : SameSetting (begun_with old k) new)
+      (begins : IsBegun old rest k) (here : Place) (is : IsHere old here) (t : Takes Now.Ready old rest octets) (count : ℕ) (text : List ℕ)
+      (x : Result Turned Reason) → LongThere here rest octets count after text
+      → ((fs : List Frame) (ss : Symbols) → Holds old fs ss
+      → EndsAt old new a b (payloads.Str text) after.used k fs ss x)
+      → EndsBy leads old new rest after octets (value_took x count true) a b
+  long_answer old new rest after octets a b k s begins here is t count text x long does =
+      value_so old new rest after octets a b k s begins here is t (payloads.Str text) (λ fs ss h top. text_flat text) after.used count long.more long.segments.used
+      (λ fs ss h inner d. long_strode leads old new rest octets a b fs ss h (settings_begun old new k s) here count after text t.stage inner (is fs ss h.holds)
+      long d) x true
+      (λ ss h d. long_leaves leads old new rest octets a b ss h t.stage count after text
+      (subst (λ p. LongThere p rest octets count after text) (is [] ss h.holds) long) d) does
 
   -- behind octets that give nothing
   module _ (old mid new : TextWalk) (r s t : Rest) (octets behind : List ℕ) (i j : ℕ) (a m b : V) (is : behind ≡ drop i octets) (same : SameSetting old mid)
@@ -364,8 +396,7 @@ module _ {V : Type 0} (leads : V → Event → V → Type 0) where
 
     pub ended_on : (e : Taken) → Ended leads mid new s t behind (j, e) m b → Ended leads old new r t octets (i + j, e) a b
     ended_on Taken.Uses y =
-        let z = strode_on leads old mid new r s t octets behind i j a m b is same x (record { leads = y.leads; within = y.within; used = y.used }) in
-        record { leads = z.leads; within = z.within; used = z.used }
+        strode_on leads old mid new r s t octets behind i j a m b is same x y
     ended_on Taken.Tells y =
         let size : length behind ≡ length octets - i = ap (λ (w : List ℕ). length w) is ∙ length-drop i octets in
         let within = x.within in
@@ -425,14 +456,6 @@ module _ {V : Type 0} (leads : V → Event → V → Type 0) (old mid new : Text
   ends_on octets behind i j a m b is same x e y =
       record { ended = ended_on leads old mid new r s t octets behind i j a m b is same x e y.ended; memory = tt; same = settings_on old mid new same y.same }
 
-  -- behind no octets
-  pub ends_there : (octets : List ℕ) (a m b : V) → StridesBy leads old mid r s octets (Ok 0) a m → (x : Result (ℕ × Taken) Reason)
-      → EndsBy leads mid new s t octets x m b → EndsBy leads old new r t octets x a b
-  ends_there octets a m b went (Ok e) y =
-      let none : 0 + e.0 ≡ e.0 = omega arith in
-      subst (λ n. EndsBy leads old new r t octets (Ok (n, e.1)) a b) none (ends_on octets octets 0 e.0 a m b refl went.same went.strode e.1 y)
-  ends_there octets a m b went (Err e) y = record { ended = tt; memory = y.memory; same = settings_on old mid new went.same y.same }
-
 get_there : (j k : ℕ) (w : List ℕ) → j < k → get_or (take k w) j 0 ≡ get_or w j 0
 get_there j k w h = grind (arith, common_steps)
 
@@ -444,8 +467,7 @@ module _ {V : Type 0} (leads : V → Event → V → Type 0) (old mid : TextWalk
   pub took_there : (e : Taken) → Ended leads old mid first behind octets (count, e) a b
       → (fs : List Frame) (ss : Symbols) → Holds old fs ss → TookSo leads fs ss old (with_moved mid moved) piece count a b e
   took_there Taken.Uses y =
-      strides_there leads old mid moved first behind piece octets most count a b is some rests there still fits
-      (record { leads = y.leads; within = y.within; used = y.used })
+      strides_there leads old mid moved first behind piece octets most count a b is some rests there still fits y
   took_there Taken.Tells y = λ fs ss h.
       let two = y.leads fs ss (record { holds = h; still = still; fits = fits fs ss h }) in
       let within = y.within in

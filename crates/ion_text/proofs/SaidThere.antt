@@ -1,6 +1,7 @@
 -- What tokens say that lie whole in a piece, for a reader that holds no values.
+use Rattle.std.specs.Prelude.{IfSome}
 use Rattle.std.proofs.Common.{◌≡◌, ℕ, Bool, true, false, List, Option, Some, Ok, refl, ap, sym, subst}
-use Rattle.ion_text.specs.Names.{BeginsName, BeginsValue, FoundNumber, FoundPart, FoundToken, Held, Id, IsValue, NameThere, Now, Number, Number', Payload, Place, Rest, SaysThere, Scalar, Slot, SymbolThere, TokenKind, WaitsThere, at, goes, held_of, held_payload, id_of, keyed, number_payload, resolve, resolved, said, spot_at, takes_colon, word_said}
+use Rattle.ion_text.specs.Names.{BeginsName, BeginsValue, FoundNumber, FoundPart, FoundSymbol, FoundToken, Held, Id, IsValue, NameThere, Now, Number, Number', Payload, Place, Rest, SaysThere, Scalar, Slot, TokenKind, WaitsThere, at, goes, held_of, held_payload, id_of, is_marker, keyed, number_payload, resolve, resolved, said, spot_at, takes_colon, word_said}
 use Rattle.ion_text.proofs.Symbols.{held_in, name_colon, names_so, symbol_colon, waits_so}
 
 -- a part that was found is such a value
@@ -23,19 +24,35 @@ number_begins p r octets token n f =
     record { kept = f.kept; content = Number' n; found = f.found; says = f.says; is = λ setting spot fs ss. refl }
 
 -- what may be an annotation waits for `::`
-pub begins_waits : (slots : List Slot) (p : Place) (r : Rest) (octets : List ℕ) (token : FoundToken) (payload : Payload)
-    → BeginsValue true p r octets token payload → (held : Held) × WaitsThere slots p r octets token held × (held_payload held ≡ Ok payload)
-begins_waits slots p r octets token payload b =
-    let pays = held_in (held_of b.content) payload b.is in (
-      pays.0,
-      record {
-        content = b.content;
-        there = record { kept = b.kept; found = b.found; says = b.says };
-        may = symbol_colon p token.kind b.kept b.content pays.0 b.says pays.1;
-        waits = λ setting end start fs ss. waits_so setting (spot_at end start slots) fs ss b.content pays.0 pays.1;
-      },
-      pays.2,
-    )
+module _ (slots : List Slot) (p : Place) (r : Rest) (octets : List ℕ) (token : FoundToken) (payload : Payload) where
+  pub begins_waits : (b : BeginsValue true p r octets token payload) → (held : Held) × WaitsThere slots p r octets token held
+      × (held_payload held ≡ Ok payload) × (held_of b.content ≡ Some held)
+  begins_waits b =
+      let pays = held_in (held_of b.content) payload b.is in (
+        pays.0,
+        record {
+          content = b.content;
+          there = record { kept = b.kept; found = b.found; says = b.says };
+          may = symbol_colon p token.kind b.kept b.content pays.0 b.says pays.1;
+          waits = λ setting end start fs ss. waits_so setting (spot_at end start slots) fs ss b.content pays.0 pays.1;
+        },
+        pays.2,
+        pays.1,
+      )
+
+-- a symbol, null or truth, which is no version marker
+pub symbol_waits : (slots : List Slot) (p : Place) (r : Rest) (octets : List ℕ) (s : Scalar) (payload : Payload) → FoundSymbol p r octets s payload
+    → (held : Held) × WaitsThere slots p r octets s.token held × (held_payload held ≡ Ok payload) × (is_marker held ≡ false)
+symbol_waits slots p r octets s payload f =
+    let t = f.part.token in
+    let x = begins_waits slots p r octets s.token payload (record {
+      kept = t.kept;
+      content = t.content;
+      found = t.found;
+      says = t.says;
+      is = subst (λ q. IsValue true t.content q) f.part.is (subst (λ b. IsValue b t.content t.payload) f.waits t.is);
+    }) in
+    (x.0, x.1, x.2, subst (λ o. IfSome o (λ h. is_marker h ≡ false)) x.3 f.free)
 
 -- a field's name that is no id
 pub begins_name : (slots : List Slot) (r : Rest) (octets : List ℕ) (token : FoundToken) (name : Option (List ℕ))
@@ -55,16 +72,12 @@ id_said w id e = ap (word_said w) (sym e)
 -- a symbol's id
 module _ (slots : List Slot) (r : Rest) (octets : List ℕ) (token : FoundToken) (id : ℕ) (s : Option (List ℕ)) (word : token.kind ≡ TokenKind.Word)
     (is : resolve slots id ≡ Ok s) where
-  pub id_waits : (p : Place) → SaysThere p r octets token (Id id) → SymbolThere slots p r octets token s
+  pub id_waits : (p : Place) → SaysThere p r octets token (Id id) → WaitsThere slots p r octets token (Held.Symbol s)
   id_waits p x = record {
-    held = Held.Symbol s;
-    there = record {
-      content = Id id;
-      there = x;
-      may = ap (takes_colon p) word;
-      waits = λ setting end start fs ss. ap (λ k. resolved k (λ s. goes (at start slots fs ss (Now.Pending (Held.Symbol s) end)))) is;
-    };
-    is = refl;
+    content = Id id;
+    there = x;
+    may = ap (takes_colon p) word;
+    waits = λ setting end start fs ss. ap (λ k. resolved k (λ s. goes (at start slots fs ss (Now.Pending (Held.Symbol s) end)))) is;
   }
 
   pub id_names : SaysThere Place.Name r octets token (Id id) → NameThere slots r octets token s

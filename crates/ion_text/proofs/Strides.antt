@@ -1,10 +1,10 @@
 -- Tokens that a reader without values takes up at once, one behind the other.
-use Rattle.std.proofs.Common.{◌≡◌, ◌≢◌, ℕ, ◌+◌, ◌-◌, ◌<◌, ◌≤◌, Bool, true, false, List, [], ◌∷◌, ◌++◌, length, take, drop, get_or, Option, Ok, refl, ap, sym, ◌∙◌, subst, arith, length-drop, ◌⊎◌, inl, inr}
+use Rattle.std.proofs.Common.{◌≡◌, ◌≢◌, ℕ, ◌+◌, ◌-◌, ◌<◌, ◌≤◌, Bool, true, false, List, [], ◌∷◌, ◌++◌, length, take, drop, get_or, Option, Result, Ok, Err, refl, ap, sym, ◌∙◌, subst, arith, length-drop, ◌⊎◌, inl, inr}
 use Rattle.std.specs.Prelude.{if◌then◌else◌, nat_lt}
 use Rattle.std.proofs.lemmas.Bool.Decides.{nat_tests}
 use Rattle.std.proofs.lemmas.Grind.{common_steps}
 use Rattle.std.proofs.lemmas.List.{length-map, length-reverse, length-take}
-use Rattle.ion_text.specs.Names.{Ahead, AreAround, AreOpen, BeginsValue, Bracket, Catalog, Content, Does, DoesAlone, EndsAtOnce, Event, FoundNote, FoundToken, Frame, Goes, Held, Holds, IsCalm, IsFound, IsPassed, IsStill, Known, Limits, Listing, Mark, Mark', NameThere, Now, OpensAt, Passes, Payload, Place, Reading, Rest, RestsBehind, SameSetting, Scanner, Slot, Strides, StridesBy, Strode, StrodeFrom, SymbolThere, Symbols, TextWalk, TokenKind, Turn, WaitsThere, WentOn, annotated, at, before_end, begun_at, behind_note, beyond_depth, bracket_of, brackets_of, calm, close_mark, close_octet, closed, closes, ended, ends_symbol, first_now, goes, heard, held_payload, is_name, is_top, lexeme_at, named, on_comma, open_brackets, open_mark, opened, opening, past_blank, past_token, place, place_in, reading_of, resting, resting_at, said, scanned, spot_at, takes_colon, token_of, told, turn, under, with_scan}
+use Rattle.ion_text.specs.Names.{Ahead, AreAround, AreOpen, Bracket, Catalog, Content, Does, DoesAlone, EndsAtOnce, EndsBy, EndsSo, Event, FoundNote, FoundToken, Frame, Gives, Goes, Held, Holds, IsCalm, IsFound, IsHere, IsPassed, IsStill, Known, Late, Limits, Listing, Mark, Mark', NameThere, Now, OpensAt, Passes, Payload, Place, Reading, Reason, Rest, RestsBehind, SameSetting, Scanner, Slot, Strides, Strode, StrodeFrom, SymbolThere, Symbols, Taken, Takes, TextWalk, TokenKind, Turn, Turned, WaitsThere, WentOn, annotated, at, before_end, begun_at, behind_note, beyond_depth, bracket_of, brackets_of, calm, close_mark, close_octet, closed, closes, ended, ends_symbol, first_now, goes, heard, held_payload, is_name, is_top, lexeme_at, named, on_comma, only_goes, open_brackets, open_mark, opened, opening, past_blank, past_token, place, place_in, reading_of, resting, resting_at, said, scanned, setting_of, spot_at, spot_of, takes_colon, token_of, told, turn, under, with_scan}
 use Rattle.ion_model.specs.declared.value.Payload.TheVariants as payloads
 use Rattle.ion_tokens.proofs.runs.WholeTokens.{comma_found}
 use Rattle.ion_visiting.specs.laws.Filters.{hears_both, hears_none}
@@ -31,6 +31,32 @@ settings_on a b c h k = record {
 
 pub settings_none : (a : TextWalk) → SameSetting a a
 settings_none a = record { catalog = refl; limits = refl; scanner = refl; awaited = refl; failed = refl }
+
+-- a reader whose open item begins there
+abbrev pub begun_with : TextWalk → ℕ → TextWalk
+begun_with r k = record {
+  alloc = r.alloc;
+  catalog = r.catalog;
+  limits = r.limits;
+  scanner = r.scanner;
+  beside = r.beside;
+  recent = r.recent;
+  start = k;
+  context = r.context;
+  frames = r.frames;
+  noted = r.noted;
+  stage = r.stage;
+  filter = r.filter;
+  awaited = r.awaited;
+  failed = r.failed;
+}
+
+-- the item of a token begins there that begins where the scanner rests
+abbrev pub IsBegun : TextWalk → Rest → ℕ → Type 0
+IsBegun r rest k = (fs : List Frame) (ss : Symbols) → Holds r fs ss → k ≡ begun_at r.start rest.used fs ss
+
+pub settings_begun : (old new : TextWalk) (k : ℕ) → SameSetting (begun_with old k) new → SameSetting old new
+settings_begun old new k h = record { catalog = h.catalog; limits = h.limits; scanner = h.scanner; awaited = h.awaited; failed = h.failed }
 
 -- where a container is open an item begins where it began
 begun_inner : (start begin : ℕ) (fs : List Frame) (ss : Symbols) → is_top fs ≡ false → begun_at start begin fs ss ≡ start
@@ -240,31 +266,6 @@ module _ {V : Type 0} (takes : V → Event → V → Type 0) where
         (token_passes old.catalog.now old.limits r open_there h.still rest octets kind kept n c q says (turns ∙ e) (omega arith) there left
         (subst (λ p. IsFound p rest octets kind kept n left) is found) may))
 
-    -- a comma
-    pub comma_strode : (here : Place) → old.stage ≡ Now.After → 1 < length octets → get_or octets 0 0 ≡ 44 → is_top fs ≡ false → here ≡ place r
-        → Does takes (told fs ss) (on_comma old.start old.context fs) (Ok Goes) new a b
-        → StrodeFrom takes fs ss old new rest (past_token here rest (TokenKind.Mark Mark.Comma) 1) octets 1 a b
-    comma_strode here now more first open_there is does =
-        token_strode here (TokenKind.Mark Mark.Comma) [] 1 false (Mark' Mark.Comma) (on_comma old.start old.context fs) more open_there is
-        (comma_found here rest octets (omega arith) first) (mark_says Mark.Comma)
-        (after_turns old.catalog.now old.limits r (lexeme_at rest (TokenKind.Mark Mark.Comma) [] 1) (Mark' Mark.Comma) now)
-        (λ q e. comma_stays (under old.catalog.now old.limits) (spot_at 0 old.start old.context) q fs e) (inr refl) does
-
-    -- a close of a container that stands in another
-    pub close_strode : (here : Place) (x : Bracket) → 1 < length octets → 1 < length fs → ss ≡ [] → get_or octets 0 0 ≡ close_octet x
-        → closes x fs old.stage ≡ true → is_top fs ≡ false → here ≡ place r
-        → Does takes (told fs ss) (closed x (under old.catalog.now old.limits) (spot_at (rest.used + 1) old.start old.context) fs) (Ok Goes) new a b
-        → StrodeFrom takes fs ss old new rest (past_token here rest (TokenKind.Mark (close_mark x)) 1) octets 1 a b
-    close_strode here x more nested bare first fits open_there is does =
-        let k = closing old.catalog.now old.limits rest.used (rest.used + 1) old.start old.context x fs old.stage fits in
-        token_strode here (TokenKind.Mark (close_mark x)) [] 1 false (Mark' (close_mark x))
-        (closed x (under old.catalog.now old.limits) (spot_at (rest.used + 1) old.start old.context) fs) more open_there is
-        (subst (λ p. IsFound p rest octets (TokenKind.Mark (close_mark x)) [] 1 false) (sym is)
-        (close_found x fs old.stage rest octets fits (omega arith) first)) (mark_says (close_mark x))
-        (ap (λ ns. turn old.catalog.now old.limits (at old.start old.context fs ns old.stage) (token_of (lexeme_at rest (TokenKind.Mark (close_mark x)) [] 1)
-        (Mark' (close_mark x)))) bare ∙ k.0)
-        (λ q e. close_stays (under old.catalog.now old.limits) (spot_at (rest.used + 1) old.start old.context) q x fs nested e) (inr refl) does
-
     -- a token that is a value at once
     pub value_strode : (here : Place) (kind : TokenKind) (kept : List ℕ) (n : ℕ) (left : Bool) (c : Content) (payload : Payload) → n < length octets
         → old.stage ≡ Now.Ready → is_top fs ≡ false → here ≡ place r → IsFound here rest octets kind kept n left → said kind kept ≡ Ok c
@@ -302,33 +303,6 @@ module _ {V : Type 0} (takes : V → Event → V → Type 0) where
         held (subst (λ p. takes_colon p token.kind ≡ true) is x.may) (x.waits setting (rest.used + n) old.start fs ss) after
         (subst (λ p. RestsBehind (drop n octets) m (past_token p rest token.kind n) after) is rests) q payload pays e ends)
 
-    -- an annotation in a container, the blank behind it and `::`
-    pub symbol_note_strode : (here : Place) (token : FoundToken) (m : ℕ) (s : Option (List ℕ)) → token.count + m + 2 < length octets → old.stage ≡ Now.Ready
-        → is_top fs ≡ false → here ≡ place r → (x : SymbolThere old.context here rest octets token s) → IsPassed (drop token.count octets) m
-        → get_or octets (token.count + m) 0 ≡ 58 → get_or octets (token.count + m + 1) 0 ≡ 58
-        → Does takes (told fs ss) (goes (at old.start old.context fs (ss ++ s ∷ []) Now.Ready)) (Ok Goes) new a b
-        → StrodeFrom takes fs ss old new rest (behind_note here rest token m) octets (token.count + m + 2) a b
-    symbol_note_strode here token m s more now open_there is x passed one two does =
-        let n = token.count in
-        let setting = under old.catalog.now old.limits in
-        let noting = at old.start old.context fs (ss ++ s ∷ []) Now.Ready in
-        let fits = h.fits in
-        let begun = begun_inner old.start rest.used fs ss open_there in
-        let used = blank_used (past_token here rest token.kind n) m in
-        let t = x.there in
-        token_leads (behind_note here rest token m) (n + m + 2) (goes noting) more (omega arith) open_there
-        (λ q e. went (StaysIn old.start) noting q e (open_there, refl, tt)) does
-        (λ q e there.
-        subst (λ p. Passes old.catalog.now old.limits (with_scan (resting rest) r) octets (n + m + 2) (with_scan (resting (behind_note p rest token m)) q))
-        (sym is)
-        (went (λ k. Passes old.catalog.now old.limits (with_scan (resting rest) r) octets (n + m + 2)
-        (with_scan (resting (behind_note (place r) rest token m)) k))
-        noting q e
-        (note_passes old.catalog.now old.limits r open_there rest octets token.kind t.there.kept n m token.left t.content (omega arith) (omega arith)
-        (subst (λ p. IsFound p rest octets token.kind t.there.kept n token.left) is t.there.found) t.there.says (subst IsCalm (sym now) tt) h.still now
-        x.held (subst (λ p. takes_colon p token.kind ≡ true) is t.may) (t.waits setting (rest.used + n) old.start fs ss) s (symbol_held x.held s x.is) passed
-        more one two)))
-
     -- a long string
     pub long_strode : (here : Place) (count : ℕ) (after : Rest) (text : List ℕ) → old.stage ≡ Now.Ready → is_top fs ≡ false → here ≡ place r
         → (x : LongThere here rest octets count after text)
@@ -347,29 +321,6 @@ module _ {V : Type 0} (takes : V → Event → V → Type 0) where
         (with_scan (resting after) q)) (sym now)
         (settled_on old.catalog.now old.limits old.start old.context ss fs here rest octets count after text x open_there
         (sym (is ∙ ap (place_in fs) now)) (omega arith) after.used q e))
-
-    -- a field's name, the blank behind it and its colon
-    pub key_strode : (token : FoundToken) (m : ℕ) (name : Option (List ℕ)) → token.count + m + 1 < length octets
-        → old.stage ≡ Now.Name → is_top fs ≡ false → place r ≡ Place.Name → (x : NameThere old.context rest octets token name)
-        → IsPassed (drop token.count octets) m → get_or octets (token.count + m) 0 ≡ 58 → get_or octets (token.count + m + 1) 0 ≢ 58
-        → Does takes (told fs ss) (named old.start old.context fs name) (Ok Goes) new a b
-        → StrodeFrom takes fs ss old new rest
-        (past_token Place.Name (past_blank (past_token Place.Name rest token.kind token.count) m) (TokenKind.Mark Mark.Colon) 1) octets (token.count + m + 1) a b
-    key_strode token m name more now open_there is x passed colon one does =
-        let n = token.count in
-        let kind = token.kind in
-        let fits = h.fits in
-        let begun = begun_inner old.start rest.used fs ss open_there in
-        let used = blank_used (past_token Place.Name rest kind n) m in
-        let after : Place → Rest = λ p. past_token p (past_blank (past_token p rest kind n) m) (TokenKind.Mark Mark.Colon) 1 in
-        token_leads (after Place.Name) (n + m + 1) (named old.start old.context fs name) more (omega arith) open_there
-        (λ q e. named_stays (under old.catalog.now old.limits) (spot_at 0 old.start old.context) q fs name e) does
-        (λ q e there.
-        subst (λ p. Passes old.catalog.now old.limits (with_scan (resting rest) r) octets (n + m + 1) (with_scan (resting (after p)) q)) is
-        (name_passes old.catalog.now old.limits r open_there rest octets kind x.there.kept n m token.left x.content (omega arith) (omega arith)
-        (subst (λ p. IsFound p rest octets kind x.there.kept n token.left) (sym is) x.there.found) x.there.says (subst IsCalm (sym now) tt) h.still now q
-        passed more name (λ any. subst (λ p. takes_colon p kind ≡ true) (sym is) x.may)
-        (x.names (under old.catalog.now old.limits) (rest.used + n) old.start fs) colon one e))
 
     -- an annotation, the blank behind it and `::`
     pub note_strode : (here : Place) (token : FoundToken) (f : FoundNote octets token) (m : ℕ) → token.count + m + 2 < length octets
@@ -449,35 +400,33 @@ module _ {V : Type 0} (takes : V → Event → V → Type 0) where
         below : {n m : ℕ} → nat_lt n m ≡ true → n < m
         below h = grind (arith, nat_tests)
 
-  -- answers
-
-  pub strides_ok : (old new : TextWalk) (before after : Rest) (octets : List ℕ) (count : ℕ) (a b : V) → Strode takes old new before after octets count a b
-      → SameSetting old new → StridesBy takes old new before after octets (Ok count) a b
-  strides_ok old new before after octets count a b strode same = record { strode = strode; memory = tt; same = same }
-
-  -- what leads so, whatever the reader stood for
-  pub strides_so : (old new : TextWalk) (before after : Rest) (octets : List ℕ) (count : ℕ) (a b : V)
-      → ((fs : List Frame) (ss : Symbols) → Ahead old fs ss before (length octets) → StrodeFrom takes fs ss old new before after octets count a b)
-      → count < length octets → after.used ≡ before.used + count → SameSetting old new → StridesBy takes old new before after octets (Ok count) a b
-  strides_so old new before after octets count a b leads within used same =
-      record { strode = record { leads = leads; within = omega arith; used = used }; memory = tt; same = same }
-
   -- what each token answers, from what its method does
 
-  module _ (old new : TextWalk) (rest : Rest) (octets : List ℕ) (a b : V) (same : SameSetting old new) where
-    abbrev g : Catalog
-    g = old.catalog.now
+  -- what leads so, whatever the reader stood for
+  pub ends_so : (old new : TextWalk) (before after : Rest) (octets : List ℕ) (count : ℕ) (t : Taken) (a b : V)
+      → ((fs : List Frame) (ss : Symbols) → Ahead old fs ss before (length octets) → EndsSo takes fs ss old new before after octets count a b t)
+      → count < length octets → after.used ≡ before.used + count → SameSetting old new → EndsBy takes old new before after octets (Ok (count, t)) a b
+  ends_so old new before after octets count t a b h within used same =
+      record { ended = record { leads = h; within = omega arith; used = used }; memory = tt; same = same }
 
-    abbrev l : Limits
-    l = old.limits
+  pub ends_none : (r : TextWalk) (rest : Rest) (octets : List ℕ) (a : V) → EndsBy takes r r rest rest octets (Ok (0, Taken.Uses)) a a
+  ends_none r rest octets a = record { ended = strode_none r rest octets a; memory = tt; same = settings_none r }
 
-    -- a token is looked for there
-    abbrev IsHere : Place → Type 0
-    IsHere here = (fs : List Frame) (ss : Symbols) → Holds old fs ss → here ≡ place (reading_of old fs ss)
-
-    -- a container is open
-    abbrev IsInner : Type 0
-    IsInner = (fs : List Frame) (ss : Symbols) → Holds old fs ss → is_top fs ≡ false
+  module _ (old new : TextWalk) (rest after : Rest) (octets : List ℕ) (a b : V) (same : SameSetting old new) where
+    -- a token that only goes on
+    goes_so : (n : ℕ) (last : Rest) (t : List Frame → Symbols → Turn) (x : Result Turned Reason) → after ≡ last → n < length octets
+        → last.used ≡ rest.used + n
+        → ((fs : List Frame) (ss : Symbols) → Ahead old fs ss rest (length octets) → Does takes (told fs ss) (t fs ss) (Ok Goes) new a b
+        → StrodeFrom takes fs ss old new rest last octets n a b)
+        → ((fs : List Frame) (ss : Symbols) → Holds old fs ss → Does takes (told fs ss) (t fs ss) x new a b)
+        → EndsBy takes old new rest after octets (only_goes x n) a b
+    goes_so n last t (Ok Goes) there more used leads does =
+        ends_so old new rest after octets n Taken.Uses a b
+        (λ fs ss h. subst (λ r. StrodeFrom takes fs ss old new rest r octets n a b) (sym there) (leads fs ss h (does fs ss h.holds))) more
+        (ap (λ (r : Rest). r.used) there ∙ used) same
+    goes_so n last t (Ok Gives) there more used leads does = record { ended = tt; memory = refl; same = same }
+    goes_so n last t (Ok (Late e)) there more used leads does = record { ended = tt; memory = refl; same = same }
+    goes_so n last t (Err e) there more used leads does = record { ended = tt; memory = refl; same = same }
 
     -- where this may come next no value may
     bare_at : (now : Now) → old.stage ≡ now → calm now ≢ Now.Ready → (fs : List Frame) (ss : Symbols) → Holds old fs ss
@@ -486,32 +435,49 @@ module _ {V : Type 0} (takes : V → Event → V → Type 0) where
         let never : calm old.stage ≢ Now.Ready = λ e. other (sym (ap calm is) ∙ e) in
         (open_bare fs ss (calm old.stage) h.0.open_there never, open_inner fs ss (calm old.stage) h.0.open_there never)
 
-    pub comma_answer : (here : Place) → old.stage ≡ Now.After → 1 < length octets → get_or octets 0 0 ≡ 44 → IsHere here → a ≡ b
-        → ((fs : List Frame) → Holds old fs [] → DoesAlone (told fs []) (on_comma old.start old.context fs) (Ok Goes) new)
-        → StridesBy takes old new rest (past_token here rest (TokenKind.Mark Mark.Comma) 1) octets (Ok 1) a b
-    comma_answer here now more first is silent does =
-        strides_so old new rest (past_token here rest (TokenKind.Mark Mark.Comma) 1) octets 1 a b
+    -- a comma
+    pub comma_answer : (here : Place) (x : Result Turned Reason) → after ≡ past_token here rest (TokenKind.Mark Mark.Comma) 1
+        → Takes Now.After old rest octets → get_or octets 0 0 ≡ 44 → IsHere old here → a ≡ b
+        → ((fs : List Frame) → Holds old fs [] → DoesAlone (told fs []) (on_comma old.start old.context fs) x new)
+        → EndsBy takes old new rest after octets (only_goes x 1) a b
+    comma_answer here x there t first is silent does =
+        let more = t.more in
+        goes_so 1 (past_token here rest (TokenKind.Mark Mark.Comma) 1) (λ fs ss. on_comma old.start old.context fs) x there more refl
+        (λ fs ss h d.
+        token_strode old new rest octets a b fs ss h same here (TokenKind.Mark Mark.Comma) [] 1 false (Mark' Mark.Comma)
+        (on_comma old.start old.context fs) more (bare_at Now.After t.stage (λ e. cc) fs ss h.holds).1 (is fs ss h.holds)
+        (comma_found here rest octets (omega arith) first) (mark_says Mark.Comma)
+        (after_turns old.catalog.now old.limits (reading_of old fs ss) (lexeme_at rest (TokenKind.Mark Mark.Comma) [] 1) (Mark' Mark.Comma) t.stage)
+        (λ q e. comma_stays (setting_of old) (spot_of old 0) q fs e) (inr refl) d)
         (λ fs ss h.
-        let k = bare_at Now.After now (λ e. cc) fs ss h.holds in
-        let d = does_alone takes (told fs []) (on_comma old.start old.context fs) (Ok Goes) new a
-        (does fs (subst (λ ns. Holds old fs ns) k.0 h.holds)) in
-        comma_strode old new rest octets a b fs ss h same here now more first k.1 (is fs ss h.holds)
-        (subst (λ ns. Does takes (told fs ns) (on_comma old.start old.context fs) (Ok Goes) new a b) (sym k.0)
-        (subst (λ x. Does takes (told fs []) (on_comma old.start old.context fs) (Ok Goes) new a x) silent d))) more refl same
+        let k = bare_at Now.After t.stage (λ e. cc) fs ss h in
+        subst (λ ns. Does takes (told fs ns) (on_comma old.start old.context fs) x new a b) (sym k.0)
+        (subst (λ v. Does takes (told fs []) (on_comma old.start old.context fs) x new a v) silent
+        (does_alone takes (told fs []) (on_comma old.start old.context fs) x new a (does fs (subst (λ ns. Holds old fs ns) k.0 h)))))
 
-    pub close_answer : (here : Place) (x : Bracket) → 1 < length octets → get_or octets 0 0 ≡ close_octet x
-        → ((fs : List Frame) (ss : Symbols) → Holds old fs ss → (closes x fs old.stage ≡ true) × (ss ≡ [])) → IsHere here → 1 < length old.frames.items
-        → ((fs : List Frame) → Holds old fs [] → Does takes (told fs []) (closed x (under g l) (spot_at (rest.used + 1) old.start old.context) fs) (Ok Goes)
-        new a b)
-        → StridesBy takes old new rest (past_token here rest (TokenKind.Mark (close_mark x)) 1) octets (Ok 1) a b
-    close_answer here x more first fits is nested does =
-        strides_so old new rest (past_token here rest (TokenKind.Mark (close_mark x)) 1) octets 1 a b
+    -- the close of a container that stands in another
+    pub close_answer : (here : Place) (x : Bracket) → after ≡ past_token here rest (TokenKind.Mark (close_mark x)) 1 → 1 < length octets
+        → get_or octets 0 0 ≡ close_octet x
+        → ((fs : List Frame) (ss : Symbols) → Holds old fs ss → (closes x fs old.stage ≡ true) × (ss ≡ [])) → IsHere old here → 1 < length old.frames.items
+        → ((fs : List Frame) → Holds old fs [] → Does takes (told fs []) (closed x (setting_of old) (spot_of old after.used) fs) (Ok Goes) new a b)
+        → EndsBy takes old new rest after octets (Ok (1, Taken.Uses)) a b
+    close_answer here x there more first fits is nested does =
+        ends_so old new rest after octets 1 Taken.Uses a b
         (λ fs ss h.
-        let k = fits fs ss h.holds in
+        let bare = fits fs ss h.holds in
         let deep = many fs ss h.holds in
-        close_strode old new rest octets a b fs ss h same here x more deep k.1 first k.0 (not_top fs deep) (is fs ss h.holds)
-        (subst (λ ns. Does takes (told fs ns) (closed x (under g l) (spot_at (rest.used + 1) old.start old.context) fs) (Ok Goes) new a b) (sym k.1)
-        (does fs (subst (λ ns. Holds old fs ns) k.1 h.holds)))) more refl same
+        let k = closing old.catalog.now old.limits rest.used (rest.used + 1) old.start old.context x fs old.stage bare.0 in
+        subst (λ r. StrodeFrom takes fs ss old new rest r octets 1 a b) (sym there)
+        (token_strode old new rest octets a b fs ss h same here (TokenKind.Mark (close_mark x)) [] 1 false (Mark' (close_mark x))
+        (closed x (setting_of old) (spot_of old (rest.used + 1)) fs) more (not_top fs deep) (is fs ss h.holds)
+        (subst (λ p. IsFound p rest octets (TokenKind.Mark (close_mark x)) [] 1 false) (sym (is fs ss h.holds))
+        (close_found x fs old.stage rest octets bare.0 (omega arith) first)) (mark_says (close_mark x))
+        (ap (λ ns. turn old.catalog.now old.limits (at old.start old.context fs ns old.stage) (token_of (lexeme_at rest (TokenKind.Mark (close_mark x)) [] 1)
+        (Mark' (close_mark x)))) bare.1 ∙ k.0)
+        (λ q e. close_stays (setting_of old) (spot_of old (rest.used + 1)) q x fs deep e) (inr refl)
+        (subst (λ ns. Does takes (told fs ns) (closed x (setting_of old) (spot_of old (rest.used + 1)) fs) (Ok Goes) new a b) (sym bare.1)
+        (subst (λ (r : Rest). Does takes (told fs []) (closed x (setting_of old) (spot_of old r.used) fs) (Ok Goes) new a b) there
+        (does fs (subst (λ ns. Holds old fs ns) bare.1 h.holds)))))) more (ap (λ (r : Rest). r.used) there) same
       where
         many : (fs : List Frame) (ss : Symbols) → Holds old fs ss → 1 < length fs
         many fs ss h =
@@ -524,91 +490,100 @@ module _ {V : Type 0} (takes : V → Event → V → Type 0) where
         not_top [] h = absurd (omega arith)
         not_top (f ∷ fs) h = refl
 
-    pub open_answer : (here : Place) (x : Bracket) → 1 < length octets → OpensAt octets x → old.stage ≡ Now.Ready → IsHere here
-        → ((fs : List Frame) (ss : Symbols) → Holds old fs ss → nat_lt (length fs) l.depth ≡ true)
-        → ((fs : List Frame) (ss : Symbols) → Holds old fs ss
-        → Does takes (told fs ss) (opening x l.depth (begun_at old.start rest.used fs ss) old.context fs ss) (Ok Goes) new a b)
-        → StridesBy takes old new rest (past_token here rest (TokenKind.Mark (open_mark x)) 1) octets (Ok 1) a b
-    open_answer here x more opens now is admits does =
-        strides_so old new rest (past_token here rest (TokenKind.Mark (open_mark x)) 1) octets 1 a b
-        (λ fs ss h. open_strode old new rest octets a b fs ss h same here x more opens now (is fs ss h.holds) (admits fs ss h.holds) (does fs ss h.holds)) more
-        refl same
-
-    pub value_answer : (here : Place) (token : FoundToken) (payload : Payload) → token.count < length octets → old.stage ≡ Now.Ready → IsInner → IsHere here
-        → ((fs : List Frame) (ss : Symbols) → Holds old fs ss → BeginsValue false here rest octets token payload)
-        → ((fs : List Frame) (ss : Symbols) → Holds old fs ss
-        → Does takes (told fs ss) (ended (under g l) (spot_at (rest.used + token.count) old.start old.context) fs (annotated ss payload)) (Ok Goes) new a b)
-        → StridesBy takes old new rest (past_token here rest token.kind token.count) octets (Ok token.count) a b
-    value_answer here token payload more now inner is begins does =
-        strides_so old new rest (past_token here rest token.kind token.count) octets token.count a b
-        (λ fs ss h.
-        let x = begins fs ss h.holds in
-        value_strode old new rest octets a b fs ss h same here token.kind x.kept token.count token.left x.content payload more now (inner fs ss h.holds)
-        (is fs ss h.holds) x.found x.says x.is (does fs ss h.holds)) more refl same
-
-    pub word_answer : (here : Place) (token : FoundToken) (m : ℕ) (after : Rest) (held : Held) (payload : Payload) → token.count + m < length octets
-        → old.stage ≡ Now.Ready → IsInner → IsHere here → WaitsThere old.context here rest octets token held → held_payload held ≡ Ok payload
-        → RestsBehind (drop token.count octets) m (past_token here rest token.kind token.count) after → ends_symbol (get_or octets (token.count + m) 0) ≡ true
-        → ((fs : List Frame) (ss : Symbols) → Holds old fs ss
-        → Does takes (told fs ss) (ended (under g l) (spot_at (rest.used + token.count) old.start old.context) fs (annotated ss payload)) (Ok Goes) new a b)
-        → StridesBy takes old new rest after octets (Ok (token.count + m)) a b
-    word_answer here token m after held payload more now inner is x pays rests ends does =
-        let used = rests.used in
-        strides_so old new rest after octets (token.count + m) a b
-        (λ fs ss h. word_strode old new rest octets a b fs ss h same here token m after held payload more now (inner fs ss h.holds) (is fs ss h.holds) x pays
-        rests ends (does fs ss h.holds)) more (omega arith) same
-
-    pub symbol_note_answer : (here : Place) (token : FoundToken) (m : ℕ) (s : Option (List ℕ)) → token.count + m + 2 < length octets → old.stage ≡ Now.Ready
-        → IsInner → IsHere here → SymbolThere old.context here rest octets token s → IsPassed (drop token.count octets) m
+    -- an annotation in a container, the blank behind it and `::`
+    pub symbol_note_answer : (here : Place) (token : FoundToken) (m : ℕ) (s : Option (List ℕ)) (x : Result Turned Reason)
+        → after ≡ behind_note here rest token m → token.count + m + 2 < length octets → Takes Now.Ready old rest octets
+        → ((fs : List Frame) (ss : Symbols) → Holds old fs ss → is_top fs ≡ false) → IsHere old here
+        → SymbolThere old.context here rest octets token s → IsPassed (drop token.count octets) m
         → get_or octets (token.count + m) 0 ≡ 58 → get_or octets (token.count + m + 1) 0 ≡ 58
         → ((fs : List Frame) (ss : Symbols) → Holds old fs ss
-        → Does takes (told fs ss) (goes (at old.start old.context fs (ss ++ s ∷ []) Now.Ready)) (Ok Goes) new a b)
-        → StridesBy takes old new rest (behind_note here rest token m) octets (Ok (token.count + m + 2)) a b
-    symbol_note_answer here token m s more now inner is x passed one two does =
-        let used = blank_used (past_token here rest token.kind token.count) m in
-        strides_so old new rest (behind_note here rest token m) octets (token.count + m + 2) a b
-        (λ fs ss h. symbol_note_strode old new rest octets a b fs ss h same here token m s more now (inner fs ss h.holds) (is fs ss h.holds) x passed one two
-        (does fs ss h.holds)) more (omega arith) same
+        → Does takes (told fs ss) (goes (at old.start old.context fs (ss ++ s ∷ []) Now.Ready)) x new a b)
+        → EndsBy takes old new rest after octets (only_goes x (token.count + m + 2)) a b
+    symbol_note_answer here token m s x there more t inner is symbol passed one two does =
+        let n = token.count in
+        let used = blank_used (past_token here rest token.kind n) m in
+        let y = symbol.there in
+        goes_so (n + m + 2) (behind_note here rest token m) (λ fs ss. goes (at old.start old.context fs (ss ++ s ∷ []) Now.Ready)) x there more (omega arith)
+        (λ fs ss h d.
+        let noting = at old.start old.context fs (ss ++ s ∷ []) Now.Ready in
+        let r = reading_of old fs ss in
+        let top = inner fs ss h.holds in
+        let fits = h.fits in
+        let begun = begun_inner old.start rest.used fs ss top in
+        token_leads old new rest octets a b fs ss h same (behind_note here rest token m) (n + m + 2) (goes noting) more (omega arith) top
+        (λ q e. went (StaysIn old.start) noting q e (top, refl, tt)) d
+        (λ q e stays.
+        subst (λ p. Passes old.catalog.now old.limits (with_scan (resting rest) r) octets (n + m + 2) (with_scan (resting (behind_note p rest token m)) q))
+        (sym (is fs ss h.holds))
+        (went (λ k. Passes old.catalog.now old.limits (with_scan (resting rest) r) octets (n + m + 2)
+        (with_scan (resting (behind_note (place r) rest token m)) k))
+        noting q e
+        (note_passes old.catalog.now old.limits r top rest octets token.kind y.there.kept n m token.left y.content (omega arith) (omega arith)
+        (subst (λ p. IsFound p rest octets token.kind y.there.kept n token.left) (is fs ss h.holds) y.there.found) y.there.says
+        (subst IsCalm (sym t.stage) tt) h.still t.stage symbol.held (subst (λ p. takes_colon p token.kind ≡ true) (is fs ss h.holds) y.may)
+        (y.waits (setting_of old) (rest.used + n) old.start fs ss) s (symbol_held symbol.held s symbol.is) passed more one two)))) does
 
-    pub long_answer : (here : Place) (count : ℕ) (after : Rest) (text : List ℕ) → old.stage ≡ Now.Ready → IsInner → IsHere here
-        → LongThere here rest octets count after text
-        → ((fs : List Frame) (ss : Symbols) → Holds old fs ss
-        → Does takes (told fs ss) (ended (under g l) (spot_at after.used old.start old.context) fs (annotated ss (payloads.Str text))) (Ok Goes) new a b)
-        → StridesBy takes old new rest after octets (Ok count) a b
-    long_answer here count after text now inner is x does =
-        strides_so old new rest after octets count a b
-        (λ fs ss h. long_strode old new rest octets a b fs ss h same here count after text now (inner fs ss h.holds) (is fs ss h.holds) x (does fs ss h.holds))
-        x.more x.segments.used same
-
-    pub key_answer : (token : FoundToken) (m : ℕ) (name : Option (List ℕ)) → token.count + m + 1 < length octets → old.stage ≡ Now.Name
+    -- a field's name, the blank behind it and its colon
+    pub key_answer : (token : FoundToken) (m : ℕ) (name : Option (List ℕ)) (x : Result Turned Reason)
+        → after ≡ past_token Place.Name (past_blank (past_token Place.Name rest token.kind token.count) m) (TokenKind.Mark Mark.Colon) 1
+        → token.count + m + 1 < length octets → Takes Now.Name old rest octets
         → NameThere old.context rest octets token name → IsPassed (drop token.count octets) m → get_or octets (token.count + m) 0 ≡ 58
         → get_or octets (token.count + m + 1) 0 ≢ 58
-        → ((fs : List Frame) → Holds old fs [] → Does takes (told fs []) (named old.start old.context fs name) (Ok Goes) new a b)
-        → StridesBy takes old new rest
-        (past_token Place.Name (past_blank (past_token Place.Name rest token.kind token.count) m) (TokenKind.Mark Mark.Colon) 1) octets
-        (Ok (token.count + m + 1)) a b
-    key_answer token m name more now x passed colon one does =
-        let used = blank_used (past_token Place.Name rest token.kind token.count) m in
-        strides_so old new rest (past_token Place.Name (past_blank (past_token Place.Name rest token.kind token.count) m) (TokenKind.Mark Mark.Colon) 1) octets
-        (token.count + m + 1) a b
+        → ((fs : List Frame) → Holds old fs [] → Does takes (told fs []) (named old.start old.context fs name) x new a b)
+        → EndsBy takes old new rest after octets (only_goes x (token.count + m + 1)) a b
+    key_answer token m name x there more t is passed colon one does =
+        let n = token.count in
+        let kind = token.kind in
+        let used = blank_used (past_token Place.Name rest kind n) m in
+        let last : Place → Rest = λ p. past_token p (past_blank (past_token p rest kind n) m) (TokenKind.Mark Mark.Colon) 1 in
+        goes_so (n + m + 1) (last Place.Name) (λ fs ss. named old.start old.context fs name) x there more (omega arith)
+        (λ fs ss h d.
+        let r = reading_of old fs ss in
+        let top = (bare_at Now.Name t.stage (λ e. cc) fs ss h.holds).1 in
+        let here = ap (place_in fs) t.stage ∙ open_name fs ss (subst (λ s. AreOpen fs ss (calm s)) t.stage h.holds.0.open_there) in
+        let fits = h.fits in
+        let begun = begun_inner old.start rest.used fs ss top in
+        token_leads old new rest octets a b fs ss h same (last Place.Name) (n + m + 1) (named old.start old.context fs name) more (omega arith) top
+        (λ q e. named_stays (setting_of old) (spot_of old 0) q fs name e) d
+        (λ q e stays.
+        subst (λ p. Passes old.catalog.now old.limits (with_scan (resting rest) r) octets (n + m + 1) (with_scan (resting (last p)) q)) here
+        (name_passes old.catalog.now old.limits r top rest octets kind is.there.kept n m token.left is.content (omega arith) (omega arith)
+        (subst (λ p. IsFound p rest octets kind is.there.kept n token.left) (sym here) is.there.found) is.there.says
+        (subst IsCalm (sym t.stage) tt) h.still t.stage q passed more name (λ any. subst (λ p. takes_colon p kind ≡ true) (sym here) is.may)
+        (is.names (setting_of old) (rest.used + n) old.start fs) colon one e)))
         (λ fs ss h.
-        let k = bare_at Now.Name now (λ e. cc) fs ss h.holds in
-        key_strode old new rest octets a b fs ss h same token m name more now k.1
-        (ap (place_in fs) now ∙ open_name fs ss (subst (λ s. AreOpen fs ss (calm s)) now h.holds.0.open_there)) x passed colon one
-        (subst (λ ns. Does takes (told fs ns) (named old.start old.context fs name) (Ok Goes) new a b) (sym k.0)
-        (does fs (subst (λ ns. Holds old fs ns) k.0 h.holds)))) more (omega arith) same
+        let k = bare_at Now.Name t.stage (λ e. cc) fs ss h in
+        subst (λ ns. Does takes (told fs ns) (named old.start old.context fs name) x new a b) (sym k.0)
+        (does fs (subst (λ ns. Holds old fs ns) k.0 h)))
 
-    pub note_answer : (here : Place) (token : FoundToken) (f : FoundNote octets token) (m : ℕ) → token.count + m + 2 < length octets
-        → old.stage ≡ Now.Ready → new.stage ≡ old.stage → IsHere here
+    pub note_answer : (here : Place) (token : FoundToken) (f : FoundNote octets token) (m : ℕ) → after ≡ behind_note here rest token m
+        → token.count + m + 2 < length octets
+        → Takes Now.Ready old rest octets → new.stage ≡ old.stage → IsHere old here
         → ((fs : List Frame) (ss : Symbols) → Holds old fs ss → new.start ≡ begun_at old.start rest.used fs ss) → new.context ≡ old.context
         → IsPassed (drop token.count octets) m → get_or octets (token.count + m) 0 ≡ 58 → get_or octets (token.count + m + 1) 0 ≡ 58
         → ((fs : List Frame) (ss : Symbols) → Holds old fs ss → WentOn takes (told fs ss) new fs (ss ++ f.name ∷ []) a b)
-        → StridesBy takes old new rest (behind_note here rest token m) octets (Ok (token.count + m + 2)) a b
-    note_answer here token f m more now stage is start context passed one two w =
+        → EndsBy takes old new rest after octets (Ok (token.count + m + 2, Taken.Uses)) a b
+    note_answer here token f m there more t stage is start context passed one two w =
         let used = blank_used (past_token here rest token.kind token.count) m in
-        strides_so old new rest (behind_note here rest token m) octets (token.count + m + 2) a b
-        (λ fs ss h. note_strode old new rest octets a b fs ss h same here token f m more now stage (is fs ss h.holds) (start fs ss h.holds) context passed one
-        two (w fs ss h.holds)) more (omega arith) same
+        let last = ap (λ (r : Rest). r.used) there in
+        ends_so old new rest after octets (token.count + m + 2) Taken.Uses a b
+        (λ fs ss h. subst (λ r. StrodeFrom takes fs ss old new rest r octets (token.count + m + 2) a b) (sym there)
+        (note_strode old new rest octets a b fs ss h same here token f m more t.stage stage (is fs ss h.holds) (start fs ss h.holds) context passed one
+        two (w fs ss h.holds))) more (omega arith) same
+
+  -- an open, at which an item of the top level begins
+  pub open_answer : (old new : TextWalk) (rest after : Rest) (octets : List ℕ) (a b : V) (k : ℕ) → SameSetting (begun_with old k) new
+      → (here : Place) (bracket : Bracket) (x : Result Turned Reason) → after ≡ past_token here rest (TokenKind.Mark (open_mark bracket)) 1
+      → Takes Now.Ready old rest octets → OpensAt octets bracket → IsHere old here → IsBegun old rest k
+      → ((fs : List Frame) (ss : Symbols) → Holds old fs ss → nat_lt (length fs) old.limits.depth ≡ true)
+      → ((fs : List Frame) (ss : Symbols) → Holds old fs ss → Does takes (told fs ss) (opening bracket old.limits.depth k old.context fs ss) x new a b)
+      → EndsBy takes old new rest after octets (only_goes x 1) a b
+  open_answer old new rest after octets a b k s here bracket x there t opens is begun admits does =
+      let same = settings_begun old new k s in
+      goes_so old new rest after octets a b same 1 (past_token here rest (TokenKind.Mark (open_mark bracket)) 1)
+      (λ fs ss. opening bracket old.limits.depth (begun_at old.start rest.used fs ss) old.context fs ss) x there t.more refl
+      (λ fs ss h d. open_strode old new rest octets a b fs ss h same here bracket t.more opens t.stage (is fs ss h.holds) (admits fs ss h.holds) d)
+      (λ fs ss h. subst (λ i. Does takes (told fs ss) (opening bracket old.limits.depth i old.context fs ss) x new a b) (begun fs ss h) (does fs ss h))
 
 -- a reader whose scanner was moved
 abbrev pub with_moved : TextWalk → Scanner → TextWalk

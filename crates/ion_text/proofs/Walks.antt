@@ -32,19 +32,12 @@ module _ (w : List ℕ) where
       by true = refl
       by false = refl
 
-  -- a word that begins with no `$` is no version marker
-  pub word_unmarked : get_or w 0 0 ≢ 36 → is_marker (held_word w) ≡ false
-  word_unmarked first = go (bytes_eq w (codes "null")) (bytes_eq w (codes "true")) (bytes_eq w (codes "false")) (bytes_eq w (codes "nan"))
+  -- a word that doesn't have the form of a version marker is none
+  pub word_plain : is_version w ≡ false → is_marker (held_word w) ≡ false
+  word_plain other = go (bytes_eq w (codes "null")) (bytes_eq w (codes "true")) (bytes_eq w (codes "false")) (bytes_eq w (codes "nan"))
     where
-      plain : (w : List ℕ) → get_or w 0 0 ≢ 36 → is_version w ≡ false
-      plain [] h = refl
-      plain (o ∷ os) h = ap (λ b. b && behind_front (codes "ion_") os version_parts) (other o h)
-        where
-          other : (o : ℕ) → o ≢ 36 → (36 == o) ≡ false
-          other o h = grind (arith, nat_tests)
-
       last : is_marker (if is_version w then Held.Version (bytes_eq w the_marker) (Some w) else Held.Symbol (Some w)) ≡ false
-      last = ap (λ b. is_marker (if b then Held.Version (bytes_eq w the_marker) (Some w) else Held.Symbol (Some w))) (plain w first)
+      last = ap (λ b. is_marker (if b then Held.Version (bytes_eq w the_marker) (Some w) else Held.Symbol (Some w))) other
 
       go : (n t f a : Bool) → is_marker (if n then Held.Null Kind.Null else (if t then Held.Truth true else (if f then Held.Truth false
           else (if a then Held.Nan else (if is_version w then Held.Version (bytes_eq w the_marker) (Some w) else Held.Symbol (Some w)))))) ≡ false
@@ -53,6 +46,17 @@ module _ (w : List ℕ) where
       go false false true a = refl
       go false false false true = refl
       go false false false false = last
+
+  -- nor is one that begins with no `$`
+  pub word_unmarked : get_or w 0 0 ≢ 36 → is_marker (held_word w) ≡ false
+  word_unmarked first = word_plain (plain w first)
+    where
+      plain : (w : List ℕ) → get_or w 0 0 ≢ 36 → is_version w ≡ false
+      plain [] h = refl
+      plain (o ∷ os) h = ap (λ b. b && behind_front (codes "ion_") os version_parts) (other o h)
+        where
+          other : (o : ℕ) → o ≢ 36 → (36 == o) ≡ false
+          other o h = grind (arith, nat_tests)
 
   -- a word that is no keyword is the symbol of its text
   pub word_free : is_keyword w ≡ false → held_payload (held_word w) ≡ Ok (payloads.Symbol (Some w))

@@ -8,7 +8,7 @@ pub use Rattle.ion_text.specs.Output.{FitsIn, ValueFits, adds, begins_identifier
 unfoldable pub use Rattle.ion_text.specs.Output.{symbol_text, value_text}
 pub use Rattle.ion_text.specs.machine.AtOnce.{IsStill, LeadsTo, Passes}
 pub use Rattle.ion_text.specs.machine.EachToken.{Reading, Setting, Spot, Symbols, Token, Turn, at, bare_close, begun_at, behind_item, beyond_depth, closed, deeper, ended, first_now, fresh, gives, goes, held_payload, held_symbol, held_word, item_place, keyed, late, named, noted, on_after, on_comma, on_keyed, on_long, on_long_name, on_name, on_pending, on_ready, opened, opening, paid, place, place_in, refuses, released, resolved, settle, settled, spot_at, spot_in, token_at, turn, turn_now, turned, under, unexpected, within}
-pub use Rattle.ion_text.specs.machine.FrontTokens.{BeginsName, BeginsValue, EndsAtOnce, IsValue, Names, Pays, ends_symbol, held_of, is_marker}
+pub use Rattle.ion_text.specs.machine.FrontTokens.{BeginsName, BeginsValue, EndsAtOnce, IsFree, IsValue, Names, Pays, ends_symbol, held_of, is_marker}
 pub use Rattle.ion_text.specs.machine.Nested.{OpensAt, bracket_in, close_mark, close_octet, closes, open_mark}
 pub use Rattle.ion_text.specs.machine.Passed.{said_body, said_passes}
 pub use Rattle.ion_text.specs.machine.Pieces.{Quiet, Stays, Waiting, drive, followed, go_on, grows, led, on_now, run-append, then_run}
@@ -26,5 +26,5 @@ pub use Rattle.ion_text.specs.walk.Fronts.{GivesOver, IsWithin, LeadsOver, Leave
 pub use Rattle.ion_text.specs.walk.Holds.{AreAround, AreOpen, Does, DoesAlone, Enters, GaveOut, Holds, IsShape, MayClose, SamePlace, SameSetting, WentOn, behind_comma, behind_value, bracket_for, bracket_of, brackets_of, calm, closes_in, has_notes, is_inside, is_same, open_brackets, reading_of, setting_of, spot_of, state_of, told}
 pub use Rattle.ion_text.specs.walk.Rare.{NameThere, SaysThere, SymbolThere, WaitsThere}
 pub use Rattle.ion_text.specs.walk.Runs.{Begins, StandsFor, Told, octets_kept, pending}
-pub use Rattle.ion_text.specs.walk.Strides.{Ahead, Ended, EndsBy, EndsSo, Strides, StridesBy, Strode, StrodeFrom, TookSo, resting_at}
+pub use Rattle.ion_text.specs.walk.Strides.{Ahead, Ended, EndsBy, EndsSo, IsHere, Strides, Strode, StrodeFrom, Takes, TookSo, is_null_struct, only_goes, resting_at, value_took}
 pub use Rattle.ion_text.specs.walk.Takes.{DidMeet, DidTake, IsFine, IsMet, MeetsWith, SameReader, StaysSteady}

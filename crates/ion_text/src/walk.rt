@@ -19,7 +19,6 @@ mod advance;
 mod blanks_while_waiting;
 mod containers;
 mod end_of_input;
-mod last_tokens;
 mod long_strings;
 mod octets;
 mod on_token;

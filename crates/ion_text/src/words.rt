@@ -71,7 +71,7 @@ fn version_parts(octets: &[u8]) -> bool
 }
 
 /// Whether a word has the form of a version marker: `$ion_`, digits, `_` and digits.
-fn is_version(word: &[u8]) -> bool
+pub(crate) fn is_version(word: &[u8]) -> bool
     ensures { result ≡ is_version word.now }
 {
     match word.strip_prefix(b"$ion_") {

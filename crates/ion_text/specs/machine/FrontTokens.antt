@@ -1,5 +1,5 @@
 -- Tokens at the front of octets where a container is open: as values, and as names of fields.
-use Rattle.std.specs.Prelude.{◌≡◌, ℕ, ◌==◌, ◌&&◌, ◌||◌, Bool, true, false, not, nat_lt, List, Option, Some, None, Ok}
+use Rattle.std.specs.Prelude.{◌≡◌, ℕ, ◌==◌, ◌&&◌, ◌||◌, Bool, true, false, not, nat_lt, List, Option, Some, None, IfSome, Ok}
 use Rattle.ion_text.specs.Names.Below.{Content, FoundToken, Frame, Held, IsFound, Payload, Place, Quoted, Rest, Short, TypedNull, Word, annotated, said}
 use Rattle.ion_text.specs.Grammar.{is_keyword}
 use Rattle.ion_text.specs.machine.EachToken.{Setting, Spot, Symbols, ended, held_payload, held_word, on_ready}
@@ -19,6 +19,10 @@ held_of _ = None
 abbrev pub is_marker : Held → Bool
 is_marker (Held.Version ours s) = true
 is_marker _ = false
+
+-- what is said is none
+abbrev pub IsFree : Content → Type 0
+IsFree c = IfSome (held_of c) (λ held. is_marker held ≡ false)
 
 -- what is held is this value, unless `::` follows
 abbrev pub Pays : Option Held → Payload → Type 0

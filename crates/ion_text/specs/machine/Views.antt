@@ -3,7 +3,7 @@ use Rattle.std.specs.Prelude.{◌≡◌, ◌+◌, ◌≤◌, ◌||◌, ℕ, List
 use Rattle.ion_text.specs.Names.Below.{Foresight, Found, Frame, Given, Known, Left, Limits, Met, Mode, Next, Now, Outcome, Reason, Refused, Taken, Value, is_idle, is_quoting, start_of}
 use Rattle.ion_tokens.specs.Bodies.{content}
 use Rattle.ion_text.specs.declared.state.Taken.TheVariants.{Leaves}
-use Rattle.ion_text.specs.machine.EachToken.{Reading, Symbols, Token, ended}
+use Rattle.ion_text.specs.machine.EachToken.{Reading, Symbols, Token}
 use Rattle.ion_text.specs.machine.Run.{Effect, State, fails, lesser, uses}
 
 -- a token of the scanner, as the machine takes it

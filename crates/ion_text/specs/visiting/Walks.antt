@@ -1,8 +1,8 @@
 -- The tokens at the front of octets, with what they say: values, numbers and annotations.
-use Rattle.std.specs.Prelude.{true, false, ◌≡◌, ◌+◌, ◌<◌, ℕ, List, length, drop, get_or, Some, Ok}
-use Rattle.ion_text.specs.Names.Below.{FoundToken, Held, IsFound, IsPassed, Number, Number', Payload, Place, Rest, Scalar, said}
+use Rattle.std.specs.Prelude.{true, ◌≡◌, ◌+◌, ◌<◌, ℕ, List, length, drop, get_or, Some, Ok}
+use Rattle.ion_text.specs.Names.Below.{FoundToken, IsFound, IsPassed, Number, Number', Payload, Place, Rest, Scalar, said}
 use Rattle.ion_text.specs.declared.tokens.annotations.Note.{Note}
-use Rattle.ion_text.specs.machine.FrontTokens.{held_of, is_marker}
+use Rattle.ion_text.specs.machine.FrontTokens.{IsFree}
 use Rattle.ion_text.specs.machine.Walked.{FoundNote, FoundScalar}
 
 -- in this place octets begin with this token, which is this value
@@ -14,7 +14,7 @@ pub record FoundPart (p : Place) (r : Rest) (octets : List ℕ) (s : Scalar) (pa
 pub record FoundSymbol (p : Place) (r : Rest) (octets : List ℕ) (s : Scalar) (payload : Payload) : Type 0 where
   pub part : FoundPart p r octets s payload
   pub waits : s.waits ≡ true
-  pub free : (h : Held) → held_of part.token.content ≡ Some h → is_marker h ≡ false
+  pub free : IsFree part.token.content
 
 -- in this place octets begin with this token, which is this number
 pub record FoundNumber (p : Place) (r : Rest) (octets : List ℕ) (token : FoundToken) (number : Number) : Type 0 where

@@ -1,8 +1,8 @@
 -- Tokens that lie whole at the front of octets, where a scanner rests: a reader that holds no values takes them up at once.
-use Rattle.std.specs.Prelude.{◌≡◌, ◌+◌, ◌-◌, ◌≤◌, ◌<◌, ℕ, List, [], ◌∷◌, length, take, get_or, Result, Ok, IfOk, IfErr}
-use Rattle.ion_text.specs.Names.Below.{Event, Frame, Hears, Memory, Mode, Reason, Rest, Taken, TextWalk, Value, heard, resting, scanned}
+use Rattle.std.specs.Prelude.{◌≡◌, ◌+◌, ◌-◌, ◌^◌, ◌≤◌, ◌<◌, ℕ, Bool, true, false, List, [], ◌∷◌, length, take, get_or, Result, Ok, Err, IfOk, IfErr}
+use Rattle.ion_text.specs.Names.Below.{Event, Frame, Gives, Goes, Hears, Memory, Mode, Now, Part, Place, Reason, Rest, Taken, TextWalk, Turned, Value, heard, is_fields, resting, scanned}
 use Rattle.ion_text.specs.machine.AtOnce.{IsStill, Passes}
-use Rattle.ion_text.specs.machine.EachToken.{Symbols, begun_at}
+use Rattle.ion_text.specs.machine.EachToken.{Symbols, begun_at, place}
 use Rattle.ion_text.specs.machine.Pieces.{led}
 use Rattle.ion_text.specs.machine.Run.{State, eats, leaves, run, with_scan}
 use Rattle.ion_text.specs.walk.Holds.{GaveOut, Holds, SameSetting, reading_of, state_of, told}
@@ -18,6 +18,33 @@ pub record Ahead (r : TextWalk) (fs : List Frame) (ss : Symbols) (rest : Rest) (
   pub still : IsStill r.stage
   pub fits : rest.used + n ≤ r.limits.item + begun_at r.start rest.used fs ss
 
+-- Tokens are taken up where a reader may come to this next, and the octets show more than their first one.
+pub record Takes (now : Now) (r : TextWalk) (rest : Rest) (octets : List ℕ) : Type 0 where
+  pub stage : r.stage ≡ now
+  pub more : 1 < length octets
+  pub room : rest.used + length octets < 2 ^ 63
+
+-- a token is looked for there
+abbrev pub IsHere : TextWalk → Place → Type 0
+IsHere r here = (fs : List Frame) (ss : Symbols) → Holds r fs ss → here ≡ place (reading_of r fs ss)
+
+-- a part that may be a local symbol table where it is annotated as one
+abbrev pub is_null_struct : Part → Bool
+is_null_struct (Part.Null kind) = is_fields kind
+is_null_struct _ = false
+
+-- what a token of so many octets answers that only goes on; what else could come of it is told as memory that ran out
+abbrev pub only_goes : Result Turned Reason → ℕ → Result (ℕ × Taken) Reason
+only_goes (Ok Goes) count = Ok (count, Taken.Uses)
+only_goes _ count = Err Memory
+
+-- the same of one that ends a value, whose end the octet behind it shows, or its last one
+abbrev pub value_took : Result Turned Reason → ℕ → Bool → Result (ℕ × Taken) Reason
+value_took (Ok Goes) count left = Ok (count, Taken.Uses)
+value_took (Ok Gives) count true = Ok (count, Taken.Leaves)
+value_took (Ok Gives) count false = Ok (count, Taken.Tells)
+value_took _ count left = Err Memory
+
 module _ {V : Type 0} (takes : V → Event → V → Type 0) where
   -- From where a reader stood a run goes on over so many octets to where it stands now, and a visitor heard what there was to hear of them.
   pub record StrodeFrom (fs : List Frame) (ss : Symbols) (old new : TextWalk) (before after : Rest) (octets : List ℕ) (count : ℕ)
@@ -27,18 +54,6 @@ module _ {V : Type 0} (takes : V → Event → V → Type 0) where
     pub passes : Passes old.catalog.now old.limits (resting_at before old fs ss) octets count (resting_at after new frames notes)
     pub ahead : Ahead new frames notes after (length octets - count)
     pub hears : Hears takes (heard (told fs ss)) (heard (told frames notes)) a b
-
-  -- so many octets at the front of these were taken up, whatever the reader stood for
-  pub record Strode (old new : TextWalk) (before after : Rest) (octets : List ℕ) (count : ℕ) (a b : V) : Type 0 where
-    pub leads : (fs : List Frame) (ss : Symbols) → Ahead old fs ss before (length octets) → StrodeFrom fs ss old new before after octets count a b
-    pub within : count ≤ length octets - 1
-    pub used : after.used ≡ before.used + count
-
-  -- what taking up of these octets answers: how many they are, or that there is no memory
-  pub record StridesBy (old new : TextWalk) (before after : Rest) (octets : List ℕ) (result : Result ℕ Reason) (a b : V) : Type 0 where
-    pub strode : IfOk result (λ count. Strode old new before after octets count a b)
-    pub memory : IfErr result (λ reason. reason ≡ Memory)
-    pub same : SameSetting old new
 
   -- From where a reader with its scanner stood a run goes on over so many octets to where they stand now.
   pub record Strides (fs : List Frame) (ss : Symbols) (old new : TextWalk) (octets : List ℕ) (count : ℕ) (a b : V) : Type 0 where
@@ -67,6 +82,10 @@ module _ {V : Type 0} (takes : V → Event → V → Type 0) where
     pub leads : (fs : List Frame) (ss : Symbols) → Ahead old fs ss before (length octets) → EndsSo fs ss old new before after octets ends.0 a b ends.1
     pub within : ends.0 ≤ length octets - 1
     pub used : after.used ≡ before.used + ends.0
+
+  -- the same where they only go on
+  abbrev pub Strode : TextWalk → TextWalk → Rest → Rest → List ℕ → ℕ → V → V → Type 0
+  Strode old new before after octets count a b = Ended old new before after octets (count, Taken.Uses) a b
 
   -- what taking up of these octets answers
   pub record EndsBy (old new : TextWalk) (before after : Rest) (octets : List ℕ) (result : Result (ℕ × Taken) Reason) (a b : V) : Type 0 where

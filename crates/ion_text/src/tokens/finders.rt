@@ -1,7 +1,7 @@
 //! Tokens at the front of octets that are a value or a field's name, with what they say. Of a token
 //! that isn't whole, isn't plain or may be a symbol's id nothing is found.
 ghost use Rattle.std.specs.Prelude.{◌≡◌, ◌<◌, false, true, length, take, IfSome, Ok, Some};
-ghost use Rattle.ion_text.specs.Names.{BeginsName, FoundNumber, FoundPart, FoundSymbol, IsFound, IsValue, Number', Rest, held_payload, held_word, is_name, payload_of, said};
+ghost use Rattle.ion_text.specs.Names.{BeginsName, FoundNumber, FoundPart, FoundSymbol, IsFound, IsFree, IsValue, Number', Rest, held_payload, held_word, is_name, payload_of, said};
 ghost use Rattle.ion_tokens.specs.Bodies.{content};
 
 use super::symbols::plain_text;
@@ -168,8 +168,9 @@ pub(crate) fn number_at(octets: &[u8]) -> Option<(FoundToken, Number)>
 /// What a token that isn't plain, and is no clob or blob, is as a value, and whether it would be an
 /// annotation if `::` followed.
 pub(crate) fn rare_part<'b>(body: &'b Body<'_>) -> Option<(bool, Part<'b>)>
-    ensures { IfSome result (λ found.
+    ensures value { IfSome result (λ found.
         IsValue found.0 (content body.now) (payload_of found.1)) }
+    ensures free { IfSome result (λ _. IsFree (content body.now)) }
 {
     match body {
         Body::Quoted(text) => Some((true, Part::Symbol(text.as_str()))),

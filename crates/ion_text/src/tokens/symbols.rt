@@ -14,26 +14,6 @@ pub(super) fn ends_symbol(octet: u8) -> bool
     b' ' < octet && !(octet == b':' || octet == b'/')
 }
 
-// How many octets of a blank stand behind a symbol of so many, if the octet behind them shows that
-// no `::` follows.
-#[inline(always)]
-pub(crate) fn behind_symbol(octets: &[u8], count: usize) -> Option<usize>
-    ensures passed { IfSome result (λ between. IsPassed (drop count octets.now) between) }
-    ensures within { IfSome result (λ between. count + between < length octets.now) }
-    ensures ends { IfSome result (λ between.
-        ends_symbol (get_or octets.now (count + between) 0) ≡ true) }
-{
-    if count >= octets.len() {
-        return None;
-    }
-    let between = blanks(&octets[count..]);
-    let total = count + between;
-    if total >= octets.len() || !ends_symbol(octets[total]) {
-        return None;
-    }
-    Some(between)
-}
-
 // How many octets of a blank, with the comments in it, stand behind this symbol, and where a scanner
 // rests behind them, if the octet behind them shows that no `::` follows.
 #[inline(always)]

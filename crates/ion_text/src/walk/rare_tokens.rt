@@ -2,23 +2,23 @@
 //! with escapes, typed nulls, clobs and blobs.
 #![tactic(auto)]
 
-ghost use Rattle.std.specs.Prelude.{◌≡◌, ◌+◌, ◌<◌, ◌^◌, List, length, false, true, Some, IfSome};
-ghost use Rattle.ion_text.specs.Names.{BeginsValue, Frame, Holds, IsValue, Names, SaysThere, StridesBy, Symbols, Word, is_top, payload_of, place, reading_of};
+ghost use Rattle.std.specs.Prelude.{◌≡◌, ◌+◌, ◌<◌, ◌^◌, length, false, true, Some, IfSome};
+ghost use Rattle.ion_text.specs.Names.{BeginsValue, EndsBy, IsFree, IsHere, IsValue, Names, SaysThere, Takes, Word, held_word, is_marker, payload_of};
 ghost use Rattle.ion_tokens.specs.Bodies.{content};
-ghost use Rattle.ion_tokens.specs.declared.mode.Place.TheVariants as places;
 ghost use Rattle.ion_text.specs.declared.state.Now.TheVariants as nows;
 
 use super::TextWalk;
+use crate::state::Taken;
 use crate::tokens::finders::{Scalar, rare_part, word_part};
 use crate::tokens::symbols::behind_waiting;
-use crate::words::is_keyword;
+use crate::words::{is_keyword, is_version};
 use ion_model::Reason;
 use ion_tokens::{Body, FoundToken, Place, Rest, TokenReader};
 use ion_visiting::{Part, Visitor};
 
 // The token there that isn't plain, with what it says.
 #[inline(never)]
-pub(super) fn rare_at<'p>(
+fn rare_at<'p>(
     beside: &mut TokenReader,
     here: Place,
     rest: Rest,
@@ -35,17 +35,23 @@ pub(super) fn rare_at<'p>(
     }
 }
 
-// What a word is as a value.
+// What a word is as a value, but for one of the form of a version marker.
 fn word_value(word: &str) -> Option<(bool, Part<'_>)>
-    ensures { IfSome result (λ found. IsValue found.0 (Word word.now) (payload_of found.1)) }
+    ensures value { IfSome result (λ found.
+        IsValue found.0 (Word word.now) (payload_of found.1)) }
+    ensures free { IfSome result (λ _. is_marker (held_word word.now) ≡ false) }
 {
+    if is_version(word.as_bytes()) {
+        return None;
+    }
     Some((true, word_part(word)?))
 }
 
 // What such a token is as a value, and whether it would be an annotation if `::` followed.
-pub(super) fn value_part<'b>(body: &'b Body<'_>) -> Option<(bool, Part<'b>)>
-    ensures { IfSome result (λ found.
+fn value_part<'b>(body: &'b Body<'_>) -> Option<(bool, Part<'b>)>
+    ensures value { IfSome result (λ found.
         IsValue found.0 (content body.now) (payload_of found.1)) }
+    ensures free { IfSome result (λ _. IsFree (content body.now)) }
 {
     match body {
         Body::Clob(octets) => Some((false, Part::Clob(octets.as_slice()))),
@@ -68,7 +74,7 @@ fn name_text<'b>(body: &'b Body<'_>) -> Option<&'b str>
 }
 
 impl TextWalk<'_> {
-    /// A value in a container whose token isn't plain.
+    /// A value whose token isn't plain.
     #[inline(never)]
     pub(super) fn take_rare<V: Visitor>(
         &mut self,
@@ -76,22 +82,18 @@ impl TextWalk<'_> {
         rest: &mut Rest,
         octets: &[u8],
         visitor: &mut V,
-    ) -> Result<usize, Reason>
-        requires now { self.old.stage ≡ nows.Ready }
-        requires inner { (fs : List Frame) (ss : Symbols) → Holds self.old fs ss →
-            is_top fs ≡ false }
-        requires here { (fs : List Frame) (ss : Symbols) → Holds self.old fs ss →
-            here ≡ place (reading_of self.old fs ss) }
-        requires room { rest.old.used + length octets.now < 2 ^ 63 }
-        ensures { StridesBy V.takes self.old self.new rest.old rest.new octets.now result
+    ) -> Result<(usize, Taken), Reason>
+        requires takes { Takes nows.Ready self.old rest.old octets.now }
+        requires here { IsHere self.old here }
+        ensures { EndsBy V.takes self.old self.new rest.old rest.new octets.now result
             visitor.old visitor.new }
     {
         let Some((token, body)) = rare_at(&mut self.beside, here, *rest, octets) else {
-            return Ok(0);
+            return Ok((0, Taken::Uses));
         };
-        let count = self.take_body(here, token, &body, rest, octets, visitor);
+        let taken = self.take_body(here, token, &body, rest, octets, visitor);
         drop(body);
-        count
+        taken
     }
 
     /// This token, which says so.
@@ -103,19 +105,15 @@ impl TextWalk<'_> {
         rest: &mut Rest,
         octets: &[u8],
         visitor: &mut V,
-    ) -> Result<usize, Reason>
-        requires now { self.old.stage ≡ nows.Ready }
-        requires inner { (fs : List Frame) (ss : Symbols) → Holds self.old fs ss →
-            is_top fs ≡ false }
-        requires here { (fs : List Frame) (ss : Symbols) → Holds self.old fs ss →
-            here ≡ place (reading_of self.old fs ss) }
+    ) -> Result<(usize, Taken), Reason>
+        requires takes { Takes nows.Ready self.old rest.old octets.now }
+        requires here { IsHere self.old here }
         requires says { SaysThere here rest.old octets.now token (content body.now) }
-        requires room { rest.old.used + length octets.now < 2 ^ 63 }
-        ensures { StridesBy V.takes self.old self.new rest.old rest.new octets.now result
+        ensures { EndsBy V.takes self.old self.new rest.old rest.new octets.now result
             visitor.old visitor.new }
     {
         let Some((waits, said)) = value_part(body) else {
-            return Ok(0);
+            return Ok((0, Taken::Uses));
         };
         let scalar = Scalar { token, waits };
         if !waits {
@@ -138,19 +136,15 @@ impl TextWalk<'_> {
         rest: &mut Rest,
         octets: &[u8],
         visitor: &mut V,
-    ) -> Result<usize, Reason>
-        requires now { self.old.stage ≡ nows.Ready }
-        requires inner { (fs : List Frame) (ss : Symbols) → Holds self.old fs ss →
-            is_top fs ≡ false }
-        requires here { (fs : List Frame) (ss : Symbols) → Holds self.old fs ss →
-            here ≡ place (reading_of self.old fs ss) }
+    ) -> Result<(usize, Taken), Reason>
+        requires takes { Takes nows.Ready self.old rest.old octets.now }
+        requires here { IsHere self.old here }
         requires token { BeginsValue true here rest.old octets.now token (payload_of said.now) }
-        requires room { rest.old.used + length octets.now < 2 ^ 63 }
-        ensures { StridesBy V.takes self.old self.new rest.old rest.new octets.now result
+        ensures { EndsBy V.takes self.old self.new rest.old rest.new octets.now result
             visitor.old visitor.new }
     {
         let Part::Symbol(text) = said else {
-            return Ok(0);
+            return Ok((0, Taken::Uses));
         };
         let symbol = self.recent.symbol(text)?;
         self.take_known_note(here, token, symbol, rest, octets, visitor)
@@ -163,20 +157,20 @@ impl TextWalk<'_> {
         rest: &mut Rest,
         octets: &[u8],
         visitor: &mut V,
-    ) -> Result<usize, Reason>
-        requires now { self.old.stage ≡ nows.Name }
-        requires room { rest.old.used + length octets.now < 2 ^ 63 }
-        ensures { StridesBy V.takes self.old self.new rest.old rest.new octets.now result
+    ) -> Result<(usize, Taken), Reason>
+        requires { Takes nows.Name self.old rest.old octets.now }
+        ensures { EndsBy V.takes self.old self.new rest.old rest.new octets.now result
             visitor.old visitor.new }
     {
         let Some((token, body)) = rare_at(&mut self.beside, Place::Name, *rest, octets) else {
-            return Ok(0);
+            return Ok((0, Taken::Uses));
         };
-        let count = match name_text(&body) {
-            None => Ok(0),
-            Some(text) => self.take_key(token, text, rest, octets, visitor),
+        let Some(text) = name_text(&body) else {
+            drop(body);
+            return Ok((0, Taken::Uses));
         };
+        let taken = self.take_key(token, text, rest, octets, visitor);
         drop(body);
-        count
+        taken
     }
 }

@@ -2,12 +2,13 @@
 //! events. It recurses nowhere, so it goes on where the last piece ended. What is cut, refused or
 //! unusual is left to the octets, and so is at least the last octet.
 //!
-//! Where a container is open a token only goes on; another answer couldn't come, and is told as
-//! memory that ran out, which says nothing of the octets.
+//! A value goes on where a container is open, and ends an item of the top level where none is. What
+//! else might come of a token couldn't come, and is told as memory that ran out, which says nothing
+//! of the octets. The ends of local symbol tables are left to them.
 #![tactic(auto)]
 
-ghost use Rattle.std.specs.Prelude.{◌≡◌, ℕ, ◌+◌, ◌-◌, ◌<◌, ◌≤◌, ◌^◌, List, [], ◌∷◌, ◌++◌, length, get_or, take, drop, false, true, nat_lt, Some, IfOk, IfErr, IfSome, OnOk};
-ghost use Rattle.ion_text.specs.Names.{BeginsName, Does, EndsBy, FoundPart, FoundSymbol, Frame, Holds, IsFine, IsStill, MayClose, Memory, NoteThere, Number as AnyNumber, OpensAt, Place as AnyPlace, Rest as AnyRest, RestsBehind, SamePlace, SameReader, SameSetting, StaysSteady, StridesBy, Symbols, TookSo, WentOn, begun_at, calm, close_octet, closes, ends_symbol, is_top, named, names_table, past_blank, past_token, payload_of, place, reading_of, resting, scanned, told};
+ghost use Rattle.std.specs.Prelude.{◌≡◌, ℕ, ◌+◌, ◌-◌, ◌<◌, ◌≤◌, ◌^◌, List, [], ◌∷◌, ◌++◌, length, get_or, take, drop, false, true, Some, IfOk, IfErr, IfSome, OnOk};
+ghost use Rattle.ion_text.specs.Names.{BeginsName, Does, EndsBy, FoundPart, FoundSymbol, Frame, Holds, IsFine, IsHere, IsStill, MayClose, Memory, OpensAt, Place as AnyPlace, Rest as AnyRest, RestsBehind, SamePlace, SameReader, SameSetting, StaysSteady, Symbols, Takes, TookSo, WentOn, begun_at, calm, close_octet, closes, ends_symbol, is_null_struct, is_top, named, names_table, only_goes, past_blank, past_token, payload_of, resting, scanned, told, value_took};
 ghost use Rattle.ion_tokens.specs.declared.mode.Place.TheVariants as places;
 ghost use Rattle.ion_text.specs.declared.state.Now.TheVariants as nows;
 
@@ -21,7 +22,7 @@ use crate::tokens::finders::{
 };
 use crate::tokens::marks::{bracket_at, close_mark, open_mark};
 use crate::tokens::symbols::{behind_name, behind_waiting};
-use ion_model::Reason;
+use ion_model::{Kind, Reason};
 use ion_tokens::{FoundToken, Mark, Place, Rest, TokenKind, blank_with_comments, blanks};
 use ion_visiting::{Bracket, Part, Visitor};
 
@@ -53,6 +54,48 @@ fn past_comments(rest: &mut Rest, octets: &[u8]) -> usize
     }
     *rest = behind;
     blank
+}
+
+// Whether a part may be a local symbol table where it is annotated as one.
+#[inline(always)]
+fn is_null_struct(said: &Part<'_>) -> bool
+    ensures { result ≡ is_null_struct said.now }
+{
+    match said {
+        Part::Null(kind) => matches!(kind, Kind::Fields),
+        _ => false,
+    }
+}
+
+// What a token answers that is only followed by more, of so many octets.
+#[inline(always)]
+pub(super) fn only_goes(
+    effect: Result<Effect, Reason>,
+    count: usize,
+) -> Result<(usize, Taken), Reason>
+    ensures { result ≡ only_goes effect count }
+{
+    match effect {
+        Ok(Effect::Goes) => Ok((count, Taken::Uses)),
+        _ => Err(Reason::Memory),
+    }
+}
+
+// What a token answers that ends a value, of so many octets; the octet behind them may show its end.
+#[inline(always)]
+pub(super) fn value_took(
+    effect: Result<Effect, Reason>,
+    count: usize,
+    left: bool,
+) -> Result<(usize, Taken), Reason>
+    ensures { result ≡ value_took effect count left }
+{
+    match effect {
+        Ok(Effect::Goes) => Ok((count, Taken::Uses)),
+        Ok(Effect::Gives) if left => Ok((count, Taken::Leaves)),
+        Ok(Effect::Gives) => Ok((count, Taken::Tells)),
+        _ => Err(Reason::Memory),
+    }
 }
 
 impl TextWalk<'_> {
@@ -190,36 +233,11 @@ impl TextWalk<'_> {
         if octets.len() < 2 {
             return Ok((0, Taken::Uses));
         }
-        if self.is_top() {
-            return self.take_top(rest, octets, visitor);
-        }
-        let count = self.take_inner(rest, octets, visitor)?;
-        if count > 0 {
-            return Ok((count, Taken::Uses));
-        }
-        self.end_container(rest, octets, visitor)
-    }
-
-    /// A token in a container, but for the close of that of the top level.
-    #[inline(always)]
-    fn take_inner<V: Visitor>(
-        &mut self,
-        rest: &mut Rest,
-        octets: &[u8],
-        visitor: &mut V,
-    ) -> Result<usize, Reason>
-        requires inner { (fs : List Frame) (ss : Symbols) → Holds self.old fs ss →
-            is_top fs ≡ false }
-        requires more { 1 < length octets.now }
-        requires room { rest.old.used + length octets.now < 2 ^ 63 }
-        ensures { StridesBy V.takes self.old self.new rest.old rest.new octets.now result
-            visitor.old visitor.new }
-    {
         match &self.stage {
             Now::Ready => self.take_value(rest, octets, visitor),
             Now::Name => self.take_field(rest, octets, visitor),
             Now::After => self.take_after(rest, octets, visitor),
-            _ => Ok(0),
+            _ => Ok((0, Taken::Uses)),
         }
     }
 
@@ -230,11 +248,9 @@ impl TextWalk<'_> {
         rest: &mut Rest,
         octets: &[u8],
         visitor: &mut V,
-    ) -> Result<usize, Reason>
-        requires now { self.old.stage ≡ nows.After }
-        requires more { 1 < length octets.now }
-        requires room { rest.old.used + length octets.now < 2 ^ 63 }
-        ensures { StridesBy V.takes self.old self.new rest.old rest.new octets.now result
+    ) -> Result<(usize, Taken), Reason>
+        requires { Takes nows.After self.old rest.old octets.now }
+        ensures { EndsBy V.takes self.old self.new rest.old rest.new octets.now result
             visitor.old visitor.new }
     {
         if octets[0] == b',' {
@@ -250,22 +266,15 @@ impl TextWalk<'_> {
         rest: &mut Rest,
         octets: &[u8],
         visitor: &V,
-    ) -> Result<usize, Reason>
-        requires now { self.old.stage ≡ nows.After }
-        requires more { 1 < length octets.now }
+    ) -> Result<(usize, Taken), Reason>
+        requires takes { Takes nows.After self.old rest.old octets.now }
         requires comma { get_or octets.now 0 0 ≡ 44 }
-        requires room { rest.old.used + length octets.now < 2 ^ 63 }
-        ensures { StridesBy V.takes self.old self.new rest.old rest.new octets.now result
+        ensures { EndsBy V.takes self.old self.new rest.old rest.new octets.now result
             visitor.now visitor.now }
     {
         let here = self.place();
-        match self.on_comma() {
-            Ok(Effect::Goes) => {
-                *rest = rest.past_token(here, TokenKind::Mark(Mark::Comma), 1);
-                Ok(1)
-            }
-            _ => Err(Reason::Memory),
-        }
+        *rest = rest.past_token(here, TokenKind::Mark(Mark::Comma), 1);
+        only_goes(self.on_comma(), 1)
     }
 
     /// What the octet closes, if that is the innermost container.
@@ -287,31 +296,31 @@ impl TextWalk<'_> {
         }
     }
 
-    /// The close of a container that stands in another.
+    /// A close, but that of what may be a local symbol table, which may end no value.
     #[inline(always)]
     fn take_close<V: Visitor>(
         &mut self,
         rest: &mut Rest,
         octets: &[u8],
         visitor: &mut V,
-    ) -> Result<usize, Reason>
+    ) -> Result<(usize, Taken), Reason>
         requires more { 1 < length octets.now }
         requires room { rest.old.used + length octets.now < 2 ^ 63 }
-        ensures { StridesBy V.takes self.old self.new rest.old rest.new octets.now result
+        ensures { EndsBy V.takes self.old self.new rest.old rest.new octets.now result
             visitor.old visitor.new }
     {
-        if self.frames.len() < 2 {
-            return Ok(0);
+        let nested = self.frames.len() > 1;
+        if !nested && self.filter.may_be_table() {
+            return Ok((0, Taken::Uses));
         }
         let Some(bracket) = self.closing(octets[0]) else {
-            return Ok(0);
+            return Ok((0, Taken::Uses));
         };
         let here = self.place();
-        match self.close(bracket, rest.used + 1, visitor) {
-            Ok(Effect::Goes) => {
-                *rest = rest.past_token(here, TokenKind::Mark(close_mark(bracket)), 1);
-                Ok(1)
-            }
+        *rest = rest.past_token(here, TokenKind::Mark(close_mark(bracket)), 1);
+        match self.close(bracket, rest.used, visitor) {
+            Ok(Effect::Goes) if nested => Ok((1, Taken::Uses)),
+            Ok(Effect::Gives) => Ok((1, Taken::Tells)),
             _ => Err(Reason::Memory),
         }
     }
@@ -323,11 +332,9 @@ impl TextWalk<'_> {
         rest: &mut Rest,
         octets: &[u8],
         visitor: &mut V,
-    ) -> Result<usize, Reason>
-        requires now { self.old.stage ≡ nows.Name }
-        requires more { 1 < length octets.now }
-        requires room { rest.old.used + length octets.now < 2 ^ 63 }
-        ensures { StridesBy V.takes self.old self.new rest.old rest.new octets.now result
+    ) -> Result<(usize, Taken), Reason>
+        requires { Takes nows.Name self.old rest.old octets.now }
+        ensures { EndsBy V.takes self.old self.new rest.old rest.new octets.now result
             visitor.old visitor.new }
     {
         if octets[0] == b'}' {
@@ -349,17 +356,15 @@ impl TextWalk<'_> {
         rest: &mut Rest,
         octets: &[u8],
         visitor: &mut V,
-    ) -> Result<usize, Reason>
-        requires now { self.old.stage ≡ nows.Name }
-        requires more { 1 < length octets.now }
-        requires room { rest.old.used + length octets.now < 2 ^ 63 }
-        ensures { StridesBy V.takes self.old self.new rest.old rest.new octets.now result
+    ) -> Result<(usize, Taken), Reason>
+        requires { Takes nows.Name self.old rest.old octets.now }
+        ensures { EndsBy V.takes self.old self.new rest.old rest.new octets.now result
             visitor.old visitor.new }
     {
         if may_be_rare(octets) {
             return self.take_rare_name(rest, octets, visitor);
         }
-        Ok(0)
+        Ok((0, Taken::Uses))
     }
 
     /// This name of a field, with the blank behind it and its colon.
@@ -371,26 +376,20 @@ impl TextWalk<'_> {
         rest: &mut Rest,
         octets: &[u8],
         visitor: &mut V,
-    ) -> Result<usize, Reason>
-        requires now { self.old.stage ≡ nows.Name }
+    ) -> Result<(usize, Taken), Reason>
+        requires takes { Takes nows.Name self.old rest.old octets.now }
         requires token { BeginsName places.Name rest.old octets.now token (Some text.now) }
-        requires room { rest.old.used + length octets.now < 2 ^ 63 }
-        ensures { StridesBy V.takes self.old self.new rest.old rest.new octets.now result
+        ensures { EndsBy V.takes self.old self.new rest.old rest.new octets.now result
             visitor.old visitor.new }
     {
         let Some(between) = behind_name(octets, token.count) else {
-            return Ok(0);
+            return Ok((0, Taken::Uses));
         };
-        match self.named_by(text, visitor) {
-            Ok(Effect::Goes) => {
-                *rest = rest
-                    .past_token(Place::Name, token.kind, token.count)
-                    .past_blank(between)
-                    .past_token(Place::Name, TokenKind::Mark(Mark::Colon), 1);
-                Ok(token.count + between + 1)
-            }
-            _ => Err(Reason::Memory),
-        }
+        *rest = rest
+            .past_token(Place::Name, token.kind, token.count)
+            .past_blank(between)
+            .past_token(Place::Name, TokenKind::Mark(Mark::Colon), 1);
+        only_goes(self.named_by(text, visitor), token.count + between + 1)
     }
 
     /// Behind the colon of a field of this name.
@@ -408,20 +407,16 @@ impl TextWalk<'_> {
         Ok(Effect::Goes)
     }
 
-    /// What stands in a container where a value may come.
+    /// What stands where a value may come.
     #[inline(always)]
     fn take_value<V: Visitor>(
         &mut self,
         rest: &mut Rest,
         octets: &[u8],
         visitor: &mut V,
-    ) -> Result<usize, Reason>
-        requires now { self.old.stage ≡ nows.Ready }
-        requires inner { (fs : List Frame) (ss : Symbols) → Holds self.old fs ss →
-            is_top fs ≡ false }
-        requires more { 1 < length octets.now }
-        requires room { rest.old.used + length octets.now < 2 ^ 63 }
-        ensures { StridesBy V.takes self.old self.new rest.old rest.new octets.now result
+    ) -> Result<(usize, Taken), Reason>
+        requires { Takes nows.Ready self.old rest.old octets.now }
+        ensures { EndsBy V.takes self.old self.new rest.old rest.new octets.now result
             visitor.old visitor.new }
     {
         if let Some(bracket) = bracket_at(octets) {
@@ -438,48 +433,37 @@ impl TextWalk<'_> {
 
     /// The open of a container.
     #[inline(always)]
-    pub(super) fn take_open<V: Visitor>(
+    fn take_open<V: Visitor>(
         &mut self,
         bracket: Bracket,
         rest: &mut Rest,
         octets: &[u8],
         visitor: &mut V,
-    ) -> Result<usize, Reason>
-        requires now { self.old.stage ≡ nows.Ready }
-        requires more { 1 < length octets.now }
+    ) -> Result<(usize, Taken), Reason>
+        requires takes { Takes nows.Ready self.old rest.old octets.now }
         requires opens { OpensAt octets.now bracket }
-        requires room { rest.old.used + length octets.now < 2 ^ 63 }
-        ensures { StridesBy V.takes self.old self.new rest.old rest.new octets.now result
+        ensures { EndsBy V.takes self.old self.new rest.old rest.new octets.now result
             visitor.old visitor.new }
     {
         if !self.may_deepen() {
-            return Ok(0);
+            return Ok((0, Taken::Uses));
         }
         let here = self.place();
         self.start = self.begun_at(rest.used);
-        match self.open(bracket, visitor) {
-            Ok(Effect::Goes) => {
-                *rest = rest.past_token(here, TokenKind::Mark(open_mark(bracket)), 1);
-                Ok(1)
-            }
-            _ => Err(Reason::Memory),
-        }
+        *rest = rest.past_token(here, TokenKind::Mark(open_mark(bracket)), 1);
+        only_goes(self.open(bracket, visitor), 1)
     }
 
-    /// A number in a container.
+    /// A number, whose end the octet behind it shows.
     #[inline(always)]
     fn take_number<V: Visitor>(
         &mut self,
         rest: &mut Rest,
         octets: &[u8],
         visitor: &mut V,
-    ) -> Result<usize, Reason>
-        requires now { self.old.stage ≡ nows.Ready }
-        requires inner { (fs : List Frame) (ss : Symbols) → Holds self.old fs ss →
-            is_top fs ≡ false }
-        requires more { 1 < length octets.now }
-        requires room { rest.old.used + length octets.now < 2 ^ 63 }
-        ensures { StridesBy V.takes self.old self.new rest.old rest.new octets.now result
+    ) -> Result<(usize, Taken), Reason>
+        requires { Takes nows.Ready self.old rest.old octets.now }
+        ensures { EndsBy V.takes self.old self.new rest.old rest.new octets.now result
             visitor.old visitor.new }
     {
         if self.needs_telling(visitor) {
@@ -489,60 +473,50 @@ impl TextWalk<'_> {
             return self.tell_number(rest, octets, visitor);
         };
         let here = self.place();
-        let end = rest.used + token.count as u64;
-        match self.whole_untold(end, visitor) {
-            Ok(Effect::Goes) => {
-                *rest = rest.past_token(here, token.kind, token.count);
-                Ok(token.count)
-            }
-            _ => Err(Reason::Memory),
-        }
+        self.start = self.begun_at(rest.used);
+        *rest = rest.past_token(here, token.kind, token.count);
+        value_took(
+            self.whole_untold(rest.used, visitor),
+            token.count,
+            token.left,
+        )
     }
 
-    /// A number in a container, which is told.
+    /// A number, which is told.
     #[inline(never)]
     fn tell_number<V: Visitor>(
         &mut self,
         rest: &mut Rest,
         octets: &[u8],
         visitor: &mut V,
-    ) -> Result<usize, Reason>
-        requires now { self.old.stage ≡ nows.Ready }
-        requires inner { (fs : List Frame) (ss : Symbols) → Holds self.old fs ss →
-            is_top fs ≡ false }
-        requires more { 1 < length octets.now }
-        requires room { rest.old.used + length octets.now < 2 ^ 63 }
-        ensures { StridesBy V.takes self.old self.new rest.old rest.new octets.now result
+    ) -> Result<(usize, Taken), Reason>
+        requires { Takes nows.Ready self.old rest.old octets.now }
+        ensures { EndsBy V.takes self.old self.new rest.old rest.new octets.now result
             visitor.old visitor.new }
     {
         let Some((token, number)) = number_at(octets) else {
             return self.take_other(rest, octets, visitor);
         };
         let here = self.place();
-        let end = rest.used + token.count as u64;
-        match self.whole_number(number, end, visitor) {
-            Ok(Effect::Goes) => {
-                *rest = rest.past_token(here, token.kind, token.count);
-                Ok(token.count)
-            }
-            _ => Err(Reason::Memory),
-        }
+        self.start = self.begun_at(rest.used);
+        *rest = rest.past_token(here, token.kind, token.count);
+        value_took(
+            self.whole_number(number, rest.used, visitor),
+            token.count,
+            token.left,
+        )
     }
 
-    /// A short string, an operator or a close in a container.
+    /// A short string, an operator or a close.
     #[inline(always)]
     fn take_other<V: Visitor>(
         &mut self,
         rest: &mut Rest,
         octets: &[u8],
         visitor: &mut V,
-    ) -> Result<usize, Reason>
-        requires now { self.old.stage ≡ nows.Ready }
-        requires inner { (fs : List Frame) (ss : Symbols) → Holds self.old fs ss →
-            is_top fs ≡ false }
-        requires more { 1 < length octets.now }
-        requires room { rest.old.used + length octets.now < 2 ^ 63 }
-        ensures { StridesBy V.takes self.old self.new rest.old rest.new octets.now result
+    ) -> Result<(usize, Taken), Reason>
+        requires { Takes nows.Ready self.old rest.old octets.now }
+        ensures { EndsBy V.takes self.old self.new rest.old rest.new octets.now result
             visitor.old visitor.new }
     {
         let here = self.place();
@@ -563,7 +537,7 @@ impl TextWalk<'_> {
         self.take_close(rest, octets, visitor)
     }
 
-    /// This token in a container, which is a value at once.
+    /// This token, which is a value at once.
     #[inline(always)]
     pub(super) fn take_whole<V: Visitor>(
         &mut self,
@@ -573,47 +547,41 @@ impl TextWalk<'_> {
         rest: &mut Rest,
         octets: &[u8],
         visitor: &mut V,
-    ) -> Result<usize, Reason>
-        requires now { self.old.stage ≡ nows.Ready }
-        requires inner { (fs : List Frame) (ss : Symbols) → Holds self.old fs ss →
-            is_top fs ≡ false }
-        requires here { (fs : List Frame) (ss : Symbols) → Holds self.old fs ss →
-            here ≡ place (reading_of self.old fs ss) }
+    ) -> Result<(usize, Taken), Reason>
+        requires takes { Takes nows.Ready self.old rest.old octets.now }
+        requires here { IsHere self.old here }
         requires found { FoundPart here rest.old octets.now scalar (payload_of said.now) }
         requires waits { scalar.waits ≡ false }
-        requires room { rest.old.used + length octets.now < 2 ^ 63 }
-        ensures { StridesBy V.takes self.old self.new rest.old rest.new octets.now result
+        ensures { EndsBy V.takes self.old self.new rest.old rest.new octets.now result
             visitor.old visitor.new }
     {
         let token = scalar.token;
         if token.count >= octets.len() {
-            return Ok(0);
+            return Ok((0, Taken::Uses));
         }
-        let end = rest.used + token.count as u64;
-        match self.whole(said, end, visitor) {
-            Ok(Effect::Goes) => {
-                *rest = rest.past_token(here, token.kind, token.count);
-                Ok(token.count)
-            }
-            _ => Err(Reason::Memory),
+        if self.is_left(1, is_null_struct(said)) {
+            return Ok((0, Taken::Uses));
         }
+        self.start = self.begun_at(rest.used);
+        *rest = rest.past_token(here, token.kind, token.count);
+        value_took(
+            self.whole(said, rest.used, visitor),
+            token.count,
+            token.left,
+        )
     }
 
-    /// A symbol, a null or a truth in a container, or an annotation, where the octets show which; or
-    /// a long string. Most often it is a word.
+    /// A symbol, a null or a truth, or an annotation, where the octets show which; or a long string.
+    /// Most often it is a word.
     #[inline(always)]
     fn take_symbol<V: Visitor>(
         &mut self,
         rest: &mut Rest,
         octets: &[u8],
         visitor: &mut V,
-    ) -> Result<usize, Reason>
-        requires now { self.old.stage ≡ nows.Ready }
-        requires inner { (fs : List Frame) (ss : Symbols) → Holds self.old fs ss →
-            is_top fs ≡ false }
-        requires more { 1 < length octets.now }
-        requires room { rest.old.used + length octets.now < 2 ^ 63 }
-        ensures { StridesBy V.takes self.old self.new rest.old rest.new octets.now result
+    ) -> Result<(usize, Taken), Reason>
+        requires { Takes nows.Ready self.old rest.old octets.now }
+        ensures { EndsBy V.takes self.old self.new rest.old rest.new octets.now result
             visitor.old visitor.new }
     {
         match word_at(octets) {
@@ -629,13 +597,9 @@ impl TextWalk<'_> {
         rest: &mut Rest,
         octets: &[u8],
         visitor: &mut V,
-    ) -> Result<usize, Reason>
-        requires now { self.old.stage ≡ nows.Ready }
-        requires inner { (fs : List Frame) (ss : Symbols) → Holds self.old fs ss →
-            is_top fs ≡ false }
-        requires more { 1 < length octets.now }
-        requires room { rest.old.used + length octets.now < 2 ^ 63 }
-        ensures { StridesBy V.takes self.old self.new rest.old rest.new octets.now result
+    ) -> Result<(usize, Taken), Reason>
+        requires { Takes nows.Ready self.old rest.old octets.now }
+        ensures { EndsBy V.takes self.old self.new rest.old rest.new octets.now result
             visitor.old visitor.new }
     {
         match other_symbol_at(octets) {
@@ -644,7 +608,7 @@ impl TextWalk<'_> {
         }
     }
 
-    /// This symbol, null or truth in a container, or an annotation, where the octets show which.
+    /// This symbol, null or truth, or an annotation, where the octets show which.
     #[inline(always)]
     fn take_this_symbol<V: Visitor>(
         &mut self,
@@ -653,15 +617,11 @@ impl TextWalk<'_> {
         rest: &mut Rest,
         octets: &[u8],
         visitor: &mut V,
-    ) -> Result<usize, Reason>
-        requires now { self.old.stage ≡ nows.Ready }
-        requires inner { (fs : List Frame) (ss : Symbols) → Holds self.old fs ss →
-            is_top fs ≡ false }
+    ) -> Result<(usize, Taken), Reason>
+        requires takes { Takes nows.Ready self.old rest.old octets.now }
         requires found { (here : AnyPlace) (rest : AnyRest) →
             FoundSymbol here rest octets.now scalar (payload_of said.now) }
-        requires more { 1 < length octets.now }
-        requires room { rest.old.used + length octets.now < 2 ^ 63 }
-        ensures { StridesBy V.takes self.old self.new rest.old rest.new octets.now result
+        ensures { EndsBy V.takes self.old self.new rest.old rest.new octets.now result
             visitor.old visitor.new }
     {
         let here = self.place();
@@ -671,7 +631,20 @@ impl TextWalk<'_> {
         self.take_word(here, scalar, said, between, behind, rest, octets, visitor)
     }
 
-    /// This symbol, null or truth in a container, with the blank behind it and the comments in that.
+    /// Whether a value is left to the octets where no container is open: one with no blank behind it,
+    /// and one that may be a local symbol table.
+    #[inline(always)]
+    pub(super) fn is_left(&self, between: usize, fields: bool) -> bool
+        ensures { result ≡ false → (fs : List Frame) (ss : Symbols) → Holds self.now fs ss →
+            is_top fs ≡ true → (0 < between) × (fields ≡ false) }
+    {
+        if !self.is_top() {
+            return false;
+        }
+        between == 0 || fields
+    }
+
+    /// This symbol, null or truth, with the blank behind it and the comments in that.
     #[inline(always)]
     pub(super) fn take_word<V: Visitor>(
         &mut self,
@@ -683,48 +656,41 @@ impl TextWalk<'_> {
         rest: &mut Rest,
         octets: &[u8],
         visitor: &mut V,
-    ) -> Result<usize, Reason>
-        requires now { self.old.stage ≡ nows.Ready }
-        requires inner { (fs : List Frame) (ss : Symbols) → Holds self.old fs ss →
-            is_top fs ≡ false }
-        requires here { (fs : List Frame) (ss : Symbols) → Holds self.old fs ss →
-            here ≡ place (reading_of self.old fs ss) }
-        requires found { FoundPart here rest.old octets.now scalar (payload_of said.now) }
-        requires waits { scalar.waits ≡ true }
+    ) -> Result<(usize, Taken), Reason>
+        requires takes { Takes nows.Ready self.old rest.old octets.now }
+        requires here { IsHere self.old here }
+        requires found { FoundSymbol here rest.old octets.now scalar (payload_of said.now) }
         requires rests { RestsBehind (drop scalar.token.count octets.now) between
             (past_token here rest.old scalar.token.kind scalar.token.count) behind }
         requires within { scalar.token.count + between < length octets.now }
         requires ends { ends_symbol (get_or octets.now (scalar.token.count + between) 0) ≡ true }
-        requires room { rest.old.used + length octets.now < 2 ^ 63 }
-        ensures { StridesBy V.takes self.old self.new rest.old rest.new octets.now result
+        ensures { EndsBy V.takes self.old self.new rest.old rest.new octets.now result
             visitor.old visitor.new }
     {
+        if self.is_left(between, is_null_struct(said)) {
+            return Ok((0, Taken::Uses));
+        }
         let token = scalar.token;
         let end = rest.used + token.count as u64;
-        match self.whole(said, end, visitor) {
-            Ok(Effect::Goes) => {
-                *rest = behind;
-                Ok(token.count + between)
-            }
-            _ => Err(Reason::Memory),
-        }
+        self.start = self.begun_at(rest.used);
+        *rest = behind;
+        value_took(self.whole(said, end, visitor), token.count + between, true)
     }
 
     /// An annotation with its `::`.
     #[inline(always)]
-    pub(super) fn take_note<V: Visitor>(
+    fn take_note<V: Visitor>(
         &mut self,
         rest: &mut Rest,
         octets: &[u8],
         visitor: &mut V,
-    ) -> Result<usize, Reason>
-        requires now { self.old.stage ≡ nows.Ready }
-        requires room { rest.old.used + length octets.now < 2 ^ 63 }
-        ensures { StridesBy V.takes self.old self.new rest.old rest.new octets.now result
+    ) -> Result<(usize, Taken), Reason>
+        requires { Takes nows.Ready self.old rest.old octets.now }
+        ensures { EndsBy V.takes self.old self.new rest.old rest.new octets.now result
             visitor.old visitor.new }
     {
         let Some(note) = note_at(octets) else {
-            return Ok(0);
+            return Ok((0, Taken::Uses));
         };
         let here = self.place();
         self.start = self.begun_at(rest.used);
@@ -734,7 +700,7 @@ impl TextWalk<'_> {
             .past_token(here, token.kind, token.count)
             .past_blank(note.between)
             .past_token(here, TokenKind::Mark(Mark::Colons), 2);
-        Ok(token.count + note.between + 2)
+        Ok((token.count + note.between + 2, Taken::Uses))
     }
 
     /// An annotation of this text, which names no local symbol tables, has come.

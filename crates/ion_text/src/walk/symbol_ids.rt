@@ -1,14 +1,15 @@
-//! Symbol ids that lie whole in a piece, where a container is open: as values, as annotations and as
-//! names of fields. An id that stands for no symbol is left to the octets.
+//! Symbol ids that lie whole in a piece: as values, as annotations and as names of fields. An id that
+//! stands for no symbol is left to the octets, and so is an annotation of an item of the top level.
 #![tactic(auto)]
 
-ghost use Rattle.std.specs.Prelude.{◌≡◌, ◌+◌, ◌<◌, ◌^◌, List, false, length, IfSome};
-ghost use Rattle.ion_text.specs.Names.{Frame, Holds, Id, Place as AnyPlace, Rest as AnyRest, SaysThere, StridesBy, SymbolThere, Symbols, is_top, place, reading_of};
+ghost use Rattle.std.specs.Prelude.{◌≡◌, ◌+◌, ◌<◌, IfSome};
+ghost use Rattle.ion_text.specs.Names.{EndsBy, Id, IsHere, Place as AnyPlace, Rest as AnyRest, SaysThere, SymbolThere, Takes};
 ghost use Rattle.ion_tokens.specs.declared.mode.TokenKind.TheVariants as kinds;
 ghost use Rattle.ion_text.specs.declared.state.Now.TheVariants as nows;
 
+use super::stride::{only_goes, value_took};
 use super::{TextWalk, heard};
-use crate::state::{Effect, Now};
+use crate::state::{Now, Taken};
 use crate::tokens::symbols::{behind_annotation, behind_name, behind_waiting};
 use crate::words::symbol_id;
 use ion_model::{Reason, Symbol};
@@ -36,7 +37,7 @@ fn id_at(octets: &[u8]) -> Option<(FoundToken, u64)>
 }
 
 impl TextWalk<'_> {
-    /// A word in a container that begins with `$`: a symbol's id, or a symbol.
+    /// A word that begins with `$`: a symbol's id, or a symbol.
     #[inline(never)]
     pub(super) fn take_dollar<V: Visitor>(
         &mut self,
@@ -44,14 +45,10 @@ impl TextWalk<'_> {
         rest: &mut Rest,
         octets: &[u8],
         visitor: &mut V,
-    ) -> Result<usize, Reason>
-        requires now { self.old.stage ≡ nows.Ready }
-        requires inner { (fs : List Frame) (ss : Symbols) → Holds self.old fs ss →
-            is_top fs ≡ false }
-        requires here { (fs : List Frame) (ss : Symbols) → Holds self.old fs ss →
-            here ≡ place (reading_of self.old fs ss) }
-        requires room { rest.old.used + length octets.now < 2 ^ 63 }
-        ensures { StridesBy V.takes self.old self.new rest.old rest.new octets.now result
+    ) -> Result<(usize, Taken), Reason>
+        requires takes { Takes nows.Ready self.old rest.old octets.now }
+        requires here { IsHere self.old here }
+        ensures { EndsBy V.takes self.old self.new rest.old rest.new octets.now result
             visitor.old visitor.new }
     {
         let Some((token, id)) = id_at(octets) else {
@@ -60,21 +57,21 @@ impl TextWalk<'_> {
         let Some((between, behind)) = behind_waiting(here, *rest, token, octets) else {
             return self.take_id_note(here, token, id, rest, octets, visitor);
         };
+        if self.is_left(between, false) {
+            return Ok((0, Taken::Uses));
+        }
+        let begin = self.begun_at(rest.used);
         let Ok(symbol) = self.context.symbol(id) else {
-            return Ok(0);
+            return Ok((0, Taken::Uses));
         };
         let end = rest.used + token.count as u64;
         heard(self.filter.symbol(symbol, visitor))?;
-        match self.ended(end) {
-            Ok(Effect::Goes) => {
-                *rest = behind;
-                Ok(token.count + between)
-            }
-            _ => Err(Reason::Memory),
-        }
+        self.start = begin;
+        *rest = behind;
+        value_took(self.ended(end), token.count + between, true)
     }
 
-    /// The symbol of this id in a container as an annotation, with its `::`.
+    /// The symbol of this id as an annotation, with its `::`.
     #[inline(never)]
     fn take_id_note<V: Visitor>(
         &mut self,
@@ -84,25 +81,21 @@ impl TextWalk<'_> {
         rest: &mut Rest,
         octets: &[u8],
         visitor: &mut V,
-    ) -> Result<usize, Reason>
-        requires now { self.old.stage ≡ nows.Ready }
-        requires inner { (fs : List Frame) (ss : Symbols) → Holds self.old fs ss →
-            is_top fs ≡ false }
-        requires here { (fs : List Frame) (ss : Symbols) → Holds self.old fs ss →
-            here ≡ place (reading_of self.old fs ss) }
+    ) -> Result<(usize, Taken), Reason>
+        requires takes { Takes nows.Ready self.old rest.old octets.now }
+        requires here { IsHere self.old here }
         requires says { SaysThere here rest.old octets.now token (Id id) }
         requires word { token.kind ≡ kinds.Word }
-        requires room { rest.old.used + length octets.now < 2 ^ 63 }
-        ensures { StridesBy V.takes self.old self.new rest.old rest.new octets.now result
+        ensures { EndsBy V.takes self.old self.new rest.old rest.new octets.now result
             visitor.old visitor.new }
     {
         let Ok(symbol) = self.context.resolve(id) else {
-            return Ok(0);
+            return Ok((0, Taken::Uses));
         };
         self.take_known_note(here, token, symbol, rest, octets, visitor)
     }
 
-    /// This symbol in a container as an annotation, with its `::`.
+    /// This symbol as an annotation, with its `::`, where a container is open.
     pub(super) fn take_known_note<V: Visitor>(
         &mut self,
         here: Place,
@@ -111,31 +104,26 @@ impl TextWalk<'_> {
         rest: &mut Rest,
         octets: &[u8],
         visitor: &mut V,
-    ) -> Result<usize, Reason>
-        requires now { self.old.stage ≡ nows.Ready }
-        requires inner { (fs : List Frame) (ss : Symbols) → Holds self.old fs ss →
-            is_top fs ≡ false }
-        requires here { (fs : List Frame) (ss : Symbols) → Holds self.old fs ss →
-            here ≡ place (reading_of self.old fs ss) }
+    ) -> Result<(usize, Taken), Reason>
+        requires takes { Takes nows.Ready self.old rest.old octets.now }
+        requires here { IsHere self.old here }
         requires there { SymbolThere self.old.context here rest.old octets.now token symbol }
-        requires room { rest.old.used + length octets.now < 2 ^ 63 }
-        ensures { StridesBy V.takes self.old self.new rest.old rest.new octets.now result
+        ensures { EndsBy V.takes self.old self.new rest.old rest.new octets.now result
             visitor.old visitor.new }
     {
         let Some(between) = behind_annotation(octets, token.count) else {
             drop(symbol);
-            return Ok(0);
+            return Ok((0, Taken::Uses));
         };
-        match self.note(symbol, visitor) {
-            Ok(Effect::Goes) => {
-                *rest = rest
-                    .past_token(here, token.kind, token.count)
-                    .past_blank(between)
-                    .past_token(here, TokenKind::Mark(Mark::Colons), 2);
-                Ok(token.count + between + 2)
-            }
-            _ => Err(Reason::Memory),
+        if self.is_top() {
+            drop(symbol);
+            return Ok((0, Taken::Uses));
         }
+        *rest = rest
+            .past_token(here, token.kind, token.count)
+            .past_blank(between)
+            .past_token(here, TokenKind::Mark(Mark::Colons), 2);
+        only_goes(self.note(symbol, visitor), token.count + between + 2)
     }
 
     /// A field's name that begins with `$`, with its colon.
@@ -145,20 +133,19 @@ impl TextWalk<'_> {
         rest: &mut Rest,
         octets: &[u8],
         visitor: &mut V,
-    ) -> Result<usize, Reason>
-        requires now { self.old.stage ≡ nows.Name }
-        requires room { rest.old.used + length octets.now < 2 ^ 63 }
-        ensures { StridesBy V.takes self.old self.new rest.old rest.new octets.now result
+    ) -> Result<(usize, Taken), Reason>
+        requires { Takes nows.Name self.old rest.old octets.now }
+        ensures { EndsBy V.takes self.old self.new rest.old rest.new octets.now result
             visitor.old visitor.new }
     {
         let Some((token, id)) = id_at(octets) else {
             return self.take_rare_name(rest, octets, visitor);
         };
         let Some(between) = behind_name(octets, token.count) else {
-            return Ok(0);
+            return Ok((0, Taken::Uses));
         };
         let Ok(name) = self.context.symbol(id) else {
-            return Ok(0);
+            return Ok((0, Taken::Uses));
         };
         heard(self.filter.name(name, visitor))?;
         self.set_stage(Now::Ready);
@@ -166,6 +153,6 @@ impl TextWalk<'_> {
             .past_token(Place::Name, token.kind, token.count)
             .past_blank(between)
             .past_token(Place::Name, TokenKind::Mark(Mark::Colon), 1);
-        Ok(token.count + between + 1)
+        Ok((token.count + between + 1, Taken::Uses))
     }
 }

@@ -18,7 +18,7 @@ use Rattle.ion_text.specs.laws.reading.sound.StandsOpen.{IsHeld, NowStands, Open
 -- 1. Of what is no local symbol table, and of words.
 
 -- what isn't of the kind of structs is no local symbol table
-no_table : (ss : Symbols) (q : Payload) → is_fields (layer_kind (views.out-Payload q)) ≡ false → is_table (annotated ss q) ≡ false
+pub no_table : (ss : Symbols) (q : Payload) → is_fields (layer_kind (views.out-Payload q)) ≡ false → is_table (annotated ss q) ≡ false
 no_table [] q h = refl
 no_table (s ∷ ss) q h = go (names_table s) (is_fields (layer_kind (views.out-Payload q))) h
   where
@@ -26,7 +26,7 @@ no_table (s ∷ ss) q h = go (names_table s) (is_fields (layer_kind (views.out-P
     go true b h = h
     go false b h = refl
 
-flat_number : (n : Number) → is_fields (layer_kind (views.out-Payload (number_payload n))) ≡ false
+pub flat_number : (n : Number) → is_fields (layer_kind (views.out-Payload (number_payload n))) ≡ false
 flat_number (Number.Int z) = ap (λ y. is_fields (layer_kind y)) (views.outs-Int z)
 flat_number (Number.Decimal d) = ap (λ y. is_fields (layer_kind y)) (views.outs-Decimal d)
 flat_number (Number.Timestamp t) = ap (λ y. is_fields (layer_kind y)) (views.outs-Timestamp t)

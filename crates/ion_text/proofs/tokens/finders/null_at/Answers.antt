@@ -1,6 +1,5 @@
-use Rattle.std.proofs.Common.{refl, ap, subst}
-use Rattle.std.specs.Prelude.{◌≡◌, false, IfSome, Option}
-use Rattle.ion_text.specs.Names.{Held, TypedNull, is_marker, null_of, said}
+use Rattle.std.proofs.Common.{refl, ap}
+use Rattle.ion_text.specs.Names.{TypedNull, null_of, said}
 use Rattle.ion_model.specs.declared.value.Payload.TheVariants as payloads
 use Rattle.ion_text.proofs.tokens.finders.null_at.Goals as goal
 
@@ -22,5 +21,5 @@ returns c = λ here rest.
         is = refl;
       };
       waits = refl;
-      free = λ h e. subst (λ (o : Option Held). IfSome o (λ h. is_marker h ≡ false)) e refl;
+      free = refl;
     }

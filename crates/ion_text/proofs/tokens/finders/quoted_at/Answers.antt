@@ -1,7 +1,6 @@
-use Rattle.std.proofs.Common.{◌≡◌, ◌-◌, ◌∙◌, Option, take, drop, false, Some, ap, sym, subst, refl}
-use Rattle.std.specs.Prelude.{IfSome}
+use Rattle.std.proofs.Common.{◌-◌, ◌∙◌, take, drop, Some, ap, sym, refl}
 use Rattle.std.proofs.lemmas.List.{take_rest}
-use Rattle.ion_text.specs.Names.{Held, Quoted, is_marker}
+use Rattle.ion_text.specs.Names.{Quoted}
 use Rattle.ion_model.specs.declared.value.Payload.TheVariants as payloads
 use Rattle.ion_text.proofs.Symbols.{quoted_says}
 use Rattle.ion_text.proofs.tokens.finders.quoted_at.Goals as goal
@@ -24,5 +23,5 @@ returns c = λ here rest.
         is = ap (λ w. payloads.Symbol (Some w)) (sym (c.from_utf8_unchecked.ensures ∙ ap (take (n - 2)) (take_rest octets 1)));
       };
       waits = refl;
-      free = λ h e. subst (λ (o : Option Held). IfSome o (λ h. is_marker h ≡ false)) e refl;
+      free = refl;
     }

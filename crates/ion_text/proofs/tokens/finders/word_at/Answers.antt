@@ -1,6 +1,5 @@
-use Rattle.std.proofs.Common.{◌≡◌, ◌≢◌, ◌∙◌, Option, Ok, false, ap, sym, subst, arith, take, get_or, refl}
-use Rattle.std.specs.Prelude.{IfSome}
-use Rattle.ion_text.specs.Names.{Held, Word, held_payload, held_word, is_marker, payload_of}
+use Rattle.std.proofs.Common.{◌≡◌, ◌≢◌, ◌∙◌, Ok, ap, sym, arith, take, get_or, refl}
+use Rattle.ion_text.specs.Names.{Word, held_payload, held_word, payload_of}
 use Rattle.ion_text.proofs.Arms.{first_of}
 use Rattle.ion_text.proofs.Symbols.{word_said}
 use Rattle.ion_text.proofs.Walks.{word_unmarked}
@@ -28,6 +27,5 @@ returns c = λ here rest.
         is = refl;
       };
       waits = refl;
-      free = λ h e. subst (λ (o : Option Held). IfSome o (λ h. is_marker h ≡ false)) e
-          (word_unmarked kept (λ d. first (sym (first_of n octets (c.in_ok-count.ensures.found here rest).some) ∙ d)));
+      free = word_unmarked kept (λ d. first (sym (first_of n octets (c.in_ok-count.ensures.found here rest).some) ∙ d));
     }

@@ -11,20 +11,24 @@ take_whole-requires-clause-found g c = record {
     payload = payload_of c.in-Some.said;
     found = c.requires.says.found;
     says = c.requires.says.says;
-    is = c.in-Some.ensures;
+    is = c.in-Some.ensures.value;
   };
   is = refl;
 }
 
 pub take_word-requires-clause-found : goal.take_word-requires-clause-found
 take_word-requires-clause-found g c = record {
-  token = record {
-    kept = c.requires.says.kept;
-    content = content c.args.body.now;
-    payload = payload_of c.in-Some.said;
-    found = c.requires.says.found;
-    says = c.requires.says.says;
-    is = c.in-Some.ensures;
+  part = record {
+    token = record {
+      kept = c.requires.says.kept;
+      content = content c.args.body.now;
+      payload = payload_of c.in-Some.said;
+      found = c.requires.says.found;
+      says = c.requires.says.says;
+      is = c.in-Some.ensures.value;
+    };
+    is = refl;
   };
-  is = refl;
+  waits = c.if-not-waits.false;
+  free = c.in-Some.ensures.free;
 }

@@ -1,5 +1,5 @@
-use Rattle.std.proofs.Common.{◌+◌, Ok, ap, sym, ◌∙◌, subst}
-use Rattle.ion_text.specs.Names.{Mark, Place, Rest, SameSetting, StridesBy, Tells, TextWalk, TokenKind, name, past_blank, past_token}
+use Rattle.std.proofs.Common.{Ok, ap, sym, ◌∙◌, subst}
+use Rattle.ion_text.specs.Names.{Goes, Mark, Place, SameSetting, Tells, TextWalk, TokenKind, name, past_blank, past_token}
 use Rattle.ion_text.proofs.Opened.{names_does}
 use Rattle.ion_text.proofs.SaidThere.{id_names}
 use Rattle.ion_text.proofs.Strides.{key_answer}
@@ -26,12 +26,12 @@ returns g c =
       awaited = ap (λ (w : TextWalk). w.awaited) e;
       failed = ap (λ (w : TextWalk). w.failed) e;
     } in
-    subst (λ (r : Rest). StridesBy g.V.Visitor.takes old new rest r octets (Ok (token.count + m + 1)) a b)
-    (sym (c.past_token-2.ensures
-    ∙ ap (λ r. past_token Place.Name r (TokenKind.Mark Mark.Colon) 1) (c.past_blank.ensures ∙ ap (λ r. past_blank r m) c.past_token.ensures)))
-    (key_answer g.V.Visitor.takes old new rest octets a b same token m s behind.ensures.within c.requires.now
+    key_answer g.V.Visitor.takes old new rest c.past_token-2.result octets a b same token m s (Ok Goes)
+    (c.past_token-2.ensures
+    ∙ ap (λ r. past_token Place.Name r (TokenKind.Mark Mark.Colon) 1) (c.past_blank.ensures ∙ ap (λ r. past_blank r m) c.past_token.ensures))
+    behind.ensures.within c.requires
     (id_names old.context rest octets token c.in-Some.id s c.in-Some.ensures.word c.in-Ok.ensures (c.in-Some.ensures.says Place.Name rest))
     behind.ensures.passed behind.ensures.colon behind.ensures.one
-    (names_does g.V.Visitor.takes old new s a b c.requires.now (ap (λ (w : TextWalk). w.frames) e) (ap (λ (w : TextWalk). w.noted) e)
+    (names_does g.V.Visitor.takes old new s a b c.requires.stage (ap (λ (w : TextWalk). w.frames) e) (ap (λ (w : TextWalk). w.noted) e)
     (ap (λ (w : TextWalk). w.stage) e) (ap (λ (w : TextWalk). w.start) e) (ap (λ (w : TextWalk). w.context) e)
-    (subst (λ f. Tells g.V.Visitor.takes (name s) old.filter f a b) (sym (ap (λ (w : TextWalk). w.filter) e)) (c.name.ensures c.in_ok-heard.ensures.ok))))
+    (subst (λ f. Tells g.V.Visitor.takes (name s) old.filter f a b) (sym (ap (λ (w : TextWalk). w.filter) e)) (c.name.ensures c.in_ok-heard.ensures.ok)))

@@ -1,7 +1,8 @@
-use Rattle.std.proofs.Common.{◌≡◌, ◌+◌, ◌-◌, List, ℕ, length, take, drop, arith, ap, ◌∙◌, length-drop}
+use Rattle.std.proofs.Common.{◌≡◌, ◌-◌, List, ℕ, length, take, drop, arith, ap, ◌∙◌, subst, length-drop}
 use Rattle.std.proofs.lemmas.List.{take_rest}
-use Rattle.ion_text.proofs.Strides.{settings_none, settings_on, strides_ok, strode_none, strode_on}
-use Rattle.ion_text.proofs.LastTokens.{ends_on, ends_strode, strides_ends}
+use Rattle.ion_text.specs.Names.{Ended}
+use Rattle.ion_text.proofs.Strides.{settings_none, settings_on, strode_none, strode_on}
+use Rattle.ion_text.proofs.LastTokens.{ends_on}
 use Rattle.ion_text.proofs.walk.TextWalk.take_each.Goals as goal
 
 pub loop-init : goal.loop-init
@@ -26,8 +27,8 @@ loop-preserved g c =
       strode_on g.V.Visitor.takes c.args.self.now c.loop.self c.take_next.new.self c.args.rest.now c.loop.rest c.take_next.new.rest octets
           (take (length octets - at) (drop at octets)) at c.in_ok-count.count c.args.visitor.now c.loop.visitor c.take_next.new.visitor (take_rest octets at)
           c.loop.invariant.1 c.loop.invariant.0
-          (ends_strode g.V.Visitor.takes c.loop.self c.take_next.new.self c.loop.rest c.take_next.new.rest (take (length octets - at) (drop at octets))
-          c.in_ok-count.count c.in_ok-count.taken c.loop.visitor c.take_next.new.visitor c.in-Uses.is two),
+          (subst (λ t. Ended g.V.Visitor.takes c.loop.self c.take_next.new.self c.loop.rest c.take_next.new.rest
+          (take (length octets - at) (drop at octets)) (c.in_ok-count.count, t) c.loop.visitor c.take_next.new.visitor) c.in-Uses.is two.ended),
       settings_on c.args.self.now c.loop.self c.take_next.new.self c.loop.invariant.1 two.same,
     )
 
@@ -48,7 +49,4 @@ returns-in_default g c =
     c.loop.invariant.1 c.loop.invariant.0 c.in_ok-count.taken c.in_ok-count.ensures
 
 pub returns : goal.returns
-returns g c =
-    strides_ends g.V.Visitor.takes c.args.self.now c.loop.self c.args.rest.now c.loop.rest c.args.octets.now c.loop.at c.args.visitor.now c.loop.visitor
-    (strides_ok g.V.Visitor.takes c.args.self.now c.loop.self c.args.rest.now c.loop.rest c.args.octets.now c.loop.at c.args.visitor.now c.loop.visitor
-    c.loop.invariant.0 c.loop.invariant.1)
+returns g c = record { ended = c.loop.invariant.0; memory = tt; same = c.loop.invariant.1 }

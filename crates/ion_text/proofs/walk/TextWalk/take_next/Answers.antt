@@ -2,23 +2,21 @@ use Rattle.std.proofs.Common.{◌-◌, ◌<◌, length, take, drop, arith, sym, 
 use Rattle.std.proofs.lemmas.List.{take_rest}
 use Rattle.ion_text.specs.Names.{RestsBehind}
 use Rattle.ion_tokens.proofs.runs.WholeComments.{white_rests}
-use Rattle.ion_text.proofs.LastTokens.{ends_none, ends_on, strides_ends}
-use Rattle.ion_text.proofs.Strides.{blank_strode, settings_none, strides_ok}
+use Rattle.ion_text.proofs.LastTokens.{ends_on}
+use Rattle.ion_text.proofs.Strides.{blank_strode, ends_none, settings_none}
 use Rattle.ion_text.proofs.walk.TextWalk.take_next.Goals as goal
 
 pub returns-then-blank-octets : goal.returns-then-blank-octets
 returns-then-blank-octets g c = ends_none g.V.Visitor.takes c.args.self.now c.args.rest.now c.args.octets.now c.args.visitor.now
 
 pub returns-then-octets-blank-eq47 : goal.returns-then-octets-blank-eq47
-returns-then-octets-blank-eq47 g c =
-    let r = c.args.self.now in
-    let octets = c.args.octets.now in
-    let v = c.args.visitor.now in
-    let n = c.past_comments.result in
-    strides_ends g.V.Visitor.takes r r c.args.rest.now c.past_comments.new.rest octets n v v
-    (strides_ok g.V.Visitor.takes r r c.args.rest.now c.past_comments.new.rest octets n v v
-    (blank_strode g.V.Visitor.takes r c.args.rest.now c.past_comments.new.rest octets n v c.past_comments.ensures.rests c.past_comments.ensures.within)
-    (settings_none r))
+returns-then-octets-blank-eq47 g c = record {
+  ended =
+      blank_strode g.V.Visitor.takes c.args.self.now c.args.rest.now c.past_comments.new.rest c.args.octets.now c.past_comments.result c.args.visitor.now
+      c.past_comments.ensures.rests c.past_comments.ensures.within;
+  memory = tt;
+  same = settings_none c.args.self.now;
+}
 
 pub returns : goal.returns
 returns g c =

@@ -1,7 +1,4 @@
 use Rattle.ion_text.proofs.walk.TextWalk.take_this_symbol.Goals as goal
 
 pub take_word-requires-clause-found : goal.take_word-requires-clause-found
-take_word-requires-clause-found g c = (c.requires.found c.place-here.result c.args.rest.now).part
-
-pub take_word-requires-clause-waits : goal.take_word-requires-clause-waits
-take_word-requires-clause-waits g c = (c.requires.found c.place-here.result c.args.rest.now).waits
+take_word-requires-clause-found g c = c.requires.found c.place-here.result c.args.rest.now

@@ -1,23 +1,24 @@
-use Rattle.std.proofs.Common.{◌+◌, ◌<◌, List, Ok, false, length, arith, sym, subst}
-use Rattle.ion_text.specs.Names.{Does, Frame, Holds, Rest, StridesBy, Symbols, Turned as Effect, annotated, ended, payload_of, setting_of, spot_of, told}
+use Rattle.std.proofs.Common.{◌<◌, false, length, arith, sym, ◌∙◌, subst}
+use Rattle.ion_text.specs.Names.{EndsBy, payload_of}
+use Rattle.ion_text.proofs.LastTokens.{part_flat, value_answer}
 use Rattle.ion_text.proofs.SaidThere.{part_begins}
-use Rattle.ion_text.proofs.Strides.{value_answer}
 use Rattle.ion_text.proofs.walk.TextWalk.take_whole.Goals as goal
 
-pub returns-in-Ok-Goes : goal.returns-in-Ok-Goes
-returns-in-Ok-Goes g c =
+pub returns : goal.returns
+returns g c =
     let old = c.args.self.now in
     let new = c.whole.new.self in
     let rest = c.args.rest.now in
+    let after = c.past_token.result in
     let octets = c.args.octets.now in
+    let a = c.args.visitor.now in
+    let b = c.whole.new.visitor in
     let here = c.args.here in
     let token = c.args.scalar.token in
-    let payload = payload_of c.args.said.now in
+    let said = c.args.said.now in
     let more : token.count < length octets = omega (arith, c.if-token-octets.false) in
-    subst (λ (r : Rest). StridesBy g.V.Visitor.takes old new rest r octets (Ok token.count) c.args.visitor.now c.whole.new.visitor) (sym c.past_token.ensures)
-    (value_answer g.V.Visitor.takes old new rest octets c.args.visitor.now c.whole.new.visitor c.in-Ok-Goes.ensures.setting here token payload more
-    c.requires.now c.requires.inner c.requires.here
-    (λ fs ss h. part_begins false here rest octets c.args.scalar payload c.requires.found c.requires.waits)
-    (subst (λ (e : Effect). (fs : List Frame) (ss : Symbols) → Holds old fs ss → Does g.V.Visitor.takes (told fs ss)
-    (ended (setting_of old) (spot_of old (rest.used + token.count)) fs (annotated ss payload)) (Ok e) new c.args.visitor.now c.whole.new.visitor)
-    c.in-Ok-Goes.field-0-is c.in-Ok-Goes.ensures.does))
+    subst (λ x. EndsBy g.V.Visitor.takes old new rest after octets x a b) (sym c.value_took.ensures)
+    (value_answer g.V.Visitor.takes old new rest after octets a b c.begun_at-self.result c.whole.ensures.setting c.begun_at-self.ensures here
+    c.requires.here c.requires.takes (payload_of said)
+    (λ fs ss h top. part_flat said (sym c.is_null_struct.ensures ∙ (c.is_left.ensures c.if-is_left.false fs ss h top).1)) token c.whole.result c.past_token.ensures more
+    (λ fs ss h. part_begins false here rest octets c.args.scalar (payload_of said) c.requires.found c.requires.waits) c.whole.ensures.does)

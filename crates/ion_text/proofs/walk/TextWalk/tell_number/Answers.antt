@@ -1,24 +1,27 @@
-use Rattle.std.proofs.Common.{◌+◌, List, Ok, ap, sym, ◌∙◌, subst}
-use Rattle.ion_text.specs.Names.{Does, Frame, Holds, Rest, StridesBy, Symbols, Turned as Effect, annotated, ended, is_name, number_payload, setting_of, spot_of, told}
+use Rattle.std.proofs.Common.{ap, sym, ◌∙◌, subst}
+use Rattle.ion_text.specs.Names.{EndsBy, is_name, number_payload}
+use Rattle.ion_text.proofs.LastTokens.{value_answer}
 use Rattle.ion_text.proofs.SaidThere.{number_begins}
-use Rattle.ion_text.proofs.Strides.{value_answer, value_place}
+use Rattle.ion_text.specs.laws.deciding.Turns.{flat_number}
+use Rattle.ion_text.proofs.Strides.{value_place}
 use Rattle.ion_text.proofs.walk.TextWalk.tell_number.Goals as goal
 
-pub returns-in-Ok-Goes : goal.returns-in-Ok-Goes
-returns-in-Ok-Goes g c =
+pub returns : goal.returns
+returns g c =
     let old = c.args.self.now in
     let new = c.whole_number.new.self in
     let rest = c.args.rest.now in
+    let after = c.past_token.result in
     let octets = c.args.octets.now in
-    let here = c.place-here.result in
+    let a = c.args.visitor.now in
+    let b = c.whole_number.new.visitor in
     let token = c.in-Some.token in
     let number = c.in-Some.number in
-    subst (λ (r : Rest). StridesBy g.V.Visitor.takes old new rest r octets (Ok token.count) c.args.visitor.now c.whole_number.new.visitor)
-    (sym c.past_token.ensures)
-    (value_answer g.V.Visitor.takes old new rest octets c.args.visitor.now c.whole_number.new.visitor c.in-Ok-Goes.ensures.setting here token
-    (number_payload number) c.in-Some.ensures.within c.requires.now c.requires.inner c.place-here.ensures
+    let here = c.place-here.result in
+    subst (λ x. EndsBy g.V.Visitor.takes old new rest after octets x a b) (sym c.value_took.ensures)
+    (value_answer g.V.Visitor.takes old new rest after octets a b c.begun_at-self.result c.whole_number.ensures.setting c.begun_at-self.ensures here
+    c.place-here.ensures c.requires (number_payload number) (λ fs ss h top. flat_number number) token c.whole_number.result c.past_token.ensures
+    c.in-Some.ensures.within
     (λ fs ss h. number_begins here rest octets token number
-    (c.in-Some.ensures.found here rest (ap is_name (c.place-here.ensures fs ss h) ∙ value_place old fs ss c.requires.now h)))
-    (subst (λ (e : Effect). (fs : List Frame) (ss : Symbols) → Holds old fs ss → Does g.V.Visitor.takes (told fs ss)
-    (ended (setting_of old) (spot_of old (rest.used + token.count)) fs (annotated ss (number_payload number))) (Ok e) new c.args.visitor.now c.whole_number.new.visitor)
-    c.in-Ok-Goes.field-0-is c.in-Ok-Goes.ensures.does))
+    (c.in-Some.ensures.found here rest (ap is_name (c.place-here.ensures fs ss h) ∙ value_place old fs ss c.requires.stage h)))
+    c.whole_number.ensures.does)
