@@ -78,6 +78,13 @@ module _ (g : Catalog) (l : Limits) (r : Reading) (still : settle g l r ≡ goes
       (passes_given g l r still (resting rest) f.known (resting (past_token (place r) rest kind n)) octets (n - 1) (lexeme_at rest kind kept n) c q shown quiet
       f.ran says turns refl used most notices (omega arith) f.ends)
 
+  -- a token found there leads the run behind it, if nothing is refused on the way, nor then
+  pub found_passes : (left : Bool) → IsFound (place r) rest octets kind kept n left
+      → ((k : ℕ) → k ≤ n → Quiet g l r (place r) (resting rest) (take k octets)) → (most : ℕ) → NoticesNothing l q most → rest.used + length octets ≤ most
+      → Passes g l (with_scan (resting rest) r) octets n (with_scan (resting (past_token (place r) rest kind n)) q)
+  found_passes true f quiet most notices room = left_found f (quiet n (omega arith))
+  found_passes false f quiet most notices room = given_found f (quiet (n - 1) (omega arith)) most notices room
+
 -- where a container is open
 module _ (g : Catalog) (l : Limits) (r : Reading) (inner : is_top r.frames ≡ false) (still : settle g l r ≡ goes r) (rest : Rest) (octets : List ℕ)
     (kind : TokenKind) (kept : List ℕ) (n : ℕ) (c : Content) (q : Reading)
@@ -88,16 +95,12 @@ module _ (g : Catalog) (l : Limits) (r : Reading) (inner : is_top r.frames ≡ f
       → Passes g l (with_scan (resting rest) r) octets n (with_scan (resting (past_token (place r) rest kind n)) q)
   left_passes f quiet = left_found g l r still rest octets kind kept n c q says turns f quiet
 
-  -- a token that its last octet ends leads the run behind it where a container of its item stays open
-  pub given_leads : IsFound (place r) rest octets kind kept n false → Quiet g l r (place r) (resting rest) (take (n - 1) octets) → is_top q.frames ≡ false
-      → q.start ≡ r.start → Passes g l (with_scan (resting rest) r) octets n (with_scan (resting (past_token (place r) rest kind n)) q)
-  given_leads f quiet inside same = given_found g l r still rest octets kind kept n c q says turns f quiet (l.item + q.start) (inner_notices l q inside)
-      (omega arith)
-
   -- a token that its last octet ends leads the run behind it where the item goes on and nothing waits
   pub given_passes : IsFound (place r) rest octets kind kept n false → Quiet g l r (place r) (resting rest) (take (n - 1) octets) → StaysIn r.start q
       → Passes g l (with_scan (resting rest) r) octets n (with_scan (resting (past_token (place r) rest kind n)) q)
-  given_passes f quiet stays = given_leads f quiet stays.0 stays.1
+  given_passes f quiet stays =
+      let same = stays.1 in
+      given_found g l r still rest octets kind kept n c q says turns f quiet (l.item + q.start) (inner_notices l q stays.0) (omega arith)
 
 -- a token of a mark says this mark
 pub mark_says : (m : Mark) → said (TokenKind.Mark m) [] ≡ Ok (Mark' m)

@@ -3,19 +3,19 @@ use Rattle.std.proofs.Common.{◌≡◌, ℕ, ◌+◌, ◌-◌, ◌<◌, ◌≤�
 use Rattle.std.specs.Prelude.{◌||◌, if◌then◌else◌, nat_le}
 use Rattle.std.proofs.lemmas.Grind.{common_steps}
 use Rattle.std.proofs.lemmas.List.{length-take-le}
-use Rattle.ion_text.specs.Names.{Ahead, BeginsValue, Bracket, Catalog, Content, Does, Effect, Ended, EndsAtOnce, EndsBy, EndsSo, Event, FoundToken, Frame, Gives, Goes, Held, Holds, IsFound, IsHere, IsStill, Known, Late, Limits, Mark', Now, Part, Passes, Payload, Place, Quiet, Reading, Reason, Rest, RestsBehind, SameSetting, Scanner, Setting, Spot, State, Strode, StrodeFrom, Symbols, Taken, Takes, TextWalk, TokenKind, TookSo, Turn, Turned, Value, WaitsThere, annotated, at, begun_at, behind_left, close_mark, close_octet, closed, closes, drive, eats, ended, ends_symbol, events_of, feed, fresh, gives, go_on, goes, heard, held_payload, is_fields, is_marker, is_null_struct, is_table, is_top, layer_kind, leaves, led, lexeme_at, next, on_said, on_scan, on_settled, paid, past_token, payload_of, place, reading_of, refuses, released, resting, resting_at, run, said, scanned, setting_of, settle, spot_at, spot_of, state_of, takes as takes_up, token_at, token_of, told, turn, turn_now, turned, under, unsettled, value_took, with_scan, within}
+use Rattle.ion_text.specs.Names.{Ahead, BeginsValue, Bracket, Catalog, Content, Does, Effect, Ended, EndsAtOnce, EndsBy, EndsSo, Event, FoundToken, Frame, Gives, Goes, Held, Holds, IsCalm, IsFound, IsHere, IsStill, Known, Late, Limits, Mark', Now, Part, Passes, Payload, Place, Quiet, Reading, Reason, Rest, RestsBehind, SameSetting, Scanner, Setting, Spot, State, Strode, StrodeFrom, Symbols, Taken, Takes, TextWalk, TokenKind, TookSo, Turn, Turned, Value, WaitsThere, annotated, at, begun_at, behind_left, close_mark, close_octet, closed, closes, drive, eats, ended, ends_symbol, events_of, feed, fresh, gives, go_on, goes, heard, held_payload, is_fields, is_marker, is_null_struct, is_table, is_top, layer_kind, leaves, led, lexeme_at, next, on_said, on_scan, on_settled, paid, past_token, payload_of, place, place_in, reading_of, refuses, released, resting, resting_at, run, said, scanned, setting_of, settle, spot_at, spot_of, state_of, takes as takes_up, takes_colon, token_at, token_of, told, turn, turn_now, turned, under, unsettled, value_took, with_scan, within}
 use Rattle.ion_model.specs.declared.value.Payload.TheVariants as payloads
 use Rattle.ion_model.specs.declared.value.Payload.TheViews as views
 use Rattle.ion_visiting.specs.laws.Filters.{hears_both}
 use Rattle.ion_text.specs.laws.deciding.Turns.{no_table}
 use Rattle.ion_text.specs.machine.LongStrings.{LongThere}
-use Rattle.ion_text.proofs.Arms.{given_found, left_found, mark_says}
-use Rattle.ion_text.proofs.LongStrings.{long_unsettled}
+use Rattle.ion_text.proofs.Arms.{ended_stays, found_passes, mark_says, ready_turns}
+use Rattle.ion_text.proofs.LongStrings.{long_unsettled, settled_on}
 use Rattle.ion_text.proofs.Nested.{close_found, closing}
 use Rattle.ion_text.proofs.Passing.{NoticesNothing, blank_quiet, blank_waits}
-use Rattle.ion_text.proofs.Strides.{IsBegun, begun_with, ends_so, front_same, long_strode, settings_begun, settings_on, strides_there, strode_on, take_short, value_strode, with_moved, word_strode}
+use Rattle.ion_text.proofs.Strides.{IsBegun, begun_inner, begun_with, ends_so, front_same, settings_begun, settings_on, strides_there, strode_on, take_short, token_leads, token_strode, with_moved}
 use Rattle.ion_text.proofs.Striding.{still_settles}
-use Rattle.ion_text.proofs.Symbols.{ends_waits}
+use Rattle.ion_text.proofs.Symbols.{ends_waits, symbol_passes}
 use Rattle.ion_text.proofs.Tops.{passes_then, token_gives, top_ended, top_quiet, waits_notices}
 
 -- what is no version marker is paid where no container is open, whatever annotations were read
@@ -184,13 +184,10 @@ module _ {V : Type 0} (leads : V → Event → V → Type 0) (old new : TextWalk
     turns : turn g' l' q (token_of (lexeme_at rest token.kind x.there.kept n) x.content) ≡ goes waiting
     turns = ap (turn_now (under g' l') q (token_at rest.used (rest.used + n) x.content)) now ∙ x.waits (under g' l') (rest.used + n) begun [] ss
 
-    symbol_led : (left : Bool) → IsFound Place.Top rest octets token.kind x.there.kept n left
-        → Passes g' l' (with_scan (resting rest) q) octets n (with_scan (resting past_symbol) waiting)
-    symbol_led true f =
-        left_found g' l' q (still_settles g' l' q h.still) rest octets token.kind x.there.kept n x.content waiting x.there.says turns f (quiet n (omega arith))
-    symbol_led false f =
-        given_found g' l' q (still_settles g' l' q h.still) rest octets token.kind x.there.kept n x.content waiting x.there.says turns f
-        (quiet (n - 1) (omega arith)) (rest.used + length octets) waits (omega arith)
+    symbol_led : Passes g' l' (with_scan (resting rest) q) octets n (with_scan (resting past_symbol) waiting)
+    symbol_led =
+        found_passes g' l' q (still_settles g' l' q h.still) rest octets token.kind x.there.kept n x.content waiting x.there.says turns token.left x.there.found
+        (λ k few. quiet k (omega arith)) (rest.used + length octets) waits (omega arith)
 
     blank_ran : run g' l' past_symbol.used (with_scan (resting past_symbol) waiting) (take m (drop n octets)) ≡ led (with_scan (resting behind) waiting)
     blank_ran =
@@ -215,8 +212,7 @@ module _ {V : Type 0} (leads : V → Event → V → Type 0) (old new : TextWalk
           (let i : 0 < n + m = omega arith in i),
           does.0,
           with_scan (resting behind) waiting,
-          passes_then g' l' (with_scan (resting rest) q) (with_scan (resting past_symbol) waiting) octets n m some (symbol_led token.left x.there.found)
-              ∙ blank_ran,
+          passes_then g' l' (with_scan (resting rest) q) (with_scan (resting past_symbol) waiting) octets n m some symbol_led ∙ blank_ran,
           ap (λ y. if y || false then on_scan g' l' again waiting x' else on_settled g' l' again (resting behind) x' (settle g' l' waiting))
               (ends_waits (place waiting) behind o ends)
               ∙ ap (on_settled g' l' again (resting behind) x') settles,
@@ -330,9 +326,14 @@ module _ {V : Type 0} (leads : V → Event → V → Type 0) where
         value_so (rest.used + token.count) token.count more used
         (λ fs ss h inner d.
         let v = begins' fs ss h.holds in
+        let setting = setting_of old in
+        let spot = spot_of old (rest.used + token.count) in
         subst (λ r. StrodeFrom leads fs ss old new rest r octets token.count a b) (sym there)
-        (value_strode leads old new rest octets a b fs ss h (settings_begun old new k s) here token.kind v.kept token.count token.left v.content payload more
-        t.stage inner (is fs ss h.holds) v.found v.says v.is d)) x token.left
+        (token_strode leads old new rest octets a b fs ss h (settings_begun old new k s) here token.kind v.kept token.count token.left v.content
+        (ended setting spot fs (annotated ss payload)) more inner (is fs ss h.holds) v.found v.says
+        (ready_turns old.catalog.now old.limits (reading_of old fs ss) (lexeme_at rest token.kind v.kept token.count) v.content t.stage inner
+        ∙ v.is setting spot fs ss)
+        (λ q e. ended_stays setting spot q fs (annotated ss payload) inner e) (inl (subst IsCalm (sym t.stage) tt)) d)) x token.left
         (λ ss h d.
         let v = begins' [] ss h.holds in
         subst (λ r. EndsSo leads [] ss old new rest r octets token.count a b (if token.left then Taken.Leaves else Taken.Tells)) (sym there)
@@ -351,8 +352,22 @@ module _ {V : Type 0} (leads : V → Event → V → Type 0) where
     word_answer token m held x more some waits pays free rests ends does =
         let used = rests.used in
         value_so (rest.used + token.count) (token.count + m) more (omega arith)
-        (λ fs ss h inner d. word_strode leads old new rest octets a b fs ss h (settings_begun old new k s) here token m after held payload more t.stage inner
-        (is fs ss h.holds) waits pays rests ends d) x true
+        (λ fs ss h inner d.
+        let n = token.count in
+        let r = reading_of old fs ss in
+        let here' = is fs ss h.holds in
+        let setting = setting_of old in
+        let spot = spot_of old (rest.used + n) in
+        let fits = h.fits in
+        let begun = begun_inner old.start rest.used fs ss inner in
+        token_leads leads old new rest octets a b fs ss h (settings_begun old new k s) after (n + m) (ended setting spot fs (annotated ss payload)) more
+        (omega arith) inner (λ q e. ended_stays setting spot q fs (annotated ss payload) inner e) d
+        (λ q e stays.
+        symbol_passes old.catalog.now old.limits r inner rest octets token.kind waits.there.kept n m token.left waits.content (omega arith) more
+        (subst (λ p. IsFound p rest octets token.kind waits.there.kept n token.left) here' waits.there.found) waits.there.says
+        (subst IsCalm (sym t.stage) tt) h.still t.stage held (subst (λ p. takes_colon p token.kind ≡ true) here' waits.may)
+        (waits.waits setting (rest.used + n) old.start fs ss) after
+        (subst (λ p. RestsBehind (drop n octets) m (past_token p rest token.kind n) after) here' rests) q payload pays e ends)) x true
         (λ ss h d. word_leaves leads old new rest octets a b ss h t.stage token m after held payload (some [] ss h.holds refl) more
         (subst (λ p. WaitsThere old.context p rest octets token held) (is [] ss h.holds) waits) pays free
         (subst (λ p. RestsBehind (drop token.count octets) m (past_token p rest token.kind token.count) after) (is [] ss h.holds) rests) ends d) does
@@ -366,8 +381,18 @@ module _ {V : Type 0} (leads : V → Event → V → Type 0) where
       → EndsBy leads old new rest after octets (value_took x count true) a b
   long_answer old new rest after octets a b k s begins here is t count text x long does =
       value_so old new rest after octets a b k s begins here is t (payloads.Str text) (λ fs ss h top. text_flat text) after.used count long.more long.segments.used
-      (λ fs ss h inner d. long_strode leads old new rest octets a b fs ss h (settings_begun old new k s) here count after text t.stage inner (is fs ss h.holds)
-      long d) x true
+      (λ fs ss h inner d.
+      let v = annotated ss (payloads.Str text) in
+      let spot = spot_of old after.used in
+      let fits = h.fits in
+      let begun = begun_inner old.start rest.used fs ss inner in
+      token_leads leads old new rest octets a b fs ss h (settings_begun old new k s) after count (ended (setting_of old) spot fs v) long.more
+      long.segments.used inner (λ q e. ended_stays (setting_of old) spot q fs v inner e) d
+      (λ q e stays.
+      subst (λ i. Passes old.catalog.now old.limits (with_scan (resting rest) (at old.start old.context fs ss i)) octets count
+      (with_scan (resting after) q)) (sym t.stage)
+      (settled_on old.catalog.now old.limits old.start old.context ss fs here rest octets count after text long inner
+      (sym (is fs ss h.holds ∙ ap (place_in fs) t.stage)) (omega arith) after.used q e))) x true
       (λ ss h d. long_leaves leads old new rest octets a b ss h t.stage count after text
       (subst (λ p. LongThere p rest octets count after text) (is [] ss h.holds) long) d) does
 

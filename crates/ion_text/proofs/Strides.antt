@@ -4,17 +4,14 @@ use Rattle.std.specs.Prelude.{if◌then◌else◌, nat_lt}
 use Rattle.std.proofs.lemmas.Bool.Decides.{nat_tests}
 use Rattle.std.proofs.lemmas.Grind.{common_steps}
 use Rattle.std.proofs.lemmas.List.{length-map, length-reverse, length-take}
-use Rattle.ion_text.specs.Names.{Ahead, AreAround, AreOpen, Bracket, Catalog, Content, Does, DoesAlone, EndsAtOnce, EndsBy, EndsSo, Event, FoundNote, FoundToken, Frame, Gives, Goes, Held, Holds, IsCalm, IsFound, IsHere, IsPassed, IsStill, Known, Late, Limits, Listing, Mark, Mark', NameThere, Now, OpensAt, Passes, Payload, Place, Reading, Reason, Rest, RestsBehind, SameSetting, Scanner, Slot, Strides, Strode, StrodeFrom, SymbolThere, Symbols, Taken, Takes, TextWalk, TokenKind, Turn, Turned, WaitsThere, WentOn, annotated, at, before_end, begun_at, behind_note, beyond_depth, bracket_of, brackets_of, calm, close_mark, close_octet, closed, closes, ended, ends_symbol, first_now, goes, heard, held_payload, is_name, is_top, lexeme_at, named, on_comma, only_goes, open_brackets, open_mark, opened, opening, past_blank, past_token, place, place_in, reading_of, resting, resting_at, said, scanned, setting_of, spot_at, spot_of, takes_colon, token_of, told, turn, under, with_scan}
-use Rattle.ion_model.specs.declared.value.Payload.TheVariants as payloads
+use Rattle.ion_text.specs.Names.{Ahead, AreAround, AreOpen, Bracket, Catalog, Content, Does, DoesAlone, EndsBy, EndsSo, Event, FoundNote, FoundToken, Frame, Gives, Goes, Holds, IsCalm, IsFound, IsHere, IsPassed, IsStill, Known, Late, Limits, Listing, Mark, Mark', NameThere, Now, OpensAt, Passes, Place, Reading, Reason, Rest, RestsBehind, SameSetting, Scanner, Slot, Strides, Strode, StrodeFrom, SymbolThere, Symbols, Taken, Takes, TextWalk, TokenKind, Turn, Turned, WentOn, at, before_end, begun_at, behind_note, beyond_depth, bracket_of, brackets_of, calm, close_mark, close_octet, closed, closes, first_now, goes, heard, is_name, is_top, lexeme_at, named, on_comma, only_goes, open_brackets, open_mark, opened, opening, past_blank, past_token, place, place_in, reading_of, resting, resting_at, said, scanned, setting_of, spot_at, spot_of, takes_colon, token_of, told, turn, under, with_scan}
 use Rattle.ion_tokens.proofs.runs.WholeTokens.{comma_found}
 use Rattle.ion_visiting.specs.laws.Filters.{hears_both, hears_none}
-use Rattle.ion_text.specs.machine.LongStrings.{LongThere}
-use Rattle.ion_text.proofs.Arms.{StaysIn, after_turns, blank_used, comma_stays, ended_stays, mark_says, named_stays, ready_turns, went}
-use Rattle.ion_text.proofs.LongStrings.{settled_on}
+use Rattle.ion_text.proofs.Arms.{StaysIn, after_turns, blank_used, comma_stays, mark_says, named_stays, ready_turns, went}
 use Rattle.ion_text.proofs.Nested.{close_found, close_stays, closing, is_open_left, open_found, opened_stays}
 use Rattle.ion_text.proofs.Passing.{inner_notices, passes_blank, passes_none, passes_on}
 use Rattle.ion_text.proofs.Striding.{still_settles}
-use Rattle.ion_text.proofs.Symbols.{name_passes, note_passes, symbol_held, symbol_passes}
+use Rattle.ion_text.proofs.Symbols.{name_passes, note_passes, symbol_held}
 use Rattle.ion_text.proofs.Taking.{does_alone}
 use Rattle.ion_text.proofs.Tops.{any_blank, begun_more, note_leads, top_open}
 use Rattle.ion_text.proofs.Walking.{open_goes, token_passes}
@@ -59,7 +56,7 @@ pub settings_begun : (old new : TextWalk) (k : ℕ) → SameSetting (begun_with 
 settings_begun old new k h = record { catalog = h.catalog; limits = h.limits; scanner = h.scanner; awaited = h.awaited; failed = h.failed }
 
 -- where a container is open an item begins where it began
-begun_inner : (start begin : ℕ) (fs : List Frame) (ss : Symbols) → is_top fs ≡ false → begun_at start begin fs ss ≡ start
+pub begun_inner : (start begin : ℕ) (fs : List Frame) (ss : Symbols) → is_top fs ≡ false → begun_at start begin fs ss ≡ start
 begun_inner start begin [] ss h = absurd cc
 begun_inner start begin (f ∷ fs) ss h = refl
 
@@ -266,62 +263,6 @@ module _ {V : Type 0} (takes : V → Event → V → Type 0) where
         (token_passes old.catalog.now old.limits r open_there h.still rest octets kind kept n c q says (turns ∙ e) (omega arith) there left
         (subst (λ p. IsFound p rest octets kind kept n left) is found) may))
 
-    -- a token that is a value at once
-    pub value_strode : (here : Place) (kind : TokenKind) (kept : List ℕ) (n : ℕ) (left : Bool) (c : Content) (payload : Payload) → n < length octets
-        → old.stage ≡ Now.Ready → is_top fs ≡ false → here ≡ place r → IsFound here rest octets kind kept n left → said kind kept ≡ Ok c
-        → EndsAtOnce c payload
-        → Does takes (told fs ss) (ended (under old.catalog.now old.limits) (spot_at (rest.used + n) old.start old.context) fs (annotated ss payload)) (Ok Goes)
-        new a b
-        → StrodeFrom takes fs ss old new rest (past_token here rest kind n) octets n a b
-    value_strode here kind kept n left c payload more now open_there is found says at_once does =
-        let setting = under old.catalog.now old.limits in
-        let spot = spot_at (rest.used + n) old.start old.context in
-        token_strode here kind kept n left c (ended setting spot fs (annotated ss payload)) more open_there is found says
-        (ready_turns old.catalog.now old.limits r (lexeme_at rest kind kept n) c now open_there ∙ at_once setting spot fs ss)
-        (λ q e. ended_stays setting spot q fs (annotated ss payload) open_there e) (inl (subst IsCalm (sym now) tt)) does
-
-    -- a symbol, null or truth, and the blank behind it
-    pub word_strode : (here : Place) (token : FoundToken) (m : ℕ) (after : Rest) (held : Held) (payload : Payload) → token.count + m < length octets
-        → old.stage ≡ Now.Ready → is_top fs ≡ false → here ≡ place r → (x : WaitsThere old.context here rest octets token held)
-        → held_payload held ≡ Ok payload → RestsBehind (drop token.count octets) m (past_token here rest token.kind token.count) after
-        → ends_symbol (get_or octets (token.count + m) 0) ≡ true
-        → Does takes (told fs ss) (ended (under old.catalog.now old.limits) (spot_at (rest.used + token.count) old.start old.context) fs (annotated ss payload))
-        (Ok Goes) new a b
-        → StrodeFrom takes fs ss old new rest after octets (token.count + m) a b
-    word_strode here token m after held payload more now open_there is x pays rests ends does =
-        let n = token.count in
-        let setting = under old.catalog.now old.limits in
-        let spot = spot_at (rest.used + n) old.start old.context in
-        let fits = h.fits in
-        let begun = begun_inner old.start rest.used fs ss open_there in
-        let used = rests.used in
-        token_leads after (n + m) (ended setting spot fs (annotated ss payload)) more (omega arith) open_there
-        (λ q e. ended_stays setting spot q fs (annotated ss payload) open_there e) does
-        (λ q e there.
-        symbol_passes old.catalog.now old.limits r open_there rest octets token.kind x.there.kept n m token.left x.content (omega arith) more
-        (subst (λ p. IsFound p rest octets token.kind x.there.kept n token.left) is x.there.found) x.there.says (subst IsCalm (sym now) tt) h.still now
-        held (subst (λ p. takes_colon p token.kind ≡ true) is x.may) (x.waits setting (rest.used + n) old.start fs ss) after
-        (subst (λ p. RestsBehind (drop n octets) m (past_token p rest token.kind n) after) is rests) q payload pays e ends)
-
-    -- a long string
-    pub long_strode : (here : Place) (count : ℕ) (after : Rest) (text : List ℕ) → old.stage ≡ Now.Ready → is_top fs ≡ false → here ≡ place r
-        → (x : LongThere here rest octets count after text)
-        → Does takes (told fs ss) (ended (under old.catalog.now old.limits) (spot_at after.used old.start old.context) fs (annotated ss (payloads.Str text)))
-        (Ok Goes) new a b
-        → StrodeFrom takes fs ss old new rest after octets count a b
-    long_strode here count after text now open_there is x does =
-        let setting = under old.catalog.now old.limits in
-        let spot = spot_at after.used old.start old.context in
-        let fits = h.fits in
-        let begun = begun_inner old.start rest.used fs ss open_there in
-        token_leads after count (ended setting spot fs (annotated ss (payloads.Str text))) x.more x.segments.used open_there
-        (λ q e. ended_stays setting spot q fs (annotated ss (payloads.Str text)) open_there e) does
-        (λ q e there.
-        subst (λ k. Passes old.catalog.now old.limits (with_scan (resting rest) (at old.start old.context fs ss k)) octets count
-        (with_scan (resting after) q)) (sym now)
-        (settled_on old.catalog.now old.limits old.start old.context ss fs here rest octets count after text x open_there
-        (sym (is ∙ ap (place_in fs) now)) (omega arith) after.used q e))
-
     -- an annotation, the blank behind it and `::`
     pub note_strode : (here : Place) (token : FoundToken) (f : FoundNote octets token) (m : ℕ) → token.count + m + 2 < length octets
         → old.stage ≡ Now.Ready → new.stage ≡ old.stage → here ≡ place r → new.start ≡ begun_at old.start rest.used fs ss → new.context ≡ old.context
@@ -408,9 +349,6 @@ module _ {V : Type 0} (takes : V → Event → V → Type 0) where
       → count < length octets → after.used ≡ before.used + count → SameSetting old new → EndsBy takes old new before after octets (Ok (count, t)) a b
   ends_so old new before after octets count t a b h within used same =
       record { ended = record { leads = h; within = omega arith; used = used }; memory = tt; same = same }
-
-  pub ends_none : (r : TextWalk) (rest : Rest) (octets : List ℕ) (a : V) → EndsBy takes r r rest rest octets (Ok (0, Taken.Uses)) a a
-  ends_none r rest octets a = record { ended = strode_none r rest octets a; memory = tt; same = settings_none r }
 
   module _ (old new : TextWalk) (rest after : Rest) (octets : List ℕ) (a b : V) (same : SameSetting old new) where
     -- a token that only goes on

@@ -9,7 +9,7 @@ use Rattle.ion_model.specs.declared.value.Payload.TheVariants as payloads
 use Rattle.ion_tokens.specs.machine.Scanning as scanning
 use Rattle.ion_tokens.proofs.runs.Runs.{next_used}
 use Rattle.ion_tokens.proofs.runs.WholeTokens.{colon_found, colons_found}
-use Rattle.ion_text.proofs.Arms.{StaysIn, at_drop, blank_colon, blank_used, ended_place, ended_stays, first_of, given_found, given_leads, left_found, left_passes, mark_says, name_place, ready_turns, released_inner, same_place_in, short_says, spelled_utf8, word_says}
+use Rattle.ion_text.proofs.Arms.{StaysIn, at_drop, blank_colon, blank_used, ended_place, ended_stays, first_of, found_passes, left_passes, mark_says, name_place, ready_turns, released_inner, same_place_in, short_says, spelled_utf8, word_says}
 use Rattle.ion_text.proofs.Passing.{NoticesNothing, blank_quiet, calm_quiet, inner_notices, passes_blank, passes_colons, passes_on, passes_settled, passes_waiting}
 use Rattle.ion_text.proofs.Striding.{still_settles}
 
@@ -215,13 +215,8 @@ module _ (g : Catalog) (l : Limits) (r : Reading) (start : ℕ) (now : r.now ≡
     colons_size = length-drop (n + m) octets
 
     note_is : Passes g l (with_scan (resting rest) r) octets n (with_scan (resting past_symbol) held_back)
-    note_is = by left found
-      where
-        by : (b : Bool) → IsFound (place r) rest octets kind kept n b
-            → Passes g l (with_scan (resting rest) r) octets n (with_scan (resting past_symbol) held_back)
-        by true f = left_found g l r still rest octets kind kept n c held_back says turns f (quiet n (omega arith))
-        by false f = given_found g l r still rest octets kind kept n c held_back says turns f (quiet (n - 1) (omega arith)) (rest.used + length octets) waits
-            (omega arith)
+    note_is =
+        found_passes g l r still rest octets kind kept n c held_back says turns left found quiet (rest.used + length octets) waits (omega arith)
 
     between_is : Passes g l (with_scan (resting past_symbol) held_back) (drop n octets) m (with_scan (resting past_between) held_back)
     between_is =
@@ -292,11 +287,9 @@ module _ (g : Catalog) (l : Limits) (r : Reading) (inner : is_top r.frames ≡ f
 
   token_passes : (q : Reading) → turn g l r (token_of (lexeme_at rest kind kept n) c) ≡ goes q → is_top q.frames ≡ false → q.start ≡ r.start
       → Passes g l (with_scan (resting rest) r) octets n (with_scan (resting behind_token) q)
-  token_passes q turns inside same = by left found
-    where
-      by : (b : Bool) → IsFound (place r) rest octets kind kept n b → Passes g l (with_scan (resting rest) r) octets n (with_scan (resting behind_token) q)
-      by true f = left_passes g l r inner (still_settles g l r still) rest octets kind kept n c q says turns room f (quiet n (omega arith))
-      by false f = given_leads g l r inner (still_settles g l r still) rest octets kind kept n c q says turns room f (quiet (n - 1) (omega arith)) inside same
+  token_passes q turns inside same =
+      found_passes g l r (still_settles g l r still) rest octets kind kept n c q says turns left found quiet (l.item + q.start) (inner_notices l q inside)
+      (omega arith)
 
   -- where a value or an annotation may come
   module _ (now : r.now ≡ Now.Ready) (held : Held) (may : takes_colon (place r) kind ≡ true)

@@ -1,5 +1,5 @@
 -- Items of the top level, and annotations, with the octets behind them.
-use Rattle.std.proofs.Common.{◌≡◌, ℕ, ◌+◌, ◌-◌, ◌<◌, ◌≤◌, Bool, true, false, List, [], ◌∷◌, ◌++◌, length, take, drop, get_or, Option, None, Ok, refl, ap, sym, ◌∙◌, subst, arith, inl, inr}
+use Rattle.std.proofs.Common.{◌≡◌, ℕ, ◌+◌, ◌-◌, ◌<◌, ◌≤◌, true, false, List, [], ◌∷◌, ◌++◌, length, take, drop, get_or, Option, None, Ok, refl, ap, sym, ◌∙◌, subst, arith, inl, inr}
 use Rattle.std.specs.Prelude.{if◌then◌else◌, nat_le}
 use Rattle.std.proofs.lemmas.Bool.Decides.{nat_tests}
 use Rattle.std.proofs.lemmas.Grind.{common_steps}
@@ -7,7 +7,7 @@ use Rattle.std.proofs.lemmas.Bool.{cond-true}
 use Rattle.std.proofs.lemmas.List.{length-take-le, drop-take}
 use Rattle.ion_text.specs.Names.{Bracket, Catalog, Content, FoundNote, FoundToken, Frame, Held, IsFound, IsPassed, Known, Limits, Mark', Now, OpensAt, Passes, Place, Quiet, Reading, Reason, Rest, RestsBehind, Slot, State, Symbols, TokenKind, Value, at, base, begun_at, begun_in, behind_given, behind_note, drive, eats, ended, fails, feed, first_now, fresh, gives, go_on, goes, held_of, is_long_begun, is_table, led, lexeme_at, longest_top, next, on_said, on_scan, open_mark, opened, past_token, place, place_in, reaches, refuses, rested, resting, run, run_on, said, settle, spot_at, takes, tells, token_of, turn, turned, under, unsettled, uses, with_scan, within}
 use Rattle.ion_tokens.proofs.runs.Runs.{next_used}
-use Rattle.ion_text.proofs.Arms.{given_found, left_found, mark_says}
+use Rattle.ion_text.proofs.Arms.{found_passes, mark_says}
 use Rattle.ion_text.proofs.Fronts.{quiet_within}
 use Rattle.ion_text.proofs.Nested.{is_open_left, open_found}
 use Rattle.ion_text.proofs.Passing.{NoticesNothing, inner_notices, next_octet, passes_blank, passes_led}
@@ -126,20 +126,11 @@ module _ (g : Catalog) (l : Limits) (start : ℕ) (c : List Slot) (ss : Symbols)
       → rest.used + length octets ≤ l.item + begin rest.used
       → Passes g l (rested rest start c [] ss Now.Ready) octets 1
       (rested (past_token Place.Top rest (TokenKind.Mark (open_mark bracket)) 1) (begin rest.used) c (opened bracket ss ∷ []) [] (first_now bracket))
-  top_open rest octets bracket deep more opens room = by (is_open_left bracket) (open_found bracket Place.Top rest octets opens more refl)
-    where
-      turns : turn g l on_top (token_of (lexeme_at rest (TokenKind.Mark (open_mark bracket)) [] 1) (Mark' (open_mark bracket))) ≡ goes (behind_open rest bracket)
-      turns = open_goes (under g l) (spot_at (rest.used + 1) (begin rest.used) c) [] ss bracket deep
-
-      by : (b : Bool) → IsFound Place.Top rest octets (TokenKind.Mark (open_mark bracket)) [] 1 b
-          → Passes g l (rested rest start c [] ss Now.Ready) octets 1
-          (rested (past_token Place.Top rest (TokenKind.Mark (open_mark bracket)) 1) (begin rest.used) c (opened bracket ss ∷ []) [] (first_now bracket))
-      by true f = left_found g l on_top refl rest octets (TokenKind.Mark (open_mark bracket)) [] 1 (Mark' (open_mark bracket)) (behind_open rest bracket)
-          (mark_says (open_mark bracket)) turns f
-          (top_quiet rest octets 1 (omega arith) (omega arith))
-      by false f = given_found g l on_top refl rest octets (TokenKind.Mark (open_mark bracket)) [] 1 (Mark' (open_mark bracket)) (behind_open rest bracket)
-          (mark_says (open_mark bracket)) turns f tt (l.item + begin rest.used)
-          (inner_notices l (behind_open rest bracket) refl) room
+  top_open rest octets bracket deep more opens room =
+      found_passes g l on_top refl rest octets (TokenKind.Mark (open_mark bracket)) [] 1 (Mark' (open_mark bracket)) (behind_open rest bracket)
+      (mark_says (open_mark bracket)) (open_goes (under g l) (spot_at (rest.used + 1) (begin rest.used) c) [] ss bracket deep) (is_open_left bracket)
+      (open_found bracket Place.Top rest octets opens more refl) (λ k few. top_quiet rest octets k (omega arith) (omega arith)) (l.item + begin rest.used)
+      (inner_notices l (behind_open rest bracket) refl) room
 
 -- what waits behind an annotation, or behind `::`, isn't too long
 pub waits_notices : (l : Limits) (start : ℕ) (c : List Slot) (ss : Symbols) (h : Held) (end most : ℕ) → end ≤ start + l.item

@@ -344,27 +344,10 @@ impl TextWalk<'_> {
             return self.take_dollar_name(rest, octets, visitor);
         }
         match plain_name(octets) {
-            None => self.take_odd_name(rest, octets, visitor),
             Some((token, text)) => self.take_key(token, text, rest, octets, visitor),
+            None if may_be_rare(octets) => self.take_rare_name(rest, octets, visitor),
+            None => Ok((0, Taken::Uses)),
         }
-    }
-
-    /// The name of a field that isn't plain and no symbol's id, with its colon.
-    #[inline(always)]
-    fn take_odd_name<V: Visitor>(
-        &mut self,
-        rest: &mut Rest,
-        octets: &[u8],
-        visitor: &mut V,
-    ) -> Result<(usize, Taken), Reason>
-        requires { Takes nows.Name self.old rest.old octets.now }
-        ensures { EndsBy V.takes self.old self.new rest.old rest.new octets.now result
-            visitor.old visitor.new }
-    {
-        if may_be_rare(octets) {
-            return self.take_rare_name(rest, octets, visitor);
-        }
-        Ok((0, Taken::Uses))
     }
 
     /// This name of a field, with the blank behind it and its colon.

@@ -3,11 +3,8 @@ use Rattle.std.proofs.lemmas.List.{take_rest}
 use Rattle.ion_text.specs.Names.{RestsBehind}
 use Rattle.ion_tokens.proofs.runs.WholeComments.{white_rests}
 use Rattle.ion_text.proofs.LastTokens.{ends_on}
-use Rattle.ion_text.proofs.Strides.{blank_strode, ends_none, settings_none}
+use Rattle.ion_text.proofs.Strides.{blank_strode, settings_none}
 use Rattle.ion_text.proofs.walk.TextWalk.take_next.Goals as goal
-
-pub returns-then-blank-octets : goal.returns-then-blank-octets
-returns-then-blank-octets g c = ends_none g.V.Visitor.takes c.args.self.now c.args.rest.now c.args.octets.now c.args.visitor.now
 
 pub returns-then-octets-blank-eq47 : goal.returns-then-octets-blank-eq47
 returns-then-octets-blank-eq47 g c = record {
