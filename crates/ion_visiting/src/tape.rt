@@ -235,7 +235,8 @@ impl Tape {
     #[inline(always)]
     #[tactic(auto, using(crate::proofs::Taped::same_events))]
     pub fn is_same(&self, other: &Tape) -> bool
-        ensures { result ≡ true → events_in self.now ≡ events_in other.now }
+        ensures same { result ≡ true → events_in self.now ≡ events_in other.now }
+        ensures found { self.now ≡ other.now → result ≡ true }
     {
         same_entries(&self.entries, &other.entries)
             && self.octets == other.octets
@@ -301,7 +302,8 @@ impl Tape {
 
 #[inline(always)]
 fn same_entries(entries: &[Entry], others: &[Entry]) -> bool
-    ensures { result ≡ true → entries.now ≡ others.now }
+    ensures same { result ≡ true → entries.now ≡ others.now }
+    ensures found { entries.now ≡ others.now → result ≡ true }
 {
     if entries.len() != others.len() {
         return false;
@@ -316,7 +318,8 @@ fn same_entries(entries: &[Entry], others: &[Entry]) -> bool
 
 #[inline(never)]
 fn same_numbers(numbers: &[Number], others: &[Number]) -> bool
-    ensures { result ≡ true → numbers.now ≡ others.now }
+    ensures same { result ≡ true → numbers.now ≡ others.now }
+    ensures found { numbers.now ≡ others.now → result ≡ true }
 {
     if numbers.len() != others.len() {
         return false;
