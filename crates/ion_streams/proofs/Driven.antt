@@ -1,10 +1,10 @@
 -- A document that is read value by value to its end, and what a visitor hears of it.
-use Rattle.std.proofs.Common.{◌≡◌, ℕ, List, [], ◌∷◌, ◌++◌, length, false, Option, Some, None, Result, Ok, Err, inr, append-nil, ap, sym, subst, ◌∙◌}
+use Rattle.std.proofs.Common.{◌≡◌, ℕ, List, [], ◌∷◌, ◌++◌, length, false, Option, Some, None, inr, append-nil, ap, sym, subst, ◌∙◌}
 use Rattle.std.proofs.lemmas.Grind.{flat_map-append}
 use Rattle.std.proofs.lemmas.List.{length-map, map-append}
-use Rattle.ion_streams.specs.Names.{Catalog, Ended, Event, Format, IfOpen, Inlet, IsReady, IsWithin, Items, Led, Limits, NoReadFailed, NoneFailed, Open, Refusal, Refused, Source, Standing, StoodEach, ToldNext, Value, answered, ended, events_of, format_of, plain, stream_events, telling}
+use Rattle.ion_streams.specs.Names.{Catalog, Ended, Event, IfOpen, Inlet, IsReady, IsWithin, Items, Led, Limits, NoReadFailed, NoneFailed, Open, Refused, Source, Standing, ToldNext, Value, answered, ended, events_of, format_of, plain, stream_events, telling}
 use Rattle.ion_visiting.specs.laws.Led.{led_both, led_more}
-use Rattle.ion_streams.specs.Checked.{IsChecked, IsVisited}
+use Rattle.ion_streams.specs.Checked.{IsVisited}
 use Rattle.ion_streams.proofs.Steps.{stood_plain}
 use Rattle.ion_streams.proofs.Unfailed.{StandsHeard, stands_heard}
 

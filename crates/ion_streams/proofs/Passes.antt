@@ -1,9 +1,7 @@
 -- What a document gave that is read value by value.
-use Rattle.std.proofs.Common.{◌≡◌, ℕ, List, [], ◌∷◌, ◌++◌, Result, Ok, Err, IfOk, IfErr, OnErr, Option, Some, None, option_map, option_to_list, refl, ap, sym, subst, ◌∙◌, append-nil}
-use Rattle.std.proofs.lemmas.Option.{same_Some}
-use Rattle.ion_streams.specs.Names.{AValue, Catalog, Ended, Fault, GaveNext, IfClosed, IfRefused, Inlet, Items, Limits, Open, ReadsEach, Refused, Source, Standing, Stood, StoodEach, Value, Went, given_at, left_of}
-use Rattle.ion_streams.specs.reading.Reached.{Reaches}
-use Rattle.ion_streams.proofs.Steps.{plain_next, reads_by, stood_plain}
+use Rattle.std.proofs.Common.{◌≡◌, ℕ, List, ◌++◌, Result, Ok, Err, IfOk, IfErr, Option, Some, None, option_map, option_to_list, ap, sym, subst, ◌∙◌, append-nil}
+use Rattle.ion_streams.specs.Names.{Catalog, Ended, Fault, GaveNext, IfClosed, IfRefused, Inlet, Items, Limits, Open, Refused, Source, Standing, Stood, StoodEach, Value, Went, left_of}
+use Rattle.ion_streams.proofs.Steps.{plain_next, stood_plain}
 
 -- where there was no value
 pub none_went : {X : Type 0} (I : Items X) (source after : Source X) (found : Option Value) → found ≡ None

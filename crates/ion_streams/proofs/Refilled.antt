@@ -3,9 +3,8 @@ use Rattle.std.proofs.Common.{◌≡◌, ℕ, ◌+◌, ◌-◌, ◌≤◌, ◌<�
 use Rattle.std.proofs.lemmas.List.{drop-take, take-take, drop-append-le, take-append-le, length-take-le}
 use Rattle.std.proofs.lemmas.Bool.Decides.{nat_tests}
 use Rattle.std.proofs.Math.Seq.{take-append-add}
-use Rattle.ion_streams.specs.Names.{AnsweredEnd, HasToAsk, Heard, Inlet, IsReady, Items, NoReadFailed, NoneFailed, Source, between, left_of}
+use Rattle.ion_streams.specs.Names.{AnsweredEnd, HasToAsk, Heard, Inlet, Items, NoReadFailed, NoneFailed, Source, between}
 use Rattle.ion_symtab.specs.Told.{Told}
-use Rattle.ion_streams.proofs.Pieces.{between_nil}
 
 cut_front : (piece : List ℕ) (at end : ℕ) → at ≤ end → drop at (take end piece) ≡ between piece at end
 cut_front piece at end within =

@@ -1,6 +1,6 @@
 -- Two documents that are read in turn, and the values that are written down of both.
 use Rattle.std.proofs.Common.{◌≡◌, ◌⊎◌, ℕ, ◌+◌, ◌*◌, ◌<◌, ◌≤◌, ◌^◌, List, [], ◌∷◌, ◌++◌, length, refl, sym, subst, ◌∙◌, append-nil, Bool, true, false, Result, Ok, Option, Some, None, IfSome, IsNone, is_some, option_to_list}
-use Rattle.ion_streams.specs.Names.{AreHeld, Catalog, Course, Ended, Fault, Grows, HandedOn, HasTold, Holds, IfAlike, IfClosed, IfOpen, Inlet, IsFront, IsMet, IsOpen, IsReady, IsWithin, Items, Limits, Open, Refused, Sought, Standing, Stood, StoodEach, Tape, TapedNext, Value, count_of, format_of, reads_of, telling, work_of}
+use Rattle.ion_streams.specs.Names.{AreHeld, Catalog, Course, Ended, Fault, Grows, HandedOn, HasTold, HeldNext, IfAlike, IfClosed, IfOpen, Inlet, IsFront, IsMet, IsOpen, IsReady, IsWithin, Items, Limits, Open, Refused, Sought, Standing, Stood, StoodEach, Value, count_of, format_of, reads_of, telling, work_of}
 use Rattle.ion_streams.proofs.Courses.{Meets, meets_more}
 use Rattle.ion_streams.proofs.Steps.{plain_next, stood_plain}
 use Rattle.ion_streams.proofs.Turns.{Turn, WasAsked, ahead, left_on, level_on, right_on}
@@ -35,19 +35,19 @@ closed_kept old now Ended after found h = (h.2, h.1)
 closed_kept old now (Refused refusal) after found h = (h.2, h.1)
 
 -- where two values are told of streams that didn't part, they were to be compared, and the tapes hold them
-pub are_held : {X Y : Type 0} (course : Course) (left left' : Standing X) (right right' : Standing Y) (compared : Bool) (t u : Tape) (v w : Option Value)
+pub are_held : {X Y : Type 0} (course : Course) (left left' : Standing X) (right right' : Standing Y) (compared : Bool) (P Q : Value → Type 0) (v w : Option Value)
     → (compared ≡ false → IfAlike course (λ n. IfOpen left (λ source. IfOpen right (λ source. ⊥)))) → IfClosed left ((left' ≡ left) × (v ≡ None))
-    → IfClosed right ((right' ≡ right) × (w ≡ None)) → (compared ≡ true → IfSome v (Holds t)) → (compared ≡ true → IfSome w (Holds u))
-    → IfAlike course (λ n. AreHeld t u v w)
-are_held (Course.Parted index path) left left' right right' compared t u v w not a b h k = tt
-are_held (Course.Alike n) left left' right right' compared t u None w not a b h k = tt
-are_held (Course.Alike n) left left' right right' compared t u (Some v) None not a b h k = tt
-are_held (Course.Alike n) left left' right right' true t u (Some v) (Some w) not a b h k = (h refl, k refl)
-are_held (Course.Alike n) (Open source) left' (Open other) right' false t u (Some v) (Some w) not a b h k = absurd (not refl)
-are_held (Course.Alike n) (Open source) left' Ended right' false t u (Some v) (Some w) not a b h k = absurd (let e = b.1 in cc)
-are_held (Course.Alike n) (Open source) left' (Refused r) right' false t u (Some v) (Some w) not a b h k = absurd (let e = b.1 in cc)
-are_held (Course.Alike n) Ended left' right right' false t u (Some v) (Some w) not a b h k = absurd (let e = a.1 in cc)
-are_held (Course.Alike n) (Refused r) left' right right' false t u (Some v) (Some w) not a b h k = absurd (let e = a.1 in cc)
+    → IfClosed right ((right' ≡ right) × (w ≡ None)) → IfSome v (λ x. compared ≡ true → P x) → IfSome w (λ x. compared ≡ true → Q x)
+    → IfAlike course (λ n. AreHeld P Q v w)
+are_held (Course.Parted index path) left left' right right' compared P Q v w not a b h k = tt
+are_held (Course.Alike n) left left' right right' compared P Q None w not a b h k = tt
+are_held (Course.Alike n) left left' right right' compared P Q (Some v) None not a b h k = tt
+are_held (Course.Alike n) left left' right right' true P Q (Some v) (Some w) not a b h k = (h refl, k refl)
+are_held (Course.Alike n) (Open source) left' (Open other) right' false P Q (Some v) (Some w) not a b h k = absurd (not refl)
+are_held (Course.Alike n) (Open source) left' Ended right' false P Q (Some v) (Some w) not a b h k = absurd (let e = b.1 in cc)
+are_held (Course.Alike n) (Open source) left' (Refused r) right' false P Q (Some v) (Some w) not a b h k = absurd (let e = b.1 in cc)
+are_held (Course.Alike n) Ended left' right right' false P Q (Some v) (Some w) not a b h k = absurd (let e = a.1 in cc)
+are_held (Course.Alike n) (Refused r) left' right right' false P Q (Some v) (Some w) not a b h k = absurd (let e = a.1 in cc)
 
 -- a document that can be read on can be walked on
 pub ready_told : {X : Type 0} (I : Items X) (place : Standing X) → IfOpen place (IsReady I) → IfOpen place (IsReady (telling I []))
@@ -56,24 +56,24 @@ ready_told I Ended h = tt
 ready_told I (Refused r) h = tt
 
 module _ {S X : Type 0} (R : Inlet S) (I : Items X) (g : Catalog) (l : Limits) (first : S) where
-  -- Behind s one more was told or none, as was found; the tape holds it where it is to.
-  pub record NextTaped (holds : Bool) (tape : Tape) (found : Option ℕ) (now : S) (after : Standing X) (s : List Value) : Type 0 where
+  -- Behind s one more was told or none, as was found, and this is so of it.
+  pub record NextHeld (P : Value → Type 0) (found : Option ℕ) (now : S) (after : Standing X) (s : List Value) : Type 0 where
     pub value : Option Value
     pub is : is_some value ≡ is_some found
-    pub there : holds ≡ true → IfSome value (Holds tape)
+    pub there : IfSome value P
     pub stood : Stood R (telling I []) g l first now after (s ++ option_to_list value)
 
   -- a document that was read on
-  pub taped : (old now : S) (place after : Standing X) (s : List Value) (holds : Bool) (tape : Tape) (found : Option ℕ) → Closed old now place after found
-      → ((given : List (Value × ℕ)) → StoodEach R (telling I []) g l first old place given → TapedNext holds R I g l first now after given found tape)
-      → Stood R (telling I []) g l first old place s → NextTaped holds tape found now after s
-  taped old now (Open source) after s holds tape found closed tells h = go found (tells h.given h.each)
+  pub taped : (old now : S) (place after : Standing X) (s : List Value) (P : Value → Type 0) (found : Option ℕ) → Closed old now place after found
+      → ((given : List (Value × ℕ)) → StoodEach R (telling I []) g l first old place given → HeldNext P R I g l first now after given found)
+      → Stood R (telling I []) g l first old place s → NextHeld P found now after s
+  taped old now (Open source) after s P found closed tells h = go found (tells h.given h.each)
     where
-      go : (found : Option ℕ) → TapedNext holds R I g l first now after h.given found tape → NextTaped holds tape found now after s
+      go : (found : Option ℕ) → HeldNext P R I g l first now after h.given found → NextHeld P found now after s
       go None each = record {
         value = None;
         is = refl;
-        there = λ yes. tt;
+        there = tt;
         stood = subst (λ (x : List Value). Stood R (telling I []) g l first now after x) (h.values ∙ sym (append-nil s))
             (stood_plain R (telling I []) g l first now after h.given each);
       }
@@ -85,18 +85,18 @@ module _ {S X : Type 0} (R : Inlet S) (I : Items X) (g : Catalog) (l : Limits) (
             (plain_next h.given (Some (told.0, used)) (Some told.0) s h.values refl)
             (stood_plain R (telling I []) g l first now after (h.given ++ (told.0, used) ∷ []) told.2);
       }
-  taped old now Ended after s holds tape found closed tells h = still closed.0 closed.1 closed.2
+  taped old now Ended after s P found closed tells h = still closed.0 closed.1 closed.2
     where
-      still : ◌≡◌ {A = Result (Option ℕ) Fault} (Ok found) (Ok None) → now ≡ old → after ≡ Ended → NextTaped holds tape found now after s
+      still : ◌≡◌ {A = Result (Option ℕ) Fault} (Ok found) (Ok None) → now ≡ old → after ≡ Ended → NextHeld P found now after s
       still e same kept =
           let none : found ≡ None = cc in
-          rw none (record { value = None; is = refl; there = λ yes. tt; stood = rw (same, kept, append-nil s) h })
-  taped old now (Refused r) after s holds tape found closed tells h = still closed.0 closed.1 closed.2
+          rw none (record { value = None; is = refl; there = tt; stood = rw (same, kept, append-nil s) h })
+  taped old now (Refused r) after s P found closed tells h = still closed.0 closed.1 closed.2
     where
-      still : ◌≡◌ {A = Result (Option ℕ) Fault} (Ok found) (Ok None) → now ≡ old → after ≡ Refused r → NextTaped holds tape found now after s
+      still : ◌≡◌ {A = Result (Option ℕ) Fault} (Ok found) (Ok None) → now ≡ old → after ≡ Refused r → NextHeld P found now after s
       still e same kept =
           let none : found ≡ None = cc in
-          rw none (record { value = None; is = refl; there = λ yes. tt; stood = rw (same, kept, append-nil s) h })
+          rw none (record { value = None; is = refl; there = tt; stood = rw (same, kept, append-nil s) h })
 
 module _ {S T X Y : Type 0} (L : Inlet S) (R : Inlet T) (I : Items X) (J : Items Y) (first_left : S) (first_right : T) (left_begun : Standing X)
     (right_begun : Standing Y) where
@@ -123,33 +123,33 @@ module _ {S T X Y : Type 0} (L : Inlet S) (R : Inlet T) (I : Items X) (J : Items
 
   -- the left was read on, and told a value or its end
   pub record LeftOn (g h : Catalog) (k l : Limits) (course : Course) (left : S) (right : T) (left_place left_after : Standing X) (right_place : Standing Y)
-      (holds : Bool) (tape : Tape) (found : Option ℕ) : Type 0 where
+      (P : Value → Type 0) (found : Option ℕ) : Type 0 where
     pub s : List Value
     pub t : List Value
-    pub next : NextTaped L I g k first_left holds tape found left left_after s
+    pub next : NextHeld L I g k first_left P found left left_after s
     pub right_stood : Stood R (telling J []) h l first_right right right_place t
     pub meets : Meets course left_place right_place s t
     pub ahead : IfOpen left_after (λ source. length t < length (s ++ option_to_list next.value))
     pub asked : WasAsked L R (telling I []) (telling J []) g h k l first_left first_right left_after left right
 
   -- and then the right
-  pub record BothOn (g h : Catalog) (k l : Limits) (left : S) (right : T) (left_after : Standing X) (right_after : Standing Y) (holds : Bool) (tape : Tape)
+  pub record BothOn (g h : Catalog) (k l : Limits) (left : S) (right : T) (left_after : Standing X) (right_after : Standing Y) (P : Value → Type 0)
       (found : Option ℕ) (s t : List Value) : Type 0 where
-    pub next : NextTaped R J h l first_right holds tape found right right_after t
+    pub next : NextHeld R J h l first_right P found right right_after t
     pub turn : Turn L R (telling I []) (telling J []) g h k l first_left first_right left_after left right s (t ++ option_to_list next.value)
 
   module _ (settled : (g : Catalog) (k : Limits) (u w : List ℕ) → Grows (I.trace g k u) (I.trace g k (u ++ w))) where
     pub left_goes : (course : Course) (left left_now : S) (right : T) (left_place left_after : Standing X) (right_place : Standing Y)
-        (holds : Bool) (tape : Tape) (found : Option ℕ) → SideBySide course left right left_place right_place
+        (P : Value → Type 0) (found : Option ℕ) → SideBySide course left right left_place right_place
         → Closed left left_now left_place left_after found →
         ((g : Catalog) (k : Limits) (first : S) (given : List (Value × ℕ)) → StoodEach L (telling I []) g k first left left_place given
-        → TapedNext holds L I g k first left_now left_after given found tape) →
+        → HeldNext P L I g k first left_now left_after given found) →
         (found ≡ None → IfOpen left_after (λ source. ⊥)) → HandedOn L left left_now → (g h : Catalog) (k l : Limits)
         → Stood L (telling I []) g k first_left first_left left_begun [] → Stood R (telling J []) h l first_right first_right right_begun []
-        → LeftOn g h k l course left_now right left_place left_after right_place holds tape found
-    left_goes course left left_now right left_place left_after right_place holds tape found i closed tells ends on g h k l a b =
+        → LeftOn g h k l course left_now right left_place left_after right_place P found
+    left_goes course left left_now right left_place left_after right_place P found i closed tells ends on g h k l a b =
         let w = i.stood g h k l a b in
-        let next = taped L I g k first_left left left_now left_place left_after w.0 holds tape found closed (tells g k first_left) w.2 in
+        let next = taped L I g k first_left left left_now left_place left_after w.0 P found closed (tells g k first_left) w.2 in
         record {
           s = w.0;
           t = w.1;
@@ -167,17 +167,17 @@ module _ {S T X Y : Type 0} (L : Inlet S) (R : Inlet T) (I : Items X) (J : Items
         ((r : X) (u : List ℕ) (given : List (Value × ℕ)) → I.told r u given []
         → IfSome (I.awaits r) (λ octet. IsFront given (I.trace (I.catalog r) (I.limits r) (u ++ octet ∷ [])).given)) →
         (course : Course) (left : S) (right right_now : T) (left_place left_after : Standing X) (right_place right_after : Standing Y)
-        (holds : Bool) (left_tape tape : Tape) (left_found found : Option ℕ) → IfOpen left_after (IsReady I)
+        (P Q : Value → Type 0) (left_found found : Option ℕ) → IfOpen left_after (IsReady I)
         → ((refusal : _) → left_after ≡ Refused refusal → ⊥) → Closed right right_now right_place right_after found →
         ((h : Catalog) (l : Limits) (first : T) (given : List (Value × ℕ)) → StoodEach R (telling J []) h l first right right_place given
-        → TapedNext holds R J h l first right_now right_after given found tape) →
+        → HeldNext Q R J h l first right_now right_after given found) →
         ((h : Catalog) (l : Limits) (first : T) (t : List Value) → Stood R (telling J []) h l first right right_place t
         → Sought R (format_of J h l) first right right_now (length t)) → (g h : Catalog) (k l : Limits)
-        (on : LeftOn g h k l course left right left_place left_after right_place holds left_tape left_found)
-        → BothOn g h k l left right_now left_after right_after holds tape found (on.s ++ option_to_list on.next.value) on.t
-    right_goes so_far with_next course left right right_now left_place left_after right_place right_after holds left_tape tape left_found found ready kept
+        (on : LeftOn g h k l course left right left_place left_after right_place P left_found)
+        → BothOn g h k l left right_now left_after right_after Q found (on.s ++ option_to_list on.next.value) on.t
+    right_goes so_far with_next course left right right_now left_place left_after right_place right_after P Q left_found found ready kept
         closed tells sought g h k l on =
-        let next = taped R J h l first_right right right_now right_place right_after on.t holds tape found closed (tells h l first_right) on.right_stood in
+        let next = taped R J h l first_right right right_now right_place right_after on.t Q found closed (tells h l first_right) on.right_stood in
         record {
           next = next;
           turn = record {
@@ -190,22 +190,22 @@ module _ {S T X Y : Type 0} (L : Inlet S) (R : Inlet T) (I : Items X) (J : Items
 
     -- with the next value of each, or its end, two streams compare as the course behind it says
     pub both_met : (course after : Course) (left left_now : S) (right right_now : T) (left_place left_after : Standing X) (right_place right_after : Standing Y)
-        (compared : Bool) (t u : Tape) (found other : Option ℕ) (gave other_gave : Bool)
+        (compared : Bool) (P Q : Value → Type 0) (found other : Option ℕ) (gave other_gave : Bool)
         → (compared ≡ false → IfAlike course (λ n. IfOpen left_place (λ source. IfOpen right_place (λ source. ⊥)))) →
-        ((v w : Option Value) → is_some v ≡ gave → is_some w ≡ other_gave → IfAlike course (λ n. AreHeld t u v w) → IsMet course v w after) →
+        ((v w : Option Value) → is_some v ≡ gave → is_some w ≡ other_gave → IfAlike course (λ n. AreHeld P Q v w) → IsMet course v w after) →
         gave ≡ is_some found → other_gave ≡ is_some other → Closed left left_now left_place left_after found
         → Closed right right_now right_place right_after other → (found ≡ None → IfOpen left_after (λ source. ⊥))
         → (other ≡ None → IfOpen right_after (λ source. ⊥)) → (g h : Catalog) (k l : Limits)
-        (on : LeftOn g h k l course left_now right left_place left_after right_place compared t found)
-        (both : BothOn g h k l left_now right_now left_after right_after compared u other (on.s ++ option_to_list on.next.value) on.t)
+        (on : LeftOn g h k l course left_now right left_place left_after right_place (λ v. compared ≡ true → P v) found)
+        (both : BothOn g h k l left_now right_now left_after right_after (λ w. compared ≡ true → Q w) other (on.s ++ option_to_list on.next.value) on.t)
         → Meets after left_after right_after (on.s ++ option_to_list on.next.value) (on.t ++ option_to_list both.next.value)
-    both_met course after left left_now right right_now left_place left_after right_place right_after compared t u found other gave other_gave compares met
+    both_met course after left left_now right right_now left_place left_after right_place right_after compared P Q found other gave other_gave compares met
         is is_other closed other_closed ends other_ends g h k l on both =
         let v = on.next.value in
         let w = both.next.value in
         let was = closed_same left left_now left_place left_after found v on.next.is closed in
         let other_was = closed_same right right_now right_place right_after other w both.next.is other_closed in
-        let held = are_held course left_place left_after right_place right_after compared t u v w compares was other_was on.next.there both.next.there in
+        let held = are_held course left_place left_after right_place right_after compared P Q v w compares was other_was on.next.there both.next.there in
         meets_more course after left_place left_after right_place right_after on.s on.t v w
         (met v w (on.next.is ∙ sym is) (both.next.is ∙ sym is_other) held) on.meets was other_was
         (λ none. ends (none_of found v on.next.is none)) (λ none. other_ends (none_of other w both.next.is none))

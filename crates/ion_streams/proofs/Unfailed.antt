@@ -1,6 +1,6 @@
 -- Reads of a device that were all answered.
-use Rattle.std.proofs.Common.{◌≡◌, ◌⊎◌, inl, inr, ap, sym, ◌∙◌, arith, false, Option, Some, None, IsNone, IsSome, refl}
-use Rattle.ion_streams.specs.Names.{Ended, HasToAsk, IfOpen, Inlet, Items, NoReadFailed, NoneFailed, Open, Refused, Source, Standing, StandsUnread, Value}
+use Rattle.std.proofs.Common.{◌≡◌, ◌⊎◌, inl, inr, ap, sym, ◌∙◌, false, Option, Some, None, IsNone, IsSome, refl}
+use Rattle.ion_streams.specs.Names.{Ended, HasToAsk, IfOpen, Inlet, Items, NoReadFailed, NoneFailed, Open, Refused, Source, Standing, StandsUnread}
 
 -- what can't be there is none
 pub none_there : {A : Type 0} (found : Option A) → (IsSome found → ⊥) → found ≡ None

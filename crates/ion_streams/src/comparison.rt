@@ -1,12 +1,12 @@
 //! Whether two documents have equivalent streams.
 ghost use Rattle.std.specs.Prelude.{◌≡◌, ℕ, ◌+◌, ◌*◌, ◌^◌, ◌<◌, ◌≤◌, ◌⊎◌, List, [], true, false, IfOk, IfErr, OnOk, OnErr, IsSome, MatchResult, Option, Result, is_some, length};
-ghost use Rattle.ion_streams.specs.Names.{AreHeld, AtOneEnd, Catalog, Event, GaveSoFar, HandedOn, Holds, IfAlike, IfClosed, IfOpen, IsFresh, IsInTurn, IsMet, IsOpen, IsParting, IsReadCause, IsReady, IsWithin, Limits, NoReadFailed, NoneFailed, Sought, StandsUnread, Stood, StoodEach, TapedNext, Value, count_of, format_of, fresh, reads_of, same, telling, verdict_of, work_of};
+ghost use Rattle.ion_streams.specs.Names.{AreOnTapes, AtOneEnd, Catalog, Event, GaveSoFar, HandedOn, HeldNext, Holds, IfAlike, IfClosed, IfOpen, IsFresh, IsInTurn, IsMet, IsOpen, IsParting, IsReadCause, IsReady, IsWithin, Led, Limits, NoReadFailed, NoneFailed, Sought, StandsUnread, Stood, StoodEach, Value, WasTold, count_of, events_of, format_of, fresh, reads_of, same, telling, verdict_of, work_of};
 ghost use Rattle.ion_streams.specs.Compared.{IsCompared};
 
 use crate::source::{Source, Standing};
 use ion_model::{Path, Refusal, Value, parting};
 use ion_symtab::{Fault, Inlet, Items};
-use ion_visiting::{Building, Count, Following, Frames, Tape};
+use ion_visiting::{Building, Count, Following, Frames, Tape, Twin, Visitor};
 use std::alloc::Global;
 use std::mem;
 
@@ -53,26 +53,25 @@ enum Course {
 }
 
 impl Course {
-    /// Goes on behind the next value of each, which its tape holds, or the end of one; `Memory`
+    /// Goes on behind the next value of each, which the tapes were told, or the end of one; `Memory`
     /// where a growth was refused. What is on the tapes isn't needed any more.
     #[inline(always)]
     fn meet(
         &mut self,
         alloc: Global,
         gave: (bool, bool),
-        left: &mut Tape,
-        right: &mut Tape,
+        tapes: &mut Twin,
         frames: &mut Frames,
     ) -> Result<(), Fault>
         requires { count_of self.old + 1 < 2 ^ 64 }
         ensures met { OnOk result ((v w : Option Value) → is_some v ≡ gave.0 → is_some w ≡ gave.1 →
-            IfAlike self.old (λ _. AreHeld left.old right.old v w) → IsMet self.old v w self.new) }
+            IfAlike self.old (λ _. AreOnTapes tapes.old v w) → IsMet self.old v w self.new) }
         ensures counted { OnOk result (count_of self.new ≤ count_of self.old + 1) }
         ensures cause { IfErr result (λ fault. fault ≡ Fault.Memory) }
     {
         match self {
             Course::Alike { values } => {
-                let met = behind(alloc, *values, gave, left, right, frames)?;
+                let met = behind(alloc, *values, gave, tapes, frames)?;
                 drop(mem::replace(self, met));
                 Ok(())
             }
@@ -98,27 +97,26 @@ impl Course {
     }
 }
 
-/// The course behind so many values of each that were the same, and the next of each, which its
-/// tape holds.
+/// The course behind so many values of each that were the same, and the next of each, which the
+/// tapes were told.
 #[inline(always)]
 fn behind(
     alloc: Global,
     values: u64,
     gave: (bool, bool),
-    left: &mut Tape,
-    right: &mut Tape,
+    tapes: &mut Twin,
     frames: &mut Frames,
 ) -> Result<Course, Fault>
     requires { values + 1 < 2 ^ 64 }
     ensures met { IfOk result (λ met. (v w : Option Value) → is_some v ≡ gave.0 →
-        is_some w ≡ gave.1 → AreHeld left.old right.old v w → IsMet (Course.Alike values) v w met) }
+        is_some w ≡ gave.1 → AreOnTapes tapes.old v w → IsMet (Course.Alike values) v w met) }
     ensures counted { IfOk result (λ met. count_of met ≤ values + 1) }
     ensures cause { IfErr result (λ fault. fault ≡ Fault.Memory) }
 {
     let index = values + 1;
     match gave {
         (false, false) => Ok(Course::Alike { values }),
-        (true, true) => match parting_on(alloc, left, right, frames)? {
+        (true, true) => match parting_on(alloc, tapes, frames)? {
             None => Ok(Course::Alike { values: index }),
             Some(path) => Ok(Course::Parted { index, path }),
         },
@@ -136,10 +134,37 @@ fn ended_first(alloc: Global, index: u64) -> Course
     }
 }
 
-/// The path to where the values part that two tapes hold; `None` where they are equivalent. Neither
-/// is built where the tapes are the same or the right one is found on the left tape.
+/// The path to where the two values part that the tapes were told; `None` where they are
+/// equivalent. Those that were told the same, as equivalent values mostly are, were compared so.
 #[inline(always)]
-fn parting_on(
+#[tactic(auto, using(crate::proofs::Taping::parted_on))]
+fn parting_on(alloc: Global, tapes: &mut Twin, frames: &mut Frames) -> Result<Option<Path>, Fault>
+    ensures { MatchResult result (λ path. (v w : Value) → Holds tapes.old.first v →
+        WasTold tapes.old (events_of w) → IsParting path v w) (λ fault. fault ≡ Fault.Memory) }
+{
+    if are_same(tapes) {
+        return Ok(None);
+    }
+    if !tapes.part_ways() {
+        return Err(Fault::Memory);
+    }
+    parting_apart(alloc, &mut tapes.first, &mut tapes.second, frames)
+}
+
+/// Whether both values were told the same.
+#[inline(always)]
+#[tactic(auto, using(crate::proofs::Taping::same_on))]
+fn are_same(tapes: &Twin) -> bool
+    ensures { result ≡ true → (v w : Value) → Holds tapes.now.first v →
+        WasTold tapes.now (events_of w) → same v w ≡ true }
+{
+    tapes.are_same()
+}
+
+/// The path to where the values part that two tapes hold; `None` where they are equivalent. Neither
+/// is built where the right one is found on the left tape.
+#[inline(never)]
+fn parting_apart(
     alloc: Global,
     left: &mut Tape,
     right: &mut Tape,
@@ -148,25 +173,14 @@ fn parting_on(
     ensures { MatchResult result (λ path. (v w : Value) → Holds left.old v → Holds right.old w →
         IsParting path v w) (λ fault. fault ≡ Fault.Memory) }
 {
-    if are_same(left, right) || is_found(alloc, left, right, frames) {
+    if is_found(alloc, left, right, frames) {
         return Ok(None);
     }
     parting_built(alloc, left, right)
 }
 
-/// Whether both tapes tell the same, as those of values that are equivalent mostly do.
-#[inline(always)]
-#[tactic(auto, using(crate::proofs::Taping::same_on))]
-fn are_same(left: &Tape, right: &Tape) -> bool
-    ensures { result ≡ true → (v w : Value) → Holds left.now v → Holds right.now w →
-        same v w ≡ true }
-{
-    left.is_same(right)
-}
-
 /// Whether the value that the right tape holds is found on the left one. It needn't be, where the
 /// two are equivalent. The memory of the search is used again.
-#[inline(never)]
 #[tactic(auto, using(crate::proofs::Taping::found_on))]
 fn is_found(alloc: Global, left: &Tape, right: &Tape, frames: &mut Frames) -> bool
     ensures { result ≡ true → (v w : Value) → Holds left.now v → Holds right.now w →
@@ -239,19 +253,20 @@ fn compares<I: Drop, J: Drop>(course: &Course, left: &Standing<I>, right: &Stand
     }
 }
 
-/// Reads on as `Standing::advance_by` does: where the next value is compared, the tape holds that
-/// one alone then. Else it is kept nowhere.
-fn read_next<I: Items + Drop, R: Inlet>(
+/// Reads on as `Standing::advance_by` does, and tells the next value where it is compared. Else it is
+/// kept nowhere.
+fn read_next<I: Items + Drop, R: Inlet, V: Visitor>(
     place: &mut Standing<I>,
     reader: &mut R,
     compared: bool,
-    tape: &mut Tape,
+    visitor: &mut V,
 ) -> Result<Option<u64>, Fault>
     requires { IfOpen place.old (IsReady I.Items) }
     ensures tells { IfOk result (λ found. (g : Catalog) (l : Limits) (first : R)
         (given : List (Value × ℕ)) →
         StoodEach R.Inlet (telling I.Items []) g l first reader.old place.old given →
-        TapedNext compared R.Inlet I.Items g l first reader.new place.new given found tape.new) }
+        HeldNext (λ v. compared ≡ true → Led V.takes (events_of v) visitor.old visitor.new)
+        R.Inlet I.Items g l first reader.new place.new given found) }
     ensures none { IfOk result (λ found. found ≡ Option.None → IfOpen place.new (λ after. ⊥)) }
     ensures ready { IfOpen place.new (IsReady I.Items) }
     ensures spends { IfOpen place.old (λ source.
@@ -282,8 +297,7 @@ fn read_next<I: Items + Drop, R: Inlet>(
     if !compared {
         return place.advance_by::<Count, R>(reader, &mut Count::new());
     }
-    tape.clear();
-    place.advance_by::<Tape, R>(reader, tape)
+    place.advance_by::<V, R>(reader, visitor)
 }
 
 /// Reads both documents on to the verdict, one value of each in turn.
@@ -332,20 +346,20 @@ fn compare_places<I: Items + Drop, J: Items + Drop, L: Inlet, R: Inlet>(
         ⊎ IsReadCause R.Inlet reads right.old right.new fault) }
 {
     let mut frames = Frames::new(alloc);
-    let mut left_tape = Tape::new(alloc);
-    let mut right_tape = Tape::new(alloc);
+    let mut tapes = Twin::new(alloc);
     loop {
+        tapes.clear();
         let compared = compares(course, left_place, right_place);
-        let found = read_next(left_place, left, compared, &mut left_tape)?;
+        let found = read_next(left_place, left, compared, &mut tapes.first)?;
         if let Standing::Refused(refusal) = left_place {
             return Ok(Verdict::Refused {
                 side: Side::Left,
                 refusal: *refusal,
             });
         }
-        let other = read_next(right_place, right, compared, &mut right_tape)?;
+        let other = read_next(right_place, right, compared, &mut tapes)?;
         let gave = (found.is_some(), other.is_some());
-        course.meet(alloc, gave, &mut left_tape, &mut right_tape, &mut frames)?;
+        course.meet(alloc, gave, &mut tapes, &mut frames)?;
         if !left_place.is_open() && !right_place.is_open() {
             return Ok(course.verdict(right_place));
         }

@@ -4,4 +4,5 @@ pub mod Followed
 pub mod Sought
 pub mod Taped
 pub mod Trees
+pub mod Twins
 mod ToldItems

@@ -6,6 +6,7 @@ pub mod Outlining
 pub mod Building
 pub mod Tables
 pub mod Tapes
+pub mod Twins
 pub mod Following
 pub mod laws
 pub mod Names

@@ -35,3 +35,4 @@ pub use Rattle.ion_visiting.specs.declared.tape.Form.{Form}
 pub use Rattle.ion_visiting.specs.declared.tape.Range.{Range}
 pub use Rattle.ion_visiting.specs.declared.tape.Role.{Role}
 pub use Rattle.ion_visiting.specs.declared.tape.Tape.{Tape}
+pub use Rattle.ion_visiting.specs.declared.twin.Twin.{Twin}

@@ -38,6 +38,10 @@ told t (Entry.Close x) = Some (closes x)
 abbrev pub events_in : Tape → List Event
 events_in t = flat_map (λ e. option_to_list (told t e)) t.entries.items
 
+-- those that so many entries in front tell
+abbrev pub events_before : Tape → ℕ → List Event
+events_before t n = flat_map (λ e. option_to_list (told t e)) (take n t.entries.items)
+
 -- an entry at a place tells this
 pub record Tells (t : Tape) (i : ℕ) (e : Event) : Type 0 where
   pub entry : Entry

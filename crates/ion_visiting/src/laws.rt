@@ -1,10 +1,11 @@
 //! Laws of events and of visitors. Each stands on an empty function: its contract is the law.
 ghost use Rattle.std.specs.Prelude.{◌≡◌, ◌-◌, ◌^◌, ◌++◌, List, length, min, true, Some};
-ghost use Rattle.ion_visiting.specs.Names.{AreKept, Built, Count, Event, Following, IsKept, Led, Outlining, Tape, Value, builds, counts, events_of, fresh, no_values, outline_of, same, stream_events};
+ghost use Rattle.ion_visiting.specs.Names.{AreKept, Built, Count, Event, Following, IsKept, Led, Outlining, Tape, Twin, Value, builds, counts, events_of, fresh, no_values, outline_of, same, stream_events};
 ghost use Rattle.ion_visiting.specs.Following.{StartsOn, follows};
 ghost use Rattle.ion_visiting.specs.KeptEvents.{AreKeptEvents};
 ghost use Rattle.ion_visiting.specs.Outlining.{no_outline, outline_in, outlines};
 ghost use Rattle.ion_visiting.specs.Tapes.{Holds, IsBlank, events_in, tapes};
+ghost use Rattle.ion_visiting.specs.Twins.{IsApart, IsBegun, TellsSecond, WasTold};
 ghost use Rattle.ion_visiting.specs.declared.building.Open.TheVariants as places;
 
 use crate::visitor::Visitor;
@@ -56,6 +57,15 @@ pub fn value_wrote()
     ensures holds { (v : Value) (a t : Tape) → IsBlank a → Led tapes (events_of v) a t
         → Holds t v }
     ensures tells { (v : Value) (t : Tape) → Holds t v → events_in t ≡ events_of v }
+{}
+
+/// Where a second value is told beside the first from nothing on, the first stays, and so much was
+/// told; once they part, the second's own tape holds it.
+pub fn second_told()
+    ensures told { (v : Value) (a b : Twin) → IsBegun a → Led TellsSecond (events_of v) a b
+        → (b.first ≡ a.first) × WasTold b (events_of v) }
+    ensures holds { (v : Value) (a b : Twin) → WasTold a (events_of v) → IsApart a b
+        → Holds b.second v }
 {}
 
 /// Where a tape holds a value, and the events of another were found there from its front on, the two

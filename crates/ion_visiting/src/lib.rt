@@ -15,6 +15,7 @@ mod recent_symbols;
 mod table_filter;
 mod tape;
 mod telling;
+mod twin;
 mod visitor;
 
 pub use bracket::Bracket;
@@ -27,4 +28,5 @@ pub use recent_symbols::RecentSymbols;
 pub use table_filter::{TableFilter, is_fields};
 pub use tape::Tape;
 pub use telling::tell;
+pub use twin::Twin;
 pub use visitor::Visitor;

@@ -1,8 +1,9 @@
 //! Values written down event by event, in whatever encoding they were read.
 ghost use Rattle.std.specs.Prelude.{◌≡◌, ◌+◌, ◌++◌, ◌∷◌, [], ℕ, true, IfSome, Some, option_map, slice_get};
-ghost use Rattle.std.specs.Option.{is_some};
-ghost use Rattle.ion_visiting.specs.Names.{Led, number_payload, part, payload_of};
-ghost use Rattle.ion_visiting.specs.Tapes.{Grows, IsBlank, Rests, Writes, events_in, symbol_event, text_at, text_event, told};
+ghost use Rattle.std.specs.List.{flat_map};
+ghost use Rattle.std.specs.Option.{is_some, option_to_list};
+ghost use Rattle.ion_visiting.specs.Names.{Led, closes, number_payload, opens, part, payload_of};
+ghost use Rattle.ion_visiting.specs.Tapes.{Grows, IsBlank, Rests, Writes, events_before, events_in, symbol_event, text_at, text_event, told};
 
 use crate::bracket::Bracket;
 use crate::part::Part;
@@ -125,7 +126,7 @@ impl Tape {
     }
 
     #[inline(always)]
-    fn write_symbol(&mut self, role: Role, text: Option<&str>) -> bool
+    pub(crate) fn write_symbol(&mut self, role: Role, text: Option<&str>) -> bool
         ensures { result ≡ true → Writes self.old self.new
             (symbol_event role (option_map (λ t. t.now) text.entry)) }
     {
@@ -216,14 +217,59 @@ impl Tape {
         }
     }
 
-    /// Whether this entry tells this number, which fits no entry.
+    /// Whether this entry tells this part.
+    #[inline(always)]
+    pub(crate) fn tells_part(&self, entry: Entry, said: &Part<'_>) -> bool
+        ensures { result ≡ true → told self.now entry ≡ Some (part (payload_of said.now)) }
+    {
+        match said {
+            Part::Null(kind) => entry == Entry::Null(*kind),
+            Part::Truth(truth) => entry == Entry::Truth(*truth),
+            Part::Symbol(text) => self.tells_symbol(entry, Role::Value, Some(text.as_bytes())),
+            Part::Str(text) => self.tells_text(entry, Form::Str, text.as_bytes()),
+            Part::Clob(octets) => self.tells_text(entry, Form::Clob, octets),
+            Part::Blob(octets) => self.tells_text(entry, Form::Blob, octets),
+        }
+    }
+
+    /// Whether this entry tells this number.
     #[inline(always)]
     pub(crate) fn tells_number(&self, entry: Entry, number: &Number) -> bool
         ensures { result ≡ true → told self.now entry ≡ Some (part (number_payload number.now)) }
     {
-        let Entry::Number(place) = entry else {
-            return false;
-        };
+        match (entry, number) {
+            (Entry::Int(own), Number::Int(whole)) => whole.get() == i128::from(own),
+            (Entry::Decimal(negative, exponent, magnitude), Number::Decimal(decimal)) => {
+                decimal.magnitude() == u128::from(magnitude)
+                    && decimal.exponent() == exponent
+                    && decimal.negative() == negative
+            }
+            (Entry::Number(place), _) => self.is_number(place, number),
+            _ => false,
+        }
+    }
+
+    /// Whether this entry tells that these brackets open.
+    #[inline(always)]
+    pub(crate) fn tells_open(&self, entry: Entry, bracket: Bracket) -> bool
+        ensures { result ≡ true → told self.now entry ≡ Some (opens bracket) }
+    {
+        matches!(entry, Entry::Open(own, _) if own == bracket)
+    }
+
+    /// Whether this entry tells that these brackets close.
+    #[inline(always)]
+    pub(crate) fn tells_close(&self, entry: Entry, bracket: Bracket) -> bool
+        ensures { result ≡ true → told self.now entry ≡ Some (closes bracket) }
+    {
+        matches!(entry, Entry::Close(own) if own == bracket)
+    }
+
+    // Whether this number stands there.
+    #[inline(never)]
+    fn is_number(&self, place: u32, number: &Number) -> bool
+        ensures { result ≡ true → slice_get self.now.numbers.items place ≡ Some number.now }
+    {
         match self.number_at(place) {
             Some(own) => own == number,
             None => false,
@@ -250,7 +296,27 @@ impl Tape {
         ensures { result ≡ true →
             Led V.takes (events_in self.now) visitor.old visitor.new }
     {
-        let entries = self.entries.as_slice();
+        self.tell_entries(self.entries.as_slice(), visitor)
+    }
+
+    /// Tells a visitor what so many entries in front tell; `false` where there are fewer.
+    pub(crate) fn tell_front<V: Visitor>(&self, count: usize, visitor: &mut V) -> bool
+        ensures { result ≡ true →
+            Led V.takes (events_before self.now count) visitor.old visitor.new }
+    {
+        match self.entries.get(..count) {
+            Some(entries) => self.tell_entries(entries, visitor),
+            None => false,
+        }
+    }
+
+    // Tells a visitor what these entries tell.
+    #[inline(always)]
+    fn tell_entries<V: Visitor>(&self, entries: &[Entry], visitor: &mut V) -> bool
+        ensures { result ≡ true → Led V.takes
+            (flat_map (λ e. option_to_list (told self.now e)) entries.now)
+            visitor.old visitor.new }
+    {
         for entry in entries {
             if !self.tell_entry(*entry, visitor) {
                 return false;

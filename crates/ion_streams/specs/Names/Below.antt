@@ -37,3 +37,5 @@ pub use Rattle.ion_visiting.specs.Outlining.{no_outline, outline_in, outlines}
 pub use Rattle.ion_visiting.specs.Tables.{Hears}
 pub use Rattle.ion_visiting.specs.Tapes.{Holds, IsBlank, events_in, tapes}
 pub use Rattle.ion_visiting.specs.declared.tape.Tape.{Tape}
+pub use Rattle.ion_visiting.specs.Twins.{IsApart, IsBegun, TellsSecond, WasTold}
+pub use Rattle.ion_visiting.specs.declared.twin.Twin.{Twin}

@@ -1,6 +1,6 @@
 -- How two streams compare, as far as they were read.
 use Rattle.std.specs.Prelude.{◌≡◌, ℕ, ◌+◌, [], true, false, Option, Some, None}
-use Rattle.ion_streams.specs.Names.Below.{Alike, Course, Holds, IsPath, Parted, Right, Standing, Tape, Value, Verdict, same}
+use Rattle.ion_streams.specs.Names.Below.{Alike, Course, Holds, IsPath, Parted, Right, Standing, Twin, Value, Verdict, WasTold, events_of, same}
 use Rattle.ion_streams.specs.declared.comparison.Verdict.TheVariants.{Different, Equivalent, Refused}
 
 -- so of the values that were the same, where the streams didn't part so far
@@ -8,10 +8,14 @@ abbrev pub IfAlike : Course → (ℕ → Type 0) → Type 0
 IfAlike (Alike values) P = P values
 IfAlike (Parted index path) P = Unit {0}
 
--- where both streams have another value, each tape holds one of them
-abbrev pub AreHeld : Tape → Tape → Option Value → Option Value → Type 0
-AreHeld left right (Some v) (Some w) = Holds left v × Holds right w
-AreHeld left right _ _ = Unit {0}
+-- where both streams have another value, this is so of the one, and that of the other
+abbrev pub AreHeld : (Value → Type 0) → (Value → Type 0) → Option Value → Option Value → Type 0
+AreHeld P Q (Some v) (Some w) = P v × Q w
+AreHeld P Q _ _ = Unit {0}
+
+-- the first tape holds the one, and the other was told beside it
+abbrev pub AreOnTapes : Twin → Option Value → Option Value → Type 0
+AreOnTapes t = AreHeld (Holds t.first) (λ w. WasTold t (events_of w))
 
 -- the course where both streams have another value
 abbrev pub MetBoth : ℕ → Value → Value → Course → Type 0

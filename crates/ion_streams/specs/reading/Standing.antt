@@ -1,5 +1,5 @@
 -- Where a document stands.
-use Rattle.std.specs.Prelude.{◌≡◌, ℕ, ◌+◌, List, [], ◌∷◌, ◌++◌, Option, Some, None, Result, Ok, Err}
+use Rattle.std.specs.Prelude.{ℕ, ◌+◌, List, [], ◌∷◌, ◌++◌, Option, Some, None, Result, Ok, Err}
 use Rattle.ion_streams.specs.Names.Below.{Catalog, Ended, Inlet, Items, Limits, Open, Refusal, Refused, Source, Standing, Value}
 use Rattle.ion_streams.specs.Formats.{format_of}
 use Rattle.ion_streams.specs.Outcomes.{ToldDocument, ToldEach, ToldRefused, ToldRefusedEach}

@@ -1,6 +1,6 @@
 -- Documents that are read by walks, which tell a visitor their values.
 use Rattle.std.specs.Prelude.{◌≡◌, ℕ, List, [], ◌∷◌, ◌++◌, Bool, true, false, Option, Some, None}
-use Rattle.ion_streams.specs.Names.Below.{AValue, Catalog, End, Event, Hears, Holds, Inlet, Items, Led, Limits, Reached, Source, Standing, Tape, Value, events_of}
+use Rattle.ion_streams.specs.Names.Below.{AValue, Catalog, End, Event, Hears, Inlet, Items, Led, Limits, Reached, Source, Standing, Value, events_of}
 use Rattle.ion_streams.specs.Formats.{Format, format_of}
 use Rattle.ion_streams.specs.Outcomes.{EndsRefused, EndsWell, ToldRefusedEach}
 use Rattle.ion_streams.specs.declared.source.Reached.TheVariants.{Refused}
@@ -35,10 +35,10 @@ module _ {V X : Type 0} (takes : V → Event → V → Type 0) (I : Items X) whe
     ToldNext place given (Some used) a b = (v : Value) × Led takes (events_of v) a b
         × StoodEach R (telling I []) g l first now place (given ++ (v, used) ∷ []) × IfRefused place ⊥
 
--- Behind these values no more was told. Or one more was, with the total of octets when it ended: the tape holds it where it is to, and nothing was refused.
-abbrev pub TapedNext : {S X : Type 0} → Bool → Inlet S → Items X → Catalog → Limits → S → S → Standing X → List (Value × ℕ) → Option ℕ → Tape → Type 0
-TapedNext holds R I g l first now place given None tape = StoodEach R (telling I []) g l first now place given
-TapedNext holds R I g l first now place given (Some used) tape = (v : Value) × (holds ≡ true → Holds tape v)
+-- Behind these values no more was told. Or one more was, with the total of octets when it ended: this is so of it, and nothing was refused.
+abbrev pub HeldNext : {S X : Type 0} → (Value → Type 0) → Inlet S → Items X → Catalog → Limits → S → S → Standing X → List (Value × ℕ) → Option ℕ → Type 0
+HeldNext P R I g l first now place given None = StoodEach R (telling I []) g l first now place given
+HeldNext P R I g l first now place given (Some used) = (v : Value) × P v
     × StoodEach R (telling I []) g l first now place (given ++ (v, used) ∷ []) × IfRefused place ⊥
 
 -- What the end of a document gave, whose octets u gave these values: no more, or one of which a visitor has heard all that had heard es. Or the octets

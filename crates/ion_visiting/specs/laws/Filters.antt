@@ -3,7 +3,7 @@ use Rattle.std.proofs.Common.{◌≡◌, ℕ, ◌+◌, ◌<◌, length, take, ge
 use Rattle.std.specs.Prelude.{◌&&◌, if◌then◌else◌}
 use Rattle.std.specs.List.{flat_map}
 use Rattle.std.proofs.lemmas.List.{append-nil, append_assoc, map-append, take_more}
-use Rattle.ion_visiting.specs.Names.{Bracket, Built, Event, Kind, Layer, Led, Number, Open, Payload, Payload-F, Table, TableFilter, Value, annotation, builds, closes, ended, events_of, field_events, fresh, is_fields, is_table, is_table_of, layer_events, layer_kind, name, names_table, number_payload, opens, out-Payload, part, value_in, within, without_value}
+use Rattle.ion_visiting.specs.Names.{Bracket, Built, Event, Kind, Layer, Led, Number, Payload-F, Table, TableFilter, Value, annotation, builds, closes, ended, events_of, field_events, fresh, is_fields, is_table, is_table_of, layer_events, layer_kind, name, names_table, number_payload, opens, out-Payload, part, value_in, without_value}
 use Rattle.ion_model.specs.declared.value.Payload.TheVariants as payloads
 use Rattle.ion_visiting.specs.Tables.{AreKept, Hears, IsTable, LetsPass, Symbols, WasTold, begins_struct, heard, heard_by, is_null_struct, is_of_table, table_after, table_behind, table_by, table_of}
 use Rattle.ion_visiting.specs.laws.Built.{value_built}

@@ -1,5 +1,5 @@
 -- Values whose events are such as the types keep are kept.
-use Rattle.std.proofs.Common.{◌≡◌, ◌<◌, zero, suc, List, [], ◌∷◌, ◌++◌, map, Option, ℕ, subst, arith}
+use Rattle.std.proofs.Common.{◌<◌, zero, suc, List, [], ◌∷◌, ◌++◌, map, Option, ℕ, subst, arith}
 use Rattle.std.specs.List.{flat_map}
 use Rattle.ion_visiting.specs.Names.{AreKept, AreTexts, Bracket, Event, Field, IsKept, KeptFields, KeptItems, KeptPayload, Layer, Led, Payload-F, Value, annotation, closes, depth, ended, events_of, field_events, greatest, layer_depth, layer_events, stream_events}
 use Rattle.ion_model.specs.Kept as kepts

@@ -7,11 +7,11 @@ returns-in-None-clause-met c = λ v w a b.
     let gave = c.in-true-true in
     let left : is_some v ≡ true = cc in
     let right : is_some w ≡ true = cc in
-    met_alike c.args.values c.args.left.now c.args.right.now (rw c.in-None.is at c.in_ok-parting_on-in-true-true.ensures) v w left right
+    met_alike c.args.values c.args.tapes.now (rw c.in-None.is at c.in_ok-parting_on-in-true-true.ensures) v w left right
 
 pub returns-in-Some-clause-met : goal.returns-in-Some-clause-met
 returns-in-Some-clause-met c = λ v w a b.
     let gave = c.in-true-true in
     let left : is_some v ≡ true = cc in
     let right : is_some w ≡ true = cc in
-    met_parted c.args.values c.args.left.now c.args.right.now c.in-Some.path (rw c.in-Some.is at c.in_ok-parting_on-in-true-true.ensures) v w left right
+    met_parted c.args.values c.args.tapes.now c.in-Some.path (rw c.in-Some.is at c.in_ok-parting_on-in-true-true.ensures) v w left right

@@ -1,8 +1,9 @@
 use Rattle.std.proofs.Common.{rules, ◌++◌, [], inl, inr, arith, subst, option_to_list}
 use Rattle.std.proofs.lemmas.Result.{err_from_is_err_and}
-use Rattle.ion_streams.specs.Names.{Standing, Stood, telling}
+use Rattle.ion_streams.specs.Names.{Led, Standing, Stood, TellsSecond, Twin, events_of, tapes, telling}
 use Rattle.ion_streams.proofs.Courses.{closed_verdict, false_case, left_refused, true_case, works_less}
 use Rattle.ion_streams.proofs.SideBySide.{both_met, closed_kept, left_goes, ready_told, right_goes, told_so_far, told_with_next}
+use Rattle.ion_streams.proofs.Taping.{on_tapes}
 use Rattle.ion_streams.proofs.Turns.{in_turn, left_failed, right_on, so_far_end, stood_end}
 use Rattle.ion_streams.proofs.Unfailed.{heard_alone, heard_since, stands_heard}
 use Rattle.ion_streams.proofs.comparison.compare_places.Goals.{else-not-is_open-via-else-not-is_open, else-not-is_open-via-then-not-is_open+else-not-is_open-2}
@@ -11,7 +12,7 @@ use Rattle.ion_streams.proofs.comparison.compare_places.Goals as goal
 -- the left can't be read on
 pub returns-in_err-found : goal.returns-in_err-found
 returns-in_err-found g c =
-    let p = c.loop-right_tape in
+    let p = c.loop-tapes in
     let i = p.invariant in
     let left_asked = i.left_asked in
     let right_asked = i.right_asked in
@@ -41,7 +42,7 @@ returns-in_err-found g c =
 -- the left is refused
 pub returns-in-Refused : goal.returns-in-Refused
 returns-in-Refused g c =
-    let p = c.loop-right_tape in
+    let p = c.loop-tapes in
     let i = p.invariant in
     let left_asked = i.left_asked in
     let right_asked = i.right_asked in
@@ -52,7 +53,7 @@ returns-in-Refused g c =
     let found = c.in_ok-found.found in
     let compared = c.compares-compared.result in
     let on = left_goes g.L.Inlet g.R.Inlet g.I.Items g.J.Items _ _ _ _ g.met.I.Items.settled p.course p.left left_now.reader p.right p.left_place
-    left_now.place p.right_place compared left_now.tape found i l.closed l.tells l.none l.grew in
+    left_now.place p.right_place _ found i l.closed l.tells l.none l.grew in
     record {
       verdict = λ g' h k l' a b.
           let x = on g' h k l' a b in
@@ -81,7 +82,7 @@ returns-in-Refused g c =
 -- the right can't be read on
 pub returns-in_err-other : goal.returns-in_err-other
 returns-in_err-other g c =
-    let p = c.loop-right_tape in
+    let p = c.loop-tapes in
     let i = p.invariant in
     let left_asked = i.left_asked in
     let right_asked = i.right_asked in
@@ -92,9 +93,9 @@ returns-in_err-other g c =
     let found = c.in_ok-found.found in
     let compared = c.compares-compared.result in
     let on = left_goes g.L.Inlet g.R.Inlet g.I.Items g.J.Items _ _ _ _ g.met.I.Items.settled p.course p.left left_now.reader p.right p.left_place
-    left_now.place p.right_place compared left_now.tape found i l.closed l.tells l.none l.grew in
+    left_now.place p.right_place _ found i l.closed l.tells l.none l.grew in
     let r = c.in_err-other.ensures in
-    let right_now = c.read_next-in-loop-right_tape.new in
+    let right_now = c.read_next-in-loop-tapes.new in
     let e = err_from_is_err_and c.from_residual-in_err-other.result c.from_residual-in_err-other.ensures.1 in
     record {
       verdict = rw e.1 tt;
@@ -121,40 +122,40 @@ returns-in_err-other g c =
 -- both were read on, and what they gave can't be compared
 pub returns-in_err-meet-clause-in_turn : goal.returns-in_err-meet-clause-in_turn
 returns-in_err-meet-clause-in_turn g c = λ g' h k l' a b.
-    let p = c.loop-right_tape in
+    let p = c.loop-tapes in
     let i = p.invariant in
     let l = c.in_ok-found.ensures in
     let left_now = c.read_next.new in
     let found = c.in_ok-found.found in
     let compared = c.compares-compared.result in
     let on = left_goes g.L.Inlet g.R.Inlet g.I.Items g.J.Items _ _ _ _ g.met.I.Items.settled p.course p.left left_now.reader p.right p.left_place
-    left_now.place p.right_place compared left_now.tape found i l.closed l.tells l.none l.grew in
+    left_now.place p.right_place _ found i l.closed l.tells l.none l.grew in
     let r = c.in_ok-other.ensures in
-    let right_now = c.read_next-in-loop-right_tape.new in
+    let right_now = c.read_next-in-loop-tapes.new in
     let other = c.in_ok-other.other in
     let both = right_goes g.L.Inlet g.R.Inlet g.I.Items g.J.Items _ _ _ _ g.met.I.Items.settled (told_so_far g.I.Items g.met.I.Items.has_told)
     (told_with_next g.I.Items g.met.I.Items.has_told) p.course left_now.reader p.right right_now.reader p.left_place left_now.place p.right_place
-    right_now.place compared left_now.tape right_now.tape found other l.ready c.in_default.not-Refused r.closed r.tells r.sought in
+    right_now.place _ _ found other l.ready c.in_default.not-Refused r.closed r.tells r.sought in
     let x = on g' h k l' a b in
     in_turn g.L.Inlet g.R.Inlet (telling g.I.Items []) (telling g.J.Items []) g' h k l' c.args.left.now c.args.right.now left_now.place left_now.reader
     right_now.reader _ x.next.stood (both g' h k l' x).turn.asked
 
 pub returns-in_err-meet-clause-one_end : goal.returns-in_err-meet-clause-one_end
 returns-in_err-meet-clause-one_end g c = λ g' h k l' a b.
-    let p = c.loop-right_tape in
+    let p = c.loop-tapes in
     let i = p.invariant in
     let l = c.in_ok-found.ensures in
     let left_now = c.read_next.new in
     let found = c.in_ok-found.found in
     let compared = c.compares-compared.result in
     let on = left_goes g.L.Inlet g.R.Inlet g.I.Items g.J.Items _ _ _ _ g.met.I.Items.settled p.course p.left left_now.reader p.right p.left_place
-    left_now.place p.right_place compared left_now.tape found i l.closed l.tells l.none l.grew in
+    left_now.place p.right_place _ found i l.closed l.tells l.none l.grew in
     let r = c.in_ok-other.ensures in
-    let right_now = c.read_next-in-loop-right_tape.new in
+    let right_now = c.read_next-in-loop-tapes.new in
     let other = c.in_ok-other.other in
     let both = right_goes g.L.Inlet g.R.Inlet g.I.Items g.J.Items _ _ _ _ g.met.I.Items.settled (told_so_far g.I.Items g.met.I.Items.has_told)
     (told_with_next g.I.Items g.met.I.Items.has_told) p.course left_now.reader p.right right_now.reader p.left_place left_now.place p.right_place
-    right_now.place compared left_now.tape right_now.tape found other l.ready c.in_default.not-Refused r.closed r.tells r.sought in
+    right_now.place _ _ found other l.ready c.in_default.not-Refused r.closed r.tells r.sought in
     let x = on g' h k l' a b in (
       stood_end g.L.Inlet (telling g.I.Items []) g' k c.args.left.now left_now.reader left_now.place _ x.next.stood,
       stood_end g.R.Inlet (telling g.J.Items []) h l' c.args.right.now right_now.reader right_now.place _ (both g' h k l' x).next.stood,
@@ -163,7 +164,7 @@ returns-in_err-meet-clause-one_end g c = λ g' h k l' a b.
 -- both are closed
 pub returns-then-not-is_open-2 : goal.returns-then-not-is_open-2
 returns-then-not-is_open-2 g c =
-    let p = c.loop-right_tape in
+    let p = c.loop-tapes in
     let i = p.invariant in
     let left_asked = i.left_asked in
     let right_asked = i.right_asked in
@@ -174,16 +175,19 @@ returns-then-not-is_open-2 g c =
     let found = c.in_ok-found.found in
     let compared = c.compares-compared.result in
     let on = left_goes g.L.Inlet g.R.Inlet g.I.Items g.J.Items _ _ _ _ g.met.I.Items.settled p.course p.left left_now.reader p.right p.left_place
-    left_now.place p.right_place compared left_now.tape found i l.closed l.tells l.none l.grew in
+    left_now.place p.right_place _ found i l.closed l.tells l.none l.grew in
     let r = c.in_ok-other.ensures in
-    let right_now = c.read_next-in-loop-right_tape.new in
+    let right_now = c.read_next-in-loop-tapes.new in
     let other = c.in_ok-other.other in
     let both = right_goes g.L.Inlet g.R.Inlet g.I.Items g.J.Items _ _ _ _ g.met.I.Items.settled (told_so_far g.I.Items g.met.I.Items.has_told)
     (told_with_next g.I.Items g.met.I.Items.has_told) p.course left_now.reader p.right right_now.reader p.left_place left_now.place p.right_place
-    right_now.place compared left_now.tape right_now.tape found other l.ready c.in_default.not-Refused r.closed r.tells r.sought in
+    right_now.place _ _ found other l.ready c.in_default.not-Refused r.closed r.tells r.sought in
+    let begun : Twin = record c.clear.new.self { first = left_now.visitor } in
     let met = both_met g.L.Inlet g.R.Inlet g.I.Items g.J.Items _ _ _ _ g.met.I.Items.settled p.course c.meet.new.self p.left left_now.reader p.right
-    right_now.reader p.left_place left_now.place p.right_place right_now.place compared left_now.tape right_now.tape found other c.is_some.result
-    c.is_some-in-loop-right_tape.result c.compares-compared.ensures c.in_ok-meet.ensures.met c.is_some.ensures c.is_some-in-loop-right_tape.ensures
+    right_now.reader p.left_place left_now.place p.right_place right_now.place compared (λ v. Led tapes (events_of v) c.clear.new.self.first left_now.visitor)
+    (λ w. Led TellsSecond (events_of w) begun right_now.visitor) found other c.is_some.result c.is_some-in-loop-tapes.result c.compares-compared.ensures
+    (λ v w is_v is_w held. c.in_ok-meet.ensures.met v w is_v is_w (on_tapes p.course c.clear.new.self.first begun right_now.visitor v w
+    c.clear.ensures.first (record { at = c.clear.ensures.second.at; along = c.clear.ensures.second.along }) held)) c.is_some.ensures c.is_some-in-loop-tapes.ensures
     l.closed r.closed l.none r.none in
     record {
       verdict = λ g' h k l' a b.
@@ -214,9 +218,9 @@ returns-then-not-is_open-2 g c =
     }
 
 -- both were read on
-pub loop-right_tape-preserved : goal.loop-right_tape-preserved
-loop-right_tape-preserved g c =
-    let p = c.loop-right_tape in
+pub loop-tapes-preserved : goal.loop-tapes-preserved
+loop-tapes-preserved g c =
+    let p = c.loop-tapes in
     let i = p.invariant in
     let left_asked = i.left_asked in
     let right_asked = i.right_asked in
@@ -227,16 +231,19 @@ loop-right_tape-preserved g c =
     let found = c.in_ok-found.found in
     let compared = c.compares-compared.result in
     let on = left_goes g.L.Inlet g.R.Inlet g.I.Items g.J.Items _ _ _ _ g.met.I.Items.settled p.course p.left left_now.reader p.right p.left_place
-    left_now.place p.right_place compared left_now.tape found i l.closed l.tells l.none l.grew in
+    left_now.place p.right_place _ found i l.closed l.tells l.none l.grew in
     let r = c.in_ok-other.ensures in
-    let right_now = c.read_next-in-loop-right_tape.new in
+    let right_now = c.read_next-in-loop-tapes.new in
     let other = c.in_ok-other.other in
     let both = right_goes g.L.Inlet g.R.Inlet g.I.Items g.J.Items _ _ _ _ g.met.I.Items.settled (told_so_far g.I.Items g.met.I.Items.has_told)
     (told_with_next g.I.Items g.met.I.Items.has_told) p.course left_now.reader p.right right_now.reader p.left_place left_now.place p.right_place
-    right_now.place compared left_now.tape right_now.tape found other l.ready c.in_default.not-Refused r.closed r.tells r.sought in
+    right_now.place _ _ found other l.ready c.in_default.not-Refused r.closed r.tells r.sought in
+    let begun : Twin = record c.clear.new.self { first = left_now.visitor } in
     let met = both_met g.L.Inlet g.R.Inlet g.I.Items g.J.Items _ _ _ _ g.met.I.Items.settled p.course c.meet.new.self p.left left_now.reader p.right
-    right_now.reader p.left_place left_now.place p.right_place right_now.place compared left_now.tape right_now.tape found other c.is_some.result
-    c.is_some-in-loop-right_tape.result c.compares-compared.ensures c.in_ok-meet.ensures.met c.is_some.ensures c.is_some-in-loop-right_tape.ensures
+    right_now.reader p.left_place left_now.place p.right_place right_now.place compared (λ v. Led tapes (events_of v) c.clear.new.self.first left_now.visitor)
+    (λ w. Led TellsSecond (events_of w) begun right_now.visitor) found other c.is_some.result c.is_some-in-loop-tapes.result c.compares-compared.ensures
+    (λ v w is_v is_w held. c.in_ok-meet.ensures.met v w is_v is_w (on_tapes p.course c.clear.new.self.first begun right_now.visitor v w
+    c.clear.ensures.first (record { at = c.clear.ensures.second.at; along = c.clear.ensures.second.along }) held)) c.is_some.ensures c.is_some-in-loop-tapes.ensures
     l.closed r.closed l.none r.none in
     let bound = i.bound in
     let counted = c.in_ok-meet.ensures.counted in

@@ -1,6 +1,3 @@
-use Rattle.std.proofs.Common.{map, subst}
-use Rattle.std.proofs.lemmas.List.{take_all}
-use Rattle.ion_visiting.specs.Names.{Led, annotation}
 use Rattle.ion_visiting.specs.laws.Filters.{notes_next}
 use Rattle.ion_visiting.proofs.table_filter.tell_notes.Goals as goal
 
