@@ -69,14 +69,27 @@ impl Course {
         ensures counted { OnOk result (count_of self.new ≤ count_of self.old + 1) }
         ensures cause { IfErr result (λ fault. fault ≡ Fault.Memory) }
     {
-        match self {
-            Course::Alike { values } => {
-                let met = behind(alloc, *values, gave, tapes, frames)?;
-                drop(mem::replace(self, met));
-                Ok(())
-            }
-            Course::Parted { .. } => Ok(()),
+        let Course::Alike { values } = self else {
+            return Ok(());
+        };
+        let index = *values + 1;
+        match gave {
+            (false, false) => {}
+            (true, true) => match parting_on(alloc, tapes, frames)? {
+                None => *values = index,
+                Some(path) => self.part(index, path),
+            },
+            _ => self.part(index, Path::empty(alloc)),
         }
+        Ok(())
+    }
+
+    /// From now on both have parted.
+    #[inline(never)]
+    fn part(&mut self, index: u64, path: Path)
+        ensures { self.new ≡ Course.Parted index path }
+    {
+        drop(mem::replace(self, Course::Parted { index, path }));
     }
 
     /// The verdict where the left side is a document, and the right one ended so; the path is taken
@@ -94,43 +107,6 @@ impl Course {
                 Course::Parted { index, path } => Verdict::Different { index, path },
             },
         }
-    }
-}
-
-/// The course behind so many values of each that were the same, and the next of each, which the
-/// tapes were told.
-#[inline(always)]
-fn behind(
-    alloc: Global,
-    values: u64,
-    gave: (bool, bool),
-    tapes: &mut Twin,
-    frames: &mut Frames,
-) -> Result<Course, Fault>
-    requires { values + 1 < 2 ^ 64 }
-    ensures met { IfOk result (λ met. (v w : Option Value) → is_some v ≡ gave.0 →
-        is_some w ≡ gave.1 → AreOnTapes tapes.old v w → IsMet (Course.Alike values) v w met) }
-    ensures counted { IfOk result (λ met. count_of met ≤ values + 1) }
-    ensures cause { IfErr result (λ fault. fault ≡ Fault.Memory) }
-{
-    let index = values + 1;
-    match gave {
-        (false, false) => Ok(Course::Alike { values }),
-        (true, true) => match parting_on(alloc, tapes, frames)? {
-            None => Ok(Course::Alike { values: index }),
-            Some(path) => Ok(Course::Parted { index, path }),
-        },
-        _ => Ok(ended_first(alloc, index)),
-    }
-}
-
-/// The course where only one stream has a value with this number.
-fn ended_first(alloc: Global, index: u64) -> Course
-    ensures { result ≡ Course.Parted index [] }
-{
-    Course::Parted {
-        index,
-        path: Path::empty(alloc),
     }
 }
 
