@@ -1,6 +1,7 @@
 //! What values are told by, event by event, by whoever has their parts, in whatever encoding they are
-//! read: what a visitor makes of them. Three count, outline and build; by two more values of any
-//! encodings are compared: one is written down on a tape, another is found there.
+//! read: what a visitor makes of them. Three count, outline and build; by three more values of any
+//! encodings are compared: one is written down on a tape, another is told beside it, and found there
+//! where it was told otherwise.
 #![tactic(auto)]
 
 mod bracket;
