@@ -2,7 +2,7 @@
 //! call of `drop`, as in `model.rt`.
 use crate::answers::same;
 use ion_model::{Decimal, Payload, Reason, Value, Whole};
-use ion_visiting::{Building, Following, Tape, tell};
+use ion_visiting::{Building, Following, Tape, Twin, tell};
 use std::alloc::Global;
 use std::test::Fail;
 
@@ -64,6 +64,37 @@ fn another_text_is_not_found(rt: HostRuntime) -> Result<(), Fail> {
         let value = nested(rt.alloc(), *text, true)?;
         let found = is_found(rt.alloc(), written, value);
         same(&rt, *text, found, (false, false));
+    }
+    Ok(())
+}
+
+/// Whether a value is told as another was beside which it is told, and whether it is found on that
+/// one's tape once they parted. Both are let go.
+fn is_twin(alloc: Global, written: Value, value: Value) -> (bool, bool) {
+    let mut tapes = Twin::new(alloc);
+    let told = tell(&written, &mut tapes.first) && tell(&value, &mut tapes);
+    let alike = told && tapes.are_same();
+    let parted = tapes.part_ways();
+    let mut following = Following::new(alloc, &tapes.first);
+    let found = (alike, parted && following.finds(&tapes.second));
+    drop(following);
+    drop(tapes);
+    drop(written);
+    drop(value);
+    found
+}
+
+#[test]
+fn twins_part_where_they_are_told_otherwise(rt: HostRuntime) -> Result<(), Fail> {
+    for row in &[
+        ("text", false, (true, true)),
+        ("text", true, (false, true)),
+        ("test", false, (false, false)),
+    ] {
+        let written = nested(rt.alloc(), "text", false)?;
+        let value = nested(rt.alloc(), row.0, row.1)?;
+        let found = is_twin(rt.alloc(), written, value);
+        same(&rt, *row, found, row.2);
     }
     Ok(())
 }
