@@ -1,5 +1,5 @@
 //! Local symbol tables, which are kept from a visitor (Ion 1.0, "Symbols", "Local Symbol Tables").
-ghost use Rattle.std.specs.Prelude.{◌≡◌, ◌++◌, ◌∷◌, [], List, Some, map, true, false};
+ghost use Rattle.std.specs.Prelude.{◌≡◌, ◌++◌, ◌∷◌, [], List, None, Some, map, true, false};
 ghost use Rattle.ion_visiting.specs.Names.{Event, Led, Value as AnyValue, annotation, closes, events_of, name, names_table, number_payload, opens, part, payload_of};
 ghost use Rattle.ion_model.specs.declared.value.Payload.TheVariants as payloads;
 ghost use Rattle.ion_visiting.specs.Tables.{Hears, IsTable, LetsPass, Tells, WasTold, heard, is_fields, is_null_struct, is_of_table, table_of};
@@ -311,6 +311,23 @@ impl TableFilter {
             }
             Table::Unknown => None,
             Table::Noted => None,
+        }
+    }
+
+    /// Whether the value of the top level that ends is seen at once to be no local symbol table:
+    /// then what is told next is another value, else nothing is done.
+    #[inline(always)]
+    pub fn ends_plain(&mut self) -> bool
+        ensures plain { result ≡ true → (v : AnyValue) → WasTold self.old (events_of v) →
+            (None ≡ table_of v) × WasTold self.new [] }
+        ensures none { result ≡ false → self.new ≡ self.old }
+    {
+        match self.table {
+            Table::No => {
+                self.table = Table::Unknown;
+                true
+            }
+            Table::Unknown | Table::Noted | Table::Yes => false,
         }
     }
 
