@@ -11,7 +11,7 @@ use crate::writer::framing::{
 };
 use crate::writer::names::Names;
 use crate::writer::put_front;
-use crate::writer::recent_ids::Guesses;
+use crate::writer::recent_ids::{Guesses, place_of};
 use ion_model::Symbol;
 use ion_scalar::Number;
 use ion_symtab::Fault;
@@ -240,7 +240,7 @@ impl<S: BuildHasher + Drop> BinaryOut<S> {
             id ≡ id_of later (Some text.now)) }
         ensures small { IfOk result (λ id. id < 2 ^ 63) }
     {
-        let place = Guesses::place_of(text);
+        let place = place_of(text);
         let guess = self.guesses.guess(place);
         if self.names.is_text_at(guess, text) {
             return Ok(guess as u64);

@@ -22,12 +22,6 @@ impl Guesses {
         }
     }
 
-    /// The place of the id of a text.
-    #[inline(always)]
-    pub(crate) fn place_of(text: &str) -> usize {
-        place_of_octets(text.as_bytes())
-    }
-
     /// The id that was noted there last, or 0.
     #[inline(always)]
     pub(crate) fn guess(&self, place: usize) -> usize {
@@ -48,9 +42,11 @@ impl Guesses {
     }
 }
 
-// By the first and the last octets, eight or four of them, and the length.
+/// The place of the id of a text: by its first and its last octets, eight or four of them, and its
+/// length. The highest bits of a product hang on all of these.
 #[inline(always)]
-fn place_of_octets(octets: &[u8]) -> usize {
+pub(crate) fn place_of(text: &str) -> usize {
+    let octets = text.as_bytes();
     let count = octets.len();
     let mixed = if count >= 8 {
         mix(eight_at(octets, 0), eight_at(octets, count - 8), count)
@@ -59,7 +55,7 @@ fn place_of_octets(octets: &[u8]) -> usize {
     } else {
         mix(few(octets), 0, count)
     };
-    (mixed >> 32) as usize % KEPT
+    (mixed >> 52) as usize % KEPT
 }
 
 #[inline(always)]
