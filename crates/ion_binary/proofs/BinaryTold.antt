@@ -389,11 +389,11 @@ module _ (p q : Progress) (is : q ≡ p) (v : Value) (a m : Encoded) (gone : a �
 -- 6. Parts without symbols.
 
 -- octets behind what stood there are those of a payload with no symbol in it
-pub scalar_put : (v a : Encoded) (p : Payload) (d : Layer) (w : List ℕ) → v ≡ a → views.out-Payload p ≡ d → layer_symbols d ≡ []
-    → ((names : Names) → w ≡ a.value ++ layer_octets names d)
-    → record v { value = w } ≡ with_part a p
-scalar_put v a p d w e f none g =
-    (λ i. record (e i) { value = g a.names i })
+pub scalar_put : (v a : Encoded) (p : Payload) (d : Layer) (octets w : List ℕ) → v ≡ a → views.out-Payload p ≡ d → layer_symbols d ≡ []
+    → ((names : Names) → octets ≡ layer_octets names d) → w ≡ v.value ++ octets → record v { value = w } ≡ with_part a p
+scalar_put v a p d octets w e f none same put =
+    let all = put ∙ (ap (λ (x : Encoded). x.value ++ octets) e ∙ ap (λ o. a.value ++ o) (same a.names)) in
+    (λ i. record (e i) { value = all i })
     ∙ ap (λ (ss : Names). record a { names = with_names a.names ss; value = a.value ++ layer_octets (with_names a.names ss) d }) (sym none)
     ∙ ap (λ (x : Layer). record a {
       names = with_names a.names (layer_symbols x);

@@ -24,3 +24,4 @@ pub mod WholeHeaders
 pub mod Staying
 pub mod Unread
 pub mod WholeFields
+pub mod Descriptors

@@ -1,9 +1,15 @@
 -- Scalars that a visitor heeds not, which needn't be read for it.
 use Rattle.std.proofs.Common.{◌≡◌, ℕ, ◌*◌, ◌^◌, ◌<◌, ◌≤◌, List, [], ◌∷◌, length, get_or, Option, Bool, true, false, Result, Ok, Err, refl, ap, sym, subst, ◌∙◌, arith, inl, inr}
 use Rattle.std.specs.Prelude.{is_ok, MatchResult, ℤ}
+use Rattle.std.specs.Char.{is_ascii}
+use Rattle.std.specs.List.{list_all}
 use Rattle.std.specs.Str.{IsUtf8}
 use Rattle.std.proofs.Math.Nat.{one-le-pow, mul-le-mul_right}
-use Rattle.std.proofs.lemmas.Bool.{cases_lt, false≢true, le-ltb}
+use Rattle.std.proofs.lemmas.Bool.{cases_lt, false≢true, le-ltb, ltb-true}
+use Rattle.std.proofs.lemmas.List.Elements.{All-weaker}
+use Rattle.std.proofs.lemmas.List.Sums.{AllPass-from_list_all}
+use Rattle.std.proofs.lemmas.Str.{IsUtf8-from_ascii}
+use Rattle.std.proofs.lemmas.Str.Ascii.{IsAscii-from_all}
 use Rattle.ion_binary.specs.Names.{DecimalParts, Event, IsPart, IsScalar, LetsPass, Payload, Reason, Scalar, Slot, TableFilter, TellsAs, TimestampParts, WasTold, as_decimal, as_timestamp, begins_struct, decimal_of_body, heard, int_of, is_blob, is_clob, is_decimal, is_int, is_negative, is_of_table, is_string, is_symbol, is_timestamp, judge, layer_events, outs-Blob, outs-Clob, outs-Decimal, outs-Int, outs-Str, outs-Symbol, outs-Timestamp, part, positional, resolve, timestamp_of_body, uint_field}
 use Rattle.ion_model.specs.declared.value.Payload.TheVariants as payloads
 use Rattle.ion_visiting.specs.declared.table_filter.Table.{Table}
@@ -77,6 +83,11 @@ symbol_unread c body id s e small found =
 -- a body in UTF-8 is a string
 pub text_unread : (c : List Slot) (body : List ℕ) → IsUtf8 body → is_ok (judge c Scalar.Str body) ≡ true
 text_unread c body h = ap is_ok (judge_scalar c body Scalar.Str _ (is_string h))
+
+-- octets of ASCII are a text
+pub ascii_utf8 : (body : List ℕ) → list_all is_ascii body ≡ true → IsUtf8 body
+ascii_utf8 body h = IsUtf8-from_ascii body (IsAscii-from_all body
+    (All-weaker (λ o. is_ascii o ≡ true) (λ o. o < 128) (λ o. ltb-true o 128) body (AllPass-from_list_all is_ascii body h)))
 
 -- whatever its octets, a body is a clob
 pub clob_unread : (c : List Slot) (body : List ℕ) → is_ok (judge c Scalar.Clob body) ≡ true

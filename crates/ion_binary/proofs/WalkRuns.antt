@@ -6,7 +6,6 @@ use Rattle.std.proofs.lemmas.List.{length-take-le, take-append-drop, take_all}
 use Rattle.ion_binary.specs.Names.{Answers, AreAround, BinaryWalk, Catalog, Does, Effect, EndsOn, Event, Frame, Gives, Goes, Holds, InBody, InMarker, InNumber, InPad, Incomplete, IsInside, Limits, Machine, Outcome, Phase, Reached, Ready, Reason, Refusal, Run, Scalar, StandsFor, Told, Value, Walks, WalksOn, WentOn, ends_of, feed, heard, initial, judge, judged, machine_of, name_of, refused_at, run, run-append, run_after, run_of, setting_of, shells, spot_of, then_run, told, trace, trace_of, under, whole}
 use Rattle.ion_visiting.specs.laws.Filters.{hears_none}
 use Rattle.ion_binary.specs.machine.EachOctet.{moved}
-use Rattle.ion_binary.specs.machine.Frames as frames
 use Rattle.ion_binary.specs.walking.Holds.{Name}
 use Rattle.ion_binary.specs.walking.Runs.{Led, Took}
 use Rattle.ion_binary.proofs.Insides.{body_ends, refused_whole}
@@ -20,7 +19,7 @@ pub around_body : (phase : Phase) (t : Scalar) (n : ℕ) (fs : List Frame) → p
 around_body phase t n fs is h = subst (λ p. IsInside p fs) is h
 
 -- no octets were kept where their number is 0
-pub empty_where : (w : List ℕ) → (length w == 0) ≡ true → w ≡ []
+pub empty_where : {A : Type 0} (w : List A) → (length w == 0) ≡ true → w ≡ []
 empty_where [] e = refl
 empty_where (b ∷ bs) e = absurd (false≢true (sym (ne_eqb (length (b ∷ bs)) 0 (λ i. omega arith)) ∙ e))
 
@@ -212,14 +211,8 @@ walk_answers takes old new u s fs h piece refusal a b w = λ other.
 
 whole_same : (p : Phase) (n : Name) (fs : List Frame) → whole p (emptied n fs) ≡ whole p fs
 whole_same Ready n [] = refl
-whole_same Ready n (frames.Items end x vs ∷ fs) = refl
-whole_same Ready n (frames.Fields end ms ∷ fs) = refl
-whole_same Ready n (frames.Named end ms m ∷ fs) = refl
-whole_same Ready n (frames.Annotated end ss ∷ fs) = refl
-whole_same (InMarker k good) n fs = refl
-whole_same (InNumber k a) n fs = refl
-whole_same (InBody t missing) n fs = refl
-whole_same (InPad missing) n fs = refl
+whole_same Ready n (f ∷ fs) = refl
+whole_same _ n fs = refl
 
 -- whole pieces are open in no container
 none_open : (p : Phase) (fs : List Frame) → whole p fs ≡ true → fs ≡ []

@@ -14,11 +14,8 @@ use Rattle.ion_binary.proofs.Insides.{with_phase}
 use Rattle.ion_binary.proofs.Tellings.{does_more, field_told, name_told, part_told}
 
 in_room : (fs : List Frame) (to : ℕ) → IsWithin (containers_of fs) to → InRoom fs to
-in_room [] to h = absurd h
-in_room (frames.Items end x vs ∷ fs) to h = absurd h
 in_room (frames.Fields end ms ∷ fs) to h = h
-in_room (frames.Named end ms n ∷ fs) to h = absurd h
-in_room (frames.Annotated end ss ∷ fs) to h = absurd h
+in_room _ to h = absurd h
 
 -- over a name the machine comes to it
 pub came_run : (r : BinaryWalk) (fs : List Frame) → Holds r fs → (piece : List ℕ) (id size : ℕ) → HasName r piece id size

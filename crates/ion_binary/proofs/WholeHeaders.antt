@@ -1,14 +1,29 @@
 -- Headers that lie whole in a piece, and scalars that do, in a reader that holds no values.
-use Rattle.std.proofs.Common.{◌≡◌, ℕ, ◌+◌, ◌-◌, ◌≤◌, List, ◌++◌, length, take, drop, ap, sym, subst, ◌∙◌, arith}
+use Rattle.std.proofs.Common.{◌≡◌, ℕ, ◌+◌, ◌-◌, ◌<◌, ◌≤◌, List, ◌++◌, length, take, drop, get_or, refl, ap, sym, subst, ◌∙◌, arith}
 use Rattle.std.proofs.lemmas.Grind.{common_steps}
 use Rattle.std.proofs.lemmas.List.{length-take-le}
 use Rattle.std.proofs.Math.Seq.{take-add}
-use Rattle.ion_binary.specs.Names.{AreAround, BinaryWalk, Form, Frame, Header, Holds, Opens, Phase, Ready, Scalar, at, begin, hollow, judge, judged, run, run_after, run_of, setting_of, spot_of}
+use Rattle.ion_binary.specs.Names.{AreAround, BinaryWalk, Form, Frame, Header, Holds, Opening, Opens, Phase, Ready, Scalar, at, begin, counted, hollow, judge, judged, machine_of, on_descriptor, on_phase, opening_of, run, run_after, run_of, setting_of, spot_of}
 use Rattle.ion_binary.specs.machine.EachOctet.{moved}
 use Rattle.ion_binary.specs.laws.reading.Complete.{Admits, header_run, scalar_run}
 use Rattle.ion_binary.specs.laws.reading.Stands.{BodyMayEnd}
+use Rattle.ion_binary.proofs.Beginning.{stays}
 use Rattle.ion_binary.proofs.Insides.{with_phase}
 use Rattle.ion_binary.proofs.Shells.{has_room, may_begin}
+use Rattle.ion_binary.proofs.WalkRuns.{octet_run}
+
+-- where only octets are counted, it stands for the same containers
+pub moved_on : (r : BinaryWalk) (fs : List Frame) → Holds r fs → (count : ℕ) → Holds (record r { used = r.used + count }) fs
+moved_on r fs h count = stays r (record r { used = r.used + count }) fs refl refl refl h.inside h
+
+-- over a descriptor alone it comes to what that opens
+pub descriptor_run : (r : BinaryWalk) (fs : List Frame) (piece : List ℕ) (o : Opening) → 0 < length piece → r.phase ≡ Ready → o ≡ opening_of (get_or piece 0 0)
+    → run_of r fs (take 1 piece) ≡ run_after (r.used + 1) (on_descriptor (setting_of r) (moved (spot_of r) (r.used + 1)) fs o)
+descriptor_run r fs piece o some ready is =
+    octet_run r.catalog.now r.limits r.used (machine_of r fs) piece some
+    ∙ ap (run_after (r.used + 1))
+    (ap (λ p. on_phase (setting_of r) (counted (machine_of r fs)) p (get_or piece 0 0)) ready
+    ∙ ap (on_descriptor (setting_of r) (moved (spot_of r) (r.used + 1)) fs) (sym is))
 
 module _ (r : BinaryWalk) (fs : List Frame) (h : Holds r fs) (piece : List ℕ) (front size : ℕ) where
   from_ready : (w : List ℕ) → r.phase ≡ Ready → run_of r fs w ≡ run r.catalog.now r.limits r.used (at (spot_of r) fs Ready) w

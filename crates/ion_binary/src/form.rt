@@ -1,6 +1,7 @@
 //! What a descriptor octet opens.
-ghost use Rattle.std.specs.Prelude.{◌≡◌};
-ghost use Rattle.ion_binary.specs.Names.{body_of, bracket_of, hollow, opening_of, with_octets};
+ghost use Rattle.std.specs.Prelude.{◌≡◌, IfSome};
+ghost use Rattle.ion_binary.specs.Names.{body_of, bracket_of, hollow, opening_of, type_code, with_octets};
+ghost use Rattle.ion_binary.specs.declared.form.Form.TheVariants as forms;
 
 use ion_model::{Kind, Reason};
 use ion_scalar::{Descriptor, Size};
@@ -49,10 +50,44 @@ pub enum Opening {
     Sized(Form, Size),
 }
 
-/// What an octet opens where a value may begin.
-#[tactic(auto, unfolding(crate::specs::Opening::opening_of))]
+/// What an octet opens where a value may begin. Most are scalars with some octets.
 #[inline(always)]
 pub fn opening_of(octet: u8) -> Opening
+    ensures { result ≡ opening_of octet }
+{
+    let length = octet % 16;
+    if length == 0 || length == 15 {
+        return opening_of_any(octet);
+    }
+    match scalar_of(octet / 16) {
+        None => opening_of_any(octet),
+        Some(scalar) if length == 14 => Opening::Sized(Form::Scalar(scalar), Size::Follows),
+        Some(scalar) => Opening::Sized(Form::Scalar(scalar), Size::Known(length)),
+    }
+}
+
+/// The scalar of a type code.
+#[inline(always)]
+fn scalar_of(code: u8) -> Option<Scalar>
+    ensures { IfSome result (λ scalar. code ≡ type_code (forms.Scalar scalar)) }
+{
+    match code {
+        2 => Some(Scalar::Int),
+        3 => Some(Scalar::NegativeInt),
+        5 => Some(Scalar::Decimal),
+        6 => Some(Scalar::Timestamp),
+        7 => Some(Scalar::Symbol),
+        8 => Some(Scalar::Str),
+        9 => Some(Scalar::Clob),
+        10 => Some(Scalar::Blob),
+        _ => None,
+    }
+}
+
+/// The same of any octet.
+#[tactic(auto, unfolding(crate::specs::Opening::opening_of))]
+#[inline(always)]
+fn opening_of_any(octet: u8) -> Opening
     ensures { result ≡ opening_of octet }
 {
     match Descriptor::of(octet) {
@@ -116,16 +151,13 @@ pub fn bracket_of(listing: Listing) -> Bracket
 pub fn hollow(form: Form, size: u64) -> Option<Reason>
     ensures { result ≡ hollow form size }
 {
+    if size != 0 {
+        return None;
+    }
     match form {
         Form::Scalar(Scalar::NegativeInt | Scalar::Timestamp)
         | Form::OrderedStruct
-        | Form::Wrapper => {
-            if size == 0 {
-                Some(Reason::Malformed)
-            } else {
-                None
-            }
-        }
+        | Form::Wrapper => Some(Reason::Malformed),
         _ => None,
     }
 }

@@ -1,9 +1,10 @@
 //! The reader of binary documents that holds no values: what it holds, and what each octet does.
-ghost use Rattle.std.specs.Prelude.{◌≡◌, ◌+◌, ◌-◌, ◌<◌, ◌^◌, true, false, List, OnOk, IfErr};
-ghost use Rattle.ion_binary.specs.Names.{AreAround, Does, DoesAlone, Frame as AnyFrame, Hears, Holds, IsTop, Memory, SameSetting, WasTold, bare, deliver, feed, heard, is_in_body, machine_of, marks, on_descriptor, on_marker, one_octet, payload_of, setting_of, spot_of, told};
+ghost use Rattle.std.specs.Prelude.{◌≡◌, ◌≢◌, ◌+◌, ◌-◌, ◌<◌, ◌^◌, true, false, List, OnOk, IfErr};
+ghost use Rattle.ion_binary.specs.Names.{AreAround, Does, DoesAlone, Frame as AnyFrame, Hears, Holds, IsTop, Memory, Moves, WasTold, bare, deliver, feed, heard, is_in_body, machine_of, marks, on_descriptor, on_marker, one_octet, payload_of, setting_of, spot_of, told};
+ghost use Rattle.ion_binary.specs.declared.state.Phase.TheVariants as phases;
 ghost use Rattle.ion_binary.specs.walking.Holds.{told_in};
 
-use crate::form::{Form, Listing, Opening, opening_of};
+use crate::form::{Form, Listing, Opening};
 use crate::state::{Effect, Mark, Phase};
 use ion_model::{Reason, Refusal};
 use ion_scalar::Size;
@@ -102,8 +103,7 @@ impl BinaryWalk<'_> {
             Does V.takes (told fs)
             (one_octet (setting_of self.old) (spot_of self.old) fs (payload_of said.now))
             result self.new visitor.old visitor.new }
-        ensures used { self.new.used ≡ self.old.used }
-        ensures setting { SameSetting self.old self.new }
+        ensures moves { Moves self.old self.new self.old.used }
     {
         match self.unfit(Form::Struct, self.used) {
             Some(reason) => Err(reason),
@@ -117,8 +117,7 @@ impl BinaryWalk<'_> {
             Does V.takes (told fs)
             (deliver (setting_of self.old) (spot_of self.old) fs (bare (payload_of said.now)))
             result self.new visitor.old visitor.new }
-        ensures used { self.new.used ≡ self.old.used }
-        ensures setting { SameSetting self.old self.new }
+        ensures moves { Moves self.old self.new self.old.used }
     {
         self.begin_value(visitor)?;
         heard(self.filter.part(said, visitor))?;
@@ -129,8 +128,7 @@ impl BinaryWalk<'_> {
     fn marks(&mut self) -> Result<Effect, Reason>
         ensures does { (fs : List AnyFrame) → Holds self.old fs → DoesAlone (told fs)
             (marks (spot_of self.old) fs) result self.new }
-        ensures used { self.new.used ≡ self.old.used }
-        ensures setting { SameSetting self.old self.new }
+        ensures moves { Moves self.old self.new self.old.used }
     {
         if !self.frames.is_empty() {
             return Err(Reason::Malformed);
@@ -150,8 +148,7 @@ impl BinaryWalk<'_> {
             Does V.takes (told fs)
             (on_descriptor (setting_of self.old) (spot_of self.old) fs opening)
             result self.new visitor.old visitor.new }
-        ensures used { self.new.used ≡ self.old.used }
-        ensures setting { SameSetting self.old self.new }
+        ensures moves { Moves self.old self.new self.old.used }
     {
         match opening {
             Opening::Refused(reason) => Err(reason),
@@ -169,8 +166,7 @@ impl BinaryWalk<'_> {
     fn on_marker(&mut self, mark: Mark, good: bool, octet: u8) -> Result<Effect, Reason>
         ensures does { (fs : List AnyFrame) → Holds self.old fs → IsTop fs →
             DoesAlone (told fs) (on_marker (spot_of self.old) fs mark good octet) result self.new }
-        ensures used { self.new.used ≡ self.old.used }
-        ensures setting { SameSetting self.old self.new }
+        ensures moves { Moves self.old self.new self.old.used }
     {
         match mark {
             Mark::First => {
@@ -196,24 +192,23 @@ impl BinaryWalk<'_> {
         Ok(Effect::Goes)
     }
 
-    /// Takes up one octet that is in no body: what it did, or why it is refused. Behind an `Err`
-    /// nothing is known of the machine.
+    /// Takes up one octet that is no descriptor and in no body: what it did, or why it is refused.
+    /// Behind an `Err` nothing is known of the machine.
     fn feed<V: Visitor>(&mut self, octet: u8, visitor: &mut V) -> Result<Effect, Reason>
         requires used { self.old.used < 2 ^ 63 - 1 }
         requires outside { is_in_body self.old.phase ≡ false }
+        requires behind { self.old.phase ≢ phases.Ready }
         ensures does { (fs : List AnyFrame) → Holds self.old fs →
             Does V.takes (told fs)
             (feed (setting_of self.old) (machine_of self.old fs) octet)
             result self.new visitor.old visitor.new }
-        ensures used { self.new.used ≡ self.old.used + 1 }
-        ensures setting { SameSetting self.old self.new }
+        ensures moves { Moves self.old self.new (self.old.used + 1) }
     {
         self.used += 1;
         match self.phase {
             Phase::InMarker(mark, good) => self.on_marker(mark, good, octet),
-            Phase::Ready => self.on_descriptor(opening_of(octet), visitor),
             Phase::InNumber(purpose, so_far) => self.on_number(purpose, so_far, octet, visitor),
-            Phase::InBody(_, _) => unreachable!(),
+            Phase::Ready | Phase::InBody(_, _) => unreachable!(),
             Phase::InPad(missing) => self.on_pad(missing, visitor),
         }
     }

@@ -256,3 +256,10 @@ pub record SameSetting (old new : BinaryWalk) : Type 0 where
   pub catalog : new.catalog ≡ old.catalog
   pub limits : new.limits ≡ old.limits
   pub failed : new.failed ≡ old.failed
+
+-- the same, and so many octets were used
+pub record Moves (old new : BinaryWalk) (to : ℕ) : Type 0 where
+  pub used : new.used ≡ to
+  pub catalog : new.catalog ≡ old.catalog
+  pub limits : new.limits ≡ old.limits
+  pub failed : new.failed ≡ old.failed

@@ -1,6 +1,6 @@
 //! Walks over pieces: octets of a body or a pad are taken up at once, else one.
 ghost use Rattle.std.specs.Prelude.{◌≡◌, ◌≢◌, ℕ, ◌+◌, ◌-◌, ◌≤◌, ◌<◌, ◌^◌, [], ◌++◌, List, true, false, length, take, None, Some, Result, IfOk, IfErr, IfSome, IsNone};
-ghost use Rattle.ion_binary.specs.Names.{Answers, AreAround, Does, EndsOn, Event, Frame as AnyFrame, Holds, Memory, RefusesBy, SameSetting, StepsOver, Told, Value as AnyValue, Walks, WalksOn, awaits, failed, goes_on, if_ended, is_in_body, judge, judged, pending, run_of, setting_of, shells, spot_of, taken, told, trace, whole};
+ghost use Rattle.ion_binary.specs.Names.{Answers, AreAround, Does, EndsOn, Event, Frame as AnyFrame, Holds, Memory, Moves, RefusesBy, SameSetting, StepsOver, Told, Value as AnyValue, Walks, WalksOn, awaits, failed, goes_on, if_ended, is_in_body, judge, judged, pending, run_of, setting_of, shells, spot_of, taken, told, trace, whole};
 ghost use Rattle.ion_binary.specs.declared.state.Phase.TheVariants as phases;
 ghost use Rattle.ion_binary.specs.machine.EachOctet.{moved};
 ghost use Rattle.ion_binary.specs.walking.Runs.{Led, Took, kept};
@@ -77,8 +77,8 @@ impl BinaryWalk<'_> {
             × (self.new.used ≤ self.old.used + length piece.now)) }
         ensures setting { SameSetting self.old self.new }
     {
-        if let Some((form, front, size)) = self.whole_header(piece) {
-            return self.take_header(form, front, size, piece, visitor);
+        if let Phase::Ready = self.phase {
+            return self.take_opening(piece, visitor);
         }
         if let Some((id, size)) = self.whole_name(piece) {
             return self.take_field(id, size, piece, visitor);
@@ -127,8 +127,7 @@ impl BinaryWalk<'_> {
             (self.old.used + length octets.now)) fs
             (judge self.old.context scalar (self.old.body.items ++ octets.now)))
             result self.new visitor.old visitor.new }
-        ensures used { self.new.used ≡ self.old.used + length octets.now }
-        ensures setting { SameSetting self.old self.new }
+        ensures moves { Moves self.old self.new (self.old.used + length octets.now) }
     {
         self.used += octets.len() as u64;
         if self.body.is_empty() {
@@ -190,8 +189,7 @@ impl BinaryWalk<'_> {
         ensures some { 0 < result }
         ensures led { (fs : List AnyFrame) → Holds self.old fs →
             Led (run_of self.old fs (take result piece.now)) self.new fs }
-        ensures used { self.new.used ≡ self.old.used + result }
-        ensures setting { SameSetting self.old self.new }
+        ensures moves { Moves self.old self.new (self.old.used + result) }
     {
         let skipped = missing.min(piece.len() as u64);
         self.used += skipped;

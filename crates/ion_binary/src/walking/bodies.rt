@@ -1,6 +1,6 @@
 //! Bodies: of scalars, pads and containers.
 ghost use Rattle.std.specs.Prelude.{◌≡◌, ◌<◌, ◌^◌, List, []};
-ghost use Rattle.ion_binary.specs.Names.{AreAround, Does, Frame as AnyFrame, Holds, HoldsNoWrapper, MayBegin, SameSetting, begin, judge, judged, on_pad, open_struct, setting_of, sized, spot_of, told};
+ghost use Rattle.ion_binary.specs.Names.{AreAround, Does, Frame as AnyFrame, Holds, HoldsNoWrapper, MayBegin, Moves, begin, judge, judged, on_pad, open_struct, setting_of, sized, spot_of, told};
 ghost use Rattle.ion_binary.specs.declared.form.Form.TheVariants as forms;
 
 use super::{BinaryWalk, Container, heard};
@@ -25,8 +25,7 @@ impl BinaryWalk<'_> {
             (judged (setting_of self.old) (spot_of self.old) fs
             (judge self.old.context scalar octets.now))
             result self.new visitor.old visitor.new }
-        ensures used { self.new.used ≡ self.old.used }
-        ensures setting { SameSetting self.old self.new }
+        ensures moves { Moves self.old self.new self.old.used }
     {
         self.begin_value(visitor)?;
         tell_scalar(&self.context, scalar, octets, &mut self.filter, visitor)?;
@@ -44,8 +43,7 @@ impl BinaryWalk<'_> {
             (judged (setting_of self.old) (spot_of self.old) fs
             (judge self.old.context scalar self.old.body.items))
             result self.new visitor.old visitor.new }
-        ensures used { self.new.used ≡ self.old.used }
-        ensures setting { SameSetting self.old self.new }
+        ensures moves { Moves self.old self.new self.old.used }
     {
         self.begin_value(visitor)?;
         tell_scalar(&self.context, scalar, &self.body, &mut self.filter, visitor)?;
@@ -65,8 +63,7 @@ impl BinaryWalk<'_> {
             Does V.takes (told fs)
             (begin (setting_of self.old) (spot_of self.old) fs form size)
             result self.new visitor.old visitor.new }
-        ensures used { self.new.used ≡ self.old.used }
-        ensures setting { SameSetting self.old self.new }
+        ensures moves { Moves self.old self.new self.old.used }
     {
         match form {
             Form::Pad => self.begin_pad(size, visitor),
@@ -82,8 +79,7 @@ impl BinaryWalk<'_> {
             Does V.takes (told fs)
             (begin (setting_of self.old) (spot_of self.old) fs forms.Pad size)
             result self.new visitor.old visitor.new }
-        ensures used { self.new.used ≡ self.old.used }
-        ensures setting { SameSetting self.old self.new }
+        ensures moves { Moves self.old self.new self.old.used }
     {
         if size == 0 {
             return self.proceed(visitor);
@@ -102,8 +98,7 @@ impl BinaryWalk<'_> {
             Does V.takes (told fs)
             (begin (setting_of self.old) (spot_of self.old) fs (forms.Scalar scalar) size)
             result self.new visitor.old visitor.new }
-        ensures used { self.new.used ≡ self.old.used }
-        ensures setting { SameSetting self.old self.new }
+        ensures moves { Moves self.old self.new self.old.used }
     {
         if size == 0 {
             return self.scalar(scalar, &[], visitor);
@@ -125,8 +120,7 @@ impl BinaryWalk<'_> {
             Does V.takes (told fs)
             (begin (setting_of self.old) (spot_of self.old) fs (forms.Listing listing) size)
             result self.new visitor.old visitor.new }
-        ensures used { self.new.used ≡ self.old.used }
-        ensures setting { SameSetting self.old self.new }
+        ensures moves { Moves self.old self.new self.old.used }
     {
         if !self.may_deepen() {
             return Err(Reason::Depth);
@@ -147,8 +141,7 @@ impl BinaryWalk<'_> {
             Does V.takes (told fs)
             (open_struct (setting_of self.old) (spot_of self.old) fs size)
             result self.new visitor.old visitor.new }
-        ensures used { self.new.used ≡ self.old.used }
-        ensures setting { SameSetting self.old self.new }
+        ensures moves { Moves self.old self.new self.old.used }
     {
         if !self.may_deepen() {
             return Err(Reason::Depth);
@@ -168,8 +161,7 @@ impl BinaryWalk<'_> {
             Does V.takes (told fs)
             (begin (setting_of self.old) (spot_of self.old) fs forms.Wrapper size)
             result self.new visitor.old visitor.new }
-        ensures used { self.new.used ≡ self.old.used }
-        ensures setting { SameSetting self.old self.new }
+        ensures moves { Moves self.old self.new self.old.used }
     {
         self.begin_value(visitor)?;
         let end = self.used + size;
@@ -191,8 +183,7 @@ impl BinaryWalk<'_> {
             Does V.takes (told fs)
             (sized (setting_of self.old) (spot_of self.old) fs form size)
             result self.new visitor.old visitor.new }
-        ensures used { self.new.used ≡ self.old.used }
-        ensures setting { SameSetting self.old self.new }
+        ensures moves { Moves self.old self.new self.old.used }
     {
         if let Some(reason) = hollow(form, size) {
             return Err(reason);
@@ -213,8 +204,7 @@ impl BinaryWalk<'_> {
             Does V.takes (told fs)
             (on_pad (setting_of self.old) (spot_of self.old) fs missing)
             result self.new visitor.old visitor.new }
-        ensures used { self.new.used ≡ self.old.used }
-        ensures setting { SameSetting self.old self.new }
+        ensures moves { Moves self.old self.new self.old.used }
     {
         if missing == 0 {
             return self.proceed(visitor);

@@ -183,6 +183,7 @@ impl BinaryWalk<'_> {
     }
 
     /// Why a form whose body ends at the octet `to` may not stand here.
+    #[inline(always)]
     pub(super) fn unfit(&self, form: Form, to: u64) -> Option<Reason>
         ensures { result
             ≡ unfit self.now.limits.item self.now.start (shells self.now) form to }

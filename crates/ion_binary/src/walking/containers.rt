@@ -1,6 +1,6 @@
 //! Containers that end.
 ghost use Rattle.std.specs.Prelude.{◌≡◌, ◌⊎◌, List, [], ◌∷◌, ◌++◌, IfErr, IfOk, OnOk, Ok, Err, Result, true, false};
-ghost use Rattle.ion_binary.specs.Names.{AreAround, Closes, Container as AnyContainer, Does, DoesAlone, Event, Field as AnyField, Frame as AnyFrame, Holds, IsBareIn, IsBehind, Memory, Outcome, SameSetting, Value as AnyValue, WasTold, container_of, containers_of, deliver, events_of, is_table, next, open_containers, proceed, setting_of, spot_of, told};
+ghost use Rattle.ion_binary.specs.Names.{AreAround, Closes, Container as AnyContainer, Does, DoesAlone, Event, Field as AnyField, Frame as AnyFrame, Holds, IsBareIn, IsBehind, Memory, Outcome, Moves, Value as AnyValue, WasTold, container_of, containers_of, deliver, events_of, is_table, next, open_containers, proceed, setting_of, spot_of, told};
 ghost use Rattle.ion_binary.specs.declared.state.Effect.TheVariants as effects;
 ghost use Rattle.ion_binary.specs.declared.state.Phase.TheVariants as phases;
 ghost use Rattle.ion_binary.specs.machine.Frames as frames;
@@ -33,8 +33,7 @@ impl BinaryWalk<'_> {
             (deliver (setting_of self.old) (spot_of self.old) fs v)
             (Ok effects.Goes) self.new }
         ensures none { result ≡ false → self.new ≡ self.old }
-        ensures used { self.new.used ≡ self.old.used }
-        ensures setting { SameSetting self.old self.new }
+        ensures moves { Moves self.old self.new self.old.used }
     {
         if let Some(end) = self.items_end() {
             if self.used != end {
@@ -60,9 +59,11 @@ impl BinaryWalk<'_> {
             Does V.takes (told_in fs ++ events_of v)
             (deliver (setting_of self.old) (spot_of self.old) fs v)
             result self.new visitor.old visitor.new }
-        ensures used { self.new.used ≡ self.old.used }
-        ensures setting { SameSetting self.old self.new }
+        ensures moves { Moves self.old self.new self.old.used }
     {
+        if self.frames.is_empty() {
+            return self.give();
+        }
         if self.stays_open() {
             return Ok(Effect::Goes);
         }
@@ -75,8 +76,7 @@ impl BinaryWalk<'_> {
             Does V.takes (told_in fs ++ events_of v)
             (deliver (setting_of self.old) (spot_of self.old) fs v)
             result self.new visitor.old visitor.new }
-        ensures used { self.new.used ≡ self.old.used }
-        ensures setting { SameSetting self.old self.new }
+        ensures moves { Moves self.old self.new self.old.used }
     {
         while let Some(container) = self.frames.pop() {
             match self.behind_value(container, visitor) {
@@ -88,15 +88,32 @@ impl BinaryWalk<'_> {
         self.give()
     }
 
-    /// A value of the top level that was told ended here. A local symbol table changes the context
-    /// (Ion 1.0, "Symbols", "Local Symbol Tables").
+    /// A value of the top level that was told ended here.
+    #[inline(always)]
     fn give(&mut self) -> Result<Effect, Reason>
         requires top { open_containers self.old ≡ [] }
         ensures does { (v : AnyValue) → WasTold self.old.filter (events_of v) →
             DoesAlone (events_of v)
             (deliver (setting_of self.old) (spot_of self.old) [] v) result self.new }
-        ensures used { self.new.used ≡ self.old.used }
-        ensures setting { SameSetting self.old self.new }
+        ensures moves { Moves self.old self.new self.old.used }
+    {
+        if self.filter.ends_plain() {
+            self.start = self.used;
+            self.phase = Phase::Ready;
+            return Ok(Effect::Gives);
+        }
+        self.give_or_apply()
+    }
+
+    /// The same of a value that may be a local symbol table, which changes the context (Ion 1.0,
+    /// "Symbols", "Local Symbol Tables").
+    #[inline(never)]
+    fn give_or_apply(&mut self) -> Result<Effect, Reason>
+        requires top { open_containers self.old ≡ [] }
+        ensures does { (v : AnyValue) → WasTold self.old.filter (events_of v) →
+            DoesAlone (events_of v)
+            (deliver (setting_of self.old) (spot_of self.old) [] v) result self.new }
+        ensures moves { Moves self.old self.new self.old.used }
     {
         self.start = self.used;
         self.phase = Phase::Ready;
@@ -118,8 +135,7 @@ impl BinaryWalk<'_> {
             × (self.new ≡ record self.old { context = self.new.context })) }
         ensures refused { is_table table.now ≡ true → IfErr result (λ r.
             (r ≡ Memory) ⊎ (next self.old.context table.now self.old.catalog.now ≡ Err r)) }
-        ensures used { self.new.used ≡ self.old.used }
-        ensures setting { SameSetting self.old self.new }
+        ensures moves { Moves self.old self.new self.old.used }
     {
         if !table.is_table() {
             return Ok(());
@@ -143,8 +159,7 @@ impl BinaryWalk<'_> {
             result self.new visitor.old visitor.new }
         ensures frames { IfOk result (λ closed.
             closed ≡ true → self.new.frames.items ≡ self.old.frames.items) }
-        ensures used { self.new.used ≡ self.old.used }
-        ensures setting { SameSetting self.old self.new }
+        ensures moves { Moves self.old self.new self.old.used }
     {
         match container {
             Container::Items { end, listing } => self.close_items(end, listing, visitor),
@@ -170,8 +185,7 @@ impl BinaryWalk<'_> {
             result self.new visitor.old visitor.new }
         ensures frames { IfOk result (λ closed.
             closed ≡ true → self.new.frames.items ≡ self.old.frames.items) }
-        ensures used { self.new.used ≡ self.old.used }
-        ensures setting { SameSetting self.old self.new }
+        ensures moves { Moves self.old self.new self.old.used }
     {
         if self.used == end {
             let bracket = bracket_of(listing);
@@ -193,8 +207,7 @@ impl BinaryWalk<'_> {
             result self.new visitor.old visitor.new }
         ensures frames { IfOk result (λ closed.
             closed ≡ true → self.new.frames.items ≡ self.old.frames.items) }
-        ensures used { self.new.used ≡ self.old.used }
-        ensures setting { SameSetting self.old self.new }
+        ensures moves { Moves self.old self.new self.old.used }
     {
         if self.used == end {
             heard(self.filter.close(Bracket::Fields, visitor))?;
@@ -213,8 +226,7 @@ impl BinaryWalk<'_> {
             DoesAlone (told fs) (proceed (setting_of self.old) (spot_of self.old) fs)
             (Ok effects.Goes) self.new }
         ensures none { result ≡ false → self.new ≡ self.old }
-        ensures used { self.new.used ≡ self.old.used }
-        ensures setting { SameSetting self.old self.new }
+        ensures moves { Moves self.old self.new self.old.used }
     {
         if let Some(end) = self.items_end() {
             if self.used != end {
@@ -238,8 +250,7 @@ impl BinaryWalk<'_> {
         ensures does { (fs : List AnyFrame) → Holds self.old fs → Does V.takes (told fs)
             (proceed (setting_of self.old) (spot_of self.old) fs)
             result self.new visitor.old visitor.new }
-        ensures used { self.new.used ≡ self.old.used }
-        ensures setting { SameSetting self.old self.new }
+        ensures moves { Moves self.old self.new self.old.used }
     {
         if self.goes_inside() {
             return Ok(Effect::Goes);
@@ -253,8 +264,7 @@ impl BinaryWalk<'_> {
         ensures does { (fs : List AnyFrame) → Holds self.old fs → Does V.takes (told fs)
             (proceed (setting_of self.old) (spot_of self.old) fs)
             result self.new visitor.old visitor.new }
-        ensures used { self.new.used ≡ self.old.used }
-        ensures setting { SameSetting self.old self.new }
+        ensures moves { Moves self.old self.new self.old.used }
     {
         match self.frames.pop() {
             None => Ok(self.proceed_at_top()),
@@ -279,8 +289,7 @@ impl BinaryWalk<'_> {
         ensures does { (es : List Event) (outcome : Outcome) (first : V) →
             Closes V.takes es outcome (Result.Ok closed) self.old first visitor.old →
             Does V.takes es outcome result self.new first visitor.new }
-        ensures used { self.new.used ≡ self.old.used }
-        ensures setting { SameSetting self.old self.new }
+        ensures moves { Moves self.old self.new self.old.used }
     {
         if closed {
             return self.ended(visitor);

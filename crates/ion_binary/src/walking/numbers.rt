@@ -1,6 +1,6 @@
 //! VarUInts: lengths, and the ids of field names and annotations.
 ghost use Rattle.std.specs.Prelude.{◌≡◌, ◌+◌, ◌<◌, ◌^◌, List, IfSome, length};
-ghost use Rattle.ion_binary.specs.Names.{Does, DoesAlone, Frame as AnyFrame, HasName, Holds, SameSetting, annotation_came, behind_annotation, count_came, longer, name_came, number_came, on_number, resolve, setting_of, spot_of, told, unsized};
+ghost use Rattle.ion_binary.specs.Names.{Does, DoesAlone, Frame as AnyFrame, HasName, Holds, Moves, annotation_came, behind_annotation, count_came, longer, name_came, number_came, on_number, resolve, setting_of, spot_of, told, unsized};
 ghost use Rattle.ion_binary.specs.machine.EachOctet.{moved};
 
 use super::{BinaryWalk, Container, heard};
@@ -17,8 +17,7 @@ impl BinaryWalk<'_> {
             DoesAlone (told fs)
             (longer (setting_of self.old) (spot_of self.old) fs purpose so_far)
             result self.new }
-        ensures used { self.new.used ≡ self.old.used }
-        ensures setting { SameSetting self.old self.new }
+        ensures moves { Moves self.old self.new self.old.used }
     {
         match self.past(purpose) {
             Some(reason) => Err(reason),
@@ -35,8 +34,7 @@ impl BinaryWalk<'_> {
             DoesAlone (told fs)
             (unsized (setting_of self.old) (spot_of self.old) fs form)
             result self.new }
-        ensures used { self.new.used ≡ self.old.used }
-        ensures setting { SameSetting self.old self.new }
+        ensures moves { Moves self.old self.new self.old.used }
     {
         if let Some(reason) = self.stray(form) {
             return Err(reason);
@@ -65,8 +63,7 @@ impl BinaryWalk<'_> {
             Does V.takes (told fs)
             (on_number (setting_of self.old) (spot_of self.old) fs purpose so_far octet)
             result self.new visitor.old visitor.new }
-        ensures used { self.new.used ≡ self.old.used }
-        ensures setting { SameSetting self.old self.new }
+        ensures moves { Moves self.old self.new self.old.used }
     {
         if so_far >= 1 << 56 {
             return Err(Reason::TooLarge);
@@ -90,8 +87,7 @@ impl BinaryWalk<'_> {
             Does V.takes (told fs)
             (number_came (setting_of self.old) (spot_of self.old) fs purpose number)
             result self.new visitor.old visitor.new }
-        ensures used { self.new.used ≡ self.old.used }
-        ensures setting { SameSetting self.old self.new }
+        ensures moves { Moves self.old self.new self.old.used }
     {
         match purpose {
             Purpose::Length(form) => self.sized(form, number, visitor),
@@ -119,27 +115,14 @@ impl BinaryWalk<'_> {
         Some((id, size))
     }
 
-    /// Takes up a field's name, whose id so many octets are.
-    pub(super) fn take_name(&mut self, id: u64, size: usize) -> Result<Effect, Reason>
-        requires room { self.old.used + size < 2 ^ 63 }
-        ensures does { (fs : List AnyFrame) → Holds self.old fs → DoesAlone (told fs)
-            (name_came (moved (spot_of self.old) (self.old.used + size)) fs id) result self.new }
-        ensures used { self.new.used ≡ self.old.used + size }
-        ensures setting { SameSetting self.old self.new }
-    {
-        self.used += size as u64;
-        self.name_came(id)
-    }
-
     /// Takes the id of a field name, behind which an octet has to be left of the struct. Whether
     /// the id has a symbol counts only if a value follows.
-    fn name_came(&mut self, id: u64) -> Result<Effect, Reason>
+    pub(super) fn name_came(&mut self, id: u64) -> Result<Effect, Reason>
         ensures does { (fs : List AnyFrame) → Holds self.old fs →
             DoesAlone (told fs)
             (name_came (spot_of self.old) fs id)
             result self.new }
-        ensures used { self.new.used ≡ self.old.used }
-        ensures setting { SameSetting self.old self.new }
+        ensures moves { Moves self.old self.new self.old.used }
     {
         let Some(end) = self.fields_end() else {
             return Err(Reason::Malformed);
@@ -162,8 +145,7 @@ impl BinaryWalk<'_> {
             DoesAlone (told fs)
             (count_came (spot_of self.old) fs count)
             result self.new }
-        ensures used { self.new.used ≡ self.old.used }
-        ensures setting { SameSetting self.old self.new }
+        ensures moves { Moves self.old self.new self.old.used }
     {
         let Some(end) = self.wrapper_end() else {
             return Err(Reason::Malformed);
@@ -187,8 +169,7 @@ impl BinaryWalk<'_> {
             Does V.takes (told fs)
             (annotation_came (spot_of self.old) fs stop (resolve self.old.context id))
             result self.new visitor.old visitor.new }
-        ensures used { self.new.used ≡ self.old.used }
-        ensures setting { SameSetting self.old self.new }
+        ensures moves { Moves self.old self.new self.old.used }
     {
         if let None = self.wrapper_end() {
             return Err(Reason::Malformed);

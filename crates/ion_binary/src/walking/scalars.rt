@@ -1,5 +1,8 @@
 //! Scalars, whose octets are their body: told apart here alone.
-ghost use Rattle.std.specs.Prelude.{◌≡◌, ◌≢◌, List, ℕ, Ok, Err, MatchResult, OnOk, IfErr};
+ghost use Rattle.std.specs.Prelude.{◌≡◌, ◌≢◌, ◌↔◌, IsTrue, List, ℕ, Ok, Err, MatchResult, OnOk, IfErr};
+ghost use Rattle.std.specs.Char.{is_ascii};
+ghost use Rattle.std.specs.List.{list_all};
+ghost use Rattle.std.specs.Str.{IsUtf8};
 ghost use Rattle.ion_binary.specs.Names.{IsNumber, Memory, Slot, TellsAs, int_of, judge, number_payload, symbol_of, text_of, uint_field};
 ghost use Rattle.ion_model.specs.declared.value.Payload.TheVariants as payloads;
 ghost use Rattle.ion_binary.specs.declared.form.Scalar.TheVariants as scalars;
@@ -157,9 +160,25 @@ fn text_of(body: &[u8]) -> Result<&str, Reason>
     ensures { MatchResult result (λ t. text_of body.now ≡ Ok (payloads.Str t.now))
         (λ reason. text_of body.now ≡ Err reason) }
 {
-    if !simdutf8::is_utf8(body) {
+    if !is_utf8(body) {
         return Err(Reason::BadUtf8);
     }
     // checked just now
     Ok(unsafe { str::from_utf8_unchecked(body) })
+}
+
+/// Whether octets are UTF-8. Most are few, and of ASCII.
+pub(super) fn is_utf8(body: &[u8]) -> bool
+    ensures { IsTrue result ↔ IsUtf8 body.now }
+{
+    if body.len() < 16 && are_ascii(body) {
+        return true;
+    }
+    simdutf8::is_utf8(body)
+}
+
+fn are_ascii(body: &[u8]) -> bool
+    ensures { result ≡ list_all is_ascii body.now }
+{
+    body.iter().all(|octet| octet.is_ascii())
 }

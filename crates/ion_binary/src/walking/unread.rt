@@ -4,7 +4,7 @@ ghost use Rattle.ion_binary.specs.Names.{Slot, judge, positional};
 ghost use Rattle.ion_binary.specs.declared.form.Scalar.TheVariants as scalars;
 
 use crate::form::Scalar;
-use crate::walking::scalars::int_of;
+use crate::walking::scalars::{int_of, is_utf8};
 use ion_scalar::{is_decimal_body, is_timestamp_body, is_uint};
 use ion_symtab::Context;
 
@@ -14,21 +14,15 @@ pub(super) fn is_scalar(context: &Context, scalar: Scalar, body: &[u8]) -> bool
     ensures { result ≡ true → is_ok (judge context.now scalar body.now) ≡ true }
 {
     match scalar {
-        Scalar::Int => is_int(body),
+        Scalar::Int => is_uint(body),
         Scalar::NegativeInt => is_negative(body),
-        Scalar::Decimal => is_decimal(body),
-        Scalar::Timestamp => is_timestamp(body),
+        Scalar::Decimal => is_decimal_body(body),
+        Scalar::Timestamp => is_timestamp_body(body),
         Scalar::Symbol => is_symbol(context, body),
-        Scalar::Str => is_text(body),
+        Scalar::Str => is_utf8(body),
         Scalar::Clob => true,
         Scalar::Blob => true,
     }
-}
-
-fn is_int(body: &[u8]) -> bool
-    ensures { result ≡ true → (c : List Slot) → is_ok (judge c scalars.Int body.now) ≡ true }
-{
-    is_uint(body)
 }
 
 fn is_negative(body: &[u8]) -> bool
@@ -42,19 +36,6 @@ fn is_negative(body: &[u8]) -> bool
     int_of(true, body).is_ok()
 }
 
-fn is_decimal(body: &[u8]) -> bool
-    ensures { result ≡ true → (c : List Slot) → is_ok (judge c scalars.Decimal body.now) ≡ true }
-{
-    is_decimal_body(body)
-}
-
-#[inline(never)]
-fn is_timestamp(body: &[u8]) -> bool
-    ensures { result ≡ true → (c : List Slot) → is_ok (judge c scalars.Timestamp body.now) ≡ true }
-{
-    is_timestamp_body(body)
-}
-
 fn is_symbol(context: &Context, body: &[u8]) -> bool
     ensures { result ≡ true → is_ok (judge context.now scalars.Symbol body.now) ≡ true }
 {
@@ -65,12 +46,6 @@ fn is_symbol(context: &Context, body: &[u8]) -> bool
         return false;
     };
     true
-}
-
-fn is_text(body: &[u8]) -> bool
-    ensures { result ≡ true → (c : List Slot) → is_ok (judge c scalars.Str body.now) ≡ true }
-{
-    simdutf8::is_utf8(body)
 }
 
 /// The number that these octets make, if it is found to be below 2^64. Most are one octet.

@@ -1,7 +1,7 @@
 //! Fields that lie whole in a piece and have a scalar, each taken up at once. Of any other the
 //! name is.
 ghost use Rattle.std.specs.Prelude.{◌≡◌, ◌≢◌, ◌+◌, ◌≤◌, ◌<◌, ◌^◌, List, ◌∷◌, Ok, Option, ℕ, length, IfErr, IfOk, IfSome};
-ghost use Rattle.ion_binary.specs.Names.{Does, Field as AnyField, Frame as AnyFrame, HasName, HasScalar, Holds, IsTelling, Memory, SameSetting, judge, judged, run_of, setting_of, spot_of, told};
+ghost use Rattle.ion_binary.specs.Names.{Does, Field as AnyField, Frame as AnyFrame, HasName, HasScalar, Holds, IsTelling, Memory, Moves, SameSetting, judge, judged, run_of, setting_of, spot_of, told};
 ghost use Rattle.ion_binary.specs.machine.EachOctet.{moved};
 ghost use Rattle.ion_binary.specs.machine.Frames as frames;
 ghost use Rattle.ion_binary.specs.walking.Holds.{told_in};
@@ -9,7 +9,7 @@ ghost use Rattle.ion_binary.specs.walking.Runs.{Took};
 
 use super::whole_headers::{header_at, scalar_in};
 use super::{BinaryWalk, heard};
-use crate::form::Scalar;
+use crate::form::{Scalar, opening_of};
 use crate::state::Effect;
 use crate::walking::scalars::tell_scalar;
 use ion_model::Reason;
@@ -28,7 +28,8 @@ impl BinaryWalk<'_> {
         if named == piece.len() {
             return None;
         }
-        let (form, header, size) = header_at(&piece[named..])?;
+        let behind = &piece[named..];
+        let (form, header, size) = header_at(opening_of(behind[0]), behind)?;
         let front = named + header;
         let scalar = scalar_in(form, size, piece.len() - front)?;
         let to = front + size as usize;
@@ -69,7 +70,8 @@ impl BinaryWalk<'_> {
                 return Ok((to, effect));
             }
         }
-        let effect = self.take_name(id, named)?;
+        self.used += named as u64;
+        let effect = self.name_came(id)?;
         Ok((named, effect))
     }
 
@@ -89,8 +91,7 @@ impl BinaryWalk<'_> {
             (judged (setting_of self.old) (moved (spot_of self.old) (self.old.used + size))
             (frames.Named end ms (Ok s) ∷ fs) (judge self.old.context scalar body.now))
             result self.new visitor.old visitor.new }
-        ensures used { self.new.used ≡ self.old.used + size }
-        ensures setting { SameSetting self.old self.new }
+        ensures moves { Moves self.old self.new (self.old.used + size) }
     {
         self.used += size as u64;
         tell_scalar(&self.context, scalar, body, &mut self.filter, visitor)?;

@@ -1,46 +1,30 @@
-use Rattle.std.proofs.Common.{rules, ◌≡◌, ◌∷◌, [], ◌++◌, ◌∙◌, ap, refl}
+use Rattle.std.proofs.Common.{rules, ◌∷◌, [], ◌∙◌, ap, refl}
 use Rattle.ion_binary.specs.Names.{framed, null_octet, payload_of, truth_octet}
 use Rattle.ion_model.specs.declared.value.Payload.TheViews as views
-use Rattle.ion_binary.specs.visiting.BinaryOut.{Encoded}
 use Rattle.ion_binary.proofs.BinaryTold.{scalar_put}
 use Rattle.ion_binary.proofs.binary_out.BinaryOut.put_part.Goals as goal
 
 pub returns-in-Null : goal.returns-in-Null
 returns-in-Null g c = λ e.
-    let octets = null_octet c.in-Null.kind ∷ [] in
-    let put : c.put_null.new.out.items ≡ c.self.inside.value.items ++ octets = search rules in
-    scalar_put _ c.args.self.now (payload_of c.args.said.now) _ c.put_null.new.out.items c.self.view_is
-    (ap (λ s. views.out-Payload (payload_of s)) c.in-Null.is ∙ views.outs-Null c.in-Null.kind) refl
-    (λ names. put ∙ ap (λ (x : Encoded). x.value ++ octets) c.self.view_is)
+    scalar_put _ c.args.self.now (payload_of c.args.said.now) _ (null_octet c.in-Null.kind ∷ []) c.put_null.new.out.items c.self.view_is
+    (ap (λ s. views.out-Payload (payload_of s)) c.in-Null.is ∙ views.outs-Null c.in-Null.kind) refl (λ names. refl) (search rules)
 
 pub returns-in-Truth : goal.returns-in-Truth
 returns-in-Truth g c = λ e.
-    let octets = truth_octet c.in-Truth.truth ∷ [] in
-    let put : c.put_truth.new.out.items ≡ c.self-in-Truth.inside.value.items ++ octets = search rules in
-    scalar_put _ c.args.self.now (payload_of c.args.said.now) _ c.put_truth.new.out.items c.self-in-Truth.view_is
-    (ap (λ s. views.out-Payload (payload_of s)) c.in-Truth.is ∙ views.outs-Truth c.in-Truth.truth) refl
-    (λ names. put ∙ ap (λ (x : Encoded). x.value ++ octets) c.self-in-Truth.view_is)
+    scalar_put _ c.args.self.now (payload_of c.args.said.now) _ (truth_octet c.in-Truth.truth ∷ []) c.put_truth.new.out.items c.self-in-Truth.view_is
+    (ap (λ s. views.out-Payload (payload_of s)) c.in-Truth.is ∙ views.outs-Truth c.in-Truth.truth) refl (λ names. refl) (search rules)
 
 pub returns-in-Str : goal.returns-in-Str
 returns-in-Str g c = λ e.
-    let octets = framed 8 c.in-Str.text.now in
-    let put : c.put_framed.new.out.items ≡ c.self-in-Str.inside.value.items ++ octets = search rules in
-    scalar_put _ c.args.self.now (payload_of c.args.said.now) _ c.put_framed.new.out.items c.self-in-Str.view_is
-    (ap (λ s. views.out-Payload (payload_of s)) c.in-Str.is ∙ views.outs-Str c.in-Str.text.now) refl
-    (λ names. put ∙ ap (λ (x : Encoded). x.value ++ octets) c.self-in-Str.view_is)
+    scalar_put _ c.args.self.now (payload_of c.args.said.now) _ (framed 8 c.in-Str.text.now) c.put_framed.new.out.items c.self-in-Str.view_is
+    (ap (λ s. views.out-Payload (payload_of s)) c.in-Str.is ∙ views.outs-Str c.in-Str.text.now) refl (λ names. refl) (search rules)
 
 pub returns-in-Clob : goal.returns-in-Clob
 returns-in-Clob g c = λ e.
-    let octets = framed 9 c.in-Clob.octets.now in
-    let put : c.put_framed-in-Clob.new.out.items ≡ c.self-in-Clob.inside.value.items ++ octets = search rules in
-    scalar_put _ c.args.self.now (payload_of c.args.said.now) _ c.put_framed-in-Clob.new.out.items c.self-in-Clob.view_is
-    (ap (λ s. views.out-Payload (payload_of s)) c.in-Clob.is ∙ views.outs-Clob c.in-Clob.octets.now) refl
-    (λ names. put ∙ ap (λ (x : Encoded). x.value ++ octets) c.self-in-Clob.view_is)
+    scalar_put _ c.args.self.now (payload_of c.args.said.now) _ (framed 9 c.in-Clob.octets.now) c.put_framed-in-Clob.new.out.items c.self-in-Clob.view_is
+    (ap (λ s. views.out-Payload (payload_of s)) c.in-Clob.is ∙ views.outs-Clob c.in-Clob.octets.now) refl (λ names. refl) (search rules)
 
 pub returns-in-Blob : goal.returns-in-Blob
 returns-in-Blob g c = λ e.
-    let octets = framed 10 c.in-Blob.octets.now in
-    let put : c.put_framed-in-Blob.new.out.items ≡ c.self-in-Blob.inside.value.items ++ octets = search rules in
-    scalar_put _ c.args.self.now (payload_of c.args.said.now) _ c.put_framed-in-Blob.new.out.items c.self-in-Blob.view_is
-    (ap (λ s. views.out-Payload (payload_of s)) c.in-Blob.is ∙ views.outs-Blob c.in-Blob.octets.now) refl
-    (λ names. put ∙ ap (λ (x : Encoded). x.value ++ octets) c.self-in-Blob.view_is)
+    scalar_put _ c.args.self.now (payload_of c.args.said.now) _ (framed 10 c.in-Blob.octets.now) c.put_framed-in-Blob.new.out.items c.self-in-Blob.view_is
+    (ap (λ s. views.out-Payload (payload_of s)) c.in-Blob.is ∙ views.outs-Blob c.in-Blob.octets.now) refl (λ names. refl) (search rules)

@@ -17,8 +17,7 @@ loop-container-init g c = record {
           c.args.visitor.now refl;
     },
   );
-  used = refl;
-  setting = search rules;
+  moves = search rules;
 }
 
 pub loop-container-preserved : goal.loop-container-preserved
@@ -37,8 +36,7 @@ loop-container-preserved g c =
           (left_behind g.V.Visitor.takes o es first l p k (Ok c.in-Ok-true.field-0) new c.loop-container.visitor b
           (c.loop-container.invariant.left fs v h)
           (pushed c.pop.new.self.items l.frames.items k c.in-Some.ensures.items) refl refl refl c.in-Ok-true.ensures.does);
-      used = search rules;
-      setting = search rules;
+      moves = search rules;
     }
 
 pub returns-in-Ok-false-clause-does : goal.returns-in-Ok-false-clause-does

@@ -1,5 +1,5 @@
-use Rattle.std.proofs.Common.{◌≡◌, ◌++◌, List, length}
-use Rattle.ion_binary.specs.Names.{Frame, IsBehind, SameSetting, Value, deliver, events_of, setting_of, spot_of}
+use Rattle.std.proofs.Common.{◌++◌, List, length}
+use Rattle.ion_binary.specs.Names.{Frame, IsBehind, Moves, Value, deliver, events_of, setting_of, spot_of}
 use Rattle.ion_binary.specs.walking.Holds.{told_in}
 use Rattle.ion_binary.proofs.Ending.{IsLeft}
 use Rattle.ion_binary.proofs.walking.BinaryWalk.containers_end.Given as goal
@@ -9,8 +9,7 @@ abbrev pub invariant-loop-container : goal.invariant-loop-container
 invariant-loop-container g l = record {
   left : (fs : List Frame) (v : Value) → IsBehind l.fn.self fs v →
       IsLeft g.V.Visitor.takes (deliver (setting_of l.fn.self) (spot_of l.fn.self) fs v) (told_in fs ++ events_of v) l.initial.visitor l.self l.visitor;
-  used : l.self.used ≡ l.fn.self.used;
-  setting : SameSetting l.fn.self l.self;
+  moves : Moves l.fn.self l.self l.fn.self.used;
 }
 
 abbrev pub decreases-loop-container : goal.decreases-loop-container

@@ -1,5 +1,5 @@
-use Rattle.std.proofs.Common.{◌+◌, ◌∙◌, ap, refl, subst, sym}
-use Rattle.ion_binary.specs.Names.{IsInside, Phase, counted, machine_of, on_descriptor, on_phase, setting_of, spot_of, told}
+use Rattle.std.proofs.Common.{◌+◌, ap, refl, subst}
+use Rattle.ion_binary.specs.Names.{IsInside, Phase, counted, machine_of, on_phase, setting_of, told}
 use Rattle.ion_binary.proofs.Beginning.{stays}
 use Rattle.ion_binary.proofs.Ending.{does_same}
 use Rattle.ion_binary.proofs.Tellings.{does_alone}
@@ -13,15 +13,6 @@ returns-in-InMarker-clause-does g c = λ fs h.
     (ap (λ p. on_phase (setting_of r) (counted (machine_of r fs)) p c.args.octet) c.in-InMarker.is)
     (does_alone g.V.Visitor.takes (told fs) _ c.on_marker.result c.on_marker.new.self c.args.visitor.now
     (c.on_marker.ensures.does fs (stays r n fs refl refl refl h.inside h) (subst (λ (p : Phase). IsInside p fs) c.in-InMarker.is h.inside)))
-
-pub returns-in-Ready-clause-does : goal.returns-in-Ready-clause-does
-returns-in-Ready-clause-does g c = λ fs h.
-    let r = c.args.self.now in
-    let n = record r { used = r.used + 1 } in
-    does_same g.V.Visitor.takes (told fs) _ _ c.on_descriptor.result c.on_descriptor.new.self c.args.visitor.now c.on_descriptor.new.visitor
-    (ap (λ p. on_phase (setting_of r) (counted (machine_of r fs)) p c.args.octet) c.in-Ready.is
-    ∙ ap (λ o. on_descriptor (setting_of r) (spot_of n) fs o) (sym c.opening_of.ensures))
-    (c.on_descriptor.ensures.does fs (stays r n fs refl refl refl h.inside h))
 
 pub returns-in-InNumber-clause-does : goal.returns-in-InNumber-clause-does
 returns-in-InNumber-clause-does g c = λ fs h.

@@ -18,7 +18,7 @@ returns-in_err-effect-clause-does g c = λ fs h.
     let p = err_from_is_err_and c.from_residual.result c.from_residual.ensures.1 in
     rw (p.1, p.2)
     (front_refused g.V.Visitor.takes r fs h piece new a b k _ e.within (ends_run g.V.Visitor.takes r fs h piece new a b t k e.phase e.some e.within) reason
-    (ends_used g.V.Visitor.takes r fs h piece new a b t k e.phase e.some e.within c.take_end.ensures.used)
+    (ends_used g.V.Visitor.takes r fs h piece new a b t k e.phase e.some e.within c.take_end.ensures.moves.used)
     (ends_does g.V.Visitor.takes r fs h piece new a b t k e.phase e.some e.within (Err reason) c.in_err-effect.ensures.does))
 
 pub returns-in-Some-ending-clause-does : goal.returns-in-Some-ending-clause-does
@@ -47,7 +47,7 @@ returns-in_err-effect-2-clause-does g c = λ fs h.
     let p = err_from_is_err_and c.from_residual-in_err-effect-2.result c.from_residual-in_err-effect-2.ensures.1 in
     rw (p.1, p.2)
     (front_refused g.V.Visitor.takes r fs h piece c.feed.new.self c.args.visitor.now c.feed.new.visitor 1 _ c.requires.some
-    (octet_run r.catalog.now r.limits r.used (machine_of r fs) piece c.requires.some) c.in_err-effect-2.field-0.0 c.feed.ensures.used
+    (octet_run r.catalog.now r.limits r.used (machine_of r fs) piece c.requires.some) c.in_err-effect-2.field-0.0 c.feed.ensures.moves.used
     (c.in_err-effect-2.ensures.does fs h))
 
 pub returns-clause-does : goal.returns-clause-does

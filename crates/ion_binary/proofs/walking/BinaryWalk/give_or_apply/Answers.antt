@@ -1,0 +1,19 @@
+use Rattle.std.proofs.Common.{[], Ok, refl, sym, subst}
+use Rattle.ion_binary.specs.Names.{BinaryWalk, DoesAlone, Goes, Ready, deliver, events_of, setting_of, spot_of}
+use Rattle.ion_binary.proofs.Giving.{gives_out, table_goes, table_is}
+use Rattle.ion_binary.proofs.walking.BinaryWalk.give_or_apply.Goals as goal
+
+pub returns-in-None-clause-does : goal.returns-in-None-clause-does
+returns-in-None-clause-does c = λ v h.
+    let r = c.args.self.now in
+    gives_out r (record r { start = r.used; phase = Ready; filter = c.end.new.self }) c.requires.top refl v c.end.result c.in-None.is (c.end.ensures v h) refl
+
+pub returns-in_ok-applied-in-Some-clause-does : goal.returns-in_ok-applied-in-Some-clause-does
+returns-in_ok-applied-in-Some-clause-does c = λ v h.
+    let r = c.args.self.now in
+    let d = c.apply-applied.new.self.context in
+    let e = c.end.ensures v h in
+    let a = c.in_ok-applied-in-Some.ensures.ok (table_is v c.end.result c.in-Some.table c.in-Some.is e.0) in
+    subst (λ (n : BinaryWalk). DoesAlone (events_of v) (deliver (setting_of r) (spot_of r) [] v) (Ok Goes) n) (sym a.1)
+    (table_goes r (record r { start = r.used; phase = Ready; filter = c.end.new.self; context = d }) c.requires.top refl v c.end.result c.in-Some.table d
+    c.in-Some.is e (λ t. a.0) refl)
