@@ -1,5 +1,5 @@
 -- Tokens of octets, of which the last one has ended in them, and those of more octets: one list is the front of the other.
-use Rattle.std.proofs.Common.{◌≡◌, ℕ, ◌+◌, ◌-◌, ◌≤◌, false, List, [], ◌∷◌, ◌++◌, length, drop, refl, sym, ap, ◌∙◌, subst, arith, ◌⊎◌, inl, inr}
+use Rattle.std.proofs.Common.{◌≡◌, ℕ, ◌+◌, ◌-◌, ◌≤◌, false, List, [], ◌∷◌, ◌++◌, length, drop, refl, sym, ap, ◌∙◌, subst, arith, append-nil, ◌⊎◌, inl, inr}
 use Rattle.std.proofs.lemmas.List.{drop-append-le, length-drop}
 use Rattle.ion_text.specs.Names.{BeginsLexed, Catalog, Given, Known, Left, Limits, Next, Outcome, Placed, Reading, Value, Walk, initial, place, reads, reads-append, scan as run, stopped, then_walk}
 use Rattle.ion_tokens.proofs.complete.Found.{Gives, Last, Leaves, Nothing, Unclosed}
@@ -8,7 +8,7 @@ use Rattle.ion_tokens.proofs.runs.Runs.{given_used, left_used, next_used}
 use Rattle.ion_text.specs.machine.TokenLists.{walked}
 use Rattle.ion_text.specs.laws.deciding.Fronts.{Any, Came, Either, HasEnded, found_open, last_behind, last_of, origin}
 use Rattle.ion_text.specs.laws.reading.complete.Pieces.{walked_now}
-use Rattle.ion_text.specs.laws.showing.tokens.Compare.{Found', lexeme_in, placed_same, state_in}
+use Rattle.ion_text.specs.laws.showing.tokens.Compare.{Found', IsThis, placed_same}
 use Rattle.ion_text.specs.laws.showing.tokens.Walks.{adds_is, walking_said}
 
 module _ (g : Catalog) (l : Limits) where
@@ -68,58 +68,30 @@ module _ (g : Catalog) (l : Limits) where
 
     -- where the first token is told
     module _ (s s' : Known) (octets : List ℕ) (t : Placed) (ts : List Placed) (within : s'.used - s.used ≤ length octets) (x : Outcome)
-        (ran : run t.place (octets ++ v) s ≡ x) (more : Agree s' (drop (s'.used - s.used) octets) ts) where
+        (ran : run t.place (octets ++ v) s ≡ x) (this : IsThis x t.lexeme s') (more : Agree s' (drop (s'.used - s.used) octets) ts) where
       there : (w : Placed) (ws : List Placed) (all : List ℕ) (y : Outcome) (r : Reading) → all ≡ octets ++ v → Along r (t ∷ ts) → Along r (w ∷ ws)
-          → run w.place all s ≡ y → x ≡ y
-      there w ws all y r cut a b e = sym ran ∙ (ap (λ p. run p (octets ++ v) s) (a.0 ∙ sym b.0) ∙ (ap (λ o. run w.place o s) (sym cut) ∙ e))
+          → run w.place all s ≡ y → IsThis y t.lexeme s'
+      there w ws all y r cut a b e =
+          let same = sym ran ∙ (ap (λ p. run p (octets ++ v) s) (a.0 ∙ sym b.0) ∙ (ap (λ o. run w.place o s) (sym cut) ∙ e)) in
+          subst (λ z. IsThis z t.lexeme s') same this
 
-      matched : (w : Placed) (ws : List Placed) (all : List ℕ) (s'' : Known) (r : Reading) → all ≡ octets ++ v → t.lexeme ≡ w.lexeme → s'' ≡ s'
+      matched : (w : Placed) (ws : List Placed) (all : List ℕ) (s'' : Known) (r : Reading) → all ≡ octets ++ v → (w.lexeme ≡ t.lexeme) × (s'' ≡ s')
           → Found' Any s'' (drop (s''.used - s.used) all) ws → Along r (t ∷ ts) → Along r (w ∷ ws) → Either g l (t ∷ ts) (w ∷ ws)
-      matched w ws all s'' r cut i j f a b =
-          joined t w ts ws r (placed_same Any g l t w (a.0 ∙ sym b.0) i) a b
+      matched w ws all s'' r cut i f a b =
+          joined t w ts ws r (placed_same t w (a.0 ∙ sym b.0) (sym i.0)) a b
           (λ n c d. more ws (drop (s'.used - s.used) octets ++ v) refl
           (subst (λ o. Found' Any s' o ws) (ap (drop (s'.used - s.used)) cut ∙ drop-append-le (s'.used - s.used) octets v within)
-          (subst (λ (z : Known). Found' Any z (drop (z.used - s.used) all) ws) j f)) n c d)
+          (subst (λ (z : Known). Found' Any z (drop (z.used - s.used) all) ws) i.1 f)) n c d)
 
-    gave : (s s' : Known) (octets : List ℕ) (t : Placed) (ts : List Placed) → s'.used - s.used ≤ length octets → run t.place octets s ≡ Given t.lexeme s'
-        → Agree s' (drop (s'.used - s.used) octets) ts → Agree s octets (t ∷ ts)
-    unfolding lexeme_in state_in
-    gave s s' octets t ts within ran more ws all cut f r a b = by ws f b
-      where
-        whole : run t.place (octets ++ v) s ≡ Given t.lexeme s'
-        whole = given_front t.place octets v s s' t.lexeme ran
-
-        by : (ws : List Placed) → Found' Any s all ws → Along r ws → Either g l (t ∷ ts) ws
-        by _ (Nothing _ _ n) b = inr (t ∷ ts, refl)
-        by _ (Last _ _ w s'' e at) b = absurd (let x = there s s' octets t ts within (Given t.lexeme s') whole more w [] all (Next s'') r cut a b e in cc)
-        by _ (Gives _ _ w ws s'' e f) b =
-            let x = there s s' octets t ts within (Given t.lexeme s') whole more w ws all (Given w.lexeme s'') r cut a b e in
-            matched s s' octets t ts within (Given t.lexeme s') whole more w ws all s'' r cut (ap (λ y. lexeme_in Any g l y t.lexeme) x)
-            (sym (ap (λ y. state_in Any g l y s') x)) f a b
-        by _ (Leaves _ _ w ws s'' e f) b = absurd (let x = there s s' octets t ts within (Given t.lexeme s') whole more w ws all (Left w.lexeme s'') r cut a b
-            e in cc)
-        by _ (Unclosed _ _ w ws s'' colon letters bare e at first operator f) b =
-            absurd (let x = there s s' octets t ts within (Given t.lexeme s') whole more w ws all (Next s'') r cut a b e in cc)
-
-    leaved : (s s' : Known) (octets : List ℕ) (t : Placed) (ts : List Placed) → s'.used - s.used ≤ length octets → run t.place octets s ≡ Left t.lexeme s'
-        → Agree s' (drop (s'.used - s.used) octets) ts → Agree s octets (t ∷ ts)
-    unfolding lexeme_in state_in
-    leaved s s' octets t ts within ran more ws all cut f r a b = by ws f b
-      where
-        whole : run t.place (octets ++ v) s ≡ Left t.lexeme s'
-        whole = left_front t.place octets v s s' t.lexeme ran
-
-        by : (ws : List Placed) → Found' Any s all ws → Along r ws → Either g l (t ∷ ts) ws
-        by _ (Nothing _ _ n) b = inr (t ∷ ts, refl)
-        by _ (Last _ _ w s'' e at) b = absurd (let x = there s s' octets t ts within (Left t.lexeme s') whole more w [] all (Next s'') r cut a b e in cc)
-        by _ (Gives _ _ w ws s'' e f) b = absurd (let x = there s s' octets t ts within (Left t.lexeme s') whole more w ws all (Given w.lexeme s'') r cut a b
-            e in cc)
-        by _ (Leaves _ _ w ws s'' e f) b =
-            let x = there s s' octets t ts within (Left t.lexeme s') whole more w ws all (Left w.lexeme s'') r cut a b e in
-            matched s s' octets t ts within (Left t.lexeme s') whole more w ws all s'' r cut (ap (λ y. lexeme_in Any g l y t.lexeme) x)
-            (sym (ap (λ y. state_in Any g l y s') x)) f a b
-        by _ (Unclosed _ _ w ws s'' colon letters bare e at first operator f) b =
-            absurd (let x = there s s' octets t ts within (Left t.lexeme s') whole more w ws all (Next s'') r cut a b e in cc)
+      told : Agree s octets (t ∷ ts)
+      told ws all cut f r a b = by ws f b
+        where
+          by : (ws : List Placed) → Found' Any s all ws → Along r ws → Either g l (t ∷ ts) ws
+          by _ (Nothing _ _ n) b = inr (t ∷ ts, refl)
+          by _ (Last _ _ w s'' e at) b = absurd (there w [] all (Next s'') r cut a b e)
+          by _ (Gives _ _ w ws s'' e f) b = matched w ws all s'' r cut (there w ws all (Given w.lexeme s'') r cut a b e) f a b
+          by _ (Leaves _ _ w ws s'' e f) b = matched w ws all s'' r cut (there w ws all (Left w.lexeme s'') r cut a b e) f a b
+          by _ (Unclosed _ _ w ws s'' colon letters bare e at first operator f) b = absurd (there w ws all (Next s'') r cut a b e)
 
     -- how many octets are left behind a token
     left_over : (s s' : Known) (octets : List ℕ) → s.used + length octets ≡ length u → s.used ≤ s'.used → s'.used ≤ s.used + length octets
@@ -135,11 +107,12 @@ module _ (g : Catalog) (l : Limits) where
         absurd (found_open g l u last ended s s' octets t [] (Last s octets t s' ran at) ran (next_used t.place octets s s' (sym ran) ∙ used) is)
     agree _ _ _ (Gives s octets t ts s' ran f) used is =
         let n = given_used t.place octets s s' t.lexeme (sym ran) in
-        gave s s' octets t ts (inside s s' octets n.1) ran (agree s' (drop (s'.used - s.used) octets) ts f (left_over s s' octets used (omega (arith, n.0)) n.1)
+        told s s' octets t ts (inside s s' octets n.1) (Given t.lexeme s') (given_front t.place octets v s s' t.lexeme ran) (refl, refl)
+        (agree s' (drop (s'.used - s.used) octets) ts f (left_over s s' octets used (omega (arith, n.0)) n.1)
         (last_tail last t ts is))
     agree _ _ _ (Leaves s octets t ts s' ran f) used is =
         let n = left_used t.place octets s s' t.lexeme (sym ran) in
-        leaved s s' octets t ts (inside s s' octets (omega (arith, n.1))) ran
+        told s s' octets t ts (inside s s' octets (omega (arith, n.1))) (Left t.lexeme s') (left_front t.place octets v s s' t.lexeme ran) (refl, refl)
         (agree s' (drop (s'.used - s.used) octets) ts f (left_over s s' octets used n.0 (omega (arith, n.1))) (last_tail last t ts is))
     agree _ _ _ (Unclosed s octets t ts s' colon letters bare ran at first operator f) used is =
         λ ws all cut k r a b. absurd (found_open g l u last ended s s' octets t ts (Unclosed s octets t ts s' colon letters bare ran at first operator f) ran
@@ -157,3 +130,16 @@ module _ (g : Catalog) (l : Limits) where
       (last_there front t)
       (back ++ w ∷ []) (u ++ v) refl (begins_completes (back ++ w ∷ []) false 0 (u ++ v) [] (u ++ v) initial more refl (λ p. refl))
       (origin g l) (along front t (origin g l) a.values a.now a.read (sym a.here)) (along back w (origin g l) b.values b.now b.read (sym b.here))
+
+  -- Where neither list goes on behind the other, they are one.
+  pub one_list : (u v : List ℕ) (ts ws front back : List Placed) (t w : Placed) → ts ≡ front ++ t ∷ [] → ws ≡ back ++ w ∷ [] → HasEnded g l u t
+      → Came g l front t.place → Came g l back w.place → BeginsLexed false 0 u ts → BeginsLexed false 0 (u ++ v) ws
+      → ((x : Placed) (xs : List Placed) → ws ≡ ts ++ x ∷ xs → ⊥) → ((x : Placed) (xs : List Placed) → ts ≡ ws ++ x ∷ xs → ⊥) → ts ≡ ws
+  one_list u v ts ws front back t w is is' ended a b lexes more later earlier =
+      by (agreed u v front back t w ended a b (subst (BeginsLexed false 0 u) is lexes) (subst (BeginsLexed false 0 (u ++ v)) is' more))
+    where
+      by : Either g l (front ++ t ∷ []) (back ++ w ∷ []) → ts ≡ ws
+      by (inl ([], i)) = is ∙ (sym (i ∙ append-nil (front ++ t ∷ [])) ∙ sym is')
+      by (inl (x ∷ xs, i)) = absurd (later x xs (is' ∙ (i ∙ ap (λ z. z ++ x ∷ xs) (sym is))))
+      by (inr ([], i)) = is ∙ (i ∙ append-nil (back ++ w ∷ []) ∙ sym is')
+      by (inr (x ∷ xs, i)) = absurd (earlier x xs (is ∙ (i ∙ ap (λ z. z ++ x ∷ xs) (sym is'))))

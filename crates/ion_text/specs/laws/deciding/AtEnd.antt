@@ -1,13 +1,13 @@
 -- What the end refuses for a reason that rows have is such a row.
-use Rattle.std.proofs.Common.{◌≡◌, ℕ, nat_lt, Bool, true, false, List, [], ◌∷◌, ◌++◌, length, Result, Ok, Err, Option, Some, None, refl, sym, ap, ◌∙◌, subst, append_assoc, length-append, arith, if◌then◌else◌, ◌⊎◌, inl, inr, codes}
-use Rattle.ion_text.specs.Names.{Are, AwaitsColons, Catalog, Content, EndDecides, Frame, HasRow, Held, Id, IsBody, Known, Lexeme, Lexes, LexesTo, Limits, Mark, Mark', Now, Placed, Reading, Reason, Refusal, Scanned, State, TokenKind, Turn, TypedNull, Value, Word, at, at_end, begun, begun_at, by_end, colon_behind, cut_short, end_late, end_now, end_of, end_ready, end_said, end_settled, end_turned, end_waiting, ends_of, gives, goes, is_closing, is_end_reason, is_fresh, is_idle, is_top, late, place, plain, refused_of, refuses, run, said, said_body, said_passes, settle, token_of, trace, turn}
+use Rattle.std.proofs.Common.{◌≡◌, ℕ, nat_lt, Bool, true, false, List, [], ◌∷◌, ◌++◌, length, Result, Ok, Err, Option, Some, None, refl, sym, ap, ◌∙◌, subst, append_assoc, length-append, arith, if◌then◌else◌, codes}
+use Rattle.ion_text.specs.Names.{Are, AwaitsColons, Catalog, Content, EndDecides, Frame, HasRow, Held, IsBody, Known, Lexeme, Lexes, LexesTo, Limits, Mark, Mark', Now, Placed, Reading, Reason, Refusal, Scanned, State, TokenKind, Turn, Value, at, at_end, begun, begun_at, by_end, colon_behind, cut_short, end_late, end_now, end_of, end_ready, end_said, end_settled, end_turned, end_waiting, ends_of, gives, goes, is_closing, is_end_reason, is_fresh, is_idle, is_top, late, place, plain, refused_of, refuses, run, said, said_body, said_passes, settle, token_of, trace, turn}
 use Rattle.ion_tokens.proofs.histories.EndCauses.{IsEndFair, end_fair}
 use Rattle.ion_tokens.proofs.histories.Stepped.{all_since}
 use Rattle.ion_tokens.proofs.runs.Scans.{placed}
 use Rattle.ion_tokens.proofs.sound.Holds.{blank_none}
 use Rattle.ion_tokens.proofs.sound.Told.{ends_in_token}
 use Rattle.ion_text.specs.laws.deciding.Lates.{said_rowless}
-use Rattle.ion_text.specs.laws.deciding.Shows.{Shown, awaits_colons, flag}
+use Rattle.ion_text.specs.laws.deciding.Shows.{Shown, awaits_colons, flag, neither, shown_by}
 use Rattle.ion_text.specs.laws.deciding.Turns.{Decided, TurnDecided, settled_decided, token_decided}
 use Rattle.ion_text.specs.laws.reading.Stops.{stood_used}
 use Rattle.ion_text.specs.laws.reading.complete.Found.{no_more}
@@ -101,14 +101,11 @@ module _ (g : Catalog) (l : Limits) (u : List ℕ) where
 
   waiting_rows : (used : ℕ) (x : Result (Option Lexeme) Reason) (t : Turn) → TurnDecided g l (by_end u) t → EndRows (end_waiting g l used x t)
   waiting_rows used (Ok None) t h = settled_rows used t h
-  waiting_rows used (Ok (Some x)) (goes r) h = λ i. absurd i
-  waiting_rows used (Ok (Some x)) (gives v r) h = λ i. absurd i
   waiting_rows used (Ok (Some x)) (refuses e) h = h
   waiting_rows used (Ok (Some x)) (late e r) h = late_rows used e h
-  waiting_rows used (Err y) (goes r) h = λ i. absurd i
-  waiting_rows used (Err y) (gives v r) h = λ i. absurd i
   waiting_rows used (Err y) (refuses e) h = h
   waiting_rows used (Err y) (late e r) h = late_rows used e h
+  waiting_rows used _ _ h = λ i. absurd i
 
   -- what a token that the end ended leads to
   abbrev SettlesToRow : Turn → Type 0
@@ -136,11 +133,7 @@ module _ (g : Catalog) (l : Limits) (u : List ℕ) where
           by true = λ i. absurd i
           by false = λ i. absurd i
       go (Now.Pending h e) = λ i. absurd i
-      go (Now.Long w e) = λ i. absurd i
-      go Now.After = λ i. absurd i
-      go Now.Name = λ i. absurd i
-      go (Now.LongName w) = λ i. absurd i
-      go (Now.Keyed s) = λ i. absurd i
+      go _ = λ i. absurd i
 
   module _ (vs : List Value) (s : Known) (r : Reading) (b : Behind g l Scanned u vs s r [] (NoLongText s.mode)) (used' : s.used ≡ length u)
       (wait : Waits g l s r.now) where
@@ -179,39 +172,18 @@ module _ (g : Catalog) (l : Limits) (u : List ℕ) where
           kind : x.kind ≡ TokenKind.Mark m
           kind = mark_kind x.kind x.octets m (subst (λ y. IsBody x.kind x.octets (Ok y)) f body)
 
-          by : (x.kind ≡ TokenKind.Mark Mark.Colon) ⊎ (x.kind ≡ TokenKind.Operator) → ⊥
-          by (inl y) = n (let q : TokenKind.Mark m ≡ TokenKind.Mark Mark.Colon = sym kind ∙ y in let q' : m ≡ Mark.Colon = cc in q')
-          by (inr y) = absurd (let q : TokenKind.Mark m ≡ TokenKind.Operator = sym kind ∙ y in cc)
-
           go : (y : Bool) → is_idle s.mode ≡ y → ⊥
           go false f = never (is_closing x.kind) ((at_end_fine (place r) s x e).2 f) (ap is_closing kind ∙ i)
-          go true f = by ((at_end_fine (place r) s x e).4 f)
+          go true f = neither m x.kind kind n ((at_end_fine (place r) s x e).4 f)
 
       shown : (c ≡ Mark' Mark.FieldsOpen → ⊥) → Shown (by_end u) (ts ++ placed (place r) x ∷ []) c
-      shown n = go c refl
-        where
-          go : (d : Content) → c ≡ d → Shown (by_end u) (ts ++ placed (place r) x ∷ []) d
-          go (Word v) f = here
-          go (Id id) f = here
-          go (TypedNull k) f = here
-          go (Mark' Mark.FieldsOpen) f = absurd (n f)
-          go (Mark' Mark.Comma) f = tt
-          go (Mark' Mark.Colon) f = tt
-          go (Mark' Mark.FieldsClose) f = absurd (closing Mark.FieldsClose f refl (λ q. cc))
-          go (Mark' Mark.ListOpen) f = absurd (closing Mark.ListOpen f refl (λ q. cc))
-          go (Mark' Mark.ListClose) f = absurd (closing Mark.ListClose f refl (λ q. cc))
-          go (Mark' Mark.SexpOpen) f = absurd (closing Mark.SexpOpen f refl (λ q. cc))
-          go (Mark' Mark.SexpClose) f = absurd (closing Mark.SexpClose f refl (λ q. cc))
-          go (Mark' Mark.Colons) f = absurd (closing Mark.Colons f refl (λ q. cc))
-          go _ f = tt
+      shown n = shown_by (by_end u) (ts ++ placed (place r) x ∷ []) c (λ b. here) n closing
 
       -- behind it `::` may yet follow, where nothing else does
       settles : (t : Turn) → Reads g l AllAre u vs s [] (λ n. Unit {0}) t → SettlesToRow t
       settles (goes m) h = settled_decided g l (by_end u) m.context h.front vs h.pieces m.start h.item m.frames m.notes m.now h.first h.stands
           (λ y end f top. record { rest = []; are = h.scanned; before = (codes "::", ([], [], blank_none, refl)); after = λ i. none_then i.0 i.1 i.3 })
-      settles (gives v m) h = tt
-      settles (refuses z) h = tt
-      settles (late z m) h = tt
+      settles _ h = tt
 
       read : Reads g l AllAre u vs s [] (λ n. Unit {0}) (turn g l r (token_of x c))
       read =
@@ -248,10 +220,7 @@ module _ (g : Catalog) (l : Limits) (u : List ℕ) where
     now_rows used (Now.Pending h end) = waiting_rows used (at_end (place r) s) (settle g l r) waited
     now_rows used (Now.Long w end) = waiting_rows used (at_end (place r) s) (settle g l r) waited
     now_rows used (Now.LongName w) = λ i. absurd i
-    now_rows used Now.Ready = ready_rows used (at_end (place r) s) refl
-    now_rows used Now.After = ready_rows used (at_end (place r) s) refl
-    now_rows used Now.Name = ready_rows used (at_end (place r) s) refl
-    now_rows used (Now.Keyed k) = ready_rows used (at_end (place r) s) refl
+    now_rows used _ = ready_rows used (at_end (place r) s) refl
 
   end_rows : (given : List (Value × ℕ)) (now : Result State Refusal) → StoodBehind g l u [] (record { given = given; now = now }) → EndsWaiting g l now
       → refused_of now ≡ None → EndRows (ends_of g l now)

@@ -21,10 +21,8 @@ pub record Framed (l : Limits) (c : List Slot) (ks : List Container) (ts : List 
   pub deep : Deep l.depth held
 
 receives : (fs : List Frame) → TakesValue (containers fs) → Receives fs
-receives [] h = tt
-receives (Frame.Items listing ss vs ∷ fs) h = tt
 receives (Frame.Fields ss ms ∷ fs) h = absurd h
-receives (Frame.Named ss ms s ∷ fs) h = tt
+receives _ h = tt
 
 module _ (l : Limits) (c : List Slot) where
   -- where a value may come
@@ -73,10 +71,8 @@ module _ (l : Limits) (c : List Slot) where
         };
         deep = d;
       }
-  named_frames ks ts ns s colon n k [] e o d = absurd cc
   named_frames ks ts ns s colon n k (Frame.Items Listing.List ss vs ∷ fs) e o d = absurd cc
-  named_frames ks ts ns s colon n k (Frame.Items Listing.Sexp ss vs ∷ fs) e o d = absurd cc
-  named_frames ks ts ns s colon n k (Frame.Named ss ms x ∷ fs) e o d = absurd cc
+  named_frames ks ts ns s colon n k _ e o d = absurd cc
 
   -- a container stands open in what does
   around : (bracket : Bracket) (Body : List Placed → Type 0) (ks : List Container) (ts notes us : List Placed) (ss : Symbols) (t : Placed)
@@ -229,10 +225,8 @@ module _ (g : Catalog) (l : Limits) where
   struct_of : (c : List Slot) (ks : List Container) (ts : List Placed) (fs : List Frame) → containers fs ≡ InStruct ∷ ks → Opened c fs ts true → Deep l.depth fs
       → Struct c ts
   struct_of c ks ts (Frame.Fields ss ms ∷ fs) e o d = record { notes = ss; fields = ms; outer = fs; opened = o; deep = d }
-  struct_of c ks ts [] e o d = absurd cc
   struct_of c ks ts (Frame.Items Listing.List ss vs ∷ fs) e o d = absurd cc
-  struct_of c ks ts (Frame.Items Listing.Sexp ss vs ∷ fs) e o d = absurd cc
-  struct_of c ks ts (Frame.Named ss ms x ∷ fs) e o d = absurd cc
+  struct_of c ks ts _ e o d = absurd cc
 
   module _ (c : List Slot) (ks : List Container) (said : Content) (ts : List Placed) (h : Comes g l c (InStruct ∷ ks) said ts) where
     -- where a name comes next, the innermost of what the reader would hold is a struct

@@ -1,6 +1,6 @@
 -- Where a row of the table stands that the end shows, the end refuses for the row's reason, unless an item became too long before.
-use Rattle.std.proofs.Common.{◌≡◌, ℕ, ◌+◌, nat_le, Bool, true, false, ◌||◌, List, [], ◌∷◌, ◌++◌, length, Result, Ok, Err, Option, Some, None, IfErr, refl, sym, ap, ◌∙◌, subst, append_assoc, length-append, arith, if◌then◌else◌, ◌⊎◌, inl, inr, codes}
-use Rattle.std.proofs.lemmas.Bool.{false_from_ne_true}
+use Rattle.std.proofs.Common.{◌≡◌, ℕ, ◌+◌, nat_le, Bool, true, false, ◌||◌, List, [], ◌∷◌, ◌++◌, length, Result, Ok, Err, Option, Some, None, IfErr, refl, sym, ap, ◌∙◌, subst, append_assoc, length-append, arith, ◌⊎◌, inl, inr, codes}
+use Rattle.std.proofs.lemmas.Bool.{cond_both, false_from_ne_true}
 use Rattle.ion_text.specs.Names.{Are, AwaitsColons, BlankThen, Catalog, Content, EndDecides, Given, HasRow, IsIdReason, IsTableReason, Known, Leading, Left, Lexeme, LexesTo, Limits, Mark, Next, Now, Place, Placed, Reading, Reason, Refusal, State, TokenKind, Turn, Value, annotated, at, at_end, bad_table, begun, continues, eats, end_fails, end_late, end_now, end_ready, end_said, end_settled, end_turned, end_waiting, ends_of, fails, feed, gives, goes, initial, is_idle, is_quoting, is_sane, is_top, keyword_as_annotation, keyword_as_name, late, line_feed, no_symbol, null_table, other_version, place, reaches, reads, refused_of, refuses, run, run_on, said_body, settle, settle_same, settled, struct_too_deep, token_of, too_deep, trace, turn, under, uses, waits_now, with_scan}
 use Rattle.ion_model.specs.declared.value.Payload.TheVariants as payloads
 use Rattle.ion_tokens.proofs.runs.Runs.{feed_used}
@@ -85,20 +85,16 @@ module _ (g : Catalog) (l : Limits) (u : List ℕ) (e : Reason) where
     settled_so : (used : ℕ) (t : Turn) → used ≡ length u → Refusing e t → Answers (end_settled used t)
     settled_so used (refuses f) i h = fails_so used f i h
     settled_so used (late f r) i h = late_so used f i h
-    settled_so used (goes r) i h = absurd h
-    settled_so used (gives v r) i h = absurd h
+    settled_so used _ i h = absurd h
 
     -- what waits is refused, whatever is open behind it
     waiting_so : (used : ℕ) (x : Result (Option Lexeme) Reason) (t : Turn) → used ≡ length u → Refusing e t → Answers (end_waiting g l used x t)
     waiting_so used (Ok None) t i h = settled_so used t i h
     waiting_so used (Ok (Some x)) (refuses f) i h = fails_so used f i h
     waiting_so used (Ok (Some x)) (late f r) i h = late_so used f i h
-    waiting_so used (Ok (Some x)) (goes r) i h = absurd h
-    waiting_so used (Ok (Some x)) (gives v r) i h = absurd h
     waiting_so used (Err y) (refuses f) i h = fails_so used f i h
     waiting_so used (Err y) (late f r) i h = late_so used f i h
-    waiting_so used (Err y) (goes r) i h = absurd h
-    waiting_so used (Err y) (gives v r) i h = absurd h
+    waiting_so used _ _ i h = absurd h
 
     -- 3. A word that the end ends, which is refused, or which waits and is refused then.
 
@@ -170,10 +166,7 @@ module _ (g : Catalog) (l : Limits) (u : List ℕ) (e : Reason) where
         now_so (Now.Pending k end) j w = absurd (busy w)
         now_so (Now.Long v end) j w = absurd (quoting (is_idle s.mode) refl w)
         now_so (Now.LongName v) j w = absurd (no_name v j)
-        now_so Now.Ready j w = ready_so (still Now.Ready j refl)
-        now_so Now.After j w = ready_so (still Now.After j refl)
-        now_so Now.Name j w = ready_so (still Now.Name j refl)
-        now_so (Now.Keyed k) j w = ready_so (still (Now.Keyed k) j refl)
+        now_so n j w = ready_so (still n j refl)
 
         word_so : EndsFor (Ok (with_scan s r))
         word_so w = now_so r.now refl w
@@ -229,13 +222,9 @@ module _ (g : Catalog) (l : Limits) (u : List ℕ) (e : Reason) where
       rest_ended _ _ (ended s) to all used = λ w. waiting_so s.used (at_end (place P) s) (settle g l P) (omega (arith, all, used)) p.why
       rest_ended _ _ (may s o os s' f i m) to all used =
           subst (λ y. EndsFor (run_on to (λ n. eats g l n o) (λ n. run g l (to + 1) n os) y).now) (sym (waits_uses g l ts e p s o s' f i))
-          (go (nat_le (reaches P.frames P s') l.item)
-          (rest_ended s' os m (to + 1) (omega (arith, all)) (let x = feed_used Place.Top s s' o f in omega (arith, x, used))))
-        where
-          go : (b : Bool) → EndsFor (run g l (to + 1) (with_scan s' P) os).now
-              → EndsFor (run_on to (λ n. eats g l n o) (λ n. run g l (to + 1) n os) (if b then uses (with_scan s' P) else fails Reason.ItemTooLong)).now
-          go true h = h
-          go false h = refl
+          (cond_both (nat_le (reaches P.frames P s') l.item) (uses (with_scan s' P)) (fails Reason.ItemTooLong)
+          (λ x. EndsFor (run_on to (λ n. eats g l n o) (λ n. run g l (to + 1) n os) x).now)
+          (λ k. rest_ended s' os m (to + 1) (omega (arith, all)) (let x = feed_used Place.Top s s' o f in omega (arith, x, used))) (λ k. refl))
 
       waiting_ended : EndsFor (run g l 0 begun u).now
       waiting_ended =

@@ -1,7 +1,8 @@
 -- What the scanner meets in the octets of a row, up to its last token.
-use Rattle.std.proofs.Common.{◌≡◌, ℕ, ◌+◌, ◌-◌, ◌==◌, Bool, true, false, ◌&&◌, List, [], ◌∷◌, ◌++◌, length, drop, Option, Some, None, refl, sym, ap, ◌∙◌, subst, arith, length-append, if◌then◌else◌, codes}
+use Rattle.std.proofs.Common.{◌≡◌, ℕ, ◌+◌, ◌-◌, ◌==◌, Bool, true, false, ◌&&◌, List, [], ◌∷◌, ◌++◌, length, drop, Option, Some, None, refl, sym, ap, ◌∙◌, subst, arith, length-append, codes}
+use Rattle.std.proofs.lemmas.Bool.{cond_both}
 use Rattle.std.specs.Str.{bytes_eq}
-use Rattle.ion_text.specs.Names.{Action, Catalog, Given, Known, Left, LexesTo, Limits, Mark, Mode, Next, Outcome, Place, Placed, Refused, TokenKind, acts, blob_ends, blob_of, cut, feed, follow, go_to, initial, past, scan as run}
+use Rattle.ion_text.specs.Names.{Action, Catalog, Given, Known, Left, LexesTo, Limits, Mark, Mode, Next, Outcome, Place, Placed, TokenKind, acts, blob_ends, blob_of, cut, feed, follow, initial, scan as run}
 use Rattle.ion_tokens.specs.machine.Table.{next}
 use Rattle.ion_tokens.specs.laws.ByRows.{by_rows_where}
 use Rattle.ion_tokens.proofs.complete.Found.{FindsUpTo, Gives, Last, Leaves, Nothing, Unclosed, in_word}
@@ -43,12 +44,7 @@ acts_there p s o (Action.Refuse e) h = tt
 acts_there p s o (Action.Before kind k m) h = tt
 acts_there p s o (Action.Split n) h = tt
 acts_there p s o Action.EndBlob h = blob_there s (blob_of s.kept)
-acts_there p s o Action.EndWord h = go ((o == 46) && bytes_eq s.kept (codes "null"))
-  where
-    go : (a : Bool) → EndsThere (if a then Next (go_to s Mode.KindName []) else Left (cut s TokenKind.Word s.kept s.used)
-        (past p TokenKind.Word Mode.Blank [] s.used s.used))
-    go true = tt
-    go false = tt
+acts_there p s o Action.EndWord h = cond_both ((o == 46) && bytes_eq s.kept (codes "null")) _ _ EndsThere (λ e. tt) (λ e. tt)
 
 pub ends_there : (p : Place) (s : Known) (o : ℕ) → EndsThere (feed p s o)
 ends_there p s o = acts_there p s o (next p s.colon s.mode o) (by_rows_where (λ m. true) (λ sexp m. gives_shown) (λ c t. refl) p s.colon s.mode o refl)
@@ -107,8 +103,7 @@ module _ (ByOctet ByEnd : Type 0) (Rest : Known → List ℕ → Type 0) where
           let u = given_one t.place o s s' t.lexeme (f ∙ h) in
           let none : os ≡ [] = no_more os (omega (arith, u, n)) in
           subst (λ y. S s (o ∷ y ++ rest) (t ∷ ts)) (sym none) (q s o (f ∙ h))
-      go (Left x k) f h more = absurd cc
-      go (Refused i x) f h more = absurd cc
+      go _ f h more = absurd cc
 
   -- up to the octet before which it ended
   pub left_sees : (os : List ℕ) (x : ℕ) (rest : List ℕ) (s s' : Known) (t : Placed) (ts : List Placed) → run t.place (os ++ x ∷ []) s ≡ Left t.lexeme s'
@@ -117,9 +112,7 @@ module _ (ByOctet ByEnd : Type 0) (Rest : Known → List ℕ → Type 0) where
     where
       go : (y : Outcome) → feed t.place s x ≡ y → follow y (λ k. Next k) ≡ Left t.lexeme s' → S s (x ∷ rest) (t ∷ ts)
       go (Left l k) f h = q s (f ∙ h)
-      go (Next k) f h = absurd cc
-      go (Given l k) f h = absurd cc
-      go (Refused i l) f h = absurd cc
+      go _ f h = absurd cc
   left_sees (o ∷ os) x rest s s' t ts e n q = go (feed t.place s o) refl e (λ k i m. left_sees os x rest k s' t ts i m q)
     where
       go : (y : Outcome) → feed t.place s o ≡ y → follow y (λ k. run t.place (os ++ x ∷ []) k) ≡ Left t.lexeme s'
@@ -127,8 +120,7 @@ module _ (ByOctet ByEnd : Type 0) (Rest : Known → List ℕ → Type 0) where
           → S s (o ∷ os ++ x ∷ rest) (t ∷ ts)
       go (Next k) f h more = sees_on s o (os ++ x ∷ rest) t ts k f (more k h (let u = feed_used t.place s k o f in omega (arith, u, n)))
       go (Left l k) f h more = let u = left_one t.place o s s' t.lexeme (f ∙ h) in absurd (omega (arith, u, n))
-      go (Given l k) f h more = absurd cc
-      go (Refused i l) f h more = absurd cc
+      go _ f h more = absurd cc
 
 -- 4. The tokens of a row.
 

@@ -1,20 +1,18 @@
 -- Tokens that are read lead the reader to where the next one is looked for; and where the last of them has ended, it isn't open still.
 use Rattle.std.proofs.Common.{◌≡◌, ℕ, Bool, true, false, ◌&&◌, List, [], ◌∷◌, ◌++◌, length, refl, sym, ap, ◌∙◌, subst, append-nil, Ok, Some, ◌⊎◌, inl, inr}
-use Rattle.ion_text.specs.Names.{Catalog, Field, Frame, Given, IsBody, Known, Left, Limits, Mark, Next, Now, Pieces, Place, Placed, Reading, Slot, Symbols, TokenKind, Value, adds_values, at, at_end, begins_as_long, done, ends_long, fresh, goes, is_fresh, on_turn, place, place_in, reads, said_body, scan as run, settle, system_slots}
+use Rattle.std.proofs.lemmas.Bool.{false_from_ne_true}
+use Rattle.ion_text.specs.Names.{Catalog, Field, Frame, Given, Known, Left, Limits, Next, Now, Pieces, Place, Placed, Reading, Slot, Symbols, TokenKind, Value, at, at_end, begins_as_long, done, ends_long, fresh, goes, is_fresh, on_turn, place, place_in, reads, scan as run, settle, system_slots}
 use Rattle.ion_tokens.proofs.complete.Found.{Gives, Last, Leaves, Unclosed}
 use Rattle.ion_text.specs.machine.TokenLists.{walked}
-use Rattle.ion_text.specs.laws.reading.complete.Complete.{Begins, starts}
+use Rattle.ion_text.specs.laws.reading.complete.Complete.{starts}
 use Rattle.ion_text.specs.laws.reading.complete.Found.{next_is}
-use Rattle.ion_text.specs.laws.reading.complete.Going.{mark_kind, says_so}
-use Rattle.ion_text.specs.laws.reading.complete.Pieces.{more_read, pieces_read, top_now, walked_now}
+use Rattle.ion_text.specs.laws.reading.complete.Pieces.{pieces_read, top_now, walked_now}
 use Rattle.ion_text.specs.laws.reading.sound.Admits.{fresh_empty}
 use Rattle.ion_text.specs.laws.reading.sound.Depths.{Deep}
 use Rattle.ion_text.specs.laws.reading.sound.Held.{none_open, opened_some}
 use Rattle.ion_text.specs.laws.reading.sound.StandsOpen.{NowStands, Opened}
 use Rattle.ion_text.specs.laws.showing.tokens.Compare.{Found', alone}
-use Rattle.ion_text.specs.laws.showing.tokens.Firsts.{now_first, opens_item}
-use Rattle.ion_text.specs.laws.showing.tokens.Stays.{Arrived, arrived, opened_read}
-use Rattle.ion_text.specs.laws.showing.tokens.Walks.{walking_said}
+use Rattle.ion_text.specs.laws.showing.tokens.Stays.{Arrived, arrived, item_read, opened_read}
 
 -- nothing is asked of the scanner and the octets
 abbrev pub Any : Known → List ℕ → Type 0
@@ -95,35 +93,8 @@ module _ (g : Catalog) (l : Limits) where
   -- The tokens of an open item are read.
   pub item_arrived : (c : List Slot) (fs : List Frame) (ss : Symbols) (now : Now) (x : Placed) (xs : List Placed) → Deep l.depth fs
       → NowStands c fs ss (x ∷ xs) now → Arrived g l c fs ss now (x ∷ xs)
-  item_arrived c fs ss now x xs deep d = arrived g l c fs ss now (x ∷ xs) deep d (new (is_fresh (at 0 c fs ss now)) refl)
-    where
-      new : (b : Bool) → is_fresh (at 0 c fs ss now) ≡ b → b ≡ false
-      new false e = refl
-      new true e = absurd (let n : x ∷ xs ≡ [] = fresh_empty 0 c fs ss now (x ∷ xs) e d in cc)
-
-  -- and those of pieces before it
-  pub item_read : (c : List Slot) (front : List Placed) (vs : List Value) (fs : List Frame) (ss : Symbols) (now : Now) (x : Placed) (xs : List Placed)
-      → Pieces g l front vs c → NowStands c fs ss (x ∷ xs) now → (ends_long front && begins_as_long (x ∷ xs)) ≡ false
-      → (a : Arrived g l c fs ss now (x ∷ xs)) → reads g l origin (front ++ x ∷ xs) ≡ walked (vs ++ []) a.r
-  item_read c front vs fs ss now x xs pieces d apart a = more_read g l front (x ∷ xs) vs c (pieces_read g l front vs c pieces) first apart
-      ∙ ap (adds_values vs) a.read
-    where
-      first : Begins g l Place.Top (x ∷ xs)
-      first =
-          let q = walking_said g l (fresh c) x xs (record { vs = []; n = a.r; read = a.read }) in
-          let opens : opens_item x.lexeme.kind ≡ true = now_first c fs ss now (x ∷ xs) d in
-          record {
-            first = x;
-            later = xs;
-            said = q.1;
-            cut = refl;
-            says = says_so g l (fresh c) x q.1 q.0 q.2;
-            no_colons = λ e.
-                let kind = mark_kind x.lexeme.kind x.lexeme.octets Mark.Colons
-                (subst (λ y. IsBody x.lexeme.kind x.lexeme.octets (Ok y)) e (said_body x.lexeme.kind x.lexeme.octets q.1 q.2)) in
-                let n : false ≡ true = sym (ap opens_item kind) ∙ opens in
-                cc;
-          }
+  item_arrived c fs ss now x xs deep d = arrived g l c fs ss now (x ∷ xs) deep d (false_from_ne_true (is_fresh (at 0 c fs ss now))
+      (λ e. let n : x ∷ xs ≡ [] = fresh_empty 0 c fs ss now (x ∷ xs) e d in cc))
 
   -- The tokens of pieces and of an open item are read.
   pub stands_read : (c : List Slot) (front : List Placed) (vs : List Value) (fs : List Frame) (ss : Symbols) (now : Now) (item : List Placed)
@@ -141,7 +112,7 @@ module _ (g : Catalog) (l : Limits) where
       }
   stands_read c front vs fs ss now (x ∷ xs) pieces deep d apart =
       let a = item_arrived c fs ss now x xs deep d in
-      record { values = vs ++ []; now = a.r; read = item_read c front vs fs ss now x xs pieces d apart a; here = a.here }
+      record { values = vs ++ []; now = a.r; read = item_read g l c front vs fs ss now (x ∷ xs) tt pieces d apart a; here = a.here }
 
   -- behind the tokens the reader comes to this, once it has settled what waits
   abbrev pub SettlesTo : List Placed → Reading → Type 0
@@ -151,7 +122,7 @@ module _ (g : Catalog) (l : Limits) where
       (m : Reading) → Pieces g l front vs c → NowStands c fs ss (x ∷ xs) now → (ends_long front && begins_as_long (x ∷ xs)) ≡ false
       → (a : Arrived g l c fs ss now (x ∷ xs)) → settle g l a.r ≡ goes m → SettlesTo (front ++ x ∷ xs) m
   item_settles c front vs fs ss now x xs m pieces d apart a e ws n read =
-      let same = walked_now g l (vs ++ []) ws a.r n (sym (item_read c front vs fs ss now x xs pieces d apart a) ∙ read) in
+      let same = walked_now g l (vs ++ []) ws a.r n (sym (item_read g l c front vs fs ss now (x ∷ xs) tt pieces d apart a) ∙ read) in
       ([], ap (λ k. on_turn (settle g l k) done) (sym same.1) ∙ ap (λ y. on_turn y done) e)
 
   -- where a value may come

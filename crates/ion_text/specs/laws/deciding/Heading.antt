@@ -28,9 +28,7 @@ joins_none top (Now.LongName w) x c a = go c a
     go (Long v) a = absurd (a.long v refl)
     go _ a = refl
 joins_none top Now.Ready x c a = refl
-joins_none top Now.After x c a = refl
-joins_none top Now.Name x c a = refl
-joins_none top (Now.Keyed k) x c a = refl
+joins_none top _ x c a = refl
 
 -- What is so where no token is left, and whether the last token is refused for the reason, or none is.
 module _ (g : Catalog) (l : Limits) (e : Reason) (Done : Reading → Type 0) (Refused : Type 0) where
@@ -83,8 +81,7 @@ module _ (g : Catalog) (l : Limits) (e : Reason) (Done : Reading → Type 0) (Re
           → on_turn x (λ k. reads g l k front) ≡ walked ws n → Turned x (front ++ rest)
       turned more (goes m) ws j = more m ws j
       turned more (gives v m) ws j = let a = adds_is g l (v ∷ []) ws n (reads g l m front) j in more m a.0 a.1
-      turned more (refuses f) ws j = absurd cc
-      turned more (late f m) ws j = absurd cc
+      turned more _ ws j = absurd cc
 
       from : ((m : Reading) (ws : List Value) → reads g l m front ≡ walked ws n → Heads m (front ++ rest)) → (k : Reading) → place k ≡ place r
           → Direct g l k (token_of t.lexeme p.1) → (ws : List Value) → reads g l k (t ∷ front) ≡ walked ws n
@@ -106,8 +103,7 @@ module _ (g : Catalog) (l : Limits) (e : Reason) (Done : Reading → Type 0) (Re
               → Leading g l (λ k. settle g l k ≡ goes k) x → TurnsTo (λ k. Turned (turn g l k (token_of t.lexeme p.1)) (front ++ rest)) ⊥ x
           by (goes k) j a b = from more k a.0 (inr b) vs j
           by (gives v k) j a b = let x = adds_is g l (v ∷ []) vs n (reads g l k (t ∷ front)) j in from more k a.0 (inr b) x.0 x.1
-          by (refuses f) j a b = absurd cc
-          by (late f k) j a b = absurd cc
+          by _ j a b = absurd cc
 
 module _ (g : Catalog) (l : Limits) (e : Reason) where
   -- nothing is to be done behind a token that is refused
@@ -115,10 +111,9 @@ module _ (g : Catalog) (l : Limits) (e : Reason) where
   Never r = ⊥
 
   refusing_turned : (x : Turn) → Refusing e x → Turned g l e Never (Unit {0}) x []
-  refusing_turned (refuses f) h = (tt, h)
-  refusing_turned (late f r) h = (tt, h)
   refusing_turned (goes r) h = absurd h
   refusing_turned (gives v r) h = absurd h
+  refusing_turned _ h = (tt, h)
 
   -- The tokens up to one that is refused lead there.
   pub refused_heads : (front : List Placed) (t : Placed) → Came g l front t.place → Why g l front t e
@@ -141,8 +136,7 @@ module _ (g : Catalog) (l : Limits) (e : Reason) where
               ⊥ x
           settled (goes k) i = at k (walked_now g l [] s.0 k m i).1
           settled (gives v k) i = at k (walked_now g l (v ∷ []) s.0 k m i).1
-          settled (refuses f) i = absurd cc
-          settled (late f k) i = absurd cc
+          settled _ i = absurd cc
 
           direct : Direct g l came.now (token_of t.lexeme c) → Turned g l e Never (Unit {0}) (turn g l came.now (token_of t.lexeme c)) []
           direct (inl w) = absurd (let n : true ≡ false = sym w ∙ joins_none (is_top came.now.frames) came.now.now t.lexeme c apart in cc)

@@ -1,7 +1,8 @@
 -- An octet for which a reason is late is read on, and refused there for no reason that rows have.
 use Rattle.std.proofs.Common.{◌≡◌, ℕ, zero, suc, ◌+◌, ◌≤◌, nat_le, nat_lt, List, [], ◌∷◌, ◌++◌, length, Bool, true, false, ◌&&◌, not, Result, Ok, Err, Option, Some, None, refl, sym, ap, ◌∙◌, subst, arith, if◌then◌else◌, inl, inr}
+use Rattle.std.proofs.lemmas.Bool.{cond_both}
 use Rattle.std.proofs.lemmas.Bool.Decides.{nat_tests}
-use Rattle.ion_text.specs.Names.{Blob, Bracket, Catalog, Clob, Content, Effect, Frame, Given, HasRow, Held, Id, IsBody, IsUsed, IsWordBody, Kind, Known, Left, Lexeme, Limits, Listing, Long, Mark, Mark', Next, Now, Number', Operator, Outcome, Payload, Place, Quoted, Reading, ReadsNumber, Reason, Refused, Setting, Short, Slot, Spot, State, Symbols, Token, TokenKind, Turn, TypedNull, Value, Word, annotated, at, bare_close, begun_at, behind_given, behind_left, beyond_depth, closed, deeper, ended, fails, feed, field_of, first_now, follow, fresh, gives, goes, held_symbol, id_of, is_idle, is_keyword, is_table, keyed, kind_named, late, named, next, noted, noticed, null_of, number_payload, on_after, on_comma, on_keyed, on_long, on_long_name, on_name, on_pending, on_ready, on_said, on_scan, on_settled, opened, opening, place, reaches, refuses, resolve, resolved, said, said_body, says, settle, shut, spot_at, spot_in, takes, token_of, turn, turn_now, turned, under, unsettled, uses, with_scan, within}
+use Rattle.ion_text.specs.Names.{Blob, Bracket, Catalog, Clob, Content, Effect, Frame, Given, HasRow, Held, Id, IsBody, IsUsed, IsWordBody, Kind, Known, Left, Lexeme, Limits, Listing, Long, Mark, Mark', Next, Now, Number', Operator, Outcome, Payload, Place, Quoted, Reading, ReadsNumber, Reason, Refused, Setting, Short, Slot, Spot, State, Symbols, Token, TokenKind, Turn, TypedNull, Value, Word, annotated, at, bare_close, begun_at, behind_given, behind_left, beyond_depth, closed, deeper, ended, fails, feed, field_of, first_now, follow, fresh, gives, goes, held_symbol, id_of, is_idle, is_keyword, is_table, keyed, kind_named, late, named, next, noted, noticed, null_of, number_payload, on_after, on_comma, on_keyed, on_long, on_long_name, on_name, on_pending, on_ready, on_said, on_scan, on_settled, opened, opening, place, reaches, refuses, resolve, resolved, said, said_body, says, settle, shut, spot_at, spot_in, takes, token_of, turn, turn_now, turned, under, unsettled, with_scan, within}
 use Rattle.ion_model.specs.declared.value.Payload.TheVariants as payloads
 use Rattle.ion_tokens.proofs.bounds.Causes.{IsFair, run_fair}
 use Rattle.ion_tokens.proofs.bounds.Fits.{is_octet_reason}
@@ -57,13 +58,10 @@ body_rowless : (k : TokenKind) (octets : List ℕ) (e : Reason) → IsBody k oct
 body_rowless TokenKind.Word octets e h = word_rowless octets (id_of octets) e h
 body_rowless TokenKind.KindName octets e h = null_rowless (kind_named octets) e h
 body_rowless TokenKind.Number octets e h = number_rowless octets e h
-body_rowless TokenKind.Operator octets e h = λ i. subst HasRow h.0 i
-body_rowless TokenKind.QuotedSymbol octets e h = λ i. subst HasRow h.0 i
-body_rowless TokenKind.ShortString octets e h = λ i. subst HasRow h.0 i
-body_rowless TokenKind.LongString octets e h = λ i. subst HasRow h.0 i
 body_rowless TokenKind.Clob octets e h = absurd cc
 body_rowless TokenKind.Blob octets e h = absurd cc
 body_rowless (TokenKind.Mark m) octets e h = absurd cc
+body_rowless _ octets e h = λ i. subst HasRow h.0 i
 
 -- what a token that says nothing is refused for
 pub said_rowless : (k : TokenKind) (octets : List ℕ) (e : Reason) → said k octets ≡ Err e → HasRow e → ⊥
@@ -78,12 +76,8 @@ NotLate _ = Unit {0}
 
 -- an octet that ends no token is refused for no reason that rows have
 pub noticed_quiet : (l : Limits) (r : Reading) (s : Known) → NotLate (noticed l r s)
-noticed_quiet l r s = go (shut r.now && not (is_idle s.mode)) (nat_le (reaches r.frames r s) l.item)
-  where
-    go : (a b : Bool) → NotLate (if a then fails Reason.Unexpected else (if b then uses (record { scan = s; reading = r }) else fails Reason.ItemTooLong))
-    go true b = λ i. i
-    go false true = tt
-    go false false = λ i. i
+noticed_quiet l r s = cond_both (shut r.now && not (is_idle s.mode)) _ _ NotLate (λ e i. i)
+    (λ e. cond_both (nat_le (reaches r.frames r s) l.item) _ _ NotLate (λ k. tt) (λ k i. i))
 
 pub said_quiet : (k : TokenKind) (octets : List ℕ) (f : Content → Effect) → ((c : Content) → said k octets ≡ Ok c → NotLate (f c))
     → NotLate (on_said (said k octets) f)
@@ -110,11 +104,7 @@ TurnLate P _ = Unit {0}
 
 -- the limit on items doesn't change what a late reason goes on with
 pub within_late : (P : Reading → Type 0) (item start end : ℕ) (t : Turn) → TurnLate P t → TurnLate P (within item start end t)
-within_late P item start end t h = go (nat_le end (start + item))
-  where
-    go : (b : Bool) → TurnLate P (if b then t else refuses Reason.ItemTooLong)
-    go true = h
-    go false = tt
+within_late P item start end t h = cond_both (nat_le end (start + item)) t (refuses Reason.ItemTooLong) (TurnLate P) (λ e. h) (λ e. tt)
 
 top_late : (P : Reading → Type 0) (item start end : ℕ) (c : List Slot) (v : Value) (d : Result (List Slot) Reason) (b : Bool)
     → TurnLate P (if b then turned item start end d else within item start end (gives v (fresh c)))
@@ -125,9 +115,8 @@ top_late P item start end c v d false = within_late P item start end (gives v (f
 -- where a value ends, no reason is late
 pub ended_late : (P : Reading → Type 0) (setting : Setting) (spot : Spot) (fs : List Frame) (v : Value) → TurnLate P (ended setting spot fs v)
 ended_late P setting spot [] v = top_late P setting.limits.item spot.start spot.end spot.context v (next spot.context v setting.catalog) (is_table v)
-ended_late P setting spot (Frame.Items listing ss vs ∷ fs) v = tt
-ended_late P setting spot (Frame.Named ss ms s ∷ fs) v = tt
 ended_late P setting spot (Frame.Fields ss ms ∷ fs) v = tt
+ended_late P setting spot _ v = tt
 
 resolved_late : (P : Reading → Type 0) (r : Result (Option (List ℕ)) Reason) (f : Option (List ℕ) → Turn) → ((s : Option (List ℕ)) → TurnLate P (f s))
     → TurnLate P (resolved r f)
@@ -144,11 +133,7 @@ closed_late P setting spot bracket fs = by bracket fs (closes_or_not bracket fs)
     by _ _ (ends_none bracket fs e) = subst (TurnLate P) (sym (e setting spot)) tt
 
 deeper_late : (P : Reading → Type 0) (depth : ℕ) (fs : List Frame) (t deep : Turn) → TurnLate P t → TurnLate P deep → TurnLate P (deeper depth fs t deep)
-deeper_late P depth fs t deep h k = go (nat_lt (length fs) depth)
-  where
-    go : (b : Bool) → TurnLate P (if b then t else deep)
-    go true = h
-    go false = k
+deeper_late P depth fs t deep h k = cond_both (nat_lt (length fs) depth) t deep (TurnLate P) (λ e. h) (λ e. k)
 
 bare_late : (P : Reading → Type 0) (ss : Symbols) (t : Turn) → TurnLate P t → TurnLate P (bare_close ss t)
 bare_late P [] t h = h
@@ -174,18 +159,13 @@ module _ (g : Catalog) (l : Limits) where
   ready_late spot fs ss (Blob w) = ended_late (LateAs (Blob w)) (under g l) spot fs _
   ready_late spot fs ss (Mark' Mark.ListOpen) = deeper_late (LateAs (Mark' Mark.ListOpen)) l.depth fs _ _ tt tt
   ready_late spot fs ss (Mark' Mark.SexpOpen) = deeper_late (LateAs (Mark' Mark.SexpOpen)) l.depth fs _ _ tt tt
-  ready_late spot fs ss (Mark' Mark.FieldsOpen) = go (nat_lt (length fs) l.depth) refl
+  ready_late spot fs ss (Mark' Mark.FieldsOpen) =
+      cond_both (nat_lt (length fs) l.depth) _ _ (TurnLate (LateAs (Mark' Mark.FieldsOpen))) (λ e. tt) (λ e. inside fs e)
     where
       inside : (fs : List Frame) → nat_lt (length fs) l.depth ≡ false
           → LateAs (Mark' Mark.FieldsOpen) (at spot.start spot.context (Frame.Fields ss [] ∷ fs) [] Now.Name)
       inside [] e = absurd (let n : true ≡ false = sym some_level ∙ e in cc)
       inside (f ∷ fs) e = in_struct tt spot.start spot.context ss f fs
-
-      go : (b : Bool) → nat_lt (length fs) l.depth ≡ b → TurnLate (LateAs (Mark' Mark.FieldsOpen))
-          (if b then goes (at spot.start spot.context (Frame.Fields ss [] ∷ fs) [] Now.Name) else late Reason.Depth
-          (at spot.start spot.context (Frame.Fields ss [] ∷ fs) [] Now.Name))
-      go true e = tt
-      go false e = inside fs e
   ready_late spot fs ss (Mark' Mark.ListClose) = bare_late (LateAs (Mark' Mark.ListClose)) ss _
       (closed_late (LateAs (Mark' Mark.ListClose)) (under g l) spot Bracket.List fs)
   ready_late spot fs ss (Mark' Mark.SexpClose) = bare_late (LateAs (Mark' Mark.SexpClose)) ss _
@@ -199,10 +179,7 @@ module _ (g : Catalog) (l : Limits) where
 
   comma_late : (x : Content) (start : ℕ) (c : List Slot) (fs : List Frame) → TurnLate (LateAs x) (on_comma start c fs)
   comma_late x start c (Frame.Items Listing.List ss vs ∷ fs) = tt
-  comma_late x start c (Frame.Fields ss ms ∷ fs) = tt
-  comma_late x start c (Frame.Items Listing.Sexp ss vs ∷ fs) = tt
-  comma_late x start c (Frame.Named ss ms s ∷ fs) = tt
-  comma_late x start c [] = tt
+  comma_late x start c _ = tt
 
   after_late : (spot : Spot) (fs : List Frame) (x : Content) → TurnLate (LateAs x) (on_after (under g l) spot fs x)
   after_late spot fs (Mark' Mark.Comma) = comma_late (Mark' Mark.Comma) spot.start spot.context fs
@@ -211,12 +188,7 @@ module _ (g : Catalog) (l : Limits) where
   after_late spot fs _ = tt
 
   name_late : (spot : Spot) (fs : List Frame) (x : Content) → TurnLate (LateAs x) (on_name (under g l) spot fs x)
-  name_late spot fs (Word w) = go (is_keyword w)
-    where
-      go : (b : Bool) → TurnLate (LateAs (Word w)) (if b then late Reason.KeywordAsName (keyed spot.start spot.context fs (Some w)) else goes
-          (keyed spot.start spot.context fs (Some w)))
-      go true = behind_name tt spot.start spot.context fs [] (Some w)
-      go false = tt
+  name_late spot fs (Word w) = cond_both (is_keyword w) _ _ (TurnLate (LateAs (Word w))) (λ e. behind_name tt spot.start spot.context fs [] (Some w)) (λ e. tt)
   name_late spot fs (TypedNull k) = behind_name tt spot.start spot.context fs [] None
   name_late spot fs (Id id) = resolved_late (LateAs (Id id)) (resolve spot.context id) _ (λ s. tt)
   name_late spot fs (Mark' Mark.FieldsClose) = closed_late (LateAs (Mark' Mark.FieldsClose)) (under g l) spot Bracket.Fields fs
@@ -224,9 +196,7 @@ module _ (g : Catalog) (l : Limits) where
 
   named_late : (x : Content) (start : ℕ) (c : List Slot) (fs : List Frame) (s : Option (List ℕ)) → TurnLate (LateAs x) (named start c fs s)
   named_late x start c (Frame.Fields ss ms ∷ fs) s = tt
-  named_late x start c (Frame.Items listing ss vs ∷ fs) s = tt
-  named_late x start c (Frame.Named ss ms y ∷ fs) s = tt
-  named_late x start c [] s = tt
+  named_late x start c _ s = tt
 
   pending_late : (start : ℕ) (c : List Slot) (fs : List Frame) (ss : Symbols) (h : Held) (x : Content) → TurnLate (LateAs x) (on_pending start c fs ss h x)
   pending_late start c fs ss h (Mark' Mark.Colons) = noted_late start c fs ss (held_symbol h)
@@ -272,17 +242,12 @@ module _ (g : Catalog) (l : Limits) where
   -- where nothing waits
   still_quiet : (again : State → Effect) (m : State) (x : Outcome) → settle g l m.reading ≡ goes m.reading → NotLate (on_scan g l again m.reading x)
       → NotLate (if unsettled m.scan m.reading x then on_scan g l again m.reading x else on_settled g l again m.scan x (settle g l m.reading))
-  still_quiet again m x e h = go (unsettled m.scan m.reading x)
-    where
-      go : (b : Bool) → NotLate (if b then on_scan g l again m.reading x else on_settled g l again m.scan x (settle g l m.reading))
-      go true = h
-      go false = subst (λ t. NotLate (on_settled g l again m.scan x t)) (sym e) h
+  still_quiet again m x e h =
+      cond_both (unsettled m.scan m.reading x) _ _ NotLate (λ k. h) (λ k. subst (λ t. NotLate (on_settled g l again m.scan x t)) (sym e) h)
 
   named_quiet : (t : Known) (start : ℕ) (c : List Slot) (fs : List Frame) (s : Option (List ℕ)) → NotLate (behind_given l t (named start c fs s))
   named_quiet t start c (Frame.Fields ss ms ∷ fs) s = noticed_quiet l (at start c (Frame.Named ss ms s ∷ fs) [] Now.Ready) t
-  named_quiet t start c (Frame.Items listing ss vs ∷ fs) s = λ i. i
-  named_quiet t start c (Frame.Named ss ms y ∷ fs) s = λ i. i
-  named_quiet t start c [] s = λ i. i
+  named_quiet t start c _ s = λ i. i
 
   keyed_given : (t : Known) (start : ℕ) (c : List Slot) (fs : List Frame) (s : Option (List ℕ)) (x : Content)
       → NotLate (behind_given l t (on_keyed start c fs s x))
@@ -343,11 +308,7 @@ module _ (g : Catalog) (l : Limits) where
 
   fresh_ended : (t : Known) (start end : ℕ) (c : List Slot) (q : Payload)
       → NotLate (behind_given l t (ended (under g l) (spot_at end start c) [] (annotated [] q)))
-  fresh_ended t start end c q = go (nat_le end (start + l.item))
-    where
-      go : (b : Bool) → NotLate (behind_given l t (if b then gives (annotated [] q) (fresh c) else refuses Reason.ItemTooLong))
-      go true = tt
-      go false = λ i. i
+  fresh_ended t start end c q = cond_both (nat_le end (start + l.item)) _ _ (λ x. NotLate (behind_given l t x)) (λ e. tt) (λ e i. i)
 
   fresh_open : (t : Known) (start : ℕ) (c : List Slot) (bracket : Bracket) → NotLate (behind_given l t (opening bracket l.depth start c [] []))
   fresh_open t start c bracket = subst (λ b. NotLate (behind_given l t (if b then goes inside else beyond_depth bracket inside))) (sym some_level)
@@ -358,9 +319,6 @@ module _ (g : Catalog) (l : Limits) where
 
   fresh_given : (t : Known) (start end : ℕ) (c : List Slot) (x : Content) → (BareSaid x → ⊥)
       → NotLate (behind_given l t (on_ready (under g l) (spot_at end start c) [] [] x))
-  fresh_given t start end c (Word w) n = absurd (n tt)
-  fresh_given t start end c (Id id) n = absurd (n tt)
-  fresh_given t start end c (TypedNull k) n = absurd (n tt)
   fresh_given t start end c (Quoted w) n = noticed_quiet l (at start c [] [] (Now.Pending (Held.Symbol (Some w)) end)) t
   fresh_given t start end c (Long w) n = noticed_quiet l (at start c [] [] (Now.Long w end)) t
   fresh_given t start end c (Short w) n = fresh_ended t start end c (payloads.Str w)
@@ -372,6 +330,7 @@ module _ (g : Catalog) (l : Limits) where
   fresh_given t start end c (Mark' Mark.SexpOpen) n = fresh_open t start c Bracket.Sexp
   fresh_given t start end c (Mark' Mark.FieldsOpen) n = absurd (n tt)
   fresh_given t start end c (Mark' _) n = λ i. i
+  fresh_given t start end c _ n = absurd (n tt)
 
   -- Behind such a marker no reason of rows comes of the octet that shows that it is no annotation.
   pub version_quiet : (again : State → Effect) (s : Known) (o : ℕ) (c : List Slot) → is_idle s.mode ≡ true → GivesNoBare Place.Top s o → (x : Outcome)

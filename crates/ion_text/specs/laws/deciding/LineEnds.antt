@@ -1,8 +1,9 @@
 -- What the scanner meets in octets with the end of a line behind them it meets in the octets, and the last token at their end.
-use Rattle.std.proofs.Common.{◌≡◌, ℕ, ◌-◌, ◌<◌, ◌==◌, Bool, true, false, ◌&&◌, ◌||◌, not, List, [], ◌∷◌, ◌++◌, length, take, Ok, Option, Some, None, refl, sym, ap, ◌∙◌, subst, length-append, arith, if◌then◌else◌, codes}
+use Rattle.std.proofs.Common.{◌≡◌, ℕ, ◌-◌, ◌<◌, ◌==◌, Bool, true, false, ◌&&◌, ◌||◌, not, List, [], ◌∷◌, ◌++◌, length, take, Ok, Option, Some, None, refl, sym, ap, ◌∙◌, subst, length-append, arith, codes}
+use Rattle.std.proofs.lemmas.Bool.{cond_both}
 use Rattle.std.proofs.lemmas.List.{append_cancel_right}
 use Rattle.std.specs.Str.{bytes_eq}
-use Rattle.ion_text.specs.Names.{Action, Known, LeavesIn, Left, LeftIn, Lexeme, Mark, Mode, Next, Outcome, Place, Placed, TokenKind, acts, at_end, blob_ends, blob_of, cut, end_of, ends_at, feed, go_to, line_feed, past}
+use Rattle.ion_text.specs.Names.{Action, Known, LeavesIn, Left, LeftIn, Lexeme, Mark, Mode, Next, Outcome, Place, Placed, TokenKind, acts, at_end, blob_ends, blob_of, cut, end_of, ends_at, feed, line_feed, past}
 use Rattle.ion_tokens.specs.machine.Table.{next}
 use Rattle.ion_tokens.specs.laws.Again.{feed_leaves, word_leaves}
 use Rattle.ion_tokens.specs.laws.ByRows.{by_rows_where}
@@ -44,11 +45,9 @@ acts_other p s o (Action.Before TokenKind.KindName k m) h = absurd cc
 acts_other p s o (Action.Before (TokenKind.Mark Mark.FieldsOpen) k m) h = absurd cc
 acts_other p s o (Action.Before _ k m) h = λ b. b
 acts_other p s o (Action.Split n) h = λ b. b
-acts_other p s o (Action.Go m k) h = tt
-acts_other p s o (Action.Give kind k) h = tt
-acts_other p s o (Action.Refuse e) h = tt
-acts_other p s o Action.EndBlob h = blob_other s (blob_of s.kept)
 acts_other p s o Action.EndWord h = absurd cc
+acts_other p s o Action.EndBlob h = blob_other s (blob_of s.kept)
+acts_other p s o _ h = tt
 
 other_left : (p : Place) (s : Known) (o : ℕ) → not (is_bare s.mode) ≡ true → LeavesOther (feed p s o)
 other_left p s o h = acts_other p s o (next p s.colon s.mode o)
@@ -101,12 +100,7 @@ acts_letters p s o (Action.Go m k) h = tt
 acts_letters p s o (Action.Give kind k) h = tt
 acts_letters p s o (Action.Refuse e) h = tt
 acts_letters p s o Action.EndBlob h = blob_letters s (blob_of s.kept)
-acts_letters p s o Action.EndWord h = go ((o == 46) && bytes_eq s.kept (codes "null"))
-  where
-    go : (b : Bool) → LeavesLetters (if b then Next (go_to s Mode.KindName []) else Left (cut s TokenKind.Word s.kept s.used)
-        (past p TokenKind.Word Mode.Blank [] s.used s.used))
-    go true = tt
-    go false = λ e. absurd cc
+acts_letters p s o Action.EndWord h = cond_both ((o == 46) && bytes_eq s.kept (codes "null")) _ _ LeavesLetters (λ i. tt) (λ i e. absurd cc)
 
 letters_left : (p : Place) (s : Known) (o : ℕ) → LeavesLetters (feed p s o)
 letters_left p s o = acts_letters p s o (next p s.colon s.mode o)

@@ -29,8 +29,7 @@ infinity_line (i ∷ n ∷ []) = go (i == lower_i) (n == lower_n)
   where
     go : (a b : Bool) → (a && (b && false)) ≡ false
     go true true = refl
-    go true false = refl
-    go false b = refl
+    go _ _ = refl
 infinity_line (i ∷ n ∷ f ∷ r) = ap (λ b. (i == lower_i) && ((n == lower_n) && ((f == lower_f) && not b))) (begins_line is_word_octet r refl)
 
 stop_line : (r : List ℕ) → begins is_stop r ≡ true → begins is_stop (r ++ line) ≡ true
@@ -70,11 +69,8 @@ lexeme_line p colon w r TokenKind.Operator kept (a, b, n) = (
     by (inl h) = inl (begins_line is_operator_octet r refl ∙ h)
     by (inr h) = inr (comment_line r ∙ h)
 lexeme_line p colon w r TokenKind.QuotedSymbol kept (c, q, e, h) = (c, q, e, λ i. begins_line (λ o. o == single_quote) r refl ∙ h i)
-lexeme_line p colon w r TokenKind.ShortString kept h = h
-lexeme_line p colon w r TokenKind.LongString kept h = h
-lexeme_line p colon w r TokenKind.Clob kept h = h
-lexeme_line p colon w r TokenKind.Blob kept h = h
 lexeme_line p colon w r (TokenKind.Mark m) kept (a, b, c, d) = (a, b, c, mark_line m r d)
+lexeme_line p colon w r _ kept h = h
 
 -- They end where they did.
 pub lexes_line : (ts : List Placed) (colon : Bool) (before : ℕ) (octets : List ℕ) (after : Bool) (end : ℕ) (rest : List ℕ)

@@ -1,7 +1,7 @@
 -- An octet that is refused for a reason that rows have is refused by one of them.
-use Rattle.std.proofs.Common.{◌≡◌, ℕ, zero, suc, ◌+◌, nat_le, nat_lt, Bool, true, false, ◌&&◌, not, List, [], ◌∷◌, ◌++◌, length, take, Result, Ok, Err, Some, refl, sym, ap, ◌∙◌, subst, append_assoc, if◌then◌else◌, ◌⊎◌, inl, inr}
-use Rattle.ion_text.specs.Names.{Catalog, Content, Continues, Decides, Effect, Frame, Given, HasRow, Held, IsBody, Known, Leading, Left, Lexeme, Limits, Mark, Mark', Next, NoColons, Now, Outcome, Place, Placed, Reading, Reason, Refusal, Refused, Run, Scanned, Slot, State, Symbols, TokenKind, Turn, Value, annotated, at, begun, behind_given, behind_left, by_octet, eats, fails, feed, fresh, gives, goes, in_segment, is_colons, is_fresh, is_idle, is_top, late, leaves, noticed, on_now, on_octet, on_said, on_scan, on_settled, once_more, or_worse, place, plain, reaches, reason_number, refuses, released, run, run_on, said, said_body, said_passes, settle, settle_same, shut, spot_at, system_slots, takes, tells, token_of, trace, turn, under, unsettled, uses, waits, waits_now, with_scan}
-use Rattle.ion_model.specs.declared.value.Payload.TheVariants as payloads
+use Rattle.std.proofs.Common.{◌≡◌, ℕ, zero, suc, ◌+◌, nat_le, nat_lt, true, false, ◌&&◌, not, List, [], ◌∷◌, ◌++◌, length, take, Result, Ok, Err, Some, refl, sym, ap, ◌∙◌, subst, append_assoc, ◌⊎◌, inl, inr}
+use Rattle.std.proofs.lemmas.Bool.{cond_both}
+use Rattle.ion_text.specs.Names.{Catalog, Content, Continues, Decides, Effect, Frame, Given, HasRow, Held, IsBody, Known, Leading, Left, Lexeme, Limits, Mark, Mark', Next, NoColons, Now, Outcome, Payload, Place, Placed, Reading, Reason, Refusal, Refused, Run, Scanned, Slot, Spot, State, Symbols, TokenKind, Turn, Value, at, begun, behind_given, behind_left, by_octet, eats, fails, feed, fresh, gives, goes, held_payload, in_segment, is_colons, is_fresh, is_idle, is_top, late, leaves, noticed, on_now, on_octet, on_said, on_scan, on_settled, once_more, or_worse, paid, place, plain, reaches, reason_number, refuses, released, run, run_on, said, said_body, said_passes, settle, settle_same, shut, spot_at, system_slots, takes, tells, token_of, trace, turn, under, unsettled, uses, waits, waits_now, with_scan}
 use Rattle.ion_tokens.proofs.runs.Scans.{placed, scanned_left}
 use Rattle.ion_text.specs.laws.deciding.Lates.{GivesNoBare, LateAs, NotLate, TurnLate, ended_late, feed_rowless, late_quiet, noticed_quiet, said_rowless, turn_late, version_quiet, within_late}
 use Rattle.ion_text.specs.laws.deciding.Shows.{BareSaid, IsBare, Shown, flag, given_bare, given_shown, left_shown, no_colons, said_bare}
@@ -30,52 +30,27 @@ module _ (g : Catalog) (l : Limits) where
   abbrev LateVersion : List Slot → List Frame → Now → Reading → Type 0
   LateVersion c fs now n = (fs ≡ []) × (n ≡ fresh c) × IsPending now
 
+  paid_late : (P : Reading → Type 0) (spot : Spot) (fs : List Frame) (ss : Symbols) (q : Result Payload Reason) → TurnLate P (paid (under g l) spot fs ss q)
+  paid_late P spot fs ss (Ok q) = ended_late P (under g l) spot fs _
+  paid_late P spot fs ss (Err e) = tt
+
   released_late : (start end : ℕ) (c : List Slot) (fs : List Frame) (ss : Symbols) (h : Held) (now : Now) → IsPending now
       → TurnLate (LateVersion c fs now) (released (under g l) (spot_at end start c) fs ss h)
   released_late start end c [] [] (Held.Version true s) now i = within_late (LateVersion c [] now) l.item start end (goes (fresh system_slots)) tt
   released_late start end c [] [] (Held.Version false s) now i = (refl, refl, i)
-  released_late start end c [] [] (Held.Symbol s) now i =
-      ended_late (LateVersion c [] now) (under g l) (spot_at end start c) [] (annotated [] (payloads.Symbol s))
-  released_late start end c [] [] (Held.Null k) now i = ended_late (LateVersion c [] now) (under g l) (spot_at end start c) [] (annotated [] (payloads.Null k))
-  released_late start end c [] [] (Held.Truth b) now i = ended_late (LateVersion c [] now) (under g l) (spot_at end start c) []
-      (annotated [] (payloads.Truth b))
   released_late start end c [] [] Held.Nan now i = tt
-  released_late start end c [] (x ∷ ss) (Held.Version b s) now i =
-      ended_late (LateVersion c [] now) (under g l) (spot_at end start c) [] (annotated (x ∷ ss) (payloads.Symbol s))
-  released_late start end c [] (x ∷ ss) (Held.Symbol s) now i =
-      ended_late (LateVersion c [] now) (under g l) (spot_at end start c) [] (annotated (x ∷ ss) (payloads.Symbol s))
-  released_late start end c [] (x ∷ ss) (Held.Null k) now i =
-      ended_late (LateVersion c [] now) (under g l) (spot_at end start c) [] (annotated (x ∷ ss) (payloads.Null k))
-  released_late start end c [] (x ∷ ss) (Held.Truth b) now i =
-      ended_late (LateVersion c [] now) (under g l) (spot_at end start c) [] (annotated (x ∷ ss) (payloads.Truth b))
-  released_late start end c [] (x ∷ ss) Held.Nan now i = tt
-  released_late start end c (f ∷ fs) ss (Held.Version b s) now i =
-      ended_late (LateVersion c (f ∷ fs) now) (under g l) (spot_at end start c) (f ∷ fs) (annotated ss (payloads.Symbol s))
-  released_late start end c (f ∷ fs) ss (Held.Symbol s) now i =
-      ended_late (LateVersion c (f ∷ fs) now) (under g l) (spot_at end start c) (f ∷ fs) (annotated ss (payloads.Symbol s))
-  released_late start end c (f ∷ fs) ss (Held.Null k) now i =
-      ended_late (LateVersion c (f ∷ fs) now) (under g l) (spot_at end start c) (f ∷ fs) (annotated ss (payloads.Null k))
-  released_late start end c (f ∷ fs) ss (Held.Truth b) now i =
-      ended_late (LateVersion c (f ∷ fs) now) (under g l) (spot_at end start c) (f ∷ fs) (annotated ss (payloads.Truth b))
-  released_late start end c (f ∷ fs) ss Held.Nan now i = tt
+  released_late start end c [] [] h now i = paid_late (LateVersion c [] now) (spot_at end start c) [] [] (held_payload h)
+  released_late start end c [] (x ∷ ss) h now i = paid_late (LateVersion c [] now) (spot_at end start c) [] (x ∷ ss) (held_payload h)
+  released_late start end c (f ∷ fs) ss h now i = paid_late (LateVersion c (f ∷ fs) now) (spot_at end start c) (f ∷ fs) ss (held_payload h)
 
   settled_late : (start : ℕ) (c : List Slot) (fs : List Frame) (ss : Symbols) (now : Now) → TurnLate (LateVersion c fs now) (settle g l (at start c fs ss now))
   settled_late start c fs ss (Now.Pending h end) = released_late start end c fs ss h (Now.Pending h end) tt
   settled_late start c fs ss (Now.Long v end) = ended_late (LateVersion c fs (Now.Long v end)) (under g l) (spot_at end start c) fs _
-  settled_late start c fs ss (Now.LongName v) = tt
-  settled_late start c fs ss Now.Ready = tt
-  settled_late start c fs ss Now.After = tt
-  settled_late start c fs ss Now.Name = tt
-  settled_late start c fs ss (Now.Keyed x) = tt
+  settled_late start c fs ss _ = tt
 
   pending_idle : (s : Known) (now : Now) → IsPending now → Waits g l s now → is_idle s.mode ≡ true
   pending_idle s (Now.Pending h end) i w = w
-  pending_idle s (Now.Long v end) i w = absurd i
-  pending_idle s (Now.LongName v) i w = absurd i
-  pending_idle s Now.Ready i w = absurd i
-  pending_idle s Now.After i w = absurd i
-  pending_idle s Now.Name i w = absurd i
-  pending_idle s (Now.Keyed x) i w = absurd i
+  pending_idle s _ i w = absurd i
 
   fresh_waits : (s : Known) (r : Reading) → is_fresh r ≡ true → Waits g l s r.now
   fresh_waits s r h = subst (Waits g l s) (sym (fresh_parts r.start r.context r.frames r.notes r.now h).2) tt
@@ -88,27 +63,16 @@ module _ (g : Catalog) (l : Limits) where
     abbrev Rows : Effect → Type 0
     Rows (fails e) = Decided g l (by_octet w) e
     Rows (leaves v m) = Waits g l m.scan m.reading.now
-    Rows (uses m) = Unit {0}
-    Rows (tells v m) = Unit {0}
+    Rows _ = Unit {0}
 
     noticed_rows : (r : Reading) (s : Known) → Rows (noticed l r s)
-    noticed_rows r s = go (shut r.now && not (is_idle s.mode)) (nat_le (reaches r.frames r s) l.item)
-      where
-        go : (a b : Bool) → Rows (if a then fails Reason.Unexpected else (if b then uses (record { scan = s; reading = r }) else fails Reason.ItemTooLong))
-        go true b = λ i. absurd i
-        go false true = tt
-        go false false = λ i. absurd i
+    noticed_rows r s = cond_both (shut r.now && not (is_idle s.mode)) _ _ Rows (λ e i. absurd i)
+        (λ e. cond_both (nat_le (reaches r.frames r s) l.item) _ _ Rows (λ k. tt) (λ k i. absurd i))
 
     -- refused late, or for a smaller reason that no row has
     worse_rows : (e : Reason) (x : Effect) → Decided g l (by_octet w) e → NotLate x → Rows (or_worse e x)
-    worse_rows e (fails f) h q = go (nat_lt (reason_number f) (reason_number e))
-      where
-        go : (b : Bool) → Decided g l (by_octet w) (if b then f else e)
-        go true = λ i. absurd (q i)
-        go false = h
-    worse_rows e (uses m) h q = h
-    worse_rows e (tells v m) h q = h
-    worse_rows e (leaves v m) h q = h
+    worse_rows e (fails f) h q = cond_both (nat_lt (reason_number f) (reason_number e)) f e (Decided g l (by_octet w)) (λ k i. absurd (q i)) (λ k. h)
+    worse_rows e _ h q = h
 
     module _ (vs : List Value) where
       abbrev Here : Known → Reading → List ℕ → Type 0
@@ -249,13 +213,9 @@ module _ (g : Catalog) (l : Limits) where
 
       octet_rows : (n : ℕ) → RowsAgain n → (s : Known) (r : Reading) (ahead : List ℕ) → Continues (o ∷ []) ahead → Here s r ahead → WaitsAtTop s r
           → Rows (on_octet g l (λ k. takes g l n k o) (with_scan s r) (feed (place r) s o))
-      octet_rows n again s r ahead next b wait = go (unsettled s r (feed (place r) s o)) refl
-        where
-          go : (y : Bool) → unsettled s r (feed (place r) s o) ≡ y
-              → Rows (if y then on_scan g l (λ k. takes g l n k o) r (feed (place r) s o) else on_settled g l (λ k. takes g l n k o) s (feed (place r) s o)
-              (settle g l r))
-          go true e = scan_rows n again s r ahead next b (feed (place r) s o) refl
-          go false e = settled_rows n again s r ahead next b wait e
+      octet_rows n again s r ahead next b wait =
+          cond_both (unsettled s r (feed (place r) s o)) _ _ Rows (λ e. scan_rows n again s r ahead next b (feed (place r) s o) refl)
+          (λ e. settled_rows n again s r ahead next b wait e)
 
       takes_rows : (n : ℕ) → RowsAgain n
       takes_rows zero s r ahead next b wait = λ i. absurd i

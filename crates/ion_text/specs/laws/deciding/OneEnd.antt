@@ -1,17 +1,16 @@
 -- The end shows one row of the table, and where it shows one no octet before does.
-use Rattle.std.proofs.Common.{◌≡◌, ℕ, false, List, [], ◌∷◌, ◌++◌, take, drop, sym, ap, ◌∙◌, subst, append_assoc, append-nil, arith, inl, inr, codes}
+use Rattle.std.proofs.Common.{◌≡◌, ℕ, false, List, [], ◌∷◌, ◌++◌, take, drop, refl, sym, ap, ◌∙◌, subst, append_assoc, append-nil, arith, codes}
 use Rattle.std.proofs.lemmas.Bool.{or_left}
 use Rattle.std.proofs.lemmas.List.{length-append, take-append-drop}
-use Rattle.ion_text.specs.Names.{Are, AwaitsColons, BeginsLexed, BlankThen, Catalog, Comes, Container, Content, Decides, EndDecides, Id, InStruct, IsKeyword, KeywordAsName, LexesTo, Limits, Mark, Placed, Reason, Slot, TokenKind, TypedNull, Word, bad_table, is_keyword, is_version, keyword_as_annotation, keyword_as_name, line_feed, no_symbol, null_table, other_version, reads, stopped, struct_too_deep, too_deep}
-use Rattle.ion_text.specs.laws.deciding.Agree.{agreed}
-use Rattle.ion_text.specs.laws.deciding.Fronts.{Either, HasEnded, origin}
+use Rattle.ion_text.specs.Names.{Are, AwaitsColons, BeginsLexed, BlankThen, Catalog, Comes, Container, Content, Decides, EndDecides, Id, InStruct, IsKeyword, KeywordAsName, LexesTo, Limits, Mark, Placed, Reason, Slot, TokenKind, TypedNull, Word, bad_table, is_keyword, is_version, keyword_as_annotation, keyword_as_name, line_feed, no_symbol, null_table, other_version, reads, struct_too_deep, too_deep}
+use Rattle.ion_text.specs.laws.deciding.Agree.{one_list}
+use Rattle.ion_text.specs.laws.deciding.Fronts.{HasEnded, origin}
 use Rattle.ion_text.specs.laws.deciding.Lines.{lexes_line, line}
-use Rattle.ion_text.specs.laws.deciding.OneOctet.{Seen, bare_behind, colons_on, left_same, met, none_later, pends_beyond, pends_once, read_on, refused, seen, unfollowed}
+use Rattle.ion_text.specs.laws.deciding.OneOctet.{Seen, bare_behind, colons_on, left_same, lexes_front, met, none_later, pends_beyond, pends_once, read_on, refused, seen, stops_beyond, stops_so, unfollowed, waited_ended}
 use Rattle.ion_text.specs.laws.deciding.Shows.{EndSaid, IsBare, NoLetters, end_bare, no_letters, said_bare}
 use Rattle.ion_text.specs.laws.deciding.Tokens.{Stops, bare_plain, ended_by_rest, id_stops, keyword_stops}
 use Rattle.ion_text.specs.laws.deciding.Waiting.{Pends, colons_next, colons_shown, null_pends, pend, version_pends}
 use Rattle.ion_text.specs.laws.showing.tokens.Cuts.{parted}
-use Rattle.ion_text.specs.laws.showing.tokens.Once.{begins_lexed}
 
 -- the last token is a word that is refused, or waits for `::`, which doesn't follow
 pub data SeenEnd (g : Catalog) (l : Limits) (u : List ℕ) (e : Reason) : Type 0 where
@@ -54,15 +53,13 @@ module _ (g : Catalog) (l : Limits) where
   word_line u ts t e s are bare = let h = word_ended u s.front t are bare in refused ts t line s h.0 h.1 (sym (bare_behind t.lexeme.kind bare))
 
   -- what waits has ended
+  waits_lexed : (u : List ℕ) (ts : List Placed) (a : AwaitsColons u ts) → Are (u ++ line) ts (a.rest ++ line)
+  waits_lexed u ts a = (a.are.0, a.are.1, lexes_line ts false 0 u a.are.0 a.are.1 a.rest a.are.2)
+
   pub waits_ended : (u : List ℕ) (ts : List Placed) (e : Reason) (p : Pends g l ts e) (a : AwaitsColons u ts)
       → (Are (u ++ line) (p.front ++ p.token ∷ []) (a.rest ++ line)) × HasEnded g l (u ++ line) p.token
   waits_ended u ts e p a =
-      let are : Are (u ++ line) (p.front ++ p.token ∷ []) (a.rest ++ line) = (
-        a.are.0,
-        a.are.1,
-        lexes_line (p.front ++ p.token ∷ []) false 0 u a.are.0 a.are.1 a.rest
-            (subst (λ z. LexesTo false 0 u z a.are.0 a.are.1 a.rest) p.is a.are.2),
-      ) in
+      let are = subst (λ z. Are (u ++ line) z (a.rest ++ line)) p.is (waits_lexed u ts a) in
       (are, ended_by_rest g l (u ++ line) p.front p.token line_feed a.rest (bare_plain p.token.lexeme.kind p.bare) are)
 
   -- `::` doesn't stand behind it
@@ -75,54 +72,27 @@ module _ (g : Catalog) (l : Limits) where
 
   word_waits : (u : List ℕ) (ts ws : List Placed) (t : Placed) (e f : Reason) (s : Stops g l ts t e) → Are u (s.front ++ t ∷ []) [] → IsBare t.lexeme.kind
       → (p : Pends g l ws f) → AwaitsColons u ws → ⊥
-  word_waits u ts ws t e f s are bare p a = by (agreed g l (u ++ line) [] s.front p.front t p.token here.1 s.came p.came
-      (begins_lexed (s.front ++ t ∷ []) false 0 (u ++ line) here.0.0 here.0.1 line here.0.2)
-      (subst (λ z. BeginsLexed false 0 z (p.front ++ p.token ∷ [])) (sym (append-nil (u ++ line)))
-      (begins_lexed (p.front ++ p.token ∷ []) false 0 (u ++ line) other.0 other.1 (a.rest ++ line) other.2)))
+  word_waits u ts ws t e f s are bare p a =
+      read_on g l ws f p (s.front ++ t ∷ []) (stops_so g l ts t e s)
+      (one_list g l (u ++ line) [] (s.front ++ t ∷ []) ws s.front p.front t p.token refl p.is here.1 s.came p.came
+      (lexes_front (s.front ++ t ∷ []) (u ++ line) line here.0)
+      (subst (λ z. BeginsLexed false 0 z ws) (sym (append-nil (u ++ line))) (lexes_front ws (u ++ line) (a.rest ++ line) (waits_lexed u ws a)))
+      (λ x xs i. stops_beyond g l (s.front ++ t ∷ []) (stops_so g l ts t e s) p.front p.token p.came x xs (sym p.is ∙ i))
+      (λ x xs i. none_behind u ws a x xs (s.front ++ t ∷ []) [] are i (pends_beyond g l ws f e p s.front t x xs s.came s.why i)))
     where
       here : (Are (u ++ line) (s.front ++ t ∷ []) line) × HasEnded g l (u ++ line) t
       here = word_ended u s.front t are bare
 
-      other : Are (u ++ line) (p.front ++ p.token ∷ []) (a.rest ++ line)
-      other = (waits_ended u ws f p a).0
-
-      stops : reads g l (origin g l) (s.front ++ t ∷ []) ≡ stopped
-      stops = ap (reads g l (origin g l)) (sym s.is) ∙ s.stops
-
-      later : (x : Placed) (xs : List Placed) → s.front ++ t ∷ [] ≡ ws ++ x ∷ xs → ⊥
-      later x xs i = none_behind u ws a x xs (s.front ++ t ∷ []) [] are i (pends_beyond g l ws f e p s.front t x xs s.came s.why i)
-
-      by : Either g l (s.front ++ t ∷ []) (p.front ++ p.token ∷ []) → ⊥
-      by (inl (more, i)) = read_on g l u [] ws f p (s.front ++ t ∷ []) more stops i
-      by (inr ([], i)) = read_on g l u [] ws f p (s.front ++ t ∷ []) [] stops
-          (sym (i ∙ append-nil (p.front ++ p.token ∷ [])) ∙ sym (append-nil (s.front ++ t ∷ [])))
-      by (inr (x ∷ xs, i)) = later x xs (i ∙ ap (λ z. z ++ x ∷ xs) (sym p.is))
-
   both_wait : (u : List ℕ) (ts ws : List Placed) (e f : Reason) (p : Pends g l ts e) → AwaitsColons u ts → (q : Pends g l ws f) → AwaitsColons u ws → e ≡ f
-  both_wait u ts ws e f p a q b = by (agreed g l (u ++ line) [] p.front q.front p.token q.token here.1 p.came q.came
-      (begins_lexed (p.front ++ p.token ∷ []) false 0 (u ++ line) here.0.0 here.0.1 (a.rest ++ line) here.0.2)
-      (subst (λ z. BeginsLexed false 0 z (q.front ++ q.token ∷ [])) (sym (append-nil (u ++ line)))
-      (begins_lexed (q.front ++ q.token ∷ []) false 0 (u ++ line) there.0.0 there.0.1 (b.rest ++ line) there.0.2)))
-    where
-      here : (Are (u ++ line) (p.front ++ p.token ∷ []) (a.rest ++ line)) × HasEnded g l (u ++ line) p.token
-      here = waits_ended u ts e p a
-
-      there : (Are (u ++ line) (q.front ++ q.token ∷ []) (b.rest ++ line)) × HasEnded g l (u ++ line) q.token
-      there = waits_ended u ws f q b
-
-      later : (x : Placed) (xs : List Placed) → ws ≡ ts ++ x ∷ xs → ⊥
-      later x xs i = none_behind u ts a x xs ws b.rest b.are i
-          (colons_next g l ts e p x xs q.values (pend g l ws f q) (ap (reads g l (origin g l)) (sym i) ∙ q.read))
-
-      earlier : (x : Placed) (xs : List Placed) → ts ≡ ws ++ x ∷ xs → ⊥
-      earlier x xs i = none_behind u ws b x xs ts a.rest a.are i
-          (colons_next g l ws f q x xs p.values (pend g l ts e p) (ap (reads g l (origin g l)) (sym i) ∙ p.read))
-
-      by : Either g l (p.front ++ p.token ∷ []) (q.front ++ q.token ∷ []) → e ≡ f
-      by (inl ([], i)) = pends_once g l ts ws e f p q (p.is ∙ (sym (i ∙ append-nil (p.front ++ p.token ∷ [])) ∙ sym q.is))
-      by (inl (x ∷ xs, i)) = absurd (later x xs (q.is ∙ (i ∙ ap (λ z. z ++ x ∷ xs) (sym p.is))))
-      by (inr ([], i)) = pends_once g l ts ws e f p q (p.is ∙ (i ∙ append-nil (q.front ++ q.token ∷ []) ∙ sym q.is))
-      by (inr (x ∷ xs, i)) = absurd (earlier x xs (p.is ∙ (i ∙ ap (λ z. z ++ x ∷ xs) (sym q.is))))
+  both_wait u ts ws e f p a q b =
+      pends_once g l ts ws e f p q
+      (one_list g l (u ++ line) [] ts ws p.front q.front p.token q.token p.is q.is (waits_ended u ts e p a).1 p.came q.came
+      (lexes_front ts (u ++ line) (a.rest ++ line) (waits_lexed u ts a))
+      (subst (λ z. BeginsLexed false 0 z ws) (sym (append-nil (u ++ line))) (lexes_front ws (u ++ line) (b.rest ++ line) (waits_lexed u ws b)))
+      (λ x xs i. none_behind u ts a x xs ws b.rest b.are i
+      (colons_next g l ts e p x xs q.values (pend g l ws f q) (ap (reads g l (origin g l)) (sym i) ∙ q.read)))
+      (λ x xs i. none_behind u ws b x xs ts a.rest a.are i
+      (colons_next g l ws f q x xs p.values (pend g l ts e p) (ap (reads g l (origin g l)) (sym i) ∙ p.read))))
 
   ends_met : (u : List ℕ) (e f : Reason) → SeenEnd g l u e → SeenEnd g l u f → e ≡ f
   ends_met u e f (by_word ts t s are bare n) (by_word ws w s' are' bare' n') =
@@ -150,60 +120,28 @@ module _ (g : Catalog) (l : Limits) where
 
   octet_waits : (u v : List ℕ) (e f : Reason) → Seen g l u f → (ts : List Placed) (p : Pends g l ts e) → AwaitsColons (u ++ v) ts → ⊥
   octet_waits u v e f (refused ws w left s are ended size) ts p a =
-      by (agreed g l u (v ++ line) s.front p.front w p.token ended s.came p.came (begins_lexed (s.front ++ w ∷ []) false 0 u are.0 are.1 left are.2)
-      (subst (λ z. BeginsLexed false 0 z (p.front ++ p.token ∷ [])) (append_assoc u v line)
-      (begins_lexed (p.front ++ p.token ∷ []) false 0 ((u ++ v) ++ line) all.0 all.1 (a.rest ++ line) all.2)))
+      read_on g l ts e p (s.front ++ w ∷ []) (stops_so g l ws w f s)
+      (one_list g l u (v ++ line) (s.front ++ w ∷ []) ts s.front p.front w p.token refl p.is ended s.came p.came
+      (lexes_front (s.front ++ w ∷ []) u left are)
+      (subst (λ z. BeginsLexed false 0 z ts) (append_assoc u v line) (lexes_front ts ((u ++ v) ++ line) (a.rest ++ line) (waits_lexed (u ++ v) ts a)))
+      (λ x xs i. stops_beyond g l (s.front ++ w ∷ []) (stops_so g l ws w f s) p.front p.token p.came x xs (sym p.is ∙ i))
+      (λ x xs i. none_fewer u v ts e p a x xs (s.front ++ w ∷ []) left are i (pends_beyond g l ts e f p s.front w x xs s.came s.why i)))
+  octet_waits u v e f (unfollowed ws q none) ts p a = apart (one_list g l u (v ++ line) ws ts q.front p.front q.token p.token q.is p.is
+      (waited_ended g l u v ws f q none) q.came p.came (lexes_front ws u (none.rest ++ none.o ∷ []) none.are)
+      (subst (λ z. BeginsLexed false 0 z ts) (append_assoc u v line) (lexes_front ts ((u ++ v) ++ line) (a.rest ++ line) (waits_lexed (u ++ v) ts a)))
+      (λ x xs i. none_later g l u v ws f q none x xs ts a.rest a.are i
+      (colons_next g l ws f q x xs p.values (pend g l ts e p) (ap (reads g l (origin g l)) (sym i) ∙ p.read)))
+      (λ x xs i. none_fewer u v ts e p a x xs ws (none.rest ++ none.o ∷ []) none.are i
+      (colons_next g l ts e p x xs q.values (pend g l ws f q) (ap (reads g l (origin g l)) (sym i) ∙ q.read))))
     where
-      all : Are ((u ++ v) ++ line) (p.front ++ p.token ∷ []) (a.rest ++ line)
-      all = (waits_ended (u ++ v) ts e p a).0
-
-      stops : reads g l (origin g l) (s.front ++ w ∷ []) ≡ stopped
-      stops = ap (reads g l (origin g l)) (sym s.is) ∙ s.stops
-
-      later : (x : Placed) (xs : List Placed) → s.front ++ w ∷ [] ≡ ts ++ x ∷ xs → ⊥
-      later x xs i = none_fewer u v ts e p a x xs (s.front ++ w ∷ []) left are i (pends_beyond g l ts e f p s.front w x xs s.came s.why i)
-
-      by : Either g l (s.front ++ w ∷ []) (p.front ++ p.token ∷ []) → ⊥
-      by (inl (more, i)) = read_on g l u [] ts e p (s.front ++ w ∷ []) more stops i
-      by (inr ([], i)) = read_on g l u [] ts e p (s.front ++ w ∷ []) [] stops
-          (sym (i ∙ append-nil (p.front ++ p.token ∷ [])) ∙ sym (append-nil (s.front ++ w ∷ [])))
-      by (inr (x ∷ xs, i)) = later x xs (i ∙ ap (λ z. z ++ x ∷ xs) (sym p.is))
-  octet_waits u v e f (unfollowed ws q none) ts p a = by (agreed g l u (v ++ line) q.front p.front q.token p.token ended q.came p.came
-      (begins_lexed (q.front ++ q.token ∷ []) false 0 u there.0 there.1 (none.rest ++ none.o ∷ []) there.2)
-      (subst (λ z. BeginsLexed false 0 z (p.front ++ p.token ∷ [])) (append_assoc u v line)
-      (begins_lexed (p.front ++ p.token ∷ []) false 0 ((u ++ v) ++ line) all.0 all.1 (a.rest ++ line) all.2)))
-    where
-      all : Are ((u ++ v) ++ line) (p.front ++ p.token ∷ []) (a.rest ++ line)
-      all = (waits_ended (u ++ v) ts e p a).0
-
-      there : Are u (q.front ++ q.token ∷ []) (none.rest ++ none.o ∷ [])
-      there = subst (λ z. Are u z (none.rest ++ none.o ∷ [])) q.is none.are
-
-      ended : HasEnded g l u q.token
-      ended = ended_by_rest g l u q.front q.token none.o none.rest (bare_plain q.token.lexeme.kind q.bare) there
-
-      same : ws ≡ ts → ⊥
-      same i =
-          let left = left_same q.front q.token u v there.0 a.are.0 there.1 a.are.1 (none.rest ++ none.o ∷ []) a.rest there.2
+      apart : ws ≡ ts → ⊥
+      apart i =
+          let left = left_same q.front q.token u v none.are.0 a.are.0 none.are.1 a.are.1 (none.rest ++ none.o ∷ []) a.rest
+          (subst (λ z. LexesTo false 0 u z none.are.0 none.are.1 (none.rest ++ none.o ∷ [])) q.is none.are.2)
           (subst (λ z. LexesTo false 0 (u ++ v) z a.are.0 a.are.1 a.rest) (sym i ∙ q.is) a.are.2) in
           none.after (v ++ a.before.0)
           (subst (BlankThen (codes "::")) (ap (λ z. z ++ a.before.0) (sym left)
           ∙ (append_assoc (none.rest ++ none.o ∷ []) v a.before.0 ∙ append_assoc none.rest (none.o ∷ []) (v ++ a.before.0))) a.before.1)
-
-      later : (x : Placed) (xs : List Placed) → ts ≡ ws ++ x ∷ xs → ⊥
-      later x xs i =
-          none_later g l u v ws f q none x xs a.are.0 a.are.1 a.rest (subst (λ z. LexesTo false 0 (u ++ v) z a.are.0 a.are.1 a.rest) i a.are.2)
-          (colons_next g l ws f q x xs p.values (pend g l ts e p) (ap (reads g l (origin g l)) (sym i) ∙ p.read))
-
-      earlier : (x : Placed) (xs : List Placed) → ws ≡ ts ++ x ∷ xs → ⊥
-      earlier x xs i = none_fewer u v ts e p a x xs ws (none.rest ++ none.o ∷ []) none.are i
-          (colons_next g l ts e p x xs q.values (pend g l ws f q) (ap (reads g l (origin g l)) (sym i) ∙ q.read))
-
-      by : Either g l (q.front ++ q.token ∷ []) (p.front ++ p.token ∷ []) → ⊥
-      by (inl ([], i)) = same (q.is ∙ (sym (i ∙ append-nil (q.front ++ q.token ∷ [])) ∙ sym p.is))
-      by (inl (x ∷ xs, i)) = later x xs (p.is ∙ (i ∙ ap (λ z. z ++ x ∷ xs) (sym q.is)))
-      by (inr ([], i)) = same (q.is ∙ (i ∙ append-nil (p.front ++ p.token ∷ []) ∙ sym p.is))
-      by (inr (x ∷ xs, i)) = earlier x xs (q.is ∙ (i ∙ ap (λ z. z ++ x ∷ xs) (sym p.is)))
 
   octet_ends : (u v : List ℕ) (e f : Reason) → Seen g l u f → SeenEnd g l (u ++ v) e → ⊥
   octet_ends u v e f h (by_word ts t s are bare n) =

@@ -5,9 +5,9 @@ use Rattle.std.proofs.lemmas.Bool.{cases_lt}
 use Rattle.std.proofs.lemmas.List.{length-append, length-drop, take-append-drop, take-append-le, length-take-le}
 use Rattle.ion_text.specs.Names.{Are, BeginsLexed, BlankThen, Bracket, Catalog, Comes, Container, Content, Decides, Depth, Id, InStruct, IsKeyword, KeywordAsName, LexesTo, Limits, Mark, Mark', NoColons, Place, Placed, Reason, Says, Slot, TokenKind, TypedNull, Word, bad_table, close_place, done, is_closing, keyword_as_annotation, keyword_as_name, no_symbol, null_table, other_version, place_of, reads, reads-append, settle, stopped, struct_too_deep, then_walk, too_deep}
 use Rattle.ion_text.specs.machine.TokenLists.{walked}
-use Rattle.ion_text.specs.laws.deciding.Agree.{agreed}
+use Rattle.ion_text.specs.laws.deciding.Agree.{one_list}
 use Rattle.ion_text.specs.laws.deciding.AtEnd.{last_ends}
-use Rattle.ion_text.specs.laws.deciding.Fronts.{Came, Either, HasEnded, origin, split}
+use Rattle.ion_text.specs.laws.deciding.Fronts.{Came, HasEnded, origin, split}
 use Rattle.ion_text.specs.laws.deciding.Shows.{BareSaid, IsBare, said_bare}
 use Rattle.ion_text.specs.laws.deciding.Tokens.{Refusing, Stops, Why, as_colons, bare_ended, bare_plain, by_itself, ended_by_rest, id_stops, keyword_note_stops, keyword_stops, mark_ended, one_refusing, open_stops, table_stops, why_once}
 use Rattle.ion_text.specs.laws.deciding.Waiting.{Pends, colons_next, colons_shown, null_pends, pend, settling_stops, version_pends}
@@ -102,6 +102,9 @@ left_same ts t u v c d e f rest left a b =
 pub colons_on : (r v : List ℕ) → BlankThen (codes "::") r → BlankThen (codes "::") (r ++ v)
 colons_on r v (blank, more, b, e) = (blank, more ++ v, b, ap (λ z. z ++ v) e ∙ append_assoc (blank ++ codes "::") more v)
 
+pub lexes_front : (ts : List Placed) (w : List ℕ) (rest : List ℕ) → Are w ts rest → BeginsLexed false 0 w ts
+lexes_front ts w rest (c, e, a) = begins_lexed ts false 0 w c e rest a
+
 module _ (g : Catalog) (l : Limits) where
   -- 3. Tokens behind those of a row.
 
@@ -113,9 +116,9 @@ module _ (g : Catalog) (l : Limits) where
       ∙ (ap (reads g l (origin g l)) e ∙ (reads-append g l ts more (origin g l) ∙ ap (λ y. then_walk y (λ k. reads g l k more)) stops)) in
       cc
 
-  stops_beyond : (ts : List Placed) → reads g l (origin g l) ts ≡ stopped → (front : List Placed) (t x : Placed) (xs : List Placed) → Came g l front t.place
-      → front ++ t ∷ [] ≡ ts ++ x ∷ xs → ⊥
-  stops_beyond ts stops front t x xs came e = by (split front t ts x xs e)
+  pub stops_beyond : (ts : List Placed) → reads g l (origin g l) ts ≡ stopped → (front : List Placed) (t : Placed) → Came g l front t.place
+      → (x : Placed) (xs : List Placed) → front ++ t ∷ [] ≡ ts ++ x ∷ xs → ⊥
+  stops_beyond ts stops front t came x xs e = by (split front t ts x xs e)
     where
       by : ((front ≡ ts) × (t ≡ x)) ⊎ ((more : List Placed) × (front ≡ ts ++ x ∷ more)) → ⊥
       by (inl (same, i)) = beyond ts stops front t.place came [] (same ∙ sym (append-nil ts))
@@ -141,31 +144,41 @@ module _ (g : Catalog) (l : Limits) where
       let one = walked_now g l p.values q.values (pend g l ts e p) (pend g l ws f q) (sym p.read ∙ (ap (reads g l (origin g l)) i ∙ q.read)) in
       one_refusing e f (settle g l (pend g l ws f q)) (subst (λ k. Refusing e (settle g l k)) one.1 p.why) q.why
 
+  pub stops_so : (ts : List Placed) (t : Placed) (e : Reason) (s : Stops g l ts t e) → reads g l (origin g l) (s.front ++ t ∷ []) ≡ stopped
+  stops_so ts t e s = ap (reads g l (origin g l)) (sym s.is) ∙ s.stops
+
+  -- tokens that are read are none of which one is refused
+  pub read_on : (ts : List Placed) (e : Reason) (p : Pends g l ts e) (ws : List Placed) → reads g l (origin g l) ws ≡ stopped → ws ≡ ts → ⊥
+  read_on ts e p ws stops same =
+      let never : walked p.values (pend g l ts e p) ≡ stopped = sym p.read ∙ (ap (reads g l (origin g l)) (sym same) ∙ stops) in
+      cc
+
   -- 4. Two rows.
 
   module _ (u v : List ℕ) where
     -- where `::` doesn't follow it doesn't in more octets
-    pub none_later : (ts : List Placed) (e : Reason) (p : Pends g l ts e) → NoColons u ts → (x : Placed) (xs : List Placed) (d : Bool) (f : ℕ) (left : List ℕ)
-        → LexesTo false 0 (u ++ v) (ts ++ x ∷ xs) d f left → x.lexeme.kind ≡ TokenKind.Mark Mark.Colons → ⊥
-    none_later ts e p none x xs d f left lexes k =
-        let y = parted ts (x ∷ xs) false 0 (u ++ v) d f left lexes in
+    pub none_later : (ts : List Placed) (e : Reason) (p : Pends g l ts e) → NoColons u ts → (x : Placed) (xs ws : List Placed) (left : List ℕ)
+        → Are (u ++ v) ws left → ws ≡ ts ++ x ∷ xs → x.lexeme.kind ≡ TokenKind.Mark Mark.Colons → ⊥
+    none_later ts e p none x xs ws left are i k =
+        let lexes = subst (λ z. LexesTo false 0 (u ++ v) z are.0 are.1 left) i are.2 in
+        let y = parted ts (x ∷ xs) false 0 (u ++ v) are.0 are.1 left lexes in
         let same = left_same p.front p.token u v none.are.0 y.flag none.are.1 y.mid (none.rest ++ none.o ∷ []) y.left
         (subst (λ z. LexesTo false 0 u z none.are.0 none.are.1 (none.rest ++ none.o ∷ [])) p.is none.are.2)
         (subst (λ z. LexesTo false 0 (u ++ v) z y.flag y.mid y.left) p.is y.first) in
         none.after v
         (subst (BlankThen (codes "::")) (sym same ∙ append_assoc none.rest (none.o ∷ []) v)
-        (colons_shown (u ++ v) ts x xs y.flag d y.mid f y.left left y.first lexes k))
+        (colons_shown (u ++ v) ts x xs y.flag are.0 y.mid are.1 y.left left y.first lexes k))
 
     -- nor did it in fewer
-    none_before : (ts : List Placed) (e : Reason) (p : Pends g l ts e) → NoColons (u ++ v) ts
-        → (x : Placed) (xs : List Placed) (d : Bool) (f : ℕ) (left : List ℕ) → LexesTo false 0 u (ts ++ x ∷ xs) d f left
-        → x.lexeme.kind ≡ TokenKind.Mark Mark.Colons → ⊥
-    none_before ts e p none x xs d f left lexes k =
-        let y = parted ts (x ∷ xs) false 0 u d f left lexes in
+    none_before : (ts : List Placed) (e : Reason) (p : Pends g l ts e) → NoColons (u ++ v) ts → (x : Placed) (xs ws : List Placed) (left : List ℕ)
+        → Are u ws left → ws ≡ ts ++ x ∷ xs → x.lexeme.kind ≡ TokenKind.Mark Mark.Colons → ⊥
+    none_before ts e p none x xs ws left are i k =
+        let lexes = subst (λ z. LexesTo false 0 u z are.0 are.1 left) i are.2 in
+        let y = parted ts (x ∷ xs) false 0 u are.0 are.1 left lexes in
         let same = left_same p.front p.token u v y.flag none.are.0 y.mid none.are.1 y.left (none.rest ++ none.o ∷ [])
         (subst (λ z. LexesTo false 0 u z y.flag y.mid y.left) p.is y.first)
         (subst (λ z. LexesTo false 0 (u ++ v) z none.are.0 none.are.1 (none.rest ++ none.o ∷ [])) p.is none.are.2) in
-        none.after [] (subst (BlankThen (codes "::")) same (colons_on y.left v (colons_shown u ts x xs y.flag d y.mid f y.left left y.first lexes k)))
+        none.after [] (subst (BlankThen (codes "::")) same (colons_on y.left v (colons_shown u ts x xs y.flag are.0 y.mid are.1 y.left left y.first lexes k)))
 
     -- the same octets, for one reason
     abbrev AtOneOctet : Reason → Reason → Type 0
@@ -234,21 +247,6 @@ module _ (g : Catalog) (l : Limits) where
             )
         by (inr (more, h)) = absurd (longer more h)
 
-    lexes_front : (ts : List Placed) (w : List ℕ) (rest : List ℕ) → Are w ts rest → BeginsLexed false 0 w ts
-    lexes_front ts w rest (c, e, a) = begins_lexed ts false 0 w c e rest a
-
-    stops_so : (ts : List Placed) (t : Placed) (e : Reason) (s : Stops g l ts t e) → reads g l (origin g l) (s.front ++ t ∷ []) ≡ stopped
-    stops_so ts t e s = ap (reads g l (origin g l)) (sym s.is) ∙ s.stops
-
-    -- no token is refused among those that are read
-    pub read_on : (ts : List Placed) (e : Reason) (p : Pends g l ts e) (front more : List Placed) → reads g l (origin g l) front ≡ stopped
-        → p.front ++ p.token ∷ [] ≡ front ++ more → ⊥
-    read_on ts e p front more stops cut =
-        let never : walked p.values (pend g l ts e p) ≡ stopped =
-        sym p.read ∙ (ap (reads g l (origin g l)) (p.is ∙ cut)
-        ∙ (reads-append g l front more (origin g l) ∙ ap (λ y. then_walk y (λ k. reads g l k more)) stops)) in
-        cc
-
     -- what waits for `::` has ended where an octet shows that it doesn't follow
     pub waited_ended : (ts : List Placed) (e : Reason) (p : Pends g l ts e) → NoColons u ts → HasEnded g l u p.token
     waited_ended ts e p n = ended_by_rest g l u p.front p.token n.o n.rest (bare_plain p.token.lexeme.kind p.bare) (subst (λ z. Are u z (n.rest ++ n.o ∷ [])) p.is n.are)
@@ -256,68 +254,34 @@ module _ (g : Catalog) (l : Limits) where
     -- where two rows decide and the one's octets begin with the other's, they are the same, for one reason
     pub met : (e f : Reason) → Seen g l u e → Seen g l (u ++ v) f → AtOneOctet e f
     met e f (refused ts t rest s are ended size) (refused ws w left s' are' ended' size') =
-        by (agreed g l u v s.front s'.front t w ended s.came s'.came (lexes_front (s.front ++ t ∷ []) u rest are)
-        (lexes_front (s'.front ++ w ∷ []) (u ++ v) left are'))
-      where
-        same : s.front ++ t ∷ [] ≡ s'.front ++ w ∷ [] → AtOneOctet e f
-        same = refused_once s.front s'.front t w e f rest left are are' size size' s.came s.why s'.why
-
-        by : Either g l (s.front ++ t ∷ []) (s'.front ++ w ∷ []) → AtOneOctet e f
-        by (inl ([], i)) = same (sym (i ∙ append-nil (s.front ++ t ∷ [])))
-        by (inl (x ∷ xs, i)) = absurd (stops_beyond (s.front ++ t ∷ []) (stops_so ts t e s) s'.front w x xs s'.came i)
-        by (inr ([], i)) = same (i ∙ append-nil (s'.front ++ w ∷ []))
-        by (inr (x ∷ xs, i)) = absurd (stops_beyond (s'.front ++ w ∷ []) (stops_so ws w f s') s.front t x xs s.came i)
+        refused_once s.front s'.front t w e f rest left are are' size size' s.came s.why s'.why
+        (one_list g l u v (s.front ++ t ∷ []) (s'.front ++ w ∷ []) s.front s'.front t w refl refl ended s.came s'.came
+        (lexes_front (s.front ++ t ∷ []) u rest are) (lexes_front (s'.front ++ w ∷ []) (u ++ v) left are')
+        (stops_beyond (s.front ++ t ∷ []) (stops_so ts t e s) s'.front w s'.came)
+        (stops_beyond (s'.front ++ w ∷ []) (stops_so ws w f s') s.front t s.came))
     met e f (refused ts t rest s are ended size) (unfollowed ws p none) =
-        absurd (by (agreed g l u v s.front p.front t p.token ended s.came p.came (lexes_front (s.front ++ t ∷ []) u rest are)
-        (subst (BeginsLexed false 0 (u ++ v)) p.is (lexes_front ws (u ++ v) (none.rest ++ none.o ∷ []) none.are))))
-      where
-        later : (x : Placed) (xs : List Placed) → s.front ++ t ∷ [] ≡ ws ++ x ∷ xs → ⊥
-        later x xs i = none_before ws f p none x xs are.0 are.1 rest (subst (λ z. LexesTo false 0 u z are.0 are.1 rest) i are.2)
-            (pends_beyond ws f e p s.front t x xs s.came s.why i)
-
-        by : Either g l (s.front ++ t ∷ []) (p.front ++ p.token ∷ []) → ⊥
-        by (inl (more, i)) = read_on ws f p (s.front ++ t ∷ []) more (stops_so ts t e s) i
-        by (inr ([], i)) = read_on ws f p (s.front ++ t ∷ []) [] (stops_so ts t e s)
-            (sym (i ∙ append-nil (p.front ++ p.token ∷ [])) ∙ sym (append-nil (s.front ++ t ∷ [])))
-        by (inr (x ∷ xs, i)) = later x xs (i ∙ ap (λ z. z ++ x ∷ xs) (sym p.is))
+        absurd (read_on ws f p (s.front ++ t ∷ []) (stops_so ts t e s)
+        (one_list g l u v (s.front ++ t ∷ []) ws s.front p.front t p.token refl p.is ended s.came p.came
+        (lexes_front (s.front ++ t ∷ []) u rest are) (lexes_front ws (u ++ v) (none.rest ++ none.o ∷ []) none.are)
+        (λ x xs i. stops_beyond (s.front ++ t ∷ []) (stops_so ts t e s) p.front p.token p.came x xs (sym p.is ∙ i))
+        (λ x xs i. none_before ws f p none x xs (s.front ++ t ∷ []) rest are i (pends_beyond ws f e p s.front t x xs s.came s.why i))))
     met e f (unfollowed ts p none) (refused ws w left s are ended size) =
-        absurd (by (agreed g l u v p.front s.front p.token w (waited_ended ts e p none) p.came s.came
-        (subst (BeginsLexed false 0 u) p.is (lexes_front ts u (none.rest ++ none.o ∷ []) none.are)) (lexes_front (s.front ++ w ∷ []) (u ++ v) left are)))
-      where
-        later : (x : Placed) (xs : List Placed) → s.front ++ w ∷ [] ≡ ts ++ x ∷ xs → ⊥
-        later x xs i = none_later ts e p none x xs are.0 are.1 left (subst (λ z. LexesTo false 0 (u ++ v) z are.0 are.1 left) i are.2)
-            (pends_beyond ts e f p s.front w x xs s.came s.why i)
-
-        by : Either g l (p.front ++ p.token ∷ []) (s.front ++ w ∷ []) → ⊥
-        by (inl ([], i)) = read_on ts e p (s.front ++ w ∷ []) [] (stops_so ws w f s)
-            (sym (i ∙ append-nil (p.front ++ p.token ∷ [])) ∙ sym (append-nil (s.front ++ w ∷ [])))
-        by (inl (x ∷ xs, i)) = later x xs (i ∙ ap (λ z. z ++ x ∷ xs) (sym p.is))
-        by (inr (more, i)) = read_on ts e p (s.front ++ w ∷ []) more (stops_so ws w f s) i
+        absurd (read_on ts e p (s.front ++ w ∷ []) (stops_so ws w f s)
+        (sym (one_list g l u v ts (s.front ++ w ∷ []) p.front s.front p.token w p.is refl (waited_ended ts e p none) p.came s.came
+        (lexes_front ts u (none.rest ++ none.o ∷ []) none.are) (lexes_front (s.front ++ w ∷ []) (u ++ v) left are)
+        (λ x xs i. none_later ts e p none x xs (s.front ++ w ∷ []) left are i (pends_beyond ts e f p s.front w x xs s.came s.why i))
+        (λ x xs i. stops_beyond (s.front ++ w ∷ []) (stops_so ws w f s) p.front p.token p.came x xs (sym p.is ∙ i)))))
     met e f (unfollowed ts p none) (unfollowed ws q none') =
-        by (agreed g l u v p.front q.front p.token q.token (waited_ended ts e p none) p.came q.came
-        (subst (BeginsLexed false 0 u) p.is (lexes_front ts u (none.rest ++ none.o ∷ []) none.are))
-        (subst (BeginsLexed false 0 (u ++ v)) q.is (lexes_front ws (u ++ v) (none'.rest ++ none'.o ∷ []) none'.are)))
+        (shown_once ts e p none (subst (NoColons (u ++ v)) (sym same) none'), pends_once ts ws e f p q same)
       where
-        same : ts ≡ ws → AtOneOctet e f
-        same i = (shown_once ts e p none (subst (NoColons (u ++ v)) (sym i) none'), pends_once ts ws e f p q i)
-
-        later : (x : Placed) (xs : List Placed) → ws ≡ ts ++ x ∷ xs → ⊥
-        later x xs i =
-            none_later ts e p none x xs none'.are.0 none'.are.1 (none'.rest ++ none'.o ∷ [])
-            (subst (λ z. LexesTo false 0 (u ++ v) z none'.are.0 none'.are.1 (none'.rest ++ none'.o ∷ [])) i none'.are.2)
-            (colons_next g l ts e p x xs q.values (pend g l ws f q) (ap (reads g l (origin g l)) (sym i) ∙ q.read))
-
-        earlier : (x : Placed) (xs : List Placed) → ts ≡ ws ++ x ∷ xs → ⊥
-        earlier x xs i =
-            none_before ws f q none' x xs none.are.0 none.are.1 (none.rest ++ none.o ∷ [])
-            (subst (λ z. LexesTo false 0 u z none.are.0 none.are.1 (none.rest ++ none.o ∷ [])) i none.are.2)
-            (colons_next g l ws f q x xs p.values (pend g l ts e p) (ap (reads g l (origin g l)) (sym i) ∙ p.read))
-
-        by : Either g l (p.front ++ p.token ∷ []) (q.front ++ q.token ∷ []) → AtOneOctet e f
-        by (inl ([], i)) = same (p.is ∙ (sym (i ∙ append-nil (p.front ++ p.token ∷ [])) ∙ sym q.is))
-        by (inl (x ∷ xs, i)) = absurd (later x xs (q.is ∙ (i ∙ ap (λ z. z ++ x ∷ xs) (sym p.is))))
-        by (inr ([], i)) = same (p.is ∙ (i ∙ append-nil (q.front ++ q.token ∷ []) ∙ sym q.is))
-        by (inr (x ∷ xs, i)) = absurd (earlier x xs (p.is ∙ (i ∙ ap (λ z. z ++ x ∷ xs) (sym q.is))))
+        same : ts ≡ ws
+        same =
+            one_list g l u v ts ws p.front q.front p.token q.token p.is q.is (waited_ended ts e p none) p.came q.came
+            (lexes_front ts u (none.rest ++ none.o ∷ []) none.are) (lexes_front ws (u ++ v) (none'.rest ++ none'.o ∷ []) none'.are)
+            (λ x xs i. none_later ts e p none x xs ws (none'.rest ++ none'.o ∷ []) none'.are i
+            (colons_next g l ts e p x xs q.values (pend g l ws f q) (ap (reads g l (origin g l)) (sym i) ∙ q.read)))
+            (λ x xs i. none_before ws f q none' x xs ts (none.rest ++ none.o ∷ []) none.are i
+            (colons_next g l ws f q x xs p.values (pend g l ts e p) (ap (reads g l (origin g l)) (sym i) ∙ p.read)))
 
   -- in octets and in more of them
   within : (u : List ℕ) (j k : ℕ) (e f : Reason) → j ≤ k → k ≤ length u → Decides g l (take j u) e → Decides g l (take k u) f → (j ≡ k) × (e ≡ f)

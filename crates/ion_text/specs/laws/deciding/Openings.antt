@@ -21,11 +21,8 @@ containers (f ∷ fs) = container f ∷ containers fs
 
 -- what the reader holds and what stands open have the same place for a value
 pub place_same : (fs : List Frame) → value_place fs ≡ place_of (containers fs)
-place_same [] = refl
 place_same (Frame.Items Listing.List ss vs ∷ fs) = refl
-place_same (Frame.Items Listing.Sexp ss vs ∷ fs) = refl
-place_same (Frame.Fields ss ms ∷ fs) = refl
-place_same (Frame.Named ss ms s ∷ fs) = refl
+place_same _ = refl
 
 -- as many containers stand open as the reader holds
 pub levels_same : (fs : List Frame) → length (containers fs) ≡ length fs
@@ -34,18 +31,14 @@ levels_same (f ∷ fs) = ap suc (levels_same fs)
 
 -- where the reader holds a container that receives a value, a value may come
 pub takes_value : (fs : List Frame) → Receives fs → TakesValue (containers fs)
-takes_value [] h = tt
-takes_value (Frame.Items Listing.List ss vs ∷ fs) h = tt
-takes_value (Frame.Items Listing.Sexp ss vs ∷ fs) h = tt
 takes_value (Frame.Fields ss ms ∷ fs) h = absurd h
-takes_value (Frame.Named ss ms s ∷ fs) h = tt
+takes_value (Frame.Items Listing.List ss vs ∷ fs) h = tt
+takes_value _ h = tt
 
 pub may_note : (fs : List Frame) (notes : List Placed) → Receives fs → MayNote (containers fs) notes
-may_note [] notes h = tt
-may_note (Frame.Items Listing.List ss vs ∷ fs) notes h = tt
-may_note (Frame.Items Listing.Sexp ss vs ∷ fs) notes h = tt
 may_note (Frame.Fields ss ms ∷ fs) notes h = absurd h
-may_note (Frame.Named ss ms s ∷ fs) notes h = tt
+may_note (Frame.Items Listing.List ss vs ∷ fs) notes h = tt
+may_note _ notes h = tt
 
 pub noted_there : (c : List Slot) (fs : List Frame) (notes : List Placed) (ss : Symbols) → Annotations c (value_place fs) notes ss
     → Annotations c (place_of (containers fs)) notes ss
@@ -87,9 +80,8 @@ module _ (l : Limits) (c : List Slot) where
 
 -- the first token stays so
 pub begins_so : (a : Bool) (ts us : List Placed) → (a && begins_as_long (ts ++ us)) ≡ false → (a && begins_as_long ts) ≡ false
-begins_so true [] us h = refl
-begins_so false ts us h = refl
 begins_so true (t ∷ ts) us h = h
+begins_so _ _ us h = refl
 
 pub begins_on : (a : Bool) (ts us : List Placed) → IsSome ts → (a && begins_as_long ts) ≡ false → (a && begins_as_long (ts ++ us)) ≡ false
 begins_on a (t ∷ ts) us i h = h

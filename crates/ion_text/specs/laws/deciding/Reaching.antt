@@ -1,9 +1,9 @@
 -- Octets that are tokens up to one that is refused, or up to where something waits, lead the reader of octets there, unless an item becomes
 -- too long.
-use Rattle.std.proofs.Common.{◌≡◌, ℕ, ◌+◌, ◌<◌, ◌≤◌, nat_le, nat_lt, List, [], ◌∷◌, length, Bool, true, false, ◌&&◌, ◌||◌, not, Result, Ok, Err, Some, refl, ap, sym, ◌∙◌, subst, arith, if◌then◌else◌, ◌⊎◌, inl, inr}
-use Rattle.std.proofs.lemmas.Bool.{cond-false}
+use Rattle.std.proofs.Common.{◌≡◌, ℕ, ◌+◌, ◌<◌, ◌≤◌, nat_le, nat_lt, List, [], ◌∷◌, length, Bool, true, false, ◌&&◌, ◌||◌, not, Result, Ok, Err, Some, refl, ap, sym, ◌∙◌, subst, arith, ◌⊎◌, inl, inr}
+use Rattle.std.proofs.lemmas.Bool.{cond-false, cond_both, true_from_ne_false}
 use Rattle.std.proofs.lemmas.Bool.Decides.{nat_tests}
-use Rattle.ion_text.specs.Names.{Catalog, Content, Effect, Given, HasRow, IsBody, Known, Leading, Left, Limits, Mark, Mark', Mode, Next, Now, Outcome, Placed, Reading, Reason, Refusal, Run, State, TokenKind, Turn, Value, at_end, behind_given, behind_left, continues, eats, fails, feed, gives, goes, is_closing, is_idle, is_quoted, is_quoting, is_sane, is_top, is_two_quotes, late, leaves, lesser, noticed, on_said, on_scan, once_more, or_worse, place, reaches, reason_number, refuses, run, run_on, said, said_body, settle, settle_same, settle_still, shut, takes, tells, token_at, token_of, turn, turn_now, under, uses, waits, waits_now, with_scan}
+use Rattle.ion_text.specs.Names.{Catalog, Content, Effect, Given, HasRow, IsBody, Known, Leading, Left, Limits, Mark, Mark', Mode, Next, Now, Outcome, Placed, Reading, Reason, Refusal, Run, State, TokenKind, Turn, Value, at_end, behind_given, behind_left, continues, eats, fails, feed, gives, goes, is_closing, is_idle, is_quoted, is_quoting, is_sane, is_top, is_two_quotes, late, lesser, noticed, on_said, on_scan, once_more, or_worse, place, reaches, reason_number, refuses, run, run_on, said, said_body, settle, settle_same, settle_still, shut, takes, tells, token_at, token_of, turn, turn_now, under, uses, waits, waits_now, with_scan}
 use Rattle.ion_tokens.proofs.runs.Runs.{feed_used}
 use Rattle.ion_tokens.proofs.runs.Splits.{given_one, left_one}
 use Rattle.ion_text.specs.laws.deciding.Heading.{Heads, IsLast, Turned, TurnsTo, settled_heads}
@@ -50,11 +50,7 @@ module _ (ByOctet : Type 0) (Rest : Known → List ℕ → Type 0) (some : (s : 
   pub sees_some : (s : Known) (os : List ℕ) (ts : List Placed) → Sees ByOctet ⊥ Rest s os ts → 0 < length os
   sees_some _ _ _ (rests s os w) = some s os w
   sees_some _ _ _ (last_ends s t b bare e) = absurd b
-  sees_some _ _ _ (last_given s o t s' b e) = omega arith
-  sees_some _ _ _ (last_left s o t s' b e) = omega arith
-  sees_some _ _ _ (sees_on s o os t ts s' e m) = omega arith
-  sees_some _ _ _ (sees_given s o os t ts s' e m) = omega arith
-  sees_some _ _ _ (sees_left s o os t ts s' e m) = omega arith
+  sees_some _ _ _ _ = omega arith
 
 -- 2. Reasons.
 
@@ -63,14 +59,13 @@ less_most a b h = grind (arith, nat_tests)
 
 -- refused for a reason, or for one with a smaller number
 pub worse_less : (f : Reason) (x : Effect) → (h : Reason) × (or_worse f x ≡ fails h) × (reason_number h ≤ reason_number f)
-worse_less f (fails y) = (lesser f y, refl, less (nat_lt (reason_number y) (reason_number f)) refl)
-  where
-    less : (b : Bool) → nat_lt (reason_number y) (reason_number f) ≡ b → reason_number (if b then y else f) ≤ reason_number f
-    less true i = less_most (reason_number y) (reason_number f) i
-    less false i = omega arith
-worse_less f (uses m) = (f, refl, omega arith)
-worse_less f (tells v m) = (f, refl, omega arith)
-worse_less f (leaves v m) = (f, refl, omega arith)
+worse_less f (fails y) = (
+  lesser f y,
+  refl,
+  cond_both (nat_lt (reason_number y) (reason_number f)) y f (λ x. reason_number x ≤ reason_number f)
+      (λ i. less_most (reason_number y) (reason_number f) i) (λ i. omega arith),
+)
+worse_less f _ = (f, refl, omega arith)
 
 none_shut : (a b : Bool) → b ≡ true → (a && not b) ≡ false
 none_shut true true e = refl
@@ -108,8 +103,7 @@ module _ (g : Catalog) (l : Limits) where
             → TurnsTo g l e Done Refused (λ k. Turned g l e Done Refused (turn g l k (token_of t.lexeme h.1)) ts) ⊥ x → ⊥
         by (goes k) a b d = never k (always_calm g l k.now (λ m. b m (a.1 ∙ top))) d
         by (gives v k) a b d = never k (always_calm g l k.now (λ m. b m (a.1 ∙ top))) d
-        by (refuses y) a b d = d.0
-        by (late y k) a b d = d.0
+        by _ a b d = d.0
 
     -- behind an element or a name no token has begun but a mark of one octet
     pub not_shut : (r : Reading) (t : Placed) (ts : List Placed) (h : Heads g l e Done Refused r (t ∷ ts)) (s : Known) → MeetsNext s t → is_sane s.mode ≡ true
@@ -129,9 +123,8 @@ module _ (g : Catalog) (l : Limits) where
     shut_quiet r t ts h s m sane = go (shut r.now) refl (is_idle s.mode) refl
       where
         go : (a : Bool) → shut r.now ≡ a → (b : Bool) → is_idle s.mode ≡ b → (a && not b) ≡ false
-        go false i b k = refl
-        go true i true k = refl
         go true i false k = absurd (not_shut r t ts h s m sane k i)
+        go _ i _ k = refl
 
   -- 4. Octets.
 
@@ -178,11 +171,9 @@ module _ (g : Catalog) (l : Limits) where
 
     noticed_went : (to : ℕ) (more : State → Run) (s : Known) (r : Reading) → (shut r.now && not (is_idle s.mode)) ≡ false
         → Good (Err (record { offset = to + 1; reason = Reason.ItemTooLong })) → Good (more (with_scan s r)).now → Went to more (noticed l r s)
-    noticed_went to more s r q too h = subst (Went to more) (sym (cond-false _ _ _ q)) (go (nat_le (reaches r.frames r s) l.item))
-      where
-        go : (b : Bool) → Went to more (if b then uses (with_scan s r) else fails Reason.ItemTooLong)
-        go true = inl (with_scan s r, refl, h)
-        go false = inr (inr (Reason.ItemTooLong, refl, too))
+    noticed_went to more s r q too h =
+        subst (Went to more) (sym (cond-false _ _ _ q)) (cond_both (nat_le (reaches r.frames r s) l.item) (uses (with_scan s r)) (fails Reason.ItemTooLong)
+        (Went to more) (λ e. inl (with_scan s r, refl, h)) (λ e. inr (inr (Reason.ItemTooLong, refl, too))))
 
     -- the last token is refused for the reason, or for one with a smaller number
     refused_here : (to : ℕ) → to + 1 ≡ total → ByOctet → (f : Reason) → reason_number f ≤ reason_number e → Good (Err (record { offset = to + 1; reason = f }))
@@ -223,8 +214,7 @@ module _ (g : Catalog) (l : Limits) where
               (went_more to more (eats g l (with_scan s k) o)
               (subst (Went to more) (sym (eats_direct g l s o k x (ap (λ q. feed q s o) a.0 ∙ i) (inr b)))
               (went k (settled_heads g l e Done Refused r k t ts h a.0 b d) a.0 (settled_ok k c) (inr b))))
-          by (refuses y) f w a b c d = absurd d.0
-          by (late y k) f w a b c d = absurd d.0
+          by _ f w a b c d = absurd d.0
 
           go : (b : Bool) → waits r x ≡ b → Good (run_on to (λ n. eats g l n o) more (eats g l (with_scan s r) o)).now
           go true w =
@@ -268,8 +258,7 @@ module _ (g : Catalog) (l : Limits) where
             by (goes n) q d = noticed_went to more s' n (none_shut (shut n.now) (is_idle s'.mode) idle) too
                 (onward n (λ top. idle_calm n.now s'.mode (q top).0 idle) d)
             by (gives v n) q d = inr (inl (v, with_scan s' n, refl, onward n (λ top. idle_calm n.now s'.mode (q top).0 idle) d))
-            by (refuses f) q d = absurd (never d.0)
-            by (late f n) q d = absurd (never d.0)
+            by _ q d = absurd (never d.0)
 
       module _ (here : to + 1 ≡ total) (b : ByOctet) (s' : Known) (t : Placed) where
         -- where the last token is given
@@ -368,8 +357,7 @@ module _ (g : Catalog) (l : Limits) where
                 subst (λ z. Good z.now) (sym (more_same g l to (λ n. eats g l n o) next (eats g l (with_scan s' n) o)
                 (eats_stays g l n s' o (ready_still g l n ready) (used v n q (place n)))))
                 (onward n (λ top. subst (λ z. CalmNow z s'.mode) (sym ready) tt) j)
-            by (refuses z) q j = absurd (never j.0)
-            by (late z n) q j = absurd (never j.0)
+            by _ q j = absurd (never j.0)
 
         shut_off : waits r (Left t.lexeme s') ≡ false → continues r (token_of t.lexeme h.1) ≡ false
         shut_off w = sym (left_direct r ts h i) ∙ w
@@ -396,9 +384,7 @@ module _ (g : Catalog) (l : Limits) where
                 let n : true ≡ false = sym (ap is_quoted k.0) ∙ (sym (ap (λ b. b && is_quoted t.lexeme.kind) top)
                 ∙ (ap (λ b. waits_now (is_top r.frames) b (Left t.lexeme s')) (sym x) ∙ w)) in cc
         never_gives Now.After x top w c z = c
-        never_gives Now.Name x top w c z = c
-        never_gives (Now.LongName v) x top w c z = c
-        never_gives (Now.Keyed v) x top w c z = c
+        never_gives _ x top w c z = c
 
         settled : (x : Turn) → settle g l r ≡ x → waits r (Left t.lexeme s') ≡ false
             → Leading g l (λ n. (place n ≡ place r) × (is_top n.frames ≡ is_top r.frames)) x → Leading g l (λ n. settle g l n ≡ goes n) x → SettledCalm g l x
@@ -409,11 +395,7 @@ module _ (g : Catalog) (l : Limits) where
         settled (gives v k) j w a b c d = absurd (never' r.now refl)
           where
             top : is_top r.frames ≡ true
-            top = by (is_top r.frames) refl
-              where
-                by : (b : Bool) → is_top r.frames ≡ b → b ≡ true
-                by true z = refl
-                by false z = absurd (gives_top g l r v k z j)
+            top = true_from_ne_false (is_top r.frames) (λ z. gives_top g l r v k z j)
 
             never' : (n : Now) → r.now ≡ n → ⊥
             never' n x = never_gives n x top w (subst (λ z. CalmNow z s.mode) x (calm top))
@@ -428,12 +410,7 @@ module _ (g : Catalog) (l : Limits) where
             (ap (turn_now (under g l) r (token_of t.lexeme h.1)) x
             ∙ long_refused g l t.lexeme.start t.lexeme.end r.start r.context r.frames r.notes h.1 v b
             (sym (segment_agree t.lexeme.kind t.lexeme.octets h.1 body) ∙ f.1)) (h.3 (inl q))
-        waited (Now.Pending q b) x w d = absurd cc
-        waited (Now.LongName v) x w d = absurd cc
-        waited Now.Ready x w d = absurd cc
-        waited Now.After x w d = absurd cc
-        waited Now.Name x w d = absurd cc
-        waited (Now.Keyed v) x w d = absurd cc
+        waited _ x w d = absurd cc
 
         left_run : Good (run g l to (with_scan s r) (o ∷ os)).now
         left_run = go (waits r (Left t.lexeme s')) refl

@@ -65,8 +65,6 @@ other_bare c d e n h = n (subst BareSaid e h)
 
 -- what says a word, an id, a typed null or the `{` of a struct is a token that the octet behind it shows
 pub said_bare : (k : TokenKind) (octets : List ℕ) (c : Content) → IsBody k octets (Ok c) → BareSaid c → IsBare k
-said_bare TokenKind.Word octets c b h = tt
-said_bare TokenKind.KindName octets c b h = tt
 said_bare TokenKind.Number octets (Number' n) b h = absurd h
 said_bare TokenKind.Number octets _ b h = absurd b
 said_bare TokenKind.Operator octets c b h = absurd (other_bare c (Operator octets) b.0 (λ x. x) h)
@@ -76,6 +74,7 @@ said_bare TokenKind.LongString octets c b h = absurd (other_bare c (Long octets)
 said_bare TokenKind.Clob octets c b h = absurd (other_bare c (Clob octets) (let e : c ≡ Clob octets = cc in e) (λ x. x) h)
 said_bare TokenKind.Blob octets c b h = absurd (other_bare c (Blob octets) (let e : c ≡ Blob octets = cc in e) (λ x. x) h)
 said_bare (TokenKind.Mark m) octets c b h = mark_bare m (subst BareSaid (let e : c ≡ Mark' m = cc in e) h)
+said_bare _ octets c b h = tt
 
 -- what says a keyword, a version, an id or a typed null, of which alone the end decides
 abbrev pub EndSaid : Content → Type 0
@@ -291,55 +290,42 @@ Shown sight ts (TypedNull k) = sight.word ts
 Shown sight ts (Mark' m) = MarkShown sight ts m
 Shown sight ts _ = Unit {0}
 
+-- It is seen where it is of a word, of a struct's `{`, and of another mark but a comma and a colon.
+pub shown_by : (sight : Sight) (ts : List Placed) (c : Content) → (BareSaid c → sight.word ts) → (c ≡ Mark' Mark.FieldsOpen → sight.struct ts)
+    → ((m : Mark) → c ≡ Mark' m → is_closing (TokenKind.Mark m) ≡ true → (m ≡ Mark.Colon → ⊥) → sight.mark ts) → Shown sight ts c
+shown_by sight ts (Word v) word struct mark = word tt
+shown_by sight ts (Id id) word struct mark = word tt
+shown_by sight ts (TypedNull k) word struct mark = word tt
+shown_by sight ts (Mark' Mark.FieldsOpen) word struct mark = struct refl
+shown_by sight ts (Mark' Mark.Comma) word struct mark = tt
+shown_by sight ts (Mark' Mark.Colon) word struct mark = tt
+shown_by sight ts (Mark' m) word struct mark = mark m refl refl (λ q. cc)
+shown_by sight ts _ word struct mark = tt
+
+-- a mark that is no colon is neither a colon nor an operator
+pub neither : (m : Mark) (k : TokenKind) → k ≡ TokenKind.Mark m → (m ≡ Mark.Colon → ⊥) → (k ≡ TokenKind.Mark Mark.Colon) ⊎ (k ≡ TokenKind.Operator) → ⊥
+neither m k e n (inl y) = n (let q : TokenKind.Mark m ≡ TokenKind.Mark Mark.Colon = sym e ∙ y in let q' : m ≡ Mark.Colon = cc in q')
+neither m k e n (inr y) = absurd (let q : TokenKind.Mark m ≡ TokenKind.Operator = sym e ∙ y in cc)
+
 module _ (p : Place) (s : Known) (u : List ℕ) (ts : List Placed) (ahead : List ℕ) (h : Scanned p s u ts ahead) (o : ℕ) (next : Continues (o ∷ []) ahead)
     (x : Lexeme) (s' : Known) (pass : Passes x.kind x.octets) (c : Content) (body : IsBody x.kind x.octets (Ok c)) where
   -- of a token that ends with the octet, this octet shows what is to be seen
   pub given_shown : feed p s o ≡ Given x s' → Shown (by_octet (u ++ o ∷ [])) (ts ++ placed p x ∷ []) c
-  given_shown e = go c refl
+  given_shown e =
+      shown_by (by_octet (u ++ o ∷ [])) (ts ++ placed p x ∷ []) c (λ b. absurd (bare b)) (λ f. absurd (bare (subst BareSaid (sym f) tt)))
+      (λ m f i n. given_ends p s u ts ahead h o next x s' pass e)
     where
-      ends : Are (u ++ o ∷ []) (ts ++ placed p x ∷ []) []
-      ends = given_ends p s u ts ahead h o next x s' pass e
-
-      bare : (d : Content) → c ≡ d → BareSaid d → ⊥
-      bare d f b = given_bare p s u ts ahead h o next x s' pass e (said_bare x.kind x.octets c body (subst BareSaid (sym f) b))
-
-      go : (d : Content) → c ≡ d → Shown (by_octet (u ++ o ∷ [])) (ts ++ placed p x ∷ []) d
-      go (Word v) f = absurd (bare (Word v) f tt)
-      go (Id id) f = absurd (bare (Id id) f tt)
-      go (TypedNull k) f = absurd (bare (TypedNull k) f tt)
-      go (Mark' Mark.FieldsOpen) f = absurd (bare (Mark' Mark.FieldsOpen) f tt)
-      go (Mark' Mark.Comma) f = tt
-      go (Mark' Mark.Colon) f = tt
-      go (Mark' _) f = ends
-      go _ f = tt
+      bare : BareSaid c → ⊥
+      bare b = given_bare p s u ts ahead h o next x s' pass e (said_bare x.kind x.octets c body b)
 
   -- of a token that ended before the octet, this octet shows what is to be seen
   pub left_shown : is_sane s.mode ≡ true → feed p s o ≡ Left x s' → Shown (by_octet (u ++ o ∷ [])) (ts ++ placed p x ∷ []) c
-  left_shown sane e = go c refl
+  left_shown sane e = shown_by (by_octet (u ++ o ∷ [])) (ts ++ placed p x ∷ []) c ends (λ f. ends (subst BareSaid (sym f) tt)) closing
     where
-      ends : (d : Content) → c ≡ d → BareSaid d → (z : ℕ) × Are (u ++ o ∷ []) (ts ++ placed p x ∷ []) (z ∷ [])
-      ends d f b = left_ends p s u ts ahead h o next x s' pass e (said_bare x.kind x.octets c body (subst BareSaid (sym f) b))
+      ends : BareSaid c → (z : ℕ) × Are (u ++ o ∷ []) (ts ++ placed p x ∷ []) (z ∷ [])
+      ends b = left_ends p s u ts ahead h o next x s' pass e (said_bare x.kind x.octets c body b)
 
-      closing : (m : Mark) → c ≡ Mark' m → is_closing (TokenKind.Mark m) ≡ true → (m ≡ Mark.Colon → ⊥) → ⊥
+      closing : (m : Mark) → c ≡ Mark' m → is_closing (TokenKind.Mark m) ≡ true → (m ≡ Mark.Colon → ⊥) → Are (u ++ o ∷ []) (ts ++ placed p x ∷ []) []
       closing m f i n =
           let kind : x.kind ≡ TokenKind.Mark m = mark_kind x.kind x.octets m (subst (λ y. IsBody x.kind x.octets (Ok y)) f body) in
-          by m n kind (left_mark p s u ts ahead h o next x s' pass sane e (ap is_closing kind ∙ i))
-        where
-          by : (m : Mark) → (m ≡ Mark.Colon → ⊥) → x.kind ≡ TokenKind.Mark m → x.kind ≡ TokenKind.Mark Mark.Colon ⊎ (x.kind ≡ TokenKind.Operator) → ⊥
-          by m n kind (inl y) = n (let q : TokenKind.Mark m ≡ TokenKind.Mark Mark.Colon = sym kind ∙ y in let q' : m ≡ Mark.Colon = cc in q')
-          by m n kind (inr y) = absurd (let q : TokenKind.Mark m ≡ TokenKind.Operator = sym kind ∙ y in cc)
-
-      go : (d : Content) → c ≡ d → Shown (by_octet (u ++ o ∷ [])) (ts ++ placed p x ∷ []) d
-      go (Word v) f = ends (Word v) f tt
-      go (Id id) f = ends (Id id) f tt
-      go (TypedNull k) f = ends (TypedNull k) f tt
-      go (Mark' Mark.FieldsOpen) f = ends (Mark' Mark.FieldsOpen) f tt
-      go (Mark' Mark.Comma) f = tt
-      go (Mark' Mark.Colon) f = tt
-      go (Mark' Mark.FieldsClose) f = absurd (closing Mark.FieldsClose f refl (λ q. cc))
-      go (Mark' Mark.ListOpen) f = absurd (closing Mark.ListOpen f refl (λ q. cc))
-      go (Mark' Mark.ListClose) f = absurd (closing Mark.ListClose f refl (λ q. cc))
-      go (Mark' Mark.SexpOpen) f = absurd (closing Mark.SexpOpen f refl (λ q. cc))
-      go (Mark' Mark.SexpClose) f = absurd (closing Mark.SexpClose f refl (λ q. cc))
-      go (Mark' Mark.Colons) f = absurd (closing Mark.Colons f refl (λ q. cc))
-      go _ f = tt
+          absurd (neither m x.kind kind n (left_mark p s u ts ahead h o next x s' pass sane e (ap is_closing kind ∙ i)))

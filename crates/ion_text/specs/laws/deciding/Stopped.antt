@@ -1,7 +1,8 @@
 -- Where a row of the table stands, the octet that shows it is refused, for the row's reason or one with a smaller number, unless an item
 -- became too long before.
 use Rattle.std.proofs.Common.{◌≡◌, ℕ, ◌+◌, ◌<◌, ◌≤◌, nat_le, Bool, true, false, ◌||◌, List, [], ◌∷◌, ◌++◌, length, Result, Err, IfErr, refl, sym, ap, ◌∙◌, subst, append_assoc, append-nil, length-append, arith, if◌then◌else◌, ◌⊎◌, inl, inr, codes}
-use Rattle.ion_text.specs.Names.{Are, BlankThen, Catalog, Decides, Effect, Given, HasRow, IsIdReason, IsTableReason, Known, Left, LexesTo, Limits, Mark, Mode, Next, NoColons, Outcome, Place, Placed, Reading, Reason, Refusal, Refused, Sight, State, TokenKind, Turn, annotated, bad_table, begun, eats, fails, feed, follow, followed, gives, goes, initial, is_idle, is_sane, keyword_as_annotation, keyword_as_name, late, no_symbol, noticed, null_table, on_scan, on_settled, other_version, reaches, reads, reason_number, refuses, run, run_on, scan, settle, struct_too_deep, symbol_waits, takes, too_deep, uses, with_scan}
+use Rattle.std.proofs.lemmas.Bool.{cond_both, false_from_ne_true}
+use Rattle.ion_text.specs.Names.{Are, BlankThen, Catalog, Decides, Effect, Given, HasRow, IsIdReason, IsTableReason, Known, Left, LexesTo, Limits, Mark, Mode, Next, NoColons, Outcome, Place, Placed, Reading, Reason, Refusal, Refused, Sight, State, TokenKind, Turn, annotated, bad_table, begun, eats, fails, feed, follow, followed, initial, is_idle, is_sane, keyword_as_annotation, keyword_as_name, late, no_symbol, noticed, null_table, on_scan, on_settled, other_version, reaches, reads, reason_number, refuses, run, run_on, scan, settle, struct_too_deep, symbol_waits, takes, too_deep, uses, with_scan}
 use Rattle.ion_model.specs.declared.value.Payload.TheVariants as payloads
 use Rattle.ion_tokens.proofs.complete.Moves.{at}
 use Rattle.ion_tokens.proofs.complete.Wholes.{run_behind}
@@ -72,8 +73,6 @@ zero_behind (TokenKind.Mark Mark.FieldsOpen) n = absurd (n tt)
 zero_behind _ n = refl
 
 behind_most : (k : TokenKind) → behind_kind k ≤ 1
-behind_most TokenKind.Word = omega arith
-behind_most TokenKind.KindName = omega arith
 behind_most (TokenKind.Mark Mark.FieldsOpen) = omega arith
 behind_most _ = omega arith
 
@@ -198,19 +197,11 @@ module _ (u : List ℕ) (ts : List Placed) (none : NoColons u ts) (k : ℕ) wher
           subst (λ y. Unfollowed s (x ∷ y)) (sym only) (shows s x (go (feed Place.Top s x) refl only))
         where
           go : (y : Outcome) → feed Place.Top s x ≡ y → ys ≡ [] → symbol_waits y ≡ false
-          go (Next t) f only = idle (is_idle t.mode) refl
-            where
-              idle : (b : Bool) → is_idle t.mode ≡ b → b ≡ false
-              idle false i = refl
-              idle true i =
-                  let here = subst (λ y. Sound Place.Top true k since x y) f (feed_sound Place.Top true k s since x h.holds) in
-                  let close = colons_close k t.kept t.start t.used (since ++ x ∷ []) t.mode i here.mode in
-                  absurd (never close.octets (subst (λ y. BlankThen (codes "::") ((since ++ x ∷ y) ++ close.octets)) (sym only) close.shows))
-          go (Given y t) f only = told (symbol_waits (Given y t)) refl
-            where
-              told : (b : Bool) → symbol_waits (Given y t) ≡ b → b ≡ false
-              told false i = refl
-              told true i = absurd (given y t f i)
+          go (Next t) f only = false_from_ne_true (is_idle t.mode) (λ i.
+              let here = subst (λ y. Sound Place.Top true k since x y) f (feed_sound Place.Top true k s since x h.holds) in
+              let close = colons_close k t.kept t.start t.used (since ++ x ∷ []) t.mode i here.mode in
+              never close.octets (subst (λ y. BlankThen (codes "::") ((since ++ x ∷ y) ++ close.octets)) (sym only) close.shows))
+          go (Given y t) f only = false_from_ne_true (symbol_waits (Given y t)) (given y t f)
           go (Left y t) f only = refl
           go (Refused n y) f only = refl
       by (inr (z ∷ zs, e, f)) more = may s x ys on.0 on.1 on.2 (more on.0 on.1 some')
@@ -282,8 +273,7 @@ module _ (g : Catalog) (l : Limits) (u : List ℕ) (e : Reason) (row : HasRow e)
       × (reason_number f ≤ reason_number e)
   settled_fails again s x (refuses f) h = (f, refl, omega (arith, ap reason_number h))
   settled_fails again s x (late f k) h = let w = worse_less f (on_scan g l again k x) in (w.0, w.1, omega (arith, w.2, ap reason_number h))
-  settled_fails again s x (goes k) h = absurd h
-  settled_fails again s x (gives v k) h = absurd h
+  settled_fails again s x _ h = absurd h
 
   rest_stopped : (s : Known) (os : List ℕ) → Unfollowed s os → (to : ℕ) → to + length os ≡ length u
       → Stopped (length u) e (run g l to (with_scan s P) os).now
@@ -297,13 +287,9 @@ module _ (g : Catalog) (l : Limits) (u : List ℕ) (e : Reason) (row : HasRow e)
       (record { offset = to + 1; reason = q.0 }, refl, inr (omega (arith, all), q.2))
   rest_stopped _ _ (may s o os s' f i m) to all =
       subst (λ y. Stopped (length u) e (run_on to (λ n. eats g l n o) (λ n. run g l (to + 1) n os) y).now) (sym (waits_uses g l ts e p s o s' f i))
-      (go (nat_le (reaches P.frames P s') l.item) (rest_stopped s' os m (to + 1) (omega (arith, all))))
-    where
-      go : (b : Bool) → Stopped (length u) e (run g l (to + 1) (with_scan s' P) os).now
-          → Stopped (length u) e (run_on to (λ n. eats g l n o) (λ n. run g l (to + 1) n os)
-          (if b then uses (with_scan s' P) else fails Reason.ItemTooLong)).now
-      go true h = h
-      go false h = too_long (length u) (to + 1) e (omega (arith, all, unfollowed_some s' os m))
+      (cond_both (nat_le (reaches P.frames P s') l.item) (uses (with_scan s' P)) (fails Reason.ItemTooLong)
+      (λ x. Stopped (length u) e (run_on to (λ n. eats g l n o) (λ n. run g l (to + 1) n os) x).now)
+      (λ k. rest_stopped s' os m (to + 1) (omega (arith, all))) (λ k. too_long (length u) (to + 1) e (omega (arith, all, unfollowed_some s' os m))))
 
   unfollowed_stopped : Stopped (length u) e (run g l 0 begun u).now
   unfollowed_stopped =

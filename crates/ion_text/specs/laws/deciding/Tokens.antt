@@ -1,9 +1,9 @@
 -- Where a row of the table stands whose last token is refused, octets are refused.
-use Rattle.std.proofs.Common.{◌≡◌, ℕ, ◌+◌, ◌≤◌, nat_lt, Bool, true, false, ◌&&◌, ◌||◌, List, [], ◌∷◌, ◌++◌, length, refl, sym, ap, ◌∙◌, subst, arith, append_assoc, length-append, Result, Ok, Err, Option, Some, if◌then◌else◌, ◌⊎◌, inl, inr, codes}
+use Rattle.std.proofs.Common.{◌≡◌, ℕ, ◌+◌, ◌≤◌, nat_lt, Bool, true, false, ◌&&◌, ◌||◌, List, [], ◌∷◌, ◌++◌, length, refl, sym, ap, ◌∙◌, subst, arith, append_assoc, length-append, Result, Ok, Err, Option, Some, if◌then◌else◌, inl, inr, codes}
 use Rattle.std.proofs.lemmas.Bool.{cond-true}
 use Rattle.std.proofs.lemmas.Bool.Decides.{nat_tests}
 use Rattle.std.specs.Str.{bytes_eq}
-use Rattle.ion_text.specs.Names.{Annotations, Are, Bracket, Catalog, Comes, Container, Content, Field, Frame, Held, Id, InField, InList, InSexp, InStruct, IsBody, IsKeyword, IsScalar, Kind, Known, Layer, Limits, Mark, Mark', Means, Members, Now, Payload, Payload-F, Place, Placed, Plain, Reading, Reason, Says, Slot, Symbols, TakesValue, TokenKind, Turn, TypedNull, Value, Walk, Word, adds_values, annotated, at, at_end, begins_as_long, begun_at, close_place, continues, depth, done, end_of, ended, ends_long, first_token, fresh, gives, goes, held_symbol, held_word, is_blob, is_clob, is_closing, is_decimal, is_false, is_idle, is_int, is_keyword, is_list, is_null, is_operator, is_short, is_struct, is_symbol, is_table, is_timestamp, is_true, is_typed_null, is_version, late, long_string, means, next, noted, on_ready, on_turn, one_token, open_mark, pending_at, place, place_of, reads, refuses, resolve, resolved, said, said_ok, spot_at, stopped, the_marker, token_of, turn, turned, under}
+use Rattle.ion_text.specs.Names.{Annotations, Are, Bracket, Catalog, Comes, Container, Content, Field, Frame, Held, Id, InStruct, IsBody, IsKeyword, IsScalar, Kind, Known, Layer, Limits, Mark, Mark', Means, Members, Now, Payload, Payload-F, Place, Placed, Plain, Reading, Reason, Says, Slot, Symbols, TakesValue, TokenKind, Turn, TypedNull, Value, Walk, Word, adds_values, annotated, at, at_end, begins_as_long, begun_at, close_place, continues, depth, done, end_of, ended, ends_long, first_token, fresh, gives, goes, held_symbol, held_word, is_blob, is_clob, is_closing, is_decimal, is_false, is_idle, is_int, is_keyword, is_list, is_null, is_operator, is_short, is_struct, is_symbol, is_table, is_timestamp, is_true, is_typed_null, is_version, late, long_string, means, next, noted, on_ready, on_turn, one_token, open_mark, pending_at, place, place_of, reads, refuses, resolve, resolved, said, said_ok, spot_at, stopped, the_marker, token_of, turn, turned, under}
 use Rattle.ion_model.specs.declared.value.Payload.TheVariants as payloads
 use Rattle.ion_model.specs.declared.value.Payload.TheViews as views
 use Rattle.ion_text.specs.Deciding.{Ends}
@@ -13,7 +13,7 @@ use Rattle.ion_text.specs.laws.deciding.AtEnd.{last_ends}
 use Rattle.ion_text.specs.laws.deciding.Comings.{JoinsNothing, before, came, came_name, cut, cut_name, f, go_on, go_on_name, here, same_levels, settles, settles_name, struct, up_to}
 use Rattle.ion_text.specs.laws.deciding.Fronts.{Came, HasEnded, SettlesTo, origin, stands_read, struct_now, struct_settles}
 use Rattle.ion_text.specs.laws.deciding.Openings.{begins_so}
-use Rattle.ion_text.specs.laws.deciding.Shows.{BareSaid, IsBare, said_bare}
+use Rattle.ion_text.specs.laws.deciding.Shows.{BareSaid, IsBare, neither, said_bare}
 use Rattle.ion_text.specs.laws.reading.Brackets.{no_colons}
 use Rattle.ion_text.specs.laws.reading.complete.Complete.{depth-struct, means_begins, members_read, notes_read, open_read, read_behind, starts, struct_ends}
 use Rattle.ion_text.specs.laws.reading.complete.Going.{mark_kind}
@@ -53,13 +53,7 @@ pub bare_plain : (k : TokenKind) → IsBare k → k ≡ TokenKind.Operator → �
 bare_plain TokenKind.Word b e = cc
 bare_plain TokenKind.KindName b e = cc
 bare_plain (TokenKind.Mark m) b e = cc
-bare_plain TokenKind.Number b e = absurd b
-bare_plain TokenKind.Operator b e = absurd b
-bare_plain TokenKind.QuotedSymbol b e = absurd b
-bare_plain TokenKind.ShortString b e = absurd b
-bare_plain TokenKind.LongString b e = absurd b
-bare_plain TokenKind.Clob b e = absurd b
-bare_plain TokenKind.Blob b e = absurd b
+bare_plain _ b e = absurd b
 
 -- a token that the octet behind it shows has ended where an octet stands behind it
 pub bare_ended : (g : Catalog) (l : Limits) (u : List ℕ) (ts : List Placed) (t : Placed) (p : Place) (d : Content) (o : ℕ) (rest : List ℕ) → Says p t d
@@ -79,13 +73,9 @@ mark_ended g l u p t m says closing n = record {
     kind : t.lexeme.kind ≡ TokenKind.Mark m
     kind = mark_kind t.lexeme.kind t.lexeme.octets m says.body
 
-    by : (t.lexeme.kind ≡ TokenKind.Mark Mark.Colon) ⊎ (t.lexeme.kind ≡ TokenKind.Operator) → ⊥
-    by (inl y) = n (let q : TokenKind.Mark m ≡ TokenKind.Mark Mark.Colon = sym kind ∙ y in let q' : m ≡ Mark.Colon = cc in q')
-    by (inr y) = absurd (let q : TokenKind.Mark m ≡ TokenKind.Operator = sym kind ∙ y in cc)
-
     go : (q : Place) (s : Known) → at_end q s ≡ Ok (Some t.lexeme) → (b : Bool) → is_idle s.mode ≡ b → ⊥
     go q s e false h = never (is_closing t.lexeme.kind) ((at_end_fine q s t.lexeme e).2 h) (ap is_closing kind ∙ closing)
-    go q s e true h = by ((at_end_fine q s t.lexeme e).4 h)
+    go q s e true h = neither m t.lexeme.kind kind n ((at_end_fine q s t.lexeme e).4 h)
 
 -- 2. Contents that end what waits.
 
@@ -122,11 +112,8 @@ keyword_held w h = go (bytes_eq w (codes "null")) (bytes_eq w (codes "true")) (b
         → held_symbol (if a then Held.Null Kind.Null else (if b then Held.Truth true else
         (if c then Held.Truth false else (if d then Held.Nan else
         (if is_version w then Held.Version (bytes_eq w the_marker) (Some w) else Held.Symbol (Some w)))))) ≡ Err Reason.KeywordAsName
-    go true b c d h = refl
-    go false true c d h = refl
-    go false false true d h = refl
-    go false false false true h = refl
     go false false false false h = absurd cc
+    go _ _ _ _ h = refl
 
 -- 3. Why a token is refused.
 
@@ -138,17 +125,15 @@ Refusing e _ = ⊥
 
 -- behind a turn that refuses no token is read
 pub refusing_stops : (e : Reason) (t : Turn) (more : Reading → Walk) → Refusing e t → on_turn t more ≡ stopped
-refusing_stops e (refuses x) more h = refl
-refusing_stops e (late x r) more h = refl
 refusing_stops e (goes r) more h = absurd h
 refusing_stops e (gives v r) more h = absurd h
+refusing_stops e _ more h = refl
 
 -- a turn refuses for one reason
 pub one_refusing : (d e : Reason) (t : Turn) → Refusing d t → Refusing e t → d ≡ e
-one_refusing d e (refuses x) h k = sym h ∙ k
-one_refusing d e (late x r) h k = sym h ∙ k
 one_refusing d e (goes r) h k = absurd h
 one_refusing d e (gives v r) h k = absurd h
+one_refusing d e _ h k = sym h ∙ k
 
 -- a turn that is the refusal for a reason refuses for this reason
 pub refusing_is : (e : Reason) (t : Turn) → t ≡ refuses e → Refusing e t
@@ -164,10 +149,6 @@ refusing_else e true t u i h = absurd cc
 
 refusing_unresolved : (e : Reason) (r : Result (Option (List ℕ)) Reason) (f : Option (List ℕ) → Turn) → r ≡ Err e → Refusing e (resolved r f)
 refusing_unresolved e r f h = subst (λ x. Refusing e (resolved x f)) (sym h) refl
-
-refusing_noted : (e : Reason) (start : ℕ) (c : List Slot) (fs : List Frame) (ss : Symbols) (r : Result (Option (List ℕ)) Reason) → r ≡ Err e
-    → Refusing e (noted start c fs ss r)
-refusing_noted e start c fs ss r h = subst (λ x. Refusing e (noted start c fs ss x)) (sym h) refl
 
 -- a token behind others is refused where it comes by itself, or as the `::` behind what waits
 pub data Why (g : Catalog) (l : Limits) (ts : List Placed) (t : Placed) (e : Reason) : Type 0 where
@@ -243,9 +224,8 @@ module _ (g : Catalog) (l : Limits) where
       where
         by : (bracket : Bracket) (s : ℕ)
             → Refusing Reason.Depth (turn g l (at s c held h.symbols Now.Ready) (token_of h.token.lexeme (Mark' (open_mark bracket))))
-        by Bracket.List s = refusing_else Reason.Depth (nat_lt (length held) l.depth) _ (refuses Reason.Depth) (levels deep) refl
-        by Bracket.Sexp s = refusing_else Reason.Depth (nat_lt (length held) l.depth) _ (refuses Reason.Depth) (levels deep) refl
         by Bracket.Fields s = refusing_else Reason.Depth (nat_lt (length held) l.depth) _ (late Reason.Depth _) (levels deep) refl
+        by _ s = refusing_else Reason.Depth (nat_lt (length held) l.depth) _ (refuses Reason.Depth) (levels deep) refl
 
     -- one that waits for `::`
     module _ (word : Held) (waits : (start end : ℕ) → on_ready (under g l) (spot_at end start c) held h.symbols said
@@ -291,7 +271,7 @@ module _ (g : Catalog) (l : Limits) where
                 ∙ ap (λ y. on_turn (noted (begun_at x.0 h.token.lexeme.start held h.symbols) c held h.symbols y) done) none));
             why =
                 as_colons (pending_word y.0) (h.values ++ []) y.1 (mark_kind colons.lexeme.kind colons.lexeme.octets Mark.Colons says.body)
-                (refusing_noted Reason.KeywordAsName (begun_at y.0 h.token.lexeme.start held h.symbols) c held h.symbols (held_symbol word) none)
+                (subst (λ z. Refusing Reason.KeywordAsName (noted (begun_at y.0 h.token.lexeme.start held h.symbols) c held h.symbols z)) (sym none) refl)
                 (said_ok g l (place_of ks) colons (Mark' Mark.Colons) says) refl;
           }
 
@@ -330,9 +310,7 @@ module _ (g : Catalog) (l : Limits) where
       → Stops g l ts h.token e
   id_stops ts c (InStruct ∷ ks) id e h fails = name_stops c ks (Id id) ts h e (id_apart id) (λ s. refusing_unresolved e (resolve c id) _ fails)
   id_stops ts c [] id e h fails = id_value ts c [] id e tt h fails
-  id_stops ts c (InList ∷ ks) id e h fails = id_value ts c (InList ∷ ks) id e tt h fails
-  id_stops ts c (InSexp ∷ ks) id e h fails = id_value ts c (InSexp ∷ ks) id e tt h fails
-  id_stops ts c (InField ∷ ks) id e h fails = id_value ts c (InField ∷ ks) id e tt h fails
+  id_stops ts c k id e h fails = id_value ts c k id e tt h fails
 
   -- a keyword where a field's name comes is refused
   pub keyword_stops : (ts : List Placed) (c : List Slot) (ks : List Container) (said : Content) → (h : Comes g l c (InStruct ∷ ks) said ts) → IsKeyword said

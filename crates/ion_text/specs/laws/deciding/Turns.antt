@@ -1,5 +1,6 @@
 -- What a token is refused for, and what waits, is a row of the table.
 use Rattle.std.proofs.Common.{◌≡◌, ℕ, ◌+◌, ◌≤◌, nat_le, nat_lt, List, [], ◌∷◌, ◌++◌, length, Bool, true, false, ◌&&◌, ◌||◌, Result, Ok, Err, Option, Some, refl, sym, ap, ◌∙◌, subst, append_assoc, arith, codes, if◌then◌else◌, inl, inr}
+use Rattle.std.proofs.lemmas.Bool.{cond_both}
 use Rattle.std.proofs.lemmas.Bool.Decides.{nat_tests}
 use Rattle.std.specs.Str.{bytes_eq}
 use Rattle.std.proofs.lemmas.Slice.Eq.{bytes_eq-Decides}
@@ -42,12 +43,9 @@ word_keyword w e h = go (bytes_eq w (codes "null")) (bytes_eq w (codes "true")) 
         (if b then Held.Truth true else (if c then Held.Truth false else
         (if d then Held.Nan else (if v then Held.Version (bytes_eq w the_marker) (Some w) else Held.Symbol (Some w)))))) ≡ Err e
         → (((a || b) || (c || d)) ≡ true) × (Reason.KeywordAsName ≡ e)
-    go true b c d v h = (refl, let k : Reason.KeywordAsName ≡ e = cc in k)
-    go false true c d v h = (refl, let k : Reason.KeywordAsName ≡ e = cc in k)
-    go false false true d v h = (refl, let k : Reason.KeywordAsName ≡ e = cc in k)
-    go false false false true v h = (refl, let k : Reason.KeywordAsName ≡ e = cc in k)
     go false false false false true h = absurd cc
     go false false false false false h = absurd cc
+    go _ _ _ _ v h = (refl, let k : Reason.KeywordAsName ≡ e = cc in k)
 
 held_keyword : (c : List Slot) (said : Content) (h : Held) (e : Reason) → symbol_said said ≡ true → IsHeld c said h → held_symbol h ≡ Err e → IsKeyword said
     × (Reason.KeywordAsName ≡ e)
@@ -79,18 +77,12 @@ word_other w s h = go (bytes_eq w (codes "null")) (bytes_eq w (codes "true")) (b
         ≡ (if a then Held.Null Kind.Null else (if b then Held.Truth true else
         (if c then Held.Truth false else (if d then Held.Nan else (if v then Held.Version (bytes_eq w the_marker) (Some w) else Held.Symbol (Some w))))))
         → OtherVersion (Word w)
-    go true b c d v f h = absurd cc
-    go false true c d v f h = absurd cc
-    go false false true d v f h = absurd cc
-    go false false false true v f h = absurd cc
     go false false false false true f h = record { word = w; is = refl; version = f; other = sym (ap which h) }
-    go false false false false false f h = absurd cc
+    go _ _ _ _ _ f h = absurd cc
 
 held_other : (c : List Slot) (said : Content) (s : Option (List ℕ)) → symbol_said said ≡ true → IsHeld c said (Held.Version false s) → OtherVersion said
 held_other c (Word w) s n k = word_other w s k
 held_other c (Id id) s n k = absurd (let x : Held.Version false s ≡ Held.Symbol k.0 = k.2 in cc)
-held_other c (Quoted w) s n k = absurd cc
-held_other c (TypedNull kind) s n k = absurd cc
 held_other c _ s n k = absurd cc
 
 -- 2. Turns.
@@ -102,17 +94,12 @@ module _ (g : Catalog) (l : Limits) (sight : Sight) where
 
   -- where the turn refuses for a reason that rows have, one of them says that this is seen
   abbrev pub TurnDecided : Turn → Type 0
-  TurnDecided (goes r) = Unit {0}
-  TurnDecided (gives v r) = Unit {0}
   TurnDecided (refuses e) = Decided e
   TurnDecided (late e r) = Decided e
+  TurnDecided _ = Unit {0}
 
   within_decided : (item start end : ℕ) (t : Turn) → TurnDecided t → TurnDecided (within item start end t)
-  within_decided item start end t h = go (nat_le end (start + item))
-    where
-      go : (b : Bool) → TurnDecided (if b then t else refuses Reason.ItemTooLong)
-      go true = h
-      go false = λ i. absurd i
+  within_decided item start end t h = cond_both (nat_le end (start + item)) t (refuses Reason.ItemTooLong) TurnDecided (λ e. h) (λ e i. absurd i)
 
   top_decided : (item start end : ℕ) (c : List Slot) (v : Value) (d : Result (List Slot) Reason) (b : Bool) → ((e : Reason) → b ≡ true → d ≡ Err e → Decided e)
       → TurnDecided (if b then turned item start end d else within item start end (gives v (fresh c)))
@@ -123,9 +110,8 @@ module _ (g : Catalog) (l : Limits) (sight : Sight) where
   ended_decided : (start end : ℕ) (c : List Slot) (fs : List Frame) (v : Value) → ((e : Reason) → fs ≡ [] → is_table v ≡ true → next c v g ≡ Err e → Decided e)
       → TurnDecided (ended (under g l) (spot_at end start c) fs v)
   ended_decided start end c [] v f = top_decided l.item start end c v (next c v g) (is_table v) (λ e i j. f e refl i j)
-  ended_decided start end c (Frame.Items listing ss vs ∷ fs) v f = tt
-  ended_decided start end c (Frame.Named ss ms s ∷ fs) v f = tt
   ended_decided start end c (Frame.Fields ss ms ∷ fs) v f = λ i. absurd i
+  ended_decided start end c _ v f = tt
 
   flat_decided : (start end : ℕ) (c : List Slot) (fs : List Frame) (ss : Symbols) (q : Payload) → is_fields (layer_kind (views.out-Payload q)) ≡ false
       → TurnDecided (ended (under g l) (spot_at end start c) fs (annotated ss q))
@@ -136,11 +122,8 @@ module _ (g : Catalog) (l : Limits) (sight : Sight) where
 
   deeper_decided : (fs : List Frame) (t deep : Turn) → TurnDecided t → (l.depth ≤ length (containers fs) → TurnDecided deep)
       → TurnDecided (deeper l.depth fs t deep)
-  deeper_decided fs t deep h k = go (nat_lt (length fs) l.depth) refl
-    where
-      go : (b : Bool) → nat_lt (length fs) l.depth ≡ b → TurnDecided (if b then t else deep)
-      go true e = h
-      go false e = k (omega (arith, not_less (length fs) l.depth e, levels_same fs))
+  deeper_decided fs t deep h k =
+      cond_both (nat_lt (length fs) l.depth) t deep TurnDecided (λ e. h) (λ e. k (omega (arith, not_less (length fs) l.depth e, levels_same fs)))
 
   -- a list or an s-expression is closed
   items_decided : (start end : ℕ) (c : List Slot) (listing : Listing) (fs : List Frame)
@@ -184,9 +167,6 @@ module _ (g : Catalog) (l : Limits) (sight : Sight) where
               → TurnDecided (resolved r (λ s. goes (at start c fs ss (Now.Pending (Held.Symbol s) end))))
           go (Ok s) e = tt
           go (Err e) f = λ i. no_symbol ts c (containers fs) id e shown (value_comes g l c front vs pieces t (Id id) fs ss item deep apart d says) f
-      ready_decided fs ss (Quoted x) deep d says shown = tt
-      ready_decided fs ss (TypedNull k) deep d says shown = tt
-      ready_decided fs ss (Long x) deep d says shown = tt
       ready_decided fs ss (Short x) deep d says shown = flat_decided start end c fs ss (payloads.Str x) (ap (λ y. is_fields (layer_kind y)) (views.outs-Str x))
       ready_decided fs ss (Number' n) deep d says shown = flat_decided start end c fs ss (number_payload n) (flat_number n)
       ready_decided fs ss (Operator x) deep d says shown = flat_decided start end c fs ss (payloads.Symbol (Some x))
@@ -207,6 +187,7 @@ module _ (g : Catalog) (l : Limits) (sight : Sight) where
       ready_decided fs [] (Mark' Mark.SexpClose) deep d says shown = items_decided start end c Listing.Sexp fs
       ready_decided fs (s ∷ ss) (Mark' Mark.SexpClose) deep d says shown = λ i. absurd i
       ready_decided fs ss (Mark' _) deep d says shown = λ i. absurd i
+      ready_decided fs ss _ deep d says shown = tt
 
       before_apart : (fs : List Frame) (ss : Symbols) (h : Held) (d : PendingFor c fs ss h item) → (ends_long front && begins_as_long d.before) ≡ false
       before_apart fs ss h d = begins_so (ends_long front) d.before (d.token ∷ []) (subst (λ x. (ends_long front && begins_as_long x) ≡ false) d.whole apart)
@@ -232,9 +213,7 @@ module _ (g : Catalog) (l : Limits) (sight : Sight) where
       comma_decided : (fs : List Frame) → TurnDecided (on_comma start c fs)
       comma_decided (Frame.Items Listing.List ss vs ∷ fs) = tt
       comma_decided (Frame.Fields ss ms ∷ fs) = tt
-      comma_decided (Frame.Items Listing.Sexp ss vs ∷ fs) = λ i. absurd i
-      comma_decided (Frame.Named ss ms s ∷ fs) = λ i. absurd i
-      comma_decided [] = λ i. absurd i
+      comma_decided _ = λ i. absurd i
 
       -- behind an element or a field
       after_decided : (fs : List Frame) (said : Content) → Deep l.depth fs → Opened c fs item false → Says (place_in fs Now.After) t said → Shown sight ts said
@@ -243,21 +222,15 @@ module _ (g : Catalog) (l : Limits) (sight : Sight) where
       after_decided fs (Mark' Mark.ListClose) deep o says shown = items_decided start end c Listing.List fs
       after_decided (Frame.Fields ss ms ∷ fs) (Mark' Mark.FieldsClose) deep o says shown =
           closed_decided start end ss ms fs item false t deep apart o says shown
-      after_decided (Frame.Items listing ss vs ∷ fs) (Mark' Mark.FieldsClose) deep o says shown = λ i. absurd i
-      after_decided (Frame.Named ss ms s ∷ fs) (Mark' Mark.FieldsClose) deep o says shown = λ i. absurd i
-      after_decided [] (Mark' Mark.FieldsClose) deep o says shown = λ i. absurd i
-      after_decided fs _ deep o says shown = λ i. absurd i
+      after_decided _ _ deep o says shown = λ i. absurd i
 
       -- where a name may come
       name_decided : (ss : Symbols) (ms : List Field) (fs : List Frame) (said : Content) → Deep l.depth (Frame.Fields ss ms ∷ fs)
           → Opened c (Frame.Fields ss ms ∷ fs) item true → Says Place.Name t said → Shown sight ts said
           → TurnDecided (on_name (under g l) (spot_at end start c) (Frame.Fields ss ms ∷ fs) said)
-      name_decided ss ms fs (Word x) deep o says shown = go (is_keyword x) refl
-        where
-          go : (b : Bool) → is_keyword x ≡ b → TurnDecided (if b then late Reason.KeywordAsName (keyed start c (Frame.Fields ss ms ∷ fs) (Some x)) else goes
-              (keyed start c (Frame.Fields ss ms ∷ fs) (Some x)))
-          go true e = λ i. keyword_as_name ts c (containers fs) (Word x) shown (name_comes g l c front vs pieces t (Word x) ss ms fs item deep apart o says) e
-          go false e = tt
+      name_decided ss ms fs (Word x) deep o says shown =
+          cond_both (is_keyword x) _ _ TurnDecided
+          (λ e i. keyword_as_name ts c (containers fs) (Word x) shown (name_comes g l c front vs pieces t (Word x) ss ms fs item deep apart o says) e) (λ e. tt)
       name_decided ss ms fs (TypedNull k) deep o says shown =
           λ i. keyword_as_name ts c (containers fs) (TypedNull k) shown (name_comes g l c front vs pieces t (TypedNull k) ss ms fs item deep apart o says) tt
       name_decided ss ms fs (Id id) deep o says shown = go (resolve c id) refl
@@ -279,9 +252,7 @@ module _ (g : Catalog) (l : Limits) (sight : Sight) where
 
       named_decided : (fs : List Frame) (s : Option (List ℕ)) → TurnDecided (named start c fs s)
       named_decided (Frame.Fields ss ms ∷ fs) s = tt
-      named_decided (Frame.Items listing ss vs ∷ fs) s = λ i. absurd i
-      named_decided (Frame.Named ss ms x ∷ fs) s = λ i. absurd i
-      named_decided [] s = λ i. absurd i
+      named_decided _ s = λ i. absurd i
 
       keyed_decided : (fs : List Frame) (s : Option (List ℕ)) (said : Content) → TurnDecided (on_keyed start c fs s said)
       keyed_decided fs s (Mark' Mark.Colon) = named_decided fs s
@@ -303,9 +274,7 @@ module _ (g : Catalog) (l : Limits) (sight : Sight) where
     token_decided t begin end start item fs ss said Now.After deep apart d says shown = after_decided t start end item apart fs said deep d.0 says shown
     token_decided t begin end start item (Frame.Fields rs ms ∷ fs) ss said Now.Name deep apart d says shown =
         name_decided t start end item apart rs ms fs said deep d.0 says shown
-    token_decided t begin end start item [] ss said Now.Name deep apart d says shown = absurd d.1
-    token_decided t begin end start item (Frame.Items listing rs xs ∷ fs) ss said Now.Name deep apart d says shown = absurd d.1
-    token_decided t begin end start item (Frame.Named rs ms x ∷ fs) ss said Now.Name deep apart d says shown = absurd d.1
+    token_decided t begin end start item _ ss said Now.Name deep apart d says shown = absurd d.1
     token_decided t begin end start item fs ss said (Now.LongName v) deep apart d says shown = long_name_decided t start end item apart fs v said
     token_decided t begin end start item fs ss said (Now.Keyed x) deep apart d says shown = keyed_decided t start end item apart fs x said
 
@@ -356,7 +325,6 @@ module _ (g : Catalog) (l : Limits) (sight : Sight) where
           (ap (λ y. is_fields (layer_kind y)) (views.outs-Symbol s))
       released_decided [] [] (Held.Null k) d f = null_decided [] k d (f refl)
       released_decided [] [] (Held.Truth b) d f = flat_decided start end c [] [] (payloads.Truth b) (ap (λ y. is_fields (layer_kind y)) (views.outs-Truth b))
-      released_decided [] [] Held.Nan d f = λ i. absurd i
       released_decided [] (x ∷ ss) (Held.Version b s) d f =
           flat_decided start end c [] (x ∷ ss) (payloads.Symbol s) (ap (λ y. is_fields (layer_kind y)) (views.outs-Symbol s))
       released_decided [] (x ∷ ss) (Held.Symbol s) d f = flat_decided start end c [] (x ∷ ss) (payloads.Symbol s)
@@ -364,12 +332,10 @@ module _ (g : Catalog) (l : Limits) (sight : Sight) where
       released_decided [] (x ∷ ss) (Held.Null k) d f = null_decided (x ∷ ss) k d (f refl)
       released_decided [] (x ∷ ss) (Held.Truth b) d f = flat_decided start end c [] (x ∷ ss) (payloads.Truth b)
           (ap (λ y. is_fields (layer_kind y)) (views.outs-Truth b))
+      released_decided [] [] Held.Nan d f = λ i. absurd i
       released_decided [] (x ∷ ss) Held.Nan d f = λ i. absurd i
-      released_decided (y ∷ fs) ss (Held.Version b s) d f = inside_decided start end c y fs (annotated ss (payloads.Symbol s))
-      released_decided (y ∷ fs) ss (Held.Symbol s) d f = inside_decided start end c y fs (annotated ss (payloads.Symbol s))
-      released_decided (y ∷ fs) ss (Held.Null k) d f = inside_decided start end c y fs (annotated ss (payloads.Null k))
-      released_decided (y ∷ fs) ss (Held.Truth b) d f = inside_decided start end c y fs (annotated ss (payloads.Truth b))
       released_decided (y ∷ fs) ss Held.Nan d f = λ i. absurd i
+      released_decided (y ∷ fs) ss h d f = inside_decided start end c y fs _
 
     -- What is refused of what waited is a row.
     pub settled_decided : (start : ℕ) (item : List Placed) (fs : List Frame) (ss : Symbols) (now : Now) → (ends_long front && begins_as_long item) ≡ false
@@ -378,8 +344,4 @@ module _ (g : Catalog) (l : Limits) (sight : Sight) where
     settled_decided start item fs ss (Now.Pending h end) apart d f = released_decided start end item apart fs ss h d (f h end refl)
     settled_decided start item fs ss (Now.Long v end) apart d f =
         flat_decided start end c fs ss (payloads.Str v) (ap (λ y. is_fields (layer_kind y)) (views.outs-Str v))
-    settled_decided start item fs ss (Now.LongName v) apart d f = tt
-    settled_decided start item fs ss Now.Ready apart d f = tt
-    settled_decided start item fs ss Now.After apart d f = tt
-    settled_decided start item fs ss Now.Name apart d f = tt
-    settled_decided start item fs ss (Now.Keyed x) apart d f = tt
+    settled_decided start item fs ss _ apart d f = tt

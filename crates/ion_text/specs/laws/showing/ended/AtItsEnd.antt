@@ -1,8 +1,8 @@
 -- Where the end of the octets would give a value, the first that the next octet gives is that value, and came before that octet.
-use Rattle.std.proofs.Common.{◌≡◌, ℕ, zero, suc, ◌+◌, ◌-◌, Bool, true, false, cond, ◌&&◌, not, nat_le, List, [], ◌∷◌, ◌++◌, length, Result, Ok, Err, Option, Some, None, refl, sym, ap, ◌∙◌, subst, arith, if◌then◌else◌}
+use Rattle.std.proofs.Common.{◌≡◌, ℕ, zero, suc, ◌+◌, ◌-◌, Bool, true, false, cond, ◌&&◌, not, nat_le, List, [], ◌∷◌, ◌++◌, length, Result, Ok, Err, Option, Some, None, refl, sym, ap, ◌∙◌, subst, arith}
 use Rattle.std.specs.Prelude.{◌==◌, bytes_eq, codes}
 use Rattle.std.proofs.lemmas.List.{append_cancel_left}
-use Rattle.std.proofs.lemmas.Bool.{true≢false}
+use Rattle.std.proofs.lemmas.Bool.{cond_both, true≢false}
 use Rattle.ion_text.specs.Names.{Action, Catalog, Content, Effect, End, Frame, Given, Keep, Known, Left, Lexeme, Limits, Mark, Mode, Next, Now, Number, Outcome, Place, Reading, ReadsNumber, Reason, Refusal, Refused, Run, Slot, State, Style, Symbols, TokenKind, Turn, Value, Within, acts, at, at_end, begins_value, begins_word, begun, behind_given, behind_left, cut, eats, end_of, end_ready, end_said, end_settled, end_turned, end_waiting, ends_at, ends_of, fails, feed, gives, go_to, goes, in_blank, is_digit, is_fresh, is_idle, is_name, is_operator_octet, is_sexp, is_stop, is_top, is_white, is_word_octet, late, leaves, noticed, number_read, number_reads, number_said, on_octet, on_said, on_scan, on_settled, or_worse, past, place, plain, reaches, refuses, run, run-append, run_on, said, settle, shut, takes, tells, then_run, token_of, trace, turn, unsettled, uses, with_scan}
 use Rattle.ion_tokens.specs.machine.Table.{next}
 use Rattle.ion_tokens.specs.laws.Numerals.{number_without_slash}
@@ -16,9 +16,7 @@ use Rattle.ion_text.specs.laws.showing.ended.Unused.{IsUntold, StandsSo, ends_so
 
 abbrev LeavesValue : Value → Effect → Type 0
 LeavesValue v (leaves w m) = w ≡ v
-LeavesValue v (uses m) = Unit {0}
-LeavesValue v (tells w m) = Unit {0}
-LeavesValue v (fails e) = Unit {0}
+LeavesValue v _ = Unit {0}
 
 worse_value : (v : Value) (e : Reason) (x : Effect) → LeavesValue v (or_worse e x)
 worse_value v e (fails f) = tt
@@ -29,9 +27,7 @@ worse_value v e (leaves w m) = tt
 -- no token ended before the octet
 abbrev NoneLeft : Outcome → Type 0
 NoneLeft (Left x s) = ⊥
-NoneLeft (Next s) = Unit {0}
-NoneLeft (Given x s) = Unit {0}
-NoneLeft (Refused n e) = Unit {0}
+NoneLeft _ = Unit {0}
 
 record LeavesNone (p : Place) (s : Known) (o : ℕ) (a : Action) : Type 0 where
   is : NoneLeft (acts p s o a)
@@ -81,26 +77,12 @@ blank_still p s h = go s.mode h
     go Mode.Slash e = absurd (operator (is_sexp p) (Keep.One 47) e)
     go (Mode.Operator x) e = absurd (operator (is_sexp p) Keep.Nothing e)
     go Mode.OperatorSlash e = absurd (operator (is_sexp p) (Keep.One 47) e)
-    go Mode.Quote e = absurd cc
-    go Mode.Quotes e = absurd cc
-    go (Mode.Text t w) e = absurd cc
-    go Mode.Brace e = absurd cc
-    go (Mode.Lob b) e = absurd cc
-    go Mode.BlockComment e = absurd cc
-    go Mode.BlockCommentStar e = absurd cc
-    go Mode.Colon e = absurd cc
-    go Mode.Word e = absurd cc
-    go Mode.KindName e = absurd cc
-    go Mode.Number e = absurd cc
-    go Mode.NumberSlash e = absurd cc
-    go (Mode.Infinity n) e = absurd cc
+    go _ e = absurd cc
 
 -- if a token ended before the octet, it is this one
 abbrev IsLeft : Lexeme → Outcome → Type 0
 IsLeft x (Left y s) = (y ≡ x) × (is_still s.mode ≡ true)
-IsLeft x (Next s) = Unit {0}
-IsLeft x (Given y s) = Unit {0}
-IsLeft x (Refused n e) = Unit {0}
+IsLeft x _ = Unit {0}
 
 -- what ends with a `/` is no number
 no_slashed : (w : List ℕ) (c : Content) → said TokenKind.Number (w ++ 47 ∷ []) ≡ Ok c → ⊥
@@ -174,20 +156,12 @@ same_left p s o x c top plain h says = go s.mode plain h
     go Mode.NumberSlash i e = absurd (slashed (cut_is (cut s TokenKind.Number (s.kept ++ 47 ∷ []) s.used) e))
     go Mode.Quotes i e = quotes (o == 39) (cut_is (cut s TokenKind.QuotedSymbol s.kept s.used) e)
     go Mode.Colon i e = colons (o == 58) (cut_is (cut s (TokenKind.Mark Mark.Colon) s.kept s.used) e)
-    go Mode.BlockComment i e = absurd cc
-    go Mode.BlockCommentStar i e = absurd cc
-    go (Mode.Infinity n) i e = absurd cc
-    go Mode.Quote i e = absurd cc
-    go (Mode.Text t w) i e = absurd cc
-    go Mode.Brace i e = absurd cc
-    go (Mode.Lob b) i e = absurd cc
+    go _ i e = absurd cc
 
 -- a turn gives this value
 abbrev GivesThis : Value → Turn → Type 0
 GivesThis v (gives w r) = w ≡ v
-GivesThis v (goes r) = ⊥
-GivesThis v (refuses e) = ⊥
-GivesThis v (late e r) = ⊥
+GivesThis v _ = ⊥
 
 module _ (g : Catalog) (l : Limits) (used : ℕ) (v : Value) where
   this_end : (t : Turn) → end_settled used t ≡ Ok (Some v) → GivesThis v t
@@ -197,19 +171,13 @@ module _ (g : Catalog) (l : Limits) (used : ℕ) (v : Value) where
   this_end (late e r) h = absurd (late_never g l used e (Some v) h)
 
   noticed_value : (r : Reading) (s : Known) → LeavesValue v (noticed l r s)
-  noticed_value r s = go (shut r.now && not (is_idle s.mode)) (nat_le (reaches r.frames r s) l.item)
-    where
-      go : (a b : Bool) → LeavesValue v (if a then fails Reason.Unexpected else
-          (if b then uses (record { scan = s; reading = r }) else fails Reason.ItemTooLong))
-      go true b = tt
-      go false true = tt
-      go false false = tt
+  noticed_value r s = cond_both (shut r.now && not (is_idle s.mode)) _ _ (LeavesValue v) (λ e. tt)
+      (λ e. cond_both (nat_le (reaches r.frames r s) l.item) _ _ (LeavesValue v) (λ k. tt) (λ k. tt))
 
   given_value : (s : Known) (t : Turn) → LeavesValue v (behind_given l s t)
   given_value s (goes r) = noticed_value r s
-  given_value s (gives w r) = tt
-  given_value s (refuses e) = tt
   given_value s (late e r) = worse_value v e (noticed l r s)
+  given_value s _ = tt
 
   said_value : (s : Known) (r : Reading) (x : Lexeme) (c : Result Content Reason)
       → LeavesValue v (on_said c (λ c. behind_given l s (turn g l r (token_of x c))))
@@ -224,18 +192,14 @@ module _ (g : Catalog) (l : Limits) (used : ℕ) (v : Value) where
 
   settled_value : (again : State → Effect) (s : Known) (x : Outcome) (t : Turn) → GivesThis v t → LeavesValue v (on_settled g l again s x t)
   settled_value again s x (gives w r) h = h
-  settled_value again s x (goes r) h = absurd h
-  settled_value again s x (refuses e) h = absurd h
-  settled_value again s x (late e r) h = absurd h
+  settled_value again s x _ h = absurd h
 
   -- what waits is that value, and no token is open
   still_value : (again : State → Effect) (m : State) (x : Outcome) → NoneLeft x → end_settled used (settle g l m.reading) ≡ Ok (Some v)
       → LeavesValue v (on_octet g l again m x)
-  still_value again m x h e = go (unsettled m.scan m.reading x)
-    where
-      go : (b : Bool) → LeavesValue v (if b then on_scan g l again m.reading x else on_settled g l again m.scan x (settle g l m.reading))
-      go true = scan_value again m.reading x h
-      go false = settled_value again m.scan x (settle g l m.reading) (this_end (settle g l m.reading) e)
+  still_value again m x h e =
+      cond_both (unsettled m.scan m.reading x) _ _ (LeavesValue v) (λ k. scan_value again m.reading x h)
+      (λ k. settled_value again m.scan x (settle g l m.reading) (this_end (settle g l m.reading) e))
 
   still_takes : (n o : ℕ) (m : State) → is_still m.scan.mode ≡ true → end_settled used (settle g l m.reading) ≡ Ok (Some v) → LeavesValue v (takes g l n m o)
   still_takes zero o m h e = tt
@@ -291,10 +255,7 @@ module _ (g : Catalog) (l : Limits) where
   ends_value o s start c fs ss (Now.Pending k e) v so h = waits_value g l s.used v o (record { scan = s; reading = at start c fs ss (Now.Pending k e) }) h
   ends_value o s start c fs ss (Now.Long w e) v so h = waits_value g l s.used v o (record { scan = s; reading = at start c fs ss (Now.Long w e) }) h
   ends_value o s start c fs ss Now.Ready v so h = ready_value g l s.used v o start c fs ss s so.1.0 so.0 h
-  ends_value o s start c fs ss (Now.LongName w) v so h = absurd so.1.1
-  ends_value o s start c fs ss Now.After v so h = absurd so.1.1
-  ends_value o s start c fs ss Now.Name v so h = absurd so.1.1
-  ends_value o s start c fs ss (Now.Keyed k) v so h = absurd so.1.1
+  ends_value o s start c fs ss _ v so h = absurd so.1.1
 
 -- 2. So for whole runs.
 

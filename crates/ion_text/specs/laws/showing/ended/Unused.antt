@@ -1,5 +1,6 @@
 -- Where the end of the octets would give a value, the next octet isn't used to give one: what shows that a value has ended isn't part of it.
 use Rattle.std.proofs.Common.{◌≡◌, ℕ, zero, suc, ◌+◌, Bool, true, false, cond, ◌&&◌, not, nat_le, nat_lt, List, [], ◌∷◌, Result, Ok, Err, Option, Some, None, refl, sym, ap, ◌∙◌, subst, ◌⊎◌, inl, inr, if◌then◌else◌}
+use Rattle.std.proofs.lemmas.Bool.{cond_both}
 use Rattle.std.specs.Prelude.{◌==◌, bytes_eq, codes}
 use Rattle.ion_text.specs.Names.{Action, Blob, Bracket, Catalog, Clob, Content, Effect, Frame, Given, Held, Id, Known, Left, Lexeme, Limits, Long, Mark, Mark', Mode, Next, Now, Number', Operator, Outcome, Payload, Place, Placed, Quoted, Reading, Reason, Refused, Setting, Short, Slot, Spot, State, Symbols, Token, TokenKind, Turn, TypedNull, Value, Word, acts, annotated, at, at_end, begun_at, behind_given, behind_left, beyond_depth, blob_ends, blob_of, cut, cut_short, end_of, end_ready, end_said, end_settled, end_turned, end_waiting, ended, ends_at, fails, feed, first_now, fresh, gives, go_to, goes, held_payload, held_symbol, is_fresh, is_idle, is_mark, is_table, is_top, late, leaves, next as next_context, noted, noticed, number_payload, on_long, on_octet, on_pending, on_ready, on_said, on_scan, on_settled, opened, opening, or_worse, paid, past, place, reaches, refuses, released, resolve, resolved, said, said_body, settle, shut, spot_at, system_slots, takes, tells, token_of, turn, turned, under, unsettled, uses, with_scan, within}
 use Rattle.ion_model.specs.declared.value.Payload.TheVariants as payloads
@@ -37,15 +38,13 @@ table_plainly : (p : Place) (colon : Bool) (m : Mode) (o : ℕ) → is_plain m �
 table_plainly = by_rows_where is_plain (λ sexp m. plainly) (λ c t. refl)
 
 abbrev IsPlainly : Outcome → Type 0
-IsPlainly (Next s) = Unit {0}
 IsPlainly (Given x s) = is_mark x.kind ≡ true
 IsPlainly (Left x s) = (is_opening x.kind ≡ false) × (is_plain s.mode ≡ true)
-IsPlainly (Refused n e) = Unit {0}
+IsPlainly _ = Unit {0}
 
 parts : (a b : Bool) → (not a && b) ≡ true → (a ≡ false) × (b ≡ true)
 parts false true h = (refl, refl)
-parts false false h = absurd cc
-parts true b h = absurd cc
+parts _ _ h = absurd cc
 
 acts_plainly : (p : Place) (s : Known) (o : ℕ) (a : Action) → plainly a ≡ true → IsPlainly (acts p s o a)
 acts_plainly p s o (Action.Go m k) h = tt
@@ -84,16 +83,7 @@ opens _ = false
 
 said_opens : (k : TokenKind) (octets : List ℕ) (c : Content) → said k octets ≡ Ok c → is_opening k ≡ false → opens c ≡ false
 said_opens k octets (Mark' m) e h = subst (λ x. is_opening x ≡ false) (mark_kind k octets m (said_body k octets (Mark' m) e)) h
-said_opens k octets (Word w) e h = refl
-said_opens k octets (Id n) e h = refl
-said_opens k octets (Quoted w) e h = refl
-said_opens k octets (Short w) e h = refl
-said_opens k octets (Long w) e h = refl
-said_opens k octets (Number' n) e h = refl
-said_opens k octets (TypedNull n) e h = refl
-said_opens k octets (Operator w) e h = refl
-said_opens k octets (Clob w) e h = refl
-said_opens k octets (Blob w) e h = refl
+said_opens k octets _ e h = refl
 
 -- 2. What a token does where no container is open.
 
@@ -103,23 +93,15 @@ AtTop r = (is_top r.frames ≡ true) × IsTopNow r.now
 -- it opens no container
 abbrev OpensNone : Turn → Type 0
 OpensNone (goes r) = AtTop r
-OpensNone (gives v r) = Unit {0}
-OpensNone (refuses e) = Unit {0}
-OpensNone (late e r) = Unit {0}
+OpensNone _ = Unit {0}
 
 -- it gives no value
 abbrev Never : Turn → Type 0
 Never (gives v r) = ⊥
-Never (goes r) = Unit {0}
-Never (refuses e) = Unit {0}
-Never (late e r) = Unit {0}
+Never _ = Unit {0}
 
 within_stays : (item start end : ℕ) (t : Turn) → OpensNone t → OpensNone (within item start end t)
-within_stays item start end t h = go (nat_le end (start + item))
-  where
-    go : (b : Bool) → OpensNone (if b then t else refuses Reason.ItemTooLong)
-    go true = h
-    go false = tt
+within_stays item start end t h = cond_both (nat_le end (start + item)) t (refuses Reason.ItemTooLong) OpensNone (λ e. h) (λ e. tt)
 
 top_stays : (item start end : ℕ) (c : List Slot) (v : Value) (d : Result (List Slot) Reason) (b : Bool)
     → OpensNone (if b then turned item start end d else within item start end (gives v (fresh c)))
@@ -137,11 +119,9 @@ paid_stays setting spot ss (Err e) = tt
 released_stays : (setting : Setting) (spot : Spot) (ss : Symbols) (h : Held) → OpensNone (released setting spot [] ss h)
 released_stays setting spot [] (Held.Version true s) = within_stays setting.limits.item spot.start spot.end (goes (fresh system_slots)) (refl, tt)
 released_stays setting spot [] (Held.Version false s) = tt
-released_stays setting spot [] (Held.Symbol s) = paid_stays setting spot [] (held_payload (Held.Symbol s))
-released_stays setting spot [] (Held.Null k) = paid_stays setting spot [] (held_payload (Held.Null k))
-released_stays setting spot [] (Held.Truth b) = paid_stays setting spot [] (held_payload (Held.Truth b))
 released_stays setting spot [] Held.Nan = tt
 released_stays setting spot (s ∷ ss) h = paid_stays setting spot (s ∷ ss) (held_payload h)
+released_stays setting spot [] h = paid_stays setting spot [] (held_payload h)
 
 ready_stays : (setting : Setting) (spot : Spot) (ss : Symbols) (said : Content) → opens said ≡ false → OpensNone (on_ready setting spot [] ss said)
 ready_stays setting spot ss (Word w) i = (refl, tt)
@@ -162,10 +142,8 @@ ready_stays setting spot ss (Mark' Mark.ListOpen) i = absurd cc
 ready_stays setting spot ss (Mark' Mark.SexpOpen) i = absurd cc
 ready_stays setting spot ss (Mark' Mark.FieldsOpen) i = absurd cc
 ready_stays setting spot [] (Mark' Mark.ListClose) i = tt
-ready_stays setting spot (s ∷ ss) (Mark' Mark.ListClose) i = tt
 ready_stays setting spot [] (Mark' Mark.SexpClose) i = tt
-ready_stays setting spot (s ∷ ss) (Mark' Mark.SexpClose) i = tt
-ready_stays setting spot ss (Mark' _) i = tt
+ready_stays setting spot _ _ i = tt
 
 noted_stays : (start : ℕ) (c : List Slot) (ss : Symbols) (s : Result (Option (List ℕ)) Reason) → OpensNone (noted start c [] ss s)
 noted_stays start c ss (Ok s) = (refl, tt)
@@ -190,18 +168,15 @@ open_never bracket depth start c ss = go bracket (nat_lt 0 depth)
         beyond_depth bracket (at start c (opened bracket ss ∷ []) [] (first_now bracket)))
     go bracket true = tt
     go Bracket.List false = tt
-    go Bracket.Sexp false = tt
-    go Bracket.Fields false = tt
+    go _ _ = tt
 
 ready_never : (setting : Setting) (spot : Spot) (ss : Symbols) (m : Mark) → Never (on_ready setting spot [] ss (Mark' m))
 ready_never setting spot ss Mark.ListOpen = open_never Bracket.List setting.limits.depth spot.start spot.context ss
 ready_never setting spot ss Mark.SexpOpen = open_never Bracket.Sexp setting.limits.depth spot.start spot.context ss
 ready_never setting spot ss Mark.FieldsOpen = open_never Bracket.Fields setting.limits.depth spot.start spot.context ss
 ready_never setting spot [] Mark.ListClose = tt
-ready_never setting spot (s ∷ ss) Mark.ListClose = tt
 ready_never setting spot [] Mark.SexpClose = tt
-ready_never setting spot (s ∷ ss) Mark.SexpClose = tt
-ready_never setting spot ss _ = tt
+ready_never setting spot _ _ = tt
 
 noted_never : (start : ℕ) (c : List Slot) (ss : Symbols) (s : Result (Option (List ℕ)) Reason) → Never (noted start c [] ss s)
 noted_never start c ss (Ok s) = tt
@@ -218,10 +193,7 @@ module _ (g : Catalog) (l : Limits) where
   turn_stays start c [] ss Now.Ready t h i o = ready_stays (under g l) (spot_at t.end (begun_at start t.start [] ss) c) ss t.said o
   turn_stays start c [] ss (Now.Pending k e) t h i o = pending_stays start c ss k t.said
   turn_stays start c [] ss (Now.Long w e) t h i o = long_stays (spot_at t.end start c) ss w t.said
-  turn_stays start c [] ss Now.After t h i o = absurd i
-  turn_stays start c [] ss Now.Name t h i o = absurd i
-  turn_stays start c [] ss (Now.LongName w) t h i o = absurd i
-  turn_stays start c [] ss (Now.Keyed s) t h i o = absurd i
+  turn_stays start c [] ss _ t h i o = absurd i
 
   mark_never : (start : ℕ) (c : List Slot) (fs : List Frame) (ss : Symbols) (now : Now) (begin end : ℕ) (m : Mark) → is_top fs ≡ true → IsTopNow now
       → Never (turn g l (at start c fs ss now) (record { start = begin; end = end; said = Mark' m }))
@@ -229,10 +201,7 @@ module _ (g : Catalog) (l : Limits) where
   mark_never start c [] ss Now.Ready begin end m h i = ready_never (under g l) (spot_at end (begun_at start begin [] ss) c) ss m
   mark_never start c [] ss (Now.Pending k e) begin end m h i = pending_never start c ss k m
   mark_never start c [] ss (Now.Long w e) begin end m h i = tt
-  mark_never start c [] ss Now.After begin end m h i = absurd i
-  mark_never start c [] ss Now.Name begin end m h i = absurd i
-  mark_never start c [] ss (Now.LongName w) begin end m h i = absurd i
-  mark_never start c [] ss (Now.Keyed s) begin end m h i = absurd i
+  mark_never start c [] ss _ begin end m h i = absurd i
 
   settled_stays : (start : ℕ) (c : List Slot) (fs : List Frame) (ss : Symbols) (now : Now) → is_top fs ≡ true → IsTopNow now
       → OpensNone (settle g l (at start c fs ss now))
@@ -240,19 +209,14 @@ module _ (g : Catalog) (l : Limits) where
   settled_stays start c [] ss Now.Ready h i = (refl, tt)
   settled_stays start c [] ss (Now.Pending k e) h i = released_stays (under g l) (spot_at e start c) ss k
   settled_stays start c [] ss (Now.Long w e) h i = ended_stays (under g l) (spot_at e start c) (annotated ss (payloads.Str w))
-  settled_stays start c [] ss Now.After h i = absurd i
-  settled_stays start c [] ss Now.Name h i = absurd i
-  settled_stays start c [] ss (Now.LongName w) h i = absurd i
-  settled_stays start c [] ss (Now.Keyed s) h i = absurd i
+  settled_stays start c [] ss _ h i = absurd i
 
 -- 3. What an octet does there: if a value comes, the octet isn't used.
 
 -- if a value comes, the octet isn't used to give it
 abbrev pub IsUntold : Effect → Type 0
 IsUntold (tells v m) = ⊥
-IsUntold (uses m) = Unit {0}
-IsUntold (leaves v m) = Unit {0}
-IsUntold (fails e) = Unit {0}
+IsUntold _ = Unit {0}
 
 worse_untold : (e : Reason) (x : Effect) → IsUntold (or_worse e x)
 worse_untold e (fails f) = tt
@@ -262,12 +226,8 @@ worse_untold e (leaves v m) = tt
 
 module _ (g : Catalog) (l : Limits) where
   noticed_untold : (r : Reading) (s : Known) → IsUntold (noticed l r s)
-  noticed_untold r s = go (shut r.now && not (is_idle s.mode)) (nat_le (reaches r.frames r s) l.item)
-    where
-      go : (a b : Bool) → IsUntold (if a then fails Reason.Unexpected else (if b then uses (record { scan = s; reading = r }) else fails Reason.ItemTooLong))
-      go true b = tt
-      go false true = tt
-      go false false = tt
+  noticed_untold r s = cond_both (shut r.now && not (is_idle s.mode)) _ _ IsUntold (λ e. tt)
+      (λ e. cond_both (nat_le (reaches r.frames r s) l.item) _ _ IsUntold (λ k. tt) (λ k. tt))
 
   given_untold : (s : Known) (t : Turn) → Never t → IsUntold (behind_given l s t)
   given_untold s (goes r) h = noticed_untold r s
@@ -278,9 +238,8 @@ module _ (g : Catalog) (l : Limits) where
   module _ (again : State → Effect) (fine : (k : State) → is_plain k.scan.mode ≡ true → AtTop k.reading → IsUntold (again k)) where
     left_untold : (s : Known) (t : Turn) → is_plain s.mode ≡ true → OpensNone t → IsUntold (behind_left again s t)
     left_untold s (goes r) p h = fine (with_scan s r) p h
-    left_untold s (gives v r) p h = tt
-    left_untold s (refuses e) p h = tt
     left_untold s (late e r) p h = worse_untold e (again (with_scan s r))
+    left_untold s _ p h = tt
 
     scan_untold : (r : Reading) (x : Outcome) → AtTop r → IsPlainly x → IsUntold (on_scan g l again r x)
     scan_untold r (Next s) a h = noticed_untold r s
@@ -303,17 +262,14 @@ module _ (g : Catalog) (l : Limits) where
 
     settled_untold : (s : Known) (x : Outcome) (t : Turn) → OpensNone t → IsPlainly x → IsUntold (on_settled g l again s x t)
     settled_untold s x (goes r) h p = scan_untold r x h p
-    settled_untold s x (gives v r) h p = tt
-    settled_untold s x (refuses e) h p = tt
     settled_untold s x (late e r) h p = worse_untold e (on_scan g l again r x)
+    settled_untold s x _ h p = tt
 
     octet_untold : (m : State) (x : Outcome) → AtTop m.reading → IsPlainly x → IsUntold (on_octet g l again m x)
-    octet_untold m x a p = go (unsettled m.scan m.reading x)
-      where
-        go : (b : Bool) → IsUntold (if b then on_scan g l again m.reading x else on_settled g l again m.scan x (settle g l m.reading))
-        go true = scan_untold m.reading x a p
-        go false = settled_untold m.scan x (settle g l m.reading)
-            (settled_stays g l m.reading.start m.reading.context m.reading.frames m.reading.notes m.reading.now a.0 a.1) p
+    octet_untold m x a p =
+        cond_both (unsettled m.scan m.reading x) _ _ IsUntold (λ e. scan_untold m.reading x a p)
+        (λ e. settled_untold m.scan x (settle g l m.reading)
+        (settled_stays g l m.reading.start m.reading.context m.reading.frames m.reading.notes m.reading.now a.0 a.1) p)
 
   -- at the top level, where neither quotes nor a lob are open, an octet isn't used to give a value
   pub takes_untold : (n o : ℕ) (m : State) → is_plain m.scan.mode ≡ true → AtTop m.reading → IsUntold (takes g l n m o)
@@ -331,20 +287,7 @@ blank_plain p s h = go s.mode h
     go (Mode.Text t w) e = absurd cc
     go Mode.Brace e = absurd cc
     go (Mode.Lob b) e = absurd cc
-    go Mode.Blank e = refl
-    go Mode.Slash e = refl
-    go Mode.LineComment e = refl
-    go Mode.BlockComment e = refl
-    go Mode.BlockCommentStar e = refl
-    go Mode.Colon e = refl
-    go Mode.Word e = refl
-    go Mode.KindName e = refl
-    go Mode.Number e = refl
-    go Mode.NumberSlash e = refl
-    go (Mode.Operator x) e = refl
-    go Mode.OperatorSlash e = refl
-    go (Mode.Infinity n) e = refl
-    go Mode.Quotes e = refl
+    go _ e = refl
 
 abbrev kind_in : Result (Option Lexeme) Reason → TokenKind → TokenKind
 kind_in (Ok (Some x)) k = x.kind
@@ -358,20 +301,7 @@ token_plain p s x h = go s.mode h
     go (Mode.Text t w) e = absurd cc
     go Mode.Brace e = inr (sym (ap (λ y. kind_in y x.kind) e))
     go (Mode.Lob b) e = absurd cc
-    go Mode.Blank e = inl refl
-    go Mode.Slash e = inl refl
-    go Mode.LineComment e = inl refl
-    go Mode.BlockComment e = inl refl
-    go Mode.BlockCommentStar e = inl refl
-    go Mode.Colon e = inl refl
-    go Mode.Word e = inl refl
-    go Mode.KindName e = inl refl
-    go Mode.Number e = inl refl
-    go Mode.NumberSlash e = inl refl
-    go (Mode.Operator x) e = inl refl
-    go Mode.OperatorSlash e = inl refl
-    go (Mode.Infinity n) e = inl refl
-    go Mode.Quotes e = inl refl
+    go _ e = inl refl
 
 -- what stands at the top level may stand there
 pub top_now : (c : List Slot) (fs : List Frame) (ss : Symbols) (ts : List Placed) (now : Now) → NowStands c fs ss ts now → is_top fs ≡ true → IsTopNow now
@@ -380,18 +310,12 @@ top_now c fs ss ts (Now.Pending k end) h e = tt
 top_now c fs ss ts (Now.Long w end) h e = tt
 top_now c [] ss ts Now.After h e = h.2
 top_now c [] ss ts Now.Name h e = h.1
-top_now c [] ss ts (Now.LongName w) h e = h.struct
-top_now c [] ss ts (Now.Keyed s) h e = h.struct
-top_now c (f ∷ fs) ss ts Now.After h e = absurd cc
-top_now c (f ∷ fs) ss ts Now.Name h e = absurd cc
-top_now c (f ∷ fs) ss ts (Now.LongName w) h e = absurd cc
-top_now c (f ∷ fs) ss ts (Now.Keyed s) h e = absurd cc
+top_now c [] ss ts _ h e = h.struct
+top_now c (f ∷ fs) ss ts _ h e = absurd cc
 
 abbrev IsGiven : Turn → Type 0
 IsGiven (gives v r) = Unit {0}
-IsGiven (goes r) = ⊥
-IsGiven (refuses e) = ⊥
-IsGiven (late e r) = ⊥
+IsGiven _ = ⊥
 
 module _ (g : Catalog) (l : Limits) where
   -- where nothing waits, an end that ends no token gives no value
@@ -408,27 +332,18 @@ module _ (g : Catalog) (l : Limits) where
   -- where the end gives a value that waited, no token ends with it, and settling gives the value
   pub waiting_end : (used : ℕ) (x : Result (Option Lexeme) Reason) (t : Turn) (v : Value) → end_waiting g l used x t ≡ Ok (Some v) → (x ≡ Ok None) × IsGiven t
   waiting_end used (Ok None) t v h = (refl, given_end used t v h)
-  waiting_end used (Ok (Some x)) (goes r) v h = absurd cc
-  waiting_end used (Ok (Some x)) (gives w r) v h = absurd cc
-  waiting_end used (Ok (Some x)) (refuses e) v h = absurd cc
   waiting_end used (Ok (Some x)) (late e r) v h = absurd (late_never g l used e (Some v) h)
-  waiting_end used (Err f) (goes r) v h = absurd cc
-  waiting_end used (Err f) (gives w r) v h = absurd cc
-  waiting_end used (Err f) (refuses e) v h = absurd cc
   waiting_end used (Err f) (late e r) v h = absurd (late_never g l used e (Some v) h)
+  waiting_end used _ _ v h = absurd cc
 
   settled_top : (start end : ℕ) (fs : List Frame) (t : Turn) → SettlesWithin g l start end fs t → IsGiven t → is_top fs ≡ true
   settled_top start end fs (gives v r) s i = s.0
-  settled_top start end fs (goes r) s i = absurd i
-  settled_top start end fs (refuses e) s i = absurd i
-  settled_top start end fs (late e r) s i = absurd i
+  settled_top start end fs _ s i = absurd i
 
   -- in a container the end gives none
   inside_given : (start : ℕ) (t : Turn) → InsideTurn g l start t → IsGiven t → ⊥
   inside_given start (gives v r) k i = k
-  inside_given start (goes r) k i = i
-  inside_given start (refuses e) k i = i
-  inside_given start (late e r) k i = i
+  inside_given start _ k i = i
 
   inside_end : (used item start end : ℕ) (c : Content) (t : Turn) (v : Value) → (IsClose false c → ⊥) → Spans false c item start end t
       → end_turned g l used t ≡ Ok (Some v) → ⊥
@@ -452,10 +367,7 @@ module _ (g : Catalog) (l : Limits) where
       go false h = cc
   brace_end used start c [] ss (Now.Pending k e) begin end v t i h = cc
   brace_end used start c [] ss (Now.Long w e) begin end v t i h = cc
-  brace_end used start c [] ss Now.After begin end v t i h = i
-  brace_end used start c [] ss Now.Name begin end v t i h = i
-  brace_end used start c [] ss (Now.LongName w) begin end v t i h = i
-  brace_end used start c [] ss (Now.Keyed s) begin end v t i h = i
+  brace_end used start c [] ss _ begin end v t i h = i
 
   -- no container is open, and neither a quoted text nor a lob, nor what may begin one
   abbrev pub StandsSo : Known → Reading → Type 0
@@ -518,7 +430,4 @@ module _ (g : Catalog) (l : Limits) where
   ends_so s start c fs ss (Now.Long w e) v ok h = waits_so s.used s start c fs ss (Now.Long w e) e v tt (settle_spans g l start c fs ss (Now.Long w e) 0 tt)
       h
   ends_so s start c fs ss (Now.LongName w) v ok h = absurd cc
-  ends_so s start c fs ss Now.Ready v ok h = ready_so s.used s (at start c fs ss Now.Ready) v ok h
-  ends_so s start c fs ss Now.After v ok h = ready_so s.used s (at start c fs ss Now.After) v ok h
-  ends_so s start c fs ss Now.Name v ok h = ready_so s.used s (at start c fs ss Now.Name) v ok h
-  ends_so s start c fs ss (Now.Keyed k) v ok h = ready_so s.used s (at start c fs ss (Now.Keyed k)) v ok h
+  ends_so s start c fs ss now v ok h = ready_so s.used s (at start c fs ss now) v ok h

@@ -1,9 +1,9 @@
 -- An octet that doesn't go on behind a symbol, or behind a long string, and what follows it: no `::`, and no `''`.
 use Rattle.std.proofs.Common.{◌≡◌, ℕ, ◌+◌, ◌==◌, Bool, true, false, List, [], ◌∷◌, ◌++◌, length, refl, sym, ap, ◌∙◌, subst, append_assoc, append-nil, ◌⊎◌, inl, inr, if◌then◌else◌}
 use Rattle.std.specs.Prelude.{codes}
-use Rattle.ion_text.specs.Names.{BlankThen, Known, Mode, Next, Place, Style, TokenKind, Within, acts, before, feed, follow, followed, is_idle, is_sane, scan as run}
+use Rattle.ion_text.specs.Names.{BlankThen, Known, Mode, Next, Place, Style, TokenKind, Within, acts, before, feed, follow, followed, is_sane, scan as run}
 use Rattle.ion_tokens.specs.machine.Table.{go as go_on}
-use Rattle.ion_tokens.proofs.complete.Moves.{at, blank}
+use Rattle.ion_tokens.proofs.complete.Moves.{at}
 use Rattle.ion_tokens.proofs.complete.TakesBlanks.{passes_blank}
 use Rattle.ion_tokens.proofs.complete.Wholes.{run_behind}
 use Rattle.ion_text.specs.laws.reading.complete.Found.{next_is}
@@ -52,66 +52,63 @@ open_kept p (o ∷ os) s t h i e =
     open_kept p os x.0 t f.0 (f.1 i.0, f.2 i.0 i.1) x.2
 
 module _ (p : Place) (k : ℕ) (since : List ℕ) (s : Known) (o : ℕ) (sane : is_sane s.mode ≡ true) where
-  -- Such an octet isn't in the front of `::`, whatever follows.
-  pub octet_colons : run p since (at Mode.Blank [] true k k) ≡ Next s → NotColons (feed p s o) → (following : List ℕ)
-      → BlankThen (codes "::") (since ++ o ∷ following) → ⊥
-  octet_colons ran not following (w, more, is, e) = by (parts_meet (since ++ o ∷ []) following (w ++ 58 ∷ []) (58 ∷ more) same)
+  -- Of two such octets behind a blank, where the first one leads there, this octet is neither, and both don't stand before it.
+  doubled : (colon : Bool) (c : ℕ) (one : Known) (w more following : List ℕ) → run p (w ++ c ∷ []) (at Mode.Blank [] colon k k) ≡ Next one
+      → run p since (at Mode.Blank [] colon k k) ≡ Next s → ((m : Known) (z : List ℕ) → feed p s o ≡ Next m → run p z m ≡ Next one → ⊥)
+      → (s ≡ one → o ≡ c → ⊥) → ((y : List ℕ) → run p (c ∷ y) one ≡ Next s → ⊥) → since ++ o ∷ following ≡ (w ++ c ∷ c ∷ []) ++ more → ⊥
+  doubled colon c one w more following reached ran neither first both e = by (parts_meet (since ++ o ∷ []) following (w ++ c ∷ []) (c ∷ more) same)
     where
-      same : (since ++ o ∷ []) ++ following ≡ (w ++ 58 ∷ []) ++ 58 ∷ more
-      same = append_assoc since (o ∷ []) following ∙ (e ∙ (append_assoc w (codes "::") more ∙ sym (append_assoc w (58 ∷ []) (58 ∷ more))))
+      same : (since ++ o ∷ []) ++ following ≡ (w ++ c ∷ []) ++ c ∷ more
+      same = append_assoc since (o ∷ []) following ∙ (e ∙ (append_assoc w (c ∷ c ∷ []) more ∙ sym (append_assoc w (c ∷ []) (c ∷ more))))
 
-      passed : (now : ℕ) × ((r : List ℕ) → run p (w ++ r) (at Mode.Blank [] true k k) ≡ run p r (blank true now (k + length w)))
-      passed = passes_blank p true w is k k
-
-      one : Known
-      one = at Mode.Colon [] true (k + length w) (k + length w + 1)
-
-      reached : run p (w ++ 58 ∷ []) (at Mode.Blank [] true k k) ≡ Next one
-      reached = passed.1 (58 ∷ [])
-
-      -- where one colon at most has come
-      within' : (z : List ℕ) → w ++ 58 ∷ [] ≡ (since ++ o ∷ []) ++ z → ⊥
+      -- where one of them at most has come
+      within' : (z : List ℕ) → w ++ c ∷ [] ≡ (since ++ o ∷ []) ++ z → ⊥
       within' z f =
-          let m = run_parted p (since ++ o ∷ []) z (at Mode.Blank [] true k k) one (ap (λ x. run p x (at Mode.Blank [] true k k)) (sym f) ∙ reached) in
-          let fed = last_fed p since o (at Mode.Blank [] true k k) s m.0 ran m.1 in
-          let begun : is_idle (m.0).mode ≡ false = subst NotColons fed not in
-          never true (begun_kept p z m.0 one (follows_as p s o (Next m.0) sane fed).0 begun m.2) refl
+          let m = run_parted p (since ++ o ∷ []) z (at Mode.Blank [] colon k k) one (ap (λ x. run p x (at Mode.Blank [] colon k k)) (sym f) ∙ reached) in
+          neither m.0 z (last_fed p since o (at Mode.Blank [] colon k k) s m.0 ran m.1) m.2
 
       -- where both have
-      beyond : (y : List ℕ) → since ≡ (w ++ 58 ∷ []) ++ y → (y ++ o ∷ []) ++ following ≡ 58 ∷ more → ⊥
+      beyond : (y : List ℕ) → since ≡ (w ++ c ∷ []) ++ y → (y ++ o ∷ []) ++ following ≡ c ∷ more → ⊥
       beyond [] f g =
-          let here : s ≡ one = next_is s one (sym ran ∙ (ap (λ x. run p x (at Mode.Blank [] true k k)) (f ∙ append-nil (w ++ 58 ∷ [])) ∙ reached)) in
-          let colon : o ≡ 58 = cc in
-          let n = subst (λ x. NotColons (feed p one x)) colon (subst (λ x. NotColons (feed p x o)) here not) in
-          let z : true ≡ false = n in cc
+          let here : s ≡ one = next_is s one (sym ran ∙ (ap (λ x. run p x (at Mode.Blank [] colon k k)) (f ∙ append-nil (w ++ c ∷ [])) ∙ reached)) in
+          let this : o ≡ c = cc in
+          first here this
       beyond (a ∷ y) f g =
-          let colon : a ≡ 58 = cc in
-          let r : run p (58 ∷ y) one ≡ Next s = sym (run_behind p (w ++ 58 ∷ []) (58 ∷ y) (at Mode.Blank [] true k k) one reached)
-          ∙ (ap (λ x. run p x (at Mode.Blank [] true k k)) (ap (λ x. (w ++ 58 ∷ []) ++ x ∷ y) (sym colon) ∙ sym f) ∙ ran) in
-          given y r
-        where
-          given : (y : List ℕ) → run p (58 ∷ y) one ≡ Next s → ⊥
-          given y r = cc
+          let this : a ≡ c = cc in
+          both y (sym (run_behind p (w ++ c ∷ []) (c ∷ y) (at Mode.Blank [] colon k k) one reached)
+          ∙ (ap (λ x. run p x (at Mode.Blank [] colon k k)) (ap (λ x. (w ++ c ∷ []) ++ x ∷ y) (sym this) ∙ sym f) ∙ ran))
 
-      by : ((y : List ℕ) × (since ++ o ∷ [] ≡ (w ++ 58 ∷ []) ++ y) × (y ++ following ≡ 58 ∷ more))
-          ⊎ ((z : List ℕ) × (w ++ 58 ∷ [] ≡ (since ++ o ∷ []) ++ z) × (z ++ 58 ∷ more ≡ following)) → ⊥
+      by : ((y : List ℕ) × (since ++ o ∷ [] ≡ (w ++ c ∷ []) ++ y) × (y ++ following ≡ c ∷ more))
+          ⊎ ((z : List ℕ) × (w ++ c ∷ [] ≡ (since ++ o ∷ []) ++ z) × (z ++ c ∷ more ≡ following)) → ⊥
       by (inr (z, f, g)) = within' z f
-      by (inl (y, f, g)) = elim (last_parted since o (w ++ 58 ∷ []) y f) [
+      by (inl (y, f, g)) = elim (last_parted since o (w ++ c ∷ []) y f) [
         | inl (a, b) ↦ within' [] (b ∙ sym (append-nil (since ++ o ∷ [])))
         | inr (front, a, b) ↦ beyond front b (ap (λ x. x ++ following) (sym a) ∙ g)
       ]
 
+  -- Such an octet isn't in the front of `::`, whatever follows.
+  pub octet_colons : run p since (at Mode.Blank [] true k k) ≡ Next s → NotColons (feed p s o) → (following : List ℕ)
+      → BlankThen (codes "::") (since ++ o ∷ following) → ⊥
+  octet_colons ran not following (w, more, is, e) =
+      doubled true 58 one w more following ((passes_blank p true w is k k).1 (58 ∷ [])) ran
+      (λ m z f r. never true (begun_kept p z m one (follows_as p s o (Next m) sane f).0 (subst NotColons f not) r) refl) first both e
+    where
+      one : Known
+      one = at Mode.Colon [] true (k + length w) (k + length w + 1)
+
+      first : s ≡ one → o ≡ 58 → ⊥
+      first f i = let z : true ≡ false = subst (λ x. NotColons (feed p one x)) i (subst (λ x. NotColons (feed p x o)) f not) in cc
+
+      both : (y : List ℕ) → run p (58 ∷ y) one ≡ Next s → ⊥
+      both y r = cc
+
   -- Nor is one in the front of `''` that goes on with no long string.
   pub octet_quotes : (colon : Bool) → run p since (at Mode.Blank [] colon k k) ≡ Next s → NoSegment true (feed p s o) → is_long_text s.mode ≡ false
       → (following : List ℕ) → BlankThen (codes "''") (since ++ o ∷ following) → ⊥
-  octet_quotes colon ran apart bare following (w, more, is, e) = by (parts_meet (since ++ o ∷ []) following (w ++ 39 ∷ []) (39 ∷ more) same)
+  octet_quotes colon ran apart bare following (w, more, is, e) =
+      doubled colon 39 one w more following ((passes_blank p colon w is k k).1 (39 ∷ [])) ran
+      (λ m z f r. never true (open_kept p z m one (follows_as p s o (Next m) sane f).0 (subst (NoSegment true) f apart) r).1 refl) first behind_two e
     where
-      same : (since ++ o ∷ []) ++ following ≡ (w ++ 39 ∷ []) ++ 39 ∷ more
-      same = append_assoc since (o ∷ []) following ∙ (e ∙ (append_assoc w (codes "''") more ∙ sym (append_assoc w (39 ∷ []) (39 ∷ more))))
-
-      passed : (now : ℕ) × ((r : List ℕ) → run p (w ++ r) (at Mode.Blank [] colon k k) ≡ run p r (blank colon now (k + length w)))
-      passed = passes_blank p colon w is k k
-
       one : Known
       one = at Mode.Quote [] colon (k + length w) (k + length w + 1)
 
@@ -121,49 +118,21 @@ module _ (p : Place) (k : ℕ) (since : List ℕ) (s : Known) (o : ℕ) (sane : 
       long : Known
       long = at (Mode.Text Style.LongString Within.Plain) [] colon (k + length w) (k + length w + 1 + 1 + 1)
 
-      reached : run p (w ++ 39 ∷ []) (at Mode.Blank [] colon k k) ≡ Next one
-      reached = passed.1 (39 ∷ [])
-
-      within' : (z : List ℕ) → w ++ 39 ∷ [] ≡ (since ++ o ∷ []) ++ z → ⊥
-      within' z f =
-          let m = run_parted p (since ++ o ∷ []) z (at Mode.Blank [] colon k k) one (ap (λ x. run p x (at Mode.Blank [] colon k k)) (sym f) ∙ reached) in
-          let fed = last_fed p since o (at Mode.Blank [] colon k k) s m.0 ran m.1 in
-          let opened : NoLongText (m.0).mode = subst (NoSegment true) fed apart in
-          never true (open_kept p z m.0 one (follows_as p s o (Next m.0) sane fed).0 opened m.2).1 refl
+      first : s ≡ one → o ≡ 39 → ⊥
+      first f i =
+          let n : NoLongText Mode.Quotes = subst (λ x. NoSegment true (feed p one x)) i (subst (λ x. NoSegment true (feed p x o)) f apart) in
+          let z : true ≡ false = n.1 in cc
 
       -- behind two quotes
-      at_two : (b : Bool) → (o == 39) ≡ b → NoSegment true (acts p two o
-          (if b then go_on (Mode.Text Style.LongString Within.Plain) else before TokenKind.QuotedSymbol)) → ⊥
-      at_two true f h = let z : true ≡ false = h.1 in cc
-      at_two false f h = let z : true ≡ false = h in cc
+      at_two : (b : Bool) → NoSegment true (acts p two o (if b then go_on (Mode.Text Style.LongString Within.Plain) else before TokenKind.QuotedSymbol)) → ⊥
+      at_two true h = let z : true ≡ false = h.1 in cc
+      at_two false h = let z : true ≡ false = h in cc
 
-      in_text : is_long_text s.mode ≡ true → ⊥
-      in_text h = never (is_long_text s.mode) bare h
-
-      third : (c : ℕ) (y : List ℕ) (b : Bool) → (c == 39) ≡ b
+      third : (c : ℕ) (y : List ℕ) (b : Bool)
           → follow (acts p two c (if b then go_on (Mode.Text Style.LongString Within.Plain) else before TokenKind.QuotedSymbol)) (λ t. run p y t) ≡ Next s → ⊥
-      third c y true f h = in_text (subst LongOn h (long_run p y long refl))
-      third c y false f h = cc
+      third c y true h = never (is_long_text s.mode) bare (subst LongOn h (long_run p y long refl))
+      third c y false h = cc
 
       behind_two : (y : List ℕ) → run p y two ≡ Next s → ⊥
-      behind_two [] h = at_two (o == 39) refl (subst (λ x. NoSegment true (feed p x o)) (sym (next_is two s h)) apart)
-      behind_two (c ∷ y) h = third c y (c == 39) refl h
-
-      beyond : (y : List ℕ) → since ≡ (w ++ 39 ∷ []) ++ y → (y ++ o ∷ []) ++ following ≡ 39 ∷ more → ⊥
-      beyond [] f g =
-          let here : s ≡ one = next_is s one (sym ran ∙ (ap (λ x. run p x (at Mode.Blank [] colon k k)) (f ∙ append-nil (w ++ 39 ∷ [])) ∙ reached)) in
-          let quote : o ≡ 39 = cc in
-          let n : NoLongText Mode.Quotes = subst (λ x. NoSegment true (feed p one x)) quote (subst (λ x. NoSegment true (feed p x o)) here apart) in
-          let z : true ≡ false = n.1 in cc
-      beyond (a ∷ y) f g =
-          let quote : a ≡ 39 = cc in
-          behind_two y (sym (run_behind p (w ++ 39 ∷ []) (39 ∷ y) (at Mode.Blank [] colon k k) one reached)
-          ∙ (ap (λ x. run p x (at Mode.Blank [] colon k k)) (ap (λ x. (w ++ 39 ∷ []) ++ x ∷ y) (sym quote) ∙ sym f) ∙ ran))
-
-      by : ((y : List ℕ) × (since ++ o ∷ [] ≡ (w ++ 39 ∷ []) ++ y) × (y ++ following ≡ 39 ∷ more))
-          ⊎ ((z : List ℕ) × (w ++ 39 ∷ [] ≡ (since ++ o ∷ []) ++ z) × (z ++ 39 ∷ more ≡ following)) → ⊥
-      by (inr (z, f, g)) = within' z f
-      by (inl (y, f, g)) = elim (last_parted since o (w ++ 39 ∷ []) y f) [
-        | inl (a, b) ↦ within' [] (b ∙ sym (append-nil (since ++ o ∷ [])))
-        | inr (front, a, b) ↦ beyond front b (ap (λ x. x ++ following) (sym a) ∙ g)
-      ]
+      behind_two [] h = at_two (o == 39) (subst (λ x. NoSegment true (feed p x o)) (sym (next_is two s h)) apart)
+      behind_two (c ∷ y) h = third c y (c == 39) h

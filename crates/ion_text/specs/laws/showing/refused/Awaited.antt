@@ -1,6 +1,6 @@
 -- Where an octet is refused and something waits, the tokens that it waits behind are the last of no piece that remains one.
 use Rattle.std.proofs.Common.{◌≡◌, ℕ, ◌+◌, ◌≤◌, Bool, true, false, ◌&&◌, ◌||◌, List, [], ◌∷◌, ◌++◌, refl, sym, ap, ◌∙◌, subst, append-nil, inl, inr, codes}
-use Rattle.ion_text.specs.Names.{BlankThen, Catalog, Frame, Given, Held, Known, Left, Limits, Next, Now, Outcome, Place, Placed, Reading, Refused, Turn, Value, Whole, ends_long, feed, gives, goes, in_segment, is_quoted, is_top, late, place, place_in, refuses, settle, unsettled, waits, waits_now}
+use Rattle.ion_text.specs.Names.{BlankThen, Catalog, Frame, Given, Held, Known, Left, Limits, Next, Now, Outcome, Place, Placed, Reading, Refused, Turn, Value, Whole, ends_long, feed, goes, in_segment, is_quoted, is_top, late, place, place_in, refuses, settle, unsettled, waits, waits_now}
 use Rattle.ion_text.specs.laws.reading.complete.Complete.{ends_behind, segments_long}
 use Rattle.ion_text.specs.laws.reading.complete.Going.{Going, TurnEnds, going_ends, settled_bound}
 use Rattle.ion_text.specs.laws.reading.complete.Meets.{is_long_text}
@@ -79,8 +79,7 @@ module _ (g : Catalog) (l : Limits) (u : List ℕ) (o : ℕ) (vs : List Value) (
       symbol_stops : (y : Outcome) → feed p s o ≡ y → waits_now (is_top r.frames) (Now.Pending q end) y ≡ true → ScanRefused g l r y → ⊥
       symbol_stops (Next n) f i (z, m) = waits_fits l r n none_open q end now (subst (λ n. end_of_now n 0 ≤ r.start + l.item) now bound) z m
       symbol_stops (Given y n) f i m = let z = given_colons p k.colon k.end s k.since o k.holds y n f i in shuts_colons z.0 (z.1 following)
-      symbol_stops (Left y n) f i m = absurd cc
-      symbol_stops (Refused n z) f i m = absurd cc
+      symbol_stops _ f i m = absurd cc
 
     -- a long string does
     module _ (q : List ℕ) (end : ℕ) (now : r.now ≡ Now.Long q end) where
@@ -114,10 +113,9 @@ module _ (g : Catalog) (l : Limits) (u : List ℕ) (o : ℕ) (vs : List Value) (
           go false f false j n = absurd cc
 
     ends_not : (y : Turn) → TurnEnds g l y on.0 → TurnRefuses g l y → ⊥
-    ends_not (goes m) i j = j
-    ends_not (gives v' m) i j = j
     ends_not (refuses z) i j = i
     ends_not (late z m) i j = i
+    ends_not _ i j = j
 
     fresh_not : r.now ≡ Now.Ready → ⊥
     fresh_not i = subst (IsWaiting g l) i there.0
@@ -131,11 +129,7 @@ module _ (g : Catalog) (l : Limits) (u : List ℕ) (o : ℕ) (vs : List Value) (
         go : (n : Now) → r.now ≡ n → IsWaiting g l n → ⊥
         go (Now.Pending q end) f j = symbol_stops q end f (feed p s o) refl (waits_so q end f (feed p s o) refl i) m
         go (Now.Long q end) f j = long_stops q end f i m
-        go Now.Ready f j = j
-        go Now.After f j = j
-        go Now.Name f j = j
-        go (Now.LongName q) f j = j
-        go (Now.Keyed q) f j = j
+        go _ f j = j
 
     -- where something waits and the octet is refused, the tokens told end no piece that remains one
     pub item_end : ⊥

@@ -1,5 +1,6 @@
 -- Where an octet is refused: whatever waited is settled before it, and the octet comes again, up to what refuses it.
-use Rattle.std.proofs.Common.{◌≡◌, ℕ, zero, suc, Bool, true, false, ◌&&◌, ◌||◌, List, [], ◌∷◌, ◌++◌, Result, Ok, Err, refl, sym, ap, ◌∙◌, subst, append-nil, if◌then◌else◌, ◌⊎◌, inl, inr}
+use Rattle.std.proofs.Common.{◌≡◌, ℕ, zero, suc, Bool, true, false, ◌&&◌, ◌||◌, List, [], ◌∷◌, ◌++◌, Result, Ok, Err, refl, sym, ap, ◌∙◌, subst, append-nil, ◌⊎◌, inl, inr}
+use Rattle.std.proofs.lemmas.Bool.{cond_both}
 use Rattle.ion_text.specs.Names.{Catalog, Content, Continues, Effect, Follows, Frame, Given, Known, Leading, Left, Lexeme, Limits, Mark, Mark', Next, Now, Outcome, Reading, Reason, Refused, Scanned, State, TokenKind, Turn, Value, at, behind_given, behind_left, ends_long, feed, gives, goes, in_segment, is_fresh, is_idle, is_quoted, is_quoting, is_sexp, is_top, late, on_octet, on_said, on_scan, on_settled, place, refuses, said, said_body, settle, settle_same, settle_still, takes, token_of, turn, unsettled, waits, waits_now, with_scan}
 use Rattle.ion_tokens.specs.laws.Follows.{feed_follows}
 use Rattle.ion_text.specs.laws.reading.complete.Accepts.{mark_said}
@@ -93,8 +94,7 @@ module _ (g : Catalog) (l : Limits) where
 
         quoted : (top quoted : Bool) → top ≡ true → quoted ≡ true → (top && quoted) ≡ false → ⊥
         quoted true true a b h = cc
-        quoted true false a b h = cc
-        quoted false q a b h = cc
+        quoted _ _ a b h = cc
 
         long_shows : (w : List ℕ) (end : ℕ) → r.now ≡ Now.Long w end → (i q : Bool) → is_idle s.mode ≡ i → is_quoting s.mode ≡ q → (i || q) ≡ true
             → is_top r.frames ≡ true → (y : Lexeme) (t : Known) → feed (place r) s o ≡ Left y t → y.kind ≡ TokenKind.Mark Mark.Colon
@@ -135,21 +135,15 @@ module _ (g : Catalog) (l : Limits) where
                   colon =
                       λ top. absurd (inside r.frames d top);
                 })
-            go Now.Ready e = still (same Now.Ready e refl)
-            go Now.After e = still (same Now.After e refl)
-            go Now.Name e = still (same Now.Name e refl)
-            go (Now.Keyed k) e = still (same (Now.Keyed k) e refl)
+            go n e = still (same n e refl)
 
       octet_chain : (n : ℕ) → ChainsAgain g l u o vs n → (s : Known) (r : Reading) (ahead : List ℕ) → Continues (o ∷ []) ahead
           → (b : Before g l u o vs s r ahead) → Kept g l u o vs s r ahead b → Enough (suc n) s o
           → Chain g l u o vs (on_octet g l (λ k. takes g l n k o) (with_scan s r) (feed (place r) s o))
-      octet_chain n again s r ahead next b kept enough = go (unsettled s r (feed (place r) s o)) refl
-        where
-          go : (w : Bool) → unsettled s r (feed (place r) s o) ≡ w
-              → Chain g l u o vs (if w then on_scan g l (λ k. takes g l n k o) r (feed (place r) s o) else on_settled g l (λ k. takes g l n k o) s
-              (feed (place r) s o) (settle g l r))
-          go true e = scan_chain g l u o vs n again s r ahead next b kept enough (inl e) (feed (place r) s o) refl
-          go false e = settle_chain n again s r ahead next b kept enough e
+      octet_chain n again s r ahead next b kept enough =
+          cond_both (unsettled s r (feed (place r) s o)) _ _ (Chain g l u o vs)
+          (λ e. scan_chain g l u o vs n again s r ahead next b kept enough (inl e) (feed (place r) s o) refl)
+          (λ e. settle_chain n again s r ahead next b kept enough e)
 
       takes_chain : (n : ℕ) → ChainsAgain g l u o vs n
       takes_chain zero s r ahead next b kept enough = absurd enough
@@ -171,8 +165,7 @@ module _ (g : Catalog) (l : Limits) where
             go : (y : Outcome) → Follows (place m.reading) m.scan.mode y → NotColons y
             go (Next t) k = k.1 begun
             go (Given y t) k = mark_colons y.kind (k.0 begun)
-            go (Left y t) k = tt
-            go (Refused n e) k = tt
+            go _ k = tt
 
         bare : is_fresh m.reading ≡ true → ends_long b.front ≡ true → is_long_text m.scan.mode ≡ false
         bare f h = by (b.apart (ap ends_long (ap (λ y. b.front ++ y) (no_item g l Scanned u vs m.scan m.reading [] (NoLongText m.scan.mode) b f)
@@ -188,7 +181,10 @@ module _ (g : Catalog) (l : Limits) where
 
     -- It shows the end of one value alone.
     pub gives_once : (vs : List Value) (m : State) → GaveBefore g l u o vs m → NotLeaves g l (takes g l 3 m o)
-    gives_once vs m h = octet (unsettled m.scan m.reading (feed (place m.reading) m.scan o))
+    gives_once vs m h =
+        let scan = scanned (feed (place m.reading) m.scan o) refl in
+        cond_both (unsettled m.scan m.reading (feed (place m.reading) m.scan o)) _ _ (NotLeaves g l) (λ e. scan)
+        (λ e. subst (λ z. NotLeaves g l (on_settled g l again m.scan (feed (place m.reading) m.scan o) z)) (sym ready) scan)
       where
         parts : (m.reading.frames ≡ []) × (m.reading.notes ≡ []) × (m.reading.now ≡ Now.Ready)
         parts = fresh_parts m.reading.start m.reading.context m.reading.frames m.reading.notes m.reading.now h.fresh
@@ -220,9 +216,3 @@ module _ (g : Catalog) (l : Limits) where
             (λ c. given_stays g l t (turn g l m.reading (token_of y c)))
         scanned (Left y t) e = left y t (h.colon y t e) (said y.kind y.octets) refl
         scanned (Refused n z) e = tt
-
-        octet : (w : Bool) → NotLeaves g l (if w then on_scan g l again m.reading (feed (place m.reading) m.scan o) else on_settled g l again m.scan
-            (feed (place m.reading) m.scan o) (settle g l m.reading))
-        octet true = scanned (feed (place m.reading) m.scan o) refl
-        octet false = subst (λ z. NotLeaves g l (on_settled g l again m.scan (feed (place m.reading) m.scan o) z)) (sym ready)
-            (scanned (feed (place m.reading) m.scan o) refl)

@@ -1,5 +1,6 @@
 -- An octet that is refused: what stands for the octets before it once it has ended tokens and values, and what refuses it there.
 use Rattle.std.proofs.Common.{◌≡◌, ℕ, zero, suc, Bool, true, false, List, [], ◌∷◌, ◌++◌, Result, Ok, Err, refl, sym, ap, ◌∙◌, subst, ◌⊎◌, inl, inr}
+use Rattle.std.proofs.lemmas.Bool.{false_from_ne_true}
 use Rattle.ion_text.specs.Names.{Catalog, Content, Continues, Effect, Given, IsUsed, Known, Leading, Left, Lexeme, Limits, Mark, Mode, Next, Outcome, Place, Reading, Reason, Refused, Scanned, State, TokenKind, Turn, Value, behind_given, behind_left, ends_long, fails, feed, gives, goes, is_colons, is_fresh, is_idle, is_mark, is_quoting, is_sane, is_sexp, is_top, late, leaves, noticed, on_said, on_scan, or_worse, place, refuses, said, said_body, settle, symbol_waits, takes, takes_colon, tells, token_of, turn, unsettled, uses, with_scan}
 use Rattle.ion_text.specs.laws.reading.complete.Fuel.{Leaving, NotLeaves, Twice, UsedHere, UsedThen, feed_leaves, given_stays, noticed_stays, said_stays}
 use Rattle.ion_text.specs.laws.reading.complete.Going.{closes_kind, never_top, top_place}
@@ -21,11 +22,7 @@ idle_no_text _ h = refl
 
 -- where no quotes are open, no text of a long string is
 pub quoting_no_text : (m : Mode) → is_quoting m ≡ false → is_long_text m ≡ false
-quoting_no_text m h = go (is_long_text m) refl
-  where
-    go : (b : Bool) → is_long_text m ≡ b → b ≡ false
-    go false e = refl
-    go true e = absurd (never (is_quoting m) h (long_quoting m e))
+quoting_no_text m h = false_from_ne_true (is_long_text m) (λ e. never (is_quoting m) h (long_quoting m e))
 
 -- the octet doesn't go on behind a symbol
 abbrev pub NotColons : Outcome → Type 0
@@ -40,18 +37,16 @@ mark_colons _ h = refl
 
 -- an octet for which no symbol waits doesn't go on behind one
 pub symbol_colons : (x : Outcome) → symbol_waits x ≡ false → NotColons x
-symbol_colons (Next t) h = h
-symbol_colons (Given x t) h = h
 symbol_colons (Left x t) h = tt
 symbol_colons (Refused n e) h = tt
+symbol_colons _ h = h
 
 -- so many tries are enough
 abbrev pub Enough : ℕ → Known → ℕ → Type 0
-Enough zero s o = ⊥
 Enough (suc zero) s o = UsedHere s o
 Enough (suc (suc zero)) s o = Twice s o
 Enough (suc (suc (suc zero))) s o = Unit {0}
-Enough (suc (suc (suc (suc n)))) s o = ⊥
+Enough _ s o = ⊥
 
 less_enough : (n : ℕ) (p : Place) (s t : Known) (o : ℕ) (x : Lexeme) → Fine s → Enough (suc n) s o → feed p s o ≡ Left x t → Enough n t o
 less_enough zero p s t o x f h e = absurd (subst IsUsed e (h p))
@@ -136,10 +131,9 @@ module _ (g : Catalog) (l : Limits) where
           P n = is_top n.frames ≡ true → is_idle t.mode ≡ true
 
           any : (y : Turn) → is_idle t.mode ≡ true → Leading g l P y
-          any (goes n) i = λ h. i
-          any (gives v n) i = λ h. i
           any (refuses z) i = tt
           any (late z n) i = tt
+          any _ i = λ h. i
 
           start : ℕ
           start = start_now r.now r.start x.start r.frames r.notes
@@ -152,8 +146,7 @@ module _ (g : Catalog) (l : Limits) where
           inside (goes n) (inl (inr h, from, to)) = absurd (let z : false ≡ true = h.0 in cc)
           inside (goes n) (inr h) = absurd (no_close h.1)
           inside (gives v n) h = absurd (no_close h.1)
-          inside (refuses z) h = tt
-          inside (late z n) h = tt
+          inside _ h = tt
 
           by : (b : Bool) → is_top r.frames ≡ b → Leading g l P (turn g l r (token_of x c))
           by true top = any (turn g l r (token_of x c)) ((follows_as (place r) s o (Left x t) sane e).0 (ap is_sexp (top_place r.frames r.now top)))

@@ -1,5 +1,6 @@
 -- Where an octet is refused and no item is open, no whole pieces go on behind the tokens told before it.
 use Rattle.std.proofs.Common.{◌≡◌, ℕ, Bool, true, false, ◌&&◌, List, [], ◌∷◌, ◌++◌, Ok, refl, sym, ap, ◌∙◌, subst, append-nil, ◌⊎◌, inl, inr}
+use Rattle.std.proofs.lemmas.Bool.{false_from_ne_true}
 use Rattle.ion_text.specs.Names.{Catalog, Content, IsBody, Known, Left, Limits, Long, Mark, Mark', Now, Place, Placed, Quoted, Reading, Slot, Turn, Value, Whole, at, continues, done, ends_long, feed, fresh, gives, goes, is_colons, is_fresh, is_quoted, is_segment, is_top, late, on_turn, place, reads, refuses, said, said_body, settle, system_slots, token_of, turn, unsettled}
 use Rattle.ion_text.specs.machine.TokenLists.{walked}
 use Rattle.ion_text.specs.laws.reading.complete.Complete.{segment_kind}
@@ -18,18 +19,16 @@ use Rattle.ion_text.specs.laws.showing.tokens.Walks.{behind_read}
 module _ (g : Catalog) (l : Limits) where
   -- what refuses leads nowhere
   pub ends_goes : (x : Turn) (ts : List Placed) (all : List Value) → TurnRefuses g l x → TurnGoes g l x ts all → ⊥
-  ends_goes (goes r) ts all e d = e
-  ends_goes (gives v r) ts all e d = e
   ends_goes (refuses z) ts all e d = d
   ends_goes (late z r) ts all e d = d
+  ends_goes _ ts all e d = e
 
   -- what settles to a fresh reading goes on from there
   settled_fresh : (x : Turn) (later : List Value) (c : List Slot) (ts : List Placed) (all : List Value) → on_turn x done ≡ walked later (fresh c)
       → TurnGoes g l x ts all → (rest : List Value) × Going g l (fresh c) ts rest
   settled_fresh (goes r) later c ts all e d = (all, subst (λ n. Going g l n ts all) (walked_now g l [] later r (fresh c) e).1 d)
   settled_fresh (gives v r) later c ts all e d = (d.0, subst (λ n. Going g l n ts d.0) (walked_now g l (v ∷ []) later r (fresh c) e).1 d.2)
-  settled_fresh (refuses z) later c ts all e d = absurd d
-  settled_fresh (late z r) later c ts all e d = absurd d
+  settled_fresh _ later c ts all e d = absurd d
 
   module _ (u : List ℕ) (o : ℕ) (vs : List Value) (h : Halted g l u o vs) where
     abbrev s : Known
@@ -96,24 +95,19 @@ module _ (g : Catalog) (l : Limits) where
 
           both : (a b : Bool) → a ≡ true → b ≡ true → (a && b) ≡ false → ⊥
           both true true i j q = cc
-          both true false i j q = cc
-          both false b i j q = cc
+          both _ _ i j q = cc
 
           by : IsLongNow r.now ⊎ ApartAt o s r → ⊥
           by (inl i) = subst IsLongNow parts.2 i
           by (inr i) = both (is_top r.frames) (is_quoted z.lexeme.kind) (ap is_top parts.0) kind (subst (λ x. NoSegment (is_top r.frames) x) left i)
 
       settles : continues d.now (token_of z.lexeme c) ≡ false
-      settles = go (continues d.now (token_of z.lexeme c)) refl
+      settles = false_from_ne_true (continues d.now (token_of z.lexeme c)) (λ f. none' (d.shuts (token_of z.lexeme c) f))
         where
           none' : (c ≡ Mark' Mark.Colons) ⊎ ((ends_long h.b.front ≡ true) × GoesOn (token_of z.lexeme c)) → ⊥
           none' (inl f) = plain.0 f
           none' (inr (long, inl (x, f))) = plain.1 x f
           none' (inr (long, inr (x, f, n))) = unquoted long x f
-
-          go : (b : Bool) → continues d.now (token_of z.lexeme c) ≡ b → b ≡ false
-          go false f = refl
-          go true f = absurd (none' (d.shuts (token_of z.lexeme c) f))
 
       on : (others : List Value) × Going g l (fresh r.context) (z ∷ zs) others
       on = settled_fresh (settle g l d.now) d.later r.context (z ∷ zs) all d.settles (going_settle g l d.now z zs all c going says settles)

@@ -30,27 +30,7 @@ text_quotes p colon k s since more h e = go s.mode e h.mode
   where
     go : (m : Mode) → is_long_text m ≡ true → InMode p colon k m s.kept s.start since → BlankThen (codes "''") (since ++ more)
     go (Mode.Text Style.LongString w) e i = then_more (codes "''") i.front i.token (39 ∷ (i.is).0) since more i.blank i.cut (i.is).2
-    go (Mode.Text Style.ShortString w) e i = absurd cc
-    go (Mode.Text Style.QuotedSymbol w) e i = absurd cc
-    go (Mode.Text Style.ShortClob w) e i = absurd cc
-    go (Mode.Text Style.LongClob w) e i = absurd cc
-    go Mode.Blank e i = absurd cc
-    go Mode.Slash e i = absurd cc
-    go Mode.LineComment e i = absurd cc
-    go Mode.BlockComment e i = absurd cc
-    go Mode.BlockCommentStar e i = absurd cc
-    go Mode.Colon e i = absurd cc
-    go Mode.Word e i = absurd cc
-    go Mode.KindName e i = absurd cc
-    go Mode.Number e i = absurd cc
-    go Mode.NumberSlash e i = absurd cc
-    go (Mode.Operator x) e i = absurd cc
-    go Mode.OperatorSlash e i = absurd cc
-    go (Mode.Infinity n) e i = absurd cc
-    go Mode.Quote e i = absurd cc
-    go Mode.Quotes e i = absurd cc
-    go Mode.Brace e i = absurd cc
-    go (Mode.Lob x) e i = absurd cc
+    go _ e i = absurd cc
 
 colons_is : (k : TokenKind) → is_colons k ≡ true → k ≡ TokenKind.Mark Mark.Colons
 colons_is (TokenKind.Mark Mark.Colons) h = refl
@@ -118,27 +98,7 @@ long_reach start t w end ss h = go t.mode h
         (if is_idle m then None else Some (record { start = t.start; end = t.used - behind m; form = form_of m }))
         (is_long_begun (if is_idle m then None else Some (record { start = t.start; end = t.used - behind m; form = form_of m }))) ≡ end - start
     go (Mode.Text Style.LongString w) e = absurd cc
-    go (Mode.Text Style.ShortString w) e = refl
-    go (Mode.Text Style.QuotedSymbol w) e = refl
-    go (Mode.Text Style.ShortClob w) e = refl
-    go (Mode.Text Style.LongClob w) e = refl
-    go Mode.Blank e = refl
-    go Mode.Slash e = refl
-    go Mode.LineComment e = refl
-    go Mode.BlockComment e = refl
-    go Mode.BlockCommentStar e = refl
-    go Mode.Colon e = refl
-    go Mode.Word e = refl
-    go Mode.KindName e = refl
-    go Mode.Number e = refl
-    go Mode.NumberSlash e = refl
-    go (Mode.Operator x) e = refl
-    go Mode.OperatorSlash e = refl
-    go (Mode.Infinity n) e = refl
-    go Mode.Quote e = refl
-    go Mode.Quotes e = refl
-    go Mode.Brace e = refl
-    go (Mode.Lob x) e = refl
+    go _ e = refl
 
 module _ (l : Limits) (r : Reading) (t : Known) where
   -- what isn't shut, and within the limit, is noticed
@@ -151,8 +111,7 @@ module _ (l : Limits) (r : Reading) (t : Known) where
       go : (x y z : Bool) → x ≡ false → z ≡ true → (if x && y then fails Reason.Unexpected else
           (if z then uses (with_scan t r) else fails Reason.ItemTooLong)) ≡ fails e → ⊥
       go false y true a b f = cc
-      go true y z a b f = absurd cc
-      go false y false a b f = absurd cc
+      go _ y _ a b f = absurd cc
 
   -- What waits at the top level, and ended within the limit, is refused at no octet that it waits for but in a segment.
   pub waits_fits : r.frames ≡ [] → (h : _) (end : ℕ) → r.now ≡ Now.Pending h end → end ≤ r.start + l.item → (e : Reason) → noticed l r t ≡ fails e → ⊥

@@ -76,12 +76,11 @@ module _ (g : Catalog) (l : Limits) (u : List ℕ) (o : ℕ) (vs : List Value) (
 
       go : (n : Now) → r.now ≡ n → (r.now ≡ Now.Ready) ⊎ IsWaiting g l r.now
       go Now.Ready e = inl e
-      go (Now.Pending q end) e = inr (subst (IsWaiting g l) (sym e) tt)
-      go (Now.Long w end) e = inr (subst (IsWaiting g l) (sym e) tt)
       go Now.After e = absurd (stands Now.After e).2
       go Now.Name e = absurd (stands Now.Name e).1
       go (Now.LongName w) e = absurd (stands (Now.LongName w) e).struct
       go (Now.Keyed q) e = absurd (stands (Now.Keyed q) e).struct
+      go _ e = inr (subst (IsWaiting g l) (sym e) tt)
 
   -- the reading that tokens lead to is in a container where this one is
   inside : is_top r.frames ≡ false → is_top (a.r).frames ≡ false
@@ -168,10 +167,7 @@ module _ (g : Catalog) (l : Limits) (u : List ℕ) (o : ℕ) (vs : List Value) (
           go (Now.Pending q' end) i = waiting (Now.Pending q' end) i tt
           go (Now.Long y end) i = waiting (Now.Long y end) i tt
           go (Now.LongName y) i = named y i
-          go Now.Ready i = none Now.Ready i refl
-          go Now.After i = none Now.After i refl
-          go Now.Name i = none Now.Name i refl
-          go (Now.Keyed y) i = none (Now.Keyed y) i refl
+          go n i = none n i refl
 
       -- where a value may come
       at_ready : r.now ≡ Now.Ready → is_top r.frames ≡ true → ⊥

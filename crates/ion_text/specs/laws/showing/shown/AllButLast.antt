@@ -1,8 +1,9 @@
 -- Of the whole pieces at the front of octets, the octets show all but the last at least.
 use Rattle.std.proofs.Common.{◌≡◌, ℕ, ◌+◌, ◌≤◌, ◌⊎◌, inl, inr, Bool, true, false, List, [], ◌∷◌, ◌++◌, length, refl, sym, ap, ◌∙◌, subst, arith, append-nil, append_assoc, length-append, Result, Ok, Err, Option, Some, None, option_to_list}
+use Rattle.std.proofs.lemmas.Bool.{false_from_ne_true}
 use Rattle.std.specs.Prelude.{codes, nat_le}
 use Rattle.std.proofs.lemmas.Bool.Decides.{nat_tests}
-use Rattle.ion_text.specs.Names.{BeginsWith, Catalog, Content, IsBody, IsWordBody, Kind, LexesTo, Limits, Mark, Mark', Placed, Reading, Refusal, Shown, State, Streams, TokenKind, Turn, Value, Walk, Whole, adds_values, begun, colon_behind, continues, done, ends_long, ends_of, fresh, gives, goes, id_of, initial, is_sexp, kind_named, late, null_of, on_turn, plain, reads, reads-append, refuses, run, said_body, settle, stopped, system_slots, then_walk, token_of, trace}
+use Rattle.ion_text.specs.Names.{BeginsWith, Catalog, Content, IsBody, IsWordBody, Kind, LexesTo, Limits, Mark, Mark', Placed, Reading, Refusal, Shown, State, Streams, TokenKind, Turn, Value, Walk, Whole, adds_values, begun, colon_behind, continues, done, ends_long, ends_of, fresh, gives, goes, id_of, initial, is_sexp, kind_named, null_of, on_turn, plain, reads, reads-append, run, said_body, settle, stopped, system_slots, then_walk, token_of, trace}
 use Rattle.ion_text.specs.machine.TokenLists.{walked}
 use Rattle.ion_text.specs.laws.reading.complete.Accepts.{accepts}
 use Rattle.ion_text.specs.laws.reading.complete.Complete.{segment_kind}
@@ -31,12 +32,9 @@ mark_kind TokenKind.KindName octets m h = absurd (by (kind_named octets) h)
     by None h = cc
     by (Some k) h = cc
 mark_kind TokenKind.Number octets m h = absurd h
-mark_kind TokenKind.Operator octets m h = let e = h.0 in cc
-mark_kind TokenKind.QuotedSymbol octets m h = let e = h.0 in cc
-mark_kind TokenKind.ShortString octets m h = let e = h.0 in cc
-mark_kind TokenKind.LongString octets m h = let e = h.0 in cc
 mark_kind TokenKind.Clob octets m h = cc
 mark_kind TokenKind.Blob octets m h = cc
+mark_kind _ octets m h = let e = h.0 in cc
 
 values_in : Walk → List Value
 values_in (walked vs r) = vs
@@ -59,8 +57,7 @@ module _ (g : Catalog) (l : Limits) where
   unfolding values_in
   settled_values (goes r) later all x xs n e d = (all, ap (λ vs. vs ++ all) (ap values_in e))
   settled_values (gives v r) later all x xs n e d = (d.0, d.1 ∙ ap (λ vs. vs ++ d.0) (ap values_in e))
-  settled_values (refuses y) later all x xs n e d = absurd d
-  settled_values (late y r) later all x xs n e d = absurd d
+  settled_values _ later all x xs n e d = absurd d
 
   module _ (front following : List ℕ) (s : List Value) (a : Whole g l front following s) where
     so_far : ReadSoFar g l a.tokens s a.context
@@ -86,11 +83,7 @@ module _ (g : Catalog) (l : Limits) where
           a.no_segment long (blank_token (codes "''") [] (a.blank ++ following) (a.blank ++ following) rest a.colon a.end x b is refl)
 
       apart : (c : Content) → IsBody x.lexeme.kind x.lexeme.octets (Ok c) → continues so_far.now (token_of x.lexeme c) ≡ false
-      apart c says = by (continues so_far.now (token_of x.lexeme c)) refl
-        where
-          by : (y : Bool) → continues so_far.now (token_of x.lexeme c) ≡ y → y ≡ false
-          by false e = refl
-          by true e = absurd (none_on c says (so_far.shuts (token_of x.lexeme c) e))
+      apart c says = false_from_ne_true (continues so_far.now (token_of x.lexeme c)) (λ e. none_on c says (so_far.shuts (token_of x.lexeme c) e))
 
       -- tokens that begin with it give their values behind those of the pieces
       more_values : (xs : List Placed) (t : List Value) → Going g l (fresh system_slots) (a.tokens ++ x ∷ xs) t → (more : List Value) × (t ≡ s ++ more)

@@ -1,5 +1,6 @@
 -- Behind octets that aren't refused, whole pieces of a document stand in front of the open item, whatever follows.
 use Rattle.std.proofs.Common.{◌≡◌, ℕ, ◌+◌, Bool, true, false, List, [], ◌∷◌, ◌++◌, length, refl, sym, ap, ◌∙◌, subst, arith, append_assoc, append-nil, length-append, ◌⊎◌, inl, inr, if◌then◌else◌}
+use Rattle.std.proofs.lemmas.Bool.{false_from_ne_true}
 use Rattle.std.specs.Prelude.{◌&&◌, codes}
 use Rattle.ion_text.specs.Names.{BeginsWith, BlankThen, Catalog, Continues, Frame, Known, Lexeme, LexesTo, Limits, Mark, Next, Now, Place, Placed, Reading, Scanned, Slot, State, Symbols, TokenKind, Value, Whole, at, begins_as_long, ends_long, is_fresh, place, scan as run, start_of}
 use Rattle.ion_tokens.proofs.complete.Moves.{blank}
@@ -120,9 +121,8 @@ module _ (g : Catalog) (l : Limits) where
 
       -- where an item is open
       module _ (t : Placed) (ts : List Placed) (some : b.item ≡ t ∷ ts) where
-        unfresh : (x : Bool) → is_fresh r ≡ x → x ≡ false
-        unfresh false e = refl
-        unfresh true e = absurd (let n : [] ≡ t ∷ ts = sym (no_item g l Scanned u vs s r ahead A b e) ∙ some in cc)
+        unfresh : is_fresh r ≡ false
+        unfresh = false_from_ne_true (is_fresh r) (λ e. let n : [] ≡ t ∷ ts = sym (no_item g l Scanned u vs s r ahead A b e) ∙ some in cc)
 
         opens : opens_item t.lexeme.kind ≡ true
         opens = subst OpensItem some (now_first r.context r.frames r.notes r.now b.item b.stands)
@@ -201,7 +201,7 @@ module _ (g : Catalog) (l : Limits) where
           front = front_of [];
           rest = behind_of [];
           parts = whole_parts;
-          ends = size [] ∙ sym (ap (λ (x : Bool). if x then start_of s.mode s.start s.used else r.start) (unfresh (is_fresh r) refl));
+          ends = size [] ∙ sym (ap (λ (x : Bool). if x then start_of s.mode s.start s.used else r.start) unfresh);
           whole = λ following. record {
             tokens = b.front;
             context = r.context;

@@ -1,5 +1,6 @@
 -- What stands open behind the whole pieces, where no octet is refused: an item within the limit, a blank's prefix, or what may go on.
 use Rattle.std.proofs.Common.{◌≡◌, ℕ, ◌+◌, ◌-◌, ◌≤◌, Bool, true, false, List, [], ◌∷◌, ◌++◌, length, Option, Some, None, refl, sym, ap, ◌∙◌, subst, arith, append_assoc, append-nil, length-append, ◌⊎◌, inl, inr, if◌then◌else◌}
+use Rattle.std.proofs.lemmas.Bool.{false_from_ne_true}
 use Rattle.std.specs.Prelude.{codes, ◌||◌}
 use Rattle.ion_text.specs.Names.{Begun, BegunSo, Catalog, Form, Frame, HasBegun, IsBlank, IsFirstColon, Known, LexesTo, Limits, LineComment, MayComment, Next, Now, OpenRest, Place, Placed, Reading, Scanned, ShowsBegun, State, Symbols, Value, begun_in, behind, colon_behind, form_of, is_fresh, is_idle, is_long_begun, is_long_form, is_top, longest_top, place, reaches, scan as run, start_of}
 use Rattle.ion_tokens.proofs.complete.Moves.{blank}
@@ -275,12 +276,11 @@ module _ (g : Catalog) (l : Limits) (u : List ℕ) (vs : List Value) (m : State)
 
   -- where an item is open
   module _ (t : Placed) (us : List Placed) (some : b.item ≡ t ∷ us) where
-    unfresh : (x : Bool) → is_fresh r ≡ x → x ≡ false
-    unfresh false e = refl
-    unfresh true e = absurd (let n : [] ≡ t ∷ us = sym (no_item g l Scanned u vs s r [] (NoLongText s.mode) b e) ∙ some in cc)
+    unfresh : is_fresh r ≡ false
+    unfresh = false_from_ne_true (is_fresh r) (λ e. let n : [] ≡ t ∷ us = sym (no_item g l Scanned u vs s r [] (NoLongText s.mode) b e) ∙ some in cc)
 
     open_size : length front ≡ r.start
-    open_size = ends ∙ ap (λ (x : Bool). if x then start_of s.mode s.start s.used else r.start) (unfresh (is_fresh r) refl)
+    open_size = ends ∙ ap (λ (x : Bool). if x then start_of s.mode s.start s.used else r.start) unfresh
 
     lexes : LexesTo false 0 u (b.front ++ t ∷ us) colon end octets
     lexes = subst (λ x. LexesTo false 0 u (b.front ++ x) colon end octets) some shown.3
@@ -329,7 +329,7 @@ module _ (g : Catalog) (l : Limits) (u : List ℕ) (vs : List Value) (m : State)
 
       ready_rest : (ss : Symbols) → r.notes ≡ ss → r.now ≡ Now.Ready → (i : Bool) → is_idle s.mode ≡ i
           → longest_top r.start s.used Now.Ready ss (seen i) (is_long_begun (seen i)) ≤ l.item → OpenRest l rest
-      ready_rest [] e n i j h = absurd (let k : false ≡ true = sym (unfresh (is_fresh r) refl) ∙ fresh_is r.start r.context r.frames r.notes r.now top e n in
+      ready_rest [] e n i j h = absurd (let k : false ≡ true = sym unfresh ∙ fresh_is r.start r.context r.frames r.notes r.now top e n in
           cc)
       ready_rest (x ∷ ss) e n true j h = all_counted h
       ready_rest (x ∷ ss) e n false j h = token_counted j h
@@ -344,10 +344,7 @@ module _ (g : Catalog) (l : Limits) (u : List ℕ) (vs : List Value) (m : State)
       top_rest Now.Ready e at' c h = ready_rest r.notes refl e (is_idle s.mode) refl h
       top_rest (Now.Pending k last) e at' c h = wait_idle last at' h c
       top_rest (Now.Long v last) e at' c h = long_rest v last at' c (is_idle s.mode) refl h
-      top_rest Now.After e at' c h = absurd c
-      top_rest Now.Name e at' c h = absurd c
-      top_rest (Now.LongName v) e at' c h = absurd c
-      top_rest (Now.Keyed k) e at' c h = absurd c
+      top_rest _ e at' c h = absurd c
 
     some_rest : (fs : List Frame) → r.frames ≡ fs → OpenRest l rest
     some_rest [] e = top_rest e r.now refl b.ends (calm e) (reach_top e)

@@ -1,5 +1,6 @@
 -- No longer front of octets is whole pieces whatever follows, where an item is open behind them.
 use Rattle.std.proofs.Common.{◌≡◌, ℕ, ◌+◌, ◌≤◌, ◌==◌, Bool, true, false, ◌||◌, List, [], ◌∷◌, ◌++◌, length, refl, sym, ap, ◌∙◌, subst, arith, append_assoc, append-nil, length-append, Ok, ◌⊎◌, inl, inr, codes}
+use Rattle.std.proofs.lemmas.Bool.{false_from_ne_true}
 use Rattle.std.proofs.lemmas.Bool.Decides.{nat_tests}
 use Rattle.ion_text.specs.Names.{ArePieces, BeginsWith, BlankThen, Catalog, Content, Continues, Frame, Held, IsBody, IsLexeme, Known, Leading, LexesTo, Limits, Listing, Long, Mark, Mark', Mode, Now, Place, Placed, Quoted, Reading, Scanned, Segments, State, Symbols, TokenKind, Value, Whole, adds_values, colon_behind, continues, done, ends_long, fresh, goes, initial, is_fresh, is_idle, is_quoting, is_segment, is_sexp, joined, on_turn, place, place_in, reads, said, said_body, scan as run, segment, settle, system_slots, takes_colon, token_of}
 use Rattle.ion_tokens.proofs.complete.Moves.{at as scanning}
@@ -9,23 +10,23 @@ use Rattle.ion_tokens.proofs.histories.Histories.{begins_completes}
 use Rattle.ion_tokens.proofs.sound.Holds.{InMode}
 use Rattle.ion_text.specs.machine.TokenLists.{walked}
 use Rattle.ion_text.specs.laws.reading.Stops.{stood_used}
-use Rattle.ion_text.specs.laws.reading.complete.Complete.{Begins, ends_behind, segment_kind, segments_long, starts}
-use Rattle.ion_text.specs.laws.reading.complete.Going.{Going, going_said, mark_kind, says_so}
-use Rattle.ion_text.specs.laws.reading.complete.Pieces.{GoesOn, ReadSoFar, more_read, pieces_read, quoted_kind, settled_first, top_now, walked_now}
+use Rattle.ion_text.specs.laws.reading.complete.Complete.{ends_behind, segment_kind, segments_long, starts}
+use Rattle.ion_text.specs.laws.reading.complete.Going.{Going, going_said, mark_kind}
+use Rattle.ion_text.specs.laws.reading.complete.Pieces.{GoesOn, ReadSoFar, pieces_read, quoted_kind, settled_first, top_now, walked_now}
 use Rattle.ion_text.specs.laws.reading.sound.Admits.{no_item}
-use Rattle.ion_text.specs.laws.reading.sound.Held.{Behind, IsFirst, NoLongText}
+use Rattle.ion_text.specs.laws.reading.sound.Held.{Behind, IsFirst, IsSome, NoLongText}
 use Rattle.ion_text.specs.laws.reading.sound.Spans.{IsWaiting}
 use Rattle.ion_text.specs.laws.reading.sound.StandsOpen.{LongFor, NowStands, PendingFor, symbol_said}
 use Rattle.ion_text.specs.laws.reading.sound.Steps.{Stood}
 use Rattle.ion_text.specs.laws.showing.shown.Longest.{escaped, k as behind_all, long as their_long, octets as all_octets, size as their_size, theirs as their_tokens}
 use Rattle.ion_text.specs.laws.showing.tokens.Closing.{Closing, colons_close, quotes_close}
-use Rattle.ion_text.specs.laws.showing.tokens.Compare.{Found', begins_after, lexes_once}
+use Rattle.ion_text.specs.laws.showing.tokens.Compare.{Found', OneIsFront, begins_after, lexes_once, meet}
 use Rattle.ion_text.specs.laws.showing.tokens.Cuts.{Is, OpenBehind, Parted, lexed_front, one_found, parted}
-use Rattle.ion_text.specs.laws.showing.tokens.Firsts.{OpensItem, now_first, opens_item, symbol_kind}
+use Rattle.ion_text.specs.laws.showing.tokens.Firsts.{opens_item, symbol_kind}
 use Rattle.ion_text.specs.laws.showing.tokens.Froms.{AllFrom, From, Waits, fresh_parts, settle_from, walked_from}
 use Rattle.ion_text.specs.laws.showing.tokens.Once.{begins_lexed, operator_inside, whole_found, whole_going, whole_operators}
-use Rattle.ion_text.specs.laws.showing.tokens.Stays.{Arrived, arrived}
-use Rattle.ion_text.specs.laws.showing.tokens.Walks.{OneIsFront, Walking, adds_is, behind_read, meet, settled_reads, walking_said}
+use Rattle.ion_text.specs.laws.showing.tokens.Stays.{Arrived, arrived, item_read}
+use Rattle.ion_text.specs.laws.showing.tokens.Walks.{adds_is, behind_read, settled_reads, walking_said}
 
 -- tokens in a row begin one behind the other
 lexed_from : (n : ℕ) (ts : List Placed) (colon : Bool) (before : ℕ) (octets : List ℕ) (after : Bool) (end : ℕ) (rest : List ℕ) (g : Catalog) (l : Limits)
@@ -78,11 +79,7 @@ symbol_colon p k octets c h e = go k (symbol_kind k octets c h e) h
     go TokenKind.QuotedSymbol i h = refl
     go TokenKind.LongString i h = absurd (let n : false ≡ true = sym (ap symbol_said h.0) ∙ e in cc)
     go (TokenKind.Mark m) i h = absurd (let j : c ≡ Mark' m = cc in let n : false ≡ true = sym (ap symbol_said j) ∙ e in cc)
-    go TokenKind.Number i h = absurd cc
-    go TokenKind.Operator i h = absurd cc
-    go TokenKind.ShortString i h = absurd cc
-    go TokenKind.Clob i h = absurd cc
-    go TokenKind.Blob i h = absurd cc
+    go _ i h = absurd cc
 
 -- the last of a long string's tokens
 pub segments_last : (p : Place) (ts : List Placed) (w : List ℕ) → Segments p ts w → (front : List Placed) × (z : Placed) × (ts ≡ front ++ z ∷ [])
@@ -97,15 +94,8 @@ last_colon z colon before octets after end rest (q, b, h) = h.0
 -- in a container the place isn't the top level
 pub inside_place : (f : Frame) (fs : List Frame) (now : Now) → Place.Top ≡ place_in (f ∷ fs) now → ⊥
 inside_place (Frame.Items Listing.List ss vs) fs now e = cc
-inside_place (Frame.Items Listing.Sexp ss vs) fs now e = cc
-inside_place (Frame.Named ss ms s) fs now e = cc
 inside_place (Frame.Fields ss ms) fs Now.Ready e = cc
-inside_place (Frame.Fields ss ms) fs (Now.Pending h end) e = cc
-inside_place (Frame.Fields ss ms) fs (Now.Long w end) e = cc
-inside_place (Frame.Fields ss ms) fs Now.After e = cc
-inside_place (Frame.Fields ss ms) fs Now.Name e = cc
-inside_place (Frame.Fields ss ms) fs (Now.LongName w) e = cc
-inside_place (Frame.Fields ss ms) fs (Now.Keyed s) e = cc
+inside_place _ fs _ e = cc
 
 module _ (g : Catalog) (l : Limits) (u : List ℕ) (vs : List Value) (s : Known) (r : Reading) (ahead : List ℕ) (A : Type 0)
     (b : Behind g l Scanned u vs s r ahead A) (used : s.used ≡ length u) (x : Placed) (xs : List Placed) (some : b.item ≡ x ∷ xs) where
@@ -117,38 +107,15 @@ module _ (g : Catalog) (l : Limits) (u : List ℕ) (vs : List Value) (s : Known)
 
   -- an item is open
   pub new : is_fresh r ≡ false
-  new = by (is_fresh r) refl
-    where
-      by : (y : Bool) → is_fresh r ≡ y → y ≡ false
-      by false e = refl
-      by true e = absurd (let n : [] ≡ x ∷ xs = sym (no_item g l Scanned u vs s r ahead A b e) ∙ some in cc)
+  new = false_from_ne_true (is_fresh r) (λ e. let n : [] ≡ x ∷ xs = sym (no_item g l Scanned u vs s r ahead A b e) ∙ some in cc)
 
   -- the tokens of the open item lead the reader of tokens to where it stands
   pub a : Arrived g l r.context r.frames r.notes r.now b.item
   a = arrived g l r.context r.frames r.notes r.now b.item b.deep b.stands new
 
-  -- the item's first token is no `::`
-  first : Begins g l Place.Top b.item
-  first =
-      let w : Walking g l (fresh r.context) (x ∷ xs) = record { vs = []; n = a.r; read = ap (reads g l (fresh r.context)) (sym some) ∙ a.read } in
-      let q = walking_said g l (fresh r.context) x xs w in
-      let opens : opens_item x.lexeme.kind ≡ true = subst OpensItem some (now_first r.context r.frames r.notes r.now b.item b.stands) in
-      record {
-        first = x;
-        later = xs;
-        said = q.1;
-        cut = some;
-        says = says_so g l (fresh r.context) x q.1 q.0 q.2;
-        no_colons = λ e.
-            let kind = mark_kind x.lexeme.kind x.lexeme.octets Mark.Colons
-            (subst (λ y. IsBody x.lexeme.kind x.lexeme.octets (Ok y)) e (said_body x.lexeme.kind x.lexeme.octets q.1 q.2)) in
-            let n : false ≡ true = sym (ap opens_item kind) ∙ opens in
-            cc;
-      }
-
   -- all tokens are read
   read : reads g l (fresh system_slots) (b.front ++ b.item) ≡ walked (vs ++ []) a.r
-  read = more_read g l b.front b.item vs r.context (pieces_read g l b.front vs r.context b.pieces) first b.first ∙ ap (adds_values vs) a.read
+  read = item_read g l r.context b.front vs r.frames r.notes r.now b.item (subst IsSome (sym some) tt) b.pieces b.stands b.first a
 
   -- the open item begins where the first of its tokens does
   pub begins : starts g l 0 [] b.item ≡ r.start
@@ -194,7 +161,7 @@ module _ (g : Catalog) (l : Limits) (u : List ℕ) (vs : List Value) (s : Known)
 
     met : OneIsFront (b.front ++ b.item) w.tokens
     met =
-        meet g l (λ s octets. Unit {0}) initial (u ++ more) (b.front ++ b.item)
+        meet (λ s octets. Unit {0}) g l initial (u ++ more) (b.front ++ b.item)
         (begins_completes (b.front ++ b.item) false 0 (u ++ more) [] (u ++ more) initial
         (begins_lexed (b.front ++ b.item) false 0 (u ++ more) k.colon k.end (k.since ++ more) ours) refl (λ p. refl))
         w.tokens (subst (λ y. Found' (λ s octets. Unit {0}) initial y w.tokens) (all_octets g l u vs s r ahead A b used v rest more t cut w)
@@ -436,11 +403,7 @@ module _ (g : Catalog) (l : Limits) (u : List ℕ) (vs : List Value) (s : Known)
         choose (Now.Pending h end) e [] i = behind_symbol h r.notes (top r.now i) (stands (Now.Pending h end) e i) (subst (Waits g l s) e wait)
         choose (Now.Long z end) e [] i = behind_long z r.notes (top r.now i) (stands (Now.Long z end) e i) (subst (Waits g l s) e wait)
         choose n e (f ∷ fs) i = otherwise (λ w q. inside_place f fs r.now (q ∙ ap (λ y. place_in y r.now) i))
-        choose Now.Ready e [] i = otherwise (λ w q. subst (IsWaiting g l) e w)
-        choose Now.After e [] i = otherwise (λ w q. subst (IsWaiting g l) e w)
-        choose Now.Name e [] i = otherwise (λ w q. subst (IsWaiting g l) e w)
-        choose (Now.LongName z) e [] i = otherwise (λ w q. subst (IsWaiting g l) e w)
-        choose (Now.Keyed z) e [] i = otherwise (λ w q. subst (IsWaiting g l) e w)
+        choose _ e [] i = otherwise (λ w q. subst (IsWaiting g l) e w)
 
 -- where no octet is refused
 pub longest_open : (g : Catalog) (l : Limits) (u : List ℕ) (vs : List Value) (m : State) (b : Stood g l u vs m) (x : Placed) (xs : List Placed)

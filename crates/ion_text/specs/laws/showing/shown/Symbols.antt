@@ -1,5 +1,6 @@
 -- Behind a symbol that no longer waits at the top level, a token has begun.
 use Rattle.std.proofs.Common.{◌≡◌, ℕ, zero, suc, ◌+◌, nat_le, List, [], ◌∷◌, ◌++◌, Bool, true, false, ◌&&◌, not, Result, Ok, Err, Option, Some, None, refl, sym, ap, ◌∙◌, subst, if◌then◌else◌, inl, inr}
+use Rattle.std.proofs.lemmas.Bool.{cond_both}
 use Rattle.ion_text.specs.Names.{Blob, Catalog, Clob, Content, Effect, Follows, Frame, Given, Held, Id, IsBody, IsWordBody, Known, Leading, Left, Lexeme, Limits, Long, Mark', Next, Now, Number', Operator, Outcome, Place, Quoted, Reading, Reason, Refusal, Refused, Short, Slot, State, Symbols, TokenKind, Turn, TypedNull, Value, Word, at, begun_at, behind_given, behind_left, eats, fails, feed, gives, goes, held_word, id_of, in_segment, is_fresh, is_idle, is_keyword, is_name, is_quoting, is_sane, is_top, keyed, kind_named, late, leaves, long_waits, noticed, null_of, on_octet, on_said, on_scan, on_settled, once_more, or_worse, place, place_in, reaches, refuses, resolve, resolved, run, run_on, said, said_body, settle, settle_same, shut, symbol_waits, takes, takes_colon, tells, token_at, token_of, turn, turn_now, under, unsettled, uses, waits, waits_now, with_scan}
 use Rattle.ion_tokens.specs.laws.Follows.{feed_follows}
 use Rattle.ion_text.specs.laws.reading.complete.Segments.{never}
@@ -13,13 +14,11 @@ use Rattle.ion_text.specs.laws.showing.tokens.Cuts.{Keeps, feed_keeps}
 
 pending_unfresh : (start : ℕ) (c : List Slot) (fs : List Frame) (ss : Symbols) (h : Held) (end : ℕ) → is_fresh (at start c fs ss (Now.Pending h end)) ≡ false
 pending_unfresh start c [] [] h end = refl
-pending_unfresh start c [] (s ∷ ss) h end = refl
-pending_unfresh start c (f ∷ fs) ss h end = refl
+pending_unfresh start c _ _ h end = refl
 
 pub keyed_unfresh : (start : ℕ) (c : List Slot) (fs : List Frame) (ss : Symbols) (s : Option (List ℕ)) → is_fresh (at start c fs ss (Now.Keyed s)) ≡ false
 keyed_unfresh start c [] [] s = refl
-keyed_unfresh start c [] (x ∷ ss) s = refl
-keyed_unfresh start c (f ∷ fs) ss s = refl
+keyed_unfresh start c _ _ s = refl
 
 inside_unfresh : (r : Reading) → is_top r.frames ≡ false → is_fresh r ≡ false
 inside_unfresh r h = go r.frames h
@@ -66,27 +65,6 @@ module _ (g : Catalog) (l : Limits) where
   symbol_unfresh begin end start c fs ss (Word w) Now.Name h = keyword_unfresh start c fs w (is_keyword w)
   symbol_unfresh begin end start c fs ss (Id id) Now.Name h = resolved_unfresh (resolve c id) _ (λ s. keyed_unfresh start c fs [] s)
   symbol_unfresh begin end start c fs ss (Quoted w) Now.Name h = keyed_unfresh start c fs [] (Some w)
-  symbol_unfresh begin end start c fs ss (TypedNull k) Now.Name h = tt
-  symbol_unfresh begin end start c fs ss (Word w) (Now.Pending x e) h = tt
-  symbol_unfresh begin end start c fs ss (Word w) (Now.Long x e) h = tt
-  symbol_unfresh begin end start c fs ss (Word w) Now.After h = tt
-  symbol_unfresh begin end start c fs ss (Word w) (Now.LongName x) h = tt
-  symbol_unfresh begin end start c fs ss (Word w) (Now.Keyed x) h = tt
-  symbol_unfresh begin end start c fs ss (Id w) (Now.Pending x e) h = tt
-  symbol_unfresh begin end start c fs ss (Id w) (Now.Long x e) h = tt
-  symbol_unfresh begin end start c fs ss (Id w) Now.After h = tt
-  symbol_unfresh begin end start c fs ss (Id w) (Now.LongName x) h = tt
-  symbol_unfresh begin end start c fs ss (Id w) (Now.Keyed x) h = tt
-  symbol_unfresh begin end start c fs ss (Quoted w) (Now.Pending x e) h = tt
-  symbol_unfresh begin end start c fs ss (Quoted w) (Now.Long x e) h = tt
-  symbol_unfresh begin end start c fs ss (Quoted w) Now.After h = tt
-  symbol_unfresh begin end start c fs ss (Quoted w) (Now.LongName x) h = tt
-  symbol_unfresh begin end start c fs ss (Quoted w) (Now.Keyed x) h = tt
-  symbol_unfresh begin end start c fs ss (TypedNull w) (Now.Pending x e) h = tt
-  symbol_unfresh begin end start c fs ss (TypedNull w) (Now.Long x e) h = tt
-  symbol_unfresh begin end start c fs ss (TypedNull w) Now.After h = tt
-  symbol_unfresh begin end start c fs ss (TypedNull w) (Now.LongName x) h = tt
-  symbol_unfresh begin end start c fs ss (TypedNull w) (Now.Keyed x) h = tt
   symbol_unfresh begin end start c fs ss (Short w) now h = absurd cc
   symbol_unfresh begin end start c fs ss (Long w) now h = absurd cc
   symbol_unfresh begin end start c fs ss (Number' w) now h = absurd cc
@@ -94,12 +72,12 @@ module _ (g : Catalog) (l : Limits) where
   symbol_unfresh begin end start c fs ss (Clob w) now h = absurd cc
   symbol_unfresh begin end start c fs ss (Blob w) now h = absurd cc
   symbol_unfresh begin end start c fs ss (Mark' w) now h = absurd cc
+  symbol_unfresh begin end start c fs ss _ _ h = tt
 
   any_turn : (P : Reading → Type 0) → ((r : Reading) → P r) → (t : Turn) → Leading g l P t
   any_turn P h (goes r) = h r
   any_turn P h (gives v r) = h r
-  any_turn P h (refuses e) = tt
-  any_turn P h (late e r) = tt
+  any_turn P h _ = tt
 
   -- a token that closes nothing ends no item in a container
   inside_open : (c : Content) (item start end : ℕ) (t : Turn) → (IsClose false c → ⊥) → Spans false c item start end t → Unfresh t
@@ -107,8 +85,7 @@ module _ (g : Catalog) (l : Limits) where
   inside_open c item start end (goes n) k (inl (inr (h, new, ok), from, to)) = absurd (let x : false ≡ true = h in cc)
   inside_open c item start end (goes n) k (inr h) = absurd (k h.1)
   inside_open c item start end (gives v n) k h = absurd (k h.1)
-  inside_open c item start end (refuses e) k h = tt
-  inside_open c item start end (late e n) k h = tt
+  inside_open c item start end _ k h = tt
 
   -- behind a token with which an item ends, no colon may stand
   abbrev NoColon : Place → Lexeme → Turn → Type 0
@@ -144,11 +121,7 @@ module _ (g : Catalog) (l : Limits) where
       go TokenKind.QuotedSymbol e h = symbol (ap symbol_said h.0)
       go TokenKind.ShortString e h = name (λ i. subst (IsClose false) h.0 i) (is_name (place r)) refl (ap (takes_colon (place r)) e)
       go TokenKind.LongString e h = name (λ i. subst (IsClose false) h.0 i) (is_name (place r)) refl (ap (takes_colon (place r)) e)
-      go TokenKind.Number e h = free (ap (takes_colon (place r)) e)
-      go TokenKind.Operator e h = free (ap (takes_colon (place r)) e)
-      go TokenKind.Clob e h = free (ap (takes_colon (place r)) e)
-      go TokenKind.Blob e h = free (ap (takes_colon (place r)) e)
-      go (TokenKind.Mark m) e h = free (ap (takes_colon (place r)) e)
+      go _ e h = free (ap (takes_colon (place r)) e)
 
   -- where nothing is open, and the last token may have a colon behind it, a token has begun
   abbrev pub HasBegun : Known → Reading → Type 0
@@ -167,9 +140,7 @@ module _ (g : Catalog) (l : Limits) where
     where
       go : (x : Outcome) → Follows (place r) s.mode x → BeginsOne x
       go (Next t) k = k.1 (h f c)
-      go (Given x t) k = tt
-      go (Left x t) k = tt
-      go (Refused n e) k = tt
+      go _ k = tt
 
   -- what came of an octet
   abbrev pub StillBehind : ℕ → Effect → Type 0
@@ -180,13 +151,8 @@ module _ (g : Catalog) (l : Limits) where
 
   module _ (o : ℕ) where
     noticed_still : (r : Reading) (s : Known) → HasBegun s r → StillBehind o (noticed l r s)
-    noticed_still r s h = go (shut r.now && not (is_idle s.mode)) (nat_le (reaches r.frames r s) l.item)
-      where
-        go : (x y : Bool) → StillBehind o (if x then fails Reason.Unexpected else
-            (if y then uses (record { scan = s; reading = r }) else fails Reason.ItemTooLong))
-        go true y = tt
-        go false true = h
-        go false false = tt
+    noticed_still r s h = cond_both (shut r.now && not (is_idle s.mode)) _ _ (StillBehind o) (λ e. tt)
+        (λ e. cond_both (nat_le (reaches r.frames r s) l.item) _ _ (StillBehind o) (λ k. h) (λ k. tt))
 
     worse_still : (e : Reason) (x : Effect) → StillBehind o (or_worse e x)
     worse_still e (fails f) = tt
@@ -246,15 +212,11 @@ module _ (g : Catalog) (l : Limits) where
 
     symbol_begins : (x : Outcome) → symbol_waits x ≡ false → BeginsOne x
     symbol_begins (Next t) h = h
-    symbol_begins (Given x t) h = tt
-    symbol_begins (Left x t) h = tt
-    symbol_begins (Refused n e) h = tt
+    symbol_begins _ h = tt
 
     long_begins : (top : Bool) (x : Outcome) → long_waits top x ≡ false → BeginsOne x
     long_begins top (Next t) h = (or_parts (is_idle t.mode) (is_quoting t.mode) h).0
-    long_begins top (Given x t) h = tt
-    long_begins top (Left x t) h = tt
-    long_begins top (Refused n e) h = tt
+    long_begins top _ h = tt
 
     abbrev SettledIn : Place → Known → Reading → Type 0
     SettledIn p s n = (place n ≡ p) × (is_fresh n ≡ true → s.colon ≡ true → BeginsOne (feed p s o))
@@ -280,20 +242,14 @@ module _ (g : Catalog) (l : Limits) where
         go (Now.Pending k end) e = by (symbol_begins (feed p s o) (sym (ap (λ m. waits_now (is_top fs) m (feed p s o)) e) ∙ w))
         go (Now.Long v end) e = by (long_begins (is_top fs) (feed p s o) (sym (ap (λ m. waits_now (is_top fs) m (feed p s o)) e) ∙ w))
         go (Now.LongName v) e = by (long_begins false (feed p s o) (sym (ap (λ m. waits_now (is_top fs) m (feed p s o)) e) ∙ w))
-        go Now.Ready e = same Now.Ready e refl
-        go Now.After e = same Now.After e refl
-        go Now.Name e = same Now.Name e refl
-        go (Now.Keyed x) e = same (Now.Keyed x) e refl
+        go n e = same n e refl
 
     octet_still : (s : Known) (r : Reading) (again : State → Effect) → AgainStill again → StillAt o s r
         → StillBehind o (on_octet g l again (with_scan s r) (feed (place r) s o))
-    octet_still s r again f h = go (unsettled s r (feed (place r) s o)) refl
-      where
-        go : (w : Bool) → unsettled s r (feed (place r) s o) ≡ w
-            → StillBehind o (if w then on_scan g l again r (feed (place r) s o) else on_settled g l again s (feed (place r) s o) (settle g l r))
-        go true e = octet_scanned s r again f h
-        go false e = settled_still s again (place r) f (settle g l r)
-            (settling r.start r.context r.frames r.notes r.now s h (or_parts (waits r (feed (place r) s o)) (in_segment r.now s) e).0)
+    octet_still s r again f h =
+        cond_both (unsettled s r (feed (place r) s o)) _ _ (StillBehind o) (λ e. octet_scanned s r again f h)
+        (λ e. settled_still s again (place r) f (settle g l r)
+        (settling r.start r.context r.frames r.notes r.now s h (or_parts (waits r (feed (place r) s o)) (in_segment r.now s) e).0))
 
     pub takes_still : (n : ℕ) (m : State) → StillAt o m.scan m.reading → StillBehind o (takes g l n m o)
     takes_still zero m h = tt
@@ -319,8 +275,7 @@ module _ (g : Catalog) (l : Limits) where
       once : Rest → (ws : List Value) (x : Effect) → After g l u ws o x → StillBehind o x → EndsStill (once_more to (λ n. run g l (to + 1) n os) x).now
       once rest ws (uses n) a i = rest ws n a i
       once rest ws (tells v n) a i = rest (ws ++ v ∷ []) n a i
-      once rest ws (leaves v n) a i = tt
-      once rest ws (fails e) a i = tt
+      once rest ws _ a i = tt
 
       step : Rest → (x : Effect) → After g l u vs o x → StillBehind o x → EndsStill (run_on to (λ n. eats g l n o) (λ n. run g l (to + 1) n os) x).now
       step rest (uses n) a i = rest vs n a i

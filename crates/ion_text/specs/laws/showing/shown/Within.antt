@@ -1,5 +1,6 @@
 -- Where no octet is refused, the open item is within the limit on items, as far as it is known to go.
 use Rattle.std.proofs.Common.{◌≡◌, ℕ, zero, suc, ◌+◌, ◌≤◌, nat_le, List, [], ◌∷◌, Bool, true, false, ◌&&◌, not, Result, Ok, Err, Option, Some, None, refl, sym, subst, arith, if◌then◌else◌}
+use Rattle.std.proofs.lemmas.Bool.{cond_both}
 use Rattle.std.specs.Prelude.{◌-◌, ◌==◌, bytes_eq, codes}
 use Rattle.ion_text.specs.Names.{Action, Catalog, Content, Effect, Frame, Given, Known, Left, Limits, Mode, Next, Now, Outcome, Place, Reading, Reason, Refusal, Refused, State, Symbols, TokenKind, Turn, acts, at, begun, begun_in, behind, behind_given, behind_left, blob_ends, blob_of, cut, eats, fails, feed, form_of, gives, go_to, goes, is_fresh, is_idle, is_long_begun, is_top, late, leaves, longest_top, noticed, on_octet, on_said, on_scan, on_settled, once_more, or_worse, past, place, reaches, refuses, run, run_on, said, settle, shut, takes, tells, token_of, turn, unsettled, uses, waits, with_scan}
 use Rattle.ion_tokens.specs.machine.Table.{next}
@@ -26,13 +27,10 @@ word_idle p s true = tt
 word_idle p s false = tt
 
 acts_idle : (p : Place) (s : Known) (o : ℕ) (a : Action) → IdleBehind (acts p s o a)
-acts_idle p s o (Action.Go m k) = tt
 acts_idle p s o (Action.Give kind k) = refl
-acts_idle p s o (Action.Before kind k m) = tt
 acts_idle p s o Action.EndWord = word_idle p s ((o == 46) && bytes_eq s.kept (codes "null"))
-acts_idle p s o (Action.Split n) = tt
 acts_idle p s o Action.EndBlob = blob_idle s (blob_of s.kept)
-acts_idle p s o (Action.Refuse e) = tt
+acts_idle p s o _ = tt
 
 feed_idle : (p : Place) (s : Known) (o : ℕ) → IdleBehind (feed p s o)
 feed_idle p s o = acts_idle p s o (next p s.colon s.mode o)
@@ -50,13 +48,8 @@ module _ (g : Catalog) (l : Limits) where
   WithinBehind (fails e) = Unit {0}
 
   noticed_within : (r : Reading) (s : Known) → (is_top r.frames ≡ true → CalmNow r.now s.mode) → WithinBehind (noticed l r s)
-  noticed_within r s c = go (shut r.now && not (is_idle s.mode)) (nat_le (reaches r.frames r s) l.item) refl
-    where
-      go : (x y : Bool) → nat_le (reaches r.frames r s) l.item ≡ y
-          → WithinBehind (if x then fails Reason.Unexpected else (if y then uses (record { scan = s; reading = r }) else fails Reason.ItemTooLong))
-      go true y e = tt
-      go false true e = (le_of (reaches r.frames r s) l.item e, c)
-      go false false e = tt
+  noticed_within r s c = cond_both (shut r.now && not (is_idle s.mode)) _ _ WithinBehind (λ e. tt)
+      (λ e. cond_both (nat_le (reaches r.frames r s) l.item) _ _ WithinBehind (λ k. (le_of (reaches r.frames r s) l.item k, c)) (λ k. tt))
 
   worse_within : (e : Reason) (x : Effect) → WithinBehind (or_worse e x)
   worse_within e (fails f) = tt
@@ -76,14 +69,7 @@ module _ (g : Catalog) (l : Limits) where
       go : (fs : List Frame) (ss : Symbols) (n : Now) → is_fresh (at r.start r.context fs ss n) ≡ true → (reaches fs (at r.start r.context fs ss n) s ≤ l.item)
           × (is_top fs ≡ true → CalmNow n s.mode)
       go [] [] Now.Ready h = (none, λ k. tt)
-      go [] [] (Now.Pending k e) h = absurd cc
-      go [] [] (Now.Long w e) h = absurd cc
-      go [] [] Now.After h = absurd cc
-      go [] [] Now.Name h = absurd cc
-      go [] [] (Now.LongName w) h = absurd cc
-      go [] [] (Now.Keyed s) h = absurd cc
-      go [] (x ∷ ss) n h = absurd cc
-      go (f ∷ fs) ss n h = absurd cc
+      go _ _ _ h = absurd cc
 
   abbrev AgainWithin : (State → Effect) → Type 0
   AgainWithin again = (k : State) → TopOk g l k.reading → WithinBehind (again k)
@@ -126,14 +112,12 @@ module _ (g : Catalog) (l : Limits) where
 
   octet_within : (s : Known) (r : Reading) (o : ℕ) (again : State → Effect) → AgainWithin again → TopOk g l r
       → WithinBehind (on_octet g l again (with_scan s r) (feed (place r) s o))
-  octet_within s r o again f ok = go (unsettled s r (feed (place r) s o)) refl
-    where
-      go : (w : Bool) → unsettled s r (feed (place r) s o) ≡ w
-          → WithinBehind (if w then on_scan g l again r (feed (place r) s o) else on_settled g l again s (feed (place r) s o) (settle g l r))
-      go true e = scan_within r again f ok (feed (place r) s o) (feed_idle (place r) s o)
-          (λ t h k. waits_calm g l r.frames r.now t ok (subst (λ y. waits r y ≡ true) h (unsettled_waits (place r) s r o (subst NotRefused (sym h) tt) e)) k)
-      go false e = settled_within s again f (feed (place r) s o) (feed_idle (place r) s o) (settle g l r)
-          (settle_settled g l r.start r.context r.frames r.notes r.now ok)
+  octet_within s r o again f ok =
+      cond_both (unsettled s r (feed (place r) s o)) _ _ WithinBehind
+      (λ e. scan_within r again f ok (feed (place r) s o) (feed_idle (place r) s o)
+      (λ t h k. waits_calm g l r.frames r.now t ok (subst (λ y. waits r y ≡ true) h (unsettled_waits (place r) s r o (subst NotRefused (sym h) tt) e)) k))
+      (λ e. settled_within s again f (feed (place r) s o) (feed_idle (place r) s o) (settle g l r)
+      (settle_settled g l r.start r.context r.frames r.notes r.now ok))
 
   takes_within : (n : ℕ) (m : State) (o : ℕ) → TopOk g l m.reading → WithinBehind (takes g l n m o)
   takes_within zero m o ok = tt
@@ -154,8 +138,7 @@ module _ (g : Catalog) (l : Limits) where
       once : Rest → (x : Effect) → WithinBehind x → EndsWithin (once_more to (λ n. run g l (to + 1) n os) x).now
       once rest (uses n) i = rest n i
       once rest (tells v n) i = rest n i
-      once rest (leaves v n) i = tt
-      once rest (fails e) i = tt
+      once rest _ i = tt
 
       step : Rest → (x : Effect) → WithinBehind x → EndsWithin (run_on to (λ n. eats g l n o) (λ n. run g l (to + 1) n os) x).now
       step rest (uses n) i = rest n i

@@ -3,7 +3,7 @@ use Rattle.std.proofs.Common.{◌≡◌, ℕ, ◌<◌, eqb-true, Bool, true, fal
 use Rattle.std.specs.Prelude.{◌==◌, ◌&&◌, ◌||◌, not, codes}
 use Rattle.std.specs.List.{flat_map, AllByRecursion}
 use Rattle.std.proofs.lemmas.Bool.{and_parts, or_parts}
-use Rattle.ion_text.specs.Names.{BlankPiece, BlankThen, BlockComment, Catalog, Document, HasPieces, IsBlank, IsBlankPiece, IsLastBlank, IsLexeme, IsNumeric, IsOperator, Lexes, LexesTo, Limits, LineComment, Mark, MarkEnds, OpenRest, Pieces, Place, Placed, Slot, TokenKind, Value, White, Whole, among, begins_comment, begins_infinity, blank_spelling, colon_behind, comment_within, is_operator_octet, is_stop, is_white, is_word_octet, mark_spelling}
+use Rattle.ion_text.specs.Names.{BlankPiece, BlankThen, Catalog, Document, HasPieces, IsBlank, IsBlankPiece, IsLastBlank, IsLexeme, IsNumeric, IsOperator, Lexes, LexesTo, Limits, LineComment, Mark, MarkEnds, OpenRest, Pieces, Place, Placed, Slot, TokenKind, Value, White, Whole, among, begins_comment, begins_infinity, blank_spelling, colon_behind, comment_within, is_operator_octet, is_stop, is_white, is_word_octet, mark_spelling}
 use Rattle.ion_tokens.specs.Lexemes.{begins}
 use Rattle.ion_tokens.proofs.sound.Holds.{blank_more, blank_none}
 use Rattle.ion_text.specs.laws.showing.shown.OpenRests.{blank_follows}
@@ -81,11 +81,8 @@ lexeme_front p colon w x f TokenKind.KindName kept may none h = (h.0, h.1, begin
 lexeme_front p colon w x f TokenKind.Number kept may none h = (h.0, h.1, numeric_front w x f may h.2)
 lexeme_front p colon w x f TokenKind.Operator kept may none h = (h.0, h.1, operator_front w x f may none h.2)
 lexeme_front p colon w x f TokenKind.QuotedSymbol kept may none h = (h.0, h.1, h.2, λ e. begins_front _ x f (h.3 e))
-lexeme_front p colon w x f TokenKind.ShortString kept may none h = h
-lexeme_front p colon w x f TokenKind.LongString kept may none h = h
-lexeme_front p colon w x f TokenKind.Clob kept may none h = h
-lexeme_front p colon w x f TokenKind.Blob kept may none h = h
 lexeme_front p colon w x f (TokenKind.Mark m) kept may none h = (h.0, h.1, h.2, mark_front m x f h.3)
+lexeme_front p colon w x f _ kept may none h = h
 
 -- 2. No front of octets ends within a token, nor within a blank.
 
@@ -95,17 +92,14 @@ blank_first o w b = go b.pieces b.each b.spelled
     go : (bs : List BlankPiece) → AllByRecursion IsBlankPiece bs → o ∷ w ≡ flat_map blank_spelling bs → (is_white o ≡ true) ⊎ (o ≡ 47)
     go [] h e = cc
     go (White x ∷ bs) h e = let k : x ≡ o = cc in inl (subst (λ y. is_white y ≡ true) k h.0)
-    go (LineComment octets last ∷ bs) h e = let k : o ≡ 47 = cc in inr k
-    go (BlockComment octets ∷ bs) h e = let k : o ≡ 47 = cc in inr k
+    go _ h e = let k : o ≡ 47 = cc in inr k
 
 lone_slash : IsBlank (47 ∷ []) → ⊥
 lone_slash b = go b.pieces b.each b.spelled
   where
     go : (bs : List BlankPiece) → AllByRecursion IsBlankPiece bs → 47 ∷ [] ≡ flat_map blank_spelling bs → ⊥
-    go [] h e = cc
     go (White x ∷ bs) h e = let k : x ≡ 47 = cc in let n : is_white 47 ≡ true = subst (λ y. is_white y ≡ true) k h.0 in cc
-    go (LineComment octets last ∷ bs) h e = cc
-    go (BlockComment octets ∷ bs) h e = cc
+    go _ h e = cc
 
 heads : (x y : ℕ) (xs ys : List ℕ) → x ∷ xs ≡ y ∷ ys → x ≡ y
 heads x y xs ys e = cc
@@ -117,39 +111,26 @@ tails x y xs ys e = cc
 abbrev is_mark : ℕ → Bool
 is_mark o = among (codes "{}[](),:") o
 
-mark_octet : (m : Mark) (o : ℕ) (w : List ℕ) → o ∷ w ≡ mark_spelling m → is_mark o ≡ true
-mark_octet m o w e = go m e
-  where
-    marked : (k : ℕ) → o ≡ k → is_mark k ≡ true → is_mark o ≡ true
-    marked k same h = subst (λ x. is_mark x ≡ true) (sym same) h
+marked : (m : Mark) → begins is_mark (mark_spelling m) ≡ true
+marked Mark.FieldsOpen = refl
+marked _ = refl
 
-    go : (m : Mark) → o ∷ w ≡ mark_spelling m → is_mark o ≡ true
-    go Mark.FieldsOpen e = marked 123 (heads o 123 w [] e) refl
-    go Mark.FieldsClose e = marked 125 (heads o 125 w [] e) refl
-    go Mark.ListOpen e = marked 91 (heads o 91 w [] e) refl
-    go Mark.ListClose e = marked 93 (heads o 93 w [] e) refl
-    go Mark.SexpOpen e = marked 40 (heads o 40 w [] e) refl
-    go Mark.SexpClose e = marked 41 (heads o 41 w [] e) refl
-    go Mark.Comma e = marked 44 (heads o 44 w [] e) refl
-    go Mark.Colon e = marked 58 (heads o 58 w [] e) refl
-    go Mark.Colons e = marked 58 (heads o 58 w (58 ∷ []) e) refl
+mark_octet : (m : Mark) (o : ℕ) (w : List ℕ) → o ∷ w ≡ mark_spelling m → is_mark o ≡ true
+mark_octet m o w e = ap (begins is_mark) e ∙ marked m
 
 slash_token : (p : Place) (colon : Bool) (f : List ℕ) (k : TokenKind) (kept : List ℕ) → IsLexeme p colon (47 ∷ []) f k kept → begins_comment (47 ∷ f) ≡ true → ⊥
 slash_token p colon f TokenKind.Word kept h c = let n : false ≡ true = h.1.0 in cc
 slash_token p colon f TokenKind.KindName kept h c = absurd (omega (arith, heads 47 110 _ _ h.0))
 slash_token p colon f TokenKind.Number kept h c = let n : false ≡ true = h.2.begun in cc
 slash_token p colon f TokenKind.Operator kept h c = let n : true ≡ false = sym c ∙ (or_parts (begins_comment (47 ∷ f)) false h.2.apart).0 in cc
-slash_token p colon f TokenKind.QuotedSymbol kept h c = absurd (omega (arith, heads 47 39 _ _ h.2))
 slash_token p colon f TokenKind.ShortString kept h c = absurd (omega (arith, heads 47 34 _ _ h.2))
-slash_token p colon f TokenKind.LongString kept h c = absurd (omega (arith, heads 47 39 _ _ h.2))
 slash_token p colon f TokenKind.Clob kept h c = absurd (omega (arith, heads 47 123 _ _ h.3))
 slash_token p colon f TokenKind.Blob kept h c = absurd (omega (arith, heads 47 123 _ _ h.3))
 slash_token p colon f (TokenKind.Mark m) kept h c = let n : false ≡ true = mark_octet m 47 [] h.1 in cc
+slash_token p colon f _ kept h c = absurd (omega (arith, heads 47 39 _ _ h.2))
 
 -- what begins with `i` is a word
 word_token : (p : Place) (colon : Bool) (w f : List ℕ) (k : TokenKind) (kept : List ℕ) → IsLexeme p colon (105 ∷ w) f k kept → begins is_word_octet f ≡ false
-word_token p colon w f TokenKind.Word kept h = h.2
-word_token p colon w f TokenKind.KindName kept h = h.2
 word_token p colon w f TokenKind.Number kept h = absurd (let n : false ≡ true = h.2.begun in cc)
 word_token p colon w f TokenKind.Operator kept h = absurd (let n : false ≡ true = h.2.each.0 in cc)
 word_token p colon w f TokenKind.QuotedSymbol kept h = absurd (omega (arith, heads 105 39 _ _ h.2))
@@ -158,6 +139,7 @@ word_token p colon w f TokenKind.LongString kept h = absurd (omega (arith, heads
 word_token p colon w f TokenKind.Clob kept h = absurd (omega (arith, heads 105 123 _ _ h.3))
 word_token p colon w f TokenKind.Blob kept h = absurd (omega (arith, heads 105 123 _ _ h.3))
 word_token p colon w f (TokenKind.Mark m) kept h = absurd (let n : false ≡ true = mark_octet m 105 w h.1 in cc)
+word_token p colon w f _ kept h = h.2
 
 -- the octets x before f are these tokens and a blank
 abbrev Fronts : Bool → ℕ → List ℕ → List ℕ → List Placed → Bool → ℕ → List ℕ → Type 0

@@ -83,17 +83,7 @@ module _ (k : ℕ) (kept : List ℕ) (start used : ℕ) (since : List ℕ) where
     shows = then_front since h.front h.token (58 ∷ []) (codes "::") [] h.blank h.cut (ap (λ l. l ++ 58 ∷ []) (h.is.0));
   }
   colons_close Mode.Word i h = absurd cc
-  colons_close Mode.KindName i h = absurd cc
-  colons_close Mode.Number i h = absurd cc
-  colons_close Mode.NumberSlash i h = absurd cc
-  colons_close (Mode.Operator x) i h = absurd cc
-  colons_close Mode.OperatorSlash i h = absurd cc
-  colons_close (Mode.Infinity n) i h = absurd cc
-  colons_close Mode.Quote i h = absurd cc
-  colons_close Mode.Quotes i h = absurd cc
-  colons_close (Mode.Text x w) i h = absurd cc
-  colons_close Mode.Brace i h = absurd cc
-  colons_close (Mode.Lob x) i h = absurd cc
+  colons_close _ i h = absurd cc
 
   -- where quotes are open already, any octets do that show that no token has ended
   open_quotes : (m : Mode) (rest : List ℕ) → (e : Escape Place.Top (at m kept false start used)) → (front token : List ℕ) → IsBlank front
@@ -150,16 +140,4 @@ module _ (k : ℕ) (kept : List ℕ) (start used : ℕ) (since : List ℕ) where
   }
   quotes_close Mode.Quotes i e h = open_quotes Mode.Quotes [] e h.front h.token h.blank h.cut (h.is.0)
   quotes_close (Mode.Text Style.LongString w) i e h = open_quotes (Mode.Text Style.LongString w) (39 ∷ (h.is).0) e h.front h.token h.blank h.cut (h.is).2
-  quotes_close (Mode.Text Style.ShortString w) i e h = absurd cc
-  quotes_close (Mode.Text Style.QuotedSymbol w) i e h = absurd cc
-  quotes_close (Mode.Text Style.ShortClob w) i e h = absurd cc
-  quotes_close (Mode.Text Style.LongClob w) i e h = absurd cc
-  quotes_close Mode.Word i e h = absurd cc
-  quotes_close Mode.KindName i e h = absurd cc
-  quotes_close Mode.Number i e h = absurd cc
-  quotes_close Mode.NumberSlash i e h = absurd cc
-  quotes_close (Mode.Operator x) i e h = absurd cc
-  quotes_close Mode.OperatorSlash i e h = absurd cc
-  quotes_close (Mode.Infinity n) i e h = absurd cc
-  quotes_close Mode.Brace i e h = absurd cc
-  quotes_close (Mode.Lob x) i e h = absurd cc
+  quotes_close _ i e h = absurd cc

@@ -1,6 +1,7 @@
--- Two lists of tokens that go on from one reading, in the same octets: one is the front of the other.
-use Rattle.std.proofs.Common.{◌≡◌, ℕ, ◌+◌, ◌-◌, ◌≤◌, Bool, true, false, List, [], ◌∷◌, ◌++◌, length, drop, refl, sym, ap, ◌∙◌, subst, arith, length-append, Result, Ok, Option, Some, ◌⊎◌, inl, inr}
-use Rattle.ion_text.specs.Names.{BeginsWith, Catalog, Content, Given, IsBlank, Known, Leading, Left, Lexeme, LexesTo, Limits, Mode, Next, Outcome, Place, Placed, Reading, Reason, Refused, TokenKind, Turn, Value, at_end, colon_behind, continues, end_of, feed, follow, gives, goes, is_top, late, place, refuses, said, said_body, scan as run, settle, settle_still, start_of, token_of, turn}
+-- Two lists of tokens that go on from one reading, in the same octets, and one of them to the end of a document: one is the front of the
+-- other.
+use Rattle.std.proofs.Common.{◌≡◌, ℕ, ◌+◌, ◌-◌, ◌≤◌, Bool, true, false, List, [], ◌∷◌, ◌++◌, length, drop, refl, sym, ap, ◌∙◌, subst, arith, length-append, Ok, Some, ◌⊎◌, inl, inr}
+use Rattle.ion_text.specs.Names.{BeginsWith, Catalog, Content, Given, IsBlank, Known, Leading, Left, Lexeme, LexesTo, Limits, Mode, Next, Outcome, Place, Placed, Reading, Refused, TokenKind, Turn, Value, at_end, colon_behind, continues, end_of, feed, follow, gives, goes, is_top, place, said, said_body, scan as run, settle, settle_still, start_of, token_of, turn}
 use Rattle.ion_tokens.proofs.complete.Found.{FindsUpTo, Gives, Last, Leaves, Nothing, Unclosed, in_word}
 use Rattle.ion_tokens.proofs.complete.Moves.{at, blank}
 use Rattle.ion_tokens.proofs.complete.TakesBlanks.{passes_blank}
@@ -10,6 +11,7 @@ use Rattle.ion_text.specs.laws.reading.complete.Going.{Going, InsideNext, Operat
 use Rattle.ion_text.specs.laws.reading.complete.Meets.{end_spans, finely_as}
 use Rattle.ion_text.specs.laws.reading.sound.Quotes.{Fine, is_close}
 use Rattle.ion_text.specs.laws.showing.tokens.Cuts.{Is, Keeps, feed_keeps, one_found, parts_same}
+use Rattle.ion_text.specs.laws.showing.tokens.Walks.{TurnWalks, Walking, walking_said, walking_settle, walking_turn}
 
 -- 1. Where the next token begins.
 
@@ -35,16 +37,14 @@ run_from p (o ∷ os) n s f h = go (feed p s o) refl (feed_keeps p s o) (λ t i 
     go (Next t) e k more =
         let used = feed_used p s t o e in
         more t (finely_as p s o (Next t) f e) (start_from n t.mode t.start t.used (omega (arith, h, k.0)) (let i = f.enough in omega (arith, h, i, used)))
-    go (Given x t) e k more = omega (arith, h, k.0)
-    go (Left x t) e k more = omega (arith, h, k.0)
     go (Refused i y) e k more = tt
+    go _ e k more = omega (arith, h, k.0)
 
 pub is_from : (p : Place) (n : ℕ) (x : Lexeme) (o : Outcome) → TokenFrom n o → Is p x o → (x.kind ≡ TokenKind.Operator → ⊥) → n ≤ x.start
 is_from p n x (Next t) f (inl e) k = let i = end_spans t (end_of p t.mode) x e in omega (arith, f, i.0)
 is_from p n x (Next t) f (inr e) k = absurd (k e.1)
-is_from p n x (Given y t) f e k = omega (arith, f, ap (λ (z : Lexeme). z.start) e)
-is_from p n x (Left y t) f e k = omega (arith, f, ap (λ (z : Lexeme). z.start) e)
 is_from p n x (Refused i y) f e k = absurd e
+is_from p n x _ f e k = omega (arith, f, ap (λ (z : Lexeme). z.start) e)
 
 -- 2. Two lists of tokens.
 
@@ -57,9 +57,23 @@ TopFirst (t ∷ ts) = t.place ≡ Place.Top
 abbrev pub Compared : List Placed → List Placed → Type 0
 Compared ts ws = ((more : List Placed) × (ws ≡ ts ++ more) × TopFirst more) ⊎ ((more : List Placed) × (ts ≡ ws ++ more) × TopFirst more)
 
-one_more : (t : Placed) (us ws : List Placed) → Compared us ws → Compared (t ∷ us) (t ∷ ws)
-one_more t us ws (inl (more, e, h)) = inl (more, ap (λ l. t ∷ l) e, h)
-one_more t us ws (inr (more, e, h)) = inr (more, ap (λ l. t ∷ l) e, h)
+-- one list is the front of the other, of which the first one goes on at the top level
+abbrev pub OneIsFront : List Placed → List Placed → Type 0
+OneIsFront ts ws = ((more : List Placed) × (ws ≡ ts ++ more)) ⊎ ((more : List Placed) × (ts ≡ ws ++ more) × TopFirst more)
+
+one_met : (t : Placed) (us ws : List Placed) → OneIsFront us ws → OneIsFront (t ∷ us) (t ∷ ws)
+one_met t us ws (inl (more, e)) = inl (more, ap (λ l. t ∷ l) e)
+one_met t us ws (inr (more, e, h)) = inr (more, ap (λ l. t ∷ l) e, h)
+
+-- tokens in the same place with the same lexeme are the same
+pub placed_same : (t u : Placed) → t.place ≡ u.place → t.lexeme ≡ u.lexeme → t ≡ u
+placed_same t u e f = ap (λ p. record { place = p; lexeme = t.lexeme }) e ∙ ap (λ x. record { place = u.place; lexeme = x }) f
+
+-- a run ended this token, and this is known behind it
+abbrev pub IsThis : Outcome → Lexeme → Known → Type 0
+IsThis (Given y t) x s = (y ≡ x) × (t ≡ s)
+IsThis (Left y t) x s = (y ≡ x) × (t ≡ s)
+IsThis _ x s = ⊥
 
 -- tokens end in one place alone
 pub lexes_once : (ts : List Placed) (colon : Bool) (k : ℕ) (octets : List ℕ) (c d : Bool) (e f : ℕ) (r s : List ℕ) → LexesTo colon k octets ts c e r
@@ -88,47 +102,44 @@ module _ (R : Known → List ℕ → Type 0) where
   Found' = FindsUpTo R (Unit {0})
 
   module _ (g : Catalog) (l : Limits) where
-    -- where tokens end well, others go on at the top level
-    top_first : (r : Reading) (a : List Value) (ws : List Placed) (b : List Value) → Going g l r [] a → Going g l r ws b → TopFirst ws
-    top_first r a [] b d e = tt
-    top_first r a (t ∷ ts) b d e = (going_said g l r t ts b e).0 ∙ by (is_top r.frames) refl
+    -- where the others end well, the tokens go on at the top level
+    first_top : (r : Reading) (ts : List Placed) (b : List Value) → Walking g l r ts → Going g l r [] b → TopFirst ts
+    first_top r [] b d e = tt
+    first_top r (t ∷ ts) b d e = (walking_said g l r t ts d).0 ∙ by (is_top r.frames) refl
       where
         by : (x : Bool) → is_top r.frames ≡ x → place r ≡ Place.Top
         by true h = top_place r.frames r.now h
-        by false h = absurd (inside_end g l r a h d)
+        by false h = absurd (inside_end g l r b h e)
 
-    abbrev Same : List Placed → List Placed → Type 0
-    Same us ws = (n : Reading) (a b : List Value) → Going g l n us a → Going g l n ws b → Compared us ws
+    abbrev Meeting : List Placed → List Placed → Type 0
+    Meeting us ws = (n : Reading) (b : List Value) → Walking g l n us → Going g l n ws b → OneIsFront us ws
 
-    turn_once : (x : Turn) (us ws : List Placed) (a b : List Value) → Same us ws → TurnGoes g l x us a → TurnGoes g l x ws b → Compared us ws
-    turn_once (goes n) us ws a b f d e = f n a b d e
-    turn_once (gives v n) us ws a b f d e = f n d.0 e.0 d.2 e.2
-    turn_once (refuses y) us ws a b f d e = absurd d
-    turn_once (late y n) us ws a b f d e = absurd d
+    turn_met : (x : Turn) (us ws : List Placed) (b : List Value) → Meeting us ws → TurnWalks g l x us → TurnGoes g l x ws b → OneIsFront us ws
+    turn_met (goes n) us ws b f d e = f n b d e
+    turn_met (gives v n) us ws b f d e = f n e.0 d e.2
+    turn_met _ us ws b f d e = absurd d
 
     -- behind the same token
-    token_once : (t : Placed) (us ws : List Placed) → Same us ws → Same (t ∷ us) (t ∷ ws)
-    token_once t us ws f r a b d e = one_more t us ws (go (continues r (token_of t.lexeme c)) refl)
+    token_met : (t : Placed) (us ws : List Placed) → Meeting us ws → Meeting (t ∷ us) (t ∷ ws)
+    token_met t us ws f r b d e = one_met t us ws (go (continues r (token_of t.lexeme c)) refl)
       where
         c : Content
-        c = (going_said g l r t us a d).1
+        c = (walking_said g l r t us d).1
 
         is : said t.lexeme.kind t.lexeme.octets ≡ Ok c
-        is = (going_said g l r t us a d).2
+        is = (walking_said g l r t us d).2
 
-        direct : (n : Reading) (a b : List Value) → settle g l n ≡ goes n → Going g l n (t ∷ us) a → Going g l n (t ∷ ws) b → Compared us ws
-        direct n a b s d e = turn_once (turn g l n (token_of t.lexeme c)) us ws a b f (going_turn g l n t us a c d is (inr s))
-            (going_turn g l n t ws b c e is (inr s))
+        direct : (n : Reading) (b : List Value) → settle g l n ≡ goes n → Walking g l n (t ∷ us) → Going g l n (t ∷ ws) b → OneIsFront us ws
+        direct n b s d e = turn_met (turn g l n (token_of t.lexeme c)) us ws b f (walking_turn g l n t us c d is (inr s)) (going_turn g l n t ws b c e is (inr s))
 
-        settled : (x : Turn) → Leading g l (λ n. settle g l n ≡ goes n) x → TurnGoes g l x (t ∷ us) a → TurnGoes g l x (t ∷ ws) b → Compared us ws
-        settled (goes n) s d e = direct n a b s d e
-        settled (gives v n) s d e = direct n d.0 e.0 s d.2 e.2
-        settled (refuses y) s d e = absurd d
-        settled (late y n) s d e = absurd d
+        settled : (x : Turn) → Leading g l (λ n. settle g l n ≡ goes n) x → TurnWalks g l x (t ∷ us) → TurnGoes g l x (t ∷ ws) b → OneIsFront us ws
+        settled (goes n) s d e = direct n b s d e
+        settled (gives v n) s d e = direct n e.0 s d e.2
+        settled _ s d e = absurd d
 
-        go : (w : Bool) → continues r (token_of t.lexeme c) ≡ w → Compared us ws
-        go true w = turn_once (turn g l r (token_of t.lexeme c)) us ws a b f (going_turn g l r t us a c d is (inl w)) (going_turn g l r t ws b c e is (inl w))
-        go false w = settled (settle g l r) (settle_still g l r.start r.context r.frames r.notes r.now) (going_settle g l r t us a c d is w)
+        go : (w : Bool) → continues r (token_of t.lexeme c) ≡ w → OneIsFront us ws
+        go true w = turn_met (turn g l r (token_of t.lexeme c)) us ws b f (walking_turn g l r t us c d is (inl w)) (going_turn g l r t ws b c e is (inl w))
+        go false w = settled (settle g l r) (settle_still g l r.start r.context r.frames r.notes r.now) (walking_settle g l r t us c d is w)
             (going_settle g l r t ws b c e is w)
 
     -- an s-expression is closed behind its operators
@@ -157,10 +168,10 @@ module _ (R : Known → List ℕ → Type 0) where
       where
         kind_of : (x : Lexeme) → at_end t.place (in_word letters colon start used) ≡ Ok (Some x) → x.kind ≡ TokenKind.Word
         kind_of x h = cc
-    alone letters colon start used _ (Gives _ _ t ts s' e f) = absurd cc
-    alone letters colon start used _ (Leaves _ _ t ts s' e f) = absurd cc
     alone letters colon start used _ (Unclosed _ _ t ts s' c more bare e f first operator rest) =
         absurd (let h = ap (at_end t.place) (next_is (in_word letters colon start used) s' e) ∙ f in cc)
+    alone letters colon start used _ (Gives _ _ t ts s' e f) = absurd cc
+    alone letters colon start used _ (Leaves _ _ t ts s' e f) = absurd cc
 
     -- an operator behind which a word is open at the end goes on to no whole document
     pub unclosed_never : (t : Placed) (ts : List Placed) (letters : List ℕ) (colon : Bool) (start used : ℕ) (r : Reading) (a : List Value)
@@ -171,93 +182,75 @@ module _ (R : Known → List ℕ → Type 0) where
         by (inl e) = one_operator t r a (subst (λ x. Operators (t ∷ x)) e ops) k (subst (λ x. Going g l r (t ∷ x) a) e d)
         by (inr (w, e, j, n)) = never_unclosed g l t w (subst (λ x. Operators (t ∷ x)) e ops) k j (r, a, subst (λ x. Going g l r (t ∷ x) a) e d)
 
-    unfoldable pub lexeme_in : Outcome → Lexeme → Lexeme
-    lexeme_in (Given x s) d = x
-    lexeme_in (Left x s) d = x
-    lexeme_in _ d = d
-
-    unfoldable pub state_in : Outcome → Known → Known
-    state_in (Given x s) d = s
-    state_in (Left x s) d = s
-    state_in (Next s) d = s
-    state_in (Refused n e) d = d
-
-    unfoldable pub token_in : Result (Option Lexeme) Reason → Lexeme → Lexeme
-    token_in (Ok (Some x)) d = x
-    token_in _ d = d
-
-    -- tokens in the same place with the same lexeme are the same
-    pub placed_same : (t u : Placed) → t.place ≡ u.place → t.lexeme ≡ u.lexeme → t ≡ u
-    placed_same t u e f = ap (λ p. record { place = p; lexeme = t.lexeme }) e ∙ ap (λ x. record { place = u.place; lexeme = x }) f
-
-    -- the other list of tokens, where the first one goes on with a token that was given or left
-    module _ (s s' : Known) (octets : List ℕ) (t : Placed) (ts : List Placed) (r : Reading) (a b : List Value) (ops : Operators (t ∷ ts))
-        (d : Going g l r (t ∷ ts) a) (x : Outcome) (ran : run t.place octets s ≡ x) where
-      abbrev RestSame : Type 0
-      RestSame = (ws : List Placed) → Found' s' (drop (s'.used - s.used) octets) ws → Operators ws → Same ts ws
-
+    -- the other tokens, behind the first one's run
+    module _ (s s' : Known) (octets : List ℕ) (t : Placed) (ts : List Placed) (x : Outcome) (ran : run t.place octets s ≡ x) (r : Reading) (b : List Value)
+        (d : Walking g l r (t ∷ ts)) where
       here : (u : Placed) (us : List Placed) → Going g l r (u ∷ us) b → t.place ≡ u.place
-      here u us e = (going_said g l r t ts a d).0 ∙ sym (going_said g l r u us b e).0
+      here u us e = (walking_said g l r t ts d).0 ∙ sym (going_said g l r u us b e).0
 
       there : (u : Placed) (us : List Placed) (y : Outcome) → Going g l r (u ∷ us) b → run u.place octets s ≡ y → x ≡ y
       there u us y e f = sym ran ∙ (ap (λ p. run p octets s) (here u us e) ∙ f)
 
-      matched : RestSame → (u : Placed) (us : List Placed) (s'' : Known) → t.lexeme ≡ u.lexeme → s'' ≡ s' → Found' s'' (drop (s''.used - s.used) octets) us
-          → Operators us → Going g l r (u ∷ us) b → Compared (t ∷ ts) (u ∷ us)
-      matched rest u us s'' i j f ops' e =
-          subst (λ z. Compared (t ∷ ts) (z ∷ us)) (placed_same t u (here u us e) i)
-          (token_once t ts us (rest us (subst (λ (z : Known). Found' z (drop (z.used - s.used) octets) us) j f) ops') r a b d
-          (subst (λ z. Going g l r (z ∷ us) b) (sym (placed_same t u (here u us e) i)) e))
+      -- where it was given or left
+      module _ (this : IsThis x t.lexeme s') (rest : (ws : List Placed) → Found' s' (drop (s'.used - s.used) octets) ws → Operators ws → Meeting ts ws) where
+        found : (u : Placed) (us : List Placed) (y : Outcome) → Going g l r (u ∷ us) b → run u.place octets s ≡ y → IsThis y t.lexeme s'
+        found u us y e f = subst (λ z. IsThis z t.lexeme s') (there u us y e f) this
+
+        matched : (u : Placed) (us : List Placed) (s'' : Known) → (u.lexeme ≡ t.lexeme) × (s'' ≡ s') → Found' s'' (drop (s''.used - s.used) octets) us
+            → Operators us → Going g l r (u ∷ us) b → OneIsFront (t ∷ ts) (u ∷ us)
+        matched u us s'' i f ops e =
+            let same = placed_same t u (here u us e) (sym i.0) in
+            subst (λ z. OneIsFront (t ∷ ts) (z ∷ us)) same (token_met t ts us
+            (rest us (subst (λ (z : Known). Found' z (drop (z.used - s.used) octets) us) i.1 f) ops) r b d (subst (λ z. Going g l r (z ∷ us) b) (sym same) e))
+
+        told : (ws : List Placed) → Found' s octets ws → Operators ws → Going g l r ws b → OneIsFront (t ∷ ts) ws
+        told _ (Nothing _ _ n) o e = inr (t ∷ ts, refl, first_top r (t ∷ ts) b d e)
+        told _ (Last _ _ u s'' ran' at') o e = absurd (found u [] (Next s'') e ran')
+        told _ (Gives _ _ u us s'' ran' f) o e = matched u us s'' (found u us (Given u.lexeme s'') e ran') f o.1 e
+        told _ (Leaves _ _ u us s'' ran' f) o e = matched u us s'' (found u us (Left u.lexeme s'') e ran') f o.1 e
+        told _ (Unclosed _ _ u us s'' colon letters bare ran' at' first operator f) o e = absurd (found u us (Next s'') e ran')
+
+      -- where it is open at the end
+      unended : x ≡ Next s' → ((u : Placed) → t.place ≡ u.place → at_end t.place s' ≡ Ok (Some u.lexeme) → OneIsFront (t ∷ ts) (u ∷ []))
+          → (ws : List Placed) → Found' s octets ws → Operators ws → Going g l r ws b → OneIsFront (t ∷ ts) ws
+      unended open' last _ (Nothing _ _ n) o e = inr (t ∷ ts, refl, first_top r (t ∷ ts) b d e)
+      unended open' last _ (Last _ _ u s'' ran' at') o e =
+          let p = here u [] e in
+          let same = next_is s' s'' (sym open' ∙ there u [] (Next s'') e ran') in
+          last u p (ap (at_end t.place) same ∙ (ap (λ q. at_end q s'') p ∙ at'))
+      unended open' last _ (Gives _ _ u us s'' ran' f) o e = absurd (let y = sym open' ∙ there u us (Given u.lexeme s'') e ran' in cc)
+      unended open' last _ (Leaves _ _ u us s'' ran' f) o e = absurd (let y = sym open' ∙ there u us (Left u.lexeme s'') e ran' in cc)
+      unended open' last _ (Unclosed _ _ u us s'' colon letters bare ran' at' first operator f) o e =
+          absurd (unclosed_never u us letters colon u.lexeme.end s''.used r b operator f o e)
+
+    -- of tokens read without a refusal and a document's in the same octets, one list is the other's front
+    pub meet : (s : Known) (octets : List ℕ) (ts : List Placed) → Found' s octets ts → (ws : List Placed) → Found' s octets ws → Operators ws → Meeting ts ws
+    meet _ _ _ (Nothing s octets n) ws f o = λ r b d e. inl (ws, refl)
+    meet _ _ _ (Last s octets t s' ran at) ws f o = λ r b d e. unended s s' octets t [] (Next s') ran r b d refl one ws f o e
+      where
+        one : (u : Placed) → t.place ≡ u.place → at_end t.place s' ≡ Ok (Some u.lexeme) → OneIsFront (t ∷ []) (u ∷ [])
+        one u p at' =
+            let same = sym at ∙ at' in
+            let lexeme : t.lexeme ≡ u.lexeme = cc in
+            inl ([], ap (λ z. z ∷ []) (sym (placed_same t u p lexeme)))
+    meet _ _ _ (Gives s octets t ts s' ran f) ws f' o =
+        λ r b d e. told s s' octets t ts (Given t.lexeme s') ran r b d (refl, refl) (λ ws f' o'. meet s' (drop (s'.used - s.used) octets) ts f ws f' o') ws f' o e
+    meet _ _ _ (Leaves s octets t ts s' ran f) ws f' o =
+        λ r b d e. told s s' octets t ts (Left t.lexeme s') ran r b d (refl, refl) (λ ws f' o'. meet s' (drop (s'.used - s.used) octets) ts f ws f' o') ws f' o e
+    meet _ _ _ (Unclosed s octets t ts s' colon letters bare ran at first operator f) ws f' o =
+        λ r b d e. unended s s' octets t ts (Next s') ran r b d refl (λ u p at'. absurd (let n = sym at ∙ at' in cc)) ws f' o e
 
     -- of two lists of tokens that go on to a document's end in the same octets, one is the front of the other
     pub compare : (s : Known) (octets : List ℕ) (ts : List Placed) → Found' s octets ts → (ws : List Placed) → Found' s octets ws → Operators ts → Operators ws
-        → Same ts ws
-    unfolding lexeme_in state_in token_in
-    compare _ _ _ (Nothing s octets n) ws f o o' = λ r a b d e. inl (ws, refl, top_first r a ws b d e)
-    compare _ _ _ (Last s octets t s' ran at) ws f o o' = λ r a b d e. by ws f o' r a b d e
+        → (r : Reading) (a b : List Value) → Going g l r ts a → Going g l r ws b → Compared ts ws
+    compare s octets ts f ws f' o o' r a b d e =
+        by (meet s octets ts f ws f' o' r b (walks ts a d) e) (meet s octets ws f' ts f o r a (walks ws b e) d)
       where
-        by : (ws : List Placed) → Found' s octets ws → Operators ws → Same (t ∷ []) ws
-        by _ (Nothing _ _ n) o' r a b d e = inr (t ∷ [], refl, top_first r b (t ∷ []) a e d)
-        by _ (Last _ _ u s'' ran' at') o' r a b d e =
-            let x = there s s' octets t [] r a b o d (Next s') ran u [] (Next s'') e ran' in
-            let same : s' ≡ s'' = ap (λ y. state_in y s') x in
-            let p = here s s' octets t [] r a b o d (Next s') ran u [] e in
-            let lexeme : t.lexeme ≡ u.lexeme = ap (λ y. token_in y t.lexeme) (sym at ∙ (ap (at_end t.place) same ∙ (ap (λ q. at_end q s'') p ∙ at'))) in
-            inl ([], ap (λ z. z ∷ []) (sym (placed_same t u p lexeme)), tt)
-        by _ (Gives _ _ u us s'' ran' f) o' r a b d e = absurd (let x = there s s' octets t [] r a b o d (Next s') ran u us (Given u.lexeme s'') e ran' in cc)
-        by _ (Leaves _ _ u us s'' ran' f) o' r a b d e = absurd (let x = there s s' octets t [] r a b o d (Next s') ran u us (Left u.lexeme s'') e ran' in cc)
-        by _ (Unclosed _ _ u us s'' colon letters bare ran' at' first operator f) o' r a b d e =
-            absurd (unclosed_never u us letters colon u.lexeme.end s''.used r b operator f o' e)
-    compare _ _ _ (Gives s octets t ts s' ran f) ws f' o o' =
-        λ r a b d e. by (λ ws f' o'. compare s' (drop (s'.used - s.used) octets) ts f ws f' o.1 o') ws f' o' r a b d e
-      where
-        by : ((ws : List Placed) → Found' s' (drop (s'.used - s.used) octets) ws → Operators ws → Same ts ws) → (ws : List Placed) → Found' s octets ws
-            → Operators ws → Same (t ∷ ts) ws
-        by rest _ (Nothing _ _ n) o' r a b d e = inr (t ∷ ts, refl, top_first r b (t ∷ ts) a e d)
-        by rest _ (Last _ _ u s'' ran' at') o' r a b d e = absurd (let x = there s s' octets t ts r a b o d (Given t.lexeme s') ran u [] (Next s'') e ran' in
-            cc)
-        by rest _ (Gives _ _ u us s'' ran' f') o' r a b d e =
-            let x = there s s' octets t ts r a b o d (Given t.lexeme s') ran u us (Given u.lexeme s'') e ran' in
-            matched s s' octets t ts r a b o d (Given t.lexeme s') ran rest u us s'' (ap (λ y. lexeme_in y t.lexeme) x) (sym (ap (λ y. state_in y s') x)) f'
-            o'.1 e
-        by rest _ (Leaves _ _ u us s'' ran' f') o' r a b d e =
-            absurd (let x = there s s' octets t ts r a b o d (Given t.lexeme s') ran u us (Left u.lexeme s'') e ran' in cc)
-        by rest _ (Unclosed _ _ u us s'' colon letters bare ran' at' first operator f') o' r a b d e =
-            absurd (unclosed_never u us letters colon u.lexeme.end s''.used r b operator f' o' e)
-    compare _ _ _ (Leaves s octets t ts s' ran f) ws f' o o' =
-        λ r a b d e. by (λ ws f' o'. compare s' (drop (s'.used - s.used) octets) ts f ws f' o.1 o') ws f' o' r a b d e
-      where
-        by : ((ws : List Placed) → Found' s' (drop (s'.used - s.used) octets) ws → Operators ws → Same ts ws) → (ws : List Placed) → Found' s octets ws
-            → Operators ws → Same (t ∷ ts) ws
-        by rest _ (Nothing _ _ n) o' r a b d e = inr (t ∷ ts, refl, top_first r b (t ∷ ts) a e d)
-        by rest _ (Last _ _ u s'' ran' at') o' r a b d e = absurd (let x = there s s' octets t ts r a b o d (Left t.lexeme s') ran u [] (Next s'') e ran' in cc)
-        by rest _ (Leaves _ _ u us s'' ran' f') o' r a b d e =
-            let x = there s s' octets t ts r a b o d (Left t.lexeme s') ran u us (Left u.lexeme s'') e ran' in
-            matched s s' octets t ts r a b o d (Left t.lexeme s') ran rest u us s'' (ap (λ y. lexeme_in y t.lexeme) x) (sym (ap (λ y. state_in y s') x)) f' o'.1
-            e
-        by rest _ (Gives _ _ u us s'' ran' f') o' r a b d e = absurd
-            (let x = there s s' octets t ts r a b o d (Left t.lexeme s') ran u us (Given u.lexeme s'') e ran' in cc)
-        by rest _ (Unclosed _ _ u us s'' colon letters bare ran' at' first operator f') o' r a b d e =
-            absurd (unclosed_never u us letters colon u.lexeme.end s''.used r b operator f' o' e)
-    compare _ _ _ (Unclosed s octets t ts s' colon letters bare ran at first operator f) ws f' o o' =
-        λ r a b d e. absurd (unclosed_never t ts letters colon t.lexeme.end s'.used r a operator f o d)
+        walks : (us : List Placed) (c : List Value) → Going g l r us c → Walking g l r us
+        walks us c h = record { vs = h.vs; n = h.n; read = h.read }
+
+        by : OneIsFront ts ws → OneIsFront ws ts → Compared ts ws
+        by (inr x) y = inr x
+        by (inl x) (inr y) = inl y
+        by (inl ([], i)) (inl y) = inl ([], i, tt)
+        by (inl (x ∷ more, i)) (inl (less, j)) = absurd (omega (arith, ap length i, ap length j, length-append ts (x ∷ more), length-append ws less))

@@ -57,13 +57,12 @@ parts_meet (x ∷ xs) ys (z ∷ zs) ws e =
 -- octets cut in two ways behind as many of them have the same parts
 pub parts_same : (xs ys zs ws : List ℕ) → xs ++ ys ≡ zs ++ ws → length xs ≡ length zs → (xs ≡ zs) × (ys ≡ ws)
 parts_same [] ys [] ws e n = (refl, e)
-parts_same [] ys (z ∷ zs) ws e n = absurd (omega arith)
-parts_same (x ∷ xs) ys [] ws e n = absurd (omega arith)
 parts_same (x ∷ xs) ys (z ∷ zs) ws e n =
     let head : x ≡ z = cc in
     let tail : xs ++ ys ≡ zs ++ ws = cc in
     let p = parts_same xs ys zs ws tail (omega arith) in
     (ap (λ l. x ∷ l) p.0 ∙ ap (λ o. o ∷ zs) head, p.1)
+parts_same _ ys _ ws e n = absurd (omega arith)
 
 -- the blank in front of what is open, which ends where a token begins that is open behind the next octet
 pub record BlankInFront (k : ℕ) (m : Mode) (start used : ℕ) (since : List ℕ) : Type 0 where
@@ -100,12 +99,10 @@ word_keeps p s false = (refl, refl, refl)
 
 acts_keeps : (p : Place) (s : Known) (o : ℕ) (a : Action) → Keeps p s (acts p s o a)
 acts_keeps p s o (Action.Go m k) = (refl, refl)
-acts_keeps p s o (Action.Give kind k) = (refl, refl, refl)
-acts_keeps p s o (Action.Before kind k m) = (refl, refl, refl)
 acts_keeps p s o Action.EndWord = word_keeps p s ((o == 46) && bytes_eq s.kept (codes "null"))
-acts_keeps p s o (Action.Split n) = (refl, refl, refl)
 acts_keeps p s o Action.EndBlob = blob_keeps p s (blob_of s.kept)
 acts_keeps p s o (Action.Refuse e) = tt
+acts_keeps p s o _ = (refl, refl, refl)
 
 -- an octet keeps where the open token begins, and whether a colon may stand, unless it ends a token
 pub feed_keeps : (p : Place) (s : Known) (o : ℕ) → Keeps p s (feed p s o)
@@ -204,12 +201,11 @@ lexeme_in d _ = d
 
 is_once : (p : Place) (x y : Lexeme) (o : Outcome) → Is p x o → Is p y o → (y.kind ≡ TokenKind.Operator → ⊥) → x ≡ y
 unfolding lexeme_in
-is_once p x y (Given l s) a b n = sym a ∙ b
-is_once p x y (Left l s) a b n = sym a ∙ b
 is_once p x y (Next s) (inl a) (inl b) n = ap (lexeme_in x) (sym a ∙ b)
 is_once p x y (Next s) (inr a) (inl b) n = absurd (let k : Err Reason.Incomplete ≡ Ok (Some y) = sym a.0 ∙ b in cc)
 is_once p x y (Next s) a (inr b) n = absurd (n b.1)
 is_once p x y (Refused n e) a b m = absurd a
+is_once p x y _ a b n = sym a ∙ b
 
 -- the token with which octets begin, behind a blank, is the one that a run over them shows
 pub one_found : (colon : Bool) (k : ℕ) (octets : List ℕ) (t : Placed) (r : List ℕ) → BeginsWith colon k octets t r

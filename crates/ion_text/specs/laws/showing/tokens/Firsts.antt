@@ -2,7 +2,7 @@
 use Rattle.std.proofs.Common.{◌≡◌, ℕ, ◌+◌, ◌-◌, Bool, true, false, List, [], ◌∷◌, ◌++◌, length, refl, sym, ap, ◌∙◌, subst, arith, Result, Ok, Option, Some, inl, inr, if◌then◌else◌}
 use Rattle.std.specs.Prelude.{◌==◌, ◌||◌}
 use Rattle.std.proofs.lemmas.Bool.Decides.{nat_tests}
-use Rattle.ion_text.specs.Names.{Annotations, BeginsWith, Blob, Bracket, Clob, Content, Frame, Given, Id, IsBlank, IsBody, IsSymbol, Known, Left, Lexeme, Long, Mark, Mark', Mode, Next, Now, Number', Operator, Outcome, Place, Placed, Quoted, Reason, Refused, Says, Segments, Short, Slot, Style, Symbols, TokenKind, TypedNull, Within, Word, acts, before, begins_as_long, end_of, ends_at, feed, follow, is_id, is_idle, is_quoting, is_segment, is_two_quotes, is_word, joined, no_annotation, one_annotation, open_mark, scan as run, segment}
+use Rattle.ion_text.specs.Names.{Annotations, BeginsWith, Blob, Bracket, Clob, Content, Frame, Given, IsBlank, IsBody, IsSymbol, Known, Left, Lexeme, Long, Mark, Mark', Mode, Next, Now, Number', Operator, Outcome, Place, Placed, Reason, Refused, Says, Segments, Slot, Style, Symbols, TokenKind, Within, Word, acts, before, begins_as_long, end_of, ends_at, feed, follow, is_id, is_idle, is_quoting, is_segment, is_two_quotes, is_word, joined, no_annotation, one_annotation, open_mark, scan as run, segment}
 use Rattle.ion_tokens.specs.machine.Table.{go as go_on}
 use Rattle.ion_tokens.proofs.complete.Moves.{at, blank}
 use Rattle.ion_tokens.proofs.complete.TakesBlanks.{passes_blank}
@@ -40,29 +40,17 @@ opens_more (t ∷ ts) us a b = a
 
 number_symbol : (octets : List ℕ) (c : Content) → IsBody TokenKind.Number octets (Ok c) → symbol_said c ≡ true → ⊥
 number_symbol octets (Number' n) h e = cc
-number_symbol octets (Word n) h e = h
-number_symbol octets (Id n) h e = h
-number_symbol octets (Quoted n) h e = h
-number_symbol octets (Short n) h e = h
-number_symbol octets (Long n) h e = h
-number_symbol octets (TypedNull n) h e = h
-number_symbol octets (Operator n) h e = h
-number_symbol octets (Clob n) h e = h
-number_symbol octets (Blob n) h e = h
-number_symbol octets (Mark' n) h e = h
+number_symbol octets _ h e = h
 
 -- a token that says a symbol may begin an item that is open
 pub symbol_kind : (k : TokenKind) (octets : List ℕ) (c : Content) → IsBody k octets (Ok c) → symbol_said c ≡ true → opens_item k ≡ true
-symbol_kind TokenKind.Word octets c h e = refl
-symbol_kind TokenKind.KindName octets c h e = refl
-symbol_kind TokenKind.QuotedSymbol octets c h e = refl
-symbol_kind TokenKind.LongString octets c h e = refl
 symbol_kind TokenKind.Number octets c h e = absurd (number_symbol octets c h e)
 symbol_kind TokenKind.ShortString octets c h e = absurd (let n : false ≡ true = sym (ap symbol_said h.0) ∙ e in cc)
 symbol_kind TokenKind.Operator octets c h e = absurd (let n : false ≡ true = sym (ap symbol_said h.0) ∙ e in cc)
 symbol_kind TokenKind.Clob octets c h e = absurd (let i : c ≡ Clob octets = cc in let n : false ≡ true = sym (ap symbol_said i) ∙ e in cc)
 symbol_kind TokenKind.Blob octets c h e = absurd (let i : c ≡ Blob octets = cc in let n : false ≡ true = sym (ap symbol_said i) ∙ e in cc)
 symbol_kind (TokenKind.Mark m) octets c h e = absurd (let i : c ≡ Mark' m = cc in let n : false ≡ true = sym (ap symbol_said i) ∙ e in cc)
+symbol_kind _ octets c h e = refl
 
 is_said : (c : List Slot) (said : Content) (s : Option (List ℕ)) → IsSymbol c said s → symbol_said said ≡ true
 is_said c _ _ (is_word w h) = refl
@@ -93,8 +81,7 @@ mark_first p t m i h = ap opens_item (mark_kind t.lexeme.kind t.lexeme.octets m 
 
 open_first : (bracket : Bracket) → opens_item (TokenKind.Mark (open_mark bracket)) ≡ true
 open_first Bracket.List = refl
-open_first Bracket.Sexp = refl
-open_first Bracket.Fields = refl
+open_first _ = refl
 
 around_first : (c : List Slot) (fs : List Frame) (ss : Symbols) (ts : List Placed) (bracket : Bracket) (Front Body : List Placed → Type 0)
     → (o : Around c fs ss ts bracket Front Body) → OpensItem o.front → OpensItem ts
@@ -129,9 +116,7 @@ now_first c fs ss (Now.Long w end) ts d = subst OpensItem (sym d.whole)
     (opens_more d.before d.segments (ready_first c fs ss d.before d.ready) (segments_first (value_place fs) d.segments w d.are))
 now_first c fs ss Now.After ts d = opened_first c fs ts false d.0
 now_first c fs ss Now.Name ts d = opened_first c fs ts true d.0
-now_first c fs ss (Now.LongName w) ts d = subst OpensItem (sym d.whole)
-    (behind_first d.before d.name (opened_first c fs d.before true d.outer) (name_some c fs d.before d.outer d.struct))
-now_first c fs ss (Now.Keyed s) ts d = subst OpensItem (sym d.whole)
+now_first c fs ss _ ts d = subst OpensItem (sym d.whole)
     (behind_first d.before d.name (opened_first c fs d.before true d.outer) (name_some c fs d.before d.outer d.struct))
 
 -- 2. Octets with which a token begins.
@@ -147,9 +132,8 @@ long_run p (o ∷ os) s h = go (feed p s o) (long_feed p s o h) (λ t i. long_ru
   where
     go : (x : Outcome) → LongOn x → ((t : Known) → is_long_text t.mode ≡ true → LongOn (run p os t)) → LongOn (follow x (λ t. run p os t))
     go (Next t) h f = f t h
-    go (Given x t) h f = h
-    go (Left x t) h f = h
     go (Refused n e) h f = tt
+    go _ h f = h
 
 -- `::` behind a blank is no token that has begun
 pub colons_never : (p : Place) (now used : ℕ) (token r more : List ℕ) (s : Known) → token ++ r ≡ 58 ∷ 58 ∷ more → run p token (blank true now used) ≡ Next s

@@ -1,5 +1,6 @@
 -- Where a reading's open item begins, behind tokens that begin no earlier; and what the scanner may hold while something waits.
 use Rattle.std.proofs.Common.{◌≡◌, ℕ, zero, suc, ◌+◌, ◌≤◌, nat_le, Bool, true, false, ◌&&◌, ◌||◌, not, List, [], ◌∷◌, ◌++◌, refl, sym, ap, ◌∙◌, subst, arith, Result, Ok, Err, ◌⊎◌, inl, inr, if◌then◌else◌}
+use Rattle.std.proofs.lemmas.Bool.{cond_both}
 use Rattle.ion_text.specs.Names.{Catalog, Content, Effect, Frame, Given, Held, Known, Leading, Left, Limits, Listing, Next, Now, Outcome, Payload, Placed, Reading, Reason, Refusal, Refused, Slot, Spot, State, Symbols, Token, Turn, Value, Walk, adds_values, at, behind_given, behind_left, continues, eats, ended, fails, feed, fresh, gives, goes, held_payload, is_fresh, is_idle, is_quoting, is_table, is_top, late, leaves, next, noticed, on_judged, on_octet, on_placed, on_said, on_scan, on_settled, on_turn, once_more, or_worse, paid, place, reaches, reads, refuses, released, run, run_on, said, same_place, settle, settle_same, shut, spot_at, stopped, system_slots, takes, tells, token_of, turn, turned, under, unsettled, uses, waits, waits_now, with_scan, within}
 use Rattle.ion_text.specs.machine.TokenLists.{walked}
 use Rattle.ion_text.specs.laws.reading.complete.Meets.{finely_as}
@@ -13,14 +14,7 @@ use Rattle.ion_text.specs.laws.reading.sound.Steps.{After, Stood, eats_after, ta
 pub fresh_parts : (start : ℕ) (c : List Slot) (fs : List Frame) (ss : Symbols) (now : Now) → is_fresh (at start c fs ss now) ≡ true → (fs ≡ []) × (ss ≡ [])
     × (now ≡ Now.Ready)
 fresh_parts start c [] [] Now.Ready h = (refl, refl, refl)
-fresh_parts start c [] [] (Now.Pending x y) h = absurd cc
-fresh_parts start c [] [] (Now.Long x y) h = absurd cc
-fresh_parts start c [] [] Now.After h = absurd cc
-fresh_parts start c [] [] Now.Name h = absurd cc
-fresh_parts start c [] [] (Now.LongName x) h = absurd cc
-fresh_parts start c [] [] (Now.Keyed x) h = absurd cc
-fresh_parts start c [] (s ∷ ss) now h = absurd cc
-fresh_parts start c (f ∷ fs) ss now h = absurd cc
+fresh_parts start c _ _ _ h = absurd cc
 
 module _ (g : Catalog) (l : Limits) where
   -- nothing waits
@@ -34,11 +28,8 @@ module _ (g : Catalog) (l : Limits) where
   Freed start n = IsFree n.now × ((is_fresh n ≡ true) ⊎ ((n.start ≡ start) × (is_top n.frames ≡ false)))
 
   within_freed : (begin item start end : ℕ) (t : Turn) → Leading g l (Freed begin) t → Leading g l (Freed begin) (within item start end t)
-  within_freed begin item start end t h = go (nat_le end (start + item))
-    where
-      go : (b : Bool) → Leading g l (Freed begin) (if b then t else refuses Reason.ItemTooLong)
-      go true = h
-      go false = tt
+  within_freed begin item start end t h =
+      cond_both (nat_le end (start + item)) t (refuses Reason.ItemTooLong) (Leading g l (Freed begin)) (λ e. h) (λ e. tt)
 
   top_freed : (item start end : ℕ) (c : List Slot) (v : Value) (d : Result (List Slot) Reason) (b : Bool)
       → Leading g l (Freed start) (if b then turned item start end d else within item start end (gives v (fresh c)))
@@ -48,10 +39,9 @@ module _ (g : Catalog) (l : Limits) where
 
   ended_freed : (spot : Spot) (fs : List Frame) (v : Value) → Leading g l (Freed spot.start) (ended (under g l) spot fs v)
   ended_freed spot [] v = top_freed l.item spot.start spot.end spot.context v (next spot.context v g) (is_table v)
-  ended_freed spot (Frame.Items Listing.List ss vs ∷ fs) v = (tt, inr (refl, refl))
-  ended_freed spot (Frame.Items Listing.Sexp ss vs ∷ fs) v = (tt, inr (refl, refl))
-  ended_freed spot (Frame.Named ss ms s ∷ fs) v = (tt, inr (refl, refl))
   ended_freed spot (Frame.Fields ss ms ∷ fs) v = tt
+  ended_freed spot (Frame.Items Listing.List ss vs ∷ fs) v = (tt, inr (refl, refl))
+  ended_freed spot _ v = (tt, inr (refl, refl))
 
   paid_freed : (spot : Spot) (fs : List Frame) (ss : Symbols) (q : Result Payload Reason) → Leading g l (Freed spot.start) (paid (under g l) spot fs ss q)
   paid_freed spot fs ss (Ok q) = ended_freed spot fs _
@@ -60,23 +50,17 @@ module _ (g : Catalog) (l : Limits) where
   released_freed : (spot : Spot) (fs : List Frame) (ss : Symbols) (h : Held) → Leading g l (Freed spot.start) (released (under g l) spot fs ss h)
   released_freed spot [] [] (Held.Version true s) = within_freed spot.start l.item spot.start spot.end (goes (fresh system_slots)) (tt, inl refl)
   released_freed spot [] [] (Held.Version false s) = tt
-  released_freed spot [] [] (Held.Symbol s) = paid_freed spot [] [] (held_payload (Held.Symbol s))
-  released_freed spot [] [] (Held.Null k) = paid_freed spot [] [] (held_payload (Held.Null k))
-  released_freed spot [] [] (Held.Truth b) = paid_freed spot [] [] (held_payload (Held.Truth b))
   released_freed spot [] [] Held.Nan = tt
   released_freed spot [] (s ∷ ss) h = paid_freed spot [] (s ∷ ss) (held_payload h)
   released_freed spot (f ∷ fs) ss h = paid_freed spot (f ∷ fs) ss (held_payload h)
+  released_freed spot [] [] h = paid_freed spot [] [] (held_payload h)
 
   -- what waits is settled to where no item is open, or to the same item in a container
   pub waiting_freed : (start : ℕ) (c : List Slot) (fs : List Frame) (ss : Symbols) (now : Now) → IsWaiting g l now
       → Leading g l (Freed start) (settle g l (at start c fs ss now))
   waiting_freed start c fs ss (Now.Pending h end) w = released_freed (spot_at end start c) fs ss h
   waiting_freed start c fs ss (Now.Long v end) w = ended_freed (spot_at end start c) fs _
-  waiting_freed start c fs ss Now.Ready w = absurd w
-  waiting_freed start c fs ss Now.After w = absurd w
-  waiting_freed start c fs ss Now.Name w = absurd w
-  waiting_freed start c fs ss (Now.LongName v) w = absurd w
-  waiting_freed start c fs ss (Now.Keyed s) w = absurd w
+  waiting_freed start c fs ss _ w = absurd w
 
   -- 1. Where an item begins.
 
@@ -94,8 +78,7 @@ module _ (g : Catalog) (l : Limits) where
       go : (t : Turn) → Leading g l (Freed start) t → Leading g l (From n) t
       go (goes r) h = one r h
       go (gives v r) h = one r h
-      go (refuses e) h = tt
-      go (late e r) h = tt
+      go _ h = tt
 
   -- an item that isn't fresh is open from there on
   open_from : (n start : ℕ) (c : List Slot) (fs : List Frame) (ss : Symbols) (now : Now) → (now ≡ Now.Ready → ⊥) → From n (at start c fs ss now) → n ≤ start
@@ -110,10 +93,7 @@ module _ (g : Catalog) (l : Limits) where
   settle_from n start c fs ss (Now.Long w end) q = freed_from n start (open_from n start c fs ss (Now.Long w end) (λ e. cc) q)
       (settle g l (at start c fs ss (Now.Long w end))) (waiting_freed start c fs ss (Now.Long w end) tt)
   settle_from n start c fs ss (Now.LongName w) q = (λ e. absurd (q.0 e), inr (open_from n start c fs ss (Now.LongName w) (λ e. cc) q))
-  settle_from n start c fs ss Now.Ready q = q
-  settle_from n start c fs ss Now.After q = q
-  settle_from n start c fs ss Now.Name q = q
-  settle_from n start c fs ss (Now.Keyed s) q = q
+  settle_from n start c fs ss _ q = q
 
   begun_from : (n start begin : ℕ) (c : List Slot) (fs : List Frame) (ss : Symbols) (now : Now) → n ≤ begin → From n (at start c fs ss now)
       → n ≤ start_now now start begin fs ss
@@ -124,12 +104,7 @@ module _ (g : Catalog) (l : Limits) where
   begun_from n start begin c (x ∷ fs) [] Now.Ready k (ok, inr h) = h
   begun_from n start begin c (x ∷ fs) (s ∷ ss) Now.Ready k (ok, inl f) = absurd cc
   begun_from n start begin c (x ∷ fs) (s ∷ ss) Now.Ready k (ok, inr h) = h
-  begun_from n start begin c fs ss (Now.Pending h end) k q = open_from n start c fs ss (Now.Pending h end) (λ e. cc) q
-  begun_from n start begin c fs ss (Now.Long w end) k q = open_from n start c fs ss (Now.Long w end) (λ e. cc) q
-  begun_from n start begin c fs ss Now.After k q = open_from n start c fs ss Now.After (λ e. cc) q
-  begun_from n start begin c fs ss Now.Name k q = open_from n start c fs ss Now.Name (λ e. cc) q
-  begun_from n start begin c fs ss (Now.LongName w) k q = open_from n start c fs ss (Now.LongName w) (λ e. cc) q
-  begun_from n start begin c fs ss (Now.Keyed s) k q = open_from n start c fs ss (Now.Keyed s) (λ e. cc) q
+  begun_from n start begin c fs ss now k q = open_from n start c fs ss now (λ e. cc) q
 
   turn_from : (n : ℕ) (r : Reading) (t : Token) → n ≤ t.start → From n r → Leading g l (From n) (turn g l r t)
   turn_from n r t k q = go (turn g l r t) (turn_spans g l r t q.0)
@@ -148,8 +123,7 @@ module _ (g : Catalog) (l : Limits) where
       go (goes m) (inl (o, e, h)) = opened m o (omega (arith, begin, e))
       go (goes m) (inr h) = whole m h.2
       go (gives v m) h = whole m h.2
-      go (refuses e) h = tt
-      go (late e m) h = tt
+      go _ h = tt
 
   -- tokens that begin no earlier
   abbrev pub AllFrom : ℕ → List Placed → Type 0
@@ -167,8 +141,7 @@ module _ (g : Catalog) (l : Limits) where
   on_turn_from : (n : ℕ) (t : Turn) (f : Reading → Walk) → Leading g l (From n) t → ((r : Reading) → From n r → WalkFrom n (f r)) → WalkFrom n (on_turn t f)
   on_turn_from n (goes r) f h k = k r h
   on_turn_from n (gives v r) f h k = adds_from n (v ∷ []) (f r) (k r h)
-  on_turn_from n (refuses e) f h k = tt
-  on_turn_from n (late e r) f h k = tt
+  on_turn_from n _ f h k = tt
 
   token_from : (n : ℕ) (r : Reading) (t : Token) (f : Reading → Walk) → n ≤ t.start → From n r → ((r : Reading) → From n r → WalkFrom n (f r)) → (b : Bool)
       → WalkFrom n (if b then on_turn (turn g l r t) f else on_turn (settle g l r) (λ k. on_turn (turn g l k t) f))
@@ -209,30 +182,18 @@ module _ (g : Catalog) (l : Limits) where
   pub idle_waits : (s : Known) (now : Now) → is_idle s.mode ≡ true → Waits s now
   idle_waits s (Now.Pending h end) i = i
   idle_waits s (Now.Long w end) i = ap (λ b. b || is_quoting s.mode) i
-  idle_waits s Now.Ready i = tt
-  idle_waits s Now.After i = tt
-  idle_waits s Now.Name i = tt
-  idle_waits s (Now.LongName w) i = tt
-  idle_waits s (Now.Keyed k) i = tt
+  idle_waits s _ i = tt
 
   -- where nothing waits, any token may have begun
   pub free_waits : (s : Known) (now : Now) → IsFree now → Waits s now
   free_waits s (Now.Pending h end) i = absurd i
   free_waits s (Now.Long w end) i = absurd i
-  free_waits s Now.Ready i = tt
-  free_waits s Now.After i = tt
-  free_waits s Now.Name i = tt
-  free_waits s (Now.LongName w) i = tt
-  free_waits s (Now.Keyed k) i = tt
+  free_waits s _ i = tt
 
   next_waits : (top : Bool) (now : Now) (s : Known) → waits_now top now (Next s) ≡ true → Waits s now
   next_waits top (Now.Pending h end) s e = e
   next_waits top (Now.Long w end) s e = e
-  next_waits top Now.Ready s e = tt
-  next_waits top Now.After s e = tt
-  next_waits top Now.Name s e = tt
-  next_waits top (Now.LongName w) s e = tt
-  next_waits top (Now.Keyed k) s e = tt
+  next_waits top _ s e = tt
 
   -- behind what was settled nothing waits
   pub settle_free : (start : ℕ) (c : List Slot) (fs : List Frame) (ss : Symbols) (now : Now)
@@ -240,36 +201,25 @@ module _ (g : Catalog) (l : Limits) where
   settle_free start c fs ss now = go now refl
     where
       part : (t : Turn) → Leading g l (Freed start) t → Leading g l (λ n. IsFree n.now) t
-      part (goes r) h = h.0
-      part (gives v r) h = h.0
       part (refuses e) h = tt
       part (late e r) h = tt
+      part _ h = h.0
 
       go : (n : Now) → now ≡ n → Leading g l (λ n. IsFree n.now) (settle g l (at start c fs ss now))
       go (Now.Pending h end) e = subst (λ x. Leading g l (λ n. IsFree n.now) (settle g l (at start c fs ss x))) (sym e)
           (part (settle g l (at start c fs ss (Now.Pending h end))) (waiting_freed start c fs ss (Now.Pending h end) tt))
       go (Now.Long w end) e = subst (λ x. Leading g l (λ n. IsFree n.now) (settle g l (at start c fs ss x))) (sym e)
           (part (settle g l (at start c fs ss (Now.Long w end))) (waiting_freed start c fs ss (Now.Long w end) tt))
-      go Now.Ready e = subst (λ x. Leading g l (λ n. IsFree n.now) (settle g l (at start c fs ss x))) (sym e) tt
-      go Now.After e = subst (λ x. Leading g l (λ n. IsFree n.now) (settle g l (at start c fs ss x))) (sym e) tt
-      go Now.Name e = subst (λ x. Leading g l (λ n. IsFree n.now) (settle g l (at start c fs ss x))) (sym e) tt
-      go (Now.LongName w) e = subst (λ x. Leading g l (λ n. IsFree n.now) (settle g l (at start c fs ss x))) (sym e) tt
-      go (Now.Keyed k) e = subst (λ x. Leading g l (λ n. IsFree n.now) (settle g l (at start c fs ss x))) (sym e) tt
+      go _ e = subst (λ x. Leading g l (λ n. IsFree n.now) (settle g l (at start c fs ss x))) (sym e) tt
 
   abbrev pub WaitsBehind : Effect → Type 0
   WaitsBehind (uses m) = Waits m.scan m.reading.now
   WaitsBehind (tells v m) = Waits m.scan m.reading.now
-  WaitsBehind (leaves v m) = Unit {0}
-  WaitsBehind (fails e) = Unit {0}
+  WaitsBehind _ = Unit {0}
 
   noticed_waits : (r : Reading) (s : Known) → Waits s r.now → WaitsBehind (noticed l r s)
-  noticed_waits r s h = go (shut r.now && not (is_idle s.mode)) (nat_le (reaches r.frames r s) l.item)
-    where
-      go : (x y : Bool) → WaitsBehind (if x then fails Reason.Unexpected else
-          (if y then uses (record { scan = s; reading = r }) else fails Reason.ItemTooLong))
-      go true y = tt
-      go false true = h
-      go false false = tt
+  noticed_waits r s h = cond_both (shut r.now && not (is_idle s.mode)) _ _ WaitsBehind (λ e. tt)
+      (λ e. cond_both (nat_le (reaches r.frames r s) l.item) _ _ WaitsBehind (λ k. h) (λ k. tt))
 
   worse_waits : (e : Reason) (x : Effect) → WaitsBehind (or_worse e x)
   worse_waits e (fails f) = tt
@@ -289,9 +239,8 @@ module _ (g : Catalog) (l : Limits) where
 
     left_waits : (again : State → Effect) (s : Known) (t : Turn) → AgainWaits again → Fine s → WaitsBehind (behind_left again s t)
     left_waits again s (goes r) f h = f (with_scan s r) h
-    left_waits again s (gives v r) f h = tt
-    left_waits again s (refuses e) f h = tt
     left_waits again s (late e r) f h = worse_waits e (again (with_scan s r))
+    left_waits again s _ f h = tt
 
     said_waits : (r : Result Content Reason) (f : Content → Effect) → ((c : Content) → WaitsBehind (f c)) → WaitsBehind (on_said r f)
     said_waits (Ok c) f h = h c
@@ -309,27 +258,23 @@ module _ (g : Catalog) (l : Limits) where
     settled_waits : (s : Known) (again : State → Effect) (r : Reading) → AgainWaits again → Fine s → (t : Turn)
         → Leading g l (λ n. IsFree n.now × (place n ≡ place r)) t → WaitsBehind (on_settled g l again s (feed (place r) s o) t)
     settled_waits s again r f h (goes n) k = scan_waits s n again f h (feed (place r) s o) (ap (λ p. feed p s o) k.1) (λ t e. free_waits t n.now k.0)
-    settled_waits s again r f h (gives v n) k = tt
-    settled_waits s again r f h (refuses e) k = tt
     settled_waits s again r f h (late e n) k = worse_waits e (on_scan g l again n (feed (place r) s o))
+    settled_waits s again r f h _ k = tt
 
     octet_waits : (s : Known) (r : Reading) (again : State → Effect) → AgainWaits again → Fine s
         → WaitsBehind (on_octet g l again (with_scan s r) (feed (place r) s o))
-    octet_waits s r again f h = go (unsettled s r (feed (place r) s o)) refl
+    octet_waits s r again f h =
+        cond_both (unsettled s r (feed (place r) s o)) _ _ WaitsBehind
+        (λ e. scan_waits s r again f h (feed (place r) s o) refl
+        (λ t i. next_waits (is_top r.frames) r.now t (sym (ap (waits r) i) ∙ unsettled_waits (place r) s r o (subst NotRefused (sym i) tt) e)))
+        (λ e. settled_waits s again r f h (settle g l r)
+        (both (settle g l r) (settle_free r.start r.context r.frames r.notes r.now) (settle_same g l r.start r.context r.frames r.notes r.now)))
       where
         both : (t : Turn) → Leading g l (λ n. IsFree n.now) t → Leading g l (λ n. (place n ≡ place r) × (is_top n.frames ≡ is_top r.frames)) t
             → Leading g l (λ n. IsFree n.now × (place n ≡ place r)) t
-        both (goes n) a b = (a, b.0)
-        both (gives v n) a b = (a, b.0)
         both (refuses e) a b = tt
         both (late e n) a b = tt
-
-        go : (w : Bool) → unsettled s r (feed (place r) s o) ≡ w
-            → WaitsBehind (if w then on_scan g l again r (feed (place r) s o) else on_settled g l again s (feed (place r) s o) (settle g l r))
-        go true e = scan_waits s r again f h (feed (place r) s o) refl
-            (λ t i. next_waits (is_top r.frames) r.now t (sym (ap (waits r) i) ∙ unsettled_waits (place r) s r o (subst NotRefused (sym i) tt) e))
-        go false e = settled_waits s again r f h (settle g l r)
-            (both (settle g l r) (settle_free r.start r.context r.frames r.notes r.now) (settle_same g l r.start r.context r.frames r.notes r.now))
+        both _ a b = (a, b.0)
 
     takes_waits : (n : ℕ) (m : State) → Fine m.scan → WaitsBehind (takes g l n m o)
     takes_waits zero m h = tt
@@ -352,8 +297,7 @@ module _ (g : Catalog) (l : Limits) where
       once : Rest → (ws : List Value) (x : Effect) → After g l u ws o x → WaitsBehind x → EndsWaiting (once_more to (λ n. run g l (to + 1) n os) x).now
       once rest ws (uses n) a i = rest ws n a i
       once rest ws (tells v n) a i = rest (ws ++ v ∷ []) n a i
-      once rest ws (leaves v n) a i = tt
-      once rest ws (fails e) a i = tt
+      once rest ws _ a i = tt
 
       step : Rest → (x : Effect) → After g l u vs o x → WaitsBehind x → EndsWaiting (run_on to (λ n. eats g l n o) (λ n. run g l (to + 1) n os) x).now
       step rest (uses n) a i = rest vs n a i

@@ -1,29 +1,32 @@
 -- The tokens of an open item lead the reader of tokens to where it stands, though what waits may not be put there yet.
-use Rattle.std.proofs.Common.{◌≡◌, ℕ, suc, ◌+◌, ◌≤◌, Bool, true, false, ◌&&◌, List, [], ◌∷◌, ◌++◌, length, refl, sym, ap, ◌∙◌, subst, arith, append_assoc, append-nil, Option, Some, ◌⊎◌, inl, inr}
-use Rattle.ion_text.specs.Names.{Annotations, Bracket, Catalog, Content, Elements, Field, Frame, Held, Id, IsName, Leading, Limits, Listing, Long, Mark, Mark', Members, Now, Place, Placed, Quoted, Reading, Says, Segments, Short, Slot, Symbols, Token, TypedNull, Value, Word, at, begins_long, begun_at, behind_item, bracket_in, by_long, by_short, by_symbol, comma, done, ends_long, field_comma, first_now, first_token, fresh, goes, is_fresh, is_long, is_top, long_at, no_annotation, no_element, no_field, on_ready, on_turn, one_annotation, open_mark, opened, pending_at, place, place_in, reads, resolved, settle, settle_same, spot_at, under}
+use Rattle.std.proofs.Common.{◌≡◌, ℕ, suc, ◌+◌, ◌≤◌, Bool, true, false, ◌&&◌, List, [], ◌∷◌, ◌++◌, length, refl, sym, ap, ◌∙◌, subst, arith, append_assoc, append-nil, Option, Some, Ok, ◌⊎◌, inl, inr}
+use Rattle.ion_text.specs.laws.reading.complete.Segments.{never}
+use Rattle.ion_text.specs.Names.{Annotations, Bracket, Catalog, Content, Elements, Field, Frame, Held, Id, IsBody, IsName, Leading, Limits, Listing, Long, Mark, Mark', Members, Now, Pieces, Place, Placed, Quoted, Reading, Says, Segments, Short, Slot, Symbols, Token, TypedNull, Value, Word, adds_values, at, begins_as_long, begins_long, begun_at, behind_item, bracket_in, by_long, by_short, by_symbol, comma, done, ends_long, field_comma, first_now, first_token, fresh, goes, is_fresh, is_long, is_top, long_at, no_annotation, no_element, no_field, on_ready, on_turn, one_annotation, open_mark, opened, pending_at, place, place_in, reads, resolved, said_body, settle, settle_same, spot_at, system_slots, under}
 use Rattle.ion_text.specs.Grammar.{end_of}
+use Rattle.ion_text.specs.machine.TokenLists.{walked}
 use Rattle.ion_text.specs.laws.reading.Brackets.{no_colons}
 use Rattle.ion_text.specs.laws.reading.complete.Complete.{Begins, InStruct, Reached, begun_behind, elements_read, ends_behind, field_depths, first_start, item_behind, last_end, long_named, members_read, name_read, notes_begin, notes_read, open_read, read_behind, ready_reached, row_read, segments_begin, segments_read, starts, symbol_named, symbol_no_colons}
+use Rattle.ion_text.specs.laws.reading.complete.Going.{mark_kind, says_so}
+use Rattle.ion_text.specs.laws.reading.complete.Pieces.{more_read, pieces_read}
 use Rattle.ion_text.specs.laws.reading.sound.Depths.{Deep}
 use Rattle.ion_text.specs.laws.reading.sound.Held.{IsSome, last_long, name_some, opened_some, some_more}
 use Rattle.ion_text.specs.laws.reading.sound.MarkerWords.{both_not}
 use Rattle.ion_text.specs.laws.reading.sound.Spans.{IsWaiting}
 use Rattle.ion_text.specs.laws.reading.sound.StandsOpen.{EndsAt, IsHeld, IsInside, Items, LongFor, NowStands, Opened, PendingFor, ReadyFor, Receives, long_behind, not_long, notes_not_long, symbol_no_long, symbol_said, value_place}
+use Rattle.ion_text.specs.laws.showing.tokens.Firsts.{now_first, opens_item}
+use Rattle.ion_text.specs.laws.showing.tokens.Walks.{walking_said}
 
 module _ (g : Catalog) (l : Limits) where
   -- what the containers wait for
   abbrev target : List Frame → Bool → Now
-  target (Frame.Items listing ss vs ∷ fs) true = Now.Ready
   target (Frame.Items listing ss vs ∷ fs) false = behind_item listing
   target (Frame.Fields ss ms ∷ fs) true = Now.Name
   target (Frame.Fields ss ms ∷ fs) false = Now.After
-  target _ more = Now.Ready
+  target _ _ = Now.Ready
 
   received : (fs : List Frame) → Receives fs → target fs true ≡ Now.Ready
-  received [] r = refl
-  received (Frame.Items listing ss vs ∷ fs) r = refl
-  received (Frame.Named ss ms s ∷ fs) r = refl
   received (Frame.Fields ss ms ∷ fs) r = absurd r
+  received _ r = refl
 
   -- the item begins at its first token
   starts_join : (c : List Slot) (fs : List Frame) (front us : List Placed) → Opened c fs front true → starts g l (starts g l 0 [] front) fs us
@@ -213,10 +216,9 @@ module _ (g : Catalog) (l : Limits) where
 
   -- a long string that ends what has come of the open containers ends the innermost s-expression so far
   ends_some : (ts us : List Placed) → IsSome us → ends_long (ts ++ us) ≡ ends_long us
-  ends_some [] us h = refl
-  ends_some (t ∷ []) (u ∷ us) h = refl
   ends_some (t ∷ []) [] h = absurd h
   ends_some (t ∷ x ∷ ts) us h = ends_some (x ∷ ts) us h
+  ends_some _ _ h = refl
 
   ends_open : (front notes us : List Placed) (t : Placed) → ends_long (front ++ (notes ++ t ∷ us)) ≡ ends_long (t ∷ us)
   ends_open front notes us t = ends_some front (notes ++ t ∷ us) (some_more notes us t) ∙ ends_some notes (t ∷ us) tt
@@ -233,10 +235,6 @@ module _ (g : Catalog) (l : Limits) where
       → ends_long (t ∷ ts) ≡ false
   members_short c p t m _ _ h no_field = mark_not_long p t m h
   members_short c p t m _ _ h (field_comma ts ms u d i) = last_long (t ∷ ts) u ∙ mark_not_long Place.FieldValue u Mark.Comma i
-
-  never : (b : Bool) → b ≡ false → b ≡ true → ⊥
-  never true e f = cc
-  never false e f = cc
 
   long_outer : (c : List Slot) (fs : List Frame) (ts : List Placed) → (o : Opened c fs ts true) → ends_long ts ≡ true → long_behind c fs ts o ≡ true
   long_outer c [] ts o h = absurd (never (ends_long ts) (ap ends_long o) h)
@@ -429,9 +427,8 @@ module _ (g : Catalog) (l : Limits) where
 
   inside_place : (fs : List Frame) → IsInside fs → place_in fs (target fs false) ≡ place_in fs Now.After
   inside_place (Frame.Items listing ss vs ∷ fs) i = refl
-  inside_place (Frame.Fields ss vs ∷ fs) i = refl
-  inside_place (Frame.Named ss vs s ∷ fs) i = refl
   inside_place [] i = absurd i
+  inside_place _ i = refl
 
   inside_new : (begin : ℕ) (c : List Slot) (fs : List Frame) (ss : Symbols) (now : Now) → IsInside fs → is_fresh (at begin c fs ss now) ≡ false
   inside_new begin c (f ∷ fs) ss now i = refl
@@ -457,9 +454,30 @@ module _ (g : Catalog) (l : Limits) where
   arrived c [] ss Now.Name ts deep d new = absurd (d.1)
   arrived c (Frame.Items listing xs vs ∷ fs) ss Now.Name ts deep d new = absurd (d.1)
   arrived c (Frame.Named xs vs s ∷ fs) ss Now.Name ts deep d new = absurd (d.1)
-  arrived c [] ss (Now.LongName w) ts deep d new = absurd d.struct
-  arrived c (Frame.Items listing xs vs ∷ fs) ss (Now.LongName w) ts deep d new = absurd d.struct
-  arrived c (Frame.Named xs vs s ∷ fs) ss (Now.LongName w) ts deep d new = absurd d.struct
-  arrived c [] ss (Now.Keyed w) ts deep d new = absurd d.struct
-  arrived c (Frame.Items listing xs vs ∷ fs) ss (Now.Keyed w) ts deep d new = absurd d.struct
-  arrived c (Frame.Named xs vs s ∷ fs) ss (Now.Keyed w) ts deep d new = absurd d.struct
+  arrived c _ ss _ ts deep d new = absurd d.struct
+
+  -- and those of pieces before it
+  pub item_read : (c : List Slot) (front : List Placed) (vs : List Value) (fs : List Frame) (ss : Symbols) (now : Now) (item : List Placed) → IsSome item
+      → Pieces g l front vs c → NowStands c fs ss item now → (ends_long front && begins_as_long item) ≡ false → (a : Arrived c fs ss now item)
+      → reads g l (fresh system_slots) (front ++ item) ≡ walked (vs ++ []) a.r
+  item_read c front vs fs ss now [] some pieces d apart a = absurd some
+  item_read c front vs fs ss now (x ∷ xs) some pieces d apart a =
+      more_read g l front (x ∷ xs) vs c (pieces_read g l front vs c pieces) first apart ∙ ap (adds_values vs) a.read
+    where
+      -- an item's first token is no `::`
+      first : Begins g l Place.Top (x ∷ xs)
+      first =
+          let q = walking_said g l (fresh c) x xs (record { vs = []; n = a.r; read = a.read }) in
+          let opens : opens_item x.lexeme.kind ≡ true = now_first c fs ss now (x ∷ xs) d in
+          record {
+            first = x;
+            later = xs;
+            said = q.1;
+            cut = refl;
+            says = says_so g l (fresh c) x q.1 q.0 q.2;
+            no_colons = λ e.
+                let kind = mark_kind x.lexeme.kind x.lexeme.octets Mark.Colons
+                (subst (λ y. IsBody x.lexeme.kind x.lexeme.octets (Ok y)) e (said_body x.lexeme.kind x.lexeme.octets q.1 q.2)) in
+                let n : false ≡ true = sym (ap opens_item kind) ∙ opens in
+                cc;
+          }
