@@ -152,11 +152,6 @@ module _ (g : Catalog) (l : Limits) where
   ready_late spot fs ss (Quoted w) = tt
   ready_late spot fs ss (TypedNull k) = tt
   ready_late spot fs ss (Long w) = tt
-  ready_late spot fs ss (Short w) = ended_late (LateAs (Short w)) (under g l) spot fs _
-  ready_late spot fs ss (Number' n) = ended_late (LateAs (Number' n)) (under g l) spot fs _
-  ready_late spot fs ss (Operator w) = ended_late (LateAs (Operator w)) (under g l) spot fs _
-  ready_late spot fs ss (Clob w) = ended_late (LateAs (Clob w)) (under g l) spot fs _
-  ready_late spot fs ss (Blob w) = ended_late (LateAs (Blob w)) (under g l) spot fs _
   ready_late spot fs ss (Mark' Mark.ListOpen) = deeper_late (LateAs (Mark' Mark.ListOpen)) l.depth fs _ _ tt tt
   ready_late spot fs ss (Mark' Mark.SexpOpen) = deeper_late (LateAs (Mark' Mark.SexpOpen)) l.depth fs _ _ tt tt
   ready_late spot fs ss (Mark' Mark.FieldsOpen) =
@@ -171,6 +166,7 @@ module _ (g : Catalog) (l : Limits) where
   ready_late spot fs ss (Mark' Mark.SexpClose) = bare_late (LateAs (Mark' Mark.SexpClose)) ss _
       (closed_late (LateAs (Mark' Mark.SexpClose)) (under g l) spot Bracket.Sexp fs)
   ready_late spot fs ss (Mark' _) = tt
+  ready_late spot fs ss x = ended_late (LateAs x) (under g l) spot fs _
 
   noted_late : (start : ℕ) (c : List Slot) (fs : List Frame) (ss : Symbols) (r : Result (Option (List ℕ)) Reason)
       → TurnLate (LateAs (Mark' Mark.Colons)) (noted start c fs ss r)
@@ -321,16 +317,14 @@ module _ (g : Catalog) (l : Limits) where
       → NotLate (behind_given l t (on_ready (under g l) (spot_at end start c) [] [] x))
   fresh_given t start end c (Quoted w) n = noticed_quiet l (at start c [] [] (Now.Pending (Held.Symbol (Some w)) end)) t
   fresh_given t start end c (Long w) n = noticed_quiet l (at start c [] [] (Now.Long w end)) t
-  fresh_given t start end c (Short w) n = fresh_ended t start end c (payloads.Str w)
-  fresh_given t start end c (Number' y) n = fresh_ended t start end c (number_payload y)
-  fresh_given t start end c (Operator w) n = fresh_ended t start end c (payloads.Symbol (Some w))
-  fresh_given t start end c (Clob w) n = fresh_ended t start end c (payloads.Clob w)
-  fresh_given t start end c (Blob w) n = fresh_ended t start end c (payloads.Blob w)
+  fresh_given t start end c (Word w) n = absurd (n tt)
+  fresh_given t start end c (Id id) n = absurd (n tt)
+  fresh_given t start end c (TypedNull k) n = absurd (n tt)
   fresh_given t start end c (Mark' Mark.ListOpen) n = fresh_open t start c Bracket.List
   fresh_given t start end c (Mark' Mark.SexpOpen) n = fresh_open t start c Bracket.Sexp
   fresh_given t start end c (Mark' Mark.FieldsOpen) n = absurd (n tt)
   fresh_given t start end c (Mark' _) n = λ i. i
-  fresh_given t start end c _ n = absurd (n tt)
+  fresh_given t start end c _ n = fresh_ended t start end c _
 
   -- Behind such a marker no reason of rows comes of the octet that shows that it is no annotation.
   pub version_quiet : (again : State → Effect) (s : Known) (o : ℕ) (c : List Slot) → is_idle s.mode ≡ true → GivesNoBare Place.Top s o → (x : Outcome)

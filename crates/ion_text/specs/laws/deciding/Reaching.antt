@@ -3,7 +3,7 @@
 use Rattle.std.proofs.Common.{◌≡◌, ℕ, ◌+◌, ◌<◌, ◌≤◌, nat_le, nat_lt, List, [], ◌∷◌, length, Bool, true, false, ◌&&◌, ◌||◌, not, Result, Ok, Err, Some, refl, ap, sym, ◌∙◌, subst, arith, ◌⊎◌, inl, inr}
 use Rattle.std.proofs.lemmas.Bool.{cond-false, cond_both, true_from_ne_false}
 use Rattle.std.proofs.lemmas.Bool.Decides.{nat_tests}
-use Rattle.ion_text.specs.Names.{Catalog, Content, Effect, Given, HasRow, IsBody, Known, Leading, Left, Limits, Mark, Mark', Mode, Next, Now, Outcome, Placed, Reading, Reason, Refusal, Run, State, TokenKind, Turn, Value, at_end, behind_given, behind_left, continues, eats, fails, feed, gives, goes, is_closing, is_idle, is_quoted, is_quoting, is_sane, is_top, is_two_quotes, late, lesser, noticed, on_said, on_scan, once_more, or_worse, place, reaches, reason_number, refuses, run, run_on, said, said_body, settle, settle_same, settle_still, shut, takes, tells, token_at, token_of, turn, turn_now, under, uses, waits, waits_now, with_scan}
+use Rattle.ion_text.specs.Names.{Catalog, Content, Effect, Given, HasRow, IsBody, Known, Leading, Left, Limits, Mark, Mark', Mode, Next, Now, Outcome, Placed, Reading, Reason, Refusal, Run, State, TokenKind, Turn, Value, at_end, behind_given, behind_left, continues, eats, fails, feed, gives, goes, is_closing, is_idle, is_quoted, is_quoting, is_sane, is_top, is_two_quotes, late, leaves, lesser, noticed, on_said, on_scan, once_more, or_worse, place, reaches, reason_number, refuses, run, run_on, said, said_body, settle, settle_same, settle_still, shut, takes, tells, token_at, token_of, turn, turn_now, under, uses, waits, waits_now, with_scan}
 use Rattle.ion_tokens.proofs.runs.Runs.{feed_used}
 use Rattle.ion_tokens.proofs.runs.Splits.{given_one, left_one}
 use Rattle.ion_text.specs.laws.deciding.Heading.{Heads, IsLast, Turned, TurnsTo, settled_heads}
@@ -155,36 +155,36 @@ module _ (g : Catalog) (l : Limits) where
 
     -- an octet that is used, or refused, and what comes of the others
     abbrev Went : ℕ → (State → Run) → Effect → Type 0
-    Went to more x = ((n : State) × (x ≡ uses n) × Good (more n).now)
-        ⊎ (((v : Value) × (n : State) × (x ≡ tells v n) × Good (more n).now)
-        ⊎ ((f : Reason) × (x ≡ fails f) × Good (Err (record { offset = to + 1; reason = f }))))
+    Went to more (leaves v n) = ⊥
+    Went to more (fails f) = Good (Err (record { offset = to + 1; reason = f }))
+    Went to more (uses n) = Good (more n).now
+    Went to more (tells v n) = Good (more n).now
 
     went_run : (to : ℕ) (again : State → Effect) (more : State → Run) (x : Effect) → Went to more x → Good (run_on to again more x).now
-    went_run to again more x (inl (n, i, h)) = subst (λ y. Good (run_on to again more y).now) (sym i) h
-    went_run to again more x (inr (inl (v, n, i, h))) = subst (λ y. Good (run_on to again more y).now) (sym i) h
-    went_run to again more x (inr (inr (f, i, h))) = subst (λ y. Good (run_on to again more y).now) (sym i) h
+    went_run to again more (leaves v n) h = absurd h
+    went_run to again more _ h = h
 
     went_more : (to : ℕ) (more : State → Run) (x : Effect) → Went to more x → Good (once_more to more x).now
-    went_more to more x (inl (n, i, h)) = subst (λ y. Good (once_more to more y).now) (sym i) h
-    went_more to more x (inr (inl (v, n, i, h))) = subst (λ y. Good (once_more to more y).now) (sym i) h
-    went_more to more x (inr (inr (f, i, h))) = subst (λ y. Good (once_more to more y).now) (sym i) h
+    went_more to more (leaves v n) h = absurd h
+    went_more to more _ h = h
 
     noticed_went : (to : ℕ) (more : State → Run) (s : Known) (r : Reading) → (shut r.now && not (is_idle s.mode)) ≡ false
         → Good (Err (record { offset = to + 1; reason = Reason.ItemTooLong })) → Good (more (with_scan s r)).now → Went to more (noticed l r s)
     noticed_went to more s r q too h =
         subst (Went to more) (sym (cond-false _ _ _ q)) (cond_both (nat_le (reaches r.frames r s) l.item) (uses (with_scan s r)) (fails Reason.ItemTooLong)
-        (Went to more) (λ e. inl (with_scan s r, refl, h)) (λ e. inr (inr (Reason.ItemTooLong, refl, too))))
+        (Went to more) (λ e. h) (λ e. too))
 
     -- the last token is refused for the reason, or for one with a smaller number
     refused_here : (to : ℕ) → to + 1 ≡ total → ByOctet → (f : Reason) → reason_number f ≤ reason_number e → Good (Err (record { offset = to + 1; reason = f }))
     refused_here to i b f h = subst (λ (n : ℕ). Good (Err (record { offset = n; reason = f }))) (sym i) (last b f h)
 
     refused_went : (to : ℕ) (more : State → Run) → to + 1 ≡ total → ByOctet → (f : Reason) → f ≡ e → Went to more (fails f)
-    refused_went to more i b f h = inr (inr (f, refl, refused_here to i b f (omega (arith, ap reason_number h))))
+    refused_went to more i b f h = refused_here to i b f (omega (arith, ap reason_number h))
 
     worse_went : (to : ℕ) (more : State → Run) → to + 1 ≡ total → ByOctet → (f : Reason) → f ≡ e → (x : Effect) → Went to more (or_worse f x)
-    worse_went to more i b f h x = let w = worse_less f x in
-        inr (inr (w.0, w.1, refused_here to i b w.0 (omega (arith, w.2, ap reason_number h))))
+    worse_went to more i b f h x =
+        let w = worse_less f x in
+        subst (Went to more) (sym w.1) (refused_here to i b w.0 (omega (arith, w.2, ap reason_number h)))
 
     -- where what waited is settled it may stand at the top level
     settled_ok : (k : Reading) → ((m : Mode) → is_top k.frames ≡ true → CalmNow k.now m) → TopOk g l k
@@ -257,7 +257,7 @@ module _ (g : Catalog) (l : Limits) where
                 → Went to more (behind_given l s' x)
             by (goes n) q d = noticed_went to more s' n (none_shut (shut n.now) (is_idle s'.mode) idle) too
                 (onward n (λ top. idle_calm n.now s'.mode (q top).0 idle) d)
-            by (gives v n) q d = inr (inl (v, with_scan s' n, refl, onward n (λ top. idle_calm n.now s'.mode (q top).0 idle) d))
+            by (gives v n) q d = onward n (λ top. idle_calm n.now s'.mode (q top).0 idle) d
             by _ q d = absurd (never d.0)
 
       module _ (here : to + 1 ≡ total) (b : ByOctet) (s' : Known) (t : Placed) where

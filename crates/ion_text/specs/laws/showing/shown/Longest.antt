@@ -89,6 +89,25 @@ module _ (g : Catalog) (l : Limits) (u : List ℕ) (vs : List Value) (s : Known)
         let last = lexed_front more (colon_behind x) x.lexeme.end d.second.0 c e left d.second.2 in
         omega (arith, starts, same.1, size, last.2, y.start, y.end)
 
+    -- a token that they have behind those that the scanner was told of has ended in the octets
+    pub token_more : (ts : List Placed) → LexesTo false 0 (u ++ following) ts k.colon k.end (k.since ++ following) → (x : Placed) (xs : List Placed)
+        → w.tokens ≡ ts ++ x ∷ xs → x.place ≡ p → Is p x.lexeme (run p following s) × (x.lexeme.end ≤ s.used)
+    token_more ts ours x xs e here =
+        let d = parted ts (x ∷ xs) false 0 (u ++ following) w.colon w.end (w.blank ++ (rest ++ following))
+        (subst (λ z. LexesTo false 0 (u ++ following) z w.colon w.end (w.blank ++ (rest ++ following))) e theirs) in
+        let one = lexes_once ts false 0 (u ++ following) d.flag k.colon d.mid k.end d.left (k.since ++ following) d.first ours in
+        let found = one_found d.flag d.mid d.left x d.second.0 d.second.1 in
+        let there : Is x.place x.lexeme (run x.place (k.since ++ following) (at Mode.Blank [] k.colon k.end k.end)) =
+        subst (λ z. Is x.place x.lexeme (run x.place z (at Mode.Blank [] k.colon k.end k.end))) one.2
+        (subst (λ (z : ℕ). Is x.place x.lexeme (run x.place d.left (at Mode.Blank [] k.colon z z))) one.1
+        (subst (λ z. Is x.place x.lexeme (run x.place d.left (at Mode.Blank [] z d.mid d.mid))) one.0 found)) in
+        let placed : Is p x.lexeme (run p (k.since ++ following) (at Mode.Blank [] k.colon k.end k.end)) =
+        subst (λ q. Is q x.lexeme (run q (k.since ++ following) (at Mode.Blank [] k.colon k.end k.end))) here there in
+        let last = lexed_front xs (colon_behind x) x.lexeme.end d.second.0 w.colon w.end (w.blank ++ (rest ++ following)) d.second.2 in (
+          subst (Is p x.lexeme) (run_behind p k.since following (at Mode.Blank [] k.colon k.end k.end) s k.reached) placed,
+          omega (arith, last.2, long, size, used),
+        )
+
   -- where no item is open
   module _ (none : b.item ≡ []) where
     top : p ≡ Place.Top
@@ -132,19 +151,8 @@ module _ (g : Catalog) (l : Limits) (u : List ℕ) (vs : List Value) (s : Known)
 
       never_more : NoneHasEnded → (x : Placed) (xs : List Placed) → w.tokens ≡ b.front ++ x ∷ xs → TopFirst (x ∷ xs) → ⊥
       never_more ended x xs e at_top =
-          let d = parted b.front (x ∷ xs) false 0 (u ++ more) w.colon w.end (w.blank ++ (rest ++ more))
-          (subst (λ z. LexesTo false 0 (u ++ more) z w.colon w.end (w.blank ++ (rest ++ more))) e (theirs v rest more t cut w)) in
-          let one = lexes_once b.front false 0 (u ++ more) d.flag k.colon d.mid k.end d.left (k.since ++ more) d.first tokens in
-          let found = one_found d.flag d.mid d.left x d.second.0 d.second.1 in
-          let here : Is x.place x.lexeme (run x.place (k.since ++ more) (at Mode.Blank [] k.colon k.end k.end)) =
-          subst (λ z. Is x.place x.lexeme (run x.place z (at Mode.Blank [] k.colon k.end k.end))) one.2
-          (subst (λ (z : ℕ). Is x.place x.lexeme (run x.place d.left (at Mode.Blank [] k.colon z z))) one.1
-          (subst (λ z. Is x.place x.lexeme (run x.place d.left (at Mode.Blank [] z d.mid d.mid))) one.0 found)) in
-          let placed : Is p x.lexeme (run p (k.since ++ more) (at Mode.Blank [] k.colon k.end k.end)) =
-          subst (λ q. Is q x.lexeme (run q (k.since ++ more) (at Mode.Blank [] k.colon k.end k.end))) (at_top ∙ sym top) here in
-          let at_end' = subst (Is p x.lexeme) (run_behind p k.since more (at Mode.Blank [] k.colon k.end k.end) s k.reached) placed in
-          let last = lexed_front xs (colon_behind x) x.lexeme.end d.second.0 w.colon w.end (w.blank ++ (rest ++ more)) d.second.2 in
-          ended x xs e (at_top ∙ sym top) at_end' (omega (arith, last.2, long v rest more t cut w, size v rest more t cut w, used))
+          let y = token_more v rest more t cut w b.front tokens x xs e (at_top ∙ sym top) in
+          ended x xs e (at_top ∙ sym top) y.0 y.1
 
       -- Between items the pieces that were read are the longest.
       pub longest_before : NoneHasEnded → length v ≤ start_of s.mode s.start s.used

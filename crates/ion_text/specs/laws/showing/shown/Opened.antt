@@ -18,7 +18,7 @@ use Rattle.ion_text.specs.laws.reading.sound.Held.{Behind, IsFirst, IsSome, NoLo
 use Rattle.ion_text.specs.laws.reading.sound.Spans.{IsWaiting}
 use Rattle.ion_text.specs.laws.reading.sound.StandsOpen.{LongFor, NowStands, PendingFor, symbol_said}
 use Rattle.ion_text.specs.laws.reading.sound.Steps.{Stood}
-use Rattle.ion_text.specs.laws.showing.shown.Longest.{escaped, k as behind_all, long as their_long, octets as all_octets, size as their_size, theirs as their_tokens}
+use Rattle.ion_text.specs.laws.showing.shown.Longest.{escaped, k as behind_all, long as their_long, octets as all_octets, size as their_size, theirs as their_tokens, token_more}
 use Rattle.ion_text.specs.laws.showing.tokens.Closing.{Closing, colons_close, quotes_close}
 use Rattle.ion_text.specs.laws.showing.tokens.Compare.{Found', OneIsFront, begins_after, lexes_once, meet}
 use Rattle.ion_text.specs.laws.showing.tokens.Cuts.{Is, OpenBehind, Parted, lexed_front, one_found, parted}
@@ -181,20 +181,10 @@ module _ (g : Catalog) (l : Limits) (u : List ℕ) (vs : List Value) (s : Known)
 
     never_more : NoneEnds → (z : Placed) (zs : List Placed) → w.tokens ≡ (b.front ++ b.item) ++ z ∷ zs → ⊥
     never_more ended z zs e =
-        let d = parted (b.front ++ b.item) (z ∷ zs) false 0 (u ++ more) w.colon w.end (w.blank ++ (rest ++ more))
-        (subst (λ y. LexesTo false 0 (u ++ more) y w.colon w.end (w.blank ++ (rest ++ more))) e theirs) in
-        let one = lexes_once (b.front ++ b.item) false 0 (u ++ more) d.flag k.colon d.mid k.end d.left (k.since ++ more) d.first ours in
-        let found = one_found d.flag d.mid d.left z d.second.0 d.second.1 in
-        let here : Is z.place z.lexeme (run z.place (k.since ++ more) (scanning Mode.Blank [] k.colon k.end k.end)) =
-        subst (λ y. Is z.place z.lexeme (run z.place y (scanning Mode.Blank [] k.colon k.end k.end))) one.2
-        (subst (λ (y : ℕ). Is z.place z.lexeme (run z.place d.left (scanning Mode.Blank [] k.colon y y))) one.1
-        (subst (λ y. Is z.place z.lexeme (run z.place d.left (scanning Mode.Blank [] y d.mid d.mid))) one.0 found)) in
-        let at' = (going_said g l a.r z zs (going_behind (z ∷ zs) e).0 (going_behind (z ∷ zs) e).1).0 ∙ a.here in
-        let placed : Is p z.lexeme (run p (k.since ++ more) (scanning Mode.Blank [] k.colon k.end k.end)) =
-        subst (λ q. Is q z.lexeme (run q (k.since ++ more) (scanning Mode.Blank [] k.colon k.end k.end))) at' here in
-        let there = subst (Is p z.lexeme) (run_behind p k.since more (scanning Mode.Blank [] k.colon k.end k.end) s k.reached) placed in
-        let last = lexed_front zs (colon_behind z) z.lexeme.end d.second.0 w.colon w.end (w.blank ++ (rest ++ more)) d.second.2 in
-        ended z zs e there (omega (arith, last.2, long, size, used))
+        let behind = going_behind (z ∷ zs) e in
+        let here = (going_said g l a.r z zs behind.0 behind.1).0 ∙ a.here in
+        let y = token_more g l u vs s r ahead A b used v rest more t cut w (b.front ++ b.item) ours z zs e here in
+        ended z zs e y.0 y.1
 
     -- where they are the fewer, they end before the next token, and the open item begins no earlier
     fewer : (y : Placed) (ys : List Placed) → b.front ++ b.item ≡ w.tokens ++ y ∷ ys → y.place ≡ Place.Top → length v ≤ r.start

@@ -172,20 +172,16 @@ quotes_never p colon now used (o ∷ o' ∷ os) r more s e ran i q =
     long : Known
     long = at (Mode.Text Style.LongString Within.Plain) [] colon used (used + 1 + 1 + 1)
 
-    third : (o : ℕ) (os : List ℕ) (b : Bool) → (o == 39) ≡ b → run p (o ∷ os) two ≡ Next s → ⊥
-    third o os true e f =
-        let g : run p os long ≡ Next s = sym (ap (λ b. follow (acts p two o
-        (if b then go_on (Mode.Text Style.LongString Within.Plain) else before TokenKind.QuotedSymbol)) (λ t. run p os t)) e) ∙ f in
-        let k = long_quoting s.mode (subst LongOn g (long_run p os long refl)) in
+    third : (o : ℕ) (os : List ℕ) (b : Bool)
+        → follow (acts p two o (if b then go_on (Mode.Text Style.LongString Within.Plain) else before TokenKind.QuotedSymbol)) (λ t. run p os t) ≡ Next s → ⊥
+    third o os true f =
+        let k = long_quoting s.mode (subst LongOn f (long_run p os long refl)) in
         let n : true ≡ false = sym k ∙ q in cc
-    third o os false e f =
-        let g = sym (ap (λ b. follow (acts p two o (if b then go_on (Mode.Text Style.LongString Within.Plain) else before TokenKind.QuotedSymbol))
-        (λ t. run p os t)) e) ∙ f in
-        absurd cc
+    third o os false f = cc
 
     by : (os : List ℕ) → run p (39 ∷ 39 ∷ os) (blank colon now used) ≡ Next s → ⊥
     by [] f = let n : true ≡ false = ap (λ (x : Known). is_quoting x.mode) (next_is _ s f) ∙ q in cc
-    by (o ∷ os) f = third o os (o == 39) refl f
+    by (o ∷ os) f = third o os (o == 39) f
 
 -- the end of the input ends no long text
 long_end : (p : Place) (s : Known) (x : Lexeme) (m : Mode) → is_long_text m ≡ true → ends_at s (end_of p m) ≡ Ok (Some x) → ⊥
@@ -234,16 +230,13 @@ quotes_first colon k octets w more t r b plain blanks e = by more (subst (Is t.p
     found_long (Next s) h (inr i) = absurd (plain i.1)
     found_long (Refused n f) h i = absurd i
 
-    third : (o : ℕ) (os : List ℕ) (b : Bool) → (o == 39) ≡ b → Is p x (run p (o ∷ os) two) → begins_as_long (t ∷ []) ≡ true
-    third o os true f i = found_long (run p os long) (long_run p os long refl)
-        (subst (λ b. Is p x (follow (acts p two o (if b then go_on (Mode.Text Style.LongString Within.Plain) else before TokenKind.QuotedSymbol))
-        (λ t. run p os t))) f i)
-    third o os false f i =
-        let h = subst (λ b. Is p x (follow (acts p two o (if b then go_on (Mode.Text Style.LongString Within.Plain) else before TokenKind.QuotedSymbol))
-        (λ t. run p os t))) f i in
-        wide (record { start = used; end = used + 1 + 1 - 0; kind = TokenKind.QuotedSymbol; octets = [] }) refl refl (omega arith) h
+    third : (o : ℕ) (os : List ℕ) (b : Bool)
+        → Is p x (follow (acts p two o (if b then go_on (Mode.Text Style.LongString Within.Plain) else before TokenKind.QuotedSymbol)) (λ t. run p os t))
+        → begins_as_long (t ∷ []) ≡ true
+    third o os true i = found_long (run p os long) (long_run p os long refl) i
+    third o os false i = wide (record { start = used; end = used + 1 + 1 - 0; kind = TokenKind.QuotedSymbol; octets = [] }) refl refl (omega arith) i
 
     by : (more : List ℕ) → Is p x (run p more two) → begins_as_long (t ∷ []) ≡ true
     by [] (inl i) = wide (record { start = used; end = used + 1 + 1; kind = TokenKind.QuotedSymbol; octets = [] }) refl refl (omega arith) (ap (lexeme_of x) i)
     by [] (inr i) = absurd (plain i.1)
-    by (o ∷ os) i = third o os (o == 39) refl i
+    by (o ∷ os) i = third o os (o == 39) i
