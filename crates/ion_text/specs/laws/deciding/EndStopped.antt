@@ -1,7 +1,7 @@
 -- Where a row of the table stands that the end shows, the end refuses for the row's reason, unless an item became too long before.
 use Rattle.std.proofs.Common.{◌≡◌, ℕ, ◌+◌, nat_le, Bool, true, false, ◌||◌, List, [], ◌∷◌, ◌++◌, length, Result, Ok, Err, Option, Some, None, IfErr, refl, sym, ap, ◌∙◌, subst, append_assoc, length-append, arith, ◌⊎◌, inl, inr, codes}
 use Rattle.std.proofs.lemmas.Bool.{cond_both, false_from_ne_true}
-use Rattle.ion_text.specs.Names.{Are, AwaitsColons, BlankThen, Catalog, Content, EndDecides, Given, HasRow, IsIdReason, IsTableReason, Known, Leading, Left, Lexeme, LexesTo, Limits, Mark, Next, Now, Place, Placed, Reading, Reason, Refusal, State, TokenKind, Turn, Value, annotated, at, at_end, bad_table, begun, continues, eats, end_fails, end_late, end_now, end_ready, end_said, end_settled, end_turned, end_waiting, ends_of, fails, feed, gives, goes, initial, is_idle, is_quoting, is_sane, is_top, keyword_as_annotation, keyword_as_name, late, line_feed, no_symbol, null_table, other_version, place, reaches, reads, refused_of, refuses, run, run_on, said_body, settle, settle_same, settled, struct_too_deep, token_of, too_deep, trace, turn, under, uses, waits_now, with_scan}
+use Rattle.ion_text.specs.Names.{Are, AwaitsColons, BlankThen, Catalog, Content, EndDecides, Given, HasRow, IsIdReason, IsTableReason, Known, Leading, Left, Lexeme, LexesTo, Limits, Mark, Next, Now, Place, Placed, Reading, Reason, Refusal, State, TokenKind, Turn, Value, annotated, at, at_end, bad_table, begun, continues, eats, end_fails, end_late, end_now, end_ready, end_said, end_settled, end_turned, end_waiting, ends_of, fails, feed, gives, goes, initial, is_idle, is_quoting, is_sane, is_top, late, line_feed, no_symbol, null_table, place, reaches, reads, refused_of, refuses, run, run_on, said_body, settle, settle_same, settled, struct_too_deep, token_of, too_deep, trace, turn, under, uses, waits_now, with_scan}
 use Rattle.ion_model.specs.declared.value.Payload.TheVariants as payloads
 use Rattle.ion_tokens.proofs.runs.Runs.{feed_used}
 use Rattle.ion_symtab.specs.laws.Reasons.{next_fails, resolve_fails}
@@ -48,14 +48,12 @@ table_shallow _ h = tt
 
 shallow : (g : Catalog) (l : Limits) (u : List ℕ) (e : Reason) → EndDecides g l u e → IsShallow e
 shallow g l u _ (no_symbol ts c ks id e shown h why) = id_shallow e (subst (λ r. IfErr r IsIdReason) why (resolve_fails c id))
-shallow g l u _ (keyword_as_name ts c ks said shown h k) = tt
-shallow g l u _ (keyword_as_annotation ts colons c ks said shown h there k says) = tt
-shallow g l u _ (other_version ts c w shown h none version other) = tt
 shallow g l u _ (null_table ts c ss k e shown h table why) =
     table_shallow e (subst (λ r. IfErr r IsTableReason) why (next_fails c (annotated ss (payloads.Null k)) g))
 shallow g l u _ (too_deep ts c ks said shown h there opens deep) = absurd shown
 shallow g l u _ (struct_too_deep ts c ks shown h there deep) = absurd shown
 shallow g l u _ (bad_table ts c ss ms e shown h table why) = absurd shown
+shallow g l u _ _ = tt
 
 -- in these octets `::` may follow up to the end
 data Awaiting : Known → List ℕ → Type 0 where

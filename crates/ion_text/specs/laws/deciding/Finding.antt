@@ -39,12 +39,9 @@ acts_there p s o (Action.Give TokenKind.Word k) h = absurd cc
 acts_there p s o (Action.Give TokenKind.KindName k) h = absurd cc
 acts_there p s o (Action.Give (TokenKind.Mark Mark.FieldsOpen) k) h = absurd cc
 acts_there p s o (Action.Give _ k) h = (λ b. b, refl)
-acts_there p s o (Action.Go m k) h = tt
-acts_there p s o (Action.Refuse e) h = tt
-acts_there p s o (Action.Before kind k m) h = tt
-acts_there p s o (Action.Split n) h = tt
 acts_there p s o Action.EndBlob h = blob_there s (blob_of s.kept)
 acts_there p s o Action.EndWord h = cond_both ((o == 46) && bytes_eq s.kept (codes "null")) _ _ EndsThere (λ e. tt) (λ e. tt)
+acts_there p s o _ h = tt
 
 pub ends_there : (p : Place) (s : Known) (o : ℕ) → EndsThere (feed p s o)
 ends_there p s o = acts_there p s o (next p s.colon s.mode o) (by_rows_where (λ m. true) (λ sexp m. gives_shown) (λ c t. refl) p s.colon s.mode o refl)

@@ -96,11 +96,9 @@ blob_letters s None = tt
 acts_letters : (p : Place) (s : Known) (o : ℕ) (a : Action) → begins_none a ≡ true → LeavesLetters (acts p s o a)
 acts_letters p s o (Action.Before kind k m) h = λ e. absurd (never (begins_none (Action.Before kind k m)) (ap (λ n. begins_none (Action.Before kind k n)) e) h)
 acts_letters p s o (Action.Split n) h = λ e. (n, refl)
-acts_letters p s o (Action.Go m k) h = tt
-acts_letters p s o (Action.Give kind k) h = tt
-acts_letters p s o (Action.Refuse e) h = tt
 acts_letters p s o Action.EndBlob h = blob_letters s (blob_of s.kept)
 acts_letters p s o Action.EndWord h = cond_both ((o == 46) && bytes_eq s.kept (codes "null")) _ _ LeavesLetters (λ i. tt) (λ i e. absurd cc)
+acts_letters p s o _ h = tt
 
 letters_left : (p : Place) (s : Known) (o : ℕ) → LeavesLetters (feed p s o)
 letters_left p s o = acts_letters p s o (next p s.colon s.mode o)

@@ -1,7 +1,7 @@
 -- An octet that is refused for a reason that rows have is refused by one of them.
 use Rattle.std.proofs.Common.{◌≡◌, ℕ, zero, suc, ◌+◌, nat_le, nat_lt, true, false, ◌&&◌, not, List, [], ◌∷◌, ◌++◌, length, take, Result, Ok, Err, Some, refl, sym, ap, ◌∙◌, subst, append_assoc, ◌⊎◌, inl, inr}
 use Rattle.std.proofs.lemmas.Bool.{cond_both}
-use Rattle.ion_text.specs.Names.{Catalog, Content, Continues, Decides, Effect, Frame, Given, HasRow, Held, IsBody, Known, Leading, Left, Lexeme, Limits, Mark, Mark', Next, NoColons, Now, Outcome, Payload, Place, Placed, Reading, Reason, Refusal, Refused, Run, Scanned, Slot, Spot, State, Symbols, TokenKind, Turn, Value, at, begun, behind_given, behind_left, by_octet, eats, fails, feed, fresh, gives, goes, held_payload, in_segment, is_colons, is_fresh, is_idle, is_top, late, leaves, noticed, on_now, on_octet, on_said, on_scan, on_settled, once_more, or_worse, paid, place, plain, reaches, reason_number, refuses, released, run, run_on, said, said_body, said_passes, settle, settle_same, shut, spot_at, system_slots, takes, tells, token_of, trace, turn, under, unsettled, uses, waits, waits_now, with_scan}
+use Rattle.ion_text.specs.Names.{Catalog, Content, Continues, Decides, Effect, Frame, Given, HasRow, Held, IsBody, Known, Leading, Left, Lexeme, Limits, Mark, Mark', Next, NoColons, Now, Outcome, Payload, Place, Placed, Reading, Reason, Refusal, Refused, Run, Scanned, Slot, Spot, State, Symbols, TokenKind, Turn, Value, at, begun, behind_given, behind_left, by_octet, eats, fails, feed, fresh, gives, goes, held_payload, in_segment, is_colons, is_fresh, is_idle, is_top, late, leaves, noticed, on_now, on_octet, on_said, on_scan, on_settled, once_more, or_worse, paid, place, plain, reaches, reason_number, refuses, released, run, run_on, said, said_body, said_passes, settle, settle_same, shut, spot_at, system_slots, takes, token_of, trace, turn, under, unsettled, waits, waits_now, with_scan}
 use Rattle.ion_tokens.proofs.runs.Scans.{placed, scanned_left}
 use Rattle.ion_text.specs.laws.deciding.Lates.{GivesNoBare, LateAs, NotLate, TurnLate, ended_late, feed_rowless, late_quiet, noticed_quiet, said_rowless, turn_late, version_quiet, within_late}
 use Rattle.ion_text.specs.laws.deciding.Shows.{BareSaid, IsBare, Shown, flag, given_bare, given_shown, left_shown, no_colons, said_bare}
@@ -241,17 +241,15 @@ module _ (g : Catalog) (l : Limits) where
         (eats_after g l u vs n o b)
       where
         again : (x : Effect) → Rows u o x → (once_more to (λ n. run g l (to + 1) n []) x).now ≡ Err r → HasRow r.reason → Decides g l (u ++ o ∷ []) r.reason
-        again (uses m) h e i = absurd cc
-        again (tells v m) h e i = absurd cc
         again (leaves v m) h e i = unexpected (ap (reason_in Reason.Unexpected) e) i
         again (fails y) h e i = named_so y (ap (reason_in y) e) h i
+        again _ h e i = absurd cc
 
         by : (x : Effect) → Rows u o x → After g l u vs o x → (run_on to (λ n. eats g l n o) (λ n. run g l (to + 1) n []) x).now ≡ Err r → HasRow r.reason
             → Decides g l (u ++ o ∷ []) r.reason
-        by (uses m) h a e i = absurd cc
-        by (tells v m) h a e i = absurd cc
         by (fails y) h a e i = named_so y (ap (reason_in y) e) h i
         by (leaves v m) h a e i = again (eats g l m o) (takes_rows u o (vs ++ v ∷ []) 3 m.scan m.reading a.0 a.1 a.2 (λ top. h)) e i
+        by _ h a e i = absurd cc
 
   ran_rows : (u : List ℕ) (o : ℕ) (r : Refusal) (given : List (Value × ℕ)) (now : Result State Refusal) (n : State)
       → StoodBehind g l u [] (record { given = given; now = now }) → EndsWaiting g l now → now ≡ Ok n

@@ -2,7 +2,7 @@
 -- became too long before.
 use Rattle.std.proofs.Common.{◌≡◌, ℕ, ◌+◌, ◌<◌, ◌≤◌, nat_le, Bool, true, false, ◌||◌, List, [], ◌∷◌, ◌++◌, length, Result, Err, IfErr, refl, sym, ap, ◌∙◌, subst, append_assoc, append-nil, length-append, arith, if◌then◌else◌, ◌⊎◌, inl, inr, codes}
 use Rattle.std.proofs.lemmas.Bool.{cond_both, false_from_ne_true}
-use Rattle.ion_text.specs.Names.{Are, BlankThen, Catalog, Decides, Effect, Given, HasRow, IsIdReason, IsTableReason, Known, Left, LexesTo, Limits, Mark, Mode, Next, NoColons, Outcome, Place, Placed, Reading, Reason, Refusal, Refused, Sight, State, TokenKind, Turn, annotated, bad_table, begun, eats, fails, feed, follow, followed, initial, is_idle, is_sane, keyword_as_annotation, keyword_as_name, late, no_symbol, noticed, null_table, on_scan, on_settled, other_version, reaches, reads, reason_number, refuses, run, run_on, scan, settle, struct_too_deep, symbol_waits, takes, too_deep, uses, with_scan}
+use Rattle.ion_text.specs.Names.{Are, BlankThen, Catalog, Decides, Effect, Given, HasRow, IsIdReason, IsTableReason, Known, Left, LexesTo, Limits, Mark, Mode, Next, NoColons, Outcome, Place, Placed, Reading, Reason, Refusal, Refused, Sight, State, TokenKind, Turn, annotated, bad_table, begun, eats, fails, feed, follow, followed, initial, is_idle, is_sane, late, no_symbol, noticed, null_table, on_scan, on_settled, reaches, reads, reason_number, refuses, run, run_on, scan, settle, symbol_waits, takes, uses, with_scan}
 use Rattle.ion_model.specs.declared.value.Payload.TheVariants as payloads
 use Rattle.ion_tokens.proofs.complete.Moves.{at}
 use Rattle.ion_tokens.proofs.complete.Wholes.{run_behind}
@@ -43,15 +43,11 @@ table_row _ h = absurd h
 -- a row's reason is one that rows have
 pub has_row : (g : Catalog) (l : Limits) (sight : Sight) (e : Reason) → Gives g l sight e → HasRow e
 has_row g l sight _ (no_symbol ts c ks id e shown h why) = id_row e (subst (λ r. IfErr r IsIdReason) why (resolve_fails c id))
-has_row g l sight _ (keyword_as_name ts c ks said shown h k) = tt
-has_row g l sight _ (keyword_as_annotation ts colons c ks said shown h there k says) = tt
-has_row g l sight _ (other_version ts c w shown h none version other) = tt
 has_row g l sight _ (null_table ts c ss k e shown h table why) =
     table_row e (subst (λ r. IfErr r IsTableReason) why (next_fails c (annotated ss (payloads.Null k)) g))
-has_row g l sight _ (too_deep ts c ks said shown h there opens deep) = tt
-has_row g l sight _ (struct_too_deep ts c ks shown h there deep) = tt
 has_row g l sight _ (bad_table ts c ss ms e shown h table why) =
     table_row e (subst (λ r. IfErr r IsTableReason) why (next_fails c (annotated ss (payloads.Fields ms)) g))
+has_row g l sight _ _ = tt
 
 -- 2. What comes of so many octets, of which the last one shows a row of this reason.
 

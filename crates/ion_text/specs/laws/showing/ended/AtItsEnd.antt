@@ -3,7 +3,7 @@ use Rattle.std.proofs.Common.{◌≡◌, ℕ, zero, suc, ◌+◌, ◌-◌, Bool,
 use Rattle.std.specs.Prelude.{◌==◌, bytes_eq, codes}
 use Rattle.std.proofs.lemmas.List.{append_cancel_left}
 use Rattle.std.proofs.lemmas.Bool.{cond_both, true≢false}
-use Rattle.ion_text.specs.Names.{Action, Catalog, Content, Effect, End, Frame, Given, Keep, Known, Left, Lexeme, Limits, Mark, Mode, Next, Now, Number, Outcome, Place, Reading, ReadsNumber, Reason, Refusal, Refused, Run, Slot, State, Style, Symbols, TokenKind, Turn, Value, Within, acts, at, at_end, begins_value, begins_word, begun, behind_given, behind_left, cut, eats, end_of, end_ready, end_said, end_settled, end_turned, end_waiting, ends_at, ends_of, fails, feed, gives, go_to, goes, in_blank, is_digit, is_fresh, is_idle, is_name, is_operator_octet, is_sexp, is_stop, is_top, is_white, is_word_octet, late, leaves, noticed, number_read, number_reads, number_said, on_octet, on_said, on_scan, on_settled, or_worse, past, place, plain, reaches, refuses, run, run-append, run_on, said, settle, shut, takes, tells, then_run, token_of, trace, turn, unsettled, uses, with_scan}
+use Rattle.ion_text.specs.Names.{Action, Catalog, Content, Effect, End, Frame, Given, Keep, Known, Left, Lexeme, Limits, Mark, Mode, Next, Now, Number, Outcome, Place, Reading, ReadsNumber, Reason, Refusal, Refused, Run, Slot, State, Symbols, TokenKind, Turn, Value, acts, at, at_end, begins_value, begins_word, begun, behind_given, behind_left, cut, eats, end_of, end_ready, end_said, end_settled, end_turned, end_waiting, ends_at, ends_of, fails, feed, gives, goes, in_blank, is_digit, is_fresh, is_idle, is_name, is_operator_octet, is_sexp, is_stop, is_top, is_white, is_word_octet, late, leaves, noticed, number_read, number_reads, number_said, on_octet, on_said, on_scan, on_settled, or_worse, place, plain, reaches, refuses, run, run-append, run_on, said, settle, shut, takes, tells, then_run, token_of, trace, turn, unsettled, uses, with_scan}
 use Rattle.ion_tokens.specs.machine.Table.{next}
 use Rattle.ion_tokens.specs.laws.Numerals.{number_without_slash}
 use Rattle.ion_tokens.proofs.sound.TurnsWords.{slash_in}
@@ -20,9 +20,7 @@ LeavesValue v _ = Unit {0}
 
 worse_value : (v : Value) (e : Reason) (x : Effect) → LeavesValue v (or_worse e x)
 worse_value v e (fails f) = tt
-worse_value v e (uses m) = tt
-worse_value v e (tells w m) = tt
-worse_value v e (leaves w m) = tt
+worse_value v e _ = tt
 
 -- no token ended before the octet
 abbrev NoneLeft : Outcome → Type 0
@@ -105,38 +103,9 @@ same_left p s o x c top plain h says = go s.mode plain h
     behind : (kind : TokenKind) → cut s kind s.kept s.used ≡ x → IsLeft x (acts p s o (Action.Before kind Keep.Nothing Mode.Blank))
     behind kind e = (ap (cut s kind s.kept) (let n : s.used - 0 ≡ s.used = omega arith in n) ∙ e, refl)
 
-    word : (b : Bool) → cut s TokenKind.Word s.kept s.used ≡ x → IsLeft x
-        (cond b (Next (go_to s Mode.KindName [])) (Left (cut s TokenKind.Word s.kept s.used) (past p TokenKind.Word Mode.Blank [] s.used s.used)))
-    word true e = tt
-    word false e = (e, refl)
-
-    words : (b : Bool) → cut s TokenKind.Word s.kept s.used ≡ x → IsLeft x (acts p s o (cond b (Action.Go Mode.Word (Keep.One o)) Action.EndWord))
-    words true e = tt
-    words false e = word ((o == 46) && bytes_eq s.kept (codes "null")) e
-
-    names : (b : Bool) → cut s TokenKind.KindName s.kept s.used ≡ x
-        → IsLeft x (acts p s o (cond b (Action.Go Mode.KindName (Keep.One o)) (Action.Before TokenKind.KindName Keep.Nothing Mode.Blank)))
-    names true e = tt
-    names false e = behind TokenKind.KindName e
-
-    numbers : (b d : Bool) → cut s TokenKind.Number s.kept s.used ≡ x
-        → IsLeft x (acts p s o (cond b (Action.Before TokenKind.Number Keep.Nothing Mode.Blank)
-        (cond d (Action.Go Mode.NumberSlash Keep.Nothing) (Action.Go Mode.Number (Keep.One o)))))
-    numbers true d e = behind TokenKind.Number e
-    numbers false true e = tt
-    numbers false false e = tt
-
-    quotes : (b : Bool) → cut s TokenKind.QuotedSymbol s.kept s.used ≡ x
-        → IsLeft x (acts p s o (cond b (Action.Go (Mode.Text Style.LongString Within.Plain) Keep.Nothing)
-        (Action.Before TokenKind.QuotedSymbol Keep.Nothing Mode.Blank)))
-    quotes true e = tt
-    quotes false e = behind TokenKind.QuotedSymbol e
-
-    colons : (b : Bool) → cut s (TokenKind.Mark Mark.Colon) s.kept s.used ≡ x
-        → IsLeft x (acts p s o (cond b (Action.Give (TokenKind.Mark Mark.Colons) Keep.Nothing)
-        (Action.Before (TokenKind.Mark Mark.Colon) Keep.Nothing Mode.Blank)))
-    colons true e = tt
-    colons false e = behind (TokenKind.Mark Mark.Colon) e
+    -- where an octet does the one or the other
+    either_left : (b : Bool) (y z : Action) → IsLeft x (acts p s o y) → IsLeft x (acts p s o z) → IsLeft x (acts p s o (cond b y z))
+    either_left b y z h k = cond_both b y z (λ a. IsLeft x (acts p s o a)) (λ e. h) (λ e. k)
 
     cut_is : (y : Lexeme) → Path (Result (Option Lexeme) Reason) (Ok (Some y)) (Ok (Some x)) → y ≡ x
     cut_is y e = cc
@@ -150,12 +119,15 @@ same_left p s o x c top plain h says = go s.mode plain h
     go Mode.Slash i e = absurd (operator (is_sexp p) (Keep.One 47) top e)
     go (Mode.Operator y) i e = absurd (operator (is_sexp p) Keep.Nothing top e)
     go Mode.OperatorSlash i e = absurd (operator (is_sexp p) (Keep.One 47) top e)
-    go Mode.Word i e = words (is_word_octet o) (cut_is (cut s TokenKind.Word s.kept s.used) e)
-    go Mode.KindName i e = names (is_word_octet o) (cut_is (cut s TokenKind.KindName s.kept s.used) e)
-    go Mode.Number i e = numbers (is_stop o) (o == 47) (cut_is (cut s TokenKind.Number s.kept s.used) e)
+    go Mode.Word i e =
+        let same = cut_is (cut s TokenKind.Word s.kept s.used) e in
+        either_left (is_word_octet o) _ _ tt (cond_both ((o == 46) && bytes_eq s.kept (codes "null")) _ _ (IsLeft x) (λ k. tt) (λ k. (same, refl)))
+    go Mode.KindName i e = either_left (is_word_octet o) _ _ tt (behind TokenKind.KindName (cut_is (cut s TokenKind.KindName s.kept s.used) e))
+    go Mode.Number i e =
+        either_left (is_stop o) _ _ (behind TokenKind.Number (cut_is (cut s TokenKind.Number s.kept s.used) e)) (either_left (o == 47) _ _ tt tt)
     go Mode.NumberSlash i e = absurd (slashed (cut_is (cut s TokenKind.Number (s.kept ++ 47 ∷ []) s.used) e))
-    go Mode.Quotes i e = quotes (o == 39) (cut_is (cut s TokenKind.QuotedSymbol s.kept s.used) e)
-    go Mode.Colon i e = colons (o == 58) (cut_is (cut s (TokenKind.Mark Mark.Colon) s.kept s.used) e)
+    go Mode.Quotes i e = either_left (o == 39) _ _ tt (behind TokenKind.QuotedSymbol (cut_is (cut s TokenKind.QuotedSymbol s.kept s.used) e))
+    go Mode.Colon i e = either_left (o == 58) _ _ tt (behind (TokenKind.Mark Mark.Colon) (cut_is (cut s (TokenKind.Mark Mark.Colon) s.kept s.used) e))
     go _ i e = absurd cc
 
 -- a turn gives this value

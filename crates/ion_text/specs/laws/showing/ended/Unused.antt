@@ -1,8 +1,8 @@
 -- Where the end of the octets would give a value, the next octet isn't used to give one: what shows that a value has ended isn't part of it.
-use Rattle.std.proofs.Common.{◌≡◌, ℕ, zero, suc, ◌+◌, Bool, true, false, cond, ◌&&◌, not, nat_le, nat_lt, List, [], ◌∷◌, Result, Ok, Err, Option, Some, None, refl, sym, ap, ◌∙◌, subst, ◌⊎◌, inl, inr, if◌then◌else◌}
+use Rattle.std.proofs.Common.{◌≡◌, ℕ, zero, suc, ◌+◌, Bool, true, false, ◌&&◌, not, nat_le, nat_lt, List, [], ◌∷◌, Result, Ok, Err, Option, Some, None, refl, sym, ap, ◌∙◌, subst, ◌⊎◌, inl, inr, if◌then◌else◌}
 use Rattle.std.proofs.lemmas.Bool.{cond_both}
 use Rattle.std.specs.Prelude.{◌==◌, bytes_eq, codes}
-use Rattle.ion_text.specs.Names.{Action, Blob, Bracket, Catalog, Clob, Content, Effect, Frame, Given, Held, Id, Known, Left, Lexeme, Limits, Long, Mark, Mark', Mode, Next, Now, Number', Operator, Outcome, Payload, Place, Placed, Quoted, Reading, Reason, Refused, Setting, Short, Slot, Spot, State, Symbols, Token, TokenKind, Turn, TypedNull, Value, Word, acts, annotated, at, at_end, begun_at, behind_given, behind_left, beyond_depth, blob_ends, blob_of, cut, cut_short, end_of, end_ready, end_said, end_settled, end_turned, end_waiting, ended, ends_at, fails, feed, first_now, fresh, gives, go_to, goes, held_payload, held_symbol, is_fresh, is_idle, is_mark, is_table, is_top, late, leaves, next as next_context, noted, noticed, number_payload, on_long, on_octet, on_pending, on_ready, on_said, on_scan, on_settled, opened, opening, or_worse, paid, past, place, reaches, refuses, released, resolve, resolved, said, said_body, settle, shut, spot_at, system_slots, takes, tells, token_of, turn, turned, under, unsettled, uses, with_scan, within}
+use Rattle.ion_text.specs.Names.{Action, Blob, Bracket, Catalog, Clob, Content, Effect, Frame, Given, Held, Id, Known, Left, Lexeme, Limits, Long, Mark, Mark', Mode, Next, Now, Number', Operator, Outcome, Payload, Place, Placed, Quoted, Reading, Reason, Refused, Setting, Short, Slot, Spot, State, Symbols, Token, TokenKind, Turn, TypedNull, Value, Word, acts, annotated, at, at_end, begun_at, behind_given, behind_left, beyond_depth, blob_ends, blob_of, cut_short, end_of, end_ready, end_said, end_settled, end_turned, end_waiting, ended, ends_at, fails, feed, first_now, fresh, gives, goes, held_payload, held_symbol, is_fresh, is_idle, is_mark, is_table, is_top, late, next as next_context, noted, noticed, number_payload, on_long, on_octet, on_pending, on_ready, on_said, on_scan, on_settled, opened, opening, or_worse, paid, place, reaches, refuses, released, resolve, resolved, said, said_body, settle, shut, spot_at, system_slots, takes, tells, token_of, turn, turned, under, unsettled, with_scan, within}
 use Rattle.ion_model.specs.declared.value.Payload.TheVariants as payloads
 use Rattle.ion_tokens.specs.machine.Table.{next}
 use Rattle.ion_tokens.specs.laws.ByRows.{by_rows_where}
@@ -50,12 +50,7 @@ acts_plainly : (p : Place) (s : Known) (o : ℕ) (a : Action) → plainly a ≡ 
 acts_plainly p s o (Action.Go m k) h = tt
 acts_plainly p s o (Action.Give kind k) h = h
 acts_plainly p s o (Action.Before kind k m) h = parts (is_opening kind) (is_plain m) h
-acts_plainly p s o Action.EndWord h = word ((o == 46) && bytes_eq s.kept (codes "null"))
-  where
-    word : (b : Bool) → IsPlainly (cond b (Next (go_to s Mode.KindName []))
-        (Left (cut s TokenKind.Word s.kept s.used) (past p TokenKind.Word Mode.Blank [] s.used s.used)))
-    word true = tt
-    word false = (refl, refl)
+acts_plainly p s o Action.EndWord h = cond_both ((o == 46) && bytes_eq s.kept (codes "null")) _ _ IsPlainly (λ e. tt) (λ e. (refl, refl))
 acts_plainly p s o (Action.Split n) h = (refl, refl)
 acts_plainly p s o Action.EndBlob h = blob (blob_of s.kept)
   where
@@ -220,9 +215,7 @@ IsUntold _ = Unit {0}
 
 worse_untold : (e : Reason) (x : Effect) → IsUntold (or_worse e x)
 worse_untold e (fails f) = tt
-worse_untold e (uses m) = tt
-worse_untold e (tells v m) = tt
-worse_untold e (leaves v m) = tt
+worse_untold e _ = tt
 
 module _ (g : Catalog) (l : Limits) where
   noticed_untold : (r : Reading) (s : Known) → IsUntold (noticed l r s)

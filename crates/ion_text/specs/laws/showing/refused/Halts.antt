@@ -1,7 +1,7 @@
 -- An octet that is refused: what stands for the octets before it once it has ended tokens and values, and what refuses it there.
 use Rattle.std.proofs.Common.{◌≡◌, ℕ, zero, suc, Bool, true, false, List, [], ◌∷◌, ◌++◌, Result, Ok, Err, refl, sym, ap, ◌∙◌, subst, ◌⊎◌, inl, inr}
 use Rattle.std.proofs.lemmas.Bool.{false_from_ne_true}
-use Rattle.ion_text.specs.Names.{Catalog, Content, Continues, Effect, Given, IsUsed, Known, Leading, Left, Lexeme, Limits, Mark, Mode, Next, Outcome, Place, Reading, Reason, Refused, Scanned, State, TokenKind, Turn, Value, behind_given, behind_left, ends_long, fails, feed, gives, goes, is_colons, is_fresh, is_idle, is_mark, is_quoting, is_sane, is_sexp, is_top, late, leaves, noticed, on_said, on_scan, or_worse, place, refuses, said, said_body, settle, symbol_waits, takes, takes_colon, tells, token_of, turn, unsettled, uses, with_scan}
+use Rattle.ion_text.specs.Names.{Catalog, Content, Continues, Effect, Given, IsUsed, Known, Leading, Left, Lexeme, Limits, Mark, Mode, Next, Outcome, Place, Reading, Reason, Refused, Scanned, State, TokenKind, Turn, Value, behind_given, behind_left, ends_long, fails, feed, gives, goes, is_colons, is_fresh, is_idle, is_mark, is_quoting, is_sane, is_sexp, is_top, late, leaves, noticed, on_said, on_scan, or_worse, place, refuses, said, said_body, settle, symbol_waits, takes, takes_colon, token_of, turn, unsettled, with_scan}
 use Rattle.ion_text.specs.laws.reading.complete.Fuel.{Leaving, NotLeaves, Twice, UsedHere, UsedThen, feed_leaves, given_stays, noticed_stays, said_stays}
 use Rattle.ion_text.specs.laws.reading.complete.Going.{closes_kind, never_top, top_place}
 use Rattle.ion_text.specs.laws.reading.complete.Meets.{IdleLeft, finely_as, follows_as, idle_left, is_long_text}
@@ -104,23 +104,19 @@ module _ (g : Catalog) (l : Limits) where
     module _ (vs : List Value) where
       -- where the octet ends a value before it, or is refused, this is what stands for the octets then
       abbrev pub Chain : Effect → Type 0
-      Chain (uses m) = Unit {0}
-      Chain (tells v m) = Unit {0}
       Chain (leaves v m) = GaveBefore (vs ++ v ∷ []) m
       Chain (fails e) = Halted vs
+      Chain _ = Unit {0}
 
       chain_by : (x : Effect) → NotLeaves g l x → ((e : Reason) → x ≡ fails e → Halted vs) → Chain x
-      chain_by (uses m) n f = tt
-      chain_by (tells v m) n f = tt
       chain_by (leaves v m) n f = absurd n
       chain_by (fails e) n f = f e refl
+      chain_by _ n f = tt
 
       -- an octet that is refused late is refused where the reader stands, whatever it does then
       pub worse_chain : (e : Reason) (x : Effect) → Halted vs → Chain (or_worse e x)
       worse_chain e (fails f) h = h
-      worse_chain e (uses m) h = h
-      worse_chain e (tells v m) h = h
-      worse_chain e (leaves v m) h = h
+      worse_chain e _ h = h
 
       -- where a token is left, none is open behind it at the top level
       pub left_idle : (s t : Known) (r : Reading) (x : Lexeme) (c : Content) → is_sane s.mode ≡ true → Fine s → feed (place r) s o ≡ Left x t

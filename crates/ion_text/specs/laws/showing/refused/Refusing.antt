@@ -97,10 +97,9 @@ module _ (g : Catalog) (l : Limits) where
     where
       go : (x : Effect) → Chain g l u o (vs ++ v ∷ []) x → NotLeaves g l x → (once_more to (λ n. run g l (to + 1) n []) x).now ≡ Err r
           → Halted g l u o (vs ++ v ∷ plain (once_more to (λ n. run g l (to + 1) n []) x).given)
-      go (uses k) c n e = absurd cc
-      go (tells y k) c n e = absurd cc
       go (leaves y k) c n e = absurd n
       go (fails y) c n e = c
+      go _ c n e = absurd cc
 
   ran_stood : (u : List ℕ) (given : List (Value × ℕ)) (now : Result State Refusal) (n : State) → StoodBehind g l u [] (record { given = given; now = now })
       → EndsStill g l now → EndsWaiting g l now → now ≡ Ok n → (o : ℕ) → Chain g l u o (plain given) (eats g l n o)

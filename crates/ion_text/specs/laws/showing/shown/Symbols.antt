@@ -156,9 +156,7 @@ module _ (g : Catalog) (l : Limits) where
 
     worse_still : (e : Reason) (x : Effect) → StillBehind o (or_worse e x)
     worse_still e (fails f) = tt
-    worse_still e (uses m) = tt
-    worse_still e (tells v m) = tt
-    worse_still e (leaves v m) = tt
+    worse_still e _ = tt
 
     given_still : (s : Known) (t : Turn) → Leading g l (λ n. is_fresh n ≡ true → s.colon ≡ false) t → StillBehind o (behind_given l s t)
     given_still s (goes r) h = noticed_still r s (λ f c. absurd (never s.colon (h f) c))

@@ -1,8 +1,8 @@
 -- Where no octet is refused, the open item is within the limit on items, as far as it is known to go.
-use Rattle.std.proofs.Common.{◌≡◌, ℕ, zero, suc, ◌+◌, ◌≤◌, nat_le, List, [], ◌∷◌, Bool, true, false, ◌&&◌, not, Result, Ok, Err, Option, Some, None, refl, sym, subst, arith, if◌then◌else◌}
+use Rattle.std.proofs.Common.{◌≡◌, ℕ, zero, suc, ◌+◌, ◌≤◌, nat_le, List, [], ◌∷◌, true, ◌&&◌, not, Result, Ok, Err, Option, Some, None, refl, sym, subst, arith, if◌then◌else◌}
 use Rattle.std.proofs.lemmas.Bool.{cond_both}
 use Rattle.std.specs.Prelude.{◌-◌, ◌==◌, bytes_eq, codes}
-use Rattle.ion_text.specs.Names.{Action, Catalog, Content, Effect, Frame, Given, Known, Left, Limits, Mode, Next, Now, Outcome, Place, Reading, Reason, Refusal, Refused, State, Symbols, TokenKind, Turn, acts, at, begun, begun_in, behind, behind_given, behind_left, blob_ends, blob_of, cut, eats, fails, feed, form_of, gives, go_to, goes, is_fresh, is_idle, is_long_begun, is_top, late, leaves, longest_top, noticed, on_octet, on_said, on_scan, on_settled, once_more, or_worse, past, place, reaches, refuses, run, run_on, said, settle, shut, takes, tells, token_of, turn, unsettled, uses, waits, with_scan}
+use Rattle.ion_text.specs.Names.{Action, Catalog, Content, Effect, Frame, Given, Known, Left, Limits, Mode, Next, Now, Outcome, Place, Reading, Reason, Refusal, Refused, State, Symbols, Turn, acts, at, begun, begun_in, behind, behind_given, behind_left, blob_ends, blob_of, eats, fails, feed, form_of, gives, goes, is_fresh, is_idle, is_long_begun, is_top, late, leaves, longest_top, noticed, on_octet, on_said, on_scan, on_settled, once_more, or_worse, place, reaches, refuses, run, run_on, said, settle, shut, takes, tells, token_of, turn, unsettled, uses, waits, with_scan}
 use Rattle.ion_tokens.specs.machine.Table.{next}
 use Rattle.ion_text.specs.laws.reading.complete.Accepts.{SettledCalm, idle_calm, settle_settled, turn_ok, waits_calm}
 use Rattle.ion_text.specs.laws.reading.complete.Going.{TopOk}
@@ -21,14 +21,9 @@ blob_idle : (s : Known) (b : Option (List ℕ)) → IdleBehind (blob_ends s b)
 blob_idle s None = tt
 blob_idle s (Some b) = tt
 
-word_idle : (p : Place) (s : Known) (b : Bool) → IdleBehind
-    (if b then Next (go_to s Mode.KindName []) else Left (cut s TokenKind.Word s.kept s.used) (past p TokenKind.Word Mode.Blank [] s.used s.used))
-word_idle p s true = tt
-word_idle p s false = tt
-
 acts_idle : (p : Place) (s : Known) (o : ℕ) (a : Action) → IdleBehind (acts p s o a)
 acts_idle p s o (Action.Give kind k) = refl
-acts_idle p s o Action.EndWord = word_idle p s ((o == 46) && bytes_eq s.kept (codes "null"))
+acts_idle p s o Action.EndWord = cond_both ((o == 46) && bytes_eq s.kept (codes "null")) _ _ IdleBehind (λ e. tt) (λ e. tt)
 acts_idle p s o Action.EndBlob = blob_idle s (blob_of s.kept)
 acts_idle p s o _ = tt
 
@@ -53,9 +48,7 @@ module _ (g : Catalog) (l : Limits) where
 
   worse_within : (e : Reason) (x : Effect) → WithinBehind (or_worse e x)
   worse_within e (fails f) = tt
-  worse_within e (uses m) = tt
-  worse_within e (tells v m) = tt
-  worse_within e (leaves v m) = tt
+  worse_within e _ = tt
 
   -- where nothing is open
   fresh_within : (s : Known) (r : Reading) → is_fresh r ≡ true → is_idle s.mode ≡ true → Within (with_scan s r)

@@ -1,9 +1,9 @@
 -- Octets behind which `::`, or `''`, stands behind what waits at the top level.
-use Rattle.std.proofs.Common.{◌≡◌, ℕ, true, false, ◌||◌, List, [], ◌∷◌, ◌++◌, refl, sym, ap, ◌∙◌, arith, append_assoc, append-nil, codes}
+use Rattle.std.proofs.Common.{◌≡◌, ℕ, true, false, ◌||◌, List, [], ◌∷◌, ◌++◌, refl, sym, ap, ◌∙◌, arith, append_assoc, append-nil, codes, Bool}
 use Rattle.ion_text.specs.Names.{AreOctets, BlankPiece, BlankThen, BlockComment, IsBlank, IsBlankPiece, Known, LineComment, Mode, Place, Style, blank_spelling, is_idle, is_quoting}
 use Rattle.ion_tokens.proofs.complete.Moves.{at}
 use Rattle.ion_tokens.proofs.histories.Escapes.{Escape, Escapes, Goes, Grows, are_octets}
-use Rattle.ion_tokens.proofs.sound.Holds.{InMode, blank_more}
+use Rattle.ion_tokens.proofs.sound.Holds.{InMode, IsOpenBlock, blank_more}
 
 -- octets that show that no token has ended, and behind which these stand behind a blank
 pub record Closing (s : Known) (since more : List ℕ) : Type 0 where
@@ -40,42 +40,51 @@ line_then c more = ap (λ l. 47 ∷ 47 ∷ l) (sym (append_assoc c (10 ∷ []) m
 block_then : (c more : List ℕ) → (codes "/*" ++ c) ++ (42 ∷ 47 ∷ more) ≡ blank_spelling (BlockComment c) ++ more
 block_then c more = ap (λ l. 47 ∷ 42 ∷ l) (sym (append_assoc c (42 ∷ 47 ∷ []) more))
 
+-- what ends a blank that is open
+abbrev ends_blank : Mode → List ℕ
+ends_blank Mode.Slash = codes "**/"
+ends_blank Mode.LineComment = 10 ∷ []
+ends_blank Mode.BlockComment = codes "*/"
+ends_blank Mode.BlockCommentStar = codes "*/"
+ends_blank _ = []
+
 module _ (k : ℕ) (kept : List ℕ) (start used : ℕ) (since : List ℕ) where
+  module _ (colon : Bool) (more : List ℕ) where
+    -- octets that end the blank, and then these
+    abbrev ClosesBlank : Mode → Type 0
+    ClosesBlank m = InMode Place.Top colon k m kept start since → AreOctets (ends_blank m ++ more)
+        → Escapes Place.Top (at m kept colon start used) (ends_blank m ++ more) → Closing (at m kept colon start used) since more
+
+    closes : (m : Mode) → (InMode Place.Top colon k m kept start since → BlankThen more (since ++ (ends_blank m ++ more))) → ClosesBlank m
+    closes m shows h are escapes = record { octets = ends_blank m ++ more; are = are; escapes = escapes; shows = shows h }
+
+    after_blank : ClosesBlank Mode.Blank
+    after_blank = closes Mode.Blank (λ h. then_front since since [] more more [] h.1 (sym (append-nil since)) (sym (append-nil more)))
+
+    after_slash : ClosesBlank Mode.Slash
+    after_slash = closes Mode.Slash (λ h. then_piece since h.1 (47 ∷ []) (codes "**/" ++ more) more (BlockComment []) h.2 tt h.3 refl)
+
+    after_line : ClosesBlank Mode.LineComment
+    after_line = closes Mode.LineComment (λ h. let c = h.1 in then_piece since c.front (codes "//" ++ c.octets) (10 ∷ more) more (LineComment c.octets 10)
+        c.blank (c.one_line, refl) (c.cut ∙ append_assoc c.front (codes "//") c.octets) (line_then c.octets more))
+
+    block_shows : (star : Bool) → IsOpenBlock since star → BlankThen more (since ++ (codes "*/" ++ more))
+    block_shows star c = then_piece since c.front (codes "/*" ++ c.octets) (codes "*/" ++ more) more (BlockComment c.octets) c.blank c.no_close
+        (c.cut ∙ append_assoc c.front (codes "/*") c.octets) (block_then c.octets more)
+
   -- Behind a symbol `::` comes.
   pub colons_close : (m : Mode) → is_idle m ≡ true → InMode Place.Top true k m kept start since → Closing (at m kept true start used) since (codes "::")
-  colons_close Mode.Blank i h = record {
-    octets = 58 ∷ 58 ∷ [];
-    are = are_octets (58 ∷ 58 ∷ []) (refl, (refl, tt));
-    escapes = Grows _ _ refl (omega arith);
-    shows = then_front since since [] (58 ∷ 58 ∷ []) (codes "::") [] h.1 (sym (append-nil since)) refl;
-  }
-  colons_close Mode.Slash i (e, front, b, cut) = record {
-    octets = 42 ∷ 42 ∷ 47 ∷ 58 ∷ 58 ∷ [];
-    are = are_octets (42 ∷ 42 ∷ 47 ∷ 58 ∷ 58 ∷ []) (refl, (refl, (refl, (refl, (refl, tt)))));
-    escapes = Grows _ _ refl (omega arith);
-    shows = then_piece since front (47 ∷ []) (42 ∷ 42 ∷ 47 ∷ 58 ∷ 58 ∷ []) (codes "::") (BlockComment []) b tt cut refl;
-  }
-  colons_close Mode.LineComment i (e, c) = record {
-    octets = 10 ∷ 58 ∷ 58 ∷ [];
-    are = are_octets (10 ∷ 58 ∷ 58 ∷ []) (refl, (refl, (refl, tt)));
-    escapes = Grows _ _ refl (omega arith);
-    shows = then_piece since c.front (codes "//" ++ c.octets) (10 ∷ 58 ∷ 58 ∷ []) (codes "::") (LineComment c.octets 10) c.blank (c.one_line, refl)
-        (c.cut ∙ append_assoc c.front (codes "//") c.octets) (line_then c.octets (58 ∷ 58 ∷ []));
-  }
-  colons_close Mode.BlockComment i (e, c) = record {
-    octets = 42 ∷ 47 ∷ 58 ∷ 58 ∷ [];
-    are = are_octets (42 ∷ 47 ∷ 58 ∷ 58 ∷ []) (refl, (refl, (refl, (refl, tt))));
-    escapes = Grows _ _ refl (omega arith);
-    shows = then_piece since c.front (codes "/*" ++ c.octets) (42 ∷ 47 ∷ 58 ∷ 58 ∷ []) (codes "::") (BlockComment c.octets) c.blank c.no_close
-        (c.cut ∙ append_assoc c.front (codes "/*") c.octets) (block_then c.octets (58 ∷ 58 ∷ []));
-  }
-  colons_close Mode.BlockCommentStar i (e, c) = record {
-    octets = 42 ∷ 47 ∷ 58 ∷ 58 ∷ [];
-    are = are_octets (42 ∷ 47 ∷ 58 ∷ 58 ∷ []) (refl, (refl, (refl, (refl, tt))));
-    escapes = Grows _ _ refl (omega arith);
-    shows = then_piece since c.front (codes "/*" ++ c.octets) (42 ∷ 47 ∷ 58 ∷ 58 ∷ []) (codes "::") (BlockComment c.octets) c.blank c.no_close
-        (c.cut ∙ append_assoc c.front (codes "/*") c.octets) (block_then c.octets (58 ∷ 58 ∷ []));
-  }
+  colons_close Mode.Blank i h = after_blank true (codes "::") h (are_octets (codes "::") (refl, (refl, tt))) (Grows _ _ refl (omega arith))
+  colons_close Mode.Slash i h =
+      after_slash true (codes "::") h (are_octets (codes "**/::") (refl, (refl, (refl, (refl, (refl, tt)))))) (Grows _ _ refl (omega arith))
+  colons_close Mode.LineComment i h =
+      after_line true (codes "::") h (are_octets (10 ∷ codes "::") (refl, (refl, (refl, tt)))) (Grows _ _ refl (omega arith))
+  colons_close Mode.BlockComment i h =
+      closes true (codes "::") Mode.BlockComment (λ c. block_shows true (codes "::") false c.1) h
+      (are_octets (codes "*/::") (refl, (refl, (refl, (refl, tt))))) (Grows _ _ refl (omega arith))
+  colons_close Mode.BlockCommentStar i h =
+      closes true (codes "::") Mode.BlockCommentStar (λ c. block_shows true (codes "::") true c.1) h
+      (are_octets (codes "*/::") (refl, (refl, (refl, (refl, tt))))) (Grows _ _ refl (omega arith))
   colons_close Mode.Colon i h = record {
     octets = 58 ∷ [];
     are = are_octets (58 ∷ []) (refl, tt);
@@ -98,39 +107,17 @@ module _ (k : ℕ) (kept : List ℕ) (start used : ℕ) (since : List ℕ) where
   -- Behind a long string `''` comes.
   pub quotes_close : (m : Mode) → (is_idle m || is_quoting m) ≡ true → Escape Place.Top (at m kept false start used)
       → InMode Place.Top false k m kept start since → Closing (at m kept false start used) since (codes "''")
-  quotes_close Mode.Blank i e h = record {
-    octets = 39 ∷ 39 ∷ [];
-    are = are_octets (39 ∷ 39 ∷ []) (refl, (refl, tt));
-    escapes = Goes _ refl (omega arith) (λ x. cc);
-    shows = then_front since since [] (39 ∷ 39 ∷ []) (codes "''") [] h.1 (sym (append-nil since)) refl;
-  }
-  quotes_close Mode.Slash i x (e, front, b, cut) = record {
-    octets = 42 ∷ 42 ∷ 47 ∷ 39 ∷ 39 ∷ [];
-    are = are_octets (42 ∷ 42 ∷ 47 ∷ 39 ∷ 39 ∷ []) (refl, (refl, (refl, (refl, (refl, tt)))));
-    escapes = Goes _ refl (omega arith) (λ x. cc);
-    shows = then_piece since front (47 ∷ []) (42 ∷ 42 ∷ 47 ∷ 39 ∷ 39 ∷ []) (codes "''") (BlockComment []) b tt cut refl;
-  }
-  quotes_close Mode.LineComment i x (e, c) = record {
-    octets = 10 ∷ 39 ∷ 39 ∷ [];
-    are = are_octets (10 ∷ 39 ∷ 39 ∷ []) (refl, (refl, (refl, tt)));
-    escapes = Goes _ refl (omega arith) (λ x. cc);
-    shows = then_piece since c.front (codes "//" ++ c.octets) (10 ∷ 39 ∷ 39 ∷ []) (codes "''") (LineComment c.octets 10) c.blank (c.one_line, refl)
-        (c.cut ∙ append_assoc c.front (codes "//") c.octets) (line_then c.octets (39 ∷ 39 ∷ []));
-  }
-  quotes_close Mode.BlockComment i x (e, c) = record {
-    octets = 42 ∷ 47 ∷ 39 ∷ 39 ∷ [];
-    are = are_octets (42 ∷ 47 ∷ 39 ∷ 39 ∷ []) (refl, (refl, (refl, (refl, tt))));
-    escapes = Goes _ refl (omega arith) (λ x. cc);
-    shows = then_piece since c.front (codes "/*" ++ c.octets) (42 ∷ 47 ∷ 39 ∷ 39 ∷ []) (codes "''") (BlockComment c.octets) c.blank c.no_close
-        (c.cut ∙ append_assoc c.front (codes "/*") c.octets) (block_then c.octets (39 ∷ 39 ∷ []));
-  }
-  quotes_close Mode.BlockCommentStar i x (e, c) = record {
-    octets = 42 ∷ 47 ∷ 39 ∷ 39 ∷ [];
-    are = are_octets (42 ∷ 47 ∷ 39 ∷ 39 ∷ []) (refl, (refl, (refl, (refl, tt))));
-    escapes = Goes _ refl (omega arith) (λ x. cc);
-    shows = then_piece since c.front (codes "/*" ++ c.octets) (42 ∷ 47 ∷ 39 ∷ 39 ∷ []) (codes "''") (BlockComment c.octets) c.blank c.no_close
-        (c.cut ∙ append_assoc c.front (codes "/*") c.octets) (block_then c.octets (39 ∷ 39 ∷ []));
-  }
+  quotes_close Mode.Blank i x h = after_blank false (codes "''") h (are_octets (codes "''") (refl, (refl, tt))) (Goes _ refl (omega arith) (λ x. cc))
+  quotes_close Mode.Slash i x h =
+      after_slash false (codes "''") h (are_octets (codes "**/''") (refl, (refl, (refl, (refl, (refl, tt)))))) (Goes _ refl (omega arith) (λ x. cc))
+  quotes_close Mode.LineComment i x h =
+      after_line false (codes "''") h (are_octets (10 ∷ codes "''") (refl, (refl, (refl, tt)))) (Goes _ refl (omega arith) (λ x. cc))
+  quotes_close Mode.BlockComment i x h =
+      closes false (codes "''") Mode.BlockComment (λ c. block_shows false (codes "''") false c.1) h
+      (are_octets (codes "*/''") (refl, (refl, (refl, (refl, tt))))) (Goes _ refl (omega arith) (λ x. cc))
+  quotes_close Mode.BlockCommentStar i x h =
+      closes false (codes "''") Mode.BlockCommentStar (λ c. block_shows false (codes "''") true c.1) h
+      (are_octets (codes "*/''") (refl, (refl, (refl, (refl, tt))))) (Goes _ refl (omega arith) (λ x. cc))
   quotes_close Mode.Colon i x h = absurd (let never : false ≡ true = (h.is).2 in cc)
   quotes_close Mode.Quote i x h = record {
     octets = 39 ∷ [];

@@ -1,7 +1,8 @@
 -- Where tokens end in octets, where the blank behind them ends, and what may stand there.
-use Rattle.std.proofs.Common.{◌≡◌, ℕ, ◌+◌, Bool, true, false, List, [], ◌∷◌, ◌++◌, length, refl, sym, ap, ◌∙◌, subst, arith, append_assoc, append-nil, length-append, Result, Ok, Err, Option, Some, None, ◌⊎◌, inl, inr, if◌then◌else◌}
+use Rattle.std.proofs.Common.{◌≡◌, ℕ, ◌+◌, Bool, true, false, List, [], ◌∷◌, ◌++◌, length, refl, sym, ap, ◌∙◌, subst, arith, append_assoc, append-nil, length-append, Result, Ok, Err, Option, Some, None, ◌⊎◌, inl, inr}
+use Rattle.std.proofs.lemmas.Bool.{cond_both}
 use Rattle.std.specs.Prelude.{◌==◌, ◌&&◌, bytes_eq, codes}
-use Rattle.ion_text.specs.Names.{Action, BeginsWith, Continues, Given, IsAhead, IsBlank, Known, Left, Lexeme, LexesTo, Mode, Next, Outcome, Place, Placed, Reason, Refused, Scanned, TokenKind, acts, at_end, blob_ends, blob_of, colon_behind, cut as token_cut, feed, followed, go_to, is_idle, is_sane, past, scan as run, start_of, takes_colon}
+use Rattle.ion_text.specs.Names.{Action, BeginsWith, Continues, Given, IsAhead, IsBlank, Known, Left, Lexeme, LexesTo, Mode, Next, Outcome, Place, Placed, Reason, Refused, Scanned, TokenKind, acts, at_end, blob_ends, blob_of, colon_behind, feed, followed, is_idle, is_sane, scan as run, start_of, takes_colon}
 use Rattle.ion_tokens.specs.machine.Table.{next}
 use Rattle.ion_tokens.proofs.complete.Found.{FindsUpTo, Gives, Last, Leaves, Unclosed}
 use Rattle.ion_tokens.proofs.complete.Moves.{at, blank}
@@ -92,14 +93,9 @@ blob_keeps : (p : Place) (s : Known) (b : Option (List ℕ)) → Keeps p s (blob
 blob_keeps p s None = tt
 blob_keeps p s (Some b) = (refl, refl)
 
-word_keeps : (p : Place) (s : Known) (b : Bool) → Keeps p s
-    (if b then Next (go_to s Mode.KindName []) else Left (token_cut s TokenKind.Word s.kept s.used) (past p TokenKind.Word Mode.Blank [] s.used s.used))
-word_keeps p s true = (refl, refl)
-word_keeps p s false = (refl, refl, refl)
-
 acts_keeps : (p : Place) (s : Known) (o : ℕ) (a : Action) → Keeps p s (acts p s o a)
 acts_keeps p s o (Action.Go m k) = (refl, refl)
-acts_keeps p s o Action.EndWord = word_keeps p s ((o == 46) && bytes_eq s.kept (codes "null"))
+acts_keeps p s o Action.EndWord = cond_both ((o == 46) && bytes_eq s.kept (codes "null")) _ _ (Keeps p s) (λ e. (refl, refl)) (λ e. (refl, refl, refl))
 acts_keeps p s o Action.EndBlob = blob_keeps p s (blob_of s.kept)
 acts_keeps p s o (Action.Refuse e) = tt
 acts_keeps p s o _ = (refl, refl, refl)

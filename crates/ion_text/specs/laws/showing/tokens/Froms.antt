@@ -223,9 +223,7 @@ module _ (g : Catalog) (l : Limits) where
 
   worse_waits : (e : Reason) (x : Effect) → WaitsBehind (or_worse e x)
   worse_waits e (fails f) = tt
-  worse_waits e (uses m) = tt
-  worse_waits e (tells v m) = tt
-  worse_waits e (leaves v m) = tt
+  worse_waits e _ = tt
 
   given_waits : (s : Known) (t : Turn) → is_idle s.mode ≡ true → WaitsBehind (behind_given l s t)
   given_waits s (goes r) i = noticed_waits r s (idle_waits s r.now i)
