@@ -98,12 +98,10 @@ module _ (g : Catalog) (l : Limits) where
   begun_from : (n start begin : ℕ) (c : List Slot) (fs : List Frame) (ss : Symbols) (now : Now) → n ≤ begin → From n (at start c fs ss now)
       → n ≤ start_now now start begin fs ss
   begun_from n start begin c [] [] Now.Ready k q = k
-  begun_from n start begin c [] (s ∷ ss) Now.Ready k (ok, inl f) = absurd cc
   begun_from n start begin c [] (s ∷ ss) Now.Ready k (ok, inr h) = h
-  begun_from n start begin c (x ∷ fs) [] Now.Ready k (ok, inl f) = absurd cc
   begun_from n start begin c (x ∷ fs) [] Now.Ready k (ok, inr h) = h
-  begun_from n start begin c (x ∷ fs) (s ∷ ss) Now.Ready k (ok, inl f) = absurd cc
   begun_from n start begin c (x ∷ fs) (s ∷ ss) Now.Ready k (ok, inr h) = h
+  begun_from n start begin c _ _ Now.Ready k (ok, inl f) = absurd cc
   begun_from n start begin c fs ss now k q = open_from n start c fs ss now (λ e. cc) q
 
   turn_from : (n : ℕ) (r : Reading) (t : Token) → n ≤ t.start → From n r → Leading g l (From n) (turn g l r t)

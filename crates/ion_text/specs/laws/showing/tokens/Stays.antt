@@ -451,9 +451,7 @@ module _ (g : Catalog) (l : Limits) where
       (long_name_arrives c xs ms fs d.before deep d.outer ss (Now.LongName w) (λ e. cc) (λ w. w) d.name w refl d.is)
   arrived c (Frame.Fields xs ms ∷ fs) ss (Now.Keyed s) ts deep d new =
       subst (Arrived c (Frame.Fields xs ms ∷ fs) ss (Now.Keyed s)) (sym d.whole) (keyed_arrives c xs ms fs d.before deep d.outer ss s d.name d.is)
-  arrived c [] ss Now.Name ts deep d new = absurd (d.1)
-  arrived c (Frame.Items listing xs vs ∷ fs) ss Now.Name ts deep d new = absurd (d.1)
-  arrived c (Frame.Named xs vs s ∷ fs) ss Now.Name ts deep d new = absurd (d.1)
+  arrived c _ ss Now.Name ts deep d new = absurd (d.1)
   arrived c _ ss _ ts deep d new = absurd d.struct
 
   -- and those of pieces before it
