@@ -1,19 +1,17 @@
 -- What the marks of containers do.
-use Rattle.std.proofs.Common.{◌≡◌, List, [], ◌∷◌, refl}
+use Rattle.std.proofs.Common.{◌≡◌, List, ◌∷◌, refl}
 use Rattle.ion_text.specs.Names.{Bracket, Field, Frame, Listing, Mark, Mark', Setting, Spot, Symbols, Value, closed, on_ready, open_mark, opening, unexpected}
 
 -- where a value may come, the mark of an open opens
 pub open_turns : (bracket : Bracket) (setting : Setting) (spot : Spot) (fs : List Frame) (ss : Symbols)
     → on_ready setting spot fs ss (Mark' (open_mark bracket)) ≡ opening bracket setting.limits.depth spot.start spot.context fs ss
 open_turns Bracket.List setting spot fs ss = refl
-open_turns Bracket.Sexp setting spot fs ss = refl
-open_turns Bracket.Fields setting spot fs ss = refl
+open_turns _ setting spot fs ss = refl
 
 -- what opens a container is no `::`
 pub no_colons : (bracket : Bracket) → Mark' (open_mark bracket) ≡ Mark' Mark.Colons → ⊥
 no_colons Bracket.List e = cc
-no_colons Bracket.Sexp e = cc
-no_colons Bracket.Fields e = cc
+no_colons _ e = cc
 
 -- a close ends the innermost container, or isn't expected
 pub data Closes : Bracket → List Frame → Type 0 where
@@ -27,14 +25,4 @@ pub closes_or_not : (bracket : Bracket) (fs : List Frame) → Closes bracket fs
 closes_or_not Bracket.List (Frame.Items Listing.List ss vs ∷ fs) = ends_list ss vs fs
 closes_or_not Bracket.Sexp (Frame.Items Listing.Sexp ss vs ∷ fs) = ends_sexp ss vs fs
 closes_or_not Bracket.Fields (Frame.Fields ss ms ∷ fs) = ends_struct ss ms fs
-closes_or_not Bracket.List [] = ends_none _ _ (λ setting spot. refl)
-closes_or_not Bracket.List (Frame.Items Listing.Sexp ss vs ∷ fs) = ends_none _ _ (λ setting spot. refl)
-closes_or_not Bracket.List (Frame.Fields ss ms ∷ fs) = ends_none _ _ (λ setting spot. refl)
-closes_or_not Bracket.List (Frame.Named ss ms s ∷ fs) = ends_none _ _ (λ setting spot. refl)
-closes_or_not Bracket.Sexp [] = ends_none _ _ (λ setting spot. refl)
-closes_or_not Bracket.Sexp (Frame.Items Listing.List ss vs ∷ fs) = ends_none _ _ (λ setting spot. refl)
-closes_or_not Bracket.Sexp (Frame.Fields ss ms ∷ fs) = ends_none _ _ (λ setting spot. refl)
-closes_or_not Bracket.Sexp (Frame.Named ss ms s ∷ fs) = ends_none _ _ (λ setting spot. refl)
-closes_or_not Bracket.Fields [] = ends_none _ _ (λ setting spot. refl)
-closes_or_not Bracket.Fields (Frame.Items listing ss vs ∷ fs) = ends_none _ _ (λ setting spot. refl)
-closes_or_not Bracket.Fields (Frame.Named ss ms s ∷ fs) = ends_none _ _ (λ setting spot. refl)
+closes_or_not _ _ = ends_none _ _ (λ setting spot. refl)

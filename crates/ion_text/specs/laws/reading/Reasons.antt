@@ -1,7 +1,8 @@
 -- Why octets are refused: for their own sake.
 use Rattle.std.proofs.Common.{◌≡◌, ℕ, zero, suc, ◌+◌, nat_le, nat_lt, List, [], ◌∷◌, length, Bool, true, false, cond, ◌&&◌, not, Result, Ok, Err, Option, Some, None, refl, ap, sym, subst, if◌then◌else◌, ◌⊎◌, inl, inr}
 use Rattle.std.specs.Prelude.{◌==◌}
-use Rattle.ion_text.specs.Names.{Blob, Bracket, Catalog, Clob, Content, Effect, End, Frame, Given, Held, Id, IsBody, IsWordBody, Keep, Kind, Known, Left, Lexeme, Limits, Listing, Long, Mark, Mark', Mode, Next, Now, Number', Operator, Outcome, Payload, Place, Quoted, Reading, ReadsNumber, Reason, Refusal, Refused, Run, Setting, Short, Slot, Spot, State, Symbols, Token, TokenKind, Turn, TypedNull, Value, Word, at, at_end, bare_close, begun, begun_at, behind_given, behind_left, closed, cut_short, deeper, eats, end_late, end_now, end_of, end_ready, end_said, end_settled, end_turned, end_waiting, ended, ends_at, ends_of, fails, feed, follow, fresh, gives, goes, held_payload, held_symbol, id_of, is_fresh, is_idle, is_keyword, is_sexp, is_table, keyed, kind_named, late, leaves, lesser, named, next, noted, noticed, null_of, on_after, on_comma, on_keyed, on_long, on_long_name, on_name, on_pending, on_ready, on_said, on_scan, on_settled, once_more, or_worse, paid, place, reaches, reason_number, refused_of, refuses, released, resolve, resolved, run, run_on, said, says, settle, shut, spot_at, spot_in, takes, tells, token_at, token_of, trace, turn, turn_now, turned, under, unsettled, uses, with_scan, within}
+use Rattle.std.proofs.lemmas.Bool.{cond_both}
+use Rattle.ion_text.specs.Names.{Blob, Bracket, Catalog, Clob, Content, Effect, End, Frame, Given, Held, Id, IsBody, IsWordBody, Keep, Kind, Known, Left, Lexeme, Limits, Listing, Long, Mark, Mark', Mode, Next, Now, Number', Operator, Outcome, Payload, Place, Reading, ReadsNumber, Reason, Refusal, Refused, Run, Setting, Short, Slot, Spot, State, Symbols, Token, TokenKind, Turn, Value, Word, at, at_end, bare_close, begun, begun_at, behind_given, behind_left, closed, cut_short, deeper, eats, end_late, end_now, end_of, end_ready, end_said, end_settled, end_turned, end_waiting, ended, ends_at, ends_of, fails, feed, follow, fresh, gives, goes, held_payload, held_symbol, id_of, is_fresh, is_idle, is_keyword, is_sexp, is_table, keyed, kind_named, late, leaves, lesser, named, next, noted, noticed, null_of, on_after, on_comma, on_keyed, on_long, on_long_name, on_name, on_pending, on_ready, on_said, on_scan, on_settled, once_more, or_worse, paid, place, reaches, reason_number, refused_of, refuses, released, resolve, resolved, run, run_on, said, says, settle, shut, spot_at, spot_in, takes, tells, token_at, token_of, trace, turn, turn_now, turned, under, unsettled, uses, with_scan, within}
 use Rattle.ion_tokens.proofs.bounds.Causes.{IsFair, run_fair}
 use Rattle.ion_tokens.proofs.bounds.Fits.{is_octet_reason}
 use Rattle.ion_symtab.specs.Decided.{Decides, IsDecided}
@@ -9,17 +10,12 @@ use Rattle.ion_symtab.specs.laws.Decided.{next_decides, resolve_decides}
 use Rattle.ion_text.specs.laws.reading.Brackets.{Closes, closes_or_not, ends_list, ends_none, ends_sexp, ends_struct}
 
 abbrev pub TurnDecides : Turn → Type 0
-TurnDecides (goes r) = Unit {0}
-TurnDecides (gives v r) = Unit {0}
 TurnDecides (refuses e) = IsDecided e
 TurnDecides (late e r) = IsDecided e
+TurnDecides _ = Unit {0}
 
 within_decides : (item start end : ℕ) (t : Turn) → TurnDecides t → TurnDecides (within item start end t)
-within_decides item start end t h = go (nat_le end (start + item))
-  where
-    go : (b : Bool) → TurnDecides (if b then t else refuses Reason.ItemTooLong)
-    go true = h
-    go false = tt
+within_decides item start end t h = cond_both (nat_le end (start + item)) t (refuses Reason.ItemTooLong) TurnDecides (λ e. h) (λ e. tt)
 
 top_decides : (item start end : ℕ) (c : List Slot) (v : Value) (d : Result (List Slot) Reason) (b : Bool) → Decides d
     → TurnDecides (if b then turned item start end d else within item start end (gives v (fresh c)))
@@ -31,22 +27,15 @@ ended_decides : (setting : Setting) (spot : Spot) (fs : List Frame) (v : Value) 
 ended_decides setting spot [] v = top_decides setting.limits.item spot.start spot.end spot.context v (next spot.context v setting.catalog) (is_table v)
     (next_decides spot.context v setting.catalog)
 ended_decides setting spot (Frame.Items listing ss vs ∷ fs) v = tt
-ended_decides setting spot (Frame.Named ss ms s ∷ fs) v = tt
-ended_decides setting spot (Frame.Fields ss ms ∷ fs) v = tt
+ended_decides setting spot _ v = tt
 
 payload_decides : (h : Held) → Decides (held_payload h)
 payload_decides (Held.Symbol s) = tt
-payload_decides (Held.Version b s) = tt
-payload_decides (Held.Null k) = tt
-payload_decides (Held.Truth b) = tt
-payload_decides Held.Nan = tt
+payload_decides _ = tt
 
 symbol_decides : (h : Held) → Decides (held_symbol h)
 symbol_decides (Held.Symbol s) = tt
-symbol_decides (Held.Version b s) = tt
-symbol_decides (Held.Null k) = tt
-symbol_decides (Held.Truth b) = tt
-symbol_decides Held.Nan = tt
+symbol_decides _ = tt
 
 paid_decides : (setting : Setting) (spot : Spot) (fs : List Frame) (ss : Symbols) (q : Result Payload Reason) → Decides q
     → TurnDecides (paid setting spot fs ss q)
@@ -56,12 +45,10 @@ paid_decides setting spot fs ss (Err e) h = h
 released_decides : (setting : Setting) (spot : Spot) (fs : List Frame) (ss : Symbols) (h : Held) → TurnDecides (released setting spot fs ss h)
 released_decides setting spot [] [] (Held.Version true s) = within_decides setting.limits.item spot.start spot.end _ tt
 released_decides setting spot [] [] (Held.Version false s) = tt
-released_decides setting spot [] [] (Held.Symbol s) = paid_decides setting spot [] [] (held_payload (Held.Symbol s)) tt
-released_decides setting spot [] [] (Held.Null k) = paid_decides setting spot [] [] (held_payload (Held.Null k)) tt
-released_decides setting spot [] [] (Held.Truth b) = paid_decides setting spot [] [] (held_payload (Held.Truth b)) tt
 released_decides setting spot [] [] Held.Nan = tt
 released_decides setting spot [] (s ∷ ss) h = paid_decides setting spot [] (s ∷ ss) (held_payload h) (payload_decides h)
 released_decides setting spot (f ∷ fs) ss h = paid_decides setting spot (f ∷ fs) ss (held_payload h) (payload_decides h)
+released_decides setting spot [] [] h = paid_decides setting spot [] [] (held_payload h) tt
 
 resolved_decides : (r : Result (Option (List ℕ)) Reason) (f : Option (List ℕ) → Turn) → Decides r → ((s : Option (List ℕ)) → TurnDecides (f s))
     → TurnDecides (resolved r f)
@@ -69,11 +56,7 @@ resolved_decides (Ok s) f h k = k s
 resolved_decides (Err e) f h k = h
 
 deeper_decides : (depth : ℕ) (fs : List Frame) (t deep : Turn) → TurnDecides t → TurnDecides deep → TurnDecides (deeper depth fs t deep)
-deeper_decides depth fs t deep h k = go (nat_lt (length fs) depth)
-  where
-    go : (b : Bool) → TurnDecides (if b then t else deep)
-    go true = h
-    go false = k
+deeper_decides depth fs t deep h k = cond_both (nat_lt (length fs) depth) t deep TurnDecides (λ e. h) (λ e. k)
 
 closed_decides : (setting : Setting) (spot : Spot) (bracket : Bracket) (fs : List Frame) → TurnDecides (closed bracket setting spot fs)
 closed_decides setting spot bracket fs = by bracket fs (closes_or_not bracket fs)
@@ -90,11 +73,7 @@ bare_decides (s ∷ ss) t h = tt
 
 module _ (g : Catalog) (l : Limits) where
   ready_decides : (spot : Spot) (fs : List Frame) (ss : Symbols) (x : Content) → TurnDecides (on_ready (under g l) spot fs ss x)
-  ready_decides spot fs ss (Word w) = tt
   ready_decides spot fs ss (Id id) = resolved_decides (resolve spot.context id) _ (resolve_decides spot.context id) (λ s. tt)
-  ready_decides spot fs ss (Quoted w) = tt
-  ready_decides spot fs ss (TypedNull k) = tt
-  ready_decides spot fs ss (Long w) = tt
   ready_decides spot fs ss (Short w) = ended_decides (under g l) spot fs _
   ready_decides spot fs ss (Number' n) = ended_decides (under g l) spot fs _
   ready_decides spot fs ss (Operator w) = ended_decides (under g l) spot fs _
@@ -105,7 +84,7 @@ module _ (g : Catalog) (l : Limits) where
   ready_decides spot fs ss (Mark' Mark.FieldsOpen) = deeper_decides l.depth fs _ _ tt tt
   ready_decides spot fs ss (Mark' Mark.ListClose) = bare_decides ss _ (closed_decides (under g l) spot Bracket.List fs)
   ready_decides spot fs ss (Mark' Mark.SexpClose) = bare_decides ss _ (closed_decides (under g l) spot Bracket.Sexp fs)
-  ready_decides spot fs ss (Mark' _) = tt
+  ready_decides spot fs ss _ = tt
 
   noted_decides : (start : ℕ) (c : List Slot) (fs : List Frame) (ss : Symbols) (r : Result (Option (List ℕ)) Reason) → Decides r
       → TurnDecides (noted start c fs ss r)
@@ -122,10 +101,7 @@ module _ (g : Catalog) (l : Limits) where
 
   comma_decides : (start : ℕ) (c : List Slot) (fs : List Frame) → TurnDecides (on_comma start c fs)
   comma_decides start c (Frame.Items Listing.List ss vs ∷ fs) = tt
-  comma_decides start c (Frame.Fields ss ms ∷ fs) = tt
-  comma_decides start c (Frame.Items Listing.Sexp ss vs ∷ fs) = tt
-  comma_decides start c (Frame.Named ss ms s ∷ fs) = tt
-  comma_decides start c [] = tt
+  comma_decides start c _ = tt
 
   after_decides : (spot : Spot) (fs : List Frame) (x : Content) → TurnDecides (on_after (under g l) spot fs x)
   after_decides spot fs (Mark' Mark.Comma) = comma_decides spot.start spot.context fs
@@ -134,17 +110,10 @@ module _ (g : Catalog) (l : Limits) where
   after_decides spot fs _ = tt
 
   name_decides : (spot : Spot) (fs : List Frame) (x : Content) → TurnDecides (on_name (under g l) spot fs x)
-  name_decides spot fs (Word w) = go (is_keyword w)
-    where
-      go : (b : Bool) → TurnDecides (if b then late Reason.KeywordAsName (keyed spot.start spot.context fs (Some w)) else goes
-          (keyed spot.start spot.context fs (Some w)))
-      go true = tt
-      go false = tt
-  name_decides spot fs (TypedNull k) = tt
+  name_decides spot fs (Word w) =
+      let k = keyed spot.start spot.context fs (Some w) in
+      cond_both (is_keyword w) (late Reason.KeywordAsName k) (goes k) TurnDecides (λ e. tt) (λ e. tt)
   name_decides spot fs (Id id) = resolved_decides (resolve spot.context id) _ (resolve_decides spot.context id) (λ s. tt)
-  name_decides spot fs (Quoted w) = tt
-  name_decides spot fs (Short w) = tt
-  name_decides spot fs (Long w) = tt
   name_decides spot fs (Mark' Mark.FieldsClose) = closed_decides (under g l) spot Bracket.Fields fs
   name_decides spot fs _ = tt
 
@@ -154,9 +123,7 @@ module _ (g : Catalog) (l : Limits) where
 
   named_decides : (start : ℕ) (c : List Slot) (fs : List Frame) (s : Option (List ℕ)) → TurnDecides (named start c fs s)
   named_decides start c (Frame.Fields ss ms ∷ fs) s = tt
-  named_decides start c (Frame.Items listing ss vs ∷ fs) s = tt
-  named_decides start c (Frame.Named ss ms x ∷ fs) s = tt
-  named_decides start c [] s = tt
+  named_decides start c _ s = tt
 
   keyed_decides : (start : ℕ) (c : List Slot) (fs : List Frame) (s : Option (List ℕ)) (x : Content) → TurnDecides (on_keyed start c fs s x)
   keyed_decides start c fs s (Mark' Mark.Colon) = named_decides start c fs s
@@ -181,11 +148,7 @@ module _ (g : Catalog) (l : Limits) where
       go : (n : Now) → TurnDecides (settle g l (at r.start r.context r.frames r.notes n))
       go (Now.Pending h e) = released_decides (under g l) (spot_in r e) r.frames r.notes h
       go (Now.Long w e) = ended_decides (under g l) (spot_in r e) r.frames _
-      go (Now.LongName w) = tt
-      go Now.Ready = tt
-      go Now.After = tt
-      go Now.Name = tt
-      go (Now.Keyed s) = tt
+      go _ = tt
 
   -- what a scanner refuses for, and what a token that says nothing is refused for
 
@@ -222,13 +185,10 @@ module _ (g : Catalog) (l : Limits) where
   body_decided TokenKind.Word octets e h = word_decided octets (id_of octets) e h
   body_decided TokenKind.KindName octets e h = null_decided (kind_named octets) e h
   body_decided TokenKind.Number octets e h = number_decided octets e h
-  body_decided TokenKind.Operator octets e h = subst IsDecided (sym h.0) tt
-  body_decided TokenKind.QuotedSymbol octets e h = subst IsDecided (sym h.0) tt
-  body_decided TokenKind.ShortString octets e h = subst IsDecided (sym h.0) tt
-  body_decided TokenKind.LongString octets e h = subst IsDecided (sym h.0) tt
   body_decided TokenKind.Clob octets e h = absurd cc
   body_decided TokenKind.Blob octets e h = absurd cc
   body_decided (TokenKind.Mark m) octets e h = absurd cc
+  body_decided _ octets e h = subst IsDecided (sym h.0) tt
 
   said_decided : (k : TokenKind) (octets : List ℕ) (e : Reason) → said k octets ≡ Err e → IsDecided e
   said_decided k octets e h = body_decided k octets e (subst (IsBody k octets) h (says k octets))
@@ -243,22 +203,15 @@ module _ (g : Catalog) (l : Limits) where
     where
       go : (a b : Bool) → EffectDecides (if a then fails Reason.Unexpected else
           (if b then uses (record { scan = s; reading = r }) else fails Reason.ItemTooLong))
-      go true b = tt
       go false true = tt
-      go false false = tt
+      go _ _ = tt
 
   lesser_decides : (e f : Reason) → IsDecided e → IsDecided f → IsDecided (lesser e f)
-  lesser_decides e f h k = go (nat_lt (reason_number f) (reason_number e))
-    where
-      go : (b : Bool) → IsDecided (if b then f else e)
-      go true = k
-      go false = h
+  lesser_decides e f h k = cond_both (nat_lt (reason_number f) (reason_number e)) f e IsDecided (λ i. k) (λ i. h)
 
   worse_decides : (e : Reason) (x : Effect) → IsDecided e → EffectDecides x → EffectDecides (or_worse e x)
   worse_decides e (fails f) h k = lesser_decides e f h k
-  worse_decides e (uses m) h k = h
-  worse_decides e (tells v m) h k = h
-  worse_decides e (leaves v m) h k = h
+  worse_decides e _ h k = h
 
   given_decides : (s : Known) (t : Turn) → TurnDecides t → EffectDecides (behind_given l s t)
   given_decides s (goes r) h = noticed_decides r s
@@ -384,35 +337,24 @@ module _ (g : Catalog) (l : Limits) where
 
   mode_well : (p : Place) (s : Known) (m : Mode) → EndsWell (ends_at s (end_of p m))
   unfolding EndsWell
-  mode_well p s Mode.Blank = tt
-  mode_well p s Mode.LineComment = tt
   mode_well p s Mode.Slash = operator_well s (is_sexp p) (Keep.One 47)
   mode_well p s Mode.OperatorSlash = operator_well s (is_sexp p) (Keep.One 47)
   mode_well p s (Mode.Operator e) = operator_well s (is_sexp p) Keep.Nothing
-  mode_well p s Mode.Colon = tt
-  mode_well p s Mode.Word = tt
-  mode_well p s Mode.KindName = tt
-  mode_well p s Mode.Number = tt
-  mode_well p s Mode.NumberSlash = tt
-  mode_well p s Mode.Quotes = tt
-  mode_well p s Mode.Brace = tt
   mode_well p s (Mode.Infinity n) = float_well s (n == 3)
   mode_well p s Mode.BlockComment = inr refl
   mode_well p s Mode.BlockCommentStar = inr refl
   mode_well p s Mode.Quote = inr refl
   mode_well p s (Mode.Text t w) = inr refl
   mode_well p s (Mode.Lob k) = inr refl
+  mode_well p s _ = tt
 
   waiting_ends : (used : ℕ) (x : Result (Option Lexeme) Reason) (t : Turn) → TurnDecides t → AnswersAtEnd (end_waiting g l used x t)
   waiting_ends used (Ok None) t h = settled_ends used t h
-  waiting_ends used (Ok (Some x)) (goes r) h = inr refl
-  waiting_ends used (Ok (Some x)) (gives v r) h = inr refl
   waiting_ends used (Ok (Some x)) (refuses e) h = inl h
   waiting_ends used (Ok (Some x)) (late e r) h = late_ends used e h
-  waiting_ends used (Err y) (goes r) h = inr refl
-  waiting_ends used (Err y) (gives v r) h = inr refl
   waiting_ends used (Err y) (refuses e) h = inl h
   waiting_ends used (Err y) (late e r) h = late_ends used e h
+  waiting_ends used _ _ h = inr refl
 
   ready_ends : (used : ℕ) (r : Reading) (x : Result (Option Lexeme) Reason) → EndsWell x → AnswersAtEnd (end_ready g l used r x)
   unfolding EndsWell
@@ -424,10 +366,7 @@ module _ (g : Catalog) (l : Limits) where
   ends_decide used r x (Now.Pending h e) w = waiting_ends used x (settle g l r) (settle_decides r)
   ends_decide used r x (Now.Long v e) w = waiting_ends used x (settle g l r) (settle_decides r)
   ends_decide used r x (Now.LongName v) w = inr refl
-  ends_decide used r x Now.Ready w = ready_ends used r x w
-  ends_decide used r x Now.After w = ready_ends used r x w
-  ends_decide used r x Now.Name w = ready_ends used r x w
-  ends_decide used r x (Now.Keyed s) w = ready_ends used r x w
+  ends_decide used r x _ w = ready_ends used r x w
 
   of_now : (now : Result State Refusal) → NowDecides now → AnswersAtEnd (ends_of g l now)
   of_now (Ok m) h = ends_decide m.scan.used m.reading (at_end (place m.reading) m.scan) m.reading.now (mode_well (place m.reading) m.scan m.scan.mode)

@@ -1,7 +1,7 @@
 -- Where a run is refused, and what the refusal says.
 use Rattle.std.proofs.Common.{◌≡◌, ℕ, ◌+◌, ◌≤◌, List, [], ◌∷◌, ◌++◌, length, take, Bool, true, false, Result, Ok, Err, Option, Some, None, refl, ap, sym, ◌∙◌, subst, arith, append_assoc, append-nil, length-append, if◌then◌else◌}
 use Rattle.std.proofs.Math.Seq.{take-append-add}
-use Rattle.ion_text.specs.Names.{BeginsNone, Catalog, Content, Document, Effect, GivesNoTable, IsFirst, Lexeme, Limits, NoTables, Now, Reading, Reason, Refusal, Run, State, Turn, Value, at_end, begun, cut_short, eats, end_late, end_now, end_ready, end_said, end_settled, end_turned, end_waiting, ends_of, fails, gives, goes, grows, is_fresh, is_table, late, leaves, on_now, once_more, place, plain, refused_of, refuses, run, run-append, run_on, said, settle, tells, token_of, trace, turn, uses}
+use Rattle.ion_text.specs.Names.{BeginsNone, Catalog, Content, Document, Effect, GivesNoTable, IsFirst, Lexeme, Limits, NoTables, Now, Reading, Reason, Refusal, Run, State, Turn, Value, at_end, begun, cut_short, eats, end_late, end_now, end_ready, end_said, end_settled, end_turned, end_waiting, ends_of, fails, gives, goes, grows, is_fresh, is_table, late, leaves, on_now, once_more, place, plain, refused_of, refuses, run, run-append, run_on, said, settle, token_of, trace, turn}
 use Rattle.ion_tokens.proofs.histories.Ended.{stands_used}
 use Rattle.ion_tokens.proofs.runs.Runs.{next_used}
 use Rattle.ion_symtab.specs.laws.Promises.{first_refused}
@@ -74,16 +74,14 @@ module _ (g : Catalog) (l : Limits) where
   -- one octet is refused where it ends
   one_offset : (to o : ℕ) (r : Refusal) (x : Effect) → (run_on to (λ n. eats g l n o) (λ n. run g l (to + 1) n []) x).now ≡ Err r → r.offset ≡ to + 1
   unfolding offset_in
-  one_offset to o r (uses n) e = absurd cc
-  one_offset to o r (tells v n) e = absurd cc
   one_offset to o r (fails y) e = sym (ap (λ z. offset_in z 0) e)
   one_offset to o r (leaves v n) e = by (eats g l n o) e
     where
       by : (x : Effect) → (once_more to (λ n. run g l (to + 1) n []) x).now ≡ Err r → r.offset ≡ to + 1
-      by (uses k) e = absurd cc
-      by (tells w k) e = absurd cc
       by (leaves w k) e = sym (ap (λ z. offset_in z 0) e)
       by (fails y) e = sym (ap (λ z. offset_in z 0) e)
+      by _ e = absurd cc
+  one_offset to o r _ e = absurd cc
 
   pub stop_offset : (u : List ℕ) (r : Refusal) (p : Stop u r) → r.offset ≡ length p.before + 1
   stop_offset u r p =
@@ -167,14 +165,9 @@ module _ (g : Catalog) (l : Limits) where
   waiting_offset : (used : ℕ) (x : Result (Option Lexeme) Reason) (t : Turn) (r : Refusal) → end_waiting g l used x t ≡ Err r → r.offset ≡ used
   unfolding end_offset
   waiting_offset used (Ok None) t r h = settled_offset used t r h
-  waiting_offset used (Ok (Some x)) (goes n) r h = sym (ap (λ z. end_offset z 0) h)
-  waiting_offset used (Ok (Some x)) (gives v n) r h = sym (ap (λ z. end_offset z 0) h)
-  waiting_offset used (Ok (Some x)) (refuses e) r h = sym (ap (λ z. end_offset z 0) h)
   waiting_offset used (Ok (Some x)) (late e n) r h = late_offset used e r h
-  waiting_offset used (Err y) (goes n) r h = sym (ap (λ z. end_offset z 0) h)
-  waiting_offset used (Err y) (gives v n) r h = sym (ap (λ z. end_offset z 0) h)
-  waiting_offset used (Err y) (refuses e) r h = sym (ap (λ z. end_offset z 0) h)
   waiting_offset used (Err y) (late e n) r h = late_offset used e r h
+  waiting_offset used _ _ r h = sym (ap (λ z. end_offset z 0) h)
 
   ready_offset : (used : ℕ) (n : Reading) (x : Result (Option Lexeme) Reason) (r : Refusal) → end_ready g l used n x ≡ Err r → r.offset ≡ used
   unfolding end_offset
@@ -187,10 +180,7 @@ module _ (g : Catalog) (l : Limits) where
   now_offset used n x (Now.Pending k e) r h = waiting_offset used x (settle g l n) r h
   now_offset used n x (Now.Long w e) r h = waiting_offset used x (settle g l n) r h
   now_offset used n x (Now.LongName w) r h = sym (ap (λ z. end_offset z 0) h)
-  now_offset used n x Now.Ready r h = ready_offset used n x r h
-  now_offset used n x Now.After r h = ready_offset used n x r h
-  now_offset used n x Now.Name r h = ready_offset used n x r h
-  now_offset used n x (Now.Keyed k) r h = ready_offset used n x r h
+  now_offset used n x _ r h = ready_offset used n x r h
 
   unfinished_now : (u : List ℕ) (given : List (Value × ℕ)) (now : Result State Refusal) (r : Refusal)
       → StoodBehind g l u [] (record { given = given; now = now }) → refused_of now ≡ None → ends_of g l now ≡ Err r → r.offset ≡ length u

@@ -1,11 +1,11 @@
 -- The values of a document are such as the types keep, where the texts of the catalog are UTF-8; so they may be written.
 use Rattle.std.proofs.Common.{◌≡◌, ℕ, Bool, true, false, List, [], ◌∷◌, ◌++◌, Option, Some, subst, IsUtf8}
 use Rattle.std.proofs.lemmas.Str.{IsUtf8-append}
-use Rattle.ion_text.specs.Names.{Annotations, AreKept, AreTexts, Content, Document, Elements, Field, FitsIn, IsKept, IsName, IsScalar, IsSymbol, IsText, KeptFields, KeptItems, KeptPayload, Kind, Limits, Means, Members, NoTables, Payload, Pieces, Place, Placed, Plain, Row, Says, Segments, Slot, Table, Value, begins, by_long, by_short, by_symbol, comma, element, field, field_comma, holds, is_blob, is_clob, is_decimal, is_false, is_id, is_int, is_list, is_null, is_operator, is_short, is_struct, is_symbol, is_table, is_timestamp, is_true, is_typed_null, is_word, item, joined, kept, kept_blob, kept_clob, kept_decimal, kept_fields, kept_int, kept_list, kept_null, kept_sexp, kept_string, kept_symbol, kept_timestamp, kept_truth, long_string, marked, means, no_annotation, no_element, no_field, no_fields, no_item, no_items, one_annotation, one_token, segment, text_of, turns}
+use Rattle.ion_text.specs.Names.{Annotations, AreKept, AreTexts, Content, Document, Elements, Field, FitsIn, IsKept, IsName, IsScalar, IsSymbol, IsText, KeptFields, KeptItems, KeptPayload, Kind, Limits, Means, Members, NoTables, Payload, Pieces, Place, Placed, Plain, Row, Says, Segments, Slot, Table, Value, begins, by_long, by_short, by_symbol, comma, element, field, field_comma, holds, is_blob, is_clob, is_decimal, is_false, is_id, is_int, is_list, is_null, is_operator, is_short, is_struct, is_symbol, is_table, is_timestamp, is_true, is_typed_null, item, joined, kept, kept_blob, kept_clob, kept_decimal, kept_fields, kept_int, kept_list, kept_null, kept_sexp, kept_string, kept_symbol, kept_timestamp, kept_truth, long_string, marked, means, no_annotation, no_element, no_field, no_fields, no_item, no_items, one_annotation, one_token, segment, text_of, turns}
 use Rattle.ion_model.specs.laws.Kept.{fields_last, items_last, kept_last, texts_last}
 use Rattle.ion_tokens.specs.laws.TokensKept.{AreLobsKept, IsContentKept, IsLobKept, body_kept, lexes_lobs, lobs_front, lobs_rest}
 use Rattle.ion_symtab.specs.laws.ContextTexts.{AreTextSlots, AreTextTables, TextAnswer, next_texts, resolved_text, system_are_texts}
-use Rattle.ion_text.specs.Grammar.{is_quoted, is_sexp}
+use Rattle.ion_text.specs.Grammar.{is_sexp}
 use Rattle.ion_text.specs.laws.writing.RoundTrip.{round_trip}
 
 -- 1. The tokens of octets: what their lobs hold are octets.
@@ -22,9 +22,8 @@ segments_kept p _ _ l (joined ts v w t h k) = IsUtf8-append v w (segments_kept p
 
 module _ (c : List Slot) (texts : AreTextSlots c) where
   symbol_kept : (said : Content) (s : Option (List ℕ)) → IsContentKept said → IsSymbol c said s → IsText s
-  symbol_kept _ _ k (is_word w h) = k
   symbol_kept _ _ k (is_id n s e) = resolved_text c n s texts e
-  symbol_kept _ _ k (is_quoted w) = k
+  symbol_kept _ _ k _ = k
 
   name_kept : (ts : List Placed) (s : Option (List ℕ)) → AreLobsKept ts → IsName c ts s → IsText s
   name_kept _ _ l (by_symbol t said s h k) = symbol_kept said s (said_kept _ said t l.0 h) k

@@ -98,9 +98,8 @@ module _ (s : Style) (q : ℕ) (ascii : Bool) (b : Between s q ascii) where
   elements cs = map (element_of q ascii) cs
 
   no_crs : (cs : List ℕ) → CrTakesLf (elements cs)
-  no_crs [] = tt
-  no_crs (c ∷ []) = tt
   no_crs (c ∷ d ∷ cs) = (λ e. absurd (false≢true (sym (no_cr_by c (letter_for q c)) ∙ e)), no_crs (d ∷ cs))
+  no_crs _ = tt
 
   no_close : (es : List Element) → IsTrue (is_long s) → ClosesFirst es
   no_close es e = absurd (false≢true (sym b.short ∙ e))

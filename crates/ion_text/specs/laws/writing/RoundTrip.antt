@@ -2,27 +2,22 @@
 use Rattle.std.proofs.Common.{◌≡◌, ℕ, ◌+◌, Bool, true, false, List, [], ◌∷◌, ◌++◌, length, inl, refl, sym, ◌∙◌, subst, arith, append_assoc, append-nil}
 use Rattle.std.specs.Prelude.{◌==◌, ◌||◌, ◌&&◌}
 use Rattle.std.specs.List.{flat_map, AllByRecursion}
-use Rattle.std.proofs.lemmas.Bool.{false≢true}
+use Rattle.std.proofs.lemmas.Bool.{and_right, false≢true, or_parts}
 use Rattle.std.proofs.lemmas.Bool.Decides.{nat_tests}
-use Rattle.ion_text.specs.Names.{AreKept, BlankPiece, BlockComment, Catalog, Document, FitsIn, IsBlank, IsBlankPiece, IsKept, IsLastBlank, IsLexeme, Lexes, LexesTo, Limits, LineComment, Means, NoTables, Pieces, Place, Placed, TokenKind, Value, ValueFits, White, begins, begins_as_long, blank_spelling, ends_long, holds, is_table, is_version, is_version_word, is_white, system_slots, text_of, value_text}
-use Rattle.ion_text.specs.laws.writing.ValuesWritten.{bad_octet, either_false, line_stops, nothing_stops, starts_badly, value_no_colon, value_written}
+use Rattle.ion_text.specs.Names.{AreKept, BlankPiece, Catalog, Document, FitsIn, IsBlank, IsBlankPiece, IsKept, IsLastBlank, IsLexeme, Lexes, LexesTo, Limits, Means, NoTables, Pieces, Place, Placed, TokenKind, Value, ValueFits, White, begins, begins_as_long, blank_spelling, ends_long, holds, is_table, is_version, is_version_word, is_white, system_slots, text_of, value_text}
+use Rattle.ion_text.specs.laws.writing.ValuesWritten.{bad_octet, line_stops, nothing_stops, starts_badly, value_no_colon, value_written}
 use Rattle.ion_text.specs.laws.writing.Written.{NoneLong, Written, lexes_end, none_long, span_within, tokens, white_before}
 
 -- 1. No value is written as the marker of a version.
 
-never : (b : Bool) → (b && false) ≡ false
-never false = refl
-never true = refl
-
 no_version : (w : List ℕ) → starts_badly w ≡ false → is_version w ≡ false
 no_version [] h = refl
-no_version (o ∷ []) h = never (36 == o)
+no_version (o ∷ []) h = and_right (36 == o) false refl
 no_version (o ∷ p ∷ os) h = by (bad_octet o) (36 == o) (105 == p) _ h where
   by : (k x y z : Bool) → (k || (x && y)) ≡ false → (x && (y && z)) ≡ false
-  by k false y z h = refl
-  by k true false z h = refl
   by true true true z h = absurd (false≢true (sym h))
   by false true true z h = absurd (false≢true (sym h))
+  by k _ _ z h = refl
 
 -- a blank in front begins badly
 blank_badly : (w r : List ℕ) → IsBlank w → starts_badly (w ++ r) ≡ false → w ≡ []
@@ -31,7 +26,7 @@ blank_badly w r b h = by b.pieces b.each b.spelled where
   first o os bad e = absurd (clash (os ++ r) (subst (λ (x : List ℕ). starts_badly (x ++ r) ≡ false) e h)) where
     clash : (x : List ℕ) → starts_badly (o ∷ x) ≡ false → ⊥
     clash [] g = false≢true (sym g ∙ bad)
-    clash (p ∷ x) g = false≢true (sym (either_false (bad_octet o) _ g) ∙ bad)
+    clash (p ∷ x) g = false≢true (sym (or_parts (bad_octet o) _ g).0 ∙ bad)
 
   white : (o : ℕ) → is_white o ≡ true → bad_octet o ≡ true
   white o g = grind (arith, nat_tests)
@@ -39,14 +34,12 @@ blank_badly w r b h = by b.pieces b.each b.spelled where
   by : (ps : List BlankPiece) → AllByRecursion IsBlankPiece ps → w ≡ flat_map blank_spelling ps → w ≡ []
   by [] each e = e
   by (White o ∷ ps) each e = first o _ (white o each.0) e
-  by (LineComment os last ∷ ps) each e = first 47 _ refl e
-  by (BlockComment os ∷ ps) each e = first 47 _ refl e
+  by _ each e = first 47 _ refl e
 
 bad_front : (w r : List ℕ) → starts_badly (w ++ r) ≡ false → starts_badly w ≡ false
 bad_front [] r h = refl
-bad_front (a ∷ []) [] h = h
-bad_front (a ∷ []) (b ∷ r) h = either_false (bad_octet a) _ h
-bad_front (a ∷ b ∷ w) r h = h
+bad_front (a ∷ []) (b ∷ r) h = (or_parts (bad_octet a) _ h).0
+bad_front _ _ h = h
 
 -- a token of these parts
 abbrev placed_token : Place → ℕ → ℕ → TokenKind → List ℕ → Placed
@@ -56,15 +49,7 @@ placed_token p start end kind octets = record { place = p; lexeme = record { sta
 word_of : (p : Place) (start end : ℕ) (kind : TokenKind) (octets : List ℕ) (colon : Bool) (w r : List ℕ) → IsLexeme p colon w r kind octets
     → starts_badly (w ++ r) ≡ false → is_version_word (placed_token p start end kind octets ∷ []) ≡ false
 word_of p start end TokenKind.Word octets colon w r h g = no_version octets (subst (λ (x : List ℕ). starts_badly x ≡ false) (sym h.0) (bad_front w r g))
-word_of p start end TokenKind.KindName octets colon w r h g = refl
-word_of p start end TokenKind.Number octets colon w r h g = refl
-word_of p start end TokenKind.Operator octets colon w r h g = refl
-word_of p start end TokenKind.QuotedSymbol octets colon w r h g = refl
-word_of p start end TokenKind.ShortString octets colon w r h g = refl
-word_of p start end TokenKind.LongString octets colon w r h g = refl
-word_of p start end TokenKind.Clob octets colon w r h g = refl
-word_of p start end TokenKind.Blob octets colon w r h g = refl
-word_of p start end (TokenKind.Mark m) octets colon w r h g = refl
+word_of p start end _ octets colon w r h g = refl
 
 no_marker : (colon : Bool) (before : ℕ) (octets : List ℕ) (t : Placed) (ts : List Placed) (after : Bool) (end : ℕ) (rest : List ℕ)
     → LexesTo colon before octets (t ∷ ts) after end rest → starts_badly octets ≡ false → is_version_word (t ∷ ts) ≡ false

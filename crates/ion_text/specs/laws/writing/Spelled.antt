@@ -2,7 +2,7 @@
 use Rattle.std.proofs.Common.{◌≡◌, ℕ, ◌<◌, ◌⊎◌, inl, inr, Bool, true, false, List, [], ◌∷◌, ◌++◌, Option, Some, None, Ok, refl, ap, subst, arith, IsUtf8}
 use Rattle.std.specs.Prelude.{◌==◌, ◌||◌, nat_lt, not, codes}
 use Rattle.std.specs.List.{list_all, filter}
-use Rattle.std.proofs.lemmas.Bool.{and_parts, false≢true}
+use Rattle.std.proofs.lemmas.Bool.{and_parts, false≢true, not-true, or_right}
 use Rattle.std.proofs.lemmas.Bool.Decides.{nat_tests}
 use Rattle.std.proofs.lemmas.Str.{IsUtf8-append, IsUtf8-nil, IsUtf8-encode, encode_ascii}
 use lib.Utf8.{low_scalar}
@@ -72,10 +72,6 @@ no_id : (w : List ℕ) → is_identifier w ≡ true → id_of w ≡ None
 no_id [] h = refl
 no_id (o ∷ os) h = let q = and_parts _ _ h in rw (no_dollar o q.0) refl
 
-not_true : (b : Bool) → not b ≡ true → b ≡ false
-not_true false h = refl
-not_true true h = absurd (false≢true h)
-
 quoted_is : (p : Place) (w r : List ℕ) → IsUtf8 w → EndsWords r → (colon : Bool) → IsLexeme p colon (quoted of_symbol w) r TokenKind.QuotedSymbol w
 quoted_is p w r u a colon = (escaped_text of_symbol w, text_quoted Style.QuotedSymbol 39 symbol_between w u, refl, λ e. a.quote)
 
@@ -102,7 +98,7 @@ unquoted_spelled c p w r u a h =
         short = refl;
       };
       takes = refl;
-      is = is_word w (not_true (is_keyword w) q.1);
+      is = is_word w (not-true (is_keyword w) q.1);
     }
 
 quoted_spelled : (c : List Slot) (p : Place) (w r : List ℕ) → IsUtf8 w → EndsWords r → is_unquoted w ≡ false → SymbolSpelling c p (Some w) r
@@ -194,18 +190,7 @@ typed_null p k r e f a = record {
 -- what is written of a null is one token that says it, where nothing follows that goes on with words
 pub null_spelled : (p : Place) (k : Kind) (r : List ℕ) → EndsWords r → Spelling p (null_text k) r (null_said k)
 null_spelled p Kind.Null r a = word_spelled p (codes "null") r refl (ascii_text (codes "null") refl) a
-null_spelled p Kind.Bool r a = typed_null p Kind.Bool r (all_each is_word_octet (kind_name Kind.Bool) refl) refl a
-null_spelled p Kind.Int r a = typed_null p Kind.Int r (all_each is_word_octet (kind_name Kind.Int) refl) refl a
-null_spelled p Kind.Float r a = typed_null p Kind.Float r (all_each is_word_octet (kind_name Kind.Float) refl) refl a
-null_spelled p Kind.Decimal r a = typed_null p Kind.Decimal r (all_each is_word_octet (kind_name Kind.Decimal) refl) refl a
-null_spelled p Kind.Timestamp r a = typed_null p Kind.Timestamp r (all_each is_word_octet (kind_name Kind.Timestamp) refl) refl a
-null_spelled p Kind.Symbol r a = typed_null p Kind.Symbol r (all_each is_word_octet (kind_name Kind.Symbol) refl) refl a
-null_spelled p Kind.Str r a = typed_null p Kind.Str r (all_each is_word_octet (kind_name Kind.Str) refl) refl a
-null_spelled p Kind.Clob r a = typed_null p Kind.Clob r (all_each is_word_octet (kind_name Kind.Clob) refl) refl a
-null_spelled p Kind.Blob r a = typed_null p Kind.Blob r (all_each is_word_octet (kind_name Kind.Blob) refl) refl a
-null_spelled p Kind.List r a = typed_null p Kind.List r (all_each is_word_octet (kind_name Kind.List) refl) refl a
-null_spelled p Kind.Sexp r a = typed_null p Kind.Sexp r (all_each is_word_octet (kind_name Kind.Sexp) refl) refl a
-null_spelled p Kind.Fields r a = typed_null p Kind.Fields r (all_each is_word_octet (kind_name Kind.Fields) refl) refl a
+null_spelled p x r a = typed_null p x r (all_each is_word_octet (kind_name x) refl) refl a
 
 -- what is written of a string is one token of a short string that says its text
 pub string_spelled : (p : Place) (text r : List ℕ) → IsUtf8 text → Spelling p (quoted of_string text) r (Short text)
@@ -233,10 +218,7 @@ no_white : (o : ℕ) → is_base64 o ≡ true → not (is_white o) ≡ true
 no_white o h = grind (arith, nat_tests)
 
 may_stand : (o : ℕ) → is_base64 o ≡ true → (is_white o || is_base64 o) ≡ true
-may_stand o h = rw h (by (is_white o)) where
-  by : (b : Bool) → (b || true) ≡ true
-  by true = refl
-  by false = refl
+may_stand o h = or_right (is_white o) (is_base64 o) h
 
 stand_all : (os : List ℕ) → Each is_base64 os → Each (λ o. is_white o || is_base64 o) os
 stand_all [] h = tt

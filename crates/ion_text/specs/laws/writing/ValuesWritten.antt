@@ -2,7 +2,7 @@
 use Rattle.std.proofs.Common.{◌≡◌, ℕ, ◌+◌, Bool, true, false, List, [], ◌∷◌, ◌++◌, length, map, Option, Some, None, Ok, refl, sym, ap, ◌∙◌, subst, arith, append_assoc, append-nil}
 use Rattle.std.specs.Prelude.{◌==◌, ◌||◌, ◌&&◌, codes}
 use Rattle.std.specs.List.{flat_map}
-use Rattle.std.proofs.lemmas.Bool.{and_parts, false≢true}
+use Rattle.std.proofs.lemmas.Bool.{and_parts, and_right, false≢true, or_parts}
 use Rattle.std.proofs.lemmas.Bool.Decides.{nat_tests}
 use Rattle.ion_text.specs.Names.{Annotations, AreTexts, Blob, Clob, Content, Elements, Field, IsKept, IsName, IsScalar, IsSymbol, IsText, KeptFields, KeptItems, KeptPayload, Kind, Layer, LexesTo, Mark, Mark', MarkEnds, MarkStands, Means, Members, Number, Number', Payload, Place, Placed, Plain, ReadsNumber, Row, Says, Short, Slot, Value, Word, a_field, an_item, annotated, begins_long, begins_number, blob_text, by_symbol, clob_text, close_place, comma, element, ends_long, escaped_text, field, field_comma, field_of, field_text, is_blob, is_clob, is_decimal, is_digit, is_false, is_identifier, is_int, is_letter, is_list, is_long, is_name, is_null, is_short, is_struct, is_symbol, is_timestamp, is_true, is_typed_null, is_unquoted, is_white, item, kept, kept_blob, kept_clob, kept_decimal, kept_fields, kept_int, kept_list, kept_null, kept_sexp, kept_string, kept_symbol, kept_timestamp, kept_truth, known_text, layer_text, mark_spelling, means, named_text, no_annotation, no_element, no_field, no_fields, no_item, no_items, notes_text, null_text, number_text, of_string, of_symbol, one_annotation, one_token, quoted, separated, symbol_text, truth_text, value_text}
 use Rattle.ion_model.specs.declared.value.Payload.TheVariants as payloads
@@ -49,15 +49,10 @@ starts_badly [] = false
 starts_badly (o ∷ []) = bad_octet o
 starts_badly (o ∷ p ∷ os) = bad_octet o || ((36 == o) && (105 == p))
 
--- where neither of two tests holds, the first fails
-pub either_false : (a b : Bool) → (a || b) ≡ false → a ≡ false
-either_false false b h = refl
-either_false true b h = absurd (false≢true (sym h))
-
 pub no_colon_start : (w : List ℕ) → starts_badly w ≡ false → begins (λ o. o == 58) w ≡ false
 no_colon_start [] h = refl
-no_colon_start (o ∷ []) h = either_false (o == 58) _ h
-no_colon_start (o ∷ p ∷ os) h = either_false (o == 58) _ (either_false (bad_octet o) _ h)
+no_colon_start (o ∷ []) h = (or_parts (o == 58) _ h).0
+no_colon_start (o ∷ p ∷ os) h = (or_parts (o == 58) _ (or_parts (bad_octet o) _ h).0).0
 
 -- an octet that begins neither
 plain_octet : (o p : ℕ) → bad_octet o ≡ false → (36 == o) ≡ false → (bad_octet o || ((36 == o) && (105 == p))) ≡ false
@@ -176,18 +171,7 @@ scalar_written c p said x at w rest h k =
 
 null_scalar : (c : List Slot) (k : Kind) → IsScalar c (null_said k) (payloads.Null k)
 null_scalar c Kind.Null = is_null
-null_scalar c Kind.Bool = is_typed_null Kind.Bool
-null_scalar c Kind.Int = is_typed_null Kind.Int
-null_scalar c Kind.Float = is_typed_null Kind.Float
-null_scalar c Kind.Decimal = is_typed_null Kind.Decimal
-null_scalar c Kind.Timestamp = is_typed_null Kind.Timestamp
-null_scalar c Kind.Symbol = is_typed_null Kind.Symbol
-null_scalar c Kind.Str = is_typed_null Kind.Str
-null_scalar c Kind.Clob = is_typed_null Kind.Clob
-null_scalar c Kind.Blob = is_typed_null Kind.Blob
-null_scalar c Kind.List = is_typed_null Kind.List
-null_scalar c Kind.Sexp = is_typed_null Kind.Sexp
-null_scalar c Kind.Fields = is_typed_null Kind.Fields
+null_scalar c x = is_typed_null x
 
 truth_scalar : (c : List Slot) (b : Bool) → IsScalar c (Word (truth_text b)) (payloads.Truth b)
 truth_scalar c false = is_false
@@ -281,14 +265,10 @@ field_tokens : (c : List Slot) (s : Option (List ℕ)) (v : Value) (ts us : List
 field_tokens c s v _ us (marked t mark said a b d) h = one_field (t ∷ []) us mark s v (by_symbol t said s a b) d h
 
 -- what is no long string goes on in none
-apart_from : (b : Bool) (t : Placed) → is_long t ≡ false → (b && is_long t) ≡ false
-apart_from false t h = refl
-apart_from true t h = h
-
 with_item : (c : List Slot) (ts us : List Placed) (vs : List Value) (v : Value) → Row c ts vs → (t : Placed) (others : List Placed) → us ≡ t ∷ others
     → is_long t ≡ false → Means c Place.Sexp us v → Row c (ts ++ us) (vs ++ v ∷ [])
 with_item c ts us vs v i t others e short h = item ts us vs v i h
-    (subst (λ (x : List Placed). (ends_long ts && begins_long x) ≡ false) (sym e) (apart_from (ends_long ts) t short))
+    (subst (λ (x : List Placed). (ends_long ts && begins_long x) ≡ false) (sym e) (and_right (ends_long ts) (is_long t) short))
 
 -- tokens in two groupings
 regroup : (us ts more : List Placed) (t : Placed) → ((us ++ t ∷ []) ++ ts) ++ more ≡ us ++ t ∷ (ts ++ more)
@@ -311,18 +291,7 @@ level_no_colon x d r e h = subst (λ (d : Layer). starts_badly (layer_text d ++ 
 
 null_no_colon : (k : Kind) (r : List ℕ) → starts_badly (null_text k ++ r) ≡ false
 null_no_colon Kind.Null r = refl
-null_no_colon Kind.Bool r = refl
-null_no_colon Kind.Int r = refl
-null_no_colon Kind.Float r = refl
-null_no_colon Kind.Decimal r = refl
-null_no_colon Kind.Timestamp r = refl
-null_no_colon Kind.Symbol r = refl
-null_no_colon Kind.Str r = refl
-null_no_colon Kind.Clob r = refl
-null_no_colon Kind.Blob r = refl
-null_no_colon Kind.List r = refl
-null_no_colon Kind.Sexp r = refl
-null_no_colon Kind.Fields r = refl
+null_no_colon _ r = refl
 
 truth_no_colon : (b : Bool) (r : List ℕ) → starts_badly (truth_text b ++ r) ≡ false
 truth_no_colon false r = refl

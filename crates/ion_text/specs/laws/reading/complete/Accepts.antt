@@ -1,7 +1,8 @@
 -- The reader of octets accepts each document, and gives its values.
 use Rattle.std.proofs.Common.{◌≡◌, ℕ, ◌+◌, ◌≤◌, ◌==◌, nat_le, List, [], ◌∷◌, ◌++◌, Bool, true, false, ◌&&◌, ◌||◌, Result, Ok, Err, Option, Some, None, refl, ap, sym, ◌∙◌, subst, arith, option_to_list, if◌then◌else◌, ◌⊎◌, inl, inr}
+use Rattle.std.proofs.lemmas.Bool.{and_right, cond_both, true_from_ne_false}
 use Rattle.std.proofs.lemmas.Bool.Decides.{nat_tests}
-use Rattle.ion_text.specs.Names.{Blob, Catalog, Clob, Content, Document, Effect, Frame, Given, Held, Id, IsBody, IsLastBlank, Known, Leading, Left, Lexeme, Limits, Long, Mark, Mark', Mode, Next, Now, Number', Operator, Outcome, Payload, Place, Placed, Quoted, Reading, Reason, Run, Short, Slot, Spot, State, Streams, Symbols, TokenKind, Turn, TypedNull, Value, Word, at, at_end, bare, behind_given, behind_left, continues, continues_now, cut_short, eats, end_now, end_of, end_ready, end_said, end_settled, end_turned, end_waiting, ended, ends_of, feed, follow, fresh, gives, goes, held_payload, initial, is_colons, is_fresh, is_idle, is_quoted, is_quoting, is_sane, is_segment, is_table, is_top, is_two_quotes, late, next as next_slots, on_said, on_scan, on_settled, once_more, paid, place, plain, refuses, released, run, run_on, said, said_body, settle, settle_same, settle_still, spot_at, start_of, system_slots, takes, tells, token_at, token_of, trace, turn, turn_now, turned, under, unsettled, uses, waits, waits_now, with_scan, with_value, within}
+use Rattle.ion_text.specs.Names.{Catalog, Content, Document, Effect, Frame, Given, Held, IsBody, IsLastBlank, Known, Leading, Left, Lexeme, Limits, Long, Mark, Mark', Mode, Next, Now, Outcome, Payload, Place, Placed, Reading, Reason, Run, Slot, Spot, State, Streams, Symbols, TokenKind, Turn, Value, at, at_end, bare, behind_given, behind_left, continues, continues_now, cut_short, eats, end_now, end_of, end_ready, end_said, end_settled, end_turned, end_waiting, ended, ends_of, feed, follow, fresh, gives, goes, held_payload, initial, is_colons, is_fresh, is_idle, is_quoted, is_quoting, is_sane, is_segment, is_table, is_top, is_two_quotes, next as next_slots, on_said, on_scan, on_settled, once_more, paid, place, plain, refuses, released, run, run_on, said, said_body, settle, settle_same, settle_still, spot_at, start_of, system_slots, takes, tells, token_at, token_of, trace, turn, turn_now, turned, under, unsettled, uses, waits, waits_now, with_scan, with_value, within}
 use Rattle.ion_model.specs.declared.value.Payload.TheVariants as payloads
 use Rattle.ion_tokens.proofs.runs.Runs.{feed_used, given_used}
 use Rattle.ion_text.specs.machine.Run.{ends}
@@ -26,10 +27,7 @@ pub idle_calm : (n : Now) (m : Mode) → IsTopNow n → is_idle m ≡ true → C
 idle_calm Now.Ready m k i = tt
 idle_calm (Now.Pending h e) m k i = i
 idle_calm (Now.Long w e) m k i = ap (λ b. b || is_quoting m) i
-idle_calm Now.After m k i = k
-idle_calm Now.Name m k i = k
-idle_calm (Now.LongName w) m k i = k
-idle_calm (Now.Keyed s) m k i = k
+idle_calm _ m k i = k
 
 -- behind a whole value a value may come
 pub fresh_top : (r : Reading) → is_fresh r ≡ true → r.now ≡ Now.Ready
@@ -37,14 +35,7 @@ fresh_top r h = go r.frames r.notes r.now h
   where
     go : (fs : List Frame) (ss : Symbols) (n : Now) → is_fresh (at r.start r.context fs ss n) ≡ true → n ≡ Now.Ready
     go [] [] Now.Ready h = refl
-    go [] [] (Now.Pending k e) h = absurd cc
-    go [] [] (Now.Long w e) h = absurd cc
-    go [] [] Now.After h = absurd cc
-    go [] [] Now.Name h = absurd cc
-    go [] [] (Now.LongName w) h = absurd cc
-    go [] [] (Now.Keyed s) h = absurd cc
-    go [] (s ∷ ss) n h = absurd cc
-    go (f ∷ fs) ss n h = absurd cc
+    go _ _ _ h = absurd cc
 
 -- a mark's kind says the mark
 pub mark_said : (k : TokenKind) (octets : List ℕ) (m : Mark) (c : Content) → k ≡ TokenKind.Mark m → IsBody k octets (Ok c) → c ≡ Mark' m
@@ -56,11 +47,7 @@ module _ (g : Catalog) (l : Limits) where
   SettledCalm t = Leading g l (λ k. (m : Mode) → is_top k.frames ≡ true → CalmNow k.now m) t
 
   within_settled : (item start end : ℕ) (t : Turn) → SettledCalm t → SettledCalm (within item start end t)
-  within_settled item start end t h = go (nat_le end (start + item))
-    where
-      go : (b : Bool) → SettledCalm (if b then t else refuses Reason.ItemTooLong)
-      go true = h
-      go false = tt
+  within_settled item start end t h = cond_both (nat_le end (start + item)) t (refuses Reason.ItemTooLong) SettledCalm (λ e. h) (λ e. tt)
 
   top_settled : (item start end : ℕ) (c : List Slot) (v : Value) (d : Result (List Slot) Reason) (b : Bool)
       → SettledCalm (if b then turned item start end d else within item start end (gives v (fresh c)))
@@ -70,9 +57,8 @@ module _ (g : Catalog) (l : Limits) where
 
   ended_settled : (spot : Spot) (fs : List Frame) (v : Value) → SettledCalm (ended (under g l) spot fs v)
   ended_settled spot [] v = top_settled l.item spot.start spot.end spot.context v (next_slots spot.context v g) (is_table v)
-  ended_settled spot (Frame.Items listing ss vs ∷ fs) v = λ m h. absurd cc
-  ended_settled spot (Frame.Named ss ms s ∷ fs) v = λ m h. absurd cc
   ended_settled spot (Frame.Fields ss ms ∷ fs) v = tt
+  ended_settled spot _ v = λ m h. absurd cc
 
   paid_settled : (spot : Spot) (fs : List Frame) (ss : Symbols) (q : Result Payload Reason) → SettledCalm (paid (under g l) spot fs ss q)
   paid_settled spot fs ss (Ok q) = ended_settled spot fs _
@@ -81,23 +67,18 @@ module _ (g : Catalog) (l : Limits) where
   released_settled : (spot : Spot) (fs : List Frame) (ss : Symbols) (h : Held) → SettledCalm (released (under g l) spot fs ss h)
   released_settled spot [] [] (Held.Version true s) = within_settled l.item spot.start spot.end (goes (fresh system_slots)) (λ m h. tt)
   released_settled spot [] [] (Held.Version false s) = tt
-  released_settled spot [] [] (Held.Symbol s) = paid_settled spot [] [] (held_payload (Held.Symbol s))
-  released_settled spot [] [] (Held.Null k) = paid_settled spot [] [] (held_payload (Held.Null k))
-  released_settled spot [] [] (Held.Truth b) = paid_settled spot [] [] (held_payload (Held.Truth b))
   released_settled spot [] [] Held.Nan = tt
   released_settled spot [] (s ∷ ss) h = paid_settled spot [] (s ∷ ss) (held_payload h)
   released_settled spot (f ∷ fs) ss h = paid_settled spot (f ∷ fs) ss (held_payload h)
+  released_settled spot [] [] h = paid_settled spot [] [] (held_payload h)
 
   -- behind what was settled at the top level it is calm, whatever token has begun
   pub settle_settled : (start : ℕ) (c : List Slot) (fs : List Frame) (ss : Symbols) (now : Now) → (is_top fs ≡ true → IsTopNow now)
       → SettledCalm (settle g l (at start c fs ss now))
   settle_settled start c fs ss (Now.Pending h end) k = released_settled (spot_at end start c) fs ss h
   settle_settled start c fs ss (Now.Long w end) k = ended_settled (spot_at end start c) fs _
-  settle_settled start c fs ss (Now.LongName w) k = λ m h. k h
   settle_settled start c fs ss Now.Ready k = λ m h. tt
-  settle_settled start c fs ss Now.After k = λ m h. k h
-  settle_settled start c fs ss Now.Name k = λ m h. k h
-  settle_settled start c fs ss (Now.Keyed s) k = λ m h. k h
+  settle_settled start c fs ss _ k = λ m h. k h
 
   -- where nothing waits it is calm, whatever token has begun
   pub still_calm : (r : Reading) (m : Mode) → TopOk g l r → settle g l r ≡ goes r → is_top r.frames ≡ true → CalmNow r.now m
@@ -108,10 +89,7 @@ module _ (g : Catalog) (l : Limits) where
   always_calm Now.Ready h = refl
   always_calm (Now.Pending k e) h = absurd (let n : false ≡ true = h Mode.Word in cc)
   always_calm (Now.Long w e) h = absurd (let n : false ≡ true = h Mode.Word in cc)
-  always_calm Now.After h = absurd (h Mode.Blank)
-  always_calm Now.Name h = absurd (h Mode.Blank)
-  always_calm (Now.LongName w) h = absurd (h Mode.Blank)
-  always_calm (Now.Keyed s) h = absurd (h Mode.Blank)
+  always_calm _ h = absurd (h Mode.Blank)
 
   -- what was settled doesn't wait
   settled_ended : (k : Reading) (used : ℕ) → ((m : Mode) → is_top k.frames ≡ true → CalmNow k.now m) → is_top k.frames ≡ true → EndedIn used k.now
@@ -200,8 +178,7 @@ module _ (g : Catalog) (l : Limits) where
             (with_streamed v to (once_more to rest (eats g l (with_scan s k) o)) i.0 all
             (went_more to rest (eats g l (with_scan s k) o) i.0
             (direct k i.0 a.0 (λ h. calm_now k.now Mode.Blank (c Mode.Blank h)) (settled_ended k s.used c) i.2 (inr b))) i.1)
-        by (refuses y) f w a b c i = absurd i
-        by (late y k) f w a b c i = absurd i
+        by _ f w a b c i = absurd i
 
         go : (b : Bool) → waits r x ≡ b → Streamed (run_on to (λ n. eats g l n o) rest (eats g l (with_scan s r) o)) all
         go true w = went_run to (λ n. eats g l n o) rest (eats g l (with_scan s r) o) all (direct r all refl ok ended d (inl w))
@@ -213,11 +190,8 @@ module _ (g : Catalog) (l : Limits) where
       → CalmNow now s.mode
   waits_calm fs (Now.Pending h e) s k w top = w
   waits_calm fs (Now.Long v e) s k w top = w
-  waits_calm fs (Now.LongName v) s k w top = k top
   waits_calm fs Now.Ready s k w top = tt
-  waits_calm fs Now.After s k w top = k top
-  waits_calm fs Now.Name s k w top = k top
-  waits_calm fs (Now.Keyed y) s k w top = k top
+  waits_calm fs _ s k w top = k top
 
   -- where the scanner goes on
   next_went : (s s' : Known) (os : List ℕ) (ts : List Placed) (o : ℕ) (rest : State → Run) → Meets s' os ts → is_sane s'.mode ≡ true → Fine s'
@@ -239,8 +213,7 @@ module _ (g : Catalog) (l : Limits) where
   turn_ok r c item start end (goes n) (inl (inr (top, new, ok), from, to)) = λ k. (ok, ended_at n.now end to)
   turn_ok r c item start end (goes n) (inr h) = λ k. subst (λ x. IsTopNow x × EndedIn end x) (sym (fresh_top n h.2)) (tt, tt)
   turn_ok r c item start end (gives v n) h = λ k. subst (λ x. IsTopNow x × EndedIn end x) (sym (fresh_top n h.2)) (tt, tt)
-  turn_ok r c item start end (refuses e) h = tt
-  turn_ok r c item start end (late e n) h = tt
+  turn_ok r c item start end _ h = tt
 
   -- where a token is given
   given_went : (s s' : Known) (os : List ℕ) (t : Placed) (ts : List Placed) (o : ℕ) (rest : State → Run) → Meets s' os ts → is_sane s'.mode ≡ true
@@ -267,8 +240,7 @@ module _ (g : Catalog) (l : Limits) where
           → Went (behind_given l s' x) rest all
       by (goes n) h e = inl (with_scan s' n, quiet g l s' os sane fine used n all (calm n h) ts m ops e, more n all (calm n h) e)
       by (gives v n) h e = inr (v, with_scan s' n, e.0, refl, e.1, more n e.0 (calm n h) e.2)
-      by (refuses y) h e = absurd e
-      by (late y n) h e = absurd e
+      by _ h e = absurd e
 
   -- where a value may come, settling changes nothing
   pub ready_still : (r : Reading) → r.now ≡ Now.Ready → settle g l r ≡ goes r
@@ -293,23 +265,13 @@ module _ (g : Catalog) (l : Limits) where
       by : (x : Turn) → Leading g l (λ n. (place n ≡ place r) × (is_top n.frames ≡ is_top r.frames)) x → SettledCalm x → TurnGoes g l x (t ∷ ts) all → ⊥
       by (goes k) a b e = no_colon k t ts all (always_calm k.now (λ m. b m (a.1 ∙ top))) e i
       by (gives v k) a b e = no_colon k t ts e.0 (always_calm k.now (λ m. b m (a.1 ∙ top))) e.2 i
-      by (refuses y) a b e = e
-      by (late y k) a b e = e
+      by _ a b e = e
 
   -- a long string goes on with its segments alone
   pub long_refused : (begin end start : ℕ) (slots : List Slot) (fs : List Frame) (ss : Symbols) (c : Content) (w : List ℕ) (e : ℕ) → is_long_said c ≡ false
       → turn_now (under g l) (at start slots fs ss (Now.Long w e)) (token_at begin end c) (Now.Long w e) ≡ refuses Reason.Unexpected
   long_refused begin end start slots fs ss (Long v) w e h = absurd cc
-  long_refused begin end start slots fs ss (Word v) w e h = refl
-  long_refused begin end start slots fs ss (Id v) w e h = refl
-  long_refused begin end start slots fs ss (Quoted v) w e h = refl
-  long_refused begin end start slots fs ss (Short v) w e h = refl
-  long_refused begin end start slots fs ss (Number' v) w e h = refl
-  long_refused begin end start slots fs ss (TypedNull v) w e h = refl
-  long_refused begin end start slots fs ss (Operator v) w e h = refl
-  long_refused begin end start slots fs ss (Clob v) w e h = refl
-  long_refused begin end start slots fs ss (Blob v) w e h = refl
-  long_refused begin end start slots fs ss (Mark' v) w e h = refl
+  long_refused begin end start slots fs ss _ w e h = refl
 
   -- a token that goes on with a long string is a segment
   long_turn : (r : Reading) (t : Placed) (c : Content) (w : List ℕ) (e : ℕ) (ts : List Placed) (all : List Value) → r.now ≡ Now.Long w e
@@ -404,8 +366,7 @@ module _ (g : Catalog) (l : Limits) where
                 (subst (λ z. Streamed z i.0) (sym (more_same g l to (λ n. eats g l n o) next (eats g l (with_scan s' n) o)
                 (eats_stays g l n s' o (ready_still n ready) (used n h (place n)))))
                 (more n i.0 (λ j. subst (λ z. CalmNow z s'.mode × EndedIn s'.used z) (sym ready) (tt, tt)) i.2)) i.1
-            by (refuses z) h i = absurd i
-            by (late z n) h i = absurd i
+            by _ h i = absurd i
 
         -- nothing that waits at the top level is ended by a token that is left
         never_gives : (n : Now) → r.now ≡ n → is_top r.frames ≡ true → waits r (Left t.lexeme s') ≡ false → TurnGoes g l (settle g l r) (t ∷ ts) all
@@ -429,10 +390,7 @@ module _ (g : Catalog) (l : Limits) where
                 let k = quoting_left (place r) s s' o t.lexeme exactly q e in
                 let n : true ≡ false = sym (ap is_quoted k.0) ∙ (sym (ap (λ b. b && is_quoted t.lexeme.kind) top)
                 ∙ (ap (λ b. waits_now (is_top r.frames) b (Left t.lexeme s')) (sym x) ∙ w)) in cc
-        never_gives Now.After x top w y c z = c
-        never_gives Now.Name x top w y c z = c
-        never_gives (Now.LongName v) x top w y c z = c
-        never_gives (Now.Keyed v) x top w y c z = c
+        never_gives _ x top w y c z = c
 
         settled : (x : Turn) → settle g l r ≡ x → waits r (Left t.lexeme s') ≡ false
             → Leading g l (λ n. (place n ≡ place r) × (is_top n.frames ≡ is_top r.frames)) x → Leading g l (λ n. settle g l n ≡ goes n) x → SettledCalm x
@@ -443,26 +401,16 @@ module _ (g : Catalog) (l : Limits) where
         settled (gives v k) i w a b c y = absurd (never r.now refl)
           where
             top : is_top r.frames ≡ true
-            top = by (is_top r.frames) refl
-              where
-                by : (b : Bool) → is_top r.frames ≡ b → b ≡ true
-                by true j = refl
-                by false j = absurd (gives_top g l r v k j i)
+            top = true_from_ne_false (is_top r.frames) (λ j. gives_top g l r v k j i)
 
             never : (n : Now) → r.now ≡ n → ⊥
             never n x = never_gives n x top w (subst (λ z. TurnGoes g l z (t ∷ ts) all) (sym i) y) (subst (λ z. CalmNow z s.mode) x (calm top).0)
                 (λ z. let q : goes r ≡ gives v k = sym (ready_still r (x ∙ z)) ∙ i in cc)
-        settled (refuses z) i w a b c y = absurd y
-        settled (late z k) i w a b c y = absurd y
+        settled _ i w a b c y = absurd y
 
         waited : (n : Now) → r.now ≡ n → waits_now (is_top r.frames) n (Left t.lexeme s') ≡ true → TurnGoes g l (turn g l r (token_of t.lexeme p.1)) ts all → ⊥
         waited (Now.Long v b) x w y = long_turn r t p.1 v b ts all x f.1 body y
-        waited (Now.Pending h b) x w y = absurd cc
-        waited (Now.LongName v) x w y = absurd cc
-        waited Now.Ready x w y = absurd cc
-        waited Now.After x w y = absurd cc
-        waited Now.Name x w y = absurd cc
-        waited (Now.Keyed v) x w y = absurd cc
+        waited _ x w y = absurd cc
 
         go : (b : Bool) → waits r (Left t.lexeme s') ≡ b → Streamed (run g l to (with_scan s r) (o ∷ os)) all
         go true w = absurd (waited r.now refl w (going_turn g l r t ts all p.1 d p.2 (inl (sym agree ∙ w))))
@@ -475,8 +423,7 @@ module _ (g : Catalog) (l : Limits) where
       × (all ≡ option_to_list last)
   settled_ends used all (goes m) d = (None, ap (λ b. if b then Ok None else cut_short used) (ap is_fresh d.0.1), d.1)
   settled_ends used all (gives v m) d = (Some v, refl, d.1)
-  settled_ends used all (refuses e) d = absurd d
-  settled_ends used all (late e m) d = absurd d
+  settled_ends used all _ d = absurd d
 
   turned_ends : (used : ℕ) (all : List Value) (x : Turn) (top : Bool) (c : Content) (start end : ℕ) → Spans top c l.item start end x → TurnGoes g l x [] all
       → (last : Option Value) × (end_turned g l used x ≡ Ok last) × (all ≡ option_to_list last)
@@ -484,8 +431,7 @@ module _ (g : Catalog) (l : Limits) where
   turned_ends used all (gives v n) top c start end s d =
       let e = subst (λ y. TurnEnds g l y d.0) (ready_still n (fresh_top n s.2)) (going_ends g l n d.0 d.2) in
       (Some v, refl, d.1 ∙ ap (λ x. v ∷ x) e.1)
-  turned_ends used all (refuses e) top c start end s d = absurd d
-  turned_ends used all (late e n) top c start end s d = absurd d
+  turned_ends used all _ top c start end s d = absurd d
 
   -- the end ends a token
   module _ (s : Known) (t : Placed) (fine : Fine s) (exactly : Exact s) (ops : Operators (t ∷ [])) (r : Reading) (all : List Value) (calm : Calm s r)
@@ -500,16 +446,12 @@ module _ (g : Catalog) (l : Limits) where
     ends_here = ap (λ p. at_end p s) (sym said_here.0) ∙ e
 
     top_here : is_top r.frames ≡ true
-    top_here = by (is_top r.frames) refl
+    top_here = true_from_ne_false (is_top r.frames) (λ h. inside (inside_token g l r t said_here.1 [] all h d said_here.2))
       where
         inside : InsideNext g l r.start t said_here.1 [] → ⊥
         inside (stays m rest a b x) = inside_end g l m rest a x
         inside (closed a b) = let n : true ≡ false = sym (closes_kind t.lexeme.kind t.lexeme.octets said_here.1 b body_here)
             ∙ (at_end_fine t.place s t.lexeme e).3 in cc
-
-        by : (b : Bool) → is_top r.frames ≡ b → b ≡ true
-        by true h = refl
-        by false h = absurd (inside (inside_token g l r t said_here.1 [] all h d said_here.2))
 
     ok_here : TopOk g l r
     ok_here = calm_ok g l s r calm
@@ -536,12 +478,8 @@ module _ (g : Catalog) (l : Limits) where
         by : (t.lexeme.kind ≡ TokenKind.Mark Mark.Colon) ⊎ (t.lexeme.kind ≡ TokenKind.Operator) → ⊥
         by (inl k) =
             let shut : continues r (token_of t.lexeme said_here.1) ≡ false =
-            long ∙ (ap (λ z. is_segment z || (is_top r.frames && is_two_quotes z t.lexeme.start t.lexeme.end)) k ∙ none (is_top r.frames)) in
+            long ∙ (ap (λ z. is_segment z || (is_top r.frames && is_two_quotes z t.lexeme.start t.lexeme.end)) k ∙ and_right (is_top r.frames) false refl) in
             settled_colon r t [] all top_here ok_here (going_settle g l r t [] all said_here.1 d said_here.2 shut) k
-          where
-            none : (b : Bool) → (b && false) ≡ false
-            none true = refl
-            none false = refl
         by (inr k) = no_operator g l r t top_here said_here.0 ops.0 k
 
         quoted : is_quoting s.mode ≡ true → ⊥
@@ -565,10 +503,7 @@ module _ (g : Catalog) (l : Limits) where
         mode : (b : Bool) → is_idle s.mode ≡ b → ⊥
         mode true i = by ((at_end_fine t.place s t.lexeme e).4 i)
         mode false i = quoted (sym (ap (λ b. b || is_quoting s.mode) i) ∙ c)
-    no_waiting Now.After x c = absurd c
-    no_waiting Now.Name x c = absurd c
-    no_waiting (Now.LongName w) x c = absurd c
-    no_waiting (Now.Keyed y) x c = absurd c
+    no_waiting _ x c = absurd c
 
     ready_here : r.now ≡ Now.Ready
     ready_here = no_waiting r.now refl (calm top_here).0
@@ -586,11 +521,7 @@ module _ (g : Catalog) (l : Limits) where
 
   -- where no token is left
   nothing_top : (r : Reading) (all : List Value) → Going g l r [] all → is_top r.frames ≡ true
-  nothing_top r all d = by (is_top r.frames) refl
-    where
-      by : (b : Bool) → is_top r.frames ≡ b → b ≡ true
-      by true h = refl
-      by false h = absurd (inside_end g l r all h d)
+  nothing_top r all d = true_from_ne_false (is_top r.frames) (λ h. inside_end g l r all h d)
 
   blank_ends : (s : Known) (r : Reading) (all : List Value) → Calm s r → Going g l r [] all → at_end Place.Top s ≡ Ok None → (last : Option Value)
       × (ends g l (with_scan s r) ≡ Ok last) × (all ≡ option_to_list last)
@@ -614,10 +545,7 @@ module _ (g : Catalog) (l : Limits) where
                 ∙ (ap (end_ready g l s.used r) here ∙ ap (λ b. if b then Ok None else cut_short s.used) (ap is_fresh z.0.1)),
             z.1,
           )
-      by Now.After x c = absurd c
-      by Now.Name x c = absurd c
-      by (Now.LongName w) x c = absurd c
-      by (Now.Keyed y) x c = absurd c
+      by _ x c = absurd c
 
   -- a blank octet doesn't settle what waits
   blank_settled : (r : Reading) (s : Known) (all : List Value) → TopOk g l r → Going g l r [] all → is_idle s.mode ≡ true → waits r (Next s) ≡ false
@@ -629,10 +557,7 @@ module _ (g : Catalog) (l : Limits) where
       by (Now.Pending h y) x k = absurd (let n : true ≡ false = sym i ∙ (sym (ap (λ z. waits_now (is_top r.frames) z (Next s)) x) ∙ w) in cc)
       by (Now.Long v y) x k = absurd (let n : true ≡ false = sym (ap (λ b. b || is_quoting s.mode) i)
           ∙ (sym (ap (λ z. waits_now (is_top r.frames) z (Next s)) x) ∙ w) in cc)
-      by Now.After x k = absurd k
-      by Now.Name x k = absurd k
-      by (Now.LongName v) x k = absurd k
-      by (Now.Keyed v) x k = absurd k
+      by _ x k = absurd k
 
   one_more : (p : Place) (s s' : Known) (o : ℕ) (x : Lexeme) → feed p s o ≡ Given x s' → 1 ≤ s'.used
   one_more p s s' o x e = let k = given_used p (o ∷ []) s s' x (sym (ap (λ y. follow y (λ t. Next t)) e)) in omega (arith, k.0)

@@ -1,8 +1,8 @@
 -- The tokens of a value lead the reader to that value.
 use Rattle.std.proofs.Common.{◌≡◌, ◌≢◌, ℕ, suc, max, ◌+◌, ◌≤◌, ◌<◌, List, [], ◌∷◌, ◌++◌, length, map, Bool, true, false, ◌&&◌, ◌||◌, Ok, Option, Some, None, refl, ap, sym, ◌∙◌, subst, arith, append_assoc, if◌then◌else◌, ◌⊎◌, inl, inr, codes}
-use Rattle.std.proofs.lemmas.Bool.{cond-true, cond-false, lt-ltb}
+use Rattle.std.proofs.lemmas.Bool.{cond-false, cond-true, false_from_ne_true, lt-ltb}
 use Rattle.std.specs.Str.{bytes_eq}
-use Rattle.ion_text.specs.Names.{Annotations, Blob, Bracket, Catalog, Clob, Content, Elements, Field, Frame, Held, Id, IsBody, IsName, IsScalar, IsSymbol, IsWordBody, Kind, Limits, Listing, Long, Mark, Mark', Means, Members, Now, Number', Operator, Payload, Place, Placed, Plain, Quoted, Reading, Row, Says, Segments, Short, Slot, Spells, Symbols, Token, TokenKind, Turn, TypedNull, Value, Word, adds_none, annotated, at, begins_long, begun_at, behind_waiting, by_long, by_short, by_symbol, close_place, comma, continues, continues_now, depth, done, element, ended, ends_long, field, field_comma, field_of, first_now, first_token, goes, greatest, held_payload, held_symbol, held_word, id_of, is_blob, is_clob, is_decimal, is_false, is_id, is_int, is_keyword, is_list, is_null, is_operator, is_segment, is_short, is_struct, is_symbol, is_timestamp, is_top, is_true, is_typed_null, is_version, is_version_word, is_word, item, joined, kind_named, long_at, long_string, means, name_at, no_annotation, no_element, no_field, no_item, noted, null_of, on_name, on_ready, on_turn, one_annotation, one_token, open_mark, opened, paid, pending_at, place, place_in, reads, reads-append, released, resolved, segment, settle, spot_at, the_marker, then_walk, token_of, turn, under}
+use Rattle.ion_text.specs.Names.{Annotations, Bracket, Catalog, Content, Elements, Field, Frame, Held, IsBody, IsName, IsScalar, IsSymbol, IsWordBody, Kind, Limits, Listing, Long, Mark, Mark', Means, Members, Now, Operator, Payload, Place, Placed, Plain, Quoted, Reading, Row, Says, Segments, Short, Slot, Spells, Symbols, Token, TokenKind, Turn, Value, Word, adds_none, annotated, at, begins_long, begun_at, behind_waiting, by_long, by_short, by_symbol, close_place, comma, continues, continues_now, depth, done, element, ended, ends_long, field, field_comma, field_of, first_now, first_token, goes, greatest, held_payload, held_symbol, held_word, id_of, is_false, is_id, is_keyword, is_list, is_null, is_segment, is_struct, is_symbol, is_top, is_true, is_typed_null, is_version, is_version_word, is_word, item, joined, kind_named, long_at, long_string, means, name_at, no_annotation, no_element, no_field, no_item, noted, null_of, on_name, on_ready, on_turn, one_annotation, one_token, open_mark, opened, paid, pending_at, place, place_in, reads, reads-append, released, resolved, segment, settle, spot_at, the_marker, then_walk, token_of, turn, under}
 use Rattle.ion_model.specs.declared.value.Payload.TheVariants as payloads
 use Rattle.ion_model.specs.laws.Measures.{deepest-more, depth-at-Fields, depth-at-List, depth-at-Sexp}
 use Rattle.ion_text.specs.Grammar.{end_of, is_quoted, is_sexp}
@@ -30,10 +30,9 @@ depth-struct ss ms = depth-at-Fields (annotated ss (payloads.Fields ms)) ms refl
 
 -- tokens whose last ones end in a long string end in one
 pub ends_behind : (ts us : List Placed) → ends_long us ≡ true → ends_long (ts ++ us) ≡ true
-ends_behind [] us h = h
 ends_behind (x ∷ []) [] h = absurd cc
-ends_behind (x ∷ []) (u ∷ us) h = h
 ends_behind (x ∷ y ∷ ts) us h = ends_behind (y ∷ ts) us h
+ends_behind _ _ h = h
 
 -- tokens end with the last one
 pub last_end : (front : List Placed) (t : Placed) (ts : List Placed) (k d : ℕ) → end_of k (front ++ t ∷ ts) ≡ end_of d (t ∷ ts)
@@ -71,9 +70,7 @@ segment_kind TokenKind.Operator octets w h = absurd (spelled_other (Operator oct
 segment_kind TokenKind.QuotedSymbol octets w h = absurd (spelled_other (Quoted octets) octets w (λ e. cc) h)
 segment_kind TokenKind.ShortString octets w h = absurd (spelled_other (Short octets) octets w (λ e. cc) h)
 segment_kind TokenKind.LongString octets w h = refl
-segment_kind TokenKind.Clob octets w h = absurd cc
-segment_kind TokenKind.Blob octets w h = absurd cc
-segment_kind (TokenKind.Mark m) octets w h = absurd cc
+segment_kind _ octets w h = absurd cc
 
 -- the segments of a long string end in a long string
 pub segments_long : (p : Place) (ts : List Placed) (w : List ℕ) → Segments p ts w → ends_long ts ≡ true
@@ -81,9 +78,8 @@ segments_long p _ _ (segment t w h) = segment_kind t.lexeme.kind t.lexeme.octets
 segments_long p _ _ (joined ts v w t d h) = ends_long_more ts t ∙ segment_kind t.lexeme.kind t.lexeme.octets w h.body
   where
     ends_long_more : (ts : List Placed) (t : Placed) → ends_long (ts ++ t ∷ []) ≡ ends_long (t ∷ [])
-    ends_long_more [] t = refl
-    ends_long_more (u ∷ []) t = refl
     ends_long_more (u ∷ v ∷ ts) t = ends_long_more (v ∷ ts) t
+    ends_long_more _ t = refl
 
 -- what says a word is the token of a word, of these octets
 pub word_token : (k : TokenKind) (octets w : List ℕ) → IsBody k octets (Ok (Word w)) → (k ≡ TokenKind.Word) × (octets ≡ w)
@@ -102,9 +98,7 @@ word_token TokenKind.Operator octets w h = absurd (let e : Word w ≡ Operator o
 word_token TokenKind.QuotedSymbol octets w h = absurd (let e : Word w ≡ Quoted octets = h.0 in cc)
 word_token TokenKind.ShortString octets w h = absurd (let e : Word w ≡ Short octets = h.0 in cc)
 word_token TokenKind.LongString octets w h = absurd (let e : Word w ≡ Long octets = h.0 in cc)
-word_token TokenKind.Clob octets w h = absurd cc
-word_token TokenKind.Blob octets w h = absurd cc
-word_token (TokenKind.Mark m) octets w h = absurd cc
+word_token _ octets w h = absurd cc
 
 -- an unannotated word of the form of a marker is held as one, and nothing else
 abbrev not_version : Held → Bool
@@ -117,12 +111,8 @@ word_not_version w h = go (bytes_eq w (codes "null")) (bytes_eq w (codes "true")
     go : (a b c d e : Bool) → e ≡ false → not_version (if a then Held.Null Kind.Null else
         (if b then Held.Truth true else (if c then Held.Truth false else
         (if d then Held.Nan else (if e then Held.Version (bytes_eq w the_marker) (Some w) else Held.Symbol (Some w)))))) ≡ true
-    go true b c d e h = refl
-    go false true c d e h = refl
-    go false false true d e h = refl
-    go false false false true e h = refl
     go false false false false true h = absurd cc
-    go false false false false false h = refl
+    go _ _ _ _ _ h = refl
 
 version_word : (p : Place) (t : Placed) (w : List ℕ) → Says p t (Word w) → is_version_word (t ∷ []) ≡ is_version w
 version_word p t w h = let e = word_token t.lexeme.kind t.lexeme.octets w h.body in
@@ -140,12 +130,9 @@ word_held w h = go (bytes_eq w (codes "null")) (bytes_eq w (codes "true")) (byte
         → IsHeldAs (if a then Held.Null Kind.Null else (if b then Held.Truth true else
         (if c then Held.Truth false else (if d then Held.Nan else (if e then Held.Version (bytes_eq w the_marker) (Some w) else Held.Symbol (Some w))))))
         (Some w)
-    go true b c d e h = absurd cc
-    go false true c d e h = absurd cc
-    go false false true d e h = absurd cc
-    go false false false true e h = absurd cc
     go false false false false true h = (refl, refl)
     go false false false false false h = (refl, refl)
+    go _ _ _ _ e h = absurd cc
 
 -- where the first of the tokens begins, or else this
 abbrev pub first_start : ℕ → List Placed → ℕ
@@ -177,9 +164,7 @@ module _ (g : Catalog) (l : Limits) where
 
   begun_some : (x b : ℕ) (fs : List Frame) (ss : Symbols) (s : Option (List ℕ)) → begun_at x b fs (ss ++ s ∷ []) ≡ x
   begun_some x b [] [] s = refl
-  begun_some x b [] (y ∷ ss) s = refl
-  begun_some x b (f ∷ fs) [] s = refl
-  begun_some x b (f ∷ fs) (y ∷ ss) s = refl
+  begun_some x b _ _ s = refl
 
   starts_more : (start : ℕ) (fs : List Frame) (ts us : List Placed) (t : Placed) (ws : List Placed) → starts start fs (ts ++ t ∷ ws)
       ≡ starts start fs ((ts ++ t ∷ ws) ++ us)
@@ -244,12 +229,7 @@ module _ (g : Catalog) (l : Limits) where
   pub released_paid : (end start : ℕ) (c : List Slot) (fs : List Frame) (ss : Symbols) (h : Held) → (fs ≡ [] → ss ≡ [] → not_version h ≡ true)
       → released (under g l) (spot_at end start c) fs ss h ≡ paid (under g l) (spot_at end start c) fs ss (held_payload h)
   released_paid end start c [] [] (Held.Version b s) n = absurd (let e : false ≡ true = n refl refl in cc)
-  released_paid end start c [] [] (Held.Symbol s) n = refl
-  released_paid end start c [] [] (Held.Null k) n = refl
-  released_paid end start c [] [] (Held.Truth b) n = refl
-  released_paid end start c [] [] Held.Nan n = refl
-  released_paid end start c [] (s ∷ ss) h n = refl
-  released_paid end start c (f ∷ fs) ss h n = refl
+  released_paid end start c _ _ _ n = refl
 
   -- a token of which it isn't known whether `::` follows
   held_leads : (c : List Slot) (p : Place) (start : ℕ) (fs : List Frame) (ss : Symbols) (t : Placed) (said : Content) (h : Held) (q : Payload)
@@ -270,8 +250,7 @@ module _ (g : Catalog) (l : Limits) where
       → not_version (symbol_held t.lexeme.end start c fs ss said s d).held ≡ true
   unfolding symbol_held
   symbol_not_version c p start fs ss t _ _ h (is_word w k) v = word_not_version w (sym (version_word p t w h) ∙ v)
-  symbol_not_version c p start fs ss t _ _ h (is_id id s k) v = refl
-  symbol_not_version c p start fs ss t _ _ h (is_quoted w) v = refl
+  symbol_not_version c p start fs ss t _ _ h _ v = refl
 
   -- One token that is a value is read.
   pub scalar_read : (c : List Slot) (p : Place) (start : ℕ) (fs : List Frame) (ss : Symbols) (t : Placed) (said : Content) (q : Payload)
@@ -286,13 +265,7 @@ module _ (g : Catalog) (l : Limits) where
       let w = symbol_held t.lexeme.end (begun_at start t.lexeme.start fs ss) c fs ss said s d in
       held_leads c p start fs ss t said w.held _ here h w.waits w.is.1
       (λ i j. symbol_not_version c p (begun_at start t.lexeme.start fs ss) fs ss t said s h d (v i j))
-  scalar_read c p start fs ss t _ _ here h (is_int z) v = at_once (first_token g l p (at start c fs ss Now.Ready) t _ [] h here (inr refl))
-  scalar_read c p start fs ss t _ _ here h (is_decimal z) v = at_once (first_token g l p (at start c fs ss Now.Ready) t _ [] h here (inr refl))
-  scalar_read c p start fs ss t _ _ here h (is_timestamp z) v = at_once (first_token g l p (at start c fs ss Now.Ready) t _ [] h here (inr refl))
-  scalar_read c p start fs ss t _ _ here h (is_operator w) v = at_once (first_token g l p (at start c fs ss Now.Ready) t _ [] h here (inr refl))
-  scalar_read c p start fs ss t _ _ here h (is_short w) v = at_once (first_token g l p (at start c fs ss Now.Ready) t _ [] h here (inr refl))
-  scalar_read c p start fs ss t _ _ here h (is_clob w) v = at_once (first_token g l p (at start c fs ss Now.Ready) t _ [] h here (inr refl))
-  scalar_read c p start fs ss t _ _ here h (is_blob w) v = at_once (first_token g l p (at start c fs ss Now.Ready) t _ [] h here (inr refl))
+  scalar_read c p start fs ss t _ _ here h _ v = at_once (first_token g l p (at start c fs ss Now.Ready) t _ [] h here (inr refl))
 
   end_of_front : (ts us : List Placed) (t : Placed) (d : ℕ) → end_of d (ts ++ t ∷ us) ≡ end_of 0 (t ∷ us)
   end_of_front [] us t d = refl
@@ -303,11 +276,15 @@ module _ (g : Catalog) (l : Limits) where
   read_behind r n ts us e = reads-append g l ts us r ∙ (ap (λ x. then_walk x (λ k. reads g l k us)) e ∙ adds_none g l (reads g l n us))
 
   -- behind tokens that led somewhere
+  leads_as : (c : List Slot) (fs : List Frame) (r n : Reading) (ts us : List Placed) (t : Turn) → reads g l r (ts ++ us) ≡ reads g l n us
+      → LeadsToTurn c fs n us t → LeadsToTurn c fs r (ts ++ us) t
+  leads_as c fs r n ts us t e (at_once h) = at_once (e ∙ h)
+  leads_as c fs r n ts us t e (by_held start ss h end i j) = by_held start ss h end (e ∙ i) j
+  leads_as c fs r n ts us t e (by_long' start ss w end i j k) = by_long' start ss w end (e ∙ i) j (ends_behind ts us k)
+
   leads_behind : (c : List Slot) (fs : List Frame) (r n : Reading) (ts us : List Placed) (t : Turn) → reads g l r ts ≡ done n → LeadsToTurn c fs n us t
       → LeadsToTurn c fs r (ts ++ us) t
-  leads_behind c fs r n ts us t e (at_once h) = at_once (read_behind r n ts us e ∙ h)
-  leads_behind c fs r n ts us t e (by_held start ss h end i j) = by_held start ss h end (read_behind r n ts us e ∙ i) j
-  leads_behind c fs r n ts us t e (by_long' start ss w end i j k) = by_long' start ss w end (read_behind r n ts us e ∙ i) j (ends_behind ts us k)
+  leads_behind c fs r n ts us t e d = leads_as c fs r n ts us t (read_behind r n ts us e) d
 
   -- In a container a value leads to one state, though what waits may not be put into it yet.
   pub record Reached (c : List Slot) (r : Reading) (ts : List Placed) (n : Reading) : Type 0 where
@@ -324,24 +301,7 @@ module _ (g : Catalog) (l : Limits) where
     where
       go : (s : Content) → continues_now (is_top fs) (Now.Pending h end) (record { start = 0; end = 0; said = s }) ≡ true → s ≡ Mark' Mark.Colons
       go (Mark' Mark.Colons) e = refl
-      go (Mark' Mark.FieldsOpen) e = absurd cc
-      go (Mark' Mark.FieldsClose) e = absurd cc
-      go (Mark' Mark.ListOpen) e = absurd cc
-      go (Mark' Mark.ListClose) e = absurd cc
-      go (Mark' Mark.SexpOpen) e = absurd cc
-      go (Mark' Mark.SexpClose) e = absurd cc
-      go (Mark' Mark.Comma) e = absurd cc
-      go (Mark' Mark.Colon) e = absurd cc
-      go (Word w) e = absurd cc
-      go (Id k) e = absurd cc
-      go (Quoted w) e = absurd cc
-      go (Short w) e = absurd cc
-      go (Long w) e = absurd cc
-      go (Number' k) e = absurd cc
-      go (TypedNull k) e = absurd cc
-      go (Operator w) e = absurd cc
-      go (Clob w) e = absurd cc
-      go (Blob w) e = absurd cc
+      go _ e = absurd cc
 
   long_goes : (start : ℕ) (c : List Slot) (f : Frame) (fs : List Frame) (ss : Symbols) (w : List ℕ) (end : ℕ) (t : Token)
       → continues (at start c (f ∷ fs) ss (Now.Long w end)) t ≡ true → (v : List ℕ) × (t.said ≡ Long v)
@@ -349,16 +309,7 @@ module _ (g : Catalog) (l : Limits) where
     where
       go : (s : Content) → continues_now false (Now.Long w end) (record { start = t.start; end = t.end; said = s }) ≡ true → (v : List ℕ) × (s ≡ Long v)
       go (Long v) e = (v, refl)
-      go (Mark' m) e = absurd cc
-      go (Word w) e = absurd cc
-      go (Id k) e = absurd cc
-      go (Quoted w) e = absurd cc
-      go (Short w) e = absurd cc
-      go (Number' k) e = absurd cc
-      go (TypedNull k) e = absurd cc
-      go (Operator w) e = absurd cc
-      go (Clob w) e = absurd cc
-      go (Blob w) e = absurd cc
+      go _ e = absurd cc
 
   reached : (c : List Slot) (f : Frame) (fs : List Frame) (r n : Reading) (ts : List Placed) → settle g l n ≡ goes n → ((t : Token) → continues n t ≡ false)
       → LeadsToTurn c (f ∷ fs) r ts (goes n) → Reached c r ts n
@@ -378,20 +329,7 @@ module _ (g : Catalog) (l : Limits) where
   mark_shut : (top : Bool) (n : Now) (start end : ℕ) (m : Mark) → (m ≡ Mark.Colons → ⊥)
       → continues_now top n (record { start = start; end = end; said = Mark' m }) ≡ false
   mark_shut top (Now.Pending h e) start end Mark.Colons k = absurd (k refl)
-  mark_shut top (Now.Pending h e) start end Mark.Colon k = refl
-  mark_shut top (Now.Pending h e) start end Mark.Comma k = refl
-  mark_shut top (Now.Pending h e) start end Mark.FieldsOpen k = refl
-  mark_shut top (Now.Pending h e) start end Mark.FieldsClose k = refl
-  mark_shut top (Now.Pending h e) start end Mark.ListOpen k = refl
-  mark_shut top (Now.Pending h e) start end Mark.ListClose k = refl
-  mark_shut top (Now.Pending h e) start end Mark.SexpOpen k = refl
-  mark_shut top (Now.Pending h e) start end Mark.SexpClose k = refl
-  mark_shut top (Now.Long w e) start end m k = refl
-  mark_shut top (Now.LongName w) start end m k = refl
-  mark_shut top Now.Ready start end m k = refl
-  mark_shut top Now.After start end m k = refl
-  mark_shut top Now.Name start end m k = refl
-  mark_shut top (Now.Keyed s) start end m k = refl
+  mark_shut top _ start end _ k = refl
 
   -- behind what was reached, a mark is read where nothing waits
   mark_behind : (c : List Slot) (p : Place) (r n : Reading) (ts : List Placed) (t : Placed) (m : Mark) → p ≡ place n → Reached c r ts n → Says p t (Mark' m)
@@ -416,22 +354,11 @@ module _ (g : Catalog) (l : Limits) where
   -- no symbol is `::`
   pub symbol_no_colons : (c : List Slot) (said : Content) (s : Option (List ℕ)) → IsSymbol c said s → said ≡ Mark' Mark.Colons → ⊥
   symbol_no_colons c _ _ (is_word w h) e = cc
-  symbol_no_colons c _ _ (is_id id s h) e = cc
-  symbol_no_colons c _ _ (is_quoted w) e = cc
+  symbol_no_colons c _ _ _ e = cc
 
   scalar_no_colons : (c : List Slot) (said : Content) (q : Payload) → IsScalar c said q → said ≡ Mark' Mark.Colons → ⊥
-  scalar_no_colons c _ _ is_null e = cc
-  scalar_no_colons c _ _ (is_typed_null k) e = cc
-  scalar_no_colons c _ _ is_true e = cc
-  scalar_no_colons c _ _ is_false e = cc
-  scalar_no_colons c _ _ (is_int z) e = cc
-  scalar_no_colons c _ _ (is_decimal z) e = cc
-  scalar_no_colons c _ _ (is_timestamp z) e = cc
   scalar_no_colons c _ _ (is_symbol said s d) e = symbol_no_colons c said s d e
-  scalar_no_colons c _ _ (is_operator w) e = cc
-  scalar_no_colons c _ _ (is_short w) e = cc
-  scalar_no_colons c _ _ (is_clob w) e = cc
-  scalar_no_colons c _ _ (is_blob w) e = cc
+  scalar_no_colons c _ _ _ e = cc
 
   begins_more : (p : Place) (ts us : List Placed) → Begins p ts → Begins p (ts ++ us)
   begins_more p ts us b = record {
@@ -486,7 +413,9 @@ module _ (g : Catalog) (l : Limits) where
   -- the first token of a value doesn't go on with what waits
   first_shut : (c : List Slot) (p : Place) (r n : Reading) (ts us : List Placed) (d : Reached c r ts n) (b : Begins p us) → (ends_long ts && begins_long us)
       ≡ false → continues d.now (token_of b.first.lexeme b.said) ≡ false
-  first_shut c p r n ts us d b e = go (continues d.now (token_of b.first.lexeme b.said)) refl
+  first_shut c p r n ts us d b e =
+      let t = token_of b.first.lexeme b.said in
+      false_from_ne_true (continues d.now t) (λ k. none t refl (d.shuts t k))
     where
       segment_first : (w : List ℕ) → b.said ≡ Long w → begins_long us ≡ true
       segment_first w h = ap begins_long b.cut ∙ segment_kind b.first.lexeme.kind b.first.lexeme.octets w
@@ -500,10 +429,6 @@ module _ (g : Catalog) (l : Limits) where
           let never : true ≡ false = sym both ∙ e in
           cc
 
-      go : (x : Bool) → continues d.now (token_of b.first.lexeme b.said) ≡ x → x ≡ false
-      go false k = refl
-      go true k = absurd (none (token_of b.first.lexeme b.said) refl (d.shuts (token_of b.first.lexeme b.said) k))
-
   -- a value behind what was reached in an s-expression
   pub item_behind : (c : List Slot) (p : Place) (r n : Reading) (ts us : List Placed) → settle g l n ≡ goes n → p ≡ place n → Reached c r ts n → Begins p us
       → (ends_long ts && begins_long us) ≡ false → reads g l r (ts ++ us) ≡ reads g l n us
@@ -513,12 +438,6 @@ module _ (g : Catalog) (l : Limits) where
       ∙ (behind_waiting g l p d.now n b.first b.said b.later b.says here (first_shut c p r n ts us d b e) d.settles
       ∙ (sym (first_token g l p n b.first b.said b.later b.says here (inr s))
       ∙ sym (ap (reads g l n) b.cut))))
-
-  leads_as : (c : List Slot) (fs : List Frame) (r n : Reading) (ts us : List Placed) (t : Turn) → reads g l r (ts ++ us) ≡ reads g l n us
-      → LeadsToTurn c fs n us t → LeadsToTurn c fs r (ts ++ us) t
-  leads_as c fs r n ts us t e (at_once h) = at_once (e ∙ h)
-  leads_as c fs r n ts us t e (by_held start ss h end i j) = by_held start ss h end (e ∙ i) j
-  leads_as c fs r n ts us t e (by_long' start ss w end i j k) = by_long' start ss w end (e ∙ i) j (ends_behind ts us k)
 
   -- without annotations the payload's tokens are the value's
   unnoted : (c : List Slot) (p : Place) (notes ts : List Placed) (ss : Symbols) (fs : List Frame) → Annotations c p notes ss

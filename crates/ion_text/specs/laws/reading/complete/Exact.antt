@@ -1,7 +1,7 @@
 -- Where quotes are open, they are the octets since the token began.
-use Rattle.std.proofs.Common.{◌≡◌, ℕ, ◌+◌, Bool, true, false, cond, List, [], refl, arith, Option, Some, None}
+use Rattle.std.proofs.Common.{◌≡◌, ℕ, ◌+◌, Bool, true, false, List, [], refl, arith, Option, Some, None}
 use Rattle.std.specs.Prelude.{◌==◌, ◌&&◌, ◌||◌, not, bytes_eq, codes}
-use Rattle.std.proofs.lemmas.Bool.{and_parts}
+use Rattle.std.proofs.lemmas.Bool.{and_parts, cond_both}
 use Rattle.ion_text.specs.Names.{Action, Given, Known, Left, Mode, Next, Outcome, Place, Refused, TokenKind, acts, blob_ends, blob_of, cut, feed, go_to, past, start_of}
 use Rattle.ion_tokens.specs.machine.Table.{next}
 use Rattle.ion_tokens.specs.laws.ByRows.{by_rows}
@@ -64,21 +64,16 @@ left_exact p kind _ k start used h = record { is = tt }
 
 acts_exact : (p : Place) (s : Known) (o : ℕ) (a : Action) → blank_fits (is_blank s.mode) (is_one s.mode) a ≡ true → Exact s → Exactly (acts p s o a)
 acts_exact p s o (Action.Go m k) f e = went m s _ f e
-acts_exact p s o (Action.Give kind k) f e = record { is = tt }
 acts_exact p s o (Action.Before kind k m) f e = left_exact p kind m _ _ _ f
-acts_exact p s o Action.EndWord f e = word ((o == 46) && bytes_eq s.kept (codes "null"))
-  where
-    word : (b : Bool) → Exactly (cond b (Next (go_to s Mode.KindName []))
-        (Left (cut s TokenKind.Word s.kept s.used) (past p TokenKind.Word Mode.Blank [] s.used s.used)))
-    word true = record { is = tt }
-    word false = record { is = tt }
-acts_exact p s o (Action.Split n) f e = record { is = tt }
+acts_exact p s o Action.EndWord f e = cond_both ((o == 46) && bytes_eq s.kept (codes "null")) (Next (go_to s Mode.KindName []))
+    (Left (cut s TokenKind.Word s.kept s.used) (past p TokenKind.Word Mode.Blank [] s.used s.used)) Exactly (λ b. record { is = tt }) (λ b. record { is = tt })
 acts_exact p s o Action.EndBlob f e = blob (blob_of s.kept)
   where
     blob : (b : Option (List ℕ)) → Exactly (blob_ends s b)
     blob None = tt
     blob (Some octets) = record { is = tt }
 acts_exact p s o (Action.Refuse x) f e = tt
+acts_exact p s o _ f e = record { is = tt }
 
 -- Open quotes stay the octets since the token began.
 pub feed_exact : (p : Place) (s : Known) (o : ℕ) → Exact s → Exactly (feed p s o)

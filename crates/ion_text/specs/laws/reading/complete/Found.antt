@@ -1,6 +1,6 @@
 -- The scanner meets the tokens that octets are.
 use Rattle.std.proofs.Common.{◌≡◌, ℕ, ◌+◌, ◌-◌, Bool, true, false, List, [], ◌∷◌, ◌++◌, length, drop, refl, sym, ap, ◌∙◌, subst, arith, Ok, Some, None, ◌⊎◌, inl, inr}
-use Rattle.ion_text.specs.Names.{Catalog, Content, Given, IsLexeme, Known, Leading, Left, Lexeme, Lexes, LexesBefore, Limits, Next, Outcome, Place, Placed, Reading, Refused, TokenKind, Turn, Value, at_end, continues, feed, follow, followed, gives, goes, initial, is_sexp, is_top, late, refuses, said, said_body, scan as run, settle, settle_still, token_of, turn}
+use Rattle.ion_text.specs.Names.{Catalog, Content, Given, IsLexeme, Known, Leading, Left, Lexeme, Lexes, LexesBefore, Limits, Next, Outcome, Place, Placed, Reading, TokenKind, Turn, Value, at_end, continues, feed, follow, followed, gives, goes, initial, is_sexp, is_top, said, said_body, scan as run, settle, settle_still, token_of, turn}
 use Rattle.ion_tokens.specs.machine.Told.{Begun}
 use Rattle.ion_tokens.proofs.complete.Found as found
 use Rattle.ion_tokens.proofs.histories.Histories.{behind_front, stands_finds}
@@ -88,9 +88,8 @@ given_met (o ∷ os) rest s s' t ts e n m = go (feed t.place s o) refl e (λ k f
         by d = cut d.octets d.rest d.cut d.ran d.used
           where
             cut : (xs ys : List ℕ) → o ∷ [] ≡ xs ++ ys → run t.place xs s ≡ Given l s' → s'.used ≡ s.used + length xs → s'.used ≡ s.used + 1
-            cut [] ys c r u = absurd cc
             cut (y ∷ []) ys c r u = u
-            cut (y ∷ z ∷ xs) ys c r u = absurd cc
+            cut _ ys c r u = absurd cc
 
     go : (x : Outcome) → feed t.place s o ≡ x → follow x (λ k. run t.place os k) ≡ Given t.lexeme s'
         → ((k : Known) → run t.place os k ≡ Given t.lexeme s' → s'.used ≡ k.used + length os → Meets k (os ++ rest) (t ∷ ts))
@@ -100,8 +99,7 @@ given_met (o ∷ os) rest s s' t ts e n m = go (feed t.place s o) refl e (λ k f
         let u = one t.lexeme (f ∙ h) in
         let none : os ≡ [] = no_more os (omega (arith, u, n)) in
         is_given s o (os ++ rest) t ts s' (f ∙ h) (subst (λ y. Meets s' (y ++ rest) ts) (sym none) m)
-    go (Left x k) f h more = absurd cc
-    go (Refused i x) f h more = absurd cc
+    go _ f h more = absurd cc
 
 left_met : (os : List ℕ) (x : ℕ) (rest : List ℕ) (s s' : Known) (t : Placed) (ts : List Placed) → run t.place (os ++ x ∷ []) s ≡ Left t.lexeme s'
     → s'.used ≡ s.used + length os → Meets s' (x ∷ rest) ts → Meets s (os ++ x ∷ rest) (t ∷ ts)
@@ -109,9 +107,7 @@ left_met [] x rest s s' t ts e n m = go (feed t.place s x) refl e
   where
     go : (y : Outcome) → feed t.place s x ≡ y → follow y (λ k. Next k) ≡ Left t.lexeme s' → Meets s (x ∷ rest) (t ∷ ts)
     go (Left l k) f h = is_left s x rest t ts s' (f ∙ h) m
-    go (Next k) f h = absurd cc
-    go (Given l k) f h = absurd cc
-    go (Refused i l) f h = absurd cc
+    go _ f h = absurd cc
 left_met (o ∷ os) x rest s s' t ts e n m = go (feed t.place s o) refl e (λ k f i. left_met os x rest k s' t ts f i m)
   where
     one : (l : Lexeme) → feed t.place s o ≡ Left l s' → s'.used ≡ s.used
@@ -130,8 +126,7 @@ left_met (o ∷ os) x rest s s' t ts e n m = go (feed t.place s o) refl e (λ k 
         → Meets s (o ∷ os ++ x ∷ rest) (t ∷ ts)
     go (Next k) f h more = goes_on s o (os ++ x ∷ rest) t ts k f (more k h (let u = feed_used t.place s k o f in omega (arith, u, n)))
     go (Left l k) f h more = let u = one t.lexeme (f ∙ h) in absurd (omega (arith, u, n))
-    go (Given l k) f h more = absurd cc
-    go (Refused i l) f h more = absurd cc
+    go _ f h more = absurd cc
 
 module _ (g : Catalog) (l : Limits) where
   -- some reading from which the tokens go on
@@ -141,8 +136,7 @@ module _ (g : Catalog) (l : Limits) where
   turned_goes : (t : Turn) (ts : List Placed) (all : List Value) → TurnGoes g l t ts all → Goes ts
   turned_goes (goes r) ts all d = (r, all, d)
   turned_goes (gives v r) ts all d = (r, d.0, d.2)
-  turned_goes (refuses e) ts all d = absurd d
-  turned_goes (late e r) ts all d = absurd d
+  turned_goes _ ts all d = absurd d
 
   -- from the tokens behind one
   next_goes : (t : Placed) (ts : List Placed) → Goes (t ∷ ts) → Goes ts
@@ -153,8 +147,7 @@ module _ (g : Catalog) (l : Limits) where
           turned_goes (turn g l m (token_of t.lexeme p.1)) ts all (going_turn g l m t ts all p.1 e p.2 (inr k))
       settled (gives v m) k e = let p = going_said g l m t ts e.0 e.2 in
           turned_goes (turn g l m (token_of t.lexeme p.1)) ts e.0 (going_turn g l m t ts e.0 p.1 e.2 p.2 (inr k))
-      settled (refuses y) k e = absurd e
-      settled (late y m) k e = absurd e
+      settled _ k e = absurd e
 
       go : (b : Bool) → continues r (token_of t.lexeme (going_said g l r t ts all d).1) ≡ b → Goes ts
       go true w = let p = going_said g l r t ts all d in turned_goes (turn g l r (token_of t.lexeme p.1)) ts all (going_turn g l r t ts all p.1 d p.2 (inl w))

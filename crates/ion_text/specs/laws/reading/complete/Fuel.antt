@@ -1,7 +1,7 @@
 -- An octet that is left is taken up at most twice more, so that three tries are enough.
 use Rattle.std.proofs.Common.{◌≡◌, ℕ, suc, Bool, true, false, refl, sym, ap, subst, Result, Ok, Err, if◌then◌else◌, ◌⊎◌, inl, inr}
 use Rattle.std.specs.Prelude.{◌&&◌, not, nat_le}
-use Rattle.ion_text.specs.Names.{Catalog, Content, Effect, Given, IsUsed, Known, LeavesIn, Left, LeftIn, Lexeme, Limits, Mode, Next, Outcome, Place, Reading, Reason, Refused, Run, State, TokenKind, Turn, behind_given, behind_left, eats, fails, feed, gives, goes, is_idle, late, leaves, noticed, on_octet, on_said, on_scan, on_settled, once_more, or_worse, place, reaches, refuses, run_on, said, settle, shut, takes, tells, token_of, turn, unsettled, uses, with_scan}
+use Rattle.ion_text.specs.Names.{Catalog, Content, Effect, Given, IsUsed, Known, LeavesIn, Left, LeftIn, Lexeme, Limits, Mode, Next, Outcome, Place, Reading, Reason, Refused, Run, State, TokenKind, Turn, behind_given, behind_left, eats, fails, feed, goes, is_idle, late, leaves, noticed, on_octet, on_said, on_scan, on_settled, once_more, or_worse, place, reaches, run_on, said, settle, shut, takes, token_of, turn, unsettled, uses, with_scan}
 use Rattle.ion_tokens.specs.laws.Again as again
 use Rattle.ion_tokens.specs.laws.Again.{blank_uses, slash_uses, word_leaves}
 use Rattle.ion_text.specs.laws.reading.sound.Quotes.{Fine, Finely, feed_fine}
@@ -26,9 +26,7 @@ Leaving o _ = Unit {0}
 
 used_then : (o : ℕ) (x : Outcome) → IsUsed x → UsedThen o x
 used_then o (Left x t) u = absurd u
-used_then o (Next t) u = tt
-used_then o (Given x t) u = tt
-used_then o (Refused n e) u = tt
+used_then o _ u = tt
 
 used_twice : (s : Known) (o : ℕ) → UsedHere s o → Twice s o
 used_twice s o h p = used_then o (feed p s o) (h p)
@@ -38,9 +36,7 @@ word_twice s o e p = go (feed p s o) refl
   where
     go : (x : Outcome) → feed p s o ≡ x → UsedThen o x
     go (Left x t) f = λ q. blank_uses q t o (word_leaves p s t o x e f)
-    go (Next t) f = tt
-    go (Given x t) f = tt
-    go (Refused n y) f = tt
+    go _ f = tt
 
 by_mode : (s : Known) (x : Lexeme) (o : ℕ) → LeftIn o s.mode → (is_idle s.mode ≡ true) ⊎ (x.kind ≡ TokenKind.Operator) → Leaving o (Left x s)
 by_mode s x o = go s.mode refl
@@ -53,21 +49,7 @@ by_mode s x o = go s.mode refl
     go Mode.Slash e h i = once (λ p. slash_uses p s o e h)
     go Mode.Word e h (inl i) = absurd cc
     go Mode.Word e h (inr i) = (inr i, word_twice s o e)
-    go Mode.LineComment e h i = absurd h
-    go Mode.BlockComment e h i = absurd h
-    go Mode.BlockCommentStar e h i = absurd h
-    go Mode.Colon e h i = absurd h
-    go Mode.KindName e h i = absurd h
-    go Mode.Number e h i = absurd h
-    go Mode.NumberSlash e h i = absurd h
-    go (Mode.Operator n) e h i = absurd h
-    go Mode.OperatorSlash e h i = absurd h
-    go (Mode.Infinity n) e h i = absurd h
-    go Mode.Quote e h i = absurd h
-    go Mode.Quotes e h i = absurd h
-    go (Mode.Text t w) e h i = absurd h
-    go Mode.Brace e h i = absurd h
-    go (Mode.Lob t) e h i = absurd h
+    go _ e h i = absurd h
 
 -- an octet that is left is used next, or behind an operator left once more at most
 pub feed_leaves : (p : Place) (s : Known) (o : ℕ) → Fine s → Leaving o (feed p s o)
@@ -75,24 +57,19 @@ feed_leaves p s o f = go (feed p s o) (again.feed_leaves p s o) (feed_fine p s o
   where
     go : (x : Outcome) → LeavesIn o x → Finely s.mode x → Leaving o x
     go (Left x t) h k = by_mode t x o h k.4
-    go (Next t) h k = tt
-    go (Given x t) h k = tt
-    go (Refused n e) h k = tt
+    go _ h k = tt
 
 module _ (g : Catalog) (l : Limits) where
   -- where the octet is used, it isn't taken up again
   scan_used : (a b : State → Effect) (r : Reading) (x : Outcome) → IsUsed x → on_scan g l a r x ≡ on_scan g l b r x
-  scan_used a b r (Next s) u = refl
-  scan_used a b r (Given x s) u = refl
   scan_used a b r (Left x s) u = absurd u
-  scan_used a b r (Refused n e) u = refl
+  scan_used a b r _ u = refl
 
   settled_used : (a b : State → Effect) (s : Known) (x : Outcome) (t : Turn) → ((r : Reading) → on_scan g l a r x ≡ on_scan g l b r x)
       → on_settled g l a s x t ≡ on_settled g l b s x t
   settled_used a b s x (goes r) h = h r
-  settled_used a b s x (gives v r) h = refl
-  settled_used a b s x (refuses e) h = refl
   settled_used a b s x (late e r) h = ap (or_worse e) (h r)
+  settled_used a b s x _ h = refl
 
   octet_used : (a b : State → Effect) (m : State) (x : Outcome) → ((r : Reading) → on_scan g l a r x ≡ on_scan g l b r x)
       → on_octet g l a m x ≡ on_octet g l b m x
@@ -109,9 +86,8 @@ module _ (g : Catalog) (l : Limits) where
 
   left_same : (a b : State → Effect) (s : Known) (t : Turn) → ((r : Reading) → a (with_scan s r) ≡ b (with_scan s r)) → behind_left a s t ≡ behind_left b s t
   left_same a b s (goes r) h = h r
-  left_same a b s (gives v r) h = refl
-  left_same a b s (refuses e) h = refl
   left_same a b s (late e r) h = ap (or_worse e) (h r)
+  left_same a b s _ h = refl
 
   said_same : (f h : Content → Effect) (c : Result Content Reason) → ((c : Content) → f c ≡ h c) → on_said c f ≡ on_said c h
   said_same f h (Ok c) e = e c
@@ -123,13 +99,11 @@ module _ (g : Catalog) (l : Limits) where
       (λ r. same r (feed (place m.reading) m.scan o) (u (place m.reading)))
     where
       same : (r : Reading) (x : Outcome) → UsedThen o x → on_scan g l (λ x. takes g l 1 x o) r x ≡ on_scan g l (λ x. takes g l 2 x o) r x
-      same r (Next s) h = refl
-      same r (Given x s) h = refl
-      same r (Refused n e) h = refl
       same r (Left x s) h =
           said_same (λ c. behind_left (λ x. takes g l 1 x o) s (turn g l r (token_of x c)))
           (λ c. behind_left (λ x. takes g l 2 x o) s (turn g l r (token_of x c))) (said x.kind x.octets)
           (λ c. left_same (λ x. takes g l 1 x o) (λ x. takes g l 2 x o) s (turn g l r (token_of x c)) (λ n. once_fuel 0 1 (with_scan s n) o h))
+      same r _ h = refl
 
   -- where an octet is used and nothing waits, it ends no value before it
   abbrev pub NotLeaves : Effect → Type 0
@@ -141,22 +115,18 @@ module _ (g : Catalog) (l : Limits) where
   noticed_stays r s = go (shut r.now && not (is_idle s.mode)) (nat_le (reaches r.frames r s) l.item)
     where
       go : (a b : Bool) → NotLeaves (if a then fails Reason.Unexpected else (if b then uses (record { scan = s; reading = r }) else fails Reason.ItemTooLong))
-      go true b = tt
       go false true = tt
-      go false false = tt
+      go _ _ = tt
 
   worse_stays : (e : Reason) (x : Effect) → NotLeaves (or_worse e x)
   worse_stays e (uses m) = tt
-  worse_stays e (tells v m) = tt
-  worse_stays e (leaves v m) = tt
-  worse_stays e (fails f) = tt
+  worse_stays e _ = tt
 
   -- an octet that is the last of a token ends no value before it
   pub given_stays : (s : Known) (t : Turn) → NotLeaves (behind_given l s t)
   given_stays s (goes r) = noticed_stays r s
-  given_stays s (gives v r) = tt
-  given_stays s (refuses e) = tt
   given_stays s (late e r) = worse_stays e (noticed l r s)
+  given_stays s _ = tt
 
   -- where what a token says ends no value before its octet, neither does the token
   pub said_stays : (c : Result Content Reason) (f : Content → Effect) → ((c : Content) → NotLeaves (f c)) → NotLeaves (on_said c f)
@@ -182,7 +152,5 @@ module _ (g : Catalog) (l : Limits) where
 
   -- then once more is as at the first time
   pub more_same : (to : ℕ) (again : State → Effect) (rest : State → Run) (x : Effect) → NotLeaves x → once_more to rest x ≡ run_on to again rest x
-  more_same to again rest (uses m) h = refl
-  more_same to again rest (tells v m) h = refl
   more_same to again rest (leaves v m) h = absurd h
-  more_same to again rest (fails e) h = refl
+  more_same to again rest _ h = refl

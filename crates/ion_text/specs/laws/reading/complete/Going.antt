@@ -1,10 +1,10 @@
 -- Tokens that go on to the end of a document, read one by one, and that the reader of octets has no reason to refuse before.
-use Rattle.std.proofs.Common.{◌≡◌, ℕ, ◌+◌, ◌≤◌, List, [], ◌∷◌, ◌++◌, Bool, true, false, Result, Ok, Err, Option, Some, None, refl, ap, sym, ◌∙◌, subst, arith, ◌⊎◌, inl, inr}
+use Rattle.std.proofs.Common.{◌≡◌, ℕ, ◌+◌, ◌≤◌, List, [], ◌∷◌, ◌++◌, Bool, true, false, Result, Ok, Option, Some, None, refl, ap, sym, ◌∙◌, subst, arith, ◌⊎◌, inl, inr}
 use Rattle.std.proofs.lemmas.Bool.{cond-false}
-use Rattle.ion_text.specs.Names.{Blob, Catalog, Clob, Content, Frame, Given, Id, IsBody, IsWordBody, Known, Leading, Left, Lexeme, Limits, Long, Mark, Mark', Next, Now, Number', Operator, Place, Placed, Quoted, Reading, Reason, Says, Short, Slot, Symbols, Token, TokenKind, Turn, TypedNull, Value, Walk, Word, adds_values, at, begun_at, continues, done, end_of, feed, first_token, follow, fresh, gives, goes, id_of, in_place, is_fresh, is_idle, is_sexp, is_top, kind_named, late, null_of, on_judged, on_placed, on_turn, place, place_in, reads, refuses, said, said_body, same_is, same_place, settle, settle_same, settle_still, stopped, token_of, turn}
+use Rattle.ion_text.specs.Names.{Catalog, Content, Frame, Given, IsBody, IsWordBody, Known, Leading, Left, Lexeme, Limits, Long, Mark, Mark', Next, Now, Operator, Place, Placed, Quoted, Reading, Reason, Says, Short, Slot, Symbols, Token, TokenKind, Turn, Value, Walk, Word, adds_values, at, begun_at, continues, done, end_of, feed, first_token, follow, fresh, gives, goes, id_of, in_place, is_fresh, is_idle, is_sexp, is_top, kind_named, late, null_of, on_judged, on_placed, on_turn, place, place_in, reads, refuses, said, said_body, same_is, same_place, settle, settle_same, settle_still, stopped, token_of, turn}
 use Rattle.ion_tokens.proofs.runs.Runs.{feed_used, left_used}
 use Rattle.ion_text.specs.machine.TokenLists.{walked}
-use Rattle.ion_text.specs.laws.reading.complete.Meets.{Meets, at_blank, at_token, end_spans, finely_as, goes_on, idle_span, in_blank, is_given, is_left, one_given}
+use Rattle.ion_text.specs.laws.reading.complete.Meets.{Meets, at_token, end_spans, finely_as, goes_on, idle_span, is_given, is_left, one_given}
 use Rattle.ion_text.specs.laws.reading.sound.Quotes.{Fine, is_close}
 use Rattle.ion_text.specs.laws.reading.sound.Spans.{IsClose, IsTopNow, IsWaiting, OpenAs, SettlesWithin, Spans, settle_spans, turn_spans}
 use Rattle.ion_text.specs.laws.reading.sound.StandsOpen.{EndsAt, end_of_now, start_now}
@@ -21,14 +21,8 @@ top_place (f ∷ fs) now h = absurd cc
 
 start_inside : (now : Now) (start begin : ℕ) (fs : List Frame) (ss : Symbols) → is_top fs ≡ false → start_now now start begin fs ss ≡ start
 start_inside Now.Ready start begin (f ∷ fs) [] h = refl
-start_inside Now.Ready start begin (f ∷ fs) (s ∷ ss) h = refl
 start_inside Now.Ready start begin [] ss h = absurd cc
-start_inside (Now.Pending k end) start begin fs ss h = refl
-start_inside (Now.Long w end) start begin fs ss h = refl
-start_inside Now.After start begin fs ss h = refl
-start_inside Now.Name start begin fs ss h = refl
-start_inside (Now.LongName w) start begin fs ss h = refl
-start_inside (Now.Keyed s) start begin fs ss h = refl
+start_inside _ start begin _ _ h = refl
 
 -- a mark is said by a mark alone
 pub mark_kind : (k : TokenKind) (octets : List ℕ) (m : _) → IsBody k octets (Ok (Mark' m)) → k ≡ TokenKind.Mark m
@@ -48,30 +42,14 @@ mark_kind TokenKind.Operator octets m h = absurd (let e : Mark' m ≡ Operator o
 mark_kind TokenKind.QuotedSymbol octets m h = absurd (let e : Mark' m ≡ Quoted octets = h.0 in cc)
 mark_kind TokenKind.ShortString octets m h = absurd (let e : Mark' m ≡ Short octets = h.0 in cc)
 mark_kind TokenKind.LongString octets m h = absurd (let e : Mark' m ≡ Long octets = h.0 in cc)
-mark_kind TokenKind.Clob octets m h = absurd cc
-mark_kind TokenKind.Blob octets m h = absurd cc
+mark_kind _ octets m h = absurd cc
 
 -- what closes a container is a close
 pub closes_kind : (k : TokenKind) (octets : List ℕ) (said : Content) → IsClose false said → IsBody k octets (Ok said) → is_close k ≡ true
 closes_kind k octets (Mark' Mark.ListClose) c h = ap is_close (mark_kind k octets Mark.ListClose h)
 closes_kind k octets (Mark' Mark.SexpClose) c h = ap is_close (mark_kind k octets Mark.SexpClose h)
 closes_kind k octets (Mark' Mark.FieldsClose) c h = ap is_close (mark_kind k octets Mark.FieldsClose h)
-closes_kind k octets (Mark' Mark.FieldsOpen) c h = absurd c
-closes_kind k octets (Mark' Mark.ListOpen) c h = absurd c
-closes_kind k octets (Mark' Mark.SexpOpen) c h = absurd c
-closes_kind k octets (Mark' Mark.Comma) c h = absurd c
-closes_kind k octets (Mark' Mark.Colon) c h = absurd c
-closes_kind k octets (Mark' Mark.Colons) c h = absurd c
-closes_kind k octets (Word w) c h = absurd c
-closes_kind k octets (Id n) c h = absurd c
-closes_kind k octets (Quoted w) c h = absurd c
-closes_kind k octets (Short w) c h = absurd c
-closes_kind k octets (Long w) c h = absurd c
-closes_kind k octets (Number' n) c h = absurd c
-closes_kind k octets (TypedNull n) c h = absurd c
-closes_kind k octets (Operator w) c h = absurd c
-closes_kind k octets (Clob w) c h = absurd c
-closes_kind k octets (Blob w) c h = absurd c
+closes_kind k octets _ c h = absurd c
 
 module _ (g : Catalog) (l : Limits) where
   -- the tokens lead from the reading to the end of a document, with all these values
@@ -88,8 +66,7 @@ module _ (g : Catalog) (l : Limits) where
   abbrev pub TurnGoes : Turn → List Placed → List Value → Type 0
   TurnGoes (goes r) ts all = Going r ts all
   TurnGoes (gives v r) ts all = (rest : List Value) × (all ≡ v ∷ rest) × Going r ts rest
-  TurnGoes (refuses e) ts all = ⊥
-  TurnGoes (late e r) ts all = ⊥
+  TurnGoes _ ts all = ⊥
 
   values_in : Walk → List Value
   values_in (walked vs r) = vs
@@ -110,8 +87,7 @@ module _ (g : Catalog) (l : Limits) where
   turn_goes (gives v r) ts vs later all n c e f h =
       let a = added v vs n (reads g l r ts) e in
       (a.0 ++ later, h ∙ ap (λ x. x ++ later) a.2, record { vs = a.0; later = later; n = n; c = c; read = a.1; ends = f; whole = refl })
-  turn_goes (refuses x) ts vs later all n c e f h = absurd cc
-  turn_goes (late x r) ts vs later all n c e f h = absurd cc
+  turn_goes _ ts vs later all n c e f h = absurd cc
 
   -- a token that is read next stands in its place and says something
   pub going_said : (r : Reading) (t : Placed) (ts : List Placed) (all : List Value) → Going r (t ∷ ts) all → (t.place ≡ place r) × (c : Content)
@@ -122,8 +98,7 @@ module _ (g : Catalog) (l : Limits) where
           → on_placed g l b (on_judged g l r t s (λ k. reads g l k ts)) ≡ walked d.vs d.n → (t.place ≡ place r) × (c : Content)
           × (said t.lexeme.kind t.lexeme.octets ≡ Ok c)
       go true e (Ok c) f h = (same_is t.place (place r) e, c, f)
-      go true e (Err x) f h = absurd cc
-      go false e s f h = absurd cc
+      go _ e _ f h = absurd cc
 
   -- what waits goes on with the token, or nothing waits
   abbrev pub Direct : Reading → Token → Type 0
@@ -156,8 +131,7 @@ module _ (g : Catalog) (l : Limits) where
           → on_turn x F ≡ on_turn x (λ k. reads g l k (t ∷ ts))
       same (goes n) h k = sym (first_token g l (place r) n t c ts (says_so r t c p e) (sym h.0) (inr k))
       same (gives v n) h k = ap (adds_values (v ∷ [])) (sym (first_token g l (place r) n t c ts (says_so r t c p e) (sym h.0) (inr k)))
-      same (refuses y) h k = refl
-      same (late y n) h k = refl
+      same _ h k = refl
 
       here : reads g l r (t ∷ ts) ≡ on_turn (settle g l r) (λ k. reads g l k (t ∷ ts))
       here =
@@ -170,15 +144,13 @@ module _ (g : Catalog) (l : Limits) where
   abbrev pub TurnEnds : Turn → List Value → Type 0
   TurnEnds (goes r) all = ((c : List Slot) × (r ≡ fresh c)) × (all ≡ [])
   TurnEnds (gives v r) all = ((c : List Slot) × (r ≡ fresh c)) × (all ≡ v ∷ [])
-  TurnEnds (refuses e) all = ⊥
-  TurnEnds (late e r) all = ⊥
+  TurnEnds _ all = ⊥
 
   turn_ends : (t : Turn) (all : List Value) (c : List Slot) → on_turn t done ≡ walked all (fresh c) → TurnEnds t all
   unfolding values_in reading_in
   turn_ends (goes r) all c e = ((c, ap (reading_in r) e), sym (ap values_in e))
   turn_ends (gives v r) all c e = ((c, ap (reading_in r) e), sym (ap values_in e))
-  turn_ends (refuses x) all c e = absurd cc
-  turn_ends (late x r) all c e = absurd cc
+  turn_ends _ all c e = absurd cc
 
   -- where no token is left, what waits is settled to a whole document
   pub going_ends : (r : Reading) (all : List Value) → Going r [] all → TurnEnds (settle g l r) all
@@ -199,15 +171,13 @@ module _ (g : Catalog) (l : Limits) where
       go : (t : Turn) → Leading g l (λ n. (place n ≡ place r) × (is_top n.frames ≡ is_top r.frames)) t → TurnEnds t all → ⊥
       go (goes n) a b = never n b.0.0 b.0.1 a.1
       go (gives v n) a b = never n b.0.0 b.0.1 a.1
-      go (refuses e) a b = b
-      go (late e n) a b = b
+      go _ a b = b
 
   -- what waited in a container is settled there
   abbrev pub InsideTurn : ℕ → Turn → Type 0
   InsideTurn start (goes r) = (is_top r.frames ≡ false) × (r.start ≡ start)
   InsideTurn start (gives v r) = ⊥
-  InsideTurn start (refuses e) = Unit {0}
-  InsideTurn start (late e r) = Unit {0}
+  InsideTurn start _ = Unit {0}
 
   -- what waits in a container is settled there, in the same item
   pub settle_inside : (start : ℕ) (c : List Slot) (fs : List Frame) (ss : Symbols) (now : Now) → is_top fs ≡ false
@@ -218,19 +188,14 @@ module _ (g : Catalog) (l : Limits) where
       waited (goes r) end (inl k) = (k.1, k.2)
       waited (goes r) end (inr k) = absurd (let n : true ≡ false = sym k.0 ∙ h in cc)
       waited (gives v r) end k = let n : true ≡ false = sym k.0 ∙ h in cc
-      waited (refuses e) end k = tt
-      waited (late e r) end k = tt
+      waited _ end k = tt
 
       go : (n : Now) → now ≡ n → InsideTurn start (settle g l (at start c fs ss now))
       go (Now.Pending x end) e = waited (settle g l (at start c fs ss now)) (end_of_now now 0)
           (settle_spans g l start c fs ss now 0 (subst (IsWaiting g l) (sym e) tt))
       go (Now.Long w end) e = waited (settle g l (at start c fs ss now)) (end_of_now now 0)
           (settle_spans g l start c fs ss now 0 (subst (IsWaiting g l) (sym e) tt))
-      go Now.Ready e = subst (λ n. InsideTurn start (settle g l (at start c fs ss n))) (sym e) (h, refl)
-      go Now.After e = subst (λ n. InsideTurn start (settle g l (at start c fs ss n))) (sym e) (h, refl)
-      go Now.Name e = subst (λ n. InsideTurn start (settle g l (at start c fs ss n))) (sym e) (h, refl)
-      go (Now.LongName w) e = subst (λ n. InsideTurn start (settle g l (at start c fs ss n))) (sym e) (h, refl)
-      go (Now.Keyed s) e = subst (λ n. InsideTurn start (settle g l (at start c fs ss n))) (sym e) (h, refl)
+      go _ e = subst (λ n. InsideTurn start (settle g l (at start c fs ss n))) (sym e) (h, refl)
 
   -- behind a token in a container the item is open still, or the token closed it
   pub data InsideNext (start : ℕ) (t : Placed) (c : Content) (ts : List Placed) : Type 0 where
@@ -250,8 +215,7 @@ module _ (g : Catalog) (l : Limits) where
       go (goes m) (inl (inr k, e, f)) d = absurd (let n : false ≡ true = k.0 in cc)
       go (goes m) (inr k) d = closed k.0 k.1
       go (gives v m) k d = closed k.0 k.1
-      go (refuses y) k d = absurd d
-      go (late y m) k d = absurd d
+      go _ k d = absurd d
 
   -- where a container is open, nothing is asked of what waits at the top level
   pub never_top : (r : Reading) → is_top r.frames ≡ false → is_top r.frames ≡ true → IsTopNow r.now
@@ -270,8 +234,7 @@ module _ (g : Catalog) (l : Limits) where
       settled : (x : Turn) → InsideTurn r.start x → Leading g l (λ n. settle g l n ≡ goes n) x → TurnGoes x (t ∷ ts) all → InsideNext r.start t c ts
       settled (goes m) a b f = subst (λ (n : ℕ). InsideNext n t c ts) a.1 (inside_direct m t c ts all a.0 f e (inr b))
       settled (gives v m) a b f = absurd a
-      settled (refuses y) a b f = absurd f
-      settled (late y m) a b f = absurd f
+      settled _ a b f = absurd f
 
       go : (b : Bool) → continues r (token_of t.lexeme c) ≡ b → InsideNext r.start t c ts
       go true w = inside_direct r t c ts all h d e (inl w)
@@ -284,8 +247,6 @@ module _ (g : Catalog) (l : Limits) where
   -- Where a container is open, the octets used are within the limit of the item.
   pub used_inside : (s : Known) (os : List ℕ) (ts : List Placed) → Meets s os ts → Fine s → (r : Reading) (all : List Value) → is_top r.frames ≡ false
       → Going r ts all → s.used ≤ r.start + l.item
-  used_inside _ _ _ (at_blank s e) f r all h d = absurd (inside_end r all h d)
-  used_inside _ _ _ (in_blank s o os s' e m) f r all h d = absurd (inside_end r all h d)
   used_inside _ _ _ (at_token s t e) f r all h d = go (inside_token r t (going_said r t [] all d).1 [] all h d (going_said r t [] all d).2)
     where
       go : InsideNext r.start t (going_said r t [] all d).1 [] → s.used ≤ r.start + l.item
@@ -312,6 +273,7 @@ module _ (g : Catalog) (l : Limits) where
           let c = closes_kind t.lexeme.kind t.lexeme.octets (going_said r t ts all d).1 i
           (said_body t.lexeme.kind t.lexeme.octets (going_said r t ts all d).1 (going_said r t ts all d).2) in
           absurd (let n : true ≡ false = sym c ∙ (finely_as t.place s o (Left t.lexeme s') f e).5 in cc)
+  used_inside _ _ _ _ f r all h d = absurd (inside_end r all h d)
 
   -- at the top level a value or an annotation may come, or something waits
   abbrev pub TopOk : Reading → Type 0
@@ -330,20 +292,12 @@ module _ (g : Catalog) (l : Limits) where
   waiting_start : (now : Now) (start begin : ℕ) (fs : List Frame) (ss : Symbols) → IsWaiting g l now → start_now now start begin fs ss ≡ start
   waiting_start (Now.Pending h end) start begin fs ss w = refl
   waiting_start (Now.Long v end) start begin fs ss w = refl
-  waiting_start Now.Ready start begin fs ss w = absurd w
-  waiting_start Now.After start begin fs ss w = absurd w
-  waiting_start Now.Name start begin fs ss w = absurd w
-  waiting_start (Now.LongName v) start begin fs ss w = absurd w
-  waiting_start (Now.Keyed s) start begin fs ss w = absurd w
+  waiting_start _ start begin fs ss w = absurd w
 
   waiting_end : (now : Now) (end d : ℕ) → IsWaiting g l now → EndsAt now end → end_of_now now d ≡ end
   waiting_end (Now.Pending h e) end d w k = k
   waiting_end (Now.Long v e) end d w k = k
-  waiting_end Now.Ready end d w k = absurd w
-  waiting_end Now.After end d w k = absurd w
-  waiting_end Now.Name end d w k = absurd w
-  waiting_end (Now.LongName v) end d w k = absurd w
-  waiting_end (Now.Keyed s) end d w k = absurd w
+  waiting_end _ end d w k = absurd w
 
   -- what is settled at the top level, and then goes on or ends, is within the limit on items
   pub settled_bound : (start end : ℕ) (fs : List Frame) (t : Turn) (ts : List Placed) (all : List Value) → is_top fs ≡ true → SettlesWithin g l start end fs t
@@ -433,10 +387,7 @@ module _ (g : Catalog) (l : Limits) where
         go (Now.Pending k e) x y = waited (subst (IsWaiting g l) (sym x) tt)
         go (Now.Long w e) x y = waited (subst (IsWaiting g l) (sym x) tt)
         go Now.Ready x y = ready x m.frames refl
-        go Now.After x y = absurd y
-        go Now.Name x y = absurd y
-        go (Now.LongName w) x y = absurd y
-        go (Now.Keyed k) x y = absurd y
+        go _ x y = absurd y
 
     -- behind a token
     turn_limit : (r : Reading) (t : Placed) (c : Content) (ts : List Placed) (all : List Value) → t.lexeme.end ≡ end → Meets s os ts → Operators ts
@@ -458,13 +409,10 @@ module _ (g : Catalog) (l : Limits) where
                 omega (arith, k, from, same)
     turn_limit r t c ts all same meets ops rest idle (goes m) start (inr k) d = k.0
     turn_limit r t c ts all same meets ops rest idle (gives v m) start k d = k.0
-    turn_limit r t c ts all same meets ops rest idle (refuses e) start k d = absurd d
-    turn_limit r t c ts all same meets ops rest idle (late e m) start k d = absurd d
+    turn_limit r t c ts all same meets ops rest idle _ start k d = absurd d
 
   -- Each token is within the limit of its item.
   pub limit : (s : Known) (os : List ℕ) (ts : List Placed) → Meets s os ts → Fine s → Operators ts → LimitFor ts
-  limit _ _ _ (at_blank s e) f ops = tt
-  limit _ _ _ (in_blank s o os s' e m) f ops = tt
   limit _ _ _ (at_token s t e) f ops = λ r all c ok d i w. go r all c ok (turn g l r (token_of t.lexeme c)) (turn_spans g l r (token_of t.lexeme c) ok)
       (going_turn r t [] all c d i w)
     where
@@ -478,10 +426,7 @@ module _ (g : Catalog) (l : Limits) where
           (inr (going_ends (at start c [] ss (Now.Long w y)) all d)) in omega (arith, k, at')
       ended Now.Ready start c ss ok new at' all d = let y = going_ends (at start c [] ss Now.Ready) all d in
           absurd (let n : false ≡ true = sym new ∙ ap is_fresh y.0.1 in cc)
-      ended Now.After start c ss ok new at' all d = absurd ok
-      ended Now.Name start c ss ok new at' all d = absurd ok
-      ended (Now.LongName w) start c ss ok new at' all d = absurd ok
-      ended (Now.Keyed k) start c ss ok new at' all d = absurd ok
+      ended _ start c ss ok new at' all d = absurd ok
 
       open' : (m : Reading) (all : List Value) (fs : List Frame) → m.frames ≡ fs → OpenAs true m → EndsAt m.now t.lexeme.end → Going m [] all
           → t.lexeme.end ≤ m.start + l.item
@@ -498,8 +443,7 @@ module _ (g : Catalog) (l : Limits) where
       go r all c ok (goes m) (inl (inr (top, new, fine), from, to)) d = let k = open' m all m.frames refl (inr (refl, new, fine)) to d in omega (arith, k, from)
       go r all c ok (goes m) (inr k) d = k.0
       go r all c ok (gives v m) k d = k.0
-      go r all c ok (refuses y) k d = absurd d
-      go r all c ok (late y m) k d = absurd d
+      go r all c ok _ k d = absurd d
   limit _ _ _ (goes_on s o os t ts s' e m) f ops = limit s' os (t ∷ ts) m (finely_as t.place s o (Next s') f e) ops
   limit _ _ _ (is_given s o os t ts s' e m) f ops =
       let x = finely_as t.place s o (Given t.lexeme s') f e in
@@ -516,6 +460,7 @@ module _ (g : Catalog) (l : Limits) where
       idle : (is_idle s'.mode ≡ true) ⊎ (t.lexeme.kind ≡ TokenKind.Operator) → (r : Reading) → t.place ≡ place r → is_top r.frames ≡ true → is_idle s'.mode ≡ true
       idle (inl h) r p k = h
       idle (inr h) r p k = absurd (no_operator r t k p ops.0 h)
+  limit _ _ _ _ f ops = tt
 
   -- in a container no value of the top level is whole
   pub gives_top : (r : Reading) (v : Value) (k : Reading) → is_top r.frames ≡ false → settle g l r ≡ gives v k → ⊥

@@ -85,10 +85,7 @@ long_acts : (p : Place) (s : Known) (o : ℕ) (a : Action) → text true a ≡ t
 long_acts p s o (Action.Go m k) h = h
 long_acts p s o (Action.Give kind k) h = h
 long_acts p s o (Action.Refuse e) h = tt
-long_acts p s o (Action.Before kind k m) h = absurd cc
-long_acts p s o Action.EndWord h = absurd cc
-long_acts p s o (Action.Split n) h = absurd cc
-long_acts p s o Action.EndBlob h = absurd cc
+long_acts p s o _ h = absurd cc
 
 -- an octet in a long string goes on with it, ends the segment or is refused
 pub long_feed : (p : Place) (s : Known) (o : ℕ) → is_long_text s.mode ≡ true → LongOn (feed p s o)
@@ -192,7 +189,6 @@ begun_covers start end _ _ _ _ (is_left s o os t ts s' e m) h = let x = one_reac
 
 behind_one : (m : Mode) → behind m ≤ 1
 behind_one Mode.NumberSlash = omega arith
-behind_one Mode.OperatorSlash = omega arith
 behind_one _ = omega arith
 
 behind_used : (m : Mode) (used : ℕ) → 1 ≤ used → used - behind m + behind m ≤ used

@@ -1,8 +1,8 @@
 -- The tokens of a document lead the reader to its stream.
 use Rattle.std.proofs.Common.{◌≡◌, ℕ, ◌+◌, ◌-◌, ◌≤◌, ◌==◌, nat_le, List, [], ◌∷◌, ◌++◌, Bool, true, false, ◌&&◌, ◌||◌, Ok, Option, Some, None, refl, ap, sym, ◌∙◌, subst, arith, append-nil, if◌then◌else◌, ◌⊎◌, inl, inr}
-use Rattle.std.proofs.lemmas.Bool.{cond-true, cond-false}
+use Rattle.std.proofs.lemmas.Bool.{cond-false, cond-true, false_from_ne_true}
 use Rattle.std.proofs.lemmas.Bool.Decides.{nat_tests}
-use Rattle.ion_text.specs.Names.{Annotations, Blob, Catalog, Clob, Content, Id, IsBody, IsWordBody, Kind, Leading, Limits, Long, Mark, Mark', Means, Now, Number', Operator, Pieces, Place, Placed, Quoted, Reading, Says, Short, Slot, Symbols, Token, TokenKind, Turn, TypedNull, Value, Walk, Word, adds_adds, adds_none, adds_values, annotated, at, begins, begins_as_long, continues, done, ends_long, first_token, fresh, gives, goes, held_word, holds, id_of, in_place, is_segment, is_table, is_top, is_two_quotes, is_version_word, kind_named, late, marked, means, no_annotation, null_of, on_judged, on_turn, one_annotation, place, reads, reads-append, refuses, released, said, said_ok, settle, settle_same, span, spot_at, stopped, system_slots, the_marker, then_walk, token_of, turn, turned, turns, under}
+use Rattle.ion_text.specs.Names.{Annotations, Catalog, Content, IsBody, IsWordBody, Kind, Leading, Limits, Long, Mark, Mark', Means, Now, Operator, Pieces, Place, Placed, Quoted, Reading, Says, Short, Slot, Symbols, Token, TokenKind, Turn, Value, Walk, Word, adds_adds, adds_none, adds_values, annotated, at, begins, begins_as_long, continues, done, ends_long, first_token, fresh, gives, goes, held_word, holds, id_of, in_place, is_segment, is_table, is_top, is_two_quotes, is_version_word, kind_named, marked, means, no_annotation, null_of, on_judged, on_turn, one_annotation, place, reads, reads-append, released, said, said_ok, settle, settle_same, span, spot_at, stopped, system_slots, the_marker, then_walk, token_of, turn, turned, turns, under}
 use Rattle.ion_text.specs.Grammar.{end_of}
 use Rattle.ion_text.specs.machine.TokenLists.{walked}
 use Rattle.ion_text.specs.laws.reading.complete.Complete.{Begins, LeadsToTurn, at_once, by_held, by_long', means_begins, means_read, pending_goes, segment_kind, starts, word_token}
@@ -28,9 +28,7 @@ quoted_kind TokenKind.Number octets w h = absurd h
 quoted_kind TokenKind.Operator octets w h = absurd (let e : Quoted w ≡ Operator octets = h.0 in cc)
 quoted_kind TokenKind.ShortString octets w h = absurd (let e : Quoted w ≡ Short octets = h.0 in cc)
 quoted_kind TokenKind.LongString octets w h = absurd (let e : Quoted w ≡ Long octets = h.0 in cc)
-quoted_kind TokenKind.Clob octets w h = absurd cc
-quoted_kind TokenKind.Blob octets w h = absurd cc
-quoted_kind (TokenKind.Mark m) octets w h = absurd cc
+quoted_kind _ octets w h = absurd cc
 
 begins_so : (t : Placed) (ts : List Placed) (c : Content) → Says Place.Top t c → GoesOn (token_of t.lexeme c) → begins_as_long (t ∷ ts) ≡ true
 begins_so t ts c h (inl (w, e)) = ap (λ (b : Bool). b || is_two_quotes t.lexeme.kind t.lexeme.start t.lexeme.end)
@@ -67,8 +65,7 @@ module _ (g : Catalog) (l : Limits) where
   settled_first (goes r) later n f e = let w = walked_now [] later r n e in ap f w.1 ∙ (sym (adds_none g l (f n)) ∙ ap (λ vs. adds_values vs (f n)) w.0)
   settled_first (gives v r) later n f e = let w = walked_now (v ∷ []) later r n e in ap (λ k. adds_values (v ∷ []) (f k)) w.1
       ∙ ap (λ vs. adds_values vs (f n)) w.0
-  settled_first (refuses x) later n f e = absurd cc
-  settled_first (late x r) later n f e = absurd cc
+  settled_first _ later n f e = absurd cc
 
   -- what may wait behind a piece stands at the top level
   pub top_now : (r : Reading) (later : List Value) (c : List Slot) → on_turn (settle g l r) done ≡ walked later (fresh c) → Place.Top ≡ place r
@@ -78,12 +75,13 @@ module _ (g : Catalog) (l : Limits) where
           → Place.Top ≡ place r
       go (goes n) h e = let w = walked_now [] later n (fresh c) e in ap place (sym w.1) ∙ h.0
       go (gives v n) h e = let w = walked_now (v ∷ []) later n (fresh c) e in ap place (sym w.1) ∙ h.0
-      go (refuses x) h e = absurd cc
-      go (late x n) h e = absurd cc
+      go _ h e = absurd cc
 
   shut_here : (ts us : List Placed) (s : List Value) (c : List Slot) (d : ReadSoFar ts s c) (b : Begins g l Place.Top us) → (ends_long ts && begins_as_long us)
       ≡ false → continues d.now (token_of b.first.lexeme b.said) ≡ false
-  shut_here ts us s c d b e = go (continues d.now (token_of b.first.lexeme b.said)) refl
+  shut_here ts us s c d b e =
+      let t = token_of b.first.lexeme b.said in
+      false_from_ne_true (continues d.now t) (λ k. none t refl (d.shuts t k))
     where
       none : (t : Token) → t ≡ token_of b.first.lexeme b.said → (t.said ≡ Mark' Mark.Colons) ⊎ ((ends_long ts ≡ true) × GoesOn t) → ⊥
       none t k (inl h) = b.no_colons (sym (ap (λ (x : Token). x.said) k) ∙ h)
@@ -92,10 +90,6 @@ module _ (g : Catalog) (l : Limits) where
           let both : (ends_long ts && begins_as_long us) ≡ true = ap (λ x. x && begins_as_long us) long ∙ first in
           let never : true ≡ false = sym both ∙ e in
           cc
-
-      go : (x : Bool) → continues d.now (token_of b.first.lexeme b.said) ≡ x → x ≡ false
-      go false k = refl
-      go true k = absurd (none (token_of b.first.lexeme b.said) refl (d.shuts (token_of b.first.lexeme b.said) k))
 
   -- Behind pieces, more tokens that don't go on with what waits are read where nothing is open.
   pub more_read : (ts us : List Placed) (s : List Value) (c : List Slot) (d : ReadSoFar ts s c) → (b : Begins g l Place.Top us)
@@ -122,9 +116,8 @@ module _ (g : Catalog) (l : Limits) where
   ends_with ts us b = ap (λ x. ends_long (ts ++ x)) b.cut ∙ (front ts b.first b.later ∙ sym (ap ends_long b.cut))
     where
       front : (ts : List Placed) (t : Placed) (us : List Placed) → ends_long (ts ++ t ∷ us) ≡ ends_long (t ∷ us)
-      front [] t us = refl
-      front (x ∷ []) t us = refl
       front (x ∷ y ∷ ts) t us = front (y ∷ ts) t us
+      front _ t us = refl
 
   long_goes_top : (start : ℕ) (c : List Slot) (ss : Symbols) (w : List ℕ) (end : ℕ) (t : Token) → continues (at start c [] ss (Now.Long w end)) t ≡ true
       → GoesOn t
@@ -133,15 +126,7 @@ module _ (g : Catalog) (l : Limits) where
       go : (s : Content) → t.said ≡ s → continues (at start c [] ss (Now.Long w end)) (record { start = t.start; end = t.end; said = s }) ≡ true → GoesOn t
       go (Long v) k e = inl (v, k)
       go (Quoted v) k e = inr (v, k, e)
-      go (Mark' m) k e = absurd cc
-      go (Word w) k e = absurd cc
-      go (Id n) k e = absurd cc
-      go (Short w) k e = absurd cc
-      go (Number' n) k e = absurd cc
-      go (TypedNull n) k e = absurd cc
-      go (Operator w) k e = absurd cc
-      go (Clob w) k e = absurd cc
-      go (Blob w) k e = absurd cc
+      go _ k e = absurd cc
 
   -- one more piece, by the turn that completes it
   piece_more : (ts us : List Placed) (s more : List Value) (c d : List Slot) (t : Turn) → ReadSoFar ts s c → (b : Begins g l Place.Top us)
@@ -190,9 +175,8 @@ module _ (g : Catalog) (l : Limits) where
     where
       go : (notes : List Placed) (ss : Symbols) → Annotations c Place.Top notes ss → is_table (annotated ss q) ≡ true → is_version_word (notes ++ ts) ≡ false
       go _ _ no_annotation h = absurd cc
-      go _ _ (one_annotation [] rs t colons said s e i j k) h = refl
       go _ _ (one_annotation (x ∷ []) rs t colons said s e i j k) h = refl
-      go _ _ (one_annotation (x ∷ y ∷ us) rs t colons said s e i j k) h = refl
+      go _ _ _ h = refl
 
   -- The tokens of pieces give their values.
   pub pieces_read : (ts : List Placed) (s : List Value) (c : List Slot) → Pieces g l ts s c → ReadSoFar ts s c

@@ -1,12 +1,12 @@
 -- In octets that are a document the reader of octets finds no reason to refuse before a token has ended.
 use Rattle.std.proofs.Common.{◌≡◌, ℕ, ◌+◌, ◌-◌, ◌≤◌, ◌==◌, List, [], ◌∷◌, Bool, true, false, ◌&&◌, ◌||◌, not, Ok, Option, Some, None, refl, ap, sym, ◌∙◌, subst, arith, if◌then◌else◌, ◌⊎◌, inl, inr}
-use Rattle.std.proofs.lemmas.Bool.{cond-false, cond-true}
-use Rattle.ion_text.specs.Names.{Blob, Catalog, Clob, Content, Frame, Held, Id, IsBody, Known, Limits, Long, Mark, Mark', Mode, Next, Now, Number', Operator, Place, Placed, Quoted, Reading, Reason, Short, Slot, Style, Symbols, TokenKind, TypedNull, Value, Word, at, begun_in, behind, continues, form_of, goes, is_closing, is_fresh, is_idle, is_long_begun, is_long_form, is_quoting, is_sane, is_top, longest_top, noticed, reaches, refuses, said, said_body, settle, shut, token_at, token_of, turn_now, under, uses, with_scan}
+use Rattle.std.proofs.lemmas.Bool.{both_ways, cond-false, cond-true, le-leb, true_from_ne_false}
+use Rattle.ion_text.specs.Names.{Catalog, Content, Frame, Held, IsBody, Known, Limits, Long, Mark, Mark', Mode, Next, Now, Place, Placed, Reading, Reason, Slot, Style, Symbols, TokenKind, Value, at, begun_in, behind, continues, form_of, goes, is_closing, is_fresh, is_idle, is_long_begun, is_long_form, is_quoting, is_sane, is_top, longest_top, noticed, reaches, refuses, said, said_body, settle, shut, token_at, token_of, turn_now, under, uses, with_scan}
 use Rattle.ion_tokens.proofs.foreseen.Begins.{end_idle}
 use Rattle.ion_text.specs.laws.reading.complete.Going.{Direct, EndsPast, Going, Operators, TopOk, TurnEnds, TurnGoes, going_ends, going_said, going_turn, idle_past, limit, mark_kind, no_operator, top_limit, used_inside}
 use Rattle.ion_text.specs.laws.reading.complete.Meets.{Meets, at_blank, begun_closing, begun_span, follows_as, idle_span, in_blank, is_long_text, long_segment, meets_next}
 use Rattle.ion_text.specs.laws.reading.sound.Held.{segment_says}
-use Rattle.ion_text.specs.laws.reading.sound.Quotes.{Fine, le_to}
+use Rattle.ion_text.specs.laws.reading.sound.Quotes.{Fine}
 use Rattle.ion_text.specs.laws.reading.sound.Spans.{IsTopNow, IsWaiting}
 use Rattle.ion_text.specs.laws.reading.sound.StandsOpen.{EndsAt, start_now}
 
@@ -27,21 +27,13 @@ EndedIn used _ = Unit {0}
 pub ended_more : (n : Now) (used more : ℕ) → used ≤ more → EndedIn used n → EndedIn more n
 ended_more (Now.Pending h end) used more le e = omega (arith, le, e)
 ended_more (Now.Long w end) used more le e = omega (arith, le, e)
-ended_more Now.Ready used more le e = tt
-ended_more Now.After used more le e = tt
-ended_more Now.Name used more le e = tt
-ended_more (Now.LongName w) used more le e = tt
-ended_more (Now.Keyed s) used more le e = tt
+ended_more _ used more le e = tt
 
 -- what waits and ended at an octet ended within those up to it
 pub ended_at : (n : Now) (end : ℕ) → EndsAt n end → EndedIn end n
 ended_at (Now.Pending h e) end at' = omega (arith, at')
 ended_at (Now.Long w e) end at' = omega (arith, at')
-ended_at Now.Ready end at' = tt
-ended_at Now.After end at' = tt
-ended_at Now.Name end at' = tt
-ended_at (Now.LongName w) end at' = tt
-ended_at (Now.Keyed s) end at' = tt
+ended_at _ end at' = tt
 
 -- at the top level no token has begun that could disturb what waits, which ended within the octets used
 abbrev pub Calm : Known → Reading → Type 0
@@ -52,10 +44,7 @@ pub calm_now : (n : Now) (m : Mode) → CalmNow n m → IsTopNow n
 calm_now Now.Ready m c = tt
 calm_now (Now.Pending h end) m c = tt
 calm_now (Now.Long w end) m c = tt
-calm_now Now.After m c = c
-calm_now Now.Name m c = c
-calm_now (Now.LongName w) m c = c
-calm_now (Now.Keyed s) m c = c
+calm_now _ m c = c
 
 -- where it is calm, the reader is as it may be at the top level
 pub calm_ok : (g : Catalog) (l : Limits) (s : Known) (r : Reading) → Calm s r → TopOk g l r
@@ -64,11 +53,10 @@ calm_ok g l s r c h = calm_now r.now s.mode (c h).0
 -- a blank is no token that has begun
 pub blank_idle : (s : Known) (os : List ℕ) → Meets s os [] → is_sane s.mode ≡ true → is_idle s.mode ≡ true
 blank_idle _ _ (at_blank s e) h = end_idle Place.Top s s.mode e
-blank_idle _ _ (in_blank s o os s' e m) h = go (is_idle s.mode) refl (blank_idle s' os m (follows_as Place.Top s o (Next s') h e).0)
-  where
-    go : (b : Bool) → is_idle s.mode ≡ b → is_idle s'.mode ≡ true → b ≡ true
-    go true i j = refl
-    go false i j = absurd (let n : true ≡ false = sym j ∙ (follows_as Place.Top s o (Next s') h e).1 i in cc)
+blank_idle _ _ (in_blank s o os s' e m) h =
+    let a = follows_as Place.Top s o (Next s') h e in
+    let idle = blank_idle s' os m a.0 in
+    true_from_ne_false (is_idle s.mode) (λ i. both_ways (is_idle s'.mode) (a.1 i) idle)
 
 long_is : (m : Mode) → is_idle m ≡ false → is_long_form (form_of m) ≡ true → (is_long_begun (Some (record { start = 0; end = 0; form = form_of m })) == 0)
     ≡ false → is_long_text m ≡ true
@@ -86,46 +74,13 @@ module _ (g : Catalog) (l : Limits) where
   shut_said begin end start slots fs ss (Mark' Mark.Comma) Now.After h = inl (Mark.Comma, refl, refl)
   shut_said begin end start slots fs ss (Mark' Mark.ListClose) Now.After h = inl (Mark.ListClose, refl, refl)
   shut_said begin end start slots fs ss (Mark' Mark.FieldsClose) Now.After h = inl (Mark.FieldsClose, refl, refl)
-  shut_said begin end start slots fs ss (Mark' Mark.FieldsOpen) Now.After h = inr refl
-  shut_said begin end start slots fs ss (Mark' Mark.ListOpen) Now.After h = inr refl
-  shut_said begin end start slots fs ss (Mark' Mark.SexpOpen) Now.After h = inr refl
-  shut_said begin end start slots fs ss (Mark' Mark.SexpClose) Now.After h = inr refl
-  shut_said begin end start slots fs ss (Mark' Mark.Colon) Now.After h = inr refl
-  shut_said begin end start slots fs ss (Mark' Mark.Colons) Now.After h = inr refl
   shut_said begin end start slots fs ss (Mark' Mark.Colon) (Now.Keyed s) h = inl (Mark.Colon, refl, refl)
-  shut_said begin end start slots fs ss (Mark' Mark.Colons) (Now.Keyed s) h = inr refl
-  shut_said begin end start slots fs ss (Mark' Mark.Comma) (Now.Keyed s) h = inr refl
-  shut_said begin end start slots fs ss (Mark' Mark.FieldsOpen) (Now.Keyed s) h = inr refl
-  shut_said begin end start slots fs ss (Mark' Mark.FieldsClose) (Now.Keyed s) h = inr refl
-  shut_said begin end start slots fs ss (Mark' Mark.ListOpen) (Now.Keyed s) h = inr refl
-  shut_said begin end start slots fs ss (Mark' Mark.ListClose) (Now.Keyed s) h = inr refl
-  shut_said begin end start slots fs ss (Mark' Mark.SexpOpen) (Now.Keyed s) h = inr refl
-  shut_said begin end start slots fs ss (Mark' Mark.SexpClose) (Now.Keyed s) h = inr refl
-  shut_said begin end start slots fs ss (Word w) Now.After h = inr refl
-  shut_said begin end start slots fs ss (Word w) (Now.Keyed s) h = inr refl
-  shut_said begin end start slots fs ss (Id n) Now.After h = inr refl
-  shut_said begin end start slots fs ss (Id n) (Now.Keyed s) h = inr refl
-  shut_said begin end start slots fs ss (Quoted w) Now.After h = inr refl
-  shut_said begin end start slots fs ss (Quoted w) (Now.Keyed s) h = inr refl
-  shut_said begin end start slots fs ss (Short w) Now.After h = inr refl
-  shut_said begin end start slots fs ss (Short w) (Now.Keyed s) h = inr refl
-  shut_said begin end start slots fs ss (Long w) Now.After h = inr refl
-  shut_said begin end start slots fs ss (Long w) (Now.Keyed s) h = inr refl
-  shut_said begin end start slots fs ss (Number' n) Now.After h = inr refl
-  shut_said begin end start slots fs ss (Number' n) (Now.Keyed s) h = inr refl
-  shut_said begin end start slots fs ss (TypedNull n) Now.After h = inr refl
-  shut_said begin end start slots fs ss (TypedNull n) (Now.Keyed s) h = inr refl
-  shut_said begin end start slots fs ss (Operator w) Now.After h = inr refl
-  shut_said begin end start slots fs ss (Operator w) (Now.Keyed s) h = inr refl
-  shut_said begin end start slots fs ss (Clob w) Now.After h = inr refl
-  shut_said begin end start slots fs ss (Clob w) (Now.Keyed s) h = inr refl
-  shut_said begin end start slots fs ss (Blob w) Now.After h = inr refl
-  shut_said begin end start slots fs ss (Blob w) (Now.Keyed s) h = inr refl
   shut_said begin end start slots fs ss c Now.Ready h = absurd cc
   shut_said begin end start slots fs ss c (Now.Pending k e) h = absurd cc
   shut_said begin end start slots fs ss c (Now.Long w e) h = absurd cc
   shut_said begin end start slots fs ss c Now.Name h = absurd cc
   shut_said begin end start slots fs ss c (Now.LongName w) h = absurd cc
+  shut_said begin end start slots fs ss _ _ h = inr refl
 
   -- there nothing waits
   pub shut_still : (r : Reading) → shut r.now ≡ true → settle g l r ≡ goes r
@@ -134,11 +89,7 @@ module _ (g : Catalog) (l : Limits) where
       go : (n : Now) → r.now ≡ n → settle g l r ≡ goes r
       go Now.After e = subst (λ n. settle g l (at r.start r.context r.frames r.notes n) ≡ goes (at r.start r.context r.frames r.notes n)) (sym e) refl
       go (Now.Keyed s) e = subst (λ n. settle g l (at r.start r.context r.frames r.notes n) ≡ goes (at r.start r.context r.frames r.notes n)) (sym e) refl
-      go Now.Ready e = absurd (let n : false ≡ true = sym (ap shut e) ∙ h in cc)
-      go (Now.Pending k x) e = absurd (let n : false ≡ true = sym (ap shut e) ∙ h in cc)
-      go (Now.Long w x) e = absurd (let n : false ≡ true = sym (ap shut e) ∙ h in cc)
-      go Now.Name e = absurd (let n : false ≡ true = sym (ap shut e) ∙ h in cc)
-      go (Now.LongName w) e = absurd (let n : false ≡ true = sym (ap shut e) ∙ h in cc)
+      go _ e = absurd (let n : false ≡ true = sym (ap shut e) ∙ h in cc)
 
   module _ (s : Known) (os : List ℕ) (sane : is_sane s.mode ≡ true) (fine : Fine s) (used : 1 ≤ s.used) (r : Reading) (all : List Value) (calm : Calm s r) where
     not_shut : (ts : List Placed) → Meets s os ts → Going g l r ts all → is_idle s.mode ≡ false → shut r.now ≡ true → ⊥
@@ -165,9 +116,8 @@ module _ (g : Catalog) (l : Limits) where
     shut_quiet ts m d = go (shut r.now) refl (is_idle s.mode) refl
       where
         go : (a : Bool) → shut r.now ≡ a → (b : Bool) → is_idle s.mode ≡ b → (a && not b) ≡ false
-        go false e b f = refl
-        go true e true f = refl
         go true e false f = absurd (not_shut ts m d f e)
+        go _ e _ f = refl
 
     -- the token that has begun, or comes next
     module _ (t : Placed) (ts : List Placed) (m : Meets s os (t ∷ ts)) (ops : Operators (t ∷ ts)) (d : Going g l r (t ∷ ts) all)
@@ -280,13 +230,9 @@ module _ (g : Catalog) (l : Limits) where
       waiting_unfresh : (fs : List Frame) (ss : Symbols) (n : Now) → IsWaiting g l n → is_fresh (at r.start r.context fs ss n) ≡ false
       waiting_unfresh [] [] (Now.Pending h e) w = refl
       waiting_unfresh [] [] (Now.Long v e) w = refl
-      waiting_unfresh [] [] Now.Ready w = absurd w
-      waiting_unfresh [] [] Now.After w = absurd w
-      waiting_unfresh [] [] Now.Name w = absurd w
-      waiting_unfresh [] [] (Now.LongName v) w = absurd w
-      waiting_unfresh [] [] (Now.Keyed x) w = absurd w
       waiting_unfresh [] (x ∷ ss) n w = refl
       waiting_unfresh (f ∷ fs) ss n w = refl
+      waiting_unfresh [] [] _ w = absurd w
 
       waiting_reaches : (end : ℕ) → end ≤ s.used → IsWaiting g l r.now → IsTopNow r.now → EndsAt r.now end → EndsPast g l s.used ts → end - r.start ≤ l.item
       waiting_reaches end le w ok at' past =
@@ -328,9 +274,8 @@ module _ (g : Catalog) (l : Limits) where
         where
           go : (x : Bool) → is_long_form (form_of s.mode) ≡ x → (y : Bool) → (is_long_begun (Some (record { start = 0; end = 0; form = form_of s.mode })) == 0)
               ≡ y → (if x && not y then s.used - behind s.mode - r.start else end - r.start) ≤ l.item
-          go false e y f = held_reaches w end a
-          go true e true f = held_reaches w end a
           go true e false f = long_reaches w end a i (long_is s.mode i e f)
+          go _ e _ f = held_reaches w end a
 
       top_reaches : (n : Now) → r.now ≡ n → (ss : Symbols) → r.notes ≡ ss → IsTopNow n
           → longest_top r.start s.used n ss (begun_in s) (is_long_begun (begun_in s)) ≤ l.item
@@ -339,10 +284,7 @@ module _ (g : Catalog) (l : Limits) where
       top_reaches (Now.Pending h end) e ss f k = pending_reaches h end e
       top_reaches (Now.Long w end) e ss f k = subst (λ y. longest_top r.start s.used (Now.Long w end) y (begun_in s) (is_long_begun (begun_in s)) ≤ l.item) f
           (long_longest w end e (is_idle s.mode) refl)
-      top_reaches Now.After e ss f k = absurd k
-      top_reaches Now.Name e ss f k = absurd k
-      top_reaches (Now.LongName w) e ss f k = absurd k
-      top_reaches (Now.Keyed x) e ss f k = absurd k
+      top_reaches _ e ss f k = absurd k
 
     reaches_within : (ts : List Placed) → Meets s os ts → Operators ts → Going g l r ts all → (fs : List Frame) → r.frames ≡ fs → reaches fs r s ≤ l.item
     reaches_within ts m ops d [] e = top_reaches ts m ops d e r.now refl r.notes refl (calm_ok g l s r calm (ap is_top e))
@@ -352,4 +294,4 @@ module _ (g : Catalog) (l : Limits) where
     pub quiet : (ts : List Placed) → Meets s os ts → Operators ts → Going g l r ts all → noticed l r s ≡ uses (with_scan s r)
     quiet ts m ops d =
         cond-false _ _ _ (shut_quiet ts m d)
-        ∙ cond-true _ _ _ (le_to (reaches r.frames r s) l.item (reaches_within ts m ops d r.frames refl))
+        ∙ cond-true _ _ _ (le-leb (reaches r.frames r s) l.item (reaches_within ts m ops d r.frames refl))

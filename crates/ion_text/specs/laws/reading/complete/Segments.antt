@@ -1,5 +1,6 @@
 -- Behind a long string that waits: while a segment of it is open, each octet goes on with it, or is refused.
-use Rattle.std.proofs.Common.{◌≡◌, ℕ, Bool, true, false, ◌||◌, refl, sym, ap, ◌∙◌, subst, Some, None, if◌then◌else◌, ◌-◌}
+use Rattle.std.proofs.Common.{◌≡◌, ℕ, Bool, true, false, ◌||◌, refl, sym, ap, subst, Some, None, if◌then◌else◌, ◌-◌, inl, inr}
+use Rattle.std.proofs.lemmas.Bool.{both_ways, false_from_ne_true, or_cases, or_from, or_right}
 use Rattle.ion_text.specs.Names.{Given, Known, Left, Mode, Next, Now, Outcome, Place, Reading, Refused, Style, behind, feed, form_of, has_segment, in_segment, is_idle, is_quoting, is_top, unsettled, waits, waits_now}
 use Rattle.ion_text.specs.laws.reading.complete.Meets.{LongOn, is_long_text, long_feed}
 
@@ -16,37 +17,13 @@ long_quoting Mode.Quotes h = refl
 long_quoting _ h = absurd cc
 
 quoting_goes : (m : Mode) → is_quoting m ≡ true → (is_idle m || is_quoting m) ≡ true
-quoting_goes m h = go (is_idle m) (is_quoting m) h
-  where
-    go : (a b : Bool) → b ≡ true → (a || b) ≡ true
-    go true b h = refl
-    go false b h = h
+quoting_goes m h = or_right (is_idle m) (is_quoting m) h
 
 segment_text : (m : Mode) (start used : ℕ) (b : Bool) → has_segment (if b then None else Some (record { start = start; end = used; form = form_of m })) ≡ true
     → is_long_text m ≡ true
 segment_text m start used true h = absurd cc
 segment_text (Mode.Text Style.LongString w) start used false h = refl
-segment_text (Mode.Text Style.ShortString w) start used false h = absurd cc
-segment_text (Mode.Text Style.QuotedSymbol w) start used false h = absurd cc
-segment_text (Mode.Text Style.ShortClob w) start used false h = absurd cc
-segment_text (Mode.Text Style.LongClob w) start used false h = absurd cc
-segment_text Mode.Blank start used false h = absurd cc
-segment_text Mode.Slash start used false h = absurd cc
-segment_text Mode.LineComment start used false h = absurd cc
-segment_text Mode.BlockComment start used false h = absurd cc
-segment_text Mode.BlockCommentStar start used false h = absurd cc
-segment_text Mode.Colon start used false h = absurd cc
-segment_text Mode.Word start used false h = absurd cc
-segment_text Mode.KindName start used false h = absurd cc
-segment_text Mode.Number start used false h = absurd cc
-segment_text Mode.NumberSlash start used false h = absurd cc
-segment_text (Mode.Operator e) start used false h = absurd cc
-segment_text Mode.OperatorSlash start used false h = absurd cc
-segment_text (Mode.Infinity n) start used false h = absurd cc
-segment_text Mode.Quote start used false h = absurd cc
-segment_text Mode.Quotes start used false h = absurd cc
-segment_text Mode.Brace start used false h = absurd cc
-segment_text (Mode.Lob l) start used false h = absurd cc
+segment_text _ start used _ h = absurd cc
 
 -- where a segment is open, a long text is
 pub in_text : (s : Known) (w : _) (end : ℕ) → in_segment (Now.Long w end) s ≡ true → is_long_text s.mode ≡ true
@@ -76,31 +53,19 @@ segment_goes : (p : Place) (s : Known) (top : Bool) (now : Now) (o : ℕ) → in
     ≡ true
 segment_goes p s top (Now.Long w end) o h n = long_text_goes top (feed p s o)
     (long_feed p s o (segment_text s.mode s.start (s.used - behind s.mode) (is_idle s.mode) h)) n w end
-segment_goes p s top (Now.Pending k end) o h n = absurd cc
-segment_goes p s top Now.Ready o h n = absurd cc
-segment_goes p s top Now.After o h n = absurd cc
-segment_goes p s top Now.Name o h n = absurd cc
-segment_goes p s top (Now.LongName w) o h n = absurd cc
-segment_goes p s top (Now.Keyed k) o h n = absurd cc
+segment_goes p s top _ o h n = absurd cc
 
 -- What stays at an octet that isn't refused waits for more.
 pub unsettled_waits : (p : Place) (s : Known) (r : Reading) (o : ℕ) → NotRefused (feed p s o) → unsettled s r (feed p s o) ≡ true → waits r (feed p s o) ≡ true
-unsettled_waits p s r o n h = go (waits r (feed p s o)) refl (in_segment r.now s) refl h
-  where
-    go : (a : Bool) → waits r (feed p s o) ≡ a → (b : Bool) → in_segment r.now s ≡ b → (a || b) ≡ true → waits r (feed p s o) ≡ true
-    go true e b f k = e
-    go false e true f k = segment_goes p s (is_top r.frames) r.now o f n
-    go false e false f k = absurd cc
+unsettled_waits p s r o n h =
+    elim (or_cases (waits r (feed p s o)) (in_segment r.now s) h) [ inl e ↦ e | inr f ↦ segment_goes p s (is_top r.frames) r.now o f n ]
 
 -- what doesn't wait for more is settled before it
 pub settles_then : (p : Place) (s : Known) (r : Reading) (o : ℕ) (x : Outcome) → feed p s o ≡ x → NotRefused x → waits r x ≡ false → unsettled s r x ≡ false
-settles_then p s r o x e n w = go (in_segment r.now s) refl
-  where
-    go : (b : Bool) → in_segment r.now s ≡ b → (waits r x || b) ≡ false
-    go false f = ap (λ a. a || false) w
-    go true f =
-        let k = subst (λ y. waits_now (is_top r.frames) r.now y ≡ true) e (segment_goes p s (is_top r.frames) r.now o f (subst NotRefused (sym e) n)) in
-        absurd (let never : true ≡ false = sym k ∙ w in cc)
+settles_then p s r o x e n w =
+    let goes = λ (f : in_segment r.now s ≡ true). segment_goes p s (is_top r.frames) r.now o f (subst NotRefused (sym e) n) in
+    or_from (waits r x) (in_segment r.now s) w (false_from_ne_true (in_segment r.now s)
+    (λ f. both_ways (waits r x) w (subst (λ y. waits_now (is_top r.frames) r.now y ≡ true) e (goes f))))
 
 -- what waits for more stays
 pub waits_unsettled : (s : Known) (r : Reading) (x : Outcome) → waits r x ≡ true → unsettled s r x ≡ true

@@ -1,14 +1,14 @@
 -- Octets that are tokens lead the reader of octets where the tokens lead the reader of tokens.
 use Rattle.std.proofs.Common.{◌≡◌, ℕ, ◌+◌, ◌-◌, ◌≤◌, ◌==◌, List, Bool, true, false, cond, ◌&&◌, ◌||◌, Ok, Err, Some, refl, ap, sym, ◌∙◌, subst, arith, ◌⊎◌, inl, inr}
+use Rattle.std.proofs.lemmas.Bool.{and_right, or_parts}
 use Rattle.std.proofs.lemmas.Bool.Decides.{nat_tests}
-use Rattle.ion_text.specs.Names.{Action, Blob, Clob, Content, Frame, Given, Held, Id, IsBody, Keep, Known, Left, Lexeme, Long, Mark, Mark', Mode, Next, Now, Number', Operator, Outcome, Place, Placed, Quoted, Reason, Short, Style, TokenKind, TypedNull, Within, Word, acts, at_end, before, continues_now, end_of, ends_at, feed, in_text, is_closing, is_colons, is_idle, is_quoted, is_quoting, is_sane, is_segment, is_sexp, is_top, is_two_quotes, raw, start_of, token_of, waits_now}
+use Rattle.ion_text.specs.Names.{Action, Content, Frame, Given, Held, IsBody, Keep, Known, Left, Lexeme, Long, Mark, Mark', Mode, Next, Now, Outcome, Place, Placed, Quoted, Reason, Style, TokenKind, Within, acts, at_end, before, continues_now, end_of, ends_at, feed, in_text, is_closing, is_colons, is_idle, is_quoted, is_quoting, is_sane, is_segment, is_sexp, is_top, is_two_quotes, raw, start_of, token_of, waits_now}
 use Rattle.ion_tokens.specs.machine.Table.{next}
 use Rattle.ion_text.specs.laws.reading.complete.Complete.{segment_kind}
 use Rattle.ion_text.specs.laws.reading.complete.Exact.{Exact, exact}
 use Rattle.ion_text.specs.laws.reading.complete.Going.{mark_kind}
 use Rattle.ion_text.specs.laws.reading.complete.Meets.{IdleLeft, MeetsNext, begun_apart, begun_closing, finely_as, follows_as, idle_left, raw_text, text, text_text}
 use Rattle.ion_text.specs.laws.reading.complete.Pieces.{quoted_kind}
-use Rattle.ion_text.specs.laws.reading.sound.Held.{or_parts}
 use Rattle.ion_text.specs.laws.reading.sound.Quotes.{Fine, left_none}
 use Rattle.ion_text.specs.laws.reading.sound.StandsOpen.{no_segment}
 
@@ -22,42 +22,18 @@ is_mark_said _ = false
 
 no_colons : (k : TokenKind) (octets : List ℕ) (c : Content) → is_mark_said c ≡ false → IsBody k octets (Ok c) → is_colons k ≡ false
 no_colons (TokenKind.Mark m) octets c h b = absurd (let e : c ≡ Mark' m = cc in let n : false ≡ true = sym h ∙ ap is_mark_said e in cc)
-no_colons TokenKind.Word octets c h b = refl
-no_colons TokenKind.KindName octets c h b = refl
-no_colons TokenKind.Number octets c h b = refl
-no_colons TokenKind.Operator octets c h b = refl
-no_colons TokenKind.QuotedSymbol octets c h b = refl
-no_colons TokenKind.ShortString octets c h b = refl
-no_colons TokenKind.LongString octets c h b = refl
-no_colons TokenKind.Clob octets c h b = refl
-no_colons TokenKind.Blob octets c h b = refl
+no_colons _ octets c h b = refl
 
 mark_colons : (m : Mark) (top : Bool) (h : Held) (e start end : ℕ) → is_colons (TokenKind.Mark m)
     ≡ continues_now top (Now.Pending h e) (record { start = start; end = end; said = Mark' m })
 mark_colons Mark.Colons top h e start end = refl
-mark_colons Mark.Colon top h e start end = refl
-mark_colons Mark.Comma top h e start end = refl
-mark_colons Mark.FieldsOpen top h e start end = refl
-mark_colons Mark.FieldsClose top h e start end = refl
-mark_colons Mark.ListOpen top h e start end = refl
-mark_colons Mark.ListClose top h e start end = refl
-mark_colons Mark.SexpOpen top h e start end = refl
-mark_colons Mark.SexpClose top h e start end = refl
+mark_colons _ top h e start end = refl
 
 -- a token is `::` just where a symbol that waits goes on with what it says
 pub colons_agree : (top : Bool) (h : Held) (e start end : ℕ) (k : TokenKind) (octets : List ℕ) (c : Content) → IsBody k octets (Ok c)
     → is_colons k ≡ continues_now top (Now.Pending h e) (record { start = start; end = end; said = c })
 colons_agree top h e start end k octets (Mark' m) b = ap is_colons (mark_kind k octets m b) ∙ mark_colons m top h e start end
-colons_agree top h e start end k octets (Word w) b = no_colons k octets (Word w) refl b
-colons_agree top h e start end k octets (Id n) b = no_colons k octets (Id n) refl b
-colons_agree top h e start end k octets (Quoted w) b = no_colons k octets (Quoted w) refl b
-colons_agree top h e start end k octets (Short w) b = no_colons k octets (Short w) refl b
-colons_agree top h e start end k octets (Long w) b = no_colons k octets (Long w) refl b
-colons_agree top h e start end k octets (Number' n) b = no_colons k octets (Number' n) refl b
-colons_agree top h e start end k octets (TypedNull n) b = no_colons k octets (TypedNull n) refl b
-colons_agree top h e start end k octets (Operator w) b = no_colons k octets (Operator w) refl b
-colons_agree top h e start end k octets (Clob w) b = no_colons k octets (Clob w) refl b
-colons_agree top h e start end k octets (Blob w) b = no_colons k octets (Blob w) refl b
+colons_agree top h e start end k octets x b = no_colons k octets x refl b
 
 -- what is said is a segment
 abbrev pub is_long_said : Content → Bool
@@ -67,63 +43,26 @@ is_long_said _ = false
 -- a token is a segment just where it says one
 pub segment_agree : (k : TokenKind) (octets : List ℕ) (c : Content) → IsBody k octets (Ok c) → is_segment k ≡ is_long_said c
 segment_agree k octets (Long w) b = segment_kind k octets w b
-segment_agree k octets (Mark' m) b = no_segment k octets (Mark' m) (λ w e. cc) b
-segment_agree k octets (Word v) b = no_segment k octets (Word v) (λ w e. cc) b
-segment_agree k octets (Id n) b = no_segment k octets (Id n) (λ w e. cc) b
-segment_agree k octets (Quoted v) b = no_segment k octets (Quoted v) (λ w e. cc) b
-segment_agree k octets (Short v) b = no_segment k octets (Short v) (λ w e. cc) b
-segment_agree k octets (Number' n) b = no_segment k octets (Number' n) (λ w e. cc) b
-segment_agree k octets (TypedNull n) b = no_segment k octets (TypedNull n) (λ w e. cc) b
-segment_agree k octets (Operator v) b = no_segment k octets (Operator v) (λ w e. cc) b
-segment_agree k octets (Clob v) b = no_segment k octets (Clob v) (λ w e. cc) b
-segment_agree k octets (Blob v) b = no_segment k octets (Blob v) (λ w e. cc) b
-
-both_no : (b : Bool) → (b && false) ≡ false
-both_no true = refl
-both_no false = refl
+segment_agree k octets x b = no_segment k octets x (λ w e. cc) b
 
 -- a token that says neither is neither a segment nor quoted
 pub neither : (top : Bool) (start end : ℕ) (k : TokenKind) (octets : List ℕ) (c : Content) → ((w : List ℕ) → c ≡ Long w → ⊥) → ((w : List ℕ) → c ≡ Quoted w → ⊥)
     → IsBody k octets (Ok c) → (is_segment k || (top && is_two_quotes k start end)) ≡ false
 neither top start end TokenKind.LongString octets c n m b = absurd (n octets b.0)
 neither top start end TokenKind.QuotedSymbol octets c n m b = absurd (m octets b.0)
-neither top start end TokenKind.Word octets c n m b = both_no top
-neither top start end TokenKind.KindName octets c n m b = both_no top
-neither top start end TokenKind.Number octets c n m b = both_no top
-neither top start end TokenKind.Operator octets c n m b = both_no top
-neither top start end TokenKind.ShortString octets c n m b = both_no top
-neither top start end TokenKind.Clob octets c n m b = both_no top
-neither top start end TokenKind.Blob octets c n m b = both_no top
-neither top start end (TokenKind.Mark x) octets c n m b = both_no top
+neither top start end _ octets c n m b = and_right top false refl
 
 -- a long string goes on with a segment, and at the top level with `''`
 pub long_goes : (top : Bool) (w : List ℕ) (e start end : ℕ) (k : TokenKind) (octets : List ℕ) (c : Content) → IsBody k octets (Ok c)
     → continues_now top (Now.Long w e) (record { start = start; end = end; said = c }) ≡ (is_segment k || (top && is_two_quotes k start end))
 long_goes top w e start end k octets (Long v) b = sym (ap (λ x. x || (top && is_two_quotes k start end)) (segment_kind k octets v b))
 long_goes top w e start end k octets (Quoted v) b = sym (ap (λ x. is_segment x || (top && is_two_quotes x start end)) (quoted_kind k octets v b))
-long_goes top w e start end k octets (Mark' m) b = sym (neither top start end k octets (Mark' m) (λ x y. cc) (λ x y. cc) b)
-long_goes top w e start end k octets (Word v) b = sym (neither top start end k octets (Word v) (λ x y. cc) (λ x y. cc) b)
-long_goes top w e start end k octets (Id v) b = sym (neither top start end k octets (Id v) (λ x y. cc) (λ x y. cc) b)
-long_goes top w e start end k octets (Short v) b = sym (neither top start end k octets (Short v) (λ x y. cc) (λ x y. cc) b)
-long_goes top w e start end k octets (Number' v) b = sym (neither top start end k octets (Number' v) (λ x y. cc) (λ x y. cc) b)
-long_goes top w e start end k octets (TypedNull v) b = sym (neither top start end k octets (TypedNull v) (λ x y. cc) (λ x y. cc) b)
-long_goes top w e start end k octets (Operator v) b = sym (neither top start end k octets (Operator v) (λ x y. cc) (λ x y. cc) b)
-long_goes top w e start end k octets (Clob v) b = sym (neither top start end k octets (Clob v) (λ x y. cc) (λ x y. cc) b)
-long_goes top w e start end k octets (Blob v) b = sym (neither top start end k octets (Blob v) (λ x y. cc) (λ x y. cc) b)
+long_goes top w e start end k octets z b = sym (neither top start end k octets z (λ x y. cc) (λ x y. cc) b)
 
 name_goes : (top : Bool) (w : List ℕ) (start end : ℕ) (k : TokenKind) (octets : List ℕ) (c : Content) → IsBody k octets (Ok c)
     → continues_now top (Now.LongName w) (record { start = start; end = end; said = c }) ≡ is_segment k
 name_goes top w start end k octets (Long v) b = sym (segment_agree k octets (Long v) b)
-name_goes top w start end k octets (Mark' v) b = sym (segment_agree k octets (Mark' v) b)
-name_goes top w start end k octets (Word v) b = sym (segment_agree k octets (Word v) b)
-name_goes top w start end k octets (Id v) b = sym (segment_agree k octets (Id v) b)
-name_goes top w start end k octets (Quoted v) b = sym (segment_agree k octets (Quoted v) b)
-name_goes top w start end k octets (Short v) b = sym (segment_agree k octets (Short v) b)
-name_goes top w start end k octets (Number' v) b = sym (segment_agree k octets (Number' v) b)
-name_goes top w start end k octets (TypedNull v) b = sym (segment_agree k octets (TypedNull v) b)
-name_goes top w start end k octets (Operator v) b = sym (segment_agree k octets (Operator v) b)
-name_goes top w start end k octets (Clob v) b = sym (segment_agree k octets (Clob v) b)
-name_goes top w start end k octets (Blob v) b = sym (segment_agree k octets (Blob v) b)
+name_goes top w start end k octets x b = sym (segment_agree k octets x b)
 
 closing_colons : (k : TokenKind) → is_closing k ≡ false → is_colons k ≡ false
 closing_colons (TokenKind.Mark Mark.Colons) h = absurd cc
@@ -134,9 +73,8 @@ or_false a b true h k = ap (λ x. x || b) h ∙ k
 or_false a b false h k = ap (λ x. x || false) h
 
 or_none : (a b top : Bool) → b ≡ false → a ≡ (a || (top && b))
-or_none true b top h = refl
 or_none false b true h = sym h
-or_none false b false h = refl
+or_none _ b _ h = refl
 
 -- where the octet shows that nothing goes on, the token that has begun doesn't go on
 pub next_agrees : (fs : List Frame) (now : Now) (s : Known) (t : Placed) (c : Content) → MeetsNext s t
@@ -151,10 +89,7 @@ next_agrees fs (Now.Long v e) s t c m sane f b w =
 next_agrees fs (Now.LongName v) s t c m sane f b w =
     let x = begun_apart s t m sane f (or_parts (is_idle s.mode) (is_quoting s.mode) w) in
     name_goes (is_top fs) v t.lexeme.start t.lexeme.end t.lexeme.kind t.lexeme.octets c b ∙ x.0
-next_agrees fs Now.Ready s t c m sane f b w = refl
-next_agrees fs Now.After s t c m sane f b w = refl
-next_agrees fs Now.Name s t c m sane f b w = refl
-next_agrees fs (Now.Keyed x) s t c m sane f b w = refl
+next_agrees fs _ s t c m sane f b w = refl
 
 -- a token that is given
 pub given_agrees : (fs : List Frame) (now : Now) (s : Known) (x : Lexeme) (c : Content) → IsBody x.kind x.octets (Ok c) → is_two_quotes x.kind x.start x.end
@@ -163,10 +98,7 @@ given_agrees fs (Now.Pending h e) s x c b two = colons_agree (is_top fs) h e x.s
 given_agrees fs (Now.Long v e) s x c b two = or_none (is_segment x.kind) (is_two_quotes x.kind x.start x.end) (is_top fs) two
     ∙ sym (long_goes (is_top fs) v e x.start x.end x.kind x.octets c b)
 given_agrees fs (Now.LongName v) s x c b two = sym (name_goes (is_top fs) v x.start x.end x.kind x.octets c b)
-given_agrees fs Now.Ready s x c b two = refl
-given_agrees fs Now.After s x c b two = refl
-given_agrees fs Now.Name s x c b two = refl
-given_agrees fs (Now.Keyed y) s x c b two = refl
+given_agrees fs _ s x c b two = refl
 
 -- a token that is left
 pub left_agrees : (fs : List Frame) (now : Now) (s : Known) (x : Lexeme) (c : Content) → IsBody x.kind x.octets (Ok c) → is_colons x.kind ≡ false
@@ -176,20 +108,12 @@ left_agrees fs (Now.Pending h e) s x c b col seg two = sym col ∙ colons_agree 
 left_agrees fs (Now.Long v e) s x c b col seg two = ap (λ y. is_top fs && y) (sym two)
     ∙ (sym (ap (λ y. y || (is_top fs && is_two_quotes x.kind x.start x.end)) seg) ∙ sym (long_goes (is_top fs) v e x.start x.end x.kind x.octets c b))
 left_agrees fs (Now.LongName v) s x c b col seg two = sym (name_goes (is_top fs) v x.start x.end x.kind x.octets c b ∙ seg)
-left_agrees fs Now.Ready s x c b col seg two = refl
-left_agrees fs Now.After s x c b col seg two = refl
-left_agrees fs Now.Name s x c b col seg two = refl
-left_agrees fs (Now.Keyed y) s x c b col seg two = refl
+left_agrees fs _ s x c b col seg two = refl
 
 -- what is left where quotes are open
 text_no_left : (long : Bool) (p : Place) (s s' : Known) (o : ℕ) (x : Lexeme) (a : Action) → text long a ≡ true → acts p s o a ≡ Left x s' → ⊥
 text_no_left long p s s' o x (Action.Go m k) h e = cc
-text_no_left long p s s' o x (Action.Give m k) h e = cc
-text_no_left long p s s' o x (Action.Refuse y) h e = cc
-text_no_left long p s s' o x (Action.Before kind k m) h e = cc
-text_no_left long p s s' o x Action.EndWord h e = cc
-text_no_left long p s s' o x (Action.Split n) h e = cc
-text_no_left long p s s' o x Action.EndBlob h e = cc
+text_no_left long p s s' o x _ h e = cc
 
 lexeme_in : Lexeme → Outcome → Lexeme
 lexeme_in d (Left x s) = x
@@ -231,25 +155,7 @@ quoting_left p s s' o x f q h = go s.mode refl q
         quote false k = text_no_left false p s s' o x (raw Style.QuotedSymbol o) (raw_text Style.QuotedSymbol o).is k
     go (Mode.Text Style.LongString w) e k = absurd (text_no_left true p s s' o x (in_text Style.LongString w o) (text_text Style.LongString w o).is
         (sym (ap (λ m. acts p s o (next p s.colon m o)) e) ∙ h))
-    go (Mode.Text Style.ShortString w) e k = absurd cc
-    go (Mode.Text Style.QuotedSymbol w) e k = absurd cc
-    go (Mode.Text Style.ShortClob w) e k = absurd cc
-    go (Mode.Text Style.LongClob w) e k = absurd cc
-    go Mode.Blank e k = absurd cc
-    go Mode.Slash e k = absurd cc
-    go Mode.LineComment e k = absurd cc
-    go Mode.BlockComment e k = absurd cc
-    go Mode.BlockCommentStar e k = absurd cc
-    go Mode.Colon e k = absurd cc
-    go Mode.Word e k = absurd cc
-    go Mode.KindName e k = absurd cc
-    go Mode.Number e k = absurd cc
-    go Mode.NumberSlash e k = absurd cc
-    go (Mode.Operator y) e k = absurd cc
-    go Mode.OperatorSlash e k = absurd cc
-    go (Mode.Infinity n) e k = absurd cc
-    go Mode.Brace e k = absurd cc
-    go (Mode.Lob y) e k = absurd cc
+    go _ e k = absurd cc
 
 two_test : (a b : ℕ) → b ≡ a + 2 → (b == a + 2) ≡ true
 two_test a b h = grind (arith, nat_tests)
@@ -287,18 +193,4 @@ quotes_end p s x q f e = go s.mode refl q (ap (λ m. ends_at s (end_of p m)) ref
     go Mode.Quotes h k y = subst (λ m. exact m s.start s.used) h f.is ∙ ap (λ m. start_of m s.start s.used + 2) (sym h)
     go Mode.Quote h k y = absurd (let n : Err Reason.Incomplete ≡ Ok (Some x) = y in cc)
     go (Mode.Text t w) h k y = absurd (let n : Err Reason.Incomplete ≡ Ok (Some x) = y in cc)
-    go Mode.Blank h k y = absurd cc
-    go Mode.Slash h k y = absurd cc
-    go Mode.LineComment h k y = absurd cc
-    go Mode.BlockComment h k y = absurd cc
-    go Mode.BlockCommentStar h k y = absurd cc
-    go Mode.Colon h k y = absurd cc
-    go Mode.Word h k y = absurd cc
-    go Mode.KindName h k y = absurd cc
-    go Mode.Number h k y = absurd cc
-    go Mode.NumberSlash h k y = absurd cc
-    go (Mode.Operator z) h k y = absurd cc
-    go Mode.OperatorSlash h k y = absurd cc
-    go (Mode.Infinity n) h k y = absurd cc
-    go Mode.Brace h k y = absurd cc
-    go (Mode.Lob z) h k y = absurd cc
+    go _ h k y = absurd cc

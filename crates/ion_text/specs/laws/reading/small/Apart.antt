@@ -26,8 +26,7 @@ module _ (g : Catalog) (l : Limits) where
       let both : x ∷ [] ≡ v ∷ [] = w.0 ∙ f in
       let same : x ≡ v = cc in
       subst (λ z. nodes z ≤ k) same h.0
-  last_value k item start end top (refuses y) later m v h e f = absurd cc
-  last_value k item start end top (late y r) later m v h e f = absurd cc
+  last_value k item start end top _ later m v h e f = absurd cc
 
   ended_value : (r : Reading) (v : Value) → Going g l r [] (v ∷ []) → nodes v ≤ open_nodes r
   ended_value r v d =
@@ -45,8 +44,7 @@ module _ (g : Catalog) (l : Limits) where
       let same : x ≡ v = cc in
       let k' : nodes v ≤ k = subst (λ z. nodes z ≤ k) same h.0 in
       omega arith
-  turned_value k more item start end top (refuses y) ts v rest h d = absurd d
-  turned_value k more item start end top (late y r) ts v rest h d = absurd d
+  turned_value k more item start end top _ ts v rest h d = absurd d
 
   -- behind one more token
   token_value : (t : Placed) (ts : List Placed) (v : Value) → ((r : Reading) → Going g l r ts (v ∷ []) → nodes v ≤ open_nodes r + length ts) → (r : Reading)
@@ -74,8 +72,7 @@ module _ (g : Catalog) (l : Limits) where
           let same : x ≡ v = cc in
           let k : nodes v ≤ open_nodes r = subst (λ z. nodes z ≤ open_nodes r) same h.0 in
           omega arith
-      settled (refuses y) h s e = absurd e
-      settled (late y n) h s e = absurd e
+      settled _ h s e = absurd e
 
       go : (b : Bool) → continues r (token_of t.lexeme c) ≡ b → nodes v ≤ open_nodes r + length (t ∷ ts)
       go true w = omega (arith, direct r (going_turn g l r t ts (v ∷ []) c d is (inl w)))
@@ -158,15 +155,7 @@ module _ (g : Catalog) (l : Limits) (front following : List ℕ) (s : List Value
       where
         wide : (start end : ℕ) → (end == start + 2) ≡ true → end ≡ start + length token.token → length token.token ≡ 2
         wide start end h i = grind (arith, nat_tests)
-    two_quotes TokenKind.Word e h = absurd cc
-    two_quotes TokenKind.KindName e h = absurd cc
-    two_quotes TokenKind.Number e h = absurd cc
-    two_quotes TokenKind.Operator e h = absurd cc
-    two_quotes TokenKind.ShortString e h = absurd cc
-    two_quotes TokenKind.LongString e h = absurd cc
-    two_quotes TokenKind.Clob e h = absurd cc
-    two_quotes TokenKind.Blob e h = absurd cc
-    two_quotes (TokenKind.Mark m) e h = absurd cc
+    two_quotes _ e h = absurd cc
 
     no_long : ends_long w.tokens ≡ true → begins_as_long (y ∷ ys) ≡ true → ⊥
     no_long h i = by (is_long y) refl

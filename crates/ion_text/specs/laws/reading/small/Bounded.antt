@@ -1,5 +1,6 @@
 -- No more octets are kept than an item may have.
 use Rattle.std.proofs.Common.{◌≡◌, ℕ, zero, suc, ◌+◌, ◌-◌, ◌≤◌, Bool, true, false, ◌&&◌, ◌||◌, not, nat_le, List, [], ◌∷◌, ◌++◌, length, Result, Ok, Err, Option, Some, None, refl, sym, ap, ◌∙◌, subst, arith, ◌⊎◌, inl, inr, if◌then◌else◌}
+use Rattle.std.proofs.lemmas.Bool.{cond_both}
 use Rattle.ion_text.specs.Names.{Begun, Catalog, Content, Effect, Follows, Form, Frame, Given, Held, IsBody, IsSteady, Known, Leading, Left, Lexeme, LexesTo, Limits, Mode, Next, Now, Operator, Outcome, Payload, Place, Placed, Ran, Reading, Reason, Refused, Run, Slot, Spot, State, Style, Symbols, TokenKind, Turn, Value, at, begun, begun_in, behind, behind_given, behind_left, ended, fails, feed, form_of, gives, goes, held_in, held_payload, is_idle, is_long_begun, is_long_form, is_sane, is_sexp, is_top, late, leaves, longest_top, noticed, on_octet, on_said, on_scan, on_settled, or_worse, paid, place, place_in, plain, reaches, refuses, released, run, said, said_body, settle, settle_same, settled, shut, spot_at, takes, tells, token_at, token_of, turn, turn_now, under, unkept, unsettled, uses, with_scan}
 use Rattle.ion_tokens.specs.laws.Follows.{feed_follows}
 use Rattle.ion_tokens.proofs.foreseen.Reaches.{begun_stays}
@@ -18,7 +19,6 @@ use Rattle.ion_text.specs.laws.showing.tokens.Cuts.{OpenBehind, behind_tokens}
 -- where a `/` isn't counted, it isn't kept
 slash_unkept : (m : Mode) → behind m ≤ unkept m
 slash_unkept Mode.NumberSlash = omega arith
-slash_unkept Mode.OperatorSlash = omega arith
 slash_unkept _ = omega arith
 
 -- nothing is kept of quotes of which it isn't known yet what they open
@@ -97,10 +97,7 @@ module _ (g : Catalog) (l : Limits) (u : List ℕ) (vs : List Value) (m : State)
       top_kept Now.Ready ss c h = ready_kept ss h
       top_kept (Now.Pending x last) ss c h = absurd (let n : false ≡ true = sym open' ∙ c in cc)
       top_kept (Now.Long w last) ss c h = long_kept w last ss (form_of s.mode) refl (sym (ap (λ i. i || is_long_form (form_of s.mode)) open') ∙ c) h
-      top_kept Now.After ss c h = absurd c
-      top_kept Now.Name ss c h = absurd c
-      top_kept (Now.LongName w) ss c h = absurd c
-      top_kept (Now.Keyed x) ss c h = absurd c
+      top_kept _ ss c h = absurd c
 
       some_kept : (fs : List Frame) → r.frames ≡ fs → length s.kept ≤ l.item
       some_kept (f ∷ fs) e = let h = subst (λ x. reaches x r s ≤ l.item) e within.0 in omega (arith, h, sizes.0, before)
@@ -116,11 +113,7 @@ module _ (g : Catalog) (l : Limits) (u : List ℕ) (vs : List Value) (m : State)
         go (t ∷ us) e = some_kept (begins_before t us e) r.frames refl
 
   stood_kept : held_in s ≤ l.item
-  stood_kept = go (is_idle s.mode) refl
-    where
-      go : (i : Bool) → is_idle s.mode ≡ i → (if i then 0 else length s.kept) ≤ l.item
-      go true e = omega arith
-      go false e = open_kept e
+  stood_kept = cond_both (is_idle s.mode) 0 (length s.kept) (λ n. n ≤ l.item) (λ e. omega arith) open_kept
 
 -- 2. Where an octet is awaited, the scanner knows what it knew before it, or nothing is kept.
 
@@ -141,16 +134,13 @@ module _ (g : Catalog) (l : Limits) where
   TopGives fs _ = Unit {0}
 
   at_top : (t : Turn) → TopGives [] t
-  at_top (goes n) = tt
   at_top (gives v n) = refl
-  at_top (refuses e) = tt
-  at_top (late e n) = tt
+  at_top _ = tt
 
   ended_top : (spot : Spot) (fs : List Frame) (v : Value) → TopGives fs (ended (under g l) spot fs v)
   ended_top spot [] v = at_top (ended (under g l) spot [] v)
   ended_top spot (Frame.Items listing ss vs ∷ fs) v = tt
-  ended_top spot (Frame.Named ss ms x ∷ fs) v = tt
-  ended_top spot (Frame.Fields ss ms ∷ fs) v = tt
+  ended_top spot _ v = tt
 
   paid_top : (spot : Spot) (fs : List Frame) (ss : Symbols) (q : Result Payload Reason) → TopGives fs (paid (under g l) spot fs ss q)
   paid_top spot fs ss (Ok q) = ended_top spot fs _
@@ -163,11 +153,7 @@ module _ (g : Catalog) (l : Limits) where
   settled_top : (start : ℕ) (c : List Slot) (fs : List Frame) (ss : Symbols) (now : Now) → TopGives fs (settled (under g l) start c fs ss now)
   settled_top start c fs ss (Now.Pending h end) = released_top (spot_at end start c) fs ss h
   settled_top start c fs ss (Now.Long w end) = ended_top (spot_at end start c) fs _
-  settled_top start c fs ss (Now.LongName w) = tt
-  settled_top start c fs ss Now.Ready = tt
-  settled_top start c fs ss Now.After = tt
-  settled_top start c fs ss Now.Name = tt
-  settled_top start c fs ss (Now.Keyed x) = tt
+  settled_top start c fs ss _ = tt
 
   -- in a container it stays open, and gives nothing
   abbrev StaysInside : Turn → Type 0
@@ -177,19 +163,13 @@ module _ (g : Catalog) (l : Limits) where
 
   ended_inside : (spot : Spot) (fs : List Frame) (v : Value) → is_top fs ≡ false → StaysInside (ended (under g l) spot fs v)
   ended_inside spot [] v h = absurd cc
-  ended_inside spot (Frame.Items listing ss vs ∷ fs) v h = refl
-  ended_inside spot (Frame.Named ss ms x ∷ fs) v h = refl
   ended_inside spot (Frame.Fields ss ms ∷ fs) v h = tt
+  ended_inside spot _ v h = refl
 
   operator_inside : (begin end start : ℕ) (c : List Slot) (fs : List Frame) (ss : Symbols) (w : List ℕ) (now : Now) → is_top fs ≡ false
       → StaysInside (turn_now (under g l) (at start c fs ss now) (token_at begin end (Operator w)) now)
   operator_inside begin end start c fs ss w Now.Ready h = ended_inside _ fs _ h
-  operator_inside begin end start c fs ss w (Now.Pending x n) h = tt
-  operator_inside begin end start c fs ss w (Now.Long v n) h = tt
-  operator_inside begin end start c fs ss w Now.After h = tt
-  operator_inside begin end start c fs ss w Now.Name h = tt
-  operator_inside begin end start c fs ss w (Now.LongName v) h = tt
-  operator_inside begin end start c fs ss w (Now.Keyed x) h = tt
+  operator_inside begin end start c fs ss w _ h = tt
 
   module _ (first : Known) where
     abbrev NoneOrFirst : Known → Type 0
@@ -207,21 +187,17 @@ module _ (g : Catalog) (l : Limits) where
       where
         go : (a b : Bool) → KeptBehind (if a then fails Reason.Unexpected else
             (if b then uses (record { scan = s; reading = r }) else fails Reason.ItemTooLong))
-        go true b = tt
         go false true = tt
-        go false false = tt
+        go _ _ = tt
 
     worse_kept : (e : Reason) (x : Effect) → KeptBehind (or_worse e x)
     worse_kept e (fails f) = tt
-    worse_kept e (uses m) = tt
-    worse_kept e (tells v m) = tt
-    worse_kept e (leaves v m) = tt
+    worse_kept e _ = tt
 
     given_kept : (s : Known) (t : Turn) → KeptBehind (behind_given l s t)
     given_kept s (goes r) = noticed_kept r s
-    given_kept s (gives v r) = tt
-    given_kept s (refuses e) = tt
     given_kept s (late e r) = worse_kept e (noticed l r s)
+    given_kept s _ = tt
 
     said_kept : (x : Result Content Reason) (f : Content → Effect) → ((c : Content) → x ≡ Ok c → KeptBehind (f c)) → KeptBehind (on_said x f)
     said_kept (Ok c) f h = h c refl
@@ -279,10 +255,9 @@ module _ (g : Catalog) (l : Limits) where
 
       same_top : (t : Turn) → Leading g l (λ n. (place n ≡ place r) × (is_top n.frames ≡ is_top r.frames)) t
           → Leading g l (λ n. is_top n.frames ≡ is_top r.frames) t
-      same_top (goes n) h = h.1
-      same_top (gives v n) h = h.1
       same_top (refuses e) h = tt
       same_top (late e n) h = tt
+      same_top _ h = h.1
 
       octet_kept : (x : Outcome) → Follows (place r) s.mode x → Finely s.mode x → KeptBehind (on_octet g l again (with_scan s r) x)
       octet_kept x fo fi = go (unsettled s r x)

@@ -2,12 +2,12 @@
 use Rattle.std.proofs.Common.{◌≡◌, ℕ, zero, suc, ◌+◌, ◌-◌, ◌≤◌, Bool, true, false, cond, List, [], refl, arith, Option, Some, None, Ok, ◌⊎◌, inl, inr}
 use Rattle.std.specs.Prelude.{◌==◌, ◌&&◌, ◌||◌, not, nat_le, bytes_eq, codes}
 use Rattle.std.specs.List.{list_all}
-use Rattle.std.proofs.lemmas.Bool.{and_parts}
+use Rattle.std.proofs.lemmas.Bool.{and_parts, le-leb}
 use Rattle.ion_text.specs.Names.{Action, End, Given, Keep, Known, Left, Lexeme, Mode, Next, Outcome, Place, Reason, Refused, TokenKind, acts, at_end, blob_ends, blob_of, cut, end_of, ends_at, feed, go_to, initial, is_idle, is_quoted, is_quoting, is_sexp, left_of, past, start_of}
 use Rattle.ion_tokens.specs.machine.Rows.{infinity_rows}
 use Rattle.ion_tokens.specs.machine.Table.{next}
 use Rattle.ion_tokens.specs.laws.ByRows.{by_mode, by_rows_where}
-use Rattle.ion_text.specs.laws.reading.sound.Quotes.{implies, le_of, le_to}
+use Rattle.ion_text.specs.laws.reading.sound.Quotes.{implies, le_of}
 
 -- At least so many octets were used since the open token began: one of its own, and those that may turn out to be no part of it.
 abbrev pub wants : Mode → ℕ
@@ -49,8 +49,8 @@ length_fits sexp n more q _ = true
 infinity_fits : (letters : ℕ) (sexp : Bool) → 1 ≤ letters
     → list_all (length_fits sexp (1 + letters) (2 + letters) false) (infinity_rows sexp letters) ≡ true
 infinity_fits letters true h =
-    rw (le_to (1 + suc letters) (2 + letters) (omega arith), le_to 1 letters h, le_to (1 + letters) (1 + letters) (omega arith)) refl
-infinity_fits letters false h = rw (le_to (1 + suc letters) (2 + letters) (omega arith)) refl
+    rw (le-leb (1 + suc letters) (2 + letters) (omega arith), le-leb 1 letters h, le-leb (1 + letters) (1 + letters) (omega arith)) refl
+infinity_fits letters false h = rw (le-leb (1 + suc letters) (2 + letters) (omega arith)) refl
 
 abbrev is_infinity : Mode → Bool
 is_infinity (Mode.Infinity letters) = true
@@ -94,8 +94,6 @@ Measured p s (Refused n e) = Unit {0}
 -- an octet adds what it may
 pub next_wants : (m : Mode) → wants_next m ≤ wants m + 1
 next_wants Mode.Number = omega arith
-next_wants (Mode.Operator e) = omega arith
-next_wants (Mode.Infinity letters) = omega arith
 next_wants _ = omega arith
 
 -- where no token is open
@@ -114,7 +112,6 @@ quoting_next _ h = refl
 
 went : (m : Mode) (start used n : ℕ) → start + n ≤ used → wants m ≤ n + 1 → start_of m start (used + 1) + wants m ≤ used + 1
 went Mode.Blank start used n h k = omega arith
-went Mode.Slash start used n h k = omega arith
 went _ start used n h k = omega arith
 
 left_ends : (p : Place) (s : Known) (kind : TokenKind) (k : List ℕ) (m : Mode) → is_left_in m ≡ true → wants m + 1 ≤ wants s.mode → Sized s
@@ -170,8 +167,6 @@ acts_measured p s o Action.EndWord f z = word ((o == 46) && bytes_eq s.kept (cod
 
     less : (m : Mode) → 1 ≤ wants_next m
     less Mode.Number = omega arith
-    less (Mode.Operator e) = omega arith
-    less (Mode.Infinity letters) = omega arith
     less _ = omega arith
 
     word : (b : Bool) → Measured p s (cond b (Next (go_to s Mode.KindName []))

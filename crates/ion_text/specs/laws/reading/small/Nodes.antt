@@ -1,6 +1,6 @@
 -- A value of the grammar has at most as many nodes as tokens, and each token has an octet.
 use Rattle.std.proofs.Common.{ℕ, ◌+◌, ◌<◌, ◌≤◌, Bool, List, [], ◌∷◌, ◌++◌, length, Option, refl, ap, arith, length-append}
-use Rattle.ion_text.specs.Names.{Annotations, Content, Elements, Field, IsName, IsScalar, Kind, LexesTo, Means, Members, Payload, Place, Placed, Plain, Row, Segments, Slot, Symbols, Value, annotated, by_long, by_short, by_symbol, colon_behind, comma, element, field, field_comma, field_of, is_blob, is_clob, is_decimal, is_false, is_int, is_list, is_null, is_operator, is_short, is_struct, is_symbol, is_timestamp, is_true, is_typed_null, item, joined, layer_nodes, long_string, means, no_annotation, no_element, no_field, no_item, nodes, one_annotation, one_token, segment, span}
+use Rattle.ion_text.specs.Names.{Annotations, Content, Elements, Field, IsName, IsScalar, Kind, LexesTo, Means, Members, Payload, Place, Placed, Plain, Row, Segments, Slot, Symbols, Value, annotated, by_long, colon_behind, comma, element, field, field_comma, field_of, is_blob, is_clob, is_decimal, is_false, is_int, is_list, is_null, is_operator, is_short, is_struct, is_symbol, is_timestamp, is_true, is_typed_null, item, joined, layer_nodes, long_string, means, no_annotation, no_element, no_field, no_item, nodes, one_annotation, one_token, segment, span}
 use Rattle.ion_model.specs.declared.value.Payload.TheVariants as payloads
 use Rattle.ion_model.specs.declared.value.Payload.TheViews as views
 use Rattle.ion_model.specs.laws.Measures.{nodes-at-Fields, nodes-at-List, nodes-at-Sexp, nodes-more}
@@ -32,9 +32,8 @@ notes_long c p _ _ (one_annotation ts ss t colons said s d i j k) =
     omega (arith, notes_long c p ts ss d, length-append ts (t ∷ colons ∷ []), length-append ss (s ∷ []))
 
 name_long : (c : List Slot) (ts : List Placed) (s : Option (List ℕ)) → IsName c ts s → 0 < length ts
-name_long c _ _ (by_symbol t said s i j) = omega arith
-name_long c _ _ (by_short t w i) = omega arith
 name_long c _ _ (by_long ts w d) = segments_long _ ts w d
+name_long c _ _ _ = omega arith
 
 mutual
   plain_nodes : (c : List Slot) (p : Place) (ts : List Placed) (q : Payload) (ss : Symbols) → Plain c p ts q → nodes (annotated ss q) ≤ length ss + length ts

@@ -1,6 +1,6 @@
 -- A value has at most as many nodes as tokens: each token adds one at most to what is open.
 use Rattle.std.proofs.Common.{◌≡◌, ℕ, suc, ◌+◌, ◌≤◌, nat_le, nat_lt, List, [], ◌∷◌, ◌++◌, length, map, sum, Bool, true, false, Result, Ok, Err, Option, Some, refl, sym, ap, subst, arith, length-append, if◌then◌else◌}
-use Rattle.std.proofs.lemmas.Bool.Decides.{nat_tests}
+use Rattle.std.proofs.lemmas.Bool.{cond_both, leb-true}
 use Rattle.std.specs.List.{sum_by}
 use Rattle.std.proofs.lemmas.List.Sums.{sum-map, sum_by-append, sum_by-cons}
 use Rattle.ion_text.specs.Names.{Blob, Bracket, Catalog, Clob, Content, Field, Frame, Held, Id, Limits, Listing, Long, Mark, Mark', Now, Number, Number', Operator, Payload, Quoted, Reading, Reason, Setting, Short, Slot, Spot, Symbols, Token, Turn, TypedNull, Value, Word, annotated, at, bare_close, begun_at, closed, deeper, ended, field_of, fresh, gives, goes, held_payload, held_symbol, is_keyword, is_table, is_top, keyed, late, layer_nodes, named, next, nodes, noted, number_payload, on_after, on_comma, on_keyed, on_long, on_long_name, on_name, on_pending, on_ready, paid, refuses, released, resolve, resolved, settle, spot_at, token_at, turn, turn_now, turned, under, within}
@@ -63,8 +63,7 @@ wait_end _ = 0
 abbrev pub Weighs : ℕ → ℕ → ℕ → ℕ → Bool → Turn → Type 0
 Weighs n item start end top (goes r) = (open_nodes r ≤ n) × (r.start ≤ start) × TopWaits end top r.frames r.now
 Weighs n item start end top (gives v r) = (nodes v ≤ n) × (end ≤ start + item) × (r ≡ fresh r.context)
-Weighs n item start end top (refuses e) = Unit {0}
-Weighs n item start end top (late e r) = Unit {0}
+Weighs n item start end top _ = Unit {0}
 
 -- a further field adds the nodes of its value and one
 pub fields_more : (ms : List Field) (m : Field) → many_fields (ms ++ m ∷ []) ≡ many_fields ms + suc (nodes m.value)
@@ -103,14 +102,8 @@ held_flat Held.Nan = tt
 
 within_weighs : (n item start end : ℕ) (top : Bool) (t : Turn) → (end ≤ start + item → Weighs n item start end top t)
     → Weighs n item start end top (within item start end t)
-within_weighs n item start end top t h = go (nat_le end (start + item)) refl
-  where
-    fits : nat_le end (start + item) ≡ true → end ≤ start + item
-    fits e = grind (arith, nat_tests)
-
-    go : (b : Bool) → nat_le end (start + item) ≡ b → Weighs n item start end top (if b then t else refuses Reason.ItemTooLong)
-    go true e = h (fits e)
-    go false e = tt
+within_weighs n item start end top t h = cond_both (nat_le end (start + item)) t (refuses Reason.ItemTooLong) (Weighs n item start end top)
+    (λ e. h (leb-true end (start + item) e)) (λ e. tt)
 
 top_weighs : (n item start end : ℕ) (top : Bool) (c : List Slot) (v : Value) (d : Result (List Slot) Reason) (b : Bool) → nodes v ≤ n
     → Weighs n item start end top (if b then turned item start end d else within item start end (gives v (fresh c)))
@@ -145,13 +138,10 @@ released_weighs : (setting : Setting) (spot : Spot) (fs : List Frame) (ss : Symb
 released_weighs setting spot [] [] (Held.Version true s) n top k =
     within_weighs n setting.limits.item spot.start spot.end top _ (λ i. (omega arith, omega arith, tt))
 released_weighs setting spot [] [] (Held.Version false s) n top k = tt
-released_weighs setting spot [] [] (Held.Symbol s) n top k =
-    paid_weighs setting spot [] [] (held_payload (Held.Symbol s)) n top (held_flat (Held.Symbol s)) k
-released_weighs setting spot [] [] (Held.Null x) n top k = paid_weighs setting spot [] [] (held_payload (Held.Null x)) n top (held_flat (Held.Null x)) k
-released_weighs setting spot [] [] (Held.Truth b) n top k = paid_weighs setting spot [] [] (held_payload (Held.Truth b)) n top (held_flat (Held.Truth b)) k
 released_weighs setting spot [] [] Held.Nan n top k = tt
 released_weighs setting spot [] (s ∷ ss) h n top k = paid_weighs setting spot [] (s ∷ ss) (held_payload h) n top (held_flat h) k
 released_weighs setting spot (f ∷ fs) ss h n top k = paid_weighs setting spot (f ∷ fs) ss (held_payload h) n top (held_flat h) k
+released_weighs setting spot [] [] h n top k = paid_weighs setting spot [] [] (held_payload h) n top (held_flat h) k
 
 resolved_weighs : (n item start end : ℕ) (top : Bool) (r : Result (Option (List ℕ)) Reason) (f : Option (List ℕ) → Turn)
     → ((s : Option (List ℕ)) → Weighs n item start end top (f s)) → Weighs n item start end top (resolved r f)
@@ -160,11 +150,8 @@ resolved_weighs n item start end top (Err e) f k = tt
 
 deeper_weighs : (n item start end : ℕ) (top : Bool) (depth : ℕ) (fs : List Frame) (t deep : Turn) → Weighs n item start end top t
     → Weighs n item start end top deep → Weighs n item start end top (deeper depth fs t deep)
-deeper_weighs n item start end top depth fs t deep h k = go (nat_lt (length fs) depth)
-  where
-    go : (b : Bool) → Weighs n item start end top (if b then t else deep)
-    go true = h
-    go false = k
+deeper_weighs n item start end top depth fs t deep h k =
+    cond_both (nat_lt (length fs) depth) t deep (Weighs n item start end top) (λ e. h) (λ e. k)
 
 closed_weighs : (setting : Setting) (spot : Spot) (bracket : Bracket) (fs : List Frame) (n : ℕ) (top : Bool) → frames_nodes fs ≤ n
     → Weighs n setting.limits.item spot.start spot.end top (closed bracket setting spot fs)
@@ -238,9 +225,7 @@ module _ (g : Catalog) (l : Limits) where
     comma_weighs : (fs : List Frame) (top : Bool) → frames_nodes fs ≤ n → Weighs n l.item spot.start spot.end top (on_comma spot.start spot.context fs)
     comma_weighs (Frame.Items Listing.List ss vs ∷ fs) top h = (omega (arith, h), omega arith, tt)
     comma_weighs (Frame.Fields ss ms ∷ fs) top h = (omega (arith, h), omega arith, tt)
-    comma_weighs (Frame.Items Listing.Sexp ss vs ∷ fs) top h = tt
-    comma_weighs (Frame.Named ss ms s ∷ fs) top h = tt
-    comma_weighs [] top h = tt
+    comma_weighs _ top h = tt
 
     after_weighs : (fs : List Frame) (top : Bool) (x : Content) → frames_nodes fs ≤ n → Weighs n l.item spot.start spot.end top (on_after (under g l) spot fs x)
     after_weighs fs top (Mark' Mark.Comma) h = comma_weighs fs top h
@@ -259,13 +244,10 @@ module _ (g : Catalog) (l : Limits) where
 
     name_weighs : (fs : List Frame) (top : Bool) (x : Content) → frames_nodes fs + 1 ≤ n
         → Weighs n l.item spot.start spot.end top (on_name (under g l) spot fs x)
-    name_weighs fs top (Word w) h = go (is_keyword w)
-      where
-        go : (b : Bool) → Weighs n l.item spot.start spot.end top
-            (if b then late Reason.KeywordAsName (keyed spot.start spot.context fs (Some w)) else goes (keyed spot.start spot.context fs (Some w)))
-        go true = tt
-        go false = (omega (arith, h), omega arith, name_top fs top (Some w))
-    name_weighs fs top (TypedNull k) h = tt
+    name_weighs fs top (Word w) h =
+        let k = keyed spot.start spot.context fs (Some w) in
+        cond_both (is_keyword w) (late Reason.KeywordAsName k) (goes k) (Weighs n l.item spot.start spot.end top) (λ e. tt)
+        (λ e. (omega (arith, h), omega arith, name_top fs top (Some w)))
     name_weighs fs top (Id id) h = resolved_weighs n l.item spot.start spot.end top (resolve spot.context id) _
         (λ s. (omega (arith, h), omega arith, name_top fs top s))
     name_weighs fs top (Quoted w) h = (omega (arith, h), omega arith, name_top fs top (Some w))
@@ -282,9 +264,7 @@ module _ (g : Catalog) (l : Limits) where
     named_weighs : (fs : List Frame) (top : Bool) (s : Option (List ℕ)) → frames_nodes fs + 1 ≤ n
         → Weighs n l.item spot.start spot.end top (named spot.start spot.context fs s)
     named_weighs (Frame.Fields ss ms ∷ fs) top s h = (omega (arith, h), omega arith, tt)
-    named_weighs (Frame.Items listing ss vs ∷ fs) top s h = tt
-    named_weighs (Frame.Named ss ms x ∷ fs) top s h = tt
-    named_weighs [] top s h = tt
+    named_weighs _ top s h = tt
 
     keyed_weighs : (fs : List Frame) (top : Bool) (s : Option (List ℕ)) (x : Content) → frames_nodes fs + 1 ≤ n
         → Weighs n l.item spot.start spot.end top (on_keyed spot.start spot.context fs s x)

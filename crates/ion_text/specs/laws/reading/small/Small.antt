@@ -1,11 +1,11 @@
 -- Each value has at most as many nodes as octets were used since the value before it, and as the limit on items allows octets.
-use Rattle.std.proofs.Common.{◌≡◌, ℕ, zero, suc, ◌+◌, ◌≤◌, max, nat_le, List, [], ◌∷◌, ◌++◌, length, Bool, true, false, ◌&&◌, ◌||◌, not, Result, Ok, Err, Option, Some, None, refl, ap, sym, ◌∙◌, subst, arith, if◌then◌else◌, ◌⊎◌, inl, inr}
+use Rattle.std.proofs.Common.{◌≡◌, ℕ, zero, suc, ◌+◌, ◌≤◌, max, nat_le, List, [], ◌∷◌, ◌++◌, length, Bool, true, false, ◌&&◌, not, Result, Ok, Err, Option, Some, None, refl, ap, sym, ◌∙◌, subst, arith, if◌then◌else◌, ◌⊎◌, inl, inr}
+use Rattle.std.proofs.lemmas.Bool.{both_ways, or_cases, or_parts}
 use Rattle.ion_text.specs.Names.{Catalog, Content, Effect, Frame, Given, HasSpan, IsBody, IsSmall, Known, Leading, Left, Lexeme, Limits, Mark, Mark', Mode, Next, Now, Operator, Outcome, Place, Reading, Reason, Refusal, Refused, Run, Slot, Spaced, State, Symbols, TokenKind, Turn, Value, at, at_end, begun, behind_given, behind_left, cut_short, eats, end_late, end_now, end_of, end_ready, end_said, end_settled, end_turned, end_waiting, ends_of, fails, feed, fresh, gives, goes, in_segment, is_fresh, is_idle, is_quoted, is_quoting, is_sexp, is_top, late, leaves, long_waits, noticed, on_said, on_scan, on_settled, once_more, or_worse, place, place_in, reaches, refuses, run, run_on, said, said_body, settle, settle_same, shut, takes, tells, token_at, token_of, trace, turn, turn_now, under, unsettled, uses, waits, waits_now, with_scan}
 use Rattle.ion_text.specs.laws.reading.complete.Meets.{IdleLeft, end_spans, idle_left}
 use Rattle.ion_text.specs.laws.reading.complete.Segments.{NotRefused, unsettled_waits}
 use Rattle.ion_text.specs.laws.reading.small.Lengths.{EndedToken, Measured, Sized, feed_measured, idle_next, next_wants, quoting_next, sized_initial, token_wants, wants, wants_next}
 use Rattle.ion_text.specs.laws.reading.small.Sizes.{TopWaits, WaitsSince, Weighs, frames_nodes, now_nodes, open_nodes, settle_weighs, turn_weighs, wait_end}
-use Rattle.ion_text.specs.laws.reading.sound.Held.{or_parts}
 use Rattle.ion_text.specs.laws.reading.sound.StandsOpen.{start_now}
 
 -- what waits ended behind so many octets, and within those used
@@ -47,15 +47,7 @@ opened : (now : Now) (fs : List Frame) (ss : Symbols) (start begin base end : �
     → begin + 1 ≤ end
     → (b : ℕ) × (base ≤ b) × (start_now now start begin fs ss ≤ b) × (b + (frames_nodes fs + length ss + now_nodes now) + 1 ≤ end)
 opened Now.Ready [] [] start begin base end h k n = (max base begin, omega arith, omega arith, omega (arith, k, n))
-opened Now.Ready [] (s ∷ ss) start begin base end h k n = (base, omega arith, h, k)
-opened Now.Ready (f ∷ fs) [] start begin base end h k n = (base, omega arith, h, k)
-opened Now.Ready (f ∷ fs) (s ∷ ss) start begin base end h k n = (base, omega arith, h, k)
-opened (Now.Pending x e) fs ss start begin base end h k n = (base, omega arith, h, k)
-opened (Now.Long w e) fs ss start begin base end h k n = (base, omega arith, h, k)
-opened Now.After fs ss start begin base end h k n = (base, omega arith, h, k)
-opened Now.Name fs ss start begin base end h k n = (base, omega arith, h, k)
-opened (Now.LongName w) fs ss start begin base end h k n = (base, omega arith, h, k)
-opened (Now.Keyed s) fs ss start begin base end h k n = (base, omega arith, h, k)
+opened _ _ _ start begin base end h k n = (base, omega arith, h, k)
 
 -- what is said of the top level
 at_top : (end : ℕ) (top : Bool) (fs : List Frame) (now : Now) → TopWaits end top fs now → is_top fs ≡ true → WaitsSince end top now
@@ -66,30 +58,18 @@ at_top end top (f ∷ fs) now h e = absurd cc
 since_behind : (b used end : ℕ) (top : Bool) (now : Now) → WaitsSince end top now → b ≤ end → end ≤ used → WaitsFrom b used now
 since_behind b used end top (Now.Pending h e) w k n = (omega (arith, w.0, k), omega (arith, w.0, n))
 since_behind b used end top (Now.Long v e) w k n = (omega (arith, w.0, k), omega (arith, w.0, n))
-since_behind b used end top Now.Ready w k n = tt
-since_behind b used end top Now.After w k n = tt
-since_behind b used end top Now.Name w k n = tt
-since_behind b used end top (Now.LongName v) w k n = tt
-since_behind b used end top (Now.Keyed s) w k n = tt
+since_behind b used end top _ w k n = tt
 
 since_in : (end : ℕ) (top : Bool) (now : Now) (m : Mode) → WaitsSince end top now → (top ≡ true → is_idle m ≡ true) → WaitsIn now m
 since_in end top (Now.Pending h e) m w i = i w.1
 since_in end top (Now.Long v e) m w i = inl (i w.1)
-since_in end top Now.Ready m w i = tt
-since_in end top Now.After m w i = tt
-since_in end top Now.Name m w i = tt
-since_in end top (Now.LongName v) m w i = tt
-since_in end top (Now.Keyed s) m w i = tt
+since_in end top _ m w i = tt
 
 -- nothing was told to wait behind what didn't stand at the top level
 none_since : (b used end : ℕ) (now : Now) → WaitsSince end false now → WaitsFrom b used now
 none_since b used end (Now.Pending h e) w = absurd (let n : false ≡ true = w.1 in cc)
 none_since b used end (Now.Long v e) w = absurd (let n : false ≡ true = w.1 in cc)
-none_since b used end Now.Ready w = tt
-none_since b used end Now.After w = tt
-none_since b used end Now.Name w = tt
-none_since b used end (Now.LongName v) w = tt
-none_since b used end (Now.Keyed s) w = tt
+none_since b used end _ w = tt
 
 none_in : (end : ℕ) (now : Now) (m : Mode) → WaitsSince end false now → WaitsIn now m
 none_in end now m w = since_in end false now m w (λ e. absurd cc)
@@ -98,11 +78,7 @@ none_in end now m w = since_in end false now m w (λ e. absurd cc)
 longer : (b used later : ℕ) (now : Now) → WaitsFrom b used now → used ≤ later → WaitsFrom b later now
 longer b used later (Now.Pending h e) w k = (w.0, omega (arith, w.1, k))
 longer b used later (Now.Long v e) w k = (w.0, omega (arith, w.1, k))
-longer b used later Now.Ready w k = tt
-longer b used later Now.After w k = tt
-longer b used later Now.Name w k = tt
-longer b used later (Now.LongName v) w k = tt
-longer b used later (Now.Keyed s) w k = tt
+longer b used later _ w k = tt
 
 -- no item is open, and no octet behind the values before belongs to one
 near_fresh : (from : ℕ) (s : Known) (r : Reading) → r ≡ fresh r.context → from + wants s.mode ≤ s.used → Sized s → Near from s r
@@ -117,19 +93,11 @@ near_fresh from s r e h z = subst (Near from s) (sym e) (record {
   sized = z;
 })
 
-one_true : (a b : Bool) → (a || b) ≡ true → (a ≡ true) ⊎ (b ≡ true)
-one_true true b h = inl refl
-one_true false b h = inr h
-
 -- what waits goes on to wait at an octet
 waits_in : (now : Now) (top : Bool) (t : Known) → waits_now top now (Next t) ≡ true → WaitsIn now t.mode
 waits_in (Now.Pending h e) top t w = w
-waits_in (Now.Long v e) top t w = one_true (is_idle t.mode) (is_quoting t.mode) w
-waits_in Now.Ready top t w = tt
-waits_in Now.After top t w = tt
-waits_in Now.Name top t w = tt
-waits_in (Now.LongName v) top t w = tt
-waits_in (Now.Keyed s) top t w = tt
+waits_in (Now.Long v e) top t w = or_cases (is_idle t.mode) (is_quoting t.mode) w
+waits_in _ top t w = tt
 
 -- no operators stand at the top level
 top_sexp : (fs : List Frame) (now : Now) → is_top fs ≡ true → is_sexp (place_in fs now) ≡ false
@@ -157,8 +125,7 @@ module _ (g : Catalog) (l : Limits) where
   abbrev TurnNear : ℕ → Known → Turn → Type 0
   TurnNear from t (goes r) = Near from t r
   TurnNear from t (gives v r) = HasSpan l.item from t.used v × (r ≡ fresh r.context)
-  TurnNear from t (refuses e) = Unit {0}
-  TurnNear from t (late e r) = Unit {0}
+  TurnNear from t _ = Unit {0}
 
   led_near : (from : ℕ) (r : Reading) (x : Lexeme) (t : Known) (turned : Turn) (e : EndedNear from r x t)
       → Weighs (open_nodes r + 1) l.item (start_now r.now r.start x.start r.frames r.notes) x.end (is_top r.frames) turned → TurnNear from t turned
@@ -188,8 +155,7 @@ module _ (g : Catalog) (l : Limits) where
         },
         w.2,
       )
-  led_near from r x t (refuses y) e w = tt
-  led_near from r x t (late y n) e w = tt
+  led_near from r x t _ e w = tt
 
   token_near : (from : ℕ) (r : Reading) (x : Lexeme) (t : Known) (c : Content) → EndedNear from r x t → TurnNear from t (turn g l r (token_of x c))
   token_near from r x t c e = led_near from r x t (turn g l r (token_of x c)) e (turn_weighs g l r (token_of x c))
@@ -218,10 +184,8 @@ module _ (g : Catalog) (l : Limits) where
   inside : (n start end : ℕ) (fs : List Frame) (now : Now) (turned : Turn)
       → Leading g l (λ (r : Reading). (place r ≡ place_in fs now) × (is_top r.frames ≡ is_top fs)) turned → Weighs n l.item start end false turned
       → is_top fs ≡ false → GivesNone turned
-  inside n start end fs now (goes r) h w e = tt
   inside n start end fs now (gives v r) h w e = absurd (let k : true ≡ false = sym (ap (λ (x : Reading). is_top x.frames) w.2) ∙ (h.1 ∙ e) in cc)
-  inside n start end fs now (refuses x) h w e = tt
-  inside n start end fs now (late x r) h w e = tt
+  inside n start end fs now _ h w e = tt
 
   open_none : (start : ℕ) (c : List Slot) (f : Frame) (fs : List Frame) (ss : Symbols) (now : Now) → GivesNone (settle g l (at start c (f ∷ fs) ss now))
   open_none start c f fs ss now =
@@ -234,11 +198,7 @@ module _ (g : Catalog) (l : Limits) where
   waited_near from s start c (f ∷ fs) ss now h = inl (open_none start c f fs ss now)
   waited_near from s start c [] ss (Now.Pending k e) h = inr (h.waiting refl)
   waited_near from s start c [] ss (Now.Long w e) h = inr (h.waiting refl)
-  waited_near from s start c [] ss Now.Ready h = inl tt
-  waited_near from s start c [] ss Now.After h = inl tt
-  waited_near from s start c [] ss Now.Name h = inl tt
-  waited_near from s start c [] ss (Now.LongName w) h = inl tt
-  waited_near from s start c [] ss (Now.Keyed k) h = inl tt
+  waited_near from s start c [] ss _ h = inl tt
 
   settle_near : (from : ℕ) (s : Known) (r : Reading) → Near from s r → TurnNear from s (settle g l r)
   settle_near from s r h = settled_near from s r (settle g l r) h (settle_weighs g l r) (waited_near from s r.start r.context r.frames r.notes r.now h)
@@ -250,9 +210,7 @@ module _ (g : Catalog) (l : Limits) where
 
   settled_in : (n start end : ℕ) (turned : Turn) → Weighs n l.item start end false turned → SettledNear turned
   settled_in n start end (goes r) w = λ m i. none_in end r.now m (at_top end false r.frames r.now w.2 i)
-  settled_in n start end (gives v r) w = tt
-  settled_in n start end (refuses e) w = tt
-  settled_in n start end (late e r) w = tt
+  settled_in n start end _ w = tt
 
   -- what came of an octet at the scanner: where an octet showed the end of a value, it may be a colon, which is refused
   abbrev ScannedNear : ℕ → Reading → Outcome → Type 0
@@ -331,18 +289,15 @@ module _ (g : Catalog) (l : Limits) where
   module _ (from used o : ℕ) where
     worse_came : (e : Reason) (x : Effect) → CameNear from used o (or_worse e x)
     worse_came e (fails f) = tt
-    worse_came e (uses m) = tt
-    worse_came e (tells v m) = tt
-    worse_came e (leaves v m) = tt
+    worse_came e _ = tt
 
     noticed_came : (r : Reading) (t : Known) → Near from t r → t.used ≡ used + 1 → CameNear from used o (noticed l r t)
     noticed_came r t h e = go (shut r.now && not (is_idle t.mode)) (nat_le (reaches r.frames r t) l.item)
       where
         go : (x y : Bool) → CameNear from used o (if x then fails Reason.Unexpected else
             (if y then uses (record { scan = t; reading = r }) else fails Reason.ItemTooLong))
-        go true y = tt
         go false true = (h, e)
-        go false false = tt
+        go _ _ = tt
 
     said_came : (r : Result Content Reason) (f : Content → Effect) → ((c : Content) → r ≡ Ok c → CameNear from used o (f c))
         → CameNear from used o (on_said r f)
@@ -385,16 +340,10 @@ module _ (g : Catalog) (l : Limits) where
 
     operator_gives : (begin end start : ℕ) (c : List Slot) (fs : List Frame) (ss : Symbols) (now : Now) (w : List ℕ) → is_top fs ≡ false
         → GivesNone (turn_now (under g l) (at start c fs ss now) (token_at begin end (Operator w)) now)
+    operator_gives begin end start c (f ∷ fs) ss (Now.Pending k e) w h = tt
     operator_gives begin end start c [] ss now w h = absurd cc
     operator_gives begin end start c (Frame.Items listing xs vs ∷ fs) ss Now.Ready w h = tt
-    operator_gives begin end start c (Frame.Fields xs vs ∷ fs) ss Now.Ready w h = tt
-    operator_gives begin end start c (Frame.Named xs vs s ∷ fs) ss Now.Ready w h = tt
-    operator_gives begin end start c (f ∷ fs) ss (Now.Pending k e) w h = tt
-    operator_gives begin end start c (f ∷ fs) ss (Now.Long k e) w h = tt
-    operator_gives begin end start c (f ∷ fs) ss Now.After w h = tt
-    operator_gives begin end start c (f ∷ fs) ss Now.Name w h = tt
-    operator_gives begin end start c (f ∷ fs) ss (Now.LongName k) w h = tt
-    operator_gives begin end start c (f ∷ fs) ss (Now.Keyed k) w h = tt
+    operator_gives begin end start c _ ss _ w h = tt
 
     -- a token that is left gives a value where none is open behind it
     left_idle : (p : Place) (r : Reading) (x : Lexeme) (t : Known) (c : Content) → p ≡ place r → (is_idle t.mode ≡ true)
@@ -428,19 +377,13 @@ module _ (g : Catalog) (l : Limits) where
     abbrev ShowsEnd : Known → Type 0
     ShowsEnd s = (wants_next s.mode ≡ 1) × ((y : Lexeme) (t : Known) → feed Place.Top s o ≡ Left y t → y.kind ≡ TokenKind.Mark Mark.Colon)
 
-    never_quoted : (b : Bool) → b ≡ true → (true && b) ≡ false → ⊥
-    never_quoted true h k = cc
-    never_quoted false h k = cc
-
     long_shows : (s : Known) → Sized s → long_waits true (feed Place.Top s o) ≡ false → (is_idle s.mode ≡ true) ⊎ (is_quoting s.mode ≡ true) → ShowsEnd s
     long_shows s z w (inl i) = (idle_next s.mode i, idle_colon s o i)
     long_shows s z w (inr q) = (quoting_next s.mode q, λ y t e. absurd (quoted (feed Place.Top s o) (feed_measured Place.Top s o z) w y t e))
       where
         quoted : (x : Outcome) → Measured Place.Top s x → long_waits true x ≡ false → (y : Lexeme) (t : Known) → x ≡ Left y t → ⊥
-        quoted (Left x k) h w y t e = never_quoted (is_quoted x.kind) (h.2 q) w
-        quoted (Next k) h w y t e = cc
-        quoted (Given x k) h w y t e = cc
-        quoted (Refused n x) h w y t e = cc
+        quoted (Left x k) h w y t e = both_ways (is_quoted x.kind) w (h.2 q)
+        quoted _ h w y t e = cc
 
     shown_before : (s : Known) (start : ℕ) (c : List Slot) (fs : List Frame) (ss : Symbols) (now : Now) → Near from s (at start c fs ss now)
         → waits (at start c fs ss now) (feed (place_in fs now) s o) ≡ false
@@ -448,11 +391,7 @@ module _ (g : Catalog) (l : Limits) where
     shown_before s start c (f ∷ fs) ss now h w = inl (open_none start c f fs ss now)
     shown_before s start c [] ss (Now.Pending k e) h w = inr (idle_next s.mode (h.quiet refl), idle_colon s o (h.quiet refl))
     shown_before s start c [] ss (Now.Long v e) h w = inr (long_shows s h.sized w (h.quiet refl))
-    shown_before s start c [] ss Now.Ready h w = inl tt
-    shown_before s start c [] ss Now.After h w = inl tt
-    shown_before s start c [] ss Now.Name h w = inl tt
-    shown_before s start c [] ss (Now.LongName v) h w = inl tt
-    shown_before s start c [] ss (Now.Keyed k) h w = inl tt
+    shown_before s start c [] ss _ h w = inl tt
 
     on_place : (p q : Place) (s : Known) → p ≡ q → Sized s → Measured q s (feed p s o)
     on_place p q s e z = subst (λ k. Measured k s (feed p s o)) e (feed_measured p s o z)
@@ -524,8 +463,7 @@ module _ (g : Catalog) (l : Limits) where
       → Led from (once_more to rest x).given (once_more to rest x).now n
   more_led from to n o rest (uses m) k f h = f from m h.0 h.1
   more_led from to n o rest (tells v m) k f h = (h.0, f (to + 1) m h.1 h.2)
-  more_led from to n o rest (leaves v m) k f h = k
-  more_led from to n o rest (fails e) k f h = k
+  more_led from to n o rest _ k f h = k
 
   octet_led : (from to n o : ℕ) (rest : State → Run) (x : Effect) → from ≤ n → to ≤ n
       → ((k : ℕ) (m : State) → Near k m.scan m.reading → m.scan.used ≡ to + 1 → Led k (rest m).given (rest m).now n) → CameNear from to o x
@@ -546,8 +484,7 @@ module _ (g : Catalog) (l : Limits) where
 
   abbrev EndHas : ℕ → ℕ → Result (Option Value) Refusal → Type 0
   EndHas from used (Ok (Some v)) = HasSpan l.item from used v
-  EndHas from used (Ok None) = Unit {0}
-  EndHas from used (Err e) = Unit {0}
+  EndHas from used _ = Unit {0}
 
   module _ (from : ℕ) where
     late_has : (used : ℕ) (e : Reason) → EndHas from used (end_late used e)
@@ -600,14 +537,9 @@ module _ (g : Catalog) (l : Limits) where
     waiting_has : (s : Known) (x : Result (Option Lexeme) Reason) (turned : Turn) → TurnNear from s turned
         → EndHas from s.used (end_waiting g l s.used x turned)
     waiting_has s (Ok None) t h = settled_has s t h
-    waiting_has s (Ok (Some x)) (goes r) h = tt
-    waiting_has s (Ok (Some x)) (gives v r) h = tt
-    waiting_has s (Ok (Some x)) (refuses e) h = tt
     waiting_has s (Ok (Some x)) (late e r) h = late_has s.used e
-    waiting_has s (Err y) (goes r) h = tt
-    waiting_has s (Err y) (gives v r) h = tt
-    waiting_has s (Err y) (refuses e) h = tt
     waiting_has s (Err y) (late e r) h = late_has s.used e
+    waiting_has s _ _ h = tt
 
     ready_has : (s : Known) (r : Reading) (x : Result (Option Lexeme) Reason) → Near from s r → at_end (place r) s ≡ x
         → EndHas from s.used (end_ready g l s.used r x)
@@ -619,10 +551,7 @@ module _ (g : Catalog) (l : Limits) where
     ends_has s r (Now.Pending k e) h = waiting_has s (at_end (place r) s) (settle g l r) (settle_near from s r h)
     ends_has s r (Now.Long w e) h = waiting_has s (at_end (place r) s) (settle g l r) (settle_near from s r h)
     ends_has s r (Now.LongName w) h = tt
-    ends_has s r Now.Ready h = ready_has s r (at_end (place r) s) h refl
-    ends_has s r Now.After h = ready_has s r (at_end (place r) s) h refl
-    ends_has s r Now.Name h = ready_has s r (at_end (place r) s) h refl
-    ends_has s r (Now.Keyed k) h = ready_has s r (at_end (place r) s) h refl
+    ends_has s r _ h = ready_has s r (at_end (place r) s) h refl
 
   led_spaced : (from n : ℕ) (given : List (Value × ℕ)) (now : Result State Refusal) → Led from given now n → Spaced l.item from given n
   led_spaced from n [] (Ok m) h = let k = h.0 in omega (arith, k.behind, k.far, h.1)

@@ -22,16 +22,13 @@ KindFine m k =
 
 abbrev EndFine : Mode → End → Type 0
 EndFine m (End.Token kind k) = KindFine m kind
-EndFine m End.Blank = Unit {0}
-EndFine m (End.Refuse e) = Unit {0}
+EndFine m _ = Unit {0}
 
 operator_fine : (m : Mode) (b : Bool) (k : Keep) → is_quoting m ≡ false → EndFine m (cond b (End.Token TokenKind.Operator k) (End.Refuse Reason.Incomplete))
 operator_fine m true k q = (refl, (λ e. refl), (λ e. refl), refl, (λ e. inr refl), (λ e. absurd (let n : true ≡ false = sym e ∙ q in cc)))
 operator_fine m false k q = tt
 
 end_fine : (p : Place) (m : Mode) → EndFine m (end_of p m)
-end_fine p Mode.Blank = tt
-end_fine p Mode.LineComment = tt
 end_fine p Mode.Slash = operator_fine Mode.Slash (is_sexp p) (Keep.One 47) refl
 end_fine p Mode.OperatorSlash = operator_fine Mode.OperatorSlash (is_sexp p) (Keep.One 47) refl
 end_fine p (Mode.Operator e) = operator_fine (Mode.Operator e) (is_sexp p) Keep.Nothing refl
@@ -42,12 +39,7 @@ end_fine p Mode.Number = (refl, (λ e. refl), (λ e. refl), refl, (λ e. absurd 
 end_fine p Mode.NumberSlash = (refl, (λ e. refl), (λ e. refl), refl, (λ e. absurd cc), (λ e. absurd cc))
 end_fine p Mode.Quotes = (refl, (λ e. absurd cc), (λ e. refl), refl, (λ e. absurd cc), (λ e. refl))
 end_fine p Mode.Brace = (refl, (λ e. refl), (λ e. refl), refl, (λ e. absurd cc), (λ e. absurd cc))
-end_fine p (Mode.Infinity n) = tt
-end_fine p Mode.BlockComment = tt
-end_fine p Mode.BlockCommentStar = tt
-end_fine p Mode.Quote = tt
-end_fine p (Mode.Text s w) = tt
-end_fine p (Mode.Lob l) = tt
+end_fine p _ = tt
 
 kind_in : Result (Option Lexeme) Reason → TokenKind → TokenKind
 kind_in (Ok (Some x)) k = x.kind
@@ -67,14 +59,7 @@ at_end_fine p s x h = token_fine s.mode s (end_of p s.mode) x (end_fine p s.mode
 pub fresh_empty : (start : ℕ) (c : List Slot) (fs : List Frame) (ss : Symbols) (now : Now) (ts : List Placed) → is_fresh (at start c fs ss now) ≡ true
     → NowStands c fs ss ts now → ts ≡ []
 fresh_empty start c [] [] Now.Ready ts h d = d.whole ∙ (ap (λ x. x ++ d.notes) d.outer ∙ none_noted c Place.Top d.notes [] d.noted refl)
-fresh_empty start c [] [] (Now.Pending k end) ts h d = absurd cc
-fresh_empty start c [] [] (Now.Long w end) ts h d = absurd cc
-fresh_empty start c [] [] Now.After ts h d = absurd cc
-fresh_empty start c [] [] Now.Name ts h d = absurd cc
-fresh_empty start c [] [] (Now.LongName w) ts h d = absurd cc
-fresh_empty start c [] [] (Now.Keyed k) ts h d = absurd cc
-fresh_empty start c [] (s ∷ ss) now ts h d = absurd cc
-fresh_empty start c (f ∷ fs) ss now ts h d = absurd cc
+fresh_empty start c _ _ _ ts h d = absurd cc
 
 -- what a good end answers
 abbrev answered : Option Value → Result (Option Value) Refusal
@@ -159,14 +144,9 @@ module _ (g : Catalog) (l : Limits) where
           → end_waiting g l used x t ≡ Ok last → Accepted last
       waiting_accepted used (Ok None) t last e f h = settled_accepted used t last
           (subst (Reads g l Ended u vs s [] (λ n. Unit {0})) f (settled_end g l Ended u vs s [] (NoLongText s.mode) r (ended_behind e))) h
-      waiting_accepted used (Ok (Some x)) (goes n) last e f h = absurd cc
-      waiting_accepted used (Ok (Some x)) (gives v n) last e f h = absurd cc
-      waiting_accepted used (Ok (Some x)) (refuses y) last e f h = absurd cc
       waiting_accepted used (Ok (Some x)) (late y n) last e f h = absurd (late_never used y last h)
-      waiting_accepted used (Err x) (goes n) last e f h = absurd cc
-      waiting_accepted used (Err x) (gives v n) last e f h = absurd cc
-      waiting_accepted used (Err x) (refuses y) last e f h = absurd cc
       waiting_accepted used (Err x) (late y n) last e f h = absurd (late_never used y last h)
+      waiting_accepted used _ _ last e f h = absurd cc
 
       token_accepted : (used : ℕ) (x : Lexeme) (c : Result Content Reason) (last : Option Value) → at_end (place r) s ≡ Ok (Some x) → said x.kind x.octets ≡ c
           → end_said g l used r x c ≡ Ok last → Accepted last
@@ -192,10 +172,7 @@ module _ (g : Catalog) (l : Limits) where
       now_accepted used (Now.Pending k end) last h = waiting_accepted used (at_end (place r) s) (settle g l r) last refl refl h
       now_accepted used (Now.Long w end) last h = waiting_accepted used (at_end (place r) s) (settle g l r) last refl refl h
       now_accepted used (Now.LongName w) last h = absurd cc
-      now_accepted used Now.Ready last h = ready_accepted used (at_end (place r) s) last refl h
-      now_accepted used Now.After last h = ready_accepted used (at_end (place r) s) last refl h
-      now_accepted used Now.Name last h = ready_accepted used (at_end (place r) s) last refl h
-      now_accepted used (Now.Keyed k) last h = ready_accepted used (at_end (place r) s) last refl h
+      now_accepted used _ last h = ready_accepted used (at_end (place r) s) last refl h
 
   -- What stands for octets that the end accepts shows that they are a document.
   pub stood_accepted : (u : List ℕ) (vs : List Value) (m : State) (last : Option Value) → Stood g l u vs m → ends g l m ≡ Ok last

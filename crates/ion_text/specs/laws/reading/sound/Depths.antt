@@ -1,6 +1,6 @@
 -- What the reader gives is no deeper than the limit.
 use Rattle.std.proofs.Common.{◌≡◌, ℕ, suc, ◌+◌, ◌≤◌, nat_le, nat_lt, List, [], ◌∷◌, length, Bool, true, false, Result, Ok, Err, Option, Some, refl, sym, ap, ◌∙◌, subst, arith, if◌then◌else◌}
-use Rattle.std.proofs.lemmas.Bool.Decides.{nat_tests}
+use Rattle.std.proofs.lemmas.Bool.{cond_both, ltb-true}
 use Rattle.ion_text.specs.Names.{Blob, Bracket, Catalog, Clob, Content, Frame, Held, Id, Limits, Listing, Long, Mark, Mark', Now, Number, Number', Operator, Payload, Quoted, Reading, Reason, Setting, Short, Slot, Spot, Symbols, Token, Turn, TypedNull, Value, Word, annotated, at, bare_close, begun_at, closed, deeper, depth, ended, field_of, fresh, gives, goes, held_payload, held_symbol, is_keyword, is_table, keyed, late, layer_depth, named, next, noted, number_payload, on_after, on_comma, on_keyed, on_long, on_long_name, on_name, on_pending, on_ready, paid, refuses, released, resolve, resolved, settle, spot_at, token_at, turn, turn_now, turned, under, within}
 use Rattle.ion_model.specs.declared.value.Payload.TheVariants as payloads
 use Rattle.ion_model.specs.declared.value.Payload.TheViews as views
@@ -18,15 +18,13 @@ Deep n (Frame.Named ss ms s ∷ fs) = (field_depths ms + suc (length fs) ≤ n) 
 length_deep : (n : ℕ) (fs : List Frame) → Deep n fs → length fs ≤ n
 length_deep n [] h = omega arith
 length_deep n (Frame.Items listing ss vs ∷ fs) h = let k = h.0 in omega arith
-length_deep n (Frame.Fields ss ms ∷ fs) h = let k = h.0 in omega arith
-length_deep n (Frame.Named ss ms s ∷ fs) h = let k = h.0 in omega arith
+length_deep n _ h = let k = h.0 in omega arith
 
 -- what came of a turn does too
 abbrev pub GoesDeep : ℕ → Turn → Type 0
 GoesDeep n (goes r) = Deep n r.frames
 GoesDeep n (gives v r) = depth v ≤ n
-GoesDeep n (refuses e) = Unit {0}
-GoesDeep n (late e r) = Unit {0}
+GoesDeep n _ = Unit {0}
 
 -- a payload with nothing inside
 abbrev pub Flat : Symbols → Payload → Type 0
@@ -75,11 +73,7 @@ flat_held ss (Held.Truth b) q e = subst (Flat ss) (ap (λ x. payload_in x q) e) 
 flat_held ss Held.Nan q e = absurd cc
 
 within_deep : (n item start end : ℕ) (t : Turn) → GoesDeep n t → GoesDeep n (within item start end t)
-within_deep n item start end t h = go (nat_le end (start + item))
-  where
-    go : (b : Bool) → GoesDeep n (if b then t else refuses Reason.ItemTooLong)
-    go true = h
-    go false = tt
+within_deep n item start end t h = cond_both (nat_le end (start + item)) t (refuses Reason.ItemTooLong) (GoesDeep n) (λ e. h) (λ e. tt)
 
 top_deep : (n item start end : ℕ) (c : List Slot) (v : Value) (d : Result (List Slot) Reason) (b : Bool) → depth v ≤ n
     → GoesDeep n (if b then turned item start end d else within item start end (gives v (fresh c)))
@@ -107,27 +101,18 @@ paid_deep n setting spot fs ss h (Err x) e d = tt
 released_deep : (n : ℕ) (setting : Setting) (spot : Spot) (fs : List Frame) (ss : Symbols) (h : Held) → Deep n fs → GoesDeep n (released setting spot fs ss h)
 released_deep n setting spot [] [] (Held.Version true s) d = within_deep n setting.limits.item spot.start spot.end _ tt
 released_deep n setting spot [] [] (Held.Version false s) d = tt
-released_deep n setting spot [] [] (Held.Symbol s) d = paid_deep n setting spot [] [] (Held.Symbol s) _ refl d
-released_deep n setting spot [] [] (Held.Null s) d = paid_deep n setting spot [] [] (Held.Null s) _ refl d
-released_deep n setting spot [] [] (Held.Truth s) d = paid_deep n setting spot [] [] (Held.Truth s) _ refl d
 released_deep n setting spot [] [] Held.Nan d = tt
 released_deep n setting spot [] (s ∷ ss) h d = paid_deep n setting spot [] (s ∷ ss) h _ refl d
 released_deep n setting spot (f ∷ fs) ss h d = paid_deep n setting spot (f ∷ fs) ss h _ refl d
+released_deep n setting spot [] [] h d = paid_deep n setting spot [] [] h _ refl d
 
 resolved_deep : (n : ℕ) (r : Result (Option (List ℕ)) Reason) (f : Option (List ℕ) → Turn) → ((s : Option (List ℕ)) → GoesDeep n (f s))
     → GoesDeep n (resolved r f)
 resolved_deep n (Ok s) f h = h s
 resolved_deep n (Err e) f h = tt
 
-lt_of : (a b : ℕ) → nat_lt a b ≡ true → suc a ≤ b
-lt_of a b h = grind (arith, nat_tests)
-
 deeper_deep : (n : ℕ) (fs : List Frame) (t deep : Turn) → (suc (length fs) ≤ n → GoesDeep n t) → GoesDeep n deep → GoesDeep n (deeper n fs t deep)
-deeper_deep n fs t deep h k = go (nat_lt (length fs) n) refl
-  where
-    go : (b : Bool) → nat_lt (length fs) n ≡ b → GoesDeep n (if b then t else deep)
-    go true e = h (lt_of (length fs) n e)
-    go false e = k
+deeper_deep n fs t deep h k = cond_both (nat_lt (length fs) n) t deep (GoesDeep n) (λ e. h (ltb-true (length fs) n e)) (λ e. k)
 
 closed_deep : (n : ℕ) (setting : Setting) (spot : Spot) (bracket : Bracket) (fs : List Frame) → Deep n fs → GoesDeep n (closed bracket setting spot fs)
 closed_deep n setting spot bracket fs = by bracket fs (closes_or_not bracket fs)
@@ -178,9 +163,7 @@ long_deep n spot fs ss v _ d = tt
 comma_deep : (n start : ℕ) (c : List Slot) (fs : List Frame) → Deep n fs → GoesDeep n (on_comma start c fs)
 comma_deep n start c (Frame.Items Listing.List ss vs ∷ fs) d = d
 comma_deep n start c (Frame.Fields ss ms ∷ fs) d = d
-comma_deep n start c (Frame.Items Listing.Sexp ss vs ∷ fs) d = tt
-comma_deep n start c (Frame.Named ss ms s ∷ fs) d = tt
-comma_deep n start c [] d = tt
+comma_deep n start c _ d = tt
 
 after_deep : (n : ℕ) (setting : Setting) (spot : Spot) (fs : List Frame) (said : Content) → Deep n fs → GoesDeep n (on_after setting spot fs said)
 after_deep n setting spot fs (Mark' Mark.Comma) d = comma_deep n spot.start spot.context fs d
@@ -189,12 +172,9 @@ after_deep n setting spot fs (Mark' Mark.FieldsClose) d = closed_deep n setting 
 after_deep n setting spot fs _ d = tt
 
 name_deep : (n : ℕ) (setting : Setting) (spot : Spot) (fs : List Frame) (said : Content) → Deep n fs → GoesDeep n (on_name setting spot fs said)
-name_deep n setting spot fs (Word w) d = go (is_keyword w)
-  where
-    go : (b : Bool) → GoesDeep n (if b then late Reason.KeywordAsName (keyed spot.start spot.context fs (Some w)) else goes
-        (keyed spot.start spot.context fs (Some w)))
-    go true = tt
-    go false = d
+name_deep n setting spot fs (Word w) d =
+    let k = keyed spot.start spot.context fs (Some w) in
+    cond_both (is_keyword w) (late Reason.KeywordAsName k) (goes k) (GoesDeep n) (λ e. tt) (λ e. d)
 name_deep n setting spot fs (TypedNull k) d = tt
 name_deep n setting spot fs (Id id) d = resolved_deep n (resolve spot.context id) _ (λ s. d)
 name_deep n setting spot fs (Quoted w) d = d
@@ -209,9 +189,7 @@ long_name_deep n start c fs v _ d = tt
 
 named_deep : (n start : ℕ) (c : List Slot) (fs : List Frame) (s : Option (List ℕ)) → Deep n fs → GoesDeep n (named start c fs s)
 named_deep n start c (Frame.Fields ss ms ∷ fs) s d = d
-named_deep n start c (Frame.Items listing ss vs ∷ fs) s d = tt
-named_deep n start c (Frame.Named ss ms x ∷ fs) s d = tt
-named_deep n start c [] s d = tt
+named_deep n start c _ s d = tt
 
 keyed_deep : (n start : ℕ) (c : List Slot) (fs : List Frame) (s : Option (List ℕ)) (said : Content) → Deep n fs → GoesDeep n (on_keyed start c fs s said)
 keyed_deep n start c fs s (Mark' Mark.Colon) d = named_deep n start c fs s d
@@ -235,11 +213,7 @@ settled_deep : (g : Catalog) (l : Limits) (start : ℕ) (c : List Slot) (fs : Li
     → GoesDeep l.depth (settle g l (at start c fs ss now))
 settled_deep g l start c fs ss (Now.Pending h e) d = released_deep l.depth (under g l) (spot_at e start c) fs ss h d
 settled_deep g l start c fs ss (Now.Long w e) d = flat_deep l.depth (under g l) (spot_at e start c) fs ss _ d (flat_text ss w)
-settled_deep g l start c fs ss (Now.LongName w) d = d
-settled_deep g l start c fs ss Now.Ready d = d
-settled_deep g l start c fs ss Now.After d = d
-settled_deep g l start c fs ss Now.Name d = d
-settled_deep g l start c fs ss (Now.Keyed s) d = d
+settled_deep g l start c fs ss _ d = d
 
 -- What waited leads no deeper.
 pub settle_deep : (g : Catalog) (l : Limits) (r : Reading) → Deep l.depth r.frames → GoesDeep l.depth (settle g l r)

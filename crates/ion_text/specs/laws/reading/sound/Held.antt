@@ -1,5 +1,6 @@
 -- What the reader of octets holds stands for the octets: whole pieces, and the tokens of the open item.
 use Rattle.std.proofs.Common.{◌≡◌, ℕ, ◌+◌, ◌≤◌, List, [], ◌∷◌, ◌++◌, Bool, true, false, ◌&&◌, ◌||◌, Ok, refl, ap, sym, ◌∙◌, subst, arith, append_assoc, append-nil, ◌⊎◌, inl, inr}
+pub use Rattle.std.proofs.lemmas.Bool.{or_parts}
 use Rattle.ion_text.specs.Names.{Annotations, Catalog, Content, Follows, Frame, Given, IsBody, Known, Leading, Left, Lexeme, Limits, Listing, Long, Mode, Next, Now, Outcome, Pieces, Place, Placed, Reading, Refused, Says, Segments, Slot, Symbols, TokenKind, Turn, Value, at, begins_as_long, begins_long, begun_at, ends_long, feed, fresh, gives, goes, holds, is_fresh, is_idle, is_long, is_quoted, is_quoting, is_sane, is_segment, is_top, is_two_quotes, joined, late, long_waits, marked, no_annotation, one_annotation, place, place_in, refuses, said, said_body, segment, settle, settle_same, span, system_slots, token_at, token_of, turn, turn_now, turns, under, waits, waits_now}
 use Rattle.ion_tokens.specs.laws.Follows.{feed_follows}
 use Rattle.ion_tokens.proofs.runs.Scans.{placed}
@@ -42,18 +43,11 @@ open_apart top p s o h f k = go (feed p s o) (feed_follows p s o h) (feed_fine p
     go (Left x t) a b = both_not top (is_quoted x.kind) (b.2 k.1)
     go (Refused n e) a b = tt
 
--- where neither of two tests holds, each of them fails
-pub or_parts : (a b : Bool) → (a || b) ≡ false → (a ≡ false) × (b ≡ false)
-or_parts false false h = (refl, refl)
-or_parts false true h = absurd cc
-or_parts true b h = absurd cc
-
 -- a token that has begun with no quote, or shows that nothing goes on
 long_apart : (top : Bool) (x : Outcome) → long_waits top x ≡ false → NoSegment top x
 long_apart top (Next s) h = or_parts (is_idle s.mode) (is_quoting s.mode) h
-long_apart top (Given x s) h = h
-long_apart top (Left x s) h = h
 long_apart top (Refused n e) h = tt
+long_apart top _ h = h
 
 -- in a container, where a left token was no segment
 name_apart : (top : Bool) (x : Outcome) → top ≡ false → long_waits false x ≡ false → NoSegment top x
@@ -66,9 +60,8 @@ name_apart top (Refused n e) t h = tt
 
 -- tokens end in a long string just where the last of them is a segment
 pub last_long : (ts : List Placed) (t : Placed) → ends_long (ts ++ t ∷ []) ≡ is_long t
-last_long [] t = refl
-last_long (x ∷ []) t = refl
 last_long (x ∷ y ∷ ts) t = last_long (y ∷ ts) t
+last_long _ t = refl
 
 -- where the first of the tokens begins, if there is one
 abbrev pub IsFirst : List Placed → ℕ → Type 0
@@ -86,9 +79,8 @@ some_more [] us t = tt
 some_more (x ∷ ts) us t = tt
 
 no_middle : (a b c : List Placed) (t : Placed) → [] ≡ a ++ (b ++ t ∷ c) → ⊥
-no_middle (x ∷ a) b c t e = cc
 no_middle [] (x ∷ b) c t e = cc
-no_middle [] [] c t e = cc
+no_middle _ _ c t e = cc
 
 pub no_last : (a : List Placed) (t : Placed) → [] ≡ a ++ t ∷ [] → ⊥
 no_last [] t e = cc
@@ -105,9 +97,8 @@ no_segments p _ _ (joined ts v w t d h) e = no_last ts t e
 -- where a container is open there are tokens
 pub opened_some : (c : List Slot) (fs : List Frame) (more : Bool) → Opened c fs [] more → fs ≡ []
 opened_some c [] more o = refl
-opened_some c (Frame.Items listing ss vs ∷ fs) more o = absurd (no_middle o.front o.notes o.body o.open' o.whole)
-opened_some c (Frame.Fields ss ms ∷ fs) more o = absurd (no_middle o.front o.notes o.body o.open' o.whole)
 opened_some c (Frame.Named ss ms s ∷ fs) more o = absurd (no_middle o.front o.notes (o.body ++ (o.name ++ o.colon ∷ [])) o.open' o.whole)
+opened_some c _ more o = absurd (no_middle o.front o.notes o.body o.open' o.whole)
 
 -- where there are no tokens, there are no annotations
 pub no_notes : (c : List Slot) (p : Place) (ts : List Placed) (ss : Symbols) → Annotations c p ts ss → [] ≡ ts → ss ≡ []
@@ -126,9 +117,7 @@ none_noted c p _ _ (one_annotation ts ss t u said s d h i j) e = absurd (none ss
 -- where a field's name may come, tokens have come
 pub name_some : (c : List Slot) (fs : List Frame) (ts : List Placed) → Opened c fs ts true → IsStruct fs → [] ≡ ts → ⊥
 name_some c (Frame.Fields ss ms ∷ fs) ts o k e = no_middle o.front o.notes o.body o.open' (e ∙ o.whole)
-name_some c [] ts o k e = k
-name_some c (Frame.Items listing ss vs ∷ fs) ts o k e = k
-name_some c (Frame.Named ss ms s ∷ fs) ts o k e = k
+name_some c _ ts o k e = k
 
 not_inside : (fs : List Frame) → IsInside fs → fs ≡ [] → ⊥
 not_inside [] h e = h
@@ -143,33 +132,22 @@ none_open c fs ss (Now.Pending h end) d = absurd (no_last d.before d.token d.who
 none_open c fs ss (Now.Long w end) d = absurd (no_segments (value_place fs) d.segments w d.are (none_front d.before d.segments d.whole).1)
 none_open c fs ss Now.After d = absurd (not_inside fs d.2 (opened_some c fs false d.0))
 none_open c fs ss Now.Name d = absurd (name_some c fs [] d.0 d.1 refl)
-none_open c fs ss (Now.LongName w) d = absurd (name_some c fs d.before d.outer d.struct (none_front d.before d.name d.whole).0)
-none_open c fs ss (Now.Keyed s) d = absurd (name_some c fs d.before d.outer d.struct (none_front d.before d.name d.whole).0)
+none_open c fs ss _ d = absurd (name_some c fs d.before d.outer d.struct (none_front d.before d.name d.whole).0)
 
 -- the item began at its first token
 start_kept : (c : List Slot) (fs : List Frame) (ss : Symbols) (now : Now) (t : Placed) (ts : List Placed) (start begin : ℕ) → NowStands c fs ss (t ∷ ts) now
     → start_now now start begin fs ss ≡ start
+start_kept c fs ss (Now.Pending h end) t ts start begin d = refl
 start_kept c [] [] Now.Ready t ts start begin d =
     let none : d.notes ≡ [] = none_noted c Place.Top d.notes [] d.noted refl in
     absurd (let e : t ∷ ts ≡ [] = d.whole ∙ (ap (λ x. x ++ d.notes) d.outer ∙ none) in cc)
-start_kept c [] (s ∷ ss) Now.Ready t ts start begin d = refl
-start_kept c (f ∷ fs) [] Now.Ready t ts start begin d = refl
-start_kept c (f ∷ fs) (s ∷ ss) Now.Ready t ts start begin d = refl
-start_kept c fs ss (Now.Pending h end) t ts start begin d = refl
-start_kept c fs ss (Now.Long w end) t ts start begin d = refl
-start_kept c fs ss Now.After t ts start begin d = refl
-start_kept c fs ss Now.Name t ts start begin d = refl
-start_kept c fs ss (Now.LongName w) t ts start begin d = refl
-start_kept c fs ss (Now.Keyed s) t ts start begin d = refl
+start_kept c _ _ _ t ts start begin d = refl
 
 -- an s-expression whose body ends long ends the item so
 long_tokens : (c : List Slot) (fs : List Frame) (ts : List Placed) → (o : Opened c fs ts true) → long_behind c fs ts o ≡ true → ends_long ts ≡ true
 long_tokens c (Frame.Items Listing.Sexp ss vs ∷ fs) ts o h = ap ends_long o.whole
     ∙ ends_behind o.front (o.notes ++ o.open' ∷ o.body) (ends_behind o.notes (o.open' ∷ o.body) (ends_behind (o.open' ∷ []) o.body h))
-long_tokens c [] ts o h = absurd cc
-long_tokens c (Frame.Items Listing.List ss vs ∷ fs) ts o h = absurd cc
-long_tokens c (Frame.Fields ss ms ∷ fs) ts o h = absurd cc
-long_tokens c (Frame.Named ss ms s ∷ fs) ts o h = absurd cc
+long_tokens c _ ts o h = absurd cc
 
 -- a token behind annotations, or one that is no segment
 notes_apart : (c : List Slot) (p : Place) (notes : List Placed) (ss : Symbols) (t : Placed) → Annotations c p notes ss → (notes ≡ [] → is_long t ≡ false)
@@ -183,18 +161,12 @@ notes_apart c p _ _ t (one_annotation ts ss a colons said s d i j k) h =
 abbrev LongTurn : Turn → Type 0
 LongTurn (goes r) = IsLongNow r.now
 LongTurn (gives v r) = ⊥
-LongTurn (refuses e) = Unit {0}
-LongTurn (late e r) = Unit {0}
+LongTurn _ = Unit {0}
 
 now_long : (g : Catalog) (l : Limits) (begin end start : ℕ) (c : List Slot) (fs : List Frame) (ss : Symbols) (w : List ℕ) (now : Now)
     → LongTurn (turn_now (under g l) (at start c fs ss now) (token_at begin end (Long w)) now)
 now_long g l begin end start c fs ss w Now.Ready = tt
-now_long g l begin end start c fs ss w (Now.Pending h e) = tt
-now_long g l begin end start c fs ss w (Now.Long v e) = tt
-now_long g l begin end start c fs ss w Now.After = tt
-now_long g l begin end start c fs ss w Now.Name = tt
-now_long g l begin end start c fs ss w (Now.LongName v) = tt
-now_long g l begin end start c fs ss w (Now.Keyed s) = tt
+now_long g l begin end start c fs ss w _ = tt
 
 -- what a segment says
 pub segment_says : (k : TokenKind) (octets : List ℕ) (said : Content) → is_segment k ≡ true → IsBody k octets (Ok said) → said ≡ Long octets
@@ -226,8 +198,7 @@ module _ (g : Catalog) (l : Limits) where
   abbrev pub Reads : Scans → List ℕ → List Value → Known → List ℕ → (Reading → Type 0) → Turn → Type 0
   Reads S u vs s ahead A (goes r) = Behind S u vs s r ahead (A r)
   Reads S u vs s ahead A (gives v r) = Behind S u (vs ++ v ∷ []) s r ahead (A r) × (is_fresh r ≡ true)
-  Reads S u vs s ahead A (refuses e) = Unit {0}
-  Reads S u vs s ahead A (late e r) = Unit {0}
+  Reads S u vs s ahead A _ = Unit {0}
 
   pub fresh_stands : (c : List Slot) → NowStands c [] [] [] Now.Ready
   fresh_stands c = record { front = []; notes = []; whole = refl; outer = refl; receives = tt; noted = no_annotation }
@@ -299,14 +270,12 @@ module _ (g : Catalog) (l : Limits) where
   any_turn : (P : Reading → Type 0) → ((r : Reading) → P r) → (t : Turn) → Leading g l P t
   any_turn P h (goes r) = h r
   any_turn P h (gives v r) = h r
-  any_turn P h (refuses e) = tt
-  any_turn P h (late e r) = tt
+  any_turn P h _ = tt
 
   from_long : (A : Reading → Type 0) (B : Type 0) (t : Turn) → LongTurn t → Leading g l (λ r. B → IsLongNow r.now ⊎ A r) t
   from_long A B (goes r) h = λ b. inl h
   from_long A B (gives v r) h = absurd h
-  from_long A B (refuses e) h = tt
-  from_long A B (late e r) h = tt
+  from_long A B _ h = tt
 
   -- no token, before which a long string stands that doesn't wait, goes on with it
   abbrev pub NotLong : Bool → Lexeme → Type 0
@@ -337,12 +306,7 @@ module _ (g : Catalog) (l : Limits) where
         go false e = refl
         go true e = notes_apart r.context (value_place fs) d.notes ss (placed (place_in fs Now.Ready) x) d.noted
             (none (long_tokens r.context fs d.front d.outer e))
-    ready_apart fs ss (Now.Pending k end) d h c = tt
-    ready_apart fs ss (Now.Long w end) d h c = tt
-    ready_apart fs ss Now.After d h c = tt
-    ready_apart fs ss Now.Name d h c = tt
-    ready_apart fs ss (Now.LongName w) d h c = tt
-    ready_apart fs ss (Now.Keyed k) d h c = tt
+    ready_apart fs ss _ d h c = tt
 
     segment_part : IsLongNow r.now ⊎ NotLong (is_top r.frames) x → IsLongNow r.now ⊎ (is_segment x.kind ≡ false)
     segment_part (inl h) = inl h
@@ -405,8 +369,7 @@ module _ (g : Catalog) (l : Limits) where
   pub map_turn : (P Q : Reading → Type 0) → ((r : Reading) → P r → Q r) → (t : Turn) → Leading g l P t → Leading g l Q t
   map_turn P Q f (goes r) h = f r h
   map_turn P Q f (gives v r) h = f r h
-  map_turn P Q f (refuses e) h = tt
-  map_turn P Q f (late e r) h = tt
+  map_turn P Q f _ h = tt
 
   name_inside : (fs : List Frame) → IsStruct fs → is_top fs ≡ false
   name_inside (f ∷ fs) h = refl
@@ -453,11 +416,7 @@ module _ (g : Catalog) (l : Limits) where
             last : (n : Now) → EndsAt n (end_of 0 b.item) → end_of_now n (end_of 0 b.item) ≡ end_of 0 b.item
             last (Now.Pending h end) e = e
             last (Now.Long w end) e = e
-            last (Now.LongName w) e = refl
-            last Now.Ready e = refl
-            last Now.After e = refl
-            last Now.Name e = refl
-            last (Now.Keyed s) e = refl
+            last _ e = refl
 
         go : (n : Now) → now ≡ n → Reads S u vs s ahead (λ n. ApartAt o s n) (settle g l (at start c fs ss now))
         go (Now.Pending h end) e = waited (λ k. absurd (subst IsLongNow e k)) b.stands
@@ -518,7 +477,4 @@ module _ (g : Catalog) (l : Limits) where
         go (Now.Pending h end) e = waited (Now.Pending h end) e (subst (λ m. EndsAt m (end_of 0 b.item)) e b.ends)
         go (Now.Long w end) e = waited (Now.Long w end) e (subst (λ m. EndsAt m (end_of 0 b.item)) e b.ends)
         go (Now.LongName w) e = waited (Now.LongName w) e refl
-        go Now.Ready e = held Now.Ready e refl
-        go Now.After e = held Now.After e refl
-        go Now.Name e = held Now.Name e refl
-        go (Now.Keyed k) e = held (Now.Keyed k) e refl
+        go x e = held x e refl

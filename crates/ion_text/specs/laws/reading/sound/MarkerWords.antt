@@ -20,15 +20,7 @@ other_word t said n m h = go t.lexeme.kind h
         → is_version_word (record { place = t.place; lexeme = record { start = t.lexeme.start; end = t.lexeme.end; kind = k; octets = t.lexeme.octets } } ∷ [])
         ≡ false
     go TokenKind.Word h = absurd (word (id_of t.lexeme.octets) h)
-    go TokenKind.LongString h = refl
-    go TokenKind.KindName h = refl
-    go TokenKind.Number h = refl
-    go TokenKind.Operator h = refl
-    go TokenKind.QuotedSymbol h = refl
-    go TokenKind.ShortString h = refl
-    go TokenKind.Clob h = refl
-    go TokenKind.Blob h = refl
-    go (TokenKind.Mark m) h = refl
+    go _ h = refl
 
 -- where the second of two tests fails, they don't hold together
 pub both_not : (a b : Bool) → b ≡ false → (a && b) ≡ false
@@ -48,8 +40,7 @@ id_no_version (o ∷ x ∷ xs) id h = both_not (36 == o) _ (go (o == 36) (nat_lt
         → ((105 == x) && behind_front (codes "on_") xs version_parts) ≡ false
     go a m true d e h = ap (λ b. b && behind_front (codes "on_") xs version_parts) (digit x e)
     go true true false d e h = absurd (let n : None ≡ Some id = h in cc)
-    go true false false d e h = absurd (let n : None ≡ Some id = h in cc)
-    go false m false d e h = absurd (let n : None ≡ Some id = h in cc)
+    go _ _ false d e h = absurd (let n : None ≡ Some id = h in cc)
 
 -- an id is no version marker
 pub id_no_word : (t : Placed) (id : ℕ) → IsBody t.lexeme.kind t.lexeme.octets (Ok (Id id)) → is_version_word (t ∷ []) ≡ false
@@ -63,15 +54,7 @@ id_no_word t id h = go t.lexeme.kind h
         → is_version_word (record { place = t.place; lexeme = record { start = t.lexeme.start; end = t.lexeme.end; kind = k; octets = t.lexeme.octets } } ∷ [])
         ≡ false
     go TokenKind.Word h = word (id_of t.lexeme.octets) refl h
-    go TokenKind.LongString h = refl
-    go TokenKind.KindName h = refl
-    go TokenKind.Number h = refl
-    go TokenKind.Operator h = refl
-    go TokenKind.QuotedSymbol h = refl
-    go TokenKind.ShortString h = refl
-    go TokenKind.Clob h = refl
-    go TokenKind.Blob h = refl
-    go (TokenKind.Mark m) h = refl
+    go _ h = refl
 
 -- more than one token is no version marker
 pub more_words : (t : Placed) (us : List Placed) (u : Placed) → is_version_word (t ∷ (us ++ u ∷ [])) ≡ false
@@ -88,9 +71,8 @@ segments_no_word p _ _ (joined (x ∷ ts) v w t d h) = more_words x ts t
 pub noted_no_word : (c : List Slot) (p : Place) (notes us : List Placed) (ss : Symbols) → Annotations c p notes ss → (ss ≡ [] → is_version_word us ≡ false)
     → is_version_word (notes ++ us) ≡ false
 noted_no_word c p _ us _ no_annotation h = h refl
-noted_no_word c p _ us _ (one_annotation [] rs t colons said s e i j k) h = refl
 noted_no_word c p _ us _ (one_annotation (x ∷ []) rs t colons said s e i j k) h = refl
-noted_no_word c p _ us _ (one_annotation (x ∷ y ∷ ts) rs t colons said s e i j k) h = refl
+noted_no_word c p _ us _ _ h = refl
 
 -- what is held is no version marker
 abbrev pub is_unmarked : Held → Bool

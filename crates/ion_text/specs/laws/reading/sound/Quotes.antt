@@ -1,7 +1,7 @@
 -- More of what the scanner's table promises: which tokens come of which octets.
 use Rattle.std.proofs.Common.{◌≡◌, ℕ, ◌+◌, ◌≤◌, Bool, true, false, cond, List, [], refl, arith, Option, Some, None, ◌⊎◌, inl, inr}
 use Rattle.std.specs.Prelude.{◌==◌, ◌&&◌, ◌||◌, not, nat_le, bytes_eq, codes}
-use Rattle.std.proofs.lemmas.Bool.{and_parts}
+use Rattle.std.proofs.lemmas.Bool.{and_parts, not-true}
 use Rattle.std.proofs.lemmas.Bool.Decides.{nat_tests}
 use Rattle.ion_text.specs.Names.{Action, Given, Known, Left, Lexeme, Mark, Mode, Next, Outcome, Place, Refused, Style, TokenKind, acts, blob_ends, blob_of, cut, feed, go_to, is_idle, is_quoted, is_quoting, is_sane, is_segment, is_two_quotes, past, start_of}
 use Rattle.ion_tokens.specs.machine.Table.{next}
@@ -33,10 +33,6 @@ quotes_fit n q (Action.Give kind k) = not (is_quoted kind) || nat_le 2 n
 quotes_fit n q (Action.Before kind k m) = (is_left_in m && not (is_segment kind)) && ((not (is_quoted kind) || q) && not (is_close kind))
 quotes_fit n q _ = true
 
--- where a number is at most another, the test says so
-pub le_to : (a b : ℕ) → a ≤ b → nat_le a b ≡ true
-le_to a b h = grind (arith, nat_tests)
-
 -- What the table does fits.
 table_fits : (p : Place) (colon : Bool) (m : Mode) (o : ℕ) → quotes_fit (least m) (is_quoting m) (next p colon m o) ≡ true
 table_fits = by_rows (λ sexp m. quotes_fit (least m) (is_quoting m)) (λ c t. refl)
@@ -58,10 +54,6 @@ Finely m (Refused n e) = Unit {0}
 pub le_of : (a b : ℕ) → nat_le a b ≡ true → a ≤ b
 le_of a b h = grind (arith, nat_tests)
 
-not_true : (b : Bool) → not b ≡ true → b ≡ false
-not_true false h = refl
-not_true true h = absurd cc
-
 -- where a test holds that implies another, the other holds
 pub implies : (a b : Bool) → (not a || b) ≡ true → a ≡ true → b ≡ true
 implies true b h e = h
@@ -74,7 +66,6 @@ counter true false h e = absurd cc
 
 moved : (m : Mode) (start used n : ℕ) → start + n ≤ used → least m ≤ n + 1 → start_of m start (used + 1) + least m ≤ used + 1
 moved Mode.Blank start used n h k = omega arith
-moved Mode.Slash start used n h k = omega arith
 moved _ start used n h k = omega arith
 
 left_fine : (p : Place) (kind : TokenKind) (m : Mode) (k : List ℕ) (start used : ℕ) → is_left_in m ≡ true → Fine (past p kind m k start used)
@@ -100,11 +91,11 @@ acts_fine p s o (Action.Before kind k m) f h =
     let y = and_parts _ _ x.0 in
     let z = and_parts _ _ x.1 in (
       left_fine p kind m _ _ _ y.0,
-      not_true (is_segment kind) y.1,
+      not-true (is_segment kind) y.1,
       counter (is_quoted kind) (is_quoting s.mode) z.0,
       modes_imply is_left_in is_sane (λ c. refl) m y.0,
       inl (modes_imply is_left_in is_idle (λ c. refl) m y.0),
-      not_true (is_close kind) z.1,
+      not-true (is_close kind) z.1,
       omega arith,
     )
 acts_fine p s o Action.EndWord f h = word ((o == 46) && bytes_eq s.kept (codes "null"))

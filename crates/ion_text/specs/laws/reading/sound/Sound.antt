@@ -1,6 +1,6 @@
 -- What the reader of tokens holds stands for the tokens of the open item, and what it gives they mean.
 use Rattle.std.proofs.Common.{◌≡◌, ℕ, ◌+◌, ◌≤◌, arith, nat_le, nat_lt, List, [], ◌∷◌, ◌++◌, length, Bool, true, false, Result, Ok, Err, Option, Some, refl, ap, sym, ◌∙◌, subst, append_assoc, append-nil, if◌then◌else◌, ◌⊎◌, inl, inr, ◌&&◌}
-use Rattle.std.proofs.lemmas.Bool.Decides.{nat_tests}
+use Rattle.std.proofs.lemmas.Bool.{and_right, cond_both, leb-true}
 use Rattle.ion_text.specs.Names.{Blob, Bracket, Catalog, Clob, Content, Field, Frame, Held, Id, IsName, IsScalar, Limits, Listing, Long, Mark, Mark', Means, Members, Now, Number, Number', Operator, Payload, Place, Placed, Plain, Quoted, Reason, Says, Segments, Short, Slot, Symbols, Turn, TypedNull, Value, Word, annotated, at, begins_long, begun_at, beyond_depth, by_long, by_short, by_symbol, close_mark, close_place, closed, comma, depth, element, ended, field, field_comma, first_now, fresh, gives, goes, held_payload, held_symbol, held_word, is_blob, is_clob, is_decimal, is_id, is_int, is_keyword, is_list, is_operator, is_short, is_struct, is_table, is_timestamp, is_typed_null, is_version_word, is_word, item, joined, keyed, late, long_at, long_string, means, next, no_element, no_field, no_item, noted, on_after, on_name, on_ready, one_annotation, one_token, open_mark, opened, paid, pending_at, place_in, refuses, released, resolve, resolved, segment, settle, spot_at, system_slots, the_marker, token_of, turn, turned, under, within}
 use Rattle.ion_model.specs.declared.value.Payload.TheVariants as payloads
 use Rattle.ion_text.specs.Grammar.{is_quoted, is_sexp}
@@ -8,7 +8,7 @@ use Rattle.ion_text.specs.laws.reading.Brackets.{Closes, closes_or_not, ends_lis
 use Rattle.ion_text.specs.laws.reading.complete.Complete.{depth-list, depth-sexp, depth-struct}
 use Rattle.ion_text.specs.laws.reading.sound.Depths.{Deep, flat_blob, flat_clob, flat_held, flat_number, flat_symbol, flat_text}
 use Rattle.ion_text.specs.laws.reading.sound.MarkerWords.{id_no_word, is_unmarked, more_words, noted_no_word, other_word, segments_no_word, word_no_word}
-use Rattle.ion_text.specs.laws.reading.sound.StandsOpen.{Around, EndsAt, HoldsWhatIsSaid, IsHeld, Items, LongFor, NameFor, NoSegmentComes, NowStands, Opened, PendingFor, ReadingStands, ReadyFor, Receives, and_false, begins_long_more, end_of_now, long_behind, more_around, no_note, not_long, notes_not_long, nothing_noted, opened_around, start_now, symbol_said, symbol_stood, value_place, whole_behind, word_stood}
+use Rattle.ion_text.specs.laws.reading.sound.StandsOpen.{Around, EndsAt, HoldsWhatIsSaid, IsHeld, Items, LongFor, NameFor, NoSegmentComes, NowStands, Opened, PendingFor, ReadingStands, ReadyFor, Receives, begins_long_more, end_of_now, long_behind, more_around, no_note, not_long, notes_not_long, nothing_noted, opened_around, start_now, symbol_said, symbol_stood, value_place, whole_behind, word_stood}
 
 module _ (g : Catalog) (l : Limits) where
   -- what came of the tokens of the open item
@@ -20,29 +20,23 @@ module _ (g : Catalog) (l : Limits) where
       ⊎ ((t : Placed) × (ts ≡ t ∷ []) × Says Place.Top t (Word the_marker) × (end ≤ start + l.item) × (r ≡ fresh system_slots)))
   Sounds c start end ts (gives v r) = Means c Place.Top ts v × (is_table v ≡ false) × (is_version_word ts ≡ false) × (depth v ≤ l.depth)
       × (end ≤ start + l.item) × (r ≡ fresh c)
-  Sounds c start end ts (refuses e) = Unit {0}
-  Sounds c start end ts (late e r) = Unit {0}
+  Sounds c start end ts _ = Unit {0}
 
   -- a value with nothing inside
   flat_level : (v : Value) → depth v ≡ 0 → depth v ≤ l.depth
   flat_level v e = omega arith
 
-  le_of : (a b : ℕ) → nat_le a b ≡ true → a ≤ b
-  le_of a b h = grind (arith, nat_tests)
-
-  within_sounds : (c : List Slot) (ts : List Placed) (start end : ℕ) (t : Turn) (b : Bool) → nat_le end (start + l.item) ≡ b
-      → (end ≤ start + l.item → Sounds c start end ts t) → Sounds c start end ts (if b then t else refuses Reason.ItemTooLong)
-  within_sounds c ts start end t true e h = h (le_of end (start + l.item) e)
-  within_sounds c ts start end t false e h = tt
+  within_sounds : (c : List Slot) (ts : List Placed) (start end : ℕ) (t : Turn) → (end ≤ start + l.item → Sounds c start end ts t)
+      → Sounds c start end ts (within l.item start end t)
+  within_sounds c ts start end t h = cond_both (nat_le end (start + l.item)) t (refuses Reason.ItemTooLong) (Sounds c start end ts)
+      (λ e. h (leb-true end (start + l.item) e)) (λ e. tt)
 
   top_sounds : (c : List Slot) (us : List Placed) (v : Value) (start end : ℕ) (b : Bool) (d : Result (List Slot) Reason) → Means c Place.Top us v
       → is_table v ≡ b → next c v g ≡ d → is_version_word us ≡ false → depth v ≤ l.depth
       → Sounds c start end us (if b then turned l.item start end d else within l.item start end (gives v (fresh c)))
-  top_sounds c us v start end true (Ok d) m h k w q = within_sounds c us start end (goes (fresh d)) (nat_le end (start + l.item)) refl
-      (λ i. inr (inl (v, d, m, h, k, q, i, refl)))
+  top_sounds c us v start end true (Ok d) m h k w q = within_sounds c us start end (goes (fresh d)) (λ i. inr (inl (v, d, m, h, k, q, i, refl)))
   top_sounds c us v start end true (Err e) m h k w q = tt
-  top_sounds c us v start end false d m h k w q = within_sounds c us start end (gives v (fresh c)) (nat_le end (start + l.item)) refl
-      (λ i. (m, h, w, q, i, refl))
+  top_sounds c us v start end false d m h k w q = within_sounds c us start end (gives v (fresh c)) (λ i. (m, h, w, q, i, refl))
 
   -- A value is whole.
   pub ended_sounds : (c : List Slot) (fs : List Frame) (front us : List Placed) (v : Value) (start end : ℕ) → (o : Opened c fs front true) → Receives fs
@@ -119,7 +113,7 @@ module _ (g : Catalog) (l : Limits) where
 
   one_apart : (c : List Slot) (fs : List Frame) (ss : Symbols) (ts : List Placed) (t : Placed) (said : Content) (d : ReadyFor c fs ss ts)
       → Says (value_place fs) t said → ((w : List ℕ) → said ≡ Long w → ⊥) → (long_behind c fs d.front d.outer && begins_long (d.notes ++ t ∷ [])) ≡ false
-  one_apart c fs ss ts t said d i n = and_false (long_behind c fs d.front d.outer) (begins_long (d.notes ++ t ∷ []))
+  one_apart c fs ss ts t said d i n = and_right (long_behind c fs d.front d.outer) (begins_long (d.notes ++ t ∷ []))
       (notes_not_long c (value_place fs) d.notes [] ss t d.noted (not_long (value_place fs) t said i n))
 
   paid_sounds : (c : List Slot) (fs : List Frame) (ss : Symbols) (h : Held) (ts : List Placed) (start end : ℕ) (d : PendingFor c fs ss h ts)
@@ -140,15 +134,13 @@ module _ (g : Catalog) (l : Limits) where
   pub released_sounds : (c : List Slot) (fs : List Frame) (ss : Symbols) (h : Held) (ts : List Placed) (start end : ℕ) → PendingFor c fs ss h ts
       → Sounds c start end ts (released (under g l) (spot_at end start c) fs ss h)
   released_sounds c [] [] (Held.Version true s) ts start end d =
-      within_sounds c ts start end (goes (fresh system_slots)) (nat_le end (start + l.item)) refl
+      within_sounds c ts start end (goes (fresh system_slots))
       (λ i. inr (inr (d.token, top_token c _ ts d, subst (Says Place.Top d.token) (d.stood.marker s refl) d.says, i, refl)))
   released_sounds c [] [] (Held.Version false s) ts start end d = tt
-  released_sounds c [] [] (Held.Symbol s) ts start end d = paid_sounds c [] [] (Held.Symbol s) ts start end d _ refl (λ i j. d.unmarked refl)
-  released_sounds c [] [] (Held.Null k) ts start end d = paid_sounds c [] [] (Held.Null k) ts start end d _ refl (λ i j. d.unmarked refl)
-  released_sounds c [] [] (Held.Truth b) ts start end d = paid_sounds c [] [] (Held.Truth b) ts start end d _ refl (λ i j. d.unmarked refl)
   released_sounds c [] [] Held.Nan ts start end d = tt
   released_sounds c [] (x ∷ ss) h ts start end d = paid_sounds c [] (x ∷ ss) h ts start end d _ refl (λ i j. absurd cc)
   released_sounds c (f ∷ fs) ss h ts start end d = paid_sounds c (f ∷ fs) ss h ts start end d _ refl (λ i j. absurd cc)
+  released_sounds c [] [] h ts start end d = paid_sounds c [] [] h ts start end d _ refl (λ i j. d.unmarked refl)
 
   pub long_sounds : (c : List Slot) (fs : List Frame) (ss : Symbols) (w : List ℕ) (ts : List Placed) (start end : ℕ) → LongFor c fs ss w ts
       → Sounds c start end ts (ended (under g l) (spot_at end start c) fs (annotated ss (payloads.Str w)))
@@ -199,9 +191,7 @@ module _ (g : Catalog) (l : Limits) where
   )
   opens_sounds Bracket.Fields c fs ss ts t start end true d i =
       inl ((refl, (opened_around c fs ss Bracket.Fields (λ body. Members c body [] true) ts t d i no_field, tt)), refl, tt)
-  opens_sounds Bracket.List c fs ss ts t start end false d i = tt
-  opens_sounds Bracket.Sexp c fs ss ts t start end false d i = tt
-  opens_sounds Bracket.Fields c fs ss ts t start end false d i = tt
+  opens_sounds _ c fs ss ts t start end _ d i = tt
 
   -- with its close a container is this value
   closes_sounds : (bracket : Bracket) (c : List Slot) (fs : List Frame) (ss : Symbols) (q : Payload) (Body : List Placed → Type 0) (ts : List Placed)
@@ -212,7 +202,7 @@ module _ (g : Catalog) (l : Limits) where
       subst (λ x. Sounds c start end x (ended (under g l) (spot_at end start c) fs (annotated ss q))) (sym (whole_behind c fs ss bracket Body ts (t ∷ []) o))
       (ended_sounds c fs o.front (o.notes ++ (o.open' ∷ (o.body ++ t ∷ []))) (annotated ss q) start end o.outer o.receives
       (means (value_place fs) o.notes (o.open' ∷ (o.body ++ t ∷ [])) ss q o.noted d)
-      (and_false (long_behind c fs o.front o.outer) _ (notes_not_long c (value_place fs) o.notes (o.body ++ t ∷ []) ss o.open' o.noted
+      (and_right (long_behind c fs o.front o.outer) _ (notes_not_long c (value_place fs) o.notes (o.body ++ t ∷ []) ss o.open' o.noted
       (not_long (value_place fs) o.open' _ o.opens (λ w e. cc))))
       (λ x. noted_no_word c (value_place fs) o.notes (o.open' ∷ (o.body ++ t ∷ [])) ss o.noted (λ y. more_words o.open' o.body t)) (λ x. omega arith))
 
@@ -308,10 +298,8 @@ module _ (g : Catalog) (l : Limits) where
   ready_sounds c fs ss ts t (Mark' Mark.FieldsOpen) start dd d i n = opens_sounds Bracket.Fields c fs ss ts t start t.lexeme.end
       (nat_lt (length fs) l.depth) d i
   ready_sounds c fs [] ts t (Mark' Mark.ListClose) start dd d i n = bare_sounds Bracket.List c fs ts t start dd d i
-  ready_sounds c fs (s ∷ ss) ts t (Mark' Mark.ListClose) start dd d i n = tt
   ready_sounds c fs [] ts t (Mark' Mark.SexpClose) start dd d i n = bare_sounds Bracket.Sexp c fs ts t start dd d i
-  ready_sounds c fs (s ∷ ss) ts t (Mark' Mark.SexpClose) start dd d i n = tt
-  ready_sounds c fs ss ts t (Mark' _) start dd d i n = tt
+  ready_sounds c fs _ ts t _ start dd d i n = tt
 
   -- `::` behind a symbol
   pub noted_sounds : (c : List Slot) (fs : List Frame) (ss : Symbols) (ts : List Placed) (t : Placed) (h : Held) (start end : ℕ)
@@ -501,12 +489,7 @@ module _ (g : Catalog) (l : Limits) where
   turn_sounds c [] ss Now.Name ts t said start dd d i a = absurd d.1
   turn_sounds c (Frame.Items listing rs vs ∷ fs) ss Now.Name ts t said start dd d i a = absurd d.1
   turn_sounds c (Frame.Named rs ms y ∷ fs) ss Now.Name ts t said start dd d i a = absurd d.1
-  turn_sounds c [] ss (Now.LongName v) ts t said start dd d i a = absurd d.struct
-  turn_sounds c (Frame.Items listing rs vs ∷ fs) ss (Now.LongName v) ts t said start dd d i a = absurd d.struct
-  turn_sounds c (Frame.Named rs ms y ∷ fs) ss (Now.LongName v) ts t said start dd d i a = absurd d.struct
-  turn_sounds c [] ss (Now.Keyed x) ts t said start dd d i a = absurd d.struct
-  turn_sounds c (Frame.Items listing rs vs ∷ fs) ss (Now.Keyed x) ts t said start dd d i a = absurd d.struct
-  turn_sounds c (Frame.Named rs ms y ∷ fs) ss (Now.Keyed x) ts t said start dd d i a = absurd d.struct
+  turn_sounds c _ ss _ ts t said start dd d i a = absurd d.struct
 
   -- What waited is settled.
   pub settle_sounds : (c : List Slot) (fs : List Frame) (ss : Symbols) (now : Now) (ts : List Placed) (start end : ℕ) → NowStands c fs ss ts now
@@ -515,7 +498,4 @@ module _ (g : Catalog) (l : Limits) where
   settle_sounds c fs ss (Now.Long w end) ts start last d = long_sounds c fs ss w ts start end d
   settle_sounds c fs ss (Now.LongName w) ts start last d =
       inl ((refl, record { before = d.before; name = d.name; whole = d.whole; outer = d.outer; struct = d.struct; is = by_long d.name w d.is }), refl, tt)
-  settle_sounds c fs ss Now.Ready ts start last d = inl ((refl, d), refl, tt)
-  settle_sounds c fs ss Now.After ts start last d = inl ((refl, d), refl, tt)
-  settle_sounds c fs ss Now.Name ts start last d = inl ((refl, d), refl, tt)
-  settle_sounds c fs ss (Now.Keyed s) ts start last d = inl ((refl, d), refl, tt)
+  settle_sounds c fs ss _ ts start last d = inl ((refl, d), refl, tt)

@@ -1,8 +1,8 @@
 -- Where an item begins and ends: each turn leaves it open, or it is no longer than the limit.
 use Rattle.std.proofs.Common.{◌≡◌, ℕ, ◌+◌, ◌≤◌, nat_le, nat_lt, List, [], ◌∷◌, ◌++◌, length, Bool, true, false, Result, Ok, Err, Option, Some, refl, sym, subst, if◌then◌else◌, ◌⊎◌, inl, inr}
+use Rattle.std.proofs.lemmas.Bool.{cond_both, leb-true}
 use Rattle.ion_text.specs.Names.{Blob, Bracket, Catalog, Clob, Content, Frame, Held, Id, Limits, Listing, Long, Mark, Mark', Now, Number', Operator, Payload, Quoted, Reading, Reason, Setting, Short, Slot, Spot, Symbols, Token, Turn, TypedNull, Value, Word, at, bare_close, begun_at, close_mark, closed, deeper, ended, fresh, gives, goes, held_payload, held_symbol, held_word, is_fresh, is_keyword, is_table, is_top, keyed, late, named, next, noted, on_after, on_comma, on_keyed, on_long, on_long_name, on_name, on_pending, on_ready, paid, refuses, released, resolve, resolved, settle, spot_at, token_at, turn, turn_now, turned, under, within}
 use Rattle.ion_text.specs.laws.reading.Brackets.{Closes, closes_or_not, ends_list, ends_none, ends_sexp, ends_struct}
-use Rattle.ion_text.specs.laws.reading.sound.Quotes.{le_of}
 use Rattle.ion_text.specs.laws.reading.sound.StandsOpen.{EndsAt, end_of_now, start_now}
 
 -- what closes a container
@@ -28,16 +28,12 @@ OpenAs top r = (is_top r.frames ≡ false) ⊎ ((top ≡ true) × (is_fresh r �
 abbrev pub Spans : Bool → Content → ℕ → ℕ → ℕ → Turn → Type 0
 Spans top said item start end (goes r) = (OpenAs top r × (r.start ≡ start) × EndsAt r.now end) ⊎ ((end ≤ start + item) × IsClose top said × (is_fresh r ≡ true))
 Spans top said item start end (gives v r) = (end ≤ start + item) × IsClose top said × (is_fresh r ≡ true)
-Spans top said item start end (refuses e) = Unit {0}
-Spans top said item start end (late e r) = Unit {0}
+Spans top said item start end _ = Unit {0}
 
 within_spans : (top : Bool) (said : Content) (item start end : ℕ) (t : Turn) → (end ≤ start + item → Spans top said item start end t)
     → Spans top said item start end (within item start end t)
-within_spans top said item start end t h = go (nat_le end (start + item)) refl
-  where
-    go : (b : Bool) → nat_le end (start + item) ≡ b → Spans top said item start end (if b then t else refuses Reason.ItemTooLong)
-    go true e = h (le_of end (start + item) e)
-    go false e = tt
+within_spans top said item start end t h = cond_both (nat_le end (start + item)) t (refuses Reason.ItemTooLong) (Spans top said item start end)
+    (λ e. h (leb-true end (start + item) e)) (λ e. tt)
 
 top_spans : (top : Bool) (said : Content) (item start end : ℕ) (c : List Slot) (v : Value) (d : Result (List Slot) Reason) (b : Bool) → IsClose top said
     → Spans top said item start end (if b then turned item start end d else within item start end (gives v (fresh c)))
@@ -50,10 +46,9 @@ ended_spans : (top : Bool) (said : Content) (setting : Setting) (spot : Spot) (f
     → Spans top said setting.limits.item spot.start spot.end (ended setting spot fs v)
 ended_spans top said setting spot [] v h = top_spans top said setting.limits.item spot.start spot.end spot.context v (next spot.context v setting.catalog)
     (is_table v) (h refl)
-ended_spans top said setting spot (Frame.Items Listing.List ss vs ∷ fs) v h = inl (inl refl, refl, tt)
-ended_spans top said setting spot (Frame.Items Listing.Sexp ss vs ∷ fs) v h = inl (inl refl, refl, tt)
-ended_spans top said setting spot (Frame.Named ss ms s ∷ fs) v h = inl (inl refl, refl, tt)
 ended_spans top said setting spot (Frame.Fields ss ms ∷ fs) v h = tt
+ended_spans top said setting spot (Frame.Items Listing.List ss vs ∷ fs) v h = inl (inl refl, refl, tt)
+ended_spans top said setting spot _ v h = inl (inl refl, refl, tt)
 
 -- a value of one token, in the frames that stay
 one_spans : (said : Content) (setting : Setting) (spot : Spot) (fs : List Frame) (v : Value)
@@ -73,11 +68,8 @@ resolved_spans top said item start end (Err e) f h = tt
 
 deeper_spans : (top : Bool) (said : Content) (item start end depth : ℕ) (fs : List Frame) (t deep : Turn) → Spans top said item start end t
     → Spans top said item start end deep → Spans top said item start end (deeper depth fs t deep)
-deeper_spans top said item start end depth fs t deep h k = go (nat_lt (length fs) depth)
-  where
-    go : (b : Bool) → Spans top said item start end (if b then t else deep)
-    go true = h
-    go false = k
+deeper_spans top said item start end depth fs t deep h k =
+    cond_both (nat_lt (length fs) depth) t deep (Spans top said item start end) (λ e. h) (λ e. k)
 
 closed_spans : (setting : Setting) (spot : Spot) (bracket : Bracket) (fs : List Frame)
     → Spans (is_top fs) (Mark' (close_mark bracket)) setting.limits.item spot.start spot.end (closed bracket setting spot fs)
@@ -173,9 +165,7 @@ module _ (g : Catalog) (l : Limits) where
   comma_spans : (spot : Spot) (fs : List Frame) → Spans (is_top fs) (Mark' Mark.Comma) l.item spot.start spot.end (on_comma spot.start spot.context fs)
   comma_spans spot (Frame.Items Listing.List ss vs ∷ fs) = inl (inl refl, refl, tt)
   comma_spans spot (Frame.Fields ss ms ∷ fs) = inl (inl refl, refl, tt)
-  comma_spans spot (Frame.Items Listing.Sexp ss vs ∷ fs) = tt
-  comma_spans spot (Frame.Named ss ms s ∷ fs) = tt
-  comma_spans spot [] = tt
+  comma_spans spot _ = tt
 
   after_spans : (spot : Spot) (fs : List Frame) (said : Content) → Spans (is_top fs) said l.item spot.start spot.end (on_after (under g l) spot fs said)
   after_spans spot fs (Mark' Mark.Comma) = comma_spans spot fs
@@ -189,13 +179,10 @@ module _ (g : Catalog) (l : Limits) where
 
   name_spans : (spot : Spot) (f : Frame) (fs : List Frame) (said : Content)
       → Spans false said l.item spot.start spot.end (on_name (under g l) spot (f ∷ fs) said)
-  name_spans spot f fs (Word w) = go (is_keyword w)
-    where
-      go : (b : Bool) → Spans false (Word w) l.item spot.start spot.end
-          (if b then late Reason.KeywordAsName (keyed spot.start spot.context (f ∷ fs) (Some w)) else goes (keyed spot.start spot.context (f ∷ fs) (Some w)))
-      go true = tt
-      go false = keyed_open spot f fs (Word w) (Some w)
-  name_spans spot f fs (TypedNull k) = tt
+  name_spans spot f fs (Word w) =
+      let k = keyed spot.start spot.context (f ∷ fs) (Some w) in
+      cond_both (is_keyword w) (late Reason.KeywordAsName k) (goes k) (Spans false (Word w) l.item spot.start spot.end) (λ e. tt)
+      (λ e. keyed_open spot f fs (Word w) (Some w))
   name_spans spot f fs (Id id) = resolved_spans false (Id id) l.item spot.start spot.end (resolve spot.context id) _ (λ s. keyed_open spot f fs (Id id) s)
   name_spans spot f fs (Quoted w) = keyed_open spot f fs (Quoted w) (Some w)
   name_spans spot f fs (Short w) = keyed_open spot f fs (Short w) (Some w)
@@ -211,9 +198,7 @@ module _ (g : Catalog) (l : Limits) where
   named_spans : (spot : Spot) (fs : List Frame) (s : Option (List ℕ))
       → Spans (is_top fs) (Mark' Mark.Colon) l.item spot.start spot.end (named spot.start spot.context fs s)
   named_spans spot (Frame.Fields ss ms ∷ fs) s = inl (inl refl, refl, tt)
-  named_spans spot (Frame.Items listing ss vs ∷ fs) s = tt
-  named_spans spot (Frame.Named ss ms x ∷ fs) s = tt
-  named_spans spot [] s = tt
+  named_spans spot _ s = tt
 
   keyed_spans : (spot : Spot) (fs : List Frame) (s : Option (List ℕ)) (said : Content)
       → Spans (is_top fs) said l.item spot.start spot.end (on_keyed spot.start spot.context fs s said)
@@ -229,8 +214,7 @@ module _ (g : Catalog) (l : Limits) where
   now_spans begin end start c (f ∷ fs) ss said Now.Name k = name_spans (spot_at end start c) f fs said
   now_spans begin end start c (f ∷ fs) ss said (Now.LongName w) k = long_name_spans (spot_at end start c) f fs w said
   now_spans begin end start c fs ss said (Now.Keyed s) k = keyed_spans (spot_at end start c) fs s said
-  now_spans begin end start c [] ss said Now.Name k = absurd (k refl)
-  now_spans begin end start c [] ss said (Now.LongName w) k = absurd (k refl)
+  now_spans begin end start c [] ss said _ k = absurd (k refl)
 
   -- A token leaves the item open, or ends it within the limit.
   pub turn_spans : (r : Reading) (t : Token) → (is_top r.frames ≡ true → IsTopNow r.now)
@@ -241,15 +225,11 @@ module _ (g : Catalog) (l : Limits) where
   abbrev pub SettlesWithin : ℕ → ℕ → List Frame → Turn → Type 0
   SettlesWithin start end fs (goes r) = ((is_top fs ≡ false) × (is_top r.frames ≡ false) × (r.start ≡ start)) ⊎ ((is_top fs ≡ true) × (end ≤ start + l.item))
   SettlesWithin start end fs (gives v r) = (is_top fs ≡ true) × (end ≤ start + l.item)
-  SettlesWithin start end fs (refuses e) = Unit {0}
-  SettlesWithin start end fs (late e r) = Unit {0}
+  SettlesWithin start end fs _ = Unit {0}
 
   within_settles : (start end : ℕ) (t : Turn) → (end ≤ start + l.item → SettlesWithin start end [] t) → SettlesWithin start end [] (within l.item start end t)
-  within_settles start end t h = go (nat_le end (start + l.item)) refl
-    where
-      go : (b : Bool) → nat_le end (start + l.item) ≡ b → SettlesWithin start end [] (if b then t else refuses Reason.ItemTooLong)
-      go true e = h (le_of end (start + l.item) e)
-      go false e = tt
+  within_settles start end t h = cond_both (nat_le end (start + l.item)) t (refuses Reason.ItemTooLong) (SettlesWithin start end [])
+      (λ e. h (leb-true end (start + l.item) e)) (λ e. tt)
 
   top_settles : (start end : ℕ) (c : List Slot) (v : Value) (d : Result (List Slot) Reason) (b : Bool)
       → SettlesWithin start end [] (if b then turned l.item start end d else within l.item start end (gives v (fresh c)))
@@ -259,9 +239,8 @@ module _ (g : Catalog) (l : Limits) where
 
   ended_settles : (spot : Spot) (fs : List Frame) (v : Value) → SettlesWithin spot.start spot.end fs (ended (under g l) spot fs v)
   ended_settles spot [] v = top_settles spot.start spot.end spot.context v (next spot.context v g) (is_table v)
-  ended_settles spot (Frame.Items listing ss vs ∷ fs) v = inl (refl, refl, refl)
-  ended_settles spot (Frame.Named ss ms s ∷ fs) v = inl (refl, refl, refl)
   ended_settles spot (Frame.Fields ss ms ∷ fs) v = tt
+  ended_settles spot _ v = inl (refl, refl, refl)
 
   paid_settles : (spot : Spot) (fs : List Frame) (ss : Symbols) (q : Result Payload Reason)
       → SettlesWithin spot.start spot.end fs (paid (under g l) spot fs ss q)
@@ -271,12 +250,10 @@ module _ (g : Catalog) (l : Limits) where
   released_settles : (spot : Spot) (fs : List Frame) (ss : Symbols) (h : Held) → SettlesWithin spot.start spot.end fs (released (under g l) spot fs ss h)
   released_settles spot [] [] (Held.Version true s) = within_settles spot.start spot.end _ (λ k. inr (refl, k))
   released_settles spot [] [] (Held.Version false s) = tt
-  released_settles spot [] [] (Held.Symbol s) = paid_settles spot [] [] (held_payload (Held.Symbol s))
-  released_settles spot [] [] (Held.Null k) = paid_settles spot [] [] (held_payload (Held.Null k))
-  released_settles spot [] [] (Held.Truth b) = paid_settles spot [] [] (held_payload (Held.Truth b))
   released_settles spot [] [] Held.Nan = tt
   released_settles spot [] (s ∷ ss) h = paid_settles spot [] (s ∷ ss) (held_payload h)
   released_settles spot (f ∷ fs) ss h = paid_settles spot (f ∷ fs) ss (held_payload h)
+  released_settles spot [] [] h = paid_settles spot [] [] (held_payload h)
 
   -- a symbol or a long string waits
   abbrev pub IsWaiting : Now → Type 0
@@ -289,8 +266,4 @@ module _ (g : Catalog) (l : Limits) where
       → SettlesWithin start (end_of_now now end) fs (settle g l (at start c fs ss now))
   settle_spans start c fs ss (Now.Pending h e) end w = released_settles (spot_at e start c) fs ss h
   settle_spans start c fs ss (Now.Long v e) end w = ended_settles (spot_at e start c) fs _
-  settle_spans start c fs ss Now.Ready end w = absurd w
-  settle_spans start c fs ss Now.After end w = absurd w
-  settle_spans start c fs ss Now.Name end w = absurd w
-  settle_spans start c fs ss (Now.LongName v) end w = absurd w
-  settle_spans start c fs ss (Now.Keyed s) end w = absurd w
+  settle_spans start c fs ss _ end w = absurd w

@@ -2,9 +2,8 @@
 use Rattle.std.proofs.Common.{◌≡◌, ℕ, List, [], ◌∷◌, ◌++◌, Bool, true, false, Ok, Option, Some, refl, ap, sym, ◌∙◌, subst, append_assoc, append-nil, if◌then◌else◌, codes, ◌||◌, ◌&&◌}
 use Rattle.std.proofs.lemmas.Slice.Eq.{bytes_eq-Decides}
 use Rattle.std.specs.Str.{bytes_eq}
-use Rattle.ion_text.specs.Names.{Annotations, Bracket, Content, Elements, Frame, Held, Id, IsBody, IsName, IsScalar, IsSymbol, Kind, Listing, Long, Mark, Mark', Members, Now, Payload, Place, Placed, Quoted, Reading, Row, Says, Segments, Slot, Symbols, TokenKind, TypedNull, Value, Word, begins_long, begun_at, bracket_in, ends_long, held_payload, held_symbol, held_word, is_false, is_id, is_long, is_null, is_segment, is_symbol, is_true, is_version, is_version_word, is_word, joined, no_annotation, one_annotation, open_mark, place_in, resolve, segment, the_marker}
+use Rattle.ion_text.specs.Names.{Annotations, Bracket, Content, Elements, Frame, Held, Id, IsBody, IsName, IsScalar, IsSymbol, Kind, Listing, Long, Mark, Mark', Members, Now, Payload, Place, Placed, Quoted, Reading, Row, Says, Segments, Slot, Symbols, TokenKind, TypedNull, Value, Word, begins_long, begun_at, bracket_in, ends_long, held_payload, held_symbol, held_word, is_false, is_long, is_null, is_segment, is_symbol, is_true, is_version, is_version_word, is_word, joined, no_annotation, one_annotation, open_mark, place_in, resolve, the_marker}
 use Rattle.ion_model.specs.declared.value.Payload.TheVariants as payloads
-use Rattle.ion_text.specs.Grammar.{is_quoted}
 use Rattle.ion_text.specs.laws.reading.sound.MarkerWords.{is_unmarked}
 
 -- where a value of the innermost container stands
@@ -76,15 +75,7 @@ EndsAt _ end = Unit {0}
 -- in an s-expression, whether the tokens of its elements end in a long string
 abbrev pub long_behind : (c : List Slot) (fs : List Frame) (ts : List Placed) → Opened c fs ts true → Bool
 long_behind c (Frame.Items Listing.Sexp ss vs ∷ fs) ts o = ends_long o.body
-long_behind c (Frame.Items Listing.List ss vs ∷ fs) ts o = false
-long_behind c (Frame.Fields ss ms ∷ fs) ts o = false
-long_behind c (Frame.Named ss ms s ∷ fs) ts o = false
-long_behind c [] ts o = false
-
--- two tests fail together where the second does
-pub and_false : (b x : Bool) → x ≡ false → (b && x) ≡ false
-and_false false x h = refl
-and_false true x h = h
+long_behind c _ ts o = false
 
 -- a token that says something else is no segment
 pub no_segment : (k : TokenKind) (octets : List ℕ) (said : Content) → ((w : List ℕ) → said ≡ Long w → ⊥) → IsBody k octets (Ok said) → is_segment k ≡ false
@@ -94,8 +85,7 @@ no_segment _ octets said n h = refl
 -- no symbol is a segment
 pub symbol_no_long : (c : List Slot) (said : Content) (s : Option (List ℕ)) → IsSymbol c said s → (w : List ℕ) → said ≡ Long w → ⊥
 symbol_no_long c _ _ (is_word v h) w e = cc
-symbol_no_long c _ _ (is_id id s h) w e = cc
-symbol_no_long c _ _ (is_quoted v) w e = cc
+symbol_no_long c _ _ _ w e = cc
 
 -- a token that says no segment is none
 pub not_long : (p : Place) (t : Placed) (said : Content) → Says p t said → ((w : List ℕ) → said ≡ Long w → ⊥) → is_long t ≡ false
@@ -112,10 +102,8 @@ notes_not_long c p _ us _ t (one_annotation ts ss a colons said s d i j k) h =
 -- whether an item begins with a long string is seen from its first segments
 pub begins_long_more : (notes segments us : List Placed) (p : Place) (w : List ℕ) → Segments p segments w → begins_long (notes ++ (segments ++ us))
     ≡ begins_long (notes ++ segments)
-begins_long_more (n ∷ notes) segments us p w d = refl
-begins_long_more [] _ us p w (segment t _ h) = refl
 begins_long_more [] _ us p w (joined [] v x t d h) = refl
-begins_long_more [] _ us p w (joined (y ∷ ys) v x t d h) = refl
+begins_long_more _ _ us p w _ = refl
 
 -- what is held is what the token says
 pub record HoldsWhatIsSaid (c : List Slot) (said : Content) (h : Held) : Type 0 where

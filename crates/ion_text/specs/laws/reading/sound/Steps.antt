@@ -18,9 +18,7 @@ module _ (g : Catalog) (l : Limits) where
 
   worse_after : (u : List ℕ) (vs : List Value) (o : ℕ) (e : Reason) (x : Effect) → After u vs o (or_worse e x)
   worse_after u vs o e (fails f) = tt
-  worse_after u vs o e (uses m) = tt
-  worse_after u vs o e (tells v m) = tt
-  worse_after u vs o e (leaves v m) = tt
+  worse_after u vs o e _ = tt
 
   noticed_after : (u : List ℕ) (vs : List Value) (o : ℕ) (r : Reading) (s : Known) → Behind g l Scanned (u ++ o ∷ []) vs s r [] (NoLongText s.mode)
       → After u vs o (noticed l r s)
@@ -28,9 +26,8 @@ module _ (g : Catalog) (l : Limits) where
     where
       go : (x y : Bool) → After u vs o (if x then fails Reason.Unexpected else
           (if y then uses (record { scan = s; reading = r }) else fails Reason.ItemTooLong))
-      go true y = tt
       go false true = b
-      go false false = tt
+      go _ _ = tt
 
   module _ (u : List ℕ) (vs : List Value) (o : ℕ) where
     -- where the reader goes on at the octet
@@ -135,10 +132,9 @@ module _ (g : Catalog) (l : Limits) where
 
     places_only : (fs : List _) (now : _) (t : Turn) → Leading g l (λ r. (place r ≡ place_in fs now) × (is_top r.frames ≡ is_top fs)) t
         → Leading g l (λ n. place n ≡ place_in fs now) t
-    places_only fs now (goes r) h = h.0
-    places_only fs now (gives v r) h = h.0
     places_only fs now (refuses x) h = tt
     places_only fs now (late x r) h = tt
+    places_only fs now _ h = h.0
 
     octet_after : (s : Known) (r : Reading) (ahead : List ℕ) (again : State → Effect) → Continues (o ∷ []) ahead → AtOctet again
         → (b : Behind g l Scanned u vs s r ahead (ApartAt o s r)) → After u vs o (on_octet g l again (with_scan s r) (feed (place r) s o))
@@ -212,8 +208,7 @@ module _ (g : Catalog) (l : Limits) where
       → StoodBehind w vs (once_more to rest x)
   more_ran u w vs to o rest f (uses m) p h = f vs m h
   more_ran u w vs to o rest f (tells v m) p h = ran_more w vs v (to + 1) (rest m) (f (vs ++ v ∷ []) m h)
-  more_ran u w vs to o rest f (leaves v m) p h = subst HasPieces (sym (append-nil vs)) p
-  more_ran u w vs to o rest f (fails e) p h = subst HasPieces (sym (append-nil vs)) p
+  more_ran u w vs to o rest f _ p h = subst HasPieces (sym (append-nil vs)) p
 
   octet_ran : (u w : List ℕ) (vs : List Value) (to o : ℕ) (rest : State → Run)
       → ((xs : List Value) (n : State) → Stood (u ++ o ∷ []) xs n → StoodBehind w xs (rest n)) → (x : Effect) → HasPieces vs → After u vs o x
