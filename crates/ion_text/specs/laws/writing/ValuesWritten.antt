@@ -4,7 +4,7 @@ use Rattle.std.specs.Prelude.{◌==◌, ◌||◌, ◌&&◌, codes}
 use Rattle.std.specs.List.{flat_map}
 use Rattle.std.proofs.lemmas.Bool.{and_parts, and_right, false≢true, or_parts}
 use Rattle.std.proofs.lemmas.Bool.Decides.{nat_tests}
-use Rattle.ion_text.specs.Names.{Annotations, AreTexts, Blob, Clob, Content, Elements, Field, IsKept, IsName, IsScalar, IsSymbol, IsText, KeptFields, KeptItems, KeptPayload, Kind, Layer, LexesTo, Mark, Mark', MarkEnds, MarkStands, Means, Members, Number, Number', Payload, Place, Placed, Plain, ReadsNumber, Row, Says, Short, Slot, Value, Word, a_field, an_item, annotated, begins_long, begins_number, blob_text, by_symbol, clob_text, close_place, comma, element, ends_long, escaped_text, field, field_comma, field_of, field_text, is_blob, is_clob, is_decimal, is_digit, is_false, is_identifier, is_int, is_letter, is_list, is_long, is_name, is_null, is_short, is_struct, is_symbol, is_timestamp, is_true, is_typed_null, is_unquoted, is_white, item, kept, kept_blob, kept_clob, kept_decimal, kept_fields, kept_int, kept_list, kept_null, kept_sexp, kept_string, kept_symbol, kept_timestamp, kept_truth, known_text, layer_text, mark_spelling, means, named_text, no_annotation, no_element, no_field, no_fields, no_item, no_items, notes_text, null_text, number_text, of_string, of_symbol, one_annotation, one_token, quoted, separated, symbol_text, truth_text, value_text}
+use Rattle.ion_text.specs.Names.{Annotations, AreTexts, Blob, Clob, Content, Elements, Field, IsKept, IsName, IsScalar, IsSymbol, IsText, KeptFields, KeptItems, KeptPayload, Kind, LexesTo, Mark, Mark', MarkEnds, MarkStands, Means, Members, Number, Number', Payload, Place, Placed, Plain, ReadsNumber, Row, Says, Short, Slot, Value, Word, a_field, an_item, annotated, begins_long, begins_number, blob_text, by_symbol, clob_text, close_place, comma, element, ends_long, escaped_text, field, field_comma, field_of, field_text, is_blob, is_clob, is_decimal, is_digit, is_false, is_identifier, is_int, is_letter, is_list, is_long, is_name, is_null, is_short, is_struct, is_symbol, is_timestamp, is_true, is_typed_null, is_unquoted, is_white, item, kept, kept_blob, kept_clob, kept_decimal, kept_fields, kept_int, kept_list, kept_null, kept_sexp, kept_string, kept_symbol, kept_timestamp, kept_truth, known_text, layer_text, mark_spelling, means, named_text, no_annotation, no_element, no_field, no_fields, no_item, no_items, notes_text, null_text, number_text, of_string, of_symbol, one_annotation, one_token, quoted, separated, symbol_text, truth_text, value_text}
 use Rattle.ion_model.specs.declared.value.Payload.TheVariants as payloads
 use Rattle.ion_model.specs.declared.value.Payload.TheViews as views
 use Rattle.ion_scalar.specs.text.laws.Texts.{decimal_reads, int_reads}
@@ -276,18 +276,13 @@ regroup us ts more t = append_assoc (us ++ t ∷ []) ts more ∙ append_assoc us
 
 -- 7. Values.
 
-by_level : (c : List Slot) (p : Place) (x : Payload) (d : Layer) (at : ℕ) (rest : List ℕ) → views.out-Payload x ≡ d
-    → Written (IsPlain c p x) at (layer_text d) rest → Written (IsPlain c p x) at (layer_text (views.out-Payload x)) rest
-by_level c p x d at rest e h = subst (λ (d : Layer). Written (IsPlain c p x) at (layer_text d) rest) (sym e) h
-
 number_written : (c : List Slot) (p : Place) (k : Number) (x : Payload) (at : ℕ) (rest : List ℕ) → IsScalar c (Number' k) x → is_name p ≡ false
     → ReadsNumber (number_text k) (Ok k) → EndsNumbers rest → Written (IsPlain c p x) at (number_text k) rest
 number_written c p k x at rest h n r s = scalar_written c p (Number' k) x at (number_text k) rest h (number_spelled p k rest n r s)
 
 -- no value's text begins with `:`
-level_no_colon : (x : Payload) (d : Layer) (r : List ℕ) → views.out-Payload x ≡ d → starts_badly (layer_text d ++ r) ≡ false
-    → starts_badly (layer_text (views.out-Payload x) ++ r) ≡ false
-level_no_colon x d r e h = subst (λ (d : Layer). starts_badly (layer_text d ++ r) ≡ false) (sym e) h
+numeric_no_colon : (n : Number) (r : List ℕ) → ReadsNumber (number_text n) (Ok n) → starts_badly (number_text n ++ r) ≡ false
+numeric_no_colon n r h = number_no_colon (number_text n) r (numeric_run (number_text n) n h).begun
 
 null_no_colon : (k : Kind) (r : List ℕ) → starts_badly (null_text k ++ r) ≡ false
 null_no_colon Kind.Null r = refl
@@ -306,25 +301,19 @@ symbol_no_colon (Some w) r = by (is_unquoted w) refl where
   by false h = rw h (plain_start 39 ((escaped_text of_symbol w ++ 39 ∷ []) ++ r) refl refl)
 
 payload_no_colon : (x : Payload) → KeptPayload x → (r : List ℕ) → starts_badly (layer_text (views.out-Payload x) ++ r) ≡ false
-payload_no_colon _ (kept_null k) r = level_no_colon (payloads.Null k) _ r (views.outs-Null k) (null_no_colon k r)
-payload_no_colon _ (kept_truth b) r = level_no_colon (payloads.Truth b) _ r (views.outs-Truth b) (truth_no_colon b r)
-payload_no_colon _ (kept_int z h) r = level_no_colon (payloads.Int z) _ r (views.outs-Int z)
-    (number_no_colon (number_text (Number.Int z)) r (numeric_run (number_text (Number.Int z)) (Number.Int z) (int_reads z h)).begun)
-payload_no_colon _ (kept_decimal d h) r = level_no_colon (payloads.Decimal d) _ r (views.outs-Decimal d)
-    (number_no_colon (number_text (Number.Decimal d)) r (numeric_run (number_text (Number.Decimal d)) (Number.Decimal d) (decimal_reads d h)).begun)
-payload_no_colon _ (kept_timestamp t h) r = level_no_colon (payloads.Timestamp t) _ r (views.outs-Timestamp t)
-    (number_no_colon (number_text (Number.Timestamp t)) r (numeric_run (number_text (Number.Timestamp t)) (Number.Timestamp t) (timestamp_reads t h)).begun)
-payload_no_colon _ (kept_symbol s t) r = level_no_colon (payloads.Symbol s) _ r (views.outs-Symbol s) (symbol_no_colon s r)
-payload_no_colon _ (kept_string text u) r = level_no_colon (payloads.Str text) _ r (views.outs-Str text)
-    (plain_start 34 ((escaped_text of_string text ++ 34 ∷ []) ++ r) refl refl)
-payload_no_colon _ (kept_clob body h) r = level_no_colon (payloads.Clob body) _ r (views.outs-Clob body) refl
-payload_no_colon _ (kept_blob body h) r = level_no_colon (payloads.Blob body) _ r (views.outs-Blob body) refl
-payload_no_colon _ (kept_list vs k) r = level_no_colon (payloads.List vs) _ r (views.outs-List vs)
-    (plain_start 91 ((separated (codes ",") (map value_text vs) ++ 93 ∷ []) ++ r) refl refl)
-payload_no_colon _ (kept_sexp vs k) r = level_no_colon (payloads.Sexp vs) _ r (views.outs-Sexp vs)
-    (plain_start 40 ((separated (codes " ") (map value_text vs) ++ 41 ∷ []) ++ r) refl refl)
-payload_no_colon _ (kept_fields ms k) r = level_no_colon (payloads.Fields ms) _ r (views.outs-Fields ms)
-    (plain_start 123 ((separated (codes ",") (map field_text ms) ++ 125 ∷ []) ++ r) refl refl)
+payload_no_colon _ (kept_null k) r = rw (views.outs-Null k) (null_no_colon k r)
+payload_no_colon _ (kept_truth b) r = rw (views.outs-Truth b) (truth_no_colon b r)
+payload_no_colon _ (kept_int z h) r = rw (views.outs-Int z) (numeric_no_colon (Number.Int z) r (int_reads z h))
+payload_no_colon _ (kept_decimal d h) r = rw (views.outs-Decimal d) (numeric_no_colon (Number.Decimal d) r (decimal_reads d h))
+payload_no_colon _ (kept_timestamp t h) r = rw (views.outs-Timestamp t) (numeric_no_colon (Number.Timestamp t) r (timestamp_reads t h))
+payload_no_colon _ (kept_symbol s t) r = rw (views.outs-Symbol s) (symbol_no_colon s r)
+payload_no_colon _ (kept_string text u) r = rw (views.outs-Str text) (plain_start 34 ((escaped_text of_string text ++ 34 ∷ []) ++ r) refl refl)
+payload_no_colon _ (kept_clob body h) r = rw (views.outs-Clob body) refl
+payload_no_colon _ (kept_blob body h) r = rw (views.outs-Blob body) refl
+payload_no_colon _ (kept_list vs k) r = rw (views.outs-List vs) (plain_start 91 ((separated (codes ",") (map value_text vs) ++ 93 ∷ []) ++ r) refl refl)
+payload_no_colon _ (kept_sexp vs k) r = rw (views.outs-Sexp vs) (plain_start 40 ((separated (codes " ") (map value_text vs) ++ 41 ∷ []) ++ r) refl refl)
+payload_no_colon _ (kept_fields ms k) r =
+    rw (views.outs-Fields ms) (plain_start 123 ((separated (codes ",") (map field_text ms) ++ 125 ∷ []) ++ r) refl refl)
 
 notes_no_colon : (ss : List (Option (List ℕ))) (w r : List ℕ) → starts_badly (w ++ r) ≡ false → starts_badly ((notes_text ss ++ w) ++ r) ≡ false
 notes_no_colon [] w r h = h
@@ -384,43 +373,42 @@ module _ (c : List Slot) where
 
     payload_written : (x : Payload) → KeptPayload x → (p : Place) → is_name p ≡ false → (at : ℕ) (rest : List ℕ) → EndsNumbers rest
         → Written (IsPlain c p x) at (layer_text (views.out-Payload x)) rest
-    payload_written _ (kept_null k) p n at rest s = by_level c p (payloads.Null k) _ at rest (views.outs-Null k)
+    payload_written _ (kept_null k) p n at rest s = rw (views.outs-Null k)
         (scalar_written c p (null_said k) (payloads.Null k) at (null_text k) rest (null_scalar c k) (null_spelled p k rest s.apart))
-    payload_written _ (kept_truth b) p n at rest s = by_level c p (payloads.Truth b) _ at rest (views.outs-Truth b)
+    payload_written _ (kept_truth b) p n at rest s = rw (views.outs-Truth b)
         (scalar_written c p (Word (truth_text b)) (payloads.Truth b) at (truth_text b) rest (truth_scalar c b) (truth_spelled p b rest s.apart))
-    payload_written _ (kept_int z h) p n at rest s = by_level c p (payloads.Int z) _ at rest (views.outs-Int z)
+    payload_written _ (kept_int z h) p n at rest s = rw (views.outs-Int z)
         (number_written c p (Number.Int z) (payloads.Int z) at rest (is_int z) n (int_reads z h) s)
-    payload_written _ (kept_decimal d h) p n at rest s = by_level c p (payloads.Decimal d) _ at rest (views.outs-Decimal d)
+    payload_written _ (kept_decimal d h) p n at rest s = rw (views.outs-Decimal d)
         (number_written c p (Number.Decimal d) (payloads.Decimal d) at rest (is_decimal d) n (decimal_reads d h) s)
-    payload_written _ (kept_timestamp t h) p n at rest s = by_level c p (payloads.Timestamp t) _ at rest (views.outs-Timestamp t)
+    payload_written _ (kept_timestamp t h) p n at rest s = rw (views.outs-Timestamp t)
         (number_written c p (Number.Timestamp t) (payloads.Timestamp t) at rest (is_timestamp t) n (timestamp_reads t h) s)
-    payload_written _ (kept_symbol x t) p n at rest s = by_level c p (payloads.Symbol x) _ at rest (views.outs-Symbol x)
-        (symbol_written c p x at rest t s.apart)
-    payload_written _ (kept_string text u) p n at rest s = by_level c p (payloads.Str text) _ at rest (views.outs-Str text)
+    payload_written _ (kept_symbol x t) p n at rest s = rw (views.outs-Symbol x) (symbol_written c p x at rest t s.apart)
+    payload_written _ (kept_string text u) p n at rest s = rw (views.outs-Str text)
         (scalar_written c p (Short text) (payloads.Str text) at (quoted of_string text) rest (is_short text) (string_spelled p text rest u))
-    payload_written _ (kept_clob body h) p n at rest s = by_level c p (payloads.Clob body) _ at rest (views.outs-Clob body)
+    payload_written _ (kept_clob body h) p n at rest s = rw (views.outs-Clob body)
         (scalar_written c p (Clob body) (payloads.Clob body) at (clob_text body) rest (is_clob body) (clob_spelled p body rest n h))
-    payload_written _ (kept_blob body h) p n at rest s = by_level c p (payloads.Blob body) _ at rest (views.outs-Blob body)
+    payload_written _ (kept_blob body h) p n at rest s = rw (views.outs-Blob body)
         (scalar_written c p (Blob body) (payloads.Blob body) at (blob_text body) rest (is_blob body) (blob_spelled p body rest n h))
     payload_written _ (kept_list vs k) p n at rest s =
         let more = separated (codes ",") (map value_text vs) ++ 93 ∷ [] in
         let front = free_mark p Mark.ListOpen at (more ++ rest) (λ colon. n) tt in
         let back = list_closed vs k (at + 1) rest in
-        by_level c p (payloads.List vs) _ at rest (views.outs-List vs)
+        rw (views.outs-List vs)
         (both (One p (Mark' Mark.ListOpen)) (λ ts. ClosedList c ts vs) (IsPlain c p (payloads.List vs)) at (91 ∷ []) more rest front back
         (list_plain c p (tokens front) (tokens back) vs front.is back.is))
     payload_written _ (kept_sexp vs k) p n at rest s =
         let more = separated (codes " ") (map value_text vs) ++ 41 ∷ [] in
         let front = free_mark p Mark.SexpOpen at (more ++ rest) (λ colon. n) tt in
         let back = sexp_closed vs k (at + 1) rest in
-        by_level c p (payloads.Sexp vs) _ at rest (views.outs-Sexp vs)
+        rw (views.outs-Sexp vs)
         (both (One p (Mark' Mark.SexpOpen)) (λ ts. ClosedSexp c ts vs) (IsPlain c p (payloads.Sexp vs)) at (40 ∷ []) more rest front back
         (sexp_plain c p (tokens front) (tokens back) vs front.is back.is))
     payload_written _ (kept_fields ms k) p n at rest s =
         let more = separated (codes ",") (map field_text ms) ++ 125 ∷ [] in
         let front = free_mark p Mark.FieldsOpen at (more ++ rest) (λ colon. n) (fields_no_brace ms rest) in
         let back = fields_closed ms k (at + 1) rest in
-        by_level c p (payloads.Fields ms) _ at rest (views.outs-Fields ms)
+        rw (views.outs-Fields ms)
         (both (One p (Mark' Mark.FieldsOpen)) (λ ts. ClosedFields c ts ms) (IsPlain c p (payloads.Fields ms)) at (123 ∷ []) more rest front back
         (struct_plain c p (tokens front) (tokens back) ms front.is back.is))
 

@@ -368,23 +368,21 @@ module _ (g : Catalog) (l : Limits) where
                 (more n i.0 (λ j. subst (λ z. CalmNow z s'.mode × EndedIn s'.used z) (sym ready) (tt, tt)) i.2)) i.1
             by _ h i = absurd i
 
+        idle_never : is_top r.frames ≡ true → TurnGoes g l (settle g l r) (t ∷ ts) all → is_idle s.mode ≡ true → ⊥
+        idle_never top y i = elim (subst (IdleLeft (place r) s.used) e (idle_left (place r) s o i)) [
+          | inl j ↦ settled_colon r t ts all top ok y j.0
+          | inr j ↦ no_operator g l r t top p.0 ops.0 j.0
+        ]
+
         -- nothing that waits at the top level is ended by a token that is left
         never_gives : (n : Now) → r.now ≡ n → is_top r.frames ≡ true → waits r (Left t.lexeme s') ≡ false → TurnGoes g l (settle g l r) (t ∷ ts) all
             → CalmNow n s.mode → (n ≡ Now.Ready → ⊥) → ⊥
         never_gives Now.Ready x top w y c z = z refl
-        never_gives (Now.Pending h b) x top w y c z = idle (subst (IdleLeft (place r) s.used) e (idle_left (place r) s o c))
-          where
-            idle : IdleLeft (place r) s.used (Left t.lexeme s') → ⊥
-            idle (inl i) = settled_colon r t ts all top ok y i.0
-            idle (inr i) = no_operator g l r t top p.0 ops.0 i.0
+        never_gives (Now.Pending h b) x top w y c z = idle_never top y c
         never_gives (Now.Long v b) x top w y c z = by (is_idle s.mode) refl
           where
-            idle : IdleLeft (place r) s.used (Left t.lexeme s') → ⊥
-            idle (inl i) = settled_colon r t ts all top ok y i.0
-            idle (inr i) = no_operator g l r t top p.0 ops.0 i.0
-
             by : (i : Bool) → is_idle s.mode ≡ i → ⊥
-            by true i = idle (subst (IdleLeft (place r) s.used) e (idle_left (place r) s o i))
+            by true i = idle_never top y i
             by false i =
                 let q : is_quoting s.mode ≡ true = sym (ap (λ b. b || is_quoting s.mode) i) ∙ c in
                 let k = quoting_left (place r) s s' o t.lexeme exactly q e in

@@ -180,12 +180,9 @@ begun_covers start end _ _ _ _ (at_token s t e) h =
     (x.0 ∙ begun_stays s.mode s.start s.used h.1 ∙ h.0, inl (omega (arith, x.1, k)))
 begun_covers start end _ _ _ _ (goes_on s o os t ts s' e m) h = begun_covers start end s' os t ts m (one_reaches t.place s o start end (Next s') h e)
 begun_covers start end _ _ _ _ (is_given s o os t ts s' e m) h = let x = one_reaches t.place s o start end (Given t.lexeme s') h e in (x.0, inl x.1)
-begun_covers start end _ _ _ _ (is_left s o os t ts s' e m) h = let x = one_reaches t.place s o start end (Left t.lexeme s') h e in (x.0, less x.1)
-  where
-    less : (end ≤ t.lexeme.end) ⊎ ((t.lexeme.kind ≡ TokenKind.Operator) × (s'.start ≡ t.lexeme.end) × (is_idle s'.mode ≡ false) × (end + behind s'.mode ≤ s'.used))
-        → (end ≤ t.lexeme.end) ⊎ (t.lexeme.kind ≡ TokenKind.Operator)
-    less (inl k) = inl k
-    less (inr k) = inr k.0
+begun_covers start end _ _ _ _ (is_left s o os t ts s' e m) h =
+    let x = one_reaches t.place s o start end (Left t.lexeme s') h e in
+    (x.0, elim x.1 [ inl k ↦ inl k | inr k ↦ inr k.0 ])
 
 behind_one : (m : Mode) → behind m ≤ 1
 behind_one Mode.NumberSlash = omega arith
@@ -224,12 +221,8 @@ idle_span _ _ _ _ (goes_on s o os t ts s' e m) f i = go (λ j. idle_span s' os t
     ]
 idle_span _ _ _ _ (is_given s o os t ts s' e m) f i = let x = finely_as t.place s o (Given t.lexeme s') f e in
     inl (omega (arith, x.4, one_given t.place s s' o t.lexeme e))
-idle_span _ _ _ _ (is_left s o os t ts s' e m) f i = go (subst (IdleLeft t.place s.used) e (idle_left t.place s o i))
-  where
-    go : ((t.lexeme.kind ≡ TokenKind.Mark Mark.Colon) × (s.used ≤ t.lexeme.end)) ⊎ ((t.lexeme.kind ≡ TokenKind.Operator) × (is_sexp t.place ≡ true))
-        → (s.used ≤ t.lexeme.end) ⊎ (t.lexeme.kind ≡ TokenKind.Operator)
-    go (inl h) = inl h.1
-    go (inr h) = inr h.0
+idle_span _ _ _ _ (is_left s o os t ts s' e m) f i =
+    elim (subst (IdleLeft t.place s.used) e (idle_left t.place s o i)) [ inl h ↦ inl h.1 | inr h ↦ inr h.0 ]
 
 -- a long text becomes a segment
 pub long_segment : (s : Known) (os : List ℕ) (t : Placed) (ts : List Placed) → Meets s os (t ∷ ts) → is_long_text s.mode ≡ true → is_segment t.lexeme.kind

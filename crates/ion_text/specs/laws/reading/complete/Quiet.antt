@@ -130,18 +130,10 @@ module _ (g : Catalog) (l : Limits) where
       within' c e w = limit g l s os (t ∷ ts) m fine ops r all c (calm_ok g l s r calm) d e w
 
       begun_end : is_idle s.mode ≡ false → (t.lexeme.start ≡ s.start) × (s.used - behind s.mode ≤ t.lexeme.end)
-      begun_end i = let x = begun_span s os t ts m i used in (x.0, by x.1)
-        where
-          by : (s.used - behind s.mode ≤ t.lexeme.end) ⊎ (t.lexeme.kind ≡ TokenKind.Operator) → s.used - behind s.mode ≤ t.lexeme.end
-          by (inl h) = h
-          by (inr h) = absurd (own h)
+      begun_end i = let x = begun_span s os t ts m i used in (x.0, elim x.1 [ inl h ↦ h | inr h ↦ absurd (own h) ])
 
       next_end : is_idle s.mode ≡ true → s.used ≤ t.lexeme.end
-      next_end i = by (idle_span s os t ts m fine i)
-        where
-          by : (s.used ≤ t.lexeme.end) ⊎ (t.lexeme.kind ≡ TokenKind.Operator) → s.used ≤ t.lexeme.end
-          by (inl h) = h
-          by (inr h) = absurd (own h)
+      next_end i = elim (idle_span s os t ts m fine i) [ inl h ↦ h | inr h ↦ absurd (own h) ]
 
     ready_same : (fs : List Frame) (ss : Symbols) → r.frames ≡ fs → r.notes ≡ ss → r.now ≡ Now.Ready → r ≡ at r.start r.context fs ss Now.Ready
     ready_same fs ss a b c = ap (λ x. at r.start r.context x r.notes r.now) a

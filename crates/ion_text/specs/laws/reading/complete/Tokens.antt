@@ -1,8 +1,8 @@
 -- Octets that are tokens lead the reader of octets where the tokens lead the reader of tokens.
-use Rattle.std.proofs.Common.{◌≡◌, ℕ, ◌+◌, ◌-◌, ◌≤◌, ◌==◌, List, Bool, true, false, cond, ◌&&◌, ◌||◌, Ok, Err, Some, refl, ap, sym, ◌∙◌, subst, arith, ◌⊎◌, inl, inr}
+use Rattle.std.proofs.Common.{◌≡◌, ℕ, ◌+◌, ◌-◌, ◌==◌, List, Bool, true, false, cond, ◌&&◌, ◌||◌, Ok, Err, Some, refl, ap, sym, ◌∙◌, subst, arith, inl, inr}
 use Rattle.std.proofs.lemmas.Bool.{and_right, or_parts}
 use Rattle.std.proofs.lemmas.Bool.Decides.{nat_tests}
-use Rattle.ion_text.specs.Names.{Action, Content, Frame, Given, Held, IsBody, Keep, Known, Left, Lexeme, Long, Mark, Mark', Mode, Next, Now, Outcome, Place, Placed, Quoted, Reason, Style, TokenKind, Within, acts, at_end, before, continues_now, end_of, ends_at, feed, in_text, is_closing, is_colons, is_idle, is_quoted, is_quoting, is_sane, is_segment, is_sexp, is_top, is_two_quotes, raw, start_of, token_of, waits_now}
+use Rattle.ion_text.specs.Names.{Action, Content, Frame, Given, Held, IsBody, Keep, Known, Left, Lexeme, Long, Mark, Mark', Mode, Next, Now, Outcome, Place, Placed, Quoted, Reason, Style, TokenKind, Within, acts, at_end, before, continues_now, end_of, ends_at, feed, in_text, is_closing, is_colons, is_idle, is_quoted, is_quoting, is_sane, is_segment, is_top, is_two_quotes, raw, start_of, token_of, waits_now}
 use Rattle.ion_tokens.specs.machine.Table.{next}
 use Rattle.ion_text.specs.laws.reading.complete.Complete.{segment_kind}
 use Rattle.ion_text.specs.laws.reading.complete.Exact.{Exact, exact}
@@ -176,12 +176,8 @@ left_two p s s' o x f e h = go (is_quoting s.mode) refl
 pub left_colons : (p : Place) (s s' : Known) (o : ℕ) (x : Lexeme) → is_sane s.mode ≡ true → feed p s o ≡ Left x s' → is_colons x.kind ≡ false
 left_colons p s s' o x h e = go (is_idle s.mode) refl
   where
-    idle : ((x.kind ≡ TokenKind.Mark Mark.Colon) × (s.used ≤ x.end)) ⊎ ((x.kind ≡ TokenKind.Operator) × (is_sexp p ≡ true)) → is_colons x.kind ≡ false
-    idle (inl k) = ap is_colons k.0
-    idle (inr k) = ap is_colons k.0
-
     go : (b : Bool) → is_idle s.mode ≡ b → is_colons x.kind ≡ false
-    go true i = idle (subst (IdleLeft p s.used) e (idle_left p s o i))
+    go true i = elim (subst (IdleLeft p s.used) e (idle_left p s o i)) [ inl k ↦ ap is_colons k.0 | inr k ↦ ap is_colons k.0 ]
     go false i = closing_colons x.kind ((follows_as p s o (Left x s') h e).1 i)
 
 -- quotes that the end ends are two

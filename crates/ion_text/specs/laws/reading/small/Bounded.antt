@@ -290,14 +290,13 @@ module _ (g : Catalog) (l : Limits) where
   pub ran_kept : (u : List ℕ) (s : List (Value × ℕ)) (m : State) (awaited : Option ℕ) (looked : ℕ) → Ran g l u s m awaited → IsSteady m.scan looked
       → held_in m.scan ≤ l.item
   ran_kept u s m None looked h steady = led_kept u s m looked h steady
-  ran_kept u s m (Some o) looked h steady = by left
+  ran_kept u s m (Some o) looked h steady = elim left [
+    | inl e ↦ omega (arith, e)
+    | inr e ↦ subst (λ k. held_in k ≤ l.item) (sym e) (led_kept u h.given h.before looked h.ran (subst (λ k. IsSteady k looked) e steady))
+  ]
     where
       b : Stood g l u (plain h.given) h.before
       b = led_stood u h.given h.before h.ran
 
       left : NoneOrFirst h.before.scan m.scan
       left = subst (KeptBehind h.before.scan) h.left (takes_kept h.before.scan 3 h.before o b.sane b.fine (λ e. inr refl))
-
-      by : (held_in m.scan ≡ 0) ⊎ (m.scan ≡ h.before.scan) → held_in m.scan ≤ l.item
-      by (inl e) = omega (arith, e)
-      by (inr e) = subst (λ k. held_in k ≤ l.item) (sym e) (led_kept u h.given h.before looked h.ran (subst (λ k. IsSteady k looked) e steady))

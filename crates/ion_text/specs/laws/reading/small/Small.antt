@@ -272,11 +272,8 @@ module _ (g : Catalog) (l : Limits) where
   comes_again p s r (Refused n y) e q m z k = tt
 
   idle_colon : (s : Known) (o : ℕ) → is_idle s.mode ≡ true → (y : Lexeme) (t : Known) → feed Place.Top s o ≡ Left y t → y.kind ≡ TokenKind.Mark Mark.Colon
-  idle_colon s o h y t e = by (subst (IdleLeft Place.Top s.used) e (idle_left Place.Top s o h))
-    where
-      by : ((y.kind ≡ TokenKind.Mark Mark.Colon) × (s.used ≤ y.end)) ⊎ ((y.kind ≡ TokenKind.Operator) × (is_sexp Place.Top ≡ true)) → y.kind ≡ TokenKind.Mark Mark.Colon
-      by (inl k) = k.0
-      by (inr k) = absurd (let n : false ≡ true = k.1 in cc)
+  idle_colon s o h y t e =
+      elim (subst (IdleLeft Place.Top s.used) e (idle_left Place.Top s o h)) [ inl k ↦ k.0 | inr k ↦ absurd (let n : false ≡ true = k.1 in cc) ]
 
   -- a value came of an octet, or what is read goes on
   abbrev CameNear : ℕ → ℕ → ℕ → Effect → Type 0

@@ -194,6 +194,24 @@ module _ (g : Catalog) (l : Limits) where
     pub sane : is_sane s.mode ≡ true
     pub fine : Fine s
 
+  -- the same, with what else follows of where no segment does
+  abbrev pub apart_as : (S : Scans) (u : List ℕ) (vs : List Value) (s : Known) (r : Reading) (ahead : List ℕ) (A B : Type 0) → Behind S u vs s r ahead A
+      → (IsLongNow r.now ⊎ A → IsLongNow r.now ⊎ B) → Behind S u vs s r ahead B
+  apart_as S u vs s r ahead A B b f = record {
+    front = b.front;
+    item = b.item;
+    scanned = b.scanned;
+    pieces = b.pieces;
+    stands = b.stands;
+    begins = b.begins;
+    ends = b.ends;
+    deep = b.deep;
+    apart = λ e. f (b.apart e);
+    first = b.first;
+    sane = b.sane;
+    fine = b.fine;
+  }
+
   -- what a turn leads to
   abbrev pub Reads : Scans → List ℕ → List Value → Known → List ℕ → (Reading → Type 0) → Turn → Type 0
   Reads S u vs s ahead A (goes r) = Behind S u vs s r ahead (A r)
@@ -284,11 +302,7 @@ module _ (g : Catalog) (l : Limits) where
   module _ (S : Scans) (u : List ℕ) (vs : List Value) (s : Known) (r : Reading) (ahead : List ℕ) (A : Type 0) (b : Behind S u vs s r ahead A) (x : Lexeme)
       (alone : A → NotLong (is_top r.frames) x) where
     not_segment : ends_long (b.front ++ b.item) ≡ true → IsLongNow r.now ⊎ NotLong (is_top r.frames) x
-    not_segment e = go (b.apart e)
-      where
-        go : IsLongNow r.now ⊎ A → IsLongNow r.now ⊎ NotLong (is_top r.frames) x
-        go (inl h) = inl h
-        go (inr h) = inr (alone h)
+    not_segment e = elim (b.apart e) [ inl h ↦ inl h | inr h ↦ inr (alone h) ]
 
     -- a segment doesn't stand where a value may come behind one
     ready_apart : (fs : List Frame) (ss : Symbols) (now : Now) (d : NowStands r.context fs ss b.item now)
@@ -309,8 +323,7 @@ module _ (g : Catalog) (l : Limits) where
     ready_apart fs ss _ d h c = tt
 
     segment_part : IsLongNow r.now ⊎ NotLong (is_top r.frames) x → IsLongNow r.now ⊎ (is_segment x.kind ≡ false)
-    segment_part (inl h) = inl h
-    segment_part (inr h) = inr h.0
+    segment_part h = elim h [ inl k ↦ inl k | inr k ↦ inr k.0 ]
 
     first_more : (item : List Placed) → b.item ≡ item → (ends_long b.front && begins_as_long (item ++ placed (place r) x ∷ [])) ≡ false
     first_more (t ∷ ts) e = ap (λ y. ends_long b.front && begins_as_long y) (sym e) ∙ b.first
@@ -393,11 +406,6 @@ module _ (g : Catalog) (l : Limits) where
         some now' e n [] f = tt
         some now' e n (t ∷ ts) f = subst (λ x. IsFirst x start) f b.begins
 
-        by : IsLongNow now ⊎ NoSegment (is_top fs) (feed (place_in fs now) s o) → (IsLongNow now → NoSegment (is_top fs) (feed (place_in fs now) s o))
-            → NoSegment (is_top fs) (feed (place_in fs now) s o)
-        by (inl h) f = f h
-        by (inr h) f = h
-
         waited : (IsLongNow now → NoSegment (is_top fs) (feed (place_in fs now) s o)) → (d : NowStands c fs ss b.item now)
             → Reads S u vs s ahead (λ n. ApartAt o s n) (settle g l (at start c fs ss now))
         waited f d =
@@ -409,7 +417,7 @@ module _ (g : Catalog) (l : Limits) where
             (λ n e. subst (λ q. S q s u (b.front ++ b.item) ahead) (sym e.0) b.scanned) (settle g l (at start c fs ss now))
             (settle_same g l start c fs ss now))
             (map_turn (λ n. (place n ≡ place_in fs now) × (is_top n.frames ≡ is_top fs)) (λ n. ends_long (b.front ++ b.item) ≡ true → IsLongNow n.now
-            ⊎ ApartAt o s n) (λ n e k. inr (same_apart n (place_in fs now) (is_top fs) (feed (place_in fs now) s o) e.0 e.1 refl (by (b.apart k) f)))
+            ⊎ ApartAt o s n) (λ n e k. inr (same_apart n (place_in fs now) (is_top fs) (feed (place_in fs now) s o) e.0 e.1 refl (elim (b.apart k) [ inl h ↦ f h | inr h ↦ h ])))
             (settle g l (at start c fs ss now)) (settle_same g l start c fs ss now))
             b.first b.sane b.fine
           where
@@ -425,32 +433,13 @@ module _ (g : Catalog) (l : Limits) where
         go (Now.LongName v) e = waited (λ k. name_apart (is_top fs) (feed (place_in fs now) s o)
             (name_inside fs (subst (λ m. NowStands c fs ss b.item m) e b.stands).struct) (ap (λ m. waits_now (is_top fs) m (feed (place_in fs now) s o)) (sym e)
             ∙ w)) b.stands
-        go Now.Ready e = subst (λ m. Reads S u vs s ahead (λ n. ApartAt o s n) (settle g l (at start c fs ss m))) (sym e)
-            (subst (λ m. Behind S u vs s (at start c fs ss m) ahead (ApartAt o s (at start c fs ss m))) e b)
-        go Now.After e = subst (λ m. Reads S u vs s ahead (λ n. ApartAt o s n) (settle g l (at start c fs ss m))) (sym e)
-            (subst (λ m. Behind S u vs s (at start c fs ss m) ahead (ApartAt o s (at start c fs ss m))) e b)
-        go Now.Name e = subst (λ m. Reads S u vs s ahead (λ n. ApartAt o s n) (settle g l (at start c fs ss m))) (sym e)
-            (subst (λ m. Behind S u vs s (at start c fs ss m) ahead (ApartAt o s (at start c fs ss m))) e b)
-        go (Now.Keyed k) e = subst (λ m. Reads S u vs s ahead (λ n. ApartAt o s n) (settle g l (at start c fs ss m))) (sym e)
+        go _ e = subst (λ m. Reads S u vs s ahead (λ n. ApartAt o s n) (settle g l (at start c fs ss m))) (sym e)
             (subst (λ m. Behind S u vs s (at start c fs ss m) ahead (ApartAt o s (at start c fs ss m))) e b)
 
   -- What waited is settled by the end.
   module _ (S : Scans) (u : List ℕ) (vs : List Value) (s : Known) (ahead : List ℕ) (A : Type 0) where
     anywhere : (r : Reading) → Behind S u vs s r ahead A → Behind S u vs s r ahead (Unit {0})
-    anywhere r b = record {
-      front = b.front;
-      item = b.item;
-      scanned = b.scanned;
-      pieces = b.pieces;
-      stands = b.stands;
-      begins = b.begins;
-      ends = b.ends;
-      deep = b.deep;
-      apart = λ e. inr tt;
-      first = b.first;
-      sane = b.sane;
-      fine = b.fine;
-    }
+    anywhere r b = apart_as S u vs s r ahead A (Unit {0}) b (λ h. inr tt)
 
     -- where what waited is settled by the end, what the reader holds stands for the octets still
     pub settled_end : (r : Reading) → Behind S u vs s r ahead A → Reads S u vs s ahead (λ n. Unit {0}) (settle g l r)

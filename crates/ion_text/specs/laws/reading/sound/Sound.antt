@@ -1,7 +1,7 @@
 -- What the reader of tokens holds stands for the tokens of the open item, and what it gives they mean.
 use Rattle.std.proofs.Common.{◌≡◌, ℕ, ◌+◌, ◌≤◌, arith, nat_le, nat_lt, List, [], ◌∷◌, ◌++◌, length, Bool, true, false, Result, Ok, Err, Option, Some, refl, ap, sym, ◌∙◌, subst, append_assoc, append-nil, if◌then◌else◌, ◌⊎◌, inl, inr, ◌&&◌}
 use Rattle.std.proofs.lemmas.Bool.{and_right, cond_both, leb-true}
-use Rattle.ion_text.specs.Names.{Blob, Bracket, Catalog, Clob, Content, Field, Frame, Held, Id, IsName, IsScalar, Limits, Listing, Long, Mark, Mark', Means, Members, Now, Number, Number', Operator, Payload, Place, Placed, Plain, Quoted, Reason, Says, Segments, Short, Slot, Symbols, Turn, TypedNull, Value, Word, annotated, at, begins_long, begun_at, beyond_depth, by_long, by_short, by_symbol, close_mark, close_place, closed, comma, depth, element, ended, field, field_comma, first_now, fresh, gives, goes, held_payload, held_symbol, held_word, is_blob, is_clob, is_decimal, is_id, is_int, is_keyword, is_list, is_operator, is_short, is_struct, is_table, is_timestamp, is_typed_null, is_version_word, is_word, item, joined, keyed, late, long_at, long_string, means, next, no_element, no_field, no_item, noted, on_after, on_name, on_ready, one_annotation, one_token, open_mark, opened, paid, pending_at, place_in, refuses, released, resolve, resolved, segment, settle, spot_at, system_slots, the_marker, token_of, turn, turned, under, within}
+use Rattle.ion_text.specs.Names.{Blob, Bracket, Catalog, Clob, Content, Field, Frame, Held, Id, IsName, IsScalar, IsSymbol, Limits, Listing, Long, Mark, Mark', Means, Members, Now, Number, Number', Operator, Payload, Place, Placed, Plain, Quoted, Reason, Says, Segments, Short, Slot, Symbols, Turn, TypedNull, Value, Word, annotated, at, begins_long, begun_at, beyond_depth, by_long, by_short, by_symbol, close_mark, close_place, closed, comma, depth, element, ended, field, field_comma, first_now, fresh, gives, goes, held_payload, held_symbol, held_word, is_blob, is_clob, is_decimal, is_id, is_int, is_keyword, is_list, is_operator, is_short, is_struct, is_table, is_timestamp, is_typed_null, is_version_word, is_word, item, joined, keyed, late, long_at, long_string, means, next, no_element, no_field, no_item, noted, on_after, on_name, on_ready, one_annotation, one_token, open_mark, opened, paid, pending_at, place_in, refuses, released, resolve, resolved, segment, settle, spot_at, system_slots, the_marker, token_of, turn, turned, under, within}
 use Rattle.ion_model.specs.declared.value.Payload.TheVariants as payloads
 use Rattle.ion_text.specs.Grammar.{is_quoted, is_sexp}
 use Rattle.ion_text.specs.laws.reading.Brackets.{Closes, closes_or_not, ends_list, ends_none, ends_sexp, ends_struct}
@@ -375,43 +375,27 @@ module _ (g : Catalog) (l : Limits) where
       close_sounds Bracket.Fields c fs ts t Now.After false start end (λ ss ms fs. refl) dd o i
   after_sounds c fs ts t _ start end dd o i = tt
 
+  -- a symbol is a field's name
+  symbol_sounds : (c : List Slot) (ss : Symbols) (ms : List Field) (fs : List Frame) (ts : List Placed) (t : Placed) (said : Content) (s : Option (List ℕ))
+      (start end : ℕ) → Opened c (Frame.Fields ss ms ∷ fs) ts true → Says Place.Name t said → IsSymbol c said s
+      → Sounds c start end (ts ++ t ∷ []) (goes (keyed start c (Frame.Fields ss ms ∷ fs) s))
+  symbol_sounds c ss ms fs ts t said s start end o i k =
+      inl ((refl, record { before = ts; name = t ∷ []; whole = refl; outer = o; struct = tt; is = by_symbol t said s i k }), refl, tt)
+
   pub name_sounds : (c : List Slot) (ss : Symbols) (ms : List Field) (fs : List Frame) (ts : List Placed) (t : Placed) (said : Content) (start end : ℕ)
       → Deep l.depth (Frame.Fields ss ms ∷ fs) → Opened c (Frame.Fields ss ms ∷ fs) ts true → Says Place.Name t said
       → Sounds c start end (ts ++ t ∷ []) (on_name (under g l) (spot_at end start c) (Frame.Fields ss ms ∷ fs) said)
-  name_sounds c ss ms fs ts t (Word w) start end dd o i = word_name (is_keyword w) refl
-    where
-      word_name : (b : Bool) → is_keyword w ≡ b → Sounds c start end (ts ++ t ∷ [])
-          (if b then late Reason.KeywordAsName (keyed start c (Frame.Fields ss ms ∷ fs) (Some w)) else goes
-          (keyed start c (Frame.Fields ss ms ∷ fs) (Some w)))
-      word_name true k = tt
-      word_name false k = inl (
-        (
-          refl,
-          record {
-            before = ts;
-            name = t ∷ [];
-            whole = refl;
-            outer = o;
-            struct = tt;
-            is =
-                by_symbol t (Word w) (Some w) i (is_word w k);
-          },
-        ),
-        refl,
-        tt,
-      )
+  name_sounds c ss ms fs ts t (Word w) start end dd o i =
+      let k = keyed start c (Frame.Fields ss ms ∷ fs) (Some w) in
+      cond_both (is_keyword w) (late Reason.KeywordAsName k) (goes k) (Sounds c start end (ts ++ t ∷ [])) (λ e. tt)
+      (λ e. symbol_sounds c ss ms fs ts t (Word w) (Some w) start end o i (is_word w e))
   name_sounds c ss ms fs ts t (Id id) start end dd o i = id_name (resolve c id) refl
     where
       id_name : (r : Result (Option (List ℕ)) Reason) → resolve c id ≡ r
           → Sounds c start end (ts ++ t ∷ []) (resolved r (λ s. goes (keyed start c (Frame.Fields ss ms ∷ fs) s)))
-      id_name (Ok s) k = inl (
-        (refl, record { before = ts; name = t ∷ []; whole = refl; outer = o; struct = tt; is = by_symbol t (Id id) s i (is_id id s k) }),
-        refl,
-        tt,
-      )
+      id_name (Ok s) k = symbol_sounds c ss ms fs ts t (Id id) s start end o i (is_id id s k)
       id_name (Err e) k = tt
-  name_sounds c ss ms fs ts t (Quoted w) start end dd o i =
-      inl ((refl, record { before = ts; name = t ∷ []; whole = refl; outer = o; struct = tt; is = by_symbol t (Quoted w) (Some w) i (is_quoted w) }), refl, tt)
+  name_sounds c ss ms fs ts t (Quoted w) start end dd o i = symbol_sounds c ss ms fs ts t (Quoted w) (Some w) start end o i (is_quoted w)
   name_sounds c ss ms fs ts t (Short w) start end dd o i =
       inl ((refl, record { before = ts; name = t ∷ []; whole = refl; outer = o; struct = tt; is = by_short t w i }), refl, tt)
   name_sounds c ss ms fs ts t (Long w) start end dd o i = inl

@@ -1,10 +1,10 @@
 -- Each octet leads from what stands for octets to what stands for those and that one.
-use Rattle.std.proofs.Common.{◌≡◌, ℕ, zero, suc, ◌+◌, nat_le, List, [], ◌∷◌, ◌++◌, Bool, true, false, ◌&&◌, not, Result, Ok, Err, refl, sym, subst, arith, append_assoc, append-nil, if◌then◌else◌, ◌⊎◌, inl, inr}
+use Rattle.std.proofs.Common.{◌≡◌, ℕ, zero, suc, ◌+◌, nat_le, List, [], ◌∷◌, ◌++◌, Bool, true, false, ◌&&◌, not, Result, Ok, Err, refl, sym, subst, arith, append_assoc, append-nil, if◌then◌else◌, inl, inr}
 use Rattle.ion_text.specs.Names.{Catalog, Content, Continues, Effect, Follows, Given, Known, Leading, Left, Lexeme, Limits, Next, Outcome, Pieces, Place, Placed, Reading, Reason, Refusal, Refused, Run, Scanned, Slot, State, Turn, Value, begins, begun, behind_given, behind_left, eats, fails, feed, gives, goes, in_segment, initial, is_idle, is_quoted, is_sane, is_top, late, leaves, noticed, on_octet, on_said, on_scan, on_settled, once_more, or_worse, place, place_in, plain, reaches, refuses, run, run_on, said, said_passes, settle, settle_same, shut, system_slots, takes, tells, token_of, turn, unsettled, uses, waits, with_scan, with_value}
 use Rattle.ion_tokens.specs.machine.Told.{Begun}
 use Rattle.ion_tokens.specs.laws.Follows.{feed_follows}
 use Rattle.ion_tokens.proofs.runs.Scans.{scanned_given, scanned_left, scanned_next}
-use Rattle.ion_text.specs.laws.reading.sound.Held.{ApartAt, Behind, IsLongNow, NoLongText, NoSegment, Reads, nothing_open, open_apart, or_parts, settled_read, token_read}
+use Rattle.ion_text.specs.laws.reading.sound.Held.{ApartAt, Behind, NoLongText, NoSegment, Reads, apart_as, nothing_open, open_apart, or_parts, settled_read, token_read}
 use Rattle.ion_text.specs.laws.reading.sound.Quotes.{Fine, Finely, feed_fine, given_far, left_none}
 
 module _ (g : Catalog) (l : Limits) where
@@ -59,15 +59,11 @@ module _ (g : Catalog) (l : Limits) where
           begins = b.begins;
           ends = b.ends;
           deep = b.deep;
-          apart = λ k. go (b.apart k);
+          apart = λ k. elim (b.apart k) [ inl h ↦ inl h | inr h ↦ inr (subst (λ x. NoSegment (is_top r.frames) x) e h) ];
           first = b.first;
           sane = fo.0;
           fine = fi;
         })
-      where
-        go : IsLongNow r.now ⊎ ApartAt o s r → IsLongNow r.now ⊎ NoLongText s'.mode
-        go (inl h) = inl h
-        go (inr h) = inr (subst (λ x. NoSegment (is_top r.frames) x) e h)
 
     said_after : (r : Result Content Reason) (f : Content → Effect) → ((c : Content) → r ≡ Ok c → After u vs o (f c)) → After u vs o (on_said r f)
     said_after (Ok c) f h = h c refl
@@ -156,24 +152,8 @@ module _ (g : Catalog) (l : Limits) where
 
   unfoldable pub open_at : (u : List ℕ) (vs : List Value) (o : ℕ) (s : Known) (r : Reading) → Behind g l Scanned u vs s r [] (NoLongText s.mode)
       → Behind g l Scanned u vs s r [] (ApartAt o s r)
-  open_at u vs o s r b = record {
-    front = b.front;
-    item = b.item;
-    scanned = b.scanned;
-    pieces = b.pieces;
-    stands = b.stands;
-    begins = b.begins;
-    ends = b.ends;
-    deep = b.deep;
-    apart = λ k. go (b.apart k);
-    first = b.first;
-    sane = b.sane;
-    fine = b.fine;
-  }
-    where
-      go : IsLongNow r.now ⊎ NoLongText s.mode → IsLongNow r.now ⊎ ApartAt o s r
-      go (inl h) = inl h
-      go (inr h) = inr (open_apart (is_top r.frames) (place r) s o b.sane b.fine h)
+  open_at u vs o s r b = apart_as g l Scanned u vs s r [] (NoLongText s.mode) (ApartAt o s r) b
+      (λ k. elim k [ inl h ↦ inl h | inr h ↦ inr (open_apart (is_top r.frames) (place r) s o b.sane b.fine h) ])
 
   -- what stands for octets, between two of them
   abbrev pub Stood : List ℕ → List Value → State → Type 0
