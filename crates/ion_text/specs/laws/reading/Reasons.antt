@@ -7,7 +7,7 @@ use Rattle.ion_tokens.proofs.bounds.Causes.{IsFair, run_fair}
 use Rattle.ion_tokens.proofs.bounds.Fits.{is_octet_reason}
 use Rattle.ion_symtab.specs.Decided.{Decides, IsDecided}
 use Rattle.ion_symtab.specs.laws.Decided.{next_decides, resolve_decides}
-use Rattle.ion_text.specs.laws.reading.Brackets.{Closes, closes_or_not, ends_list, ends_none, ends_sexp, ends_struct}
+use Rattle.ion_text.specs.laws.reading.Brackets.{Closes, bare_each, closes_or_not, ends_list, ends_none, ends_sexp, ends_struct}
 
 abbrev pub TurnDecides : Turn → Type 0
 TurnDecides (refuses e) = IsDecided e
@@ -67,10 +67,6 @@ closed_decides setting spot bracket fs = by bracket fs (closes_or_not bracket fs
     by _ _ (ends_struct ss ms fs) = ended_decides setting spot fs _
     by _ _ (ends_none bracket fs e) = subst TurnDecides (sym (e setting spot)) tt
 
-bare_decides : (ss : Symbols) (t : Turn) → TurnDecides t → TurnDecides (bare_close ss t)
-bare_decides [] t h = h
-bare_decides (s ∷ ss) t h = tt
-
 module _ (g : Catalog) (l : Limits) where
   ready_decides : (spot : Spot) (fs : List Frame) (ss : Symbols) (x : Content) → TurnDecides (on_ready (under g l) spot fs ss x)
   ready_decides spot fs ss (Id id) = resolved_decides (resolve spot.context id) _ (resolve_decides spot.context id) (λ s. tt)
@@ -82,8 +78,8 @@ module _ (g : Catalog) (l : Limits) where
   ready_decides spot fs ss (Mark' Mark.ListOpen) = deeper_decides l.depth fs _ _ tt tt
   ready_decides spot fs ss (Mark' Mark.SexpOpen) = deeper_decides l.depth fs _ _ tt tt
   ready_decides spot fs ss (Mark' Mark.FieldsOpen) = deeper_decides l.depth fs _ _ tt tt
-  ready_decides spot fs ss (Mark' Mark.ListClose) = bare_decides ss _ (closed_decides (under g l) spot Bracket.List fs)
-  ready_decides spot fs ss (Mark' Mark.SexpClose) = bare_decides ss _ (closed_decides (under g l) spot Bracket.Sexp fs)
+  ready_decides spot fs ss (Mark' Mark.ListClose) = bare_each TurnDecides ss _ (closed_decides (under g l) spot Bracket.List fs) tt
+  ready_decides spot fs ss (Mark' Mark.SexpClose) = bare_each TurnDecides ss _ (closed_decides (under g l) spot Bracket.Sexp fs) tt
   ready_decides spot fs ss _ = tt
 
   noted_decides : (start : ℕ) (c : List Slot) (fs : List Frame) (ss : Symbols) (r : Result (Option (List ℕ)) Reason) → Decides r

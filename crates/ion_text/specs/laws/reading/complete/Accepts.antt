@@ -10,11 +10,12 @@ use Rattle.ion_text.specs.laws.reading.complete.Exact.{Exact, Exactly, feed_exac
 use Rattle.ion_text.specs.laws.reading.complete.Found.{finds_met, lexes_finds, lexes_operators}
 use Rattle.ion_text.specs.laws.reading.complete.Fuel.{Leaving, UsedHere, eats_stays, feed_leaves, more_same, twice_fuel}
 use Rattle.ion_text.specs.laws.reading.complete.Going.{Direct, Going, InsideNext, Operators, TopOk, TurnEnds, TurnGoes, closed, closes_kind, gives_top, going_ends, going_said, going_settle, going_turn, inside_end, inside_token, no_operator, stays, top_place}
+pub use Rattle.ion_text.specs.laws.reading.complete.Going.{ready_still}
 use Rattle.ion_text.specs.laws.reading.complete.Meets.{IdleLeft, Meets, at_blank, at_token, end_spans, finely_as, follows_as, goes_on, idle_left, in_blank, is_given, is_left, meets_next}
 use Rattle.ion_text.specs.laws.reading.complete.Pieces.{pieces_read}
 use Rattle.ion_text.specs.laws.reading.complete.Quiet.{Calm, CalmNow, EndedIn, blank_idle, calm_now, calm_ok, ended_at, ended_more, quiet}
 use Rattle.ion_text.specs.laws.reading.complete.Segments.{NotRefused, settles_then, waits_unsettled}
-use Rattle.ion_text.specs.laws.reading.complete.Tokens.{colons_agree, given_agrees, is_long_said, left_agrees, left_colons, left_two, long_goes, next_agrees, quotes_end, quoting_left, segment_agree}
+use Rattle.ion_text.specs.laws.reading.complete.Tokens.{colons_agree, given_agrees, is_long_said, left_agrees, left_colons, left_two, long_goes, next_agrees, quotes_end, quoting_left, segment_agree, two_test}
 use Rattle.ion_text.specs.laws.reading.sound.Admits.{at_end_fine}
 use Rattle.ion_text.specs.laws.reading.sound.Quotes.{Fine, Finely, given_far}
 use Rattle.ion_text.specs.laws.reading.sound.Spans.{IsClose, IsTopNow, Spans, turn_spans}
@@ -242,17 +243,13 @@ module _ (g : Catalog) (l : Limits) where
       by (gives v n) h e = inr (v, with_scan s' n, e.0, refl, e.1, more n e.0 (calm n h) e.2)
       by _ h e = absurd e
 
-  -- where a value may come, settling changes nothing
-  pub ready_still : (r : Reading) → r.now ≡ Now.Ready → settle g l r ≡ goes r
-  ready_still r e = subst (λ n. settle g l (at r.start r.context r.frames r.notes n) ≡ goes (at r.start r.context r.frames r.notes n)) (sym e) refl
-
   -- no colon stands where a value may come
   no_colon : (k : Reading) (t : Placed) (ts : List Placed) (all : List Value) → k.now ≡ Now.Ready → Going g l k (t ∷ ts) all
       → t.lexeme.kind ≡ TokenKind.Mark Mark.Colon → ⊥
   no_colon k t ts all e d i =
       let p = going_said g l k t ts all d in
       let c = mark_said t.lexeme.kind t.lexeme.octets Mark.Colon p.1 i (said_body t.lexeme.kind t.lexeme.octets p.1 p.2) in
-      let d' = going_turn g l k t ts all p.1 d p.2 (inr (ready_still k e)) in
+      let d' = going_turn g l k t ts all p.1 d p.2 (inr (ready_still g l k e)) in
       subst (λ n. TurnGoes g l (turn_now (under g l) k (token_at t.lexeme.start t.lexeme.end (Mark' Mark.Colon)) n) ts all) e
       (subst (λ y. TurnGoes g l (turn g l k (token_of t.lexeme y)) ts all) c d')
 
@@ -364,7 +361,7 @@ module _ (g : Catalog) (l : Limits) where
                 let ready = fresh_top n h.2 in
                 with_streamed v to (once_more to next (eats g l (with_scan s' n) o)) i.0 rest
                 (subst (λ z. Streamed z i.0) (sym (more_same g l to (λ n. eats g l n o) next (eats g l (with_scan s' n) o)
-                (eats_stays g l n s' o (ready_still n ready) (used n h (place n)))))
+                (eats_stays g l n s' o (ready_still g l n ready) (used n h (place n)))))
                 (more n i.0 (λ j. subst (λ z. CalmNow z s'.mode × EndedIn s'.used z) (sym ready) (tt, tt)) i.2)) i.1
             by _ h i = absurd i
 
@@ -403,7 +400,7 @@ module _ (g : Catalog) (l : Limits) where
 
             never : (n : Now) → r.now ≡ n → ⊥
             never n x = never_gives n x top w (subst (λ z. TurnGoes g l z (t ∷ ts) all) (sym i) y) (subst (λ z. CalmNow z s.mode) x (calm top).0)
-                (λ z. let q : goes r ≡ gives v k = sym (ready_still r (x ∙ z)) ∙ i in cc)
+                (λ z. let q : goes r ≡ gives v k = sym (ready_still g l r (x ∙ z)) ∙ i in cc)
         settled _ i w a b c y = absurd y
 
         waited : (n : Now) → r.now ≡ n → waits_now (is_top r.frames) n (Left t.lexeme s') ≡ true → TurnGoes g l (turn g l r (token_of t.lexeme p.1)) ts all → ⊥
@@ -427,7 +424,7 @@ module _ (g : Catalog) (l : Limits) where
       → (last : Option Value) × (end_turned g l used x ≡ Ok last) × (all ≡ option_to_list last)
   turned_ends used all (goes n) top c start end s d = settled_ends used all (settle g l n) (going_ends g l n all d)
   turned_ends used all (gives v n) top c start end s d =
-      let e = subst (λ y. TurnEnds g l y d.0) (ready_still n (fresh_top n s.2)) (going_ends g l n d.0 d.2) in
+      let e = subst (λ y. TurnEnds g l y d.0) (ready_still g l n (fresh_top n s.2)) (going_ends g l n d.0 d.2) in
       (Some v, refl, d.1 ∙ ap (λ x. v ∷ x) e.1)
   turned_ends used all _ top c start end s d = absurd d
 
@@ -454,31 +451,24 @@ module _ (g : Catalog) (l : Limits) where
     ok_here : TopOk g l r
     ok_here = calm_ok g l s r calm
 
+    -- where no token was open, a last token ends what waits, and is refused
+    none_idle : is_idle s.mode ≡ true → (t.lexeme.kind ≡ TokenKind.Mark Mark.Colon → continues r (token_of t.lexeme said_here.1) ≡ false) → ⊥
+    none_idle i shut = elim ((at_end_fine t.place s t.lexeme e).4 i) [
+      | inl k ↦ settled_colon r t [] all top_here ok_here (going_settle g l r t [] all said_here.1 d said_here.2 (shut k)) k
+      | inr k ↦ no_operator g l r t top_here said_here.0 ops.0 k
+    ]
+
     -- nothing that waits is followed by a last token
     no_waiting : (n : Now) → r.now ≡ n → CalmNow n s.mode → n ≡ Now.Ready
     no_waiting Now.Ready x c = refl
-    no_waiting (Now.Pending h y) x c = absurd (by ((at_end_fine t.place s t.lexeme e).4 c))
-      where
-        by : (t.lexeme.kind ≡ TokenKind.Mark Mark.Colon) ⊎ (t.lexeme.kind ≡ TokenKind.Operator) → ⊥
-        by (inl k) =
-            let shut : continues r (token_of t.lexeme said_here.1) ≡ false = ap (λ z. continues_now (is_top r.frames) z (token_of t.lexeme said_here.1)) x
-            ∙ (sym (colons_agree (is_top r.frames) h y t.lexeme.start t.lexeme.end t.lexeme.kind t.lexeme.octets said_here.1 body_here)
-            ∙ ap is_colons k) in
-            settled_colon r t [] all top_here ok_here (going_settle g l r t [] all said_here.1 d said_here.2 shut) k
-        by (inr k) = no_operator g l r t top_here said_here.0 ops.0 k
+    no_waiting (Now.Pending h y) x c = absurd (none_idle c (λ k. ap (λ z. continues_now (is_top r.frames) z (token_of t.lexeme said_here.1)) x
+        ∙ (sym (colons_agree (is_top r.frames) h y t.lexeme.start t.lexeme.end t.lexeme.kind t.lexeme.octets said_here.1 body_here) ∙ ap is_colons k)))
     no_waiting (Now.Long w y) x c = absurd (mode (is_idle s.mode) refl)
       where
         long : continues r (token_of t.lexeme said_here.1) ≡ (is_segment t.lexeme.kind ||
             (is_top r.frames && is_two_quotes t.lexeme.kind t.lexeme.start t.lexeme.end))
         long = ap (λ z. continues_now (is_top r.frames) z (token_of t.lexeme said_here.1)) x
             ∙ long_goes (is_top r.frames) w y t.lexeme.start t.lexeme.end t.lexeme.kind t.lexeme.octets said_here.1 body_here
-
-        by : (t.lexeme.kind ≡ TokenKind.Mark Mark.Colon) ⊎ (t.lexeme.kind ≡ TokenKind.Operator) → ⊥
-        by (inl k) =
-            let shut : continues r (token_of t.lexeme said_here.1) ≡ false =
-            long ∙ (ap (λ z. is_segment z || (is_top r.frames && is_two_quotes z t.lexeme.start t.lexeme.end)) k ∙ and_right (is_top r.frames) false refl) in
-            settled_colon r t [] all top_here ok_here (going_settle g l r t [] all said_here.1 d said_here.2 shut) k
-        by (inr k) = no_operator g l r t top_here said_here.0 ops.0 k
 
         quoted : is_quoting s.mode ≡ true → ⊥
         quoted q =
@@ -493,13 +483,11 @@ module _ (g : Catalog) (l : Limits) where
           where
             ended : (t.lexeme.start ≡ start_of s.mode s.start s.used) × (t.lexeme.end ≡ s.used) → (s.used ≡ start_of s.mode s.start s.used + 2)
                 → (t.lexeme.end == t.lexeme.start + 2) ≡ true
-            ended h k = test t.lexeme.start t.lexeme.end (omega (arith, h.0, h.1, k))
-              where
-                test : (a b : ℕ) → b ≡ a + 2 → (b == a + 2) ≡ true
-                test a b h = grind (arith, nat_tests)
+            ended h k = two_test t.lexeme.start t.lexeme.end (omega (arith, h.0, h.1, k))
 
         mode : (b : Bool) → is_idle s.mode ≡ b → ⊥
-        mode true i = by ((at_end_fine t.place s t.lexeme e).4 i)
+        mode true i = none_idle i (λ k. long ∙ (ap (λ z. is_segment z || (is_top r.frames && is_two_quotes z t.lexeme.start t.lexeme.end)) k
+            ∙ and_right (is_top r.frames) false refl))
         mode false i = quoted (sym (ap (λ b. b || is_quoting s.mode) i) ∙ c)
     no_waiting _ x c = absurd c
 
@@ -510,7 +498,7 @@ module _ (g : Catalog) (l : Limits) where
     token_ends =
         let h = turned_ends s.used all (turn g l r (token_of t.lexeme said_here.1)) (is_top r.frames) said_here.1
         (start_now r.now r.start t.lexeme.start r.frames r.notes) t.lexeme.end (turn_spans g l r (token_of t.lexeme said_here.1) ok_here)
-        (going_turn g l r t [] all said_here.1 d said_here.2 (inr (ready_still r ready_here))) in (
+        (going_turn g l r t [] all said_here.1 d said_here.2 (inr (ready_still g l r ready_here))) in (
           h.0,
           ap (λ n. end_now g l s.used r (at_end (place r) s) n) ready_here
               ∙ (ap (end_ready g l s.used r) ends_here ∙ (ap (end_said g l s.used r t.lexeme) said_here.2 ∙ h.1)),
@@ -537,7 +525,7 @@ module _ (g : Catalog) (l : Limits) where
       by (Now.Long w y) x c = let z = settled_ends s.used all (settle g l r) (going_ends g l r all d) in
           (z.0, ap (λ n. end_now g l s.used r (at_end (place r) s) n) x ∙ (ap (λ w. end_waiting g l s.used w (settle g l r)) here ∙ z.1), z.2)
       by Now.Ready x c =
-          let z = subst (λ y. TurnEnds g l y all) (ready_still r x) (going_ends g l r all d) in (
+          let z = subst (λ y. TurnEnds g l y all) (ready_still g l r x) (going_ends g l r all d) in (
             None,
             ap (λ n. end_now g l s.used r (at_end (place r) s) n) x
                 ∙ (ap (end_ready g l s.used r) here ∙ ap (λ b. if b then Ok None else cut_short s.used) (ap is_fresh z.0.1)),
@@ -551,7 +539,7 @@ module _ (g : Catalog) (l : Limits) where
   blank_settled r s all ok d i w = by r.now refl (ok (nothing_top r all d))
     where
       by : (n : Now) → r.now ≡ n → IsTopNow n → TurnGoes g l (settle g l r) [] all
-      by Now.Ready x k = subst (λ t. TurnGoes g l t [] all) (sym (ready_still r x)) d
+      by Now.Ready x k = subst (λ t. TurnGoes g l t [] all) (sym (ready_still g l r x)) d
       by (Now.Pending h y) x k = absurd (let n : true ≡ false = sym i ∙ (sym (ap (λ z. waits_now (is_top r.frames) z (Next s)) x) ∙ w) in cc)
       by (Now.Long v y) x k = absurd (let n : true ≡ false = sym (ap (λ b. b || is_quoting s.mode) i)
           ∙ (sym (ap (λ z. waits_now (is_top r.frames) z (Next s)) x) ∙ w) in cc)

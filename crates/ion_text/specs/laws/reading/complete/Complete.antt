@@ -101,14 +101,14 @@ word_token TokenKind.LongString octets w h = absurd (let e : Word w ≡ Long oct
 word_token _ octets w h = absurd cc
 
 -- an unannotated word of the form of a marker is held as one, and nothing else
-abbrev not_version : Held → Bool
-not_version (Held.Version ours s) = false
-not_version _ = true
+abbrev pub is_unmarked : Held → Bool
+is_unmarked (Held.Version ours s) = false
+is_unmarked _ = true
 
-word_not_version : (w : List ℕ) → is_version w ≡ false → not_version (held_word w) ≡ true
+word_not_version : (w : List ℕ) → is_version w ≡ false → is_unmarked (held_word w) ≡ true
 word_not_version w h = go (bytes_eq w (codes "null")) (bytes_eq w (codes "true")) (bytes_eq w (codes "false")) (bytes_eq w (codes "nan")) (is_version w) h
   where
-    go : (a b c d e : Bool) → e ≡ false → not_version (if a then Held.Null Kind.Null else
+    go : (a b c d e : Bool) → e ≡ false → is_unmarked (if a then Held.Null Kind.Null else
         (if b then Held.Truth true else (if c then Held.Truth false else
         (if d then Held.Nan else (if e then Held.Version (bytes_eq w the_marker) (Some w) else Held.Symbol (Some w)))))) ≡ true
     go false false false false true h = absurd cc
@@ -226,7 +226,7 @@ module _ (g : Catalog) (l : Limits) where
       segments_some _ _ (joined (u ∷ ts) v w t d h) = (u, ts ++ t ∷ [], refl)
 
   -- what was held is taken for a value unless it is a bare word of a marker's form at the top level
-  pub released_paid : (end start : ℕ) (c : List Slot) (fs : List Frame) (ss : Symbols) (h : Held) → (fs ≡ [] → ss ≡ [] → not_version h ≡ true)
+  pub released_paid : (end start : ℕ) (c : List Slot) (fs : List Frame) (ss : Symbols) (h : Held) → (fs ≡ [] → ss ≡ [] → is_unmarked h ≡ true)
       → released (under g l) (spot_at end start c) fs ss h ≡ paid (under g l) (spot_at end start c) fs ss (held_payload h)
   released_paid end start c [] [] (Held.Version b s) n = absurd (let e : false ≡ true = n refl refl in cc)
   released_paid end start c _ _ _ n = refl
@@ -236,7 +236,7 @@ module _ (g : Catalog) (l : Limits) where
       → p ≡ place_in fs Now.Ready → Says p t said
       → on_ready (under g l) (spot_at t.lexeme.end (begun_at start t.lexeme.start fs ss) c) fs ss said
       ≡ goes (at (begun_at start t.lexeme.start fs ss) c fs ss (Now.Pending h t.lexeme.end))
-      → held_payload h ≡ Ok q → (fs ≡ [] → ss ≡ [] → not_version h ≡ true)
+      → held_payload h ≡ Ok q → (fs ≡ [] → ss ≡ [] → is_unmarked h ≡ true)
       → LeadsToTurn c fs (at start c fs ss Now.Ready) (t ∷ [])
       (ended (under g l) (spot_at t.lexeme.end (begun_at start t.lexeme.start fs ss) c) fs (annotated ss q))
   held_leads c p start fs ss t said h q here i w e n =
@@ -247,7 +247,7 @@ module _ (g : Catalog) (l : Limits) where
 
   symbol_not_version : (c : List Slot) (p : Place) (start : ℕ) (fs : List Frame) (ss : Symbols) (t : Placed) (said : Content) (s : Option (List ℕ))
       → Says p t said → (d : IsSymbol c said s) → is_version_word (t ∷ []) ≡ false
-      → not_version (symbol_held t.lexeme.end start c fs ss said s d).held ≡ true
+      → is_unmarked (symbol_held t.lexeme.end start c fs ss said s d).held ≡ true
   unfolding symbol_held
   symbol_not_version c p start fs ss t _ _ h (is_word w k) v = word_not_version w (sym (version_word p t w h) ∙ v)
   symbol_not_version c p start fs ss t _ _ h _ v = refl

@@ -4,7 +4,7 @@ use Rattle.ion_text.specs.Names.{Catalog, Content, Given, IsLexeme, Known, Leadi
 use Rattle.ion_tokens.specs.machine.Told.{Begun}
 use Rattle.ion_tokens.proofs.complete.Found as found
 use Rattle.ion_tokens.proofs.histories.Histories.{behind_front, stands_finds}
-use Rattle.ion_tokens.proofs.runs.Runs.{feed_used}
+use Rattle.ion_tokens.proofs.runs.Runs.{feed_used, given_used, left_used}
 use Rattle.ion_tokens.proofs.runs.Splits.{GivenSplit, LeftSplit, given_split, left_split}
 use Rattle.ion_text.specs.laws.reading.complete.Going.{Going, InsideNext, Operators, TurnGoes, closed, closes_kind, going_said, going_settle, going_turn, inside_end, inside_token, stays, top_place}
 use Rattle.ion_text.specs.laws.reading.complete.Meets.{Meets, at_blank, at_token, goes_on, in_blank, is_given, is_left}
@@ -81,23 +81,13 @@ given_met : (os rest : List ℕ) (s s' : Known) (t : Placed) (ts : List Placed) 
 given_met [] rest s s' t ts e n m = absurd cc
 given_met (o ∷ os) rest s s' t ts e n m = go (feed t.place s o) refl e (λ k f i. given_met os rest k s' t ts f i m)
   where
-    one : (l : Lexeme) → feed t.place s o ≡ Given l s' → s'.used ≡ s.used + 1
-    one l f = by (given_split t.place (o ∷ []) s s' l (ap (λ y. follow y (λ k. Next k)) f))
-      where
-        by : GivenSplit t.place (o ∷ []) s s' l → s'.used ≡ s.used + 1
-        by d = cut d.octets d.rest d.cut d.ran d.used
-          where
-            cut : (xs ys : List ℕ) → o ∷ [] ≡ xs ++ ys → run t.place xs s ≡ Given l s' → s'.used ≡ s.used + length xs → s'.used ≡ s.used + 1
-            cut (y ∷ []) ys c r u = u
-            cut _ ys c r u = absurd cc
-
     go : (x : Outcome) → feed t.place s o ≡ x → follow x (λ k. run t.place os k) ≡ Given t.lexeme s'
         → ((k : Known) → run t.place os k ≡ Given t.lexeme s' → s'.used ≡ k.used + length os → Meets k (os ++ rest) (t ∷ ts))
         → Meets s (o ∷ os ++ rest) (t ∷ ts)
     go (Next k) f h more = goes_on s o (os ++ rest) t ts k f (more k h (let u = feed_used t.place s k o f in omega (arith, u, n)))
     go (Given x k) f h more =
-        let u = one t.lexeme (f ∙ h) in
-        let none : os ≡ [] = no_more os (omega (arith, u, n)) in
+        let u = given_used t.place (o ∷ []) s s' t.lexeme (sym (ap (λ y. follow y (λ k. Next k)) (f ∙ h))) in
+        let none : os ≡ [] = no_more os (omega (arith, u.1, n)) in
         is_given s o (os ++ rest) t ts s' (f ∙ h) (subst (λ y. Meets s' (y ++ rest) ts) (sym none) m)
     go _ f h more = absurd cc
 
@@ -110,22 +100,13 @@ left_met [] x rest s s' t ts e n m = go (feed t.place s x) refl e
     go _ f h = absurd cc
 left_met (o ∷ os) x rest s s' t ts e n m = go (feed t.place s o) refl e (λ k f i. left_met os x rest k s' t ts f i m)
   where
-    one : (l : Lexeme) → feed t.place s o ≡ Left l s' → s'.used ≡ s.used
-    one l f = by (left_split t.place (o ∷ []) s s' l (ap (λ y. follow y (λ k. Next k)) f))
-      where
-        by : LeftSplit t.place (o ∷ []) s s' l → s'.used ≡ s.used
-        by d = cut d.octets d.octet d.rest d.cut d.used
-          where
-            cut : (xs : List ℕ) (y : ℕ) (ys : List ℕ) → o ∷ [] ≡ xs ++ y ∷ ys → s'.used ≡ s.used + length xs → s'.used ≡ s.used
-            cut [] y ys c u = omega (arith, u)
-            cut (z ∷ []) y ys c u = absurd cc
-            cut (z ∷ w ∷ xs) y ys c u = absurd cc
-
     go : (y : Outcome) → feed t.place s o ≡ y → follow y (λ k. run t.place (os ++ x ∷ []) k) ≡ Left t.lexeme s'
         → ((k : Known) → run t.place (os ++ x ∷ []) k ≡ Left t.lexeme s' → s'.used ≡ k.used + length os → Meets k (os ++ x ∷ rest) (t ∷ ts))
         → Meets s (o ∷ os ++ x ∷ rest) (t ∷ ts)
     go (Next k) f h more = goes_on s o (os ++ x ∷ rest) t ts k f (more k h (let u = feed_used t.place s k o f in omega (arith, u, n)))
-    go (Left l k) f h more = let u = one t.lexeme (f ∙ h) in absurd (omega (arith, u, n))
+    go (Left l k) f h more =
+        let u = left_used t.place (o ∷ []) s s' t.lexeme (sym (ap (λ y. follow y (λ k. Next k)) (f ∙ h))) in
+        absurd (omega (arith, u.1, n))
     go _ f h more = absurd cc
 
 module _ (g : Catalog) (l : Limits) where

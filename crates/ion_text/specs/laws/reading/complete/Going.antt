@@ -1,10 +1,10 @@
 -- Tokens that go on to the end of a document, read one by one, and that the reader of octets has no reason to refuse before.
 use Rattle.std.proofs.Common.{◌≡◌, ℕ, ◌+◌, ◌≤◌, List, [], ◌∷◌, ◌++◌, Bool, true, false, Result, Ok, Option, Some, None, refl, ap, sym, ◌∙◌, subst, arith, ◌⊎◌, inl, inr}
 use Rattle.std.proofs.lemmas.Bool.{cond-false}
-use Rattle.ion_text.specs.Names.{Catalog, Content, Frame, Given, IsBody, IsWordBody, Known, Leading, Left, Lexeme, Limits, Long, Mark, Mark', Next, Now, Operator, Place, Placed, Quoted, Reading, Reason, Says, Short, Slot, Symbols, Token, TokenKind, Turn, Value, Walk, Word, adds_values, at, begun_at, continues, done, end_of, feed, first_token, follow, fresh, gives, goes, id_of, in_place, is_fresh, is_idle, is_sexp, is_top, kind_named, late, null_of, on_judged, on_placed, on_turn, place, place_in, reads, refuses, said, said_body, same_is, same_place, settle, settle_same, settle_still, stopped, token_of, turn}
+use Rattle.ion_text.specs.Names.{Catalog, Content, Frame, Given, IsBody, IsWordBody, Known, Leading, Left, Lexeme, Limits, Long, Mark, Mark', Mode, Next, Now, Operator, Place, Placed, Quoted, Reading, Reason, Says, Short, Slot, Symbols, Token, TokenKind, Turn, Value, Walk, Word, adds_values, at, begun_at, continues, done, end_of, feed, first_token, follow, fresh, gives, goes, id_of, in_place, is_fresh, is_idle, is_sexp, is_top, kind_named, late, null_of, on_judged, on_placed, on_turn, place, place_in, reads, refuses, said, said_body, same_is, same_place, settle, settle_same, settle_still, stopped, token_of, turn}
 use Rattle.ion_tokens.proofs.runs.Runs.{feed_used, left_used}
 use Rattle.ion_text.specs.machine.TokenLists.{walked}
-use Rattle.ion_text.specs.laws.reading.complete.Meets.{Meets, at_token, end_spans, finely_as, goes_on, idle_span, is_given, is_left, one_given}
+use Rattle.ion_text.specs.laws.reading.complete.Meets.{Meets, at_blank, at_token, end_spans, finely_as, goes_on, idle_span, is_given, is_left, one_given}
 use Rattle.ion_text.specs.laws.reading.sound.Quotes.{Fine, is_close}
 use Rattle.ion_text.specs.laws.reading.sound.Spans.{IsClose, IsTopNow, IsWaiting, OpenAs, SettlesWithin, Spans, settle_spans, turn_spans}
 use Rattle.ion_text.specs.laws.reading.sound.StandsOpen.{EndsAt, end_of_now, start_now}
@@ -99,6 +99,10 @@ module _ (g : Catalog) (l : Limits) where
           × (said t.lexeme.kind t.lexeme.octets ≡ Ok c)
       go true e (Ok c) f h = (same_is t.place (place r) e, c, f)
       go _ e _ f h = absurd cc
+
+  -- where a value may come, settling changes nothing
+  pub ready_still : (r : Reading) → r.now ≡ Now.Ready → settle g l r ≡ goes r
+  ready_still r e = subst (λ n. settle g l (at r.start r.context r.frames r.notes n) ≡ goes (at r.start r.context r.frames r.notes n)) (sym e) refl
 
   -- what waits goes on with the token, or nothing waits
   abbrev pub Direct : Reading → Token → Type 0
@@ -305,10 +309,8 @@ module _ (g : Catalog) (l : Limits) where
   settled_bound start end fs (goes r) ts all h (inl k) d = absurd (let n : true ≡ false = sym h ∙ k.0 in cc)
   settled_bound start end fs (goes r) ts all h (inr k) d = k.1
   settled_bound start end fs (gives v r) ts all h k d = k.1
-  settled_bound start end fs (refuses e) ts all h k (inl d) = absurd d
-  settled_bound start end fs (refuses e) ts all h k (inr d) = absurd d
-  settled_bound start end fs (late e r) ts all h k (inl d) = absurd d
-  settled_bound start end fs (late e r) ts all h k (inr d) = absurd d
+  settled_bound start end fs _ ts all h k (inl d) = absurd d
+  settled_bound start end fs _ ts all h k (inr d) = absurd d
 
   -- no operator at the top level
   pub no_operator : (r : Reading) (t : Placed) → is_top r.frames ≡ true → t.place ≡ place r → (t.lexeme.kind ≡ TokenKind.Operator → is_sexp t.place ≡ true)
@@ -365,16 +367,13 @@ module _ (g : Catalog) (l : Limits) where
             whole : m ≡ at m.start m.context [] m.notes Now.Ready
             whole = ap (λ x. at m.start m.context x m.notes m.now) k ∙ ap (λ x. at m.start m.context [] m.notes x) e
 
-            none : settle g l m ≡ goes m
-            none = ap (settle g l) whole ∙ ap goes (sym whole)
-
             by : (ts : List Placed) → Meets s os ts → Operators ts → LimitFor ts → EndsPast s.used ts → Going m ts all → end ≤ m.start + l.item
             by [] meets ops rest past d =
-                let x = subst (λ y. TurnEnds y all) none (going_ends m all d) in
+                let x = subst (λ y. TurnEnds y all) (ready_still m e) (going_ends m all d) in
                 absurd (let n : false ≡ true = sym new ∙ ap is_fresh x.0.1 in cc)
             by (t ∷ ts) meets ops rest past d =
                 let p = going_said m t ts all d in
-                let c = rest m all p.1 (λ x. ok) d p.2 (inr none) in
+                let c = rest m all p.1 (λ x. ok) d p.2 (inr (ready_still m e)) in
                 let i : start_now m.now m.start t.lexeme.start m.frames m.notes ≡ m.start =
                 ap (λ (x : Reading). start_now x.now x.start t.lexeme.start x.frames x.notes) whole
                 ∙ noted_start m.start t.lexeme.start m.context m.notes (sym (ap is_fresh whole) ∙ new) in
@@ -392,8 +391,7 @@ module _ (g : Catalog) (l : Limits) where
     -- behind a token
     turn_limit : (r : Reading) (t : Placed) (c : Content) (ts : List Placed) (all : List Value) → t.lexeme.end ≡ end → Meets s os ts → Operators ts
         → LimitFor ts → (is_top r.frames ≡ true → is_idle s.mode ≡ true) → (x : Turn) (start : ℕ) → Spans (is_top r.frames) c l.item start t.lexeme.end x
-        → TurnGoes x ts all
-        → t.lexeme.end ≤ start + l.item
+        → TurnGoes x ts all → t.lexeme.end ≤ start + l.item
     turn_limit r t c ts all same meets ops rest idle (goes m) start (inl (o, from, to)) d = go o
       where
         inside : is_top m.frames ≡ false → t.lexeme.end ≤ start + l.item
@@ -413,37 +411,12 @@ module _ (g : Catalog) (l : Limits) where
 
   -- Each token is within the limit of its item.
   pub limit : (s : Known) (os : List ℕ) (ts : List Placed) → Meets s os ts → Fine s → Operators ts → LimitFor ts
-  limit _ _ _ (at_token s t e) f ops = λ r all c ok d i w. go r all c ok (turn g l r (token_of t.lexeme c)) (turn_spans g l r (token_of t.lexeme c) ok)
+  limit _ _ _ (at_token s t e) f ops =
+      -- behind the last token only blanks could stand
+      let k : Known = record { mode = Mode.Blank; kept = []; colon = false; start = t.lexeme.end; used = t.lexeme.end } in
+      λ r all c ok d i w. turn_limit k [] t.lexeme.end (record { enough = omega arith }) (omega arith) r t c [] all refl (at_blank k refl) tt tt (λ h. refl)
+      (turn g l r (token_of t.lexeme c)) (start_now r.now r.start t.lexeme.start r.frames r.notes) (turn_spans g l r (token_of t.lexeme c) ok)
       (going_turn r t [] all c d i w)
-    where
-      ended : (n : Now) (start : ℕ) (c : List Slot) (ss : Symbols) → IsTopNow n → is_fresh (at start c [] ss n) ≡ false → EndsAt n t.lexeme.end
-          → (all : List Value) → Going (at start c [] ss n) [] all → t.lexeme.end ≤ start + l.item
-      ended (Now.Pending h y) start c ss ok new at' all d = let k =
-          settled_bound start y [] (settle g l (at start c [] ss (Now.Pending h y))) [] all refl (settle_spans g l start c [] ss (Now.Pending h y) 0 tt)
-          (inr (going_ends (at start c [] ss (Now.Pending h y)) all d)) in omega (arith, k, at')
-      ended (Now.Long w y) start c ss ok new at' all d = let k =
-          settled_bound start y [] (settle g l (at start c [] ss (Now.Long w y))) [] all refl (settle_spans g l start c [] ss (Now.Long w y) 0 tt)
-          (inr (going_ends (at start c [] ss (Now.Long w y)) all d)) in omega (arith, k, at')
-      ended Now.Ready start c ss ok new at' all d = let y = going_ends (at start c [] ss Now.Ready) all d in
-          absurd (let n : false ≡ true = sym new ∙ ap is_fresh y.0.1 in cc)
-      ended _ start c ss ok new at' all d = absurd ok
-
-      open' : (m : Reading) (all : List Value) (fs : List Frame) → m.frames ≡ fs → OpenAs true m → EndsAt m.now t.lexeme.end → Going m [] all
-          → t.lexeme.end ≤ m.start + l.item
-      open' m all (y ∷ fs) k o at' d = absurd (inside_end m all (ap is_top k) d)
-      open' m all [] k (inl h) at' d = absurd (inside_end m all h d)
-      open' m all [] k (inr (top, new, ok)) at' d =
-          let same : m ≡ at m.start m.context [] m.notes m.now = ap (λ y. at m.start m.context y m.notes m.now) k in
-          ended m.now m.start m.context m.notes ok (sym (ap is_fresh same) ∙ new) at' all (subst (λ y. Going y [] all) same d)
-
-      go : (r : Reading) (all : List Value) (c : Content) → TopOk r → (y : Turn)
-          → Spans (is_top r.frames) c l.item (start_now r.now r.start t.lexeme.start r.frames r.notes) t.lexeme.end y → TurnGoes y [] all
-          → t.lexeme.end ≤ start_now r.now r.start t.lexeme.start r.frames r.notes + l.item
-      go r all c ok (goes m) (inl (inl h, from, to)) d = absurd (inside_end m all h d)
-      go r all c ok (goes m) (inl (inr (top, new, fine), from, to)) d = let k = open' m all m.frames refl (inr (refl, new, fine)) to d in omega (arith, k, from)
-      go r all c ok (goes m) (inr k) d = k.0
-      go r all c ok (gives v m) k d = k.0
-      go r all c ok _ k d = absurd d
   limit _ _ _ (goes_on s o os t ts s' e m) f ops = limit s' os (t ∷ ts) m (finely_as t.place s o (Next s') f e) ops
   limit _ _ _ (is_given s o os t ts s' e m) f ops =
       let x = finely_as t.place s o (Given t.lexeme s') f e in

@@ -1,9 +1,9 @@
 -- In octets that are a document the reader of octets finds no reason to refuse before a token has ended.
 use Rattle.std.proofs.Common.{◌≡◌, ℕ, ◌+◌, ◌-◌, ◌≤◌, ◌==◌, List, [], ◌∷◌, Bool, true, false, ◌&&◌, ◌||◌, not, Ok, Option, Some, None, refl, ap, sym, ◌∙◌, subst, arith, if◌then◌else◌, ◌⊎◌, inl, inr}
-use Rattle.std.proofs.lemmas.Bool.{both_ways, cond-false, cond-true, le-leb, true_from_ne_false}
+use Rattle.std.proofs.lemmas.Bool.{and_parts, both_ways, cond-false, cond-true, false_from_ne_true, le-leb, not-true, true_from_ne_false}
 use Rattle.ion_text.specs.Names.{Catalog, Content, Frame, Held, IsBody, Known, Limits, Long, Mark, Mark', Mode, Next, Now, Place, Placed, Reading, Reason, Slot, Style, Symbols, TokenKind, Value, at, begun_in, behind, continues, form_of, goes, is_closing, is_fresh, is_idle, is_long_begun, is_long_form, is_quoting, is_sane, is_top, longest_top, noticed, reaches, refuses, said, said_body, settle, shut, token_at, token_of, turn_now, under, uses, with_scan}
 use Rattle.ion_tokens.proofs.foreseen.Begins.{end_idle}
-use Rattle.ion_text.specs.laws.reading.complete.Going.{Direct, EndsPast, Going, Operators, TopOk, TurnEnds, TurnGoes, going_ends, going_said, going_turn, idle_past, limit, mark_kind, no_operator, top_limit, used_inside}
+use Rattle.ion_text.specs.laws.reading.complete.Going.{Direct, EndsPast, Going, Operators, TopOk, TurnEnds, TurnGoes, going_ends, going_said, going_turn, idle_past, limit, mark_kind, no_operator, ready_still, top_limit, used_inside}
 use Rattle.ion_text.specs.laws.reading.complete.Meets.{Meets, at_blank, begun_closing, begun_span, follows_as, idle_span, in_blank, is_long_text, long_segment, meets_next}
 use Rattle.ion_text.specs.laws.reading.sound.Held.{segment_says}
 use Rattle.ion_text.specs.laws.reading.sound.Quotes.{Fine}
@@ -113,11 +113,8 @@ module _ (g : Catalog) (l : Limits) where
         by c e d (inr n) = subst (λ x. TurnGoes g l x ts all) n d
 
     shut_quiet : (ts : List Placed) → Meets s os ts → Going g l r ts all → (shut r.now && not (is_idle s.mode)) ≡ false
-    shut_quiet ts m d = go (shut r.now) refl (is_idle s.mode) refl
-      where
-        go : (a : Bool) → shut r.now ≡ a → (b : Bool) → is_idle s.mode ≡ b → (a && not b) ≡ false
-        go true e false f = absurd (not_shut ts m d f e)
-        go _ e _ f = refl
+    shut_quiet ts m d = false_from_ne_true (shut r.now && not (is_idle s.mode))
+        (λ h. let p = and_parts (shut r.now) (not (is_idle s.mode)) h in not_shut ts m d (not-true (is_idle s.mode) p.1) p.0)
 
     -- the token that has begun, or comes next
     module _ (t : Placed) (ts : List Placed) (m : Meets s os (t ∷ ts)) (ops : Operators (t ∷ ts)) (d : Going g l r (t ∷ ts) all)
@@ -153,14 +150,11 @@ module _ (g : Catalog) (l : Limits) where
           same : r ≡ at r.start r.context [] [] Now.Ready
           same = ready_same [] [] none a b
 
-          still : settle g l r ≡ goes r
-          still = ap (settle g l) same ∙ ap goes (sym same)
-
           by : (ts : List Placed) → Meets s os ts → Operators ts → Going g l r ts all → s.used - behind s.mode - s.start ≤ l.item
           by [] m ops d = absurd (let n : true ≡ false = sym (blank_idle s os m sane) ∙ i in cc)
           by (t ∷ ts) m ops d =
               let p = going_said g l r t ts all d in
-              let k = within' t ts m ops d top p.1 p.2 (inr still) in
+              let k = within' t ts m ops d top p.1 p.2 (inr (ready_still g l r b)) in
               let x = begun_end t ts m ops d top i in
               let e : start_now r.now r.start t.lexeme.start r.frames r.notes ≡ t.lexeme.start =
               ap (λ (y : Reading). start_now y.now r.start t.lexeme.start y.frames y.notes) same in
@@ -175,24 +169,21 @@ module _ (g : Catalog) (l : Limits) where
           same : r ≡ at r.start r.context [] (n ∷ ns) Now.Ready
           same = ready_same [] (n ∷ ns) none a b
 
-          still : settle g l r ≡ goes r
-          still = ap (settle g l) same ∙ ap goes (sym same)
-
           by : (ts : List Placed) → Meets s os ts → Operators ts → Going g l r ts all → (i : Bool) → is_idle s.mode ≡ i
               → longest_top r.start s.used Now.Ready (n ∷ ns) (if i then None else Some
               (record { start = s.start; end = s.used - behind s.mode; form = form_of s.mode })) (is_long_begun (begun_in s)) ≤ l.item
           by [] m ops d i e =
-              let x = subst (λ y. TurnEnds g l y all) still (going_ends g l r all d) in
+              let x = subst (λ y. TurnEnds g l y all) (ready_still g l r b) (going_ends g l r all d) in
               absurd (let z : false ≡ true = sym (ap is_fresh same) ∙ ap is_fresh x.0.1 in cc)
           by (t ∷ ts) m ops d true e =
               let p = going_said g l r t ts all d in
-              let k = within' t ts m ops d top p.1 p.2 (inr still) in
+              let k = within' t ts m ops d top p.1 p.2 (inr (ready_still g l r b)) in
               let f : start_now r.now r.start t.lexeme.start r.frames r.notes ≡ r.start =
               ap (λ (y : Reading). start_now y.now r.start t.lexeme.start y.frames y.notes) same in
               omega (arith, k, next_end t ts m ops d top e, f)
           by (t ∷ ts) m ops d false e =
               let p = going_said g l r t ts all d in
-              let k = within' t ts m ops d top p.1 p.2 (inr still) in
+              let k = within' t ts m ops d top p.1 p.2 (inr (ready_still g l r b)) in
               let x = begun_end t ts m ops d top e in
               let f : start_now r.now r.start t.lexeme.start r.frames r.notes ≡ r.start =
               ap (λ (y : Reading). start_now y.now r.start t.lexeme.start y.frames y.notes) same in

@@ -1,8 +1,8 @@
 -- Octets that are tokens lead the reader of octets where the tokens lead the reader of tokens.
-use Rattle.std.proofs.Common.{◌≡◌, ℕ, ◌+◌, ◌-◌, ◌==◌, List, Bool, true, false, cond, ◌&&◌, ◌||◌, Ok, Err, Some, refl, ap, sym, ◌∙◌, subst, arith, inl, inr}
-use Rattle.std.proofs.lemmas.Bool.{and_right, or_parts}
+use Rattle.std.proofs.Common.{◌≡◌, ℕ, ◌+◌, ◌-◌, ◌≤◌, ◌==◌, List, Bool, true, false, cond, ◌&&◌, ◌||◌, Ok, Err, Some, refl, ap, sym, ◌∙◌, subst, arith, ◌⊎◌, inl, inr}
+use Rattle.std.proofs.lemmas.Bool.{and_right, or_from, or_parts}
 use Rattle.std.proofs.lemmas.Bool.Decides.{nat_tests}
-use Rattle.ion_text.specs.Names.{Action, Content, Frame, Given, Held, IsBody, Keep, Known, Left, Lexeme, Long, Mark, Mark', Mode, Next, Now, Outcome, Place, Placed, Quoted, Reason, Style, TokenKind, Within, acts, at_end, before, continues_now, end_of, ends_at, feed, in_text, is_closing, is_colons, is_idle, is_quoted, is_quoting, is_sane, is_segment, is_top, is_two_quotes, raw, start_of, token_of, waits_now}
+use Rattle.ion_text.specs.Names.{Action, Content, Frame, Given, Held, IsBody, Keep, Known, Left, Lexeme, Long, Mark, Mark', Mode, Next, Now, Outcome, Place, Placed, Quoted, Reason, Style, TokenKind, Within, acts, at_end, before, continues_now, end_of, ends_at, feed, in_text, is_closing, is_colons, is_idle, is_quoted, is_quoting, is_sane, is_segment, is_sexp, is_top, is_two_quotes, raw, start_of, token_of, waits_now}
 use Rattle.ion_tokens.specs.machine.Table.{next}
 use Rattle.ion_text.specs.laws.reading.complete.Complete.{segment_kind}
 use Rattle.ion_text.specs.laws.reading.complete.Exact.{Exact, exact}
@@ -68,10 +68,6 @@ closing_colons : (k : TokenKind) → is_closing k ≡ false → is_colons k ≡ 
 closing_colons (TokenKind.Mark Mark.Colons) h = absurd cc
 closing_colons _ h = refl
 
-or_false : (a b top : Bool) → a ≡ false → b ≡ false → (a || (top && b)) ≡ false
-or_false a b true h k = ap (λ x. x || b) h ∙ k
-or_false a b false h k = ap (λ x. x || false) h
-
 or_none : (a b top : Bool) → b ≡ false → a ≡ (a || (top && b))
 or_none false b true h = sym h
 or_none _ b _ h = refl
@@ -85,7 +81,8 @@ next_agrees fs (Now.Pending h e) s t c m sane f b w = sym (colons_agree (is_top 
 next_agrees fs (Now.Long v e) s t c m sane f b w =
     let x = begun_apart s t m sane f (or_parts (is_idle s.mode) (is_quoting s.mode) w) in
     long_goes (is_top fs) v e t.lexeme.start t.lexeme.end t.lexeme.kind t.lexeme.octets c b
-    ∙ or_false (is_segment t.lexeme.kind) (is_two_quotes t.lexeme.kind t.lexeme.start t.lexeme.end) (is_top fs) x.0 x.1
+    ∙ or_from (is_segment t.lexeme.kind) (is_top fs && is_two_quotes t.lexeme.kind t.lexeme.start t.lexeme.end) x.0
+    (and_right (is_top fs) (is_two_quotes t.lexeme.kind t.lexeme.start t.lexeme.end) x.1)
 next_agrees fs (Now.LongName v) s t c m sane f b w =
     let x = begun_apart s t m sane f (or_parts (is_idle s.mode) (is_quoting s.mode) w) in
     name_goes (is_top fs) v t.lexeme.start t.lexeme.end t.lexeme.kind t.lexeme.octets c b ∙ x.0
@@ -157,7 +154,7 @@ quoting_left p s s' o x f q h = go s.mode refl q
         (sym (ap (λ m. acts p s o (next p s.colon m o)) e) ∙ h))
     go _ e k = absurd cc
 
-two_test : (a b : ℕ) → b ≡ a + 2 → (b == a + 2) ≡ true
+pub two_test : (a b : ℕ) → b ≡ a + 2 → (b == a + 2) ≡ true
 two_test a b h = grind (arith, nat_tests)
 
 pub empty_two : (s : Known) (x : Lexeme) → IsEmptyQuotes s x → is_two_quotes x.kind x.start x.end ≡ is_quoted x.kind

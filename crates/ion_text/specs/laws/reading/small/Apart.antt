@@ -1,5 +1,6 @@
 -- Between whole pieces with the values before a value and whole pieces with it stand at least as many octets as it has nodes.
 use Rattle.std.proofs.Common.{◌≡◌, ℕ, ◌+◌, ◌≤◌, ◌==◌, ◌&&◌, ◌||◌, Bool, true, false, List, [], ◌∷◌, ◌++◌, length, Ok, refl, sym, ap, ◌∙◌, subst, arith, append_assoc, append-nil, length-append, inl, inr, codes}
+use Rattle.std.proofs.lemmas.Bool.{and_parts, false_from_ne_true, or_cases}
 use Rattle.std.proofs.lemmas.List.{append_cancel_left}
 use Rattle.std.proofs.lemmas.Bool.Decides.{nat_tests}
 use Rattle.ion_text.specs.Names.{BeginsWith, Catalog, Content, IsBody, Leading, LexesTo, Limits, Mark, Mark', Place, Placed, Reading, TokenKind, Turn, Value, Whole, adds_values, begins_as_long, colon_behind, continues, done, ends_long, fresh, gives, goes, initial, is_long, is_sexp, is_two_quotes, late, nodes, on_turn, place, reads, refuses, said, said_body, settle, settle_still, system_slots, token_of, turn}
@@ -158,24 +159,15 @@ module _ (g : Catalog) (l : Limits) (front following : List ℕ) (s : List Value
     two_quotes _ e h = absurd cc
 
     no_long : ends_long w.tokens ≡ true → begins_as_long (y ∷ ys) ≡ true → ⊥
-    no_long h i = by (is_long y) refl
-      where
-        by : (b : Bool) → is_long y ≡ b → ⊥
-        by true e =
-            let j = long_token y.place parts.flag token.token (parts.second).0 y.lexeme.kind y.lexeme.octets token.is (segment_is y.lexeme.kind e) in
-            quotes h j.0 j.1
-        by false e =
-            let two : is_two_quotes y.lexeme.kind y.lexeme.start y.lexeme.end ≡ true =
-            ap (λ b. b || is_two_quotes y.lexeme.kind y.lexeme.start y.lexeme.end) (sym e) ∙ i in
-            quotes h [] (two_quotes y.lexeme.kind refl two)
+    no_long h i = elim (or_cases (is_long y) (is_two_quotes y.lexeme.kind y.lexeme.start y.lexeme.end) i) [
+      | inl e ↦ let j = long_token y.place parts.flag token.token (parts.second).0 y.lexeme.kind y.lexeme.octets token.is (segment_is y.lexeme.kind e) in
+          quotes h j.0 j.1
+      | inr two ↦ quotes h [] (two_quotes y.lexeme.kind refl two)
+    ]
 
     shut : (ends_long w.tokens && begins_as_long (y ∷ ys)) ≡ false
-    shut = by (ends_long w.tokens) refl (begins_as_long (y ∷ ys)) refl
-      where
-        by : (a : Bool) → ends_long w.tokens ≡ a → (b : Bool) → begins_as_long (y ∷ ys) ≡ b → (ends_long w.tokens && begins_as_long (y ∷ ys)) ≡ false
-        by false e b f = ap (λ x. x && begins_as_long (y ∷ ys)) e
-        by true e false f = ap (λ x. x && begins_as_long (y ∷ ys)) e ∙ f
-        by true e true f = absurd (no_long e f)
+    shut = false_from_ne_true (ends_long w.tokens && begins_as_long (y ∷ ys))
+        (λ h. let p = and_parts (ends_long w.tokens) (begins_as_long (y ∷ ys)) h in no_long p.0 p.1)
 
     -- they are read where nothing is open, and give the values behind
     pub goes_behind : (more : List Value) × (all ≡ s ++ more) × Going g l (fresh w.context) (y ∷ ys) more

@@ -7,7 +7,7 @@ use Rattle.ion_text.specs.Names.{Action, End, Given, Keep, Known, Left, Lexeme, 
 use Rattle.ion_tokens.specs.machine.Rows.{infinity_rows}
 use Rattle.ion_tokens.specs.machine.Table.{next}
 use Rattle.ion_tokens.specs.laws.ByRows.{by_mode, by_rows_where}
-use Rattle.ion_text.specs.laws.reading.sound.Quotes.{implies, le_of}
+use Rattle.ion_text.specs.laws.reading.sound.Quotes.{implies, is_left_in, le_of}
 
 -- At least so many octets were used since the open token began: one of its own, and those that may turn out to be no part of it.
 abbrev pub wants : Mode → ℕ
@@ -31,11 +31,6 @@ wants_next _ = 1
 abbrev pub lettered : Mode → Bool
 lettered (Mode.Infinity zero) = false
 lettered _ = true
-
-abbrev is_left_in : Mode → Bool
-is_left_in Mode.Blank = true
-is_left_in Mode.Slash = true
-is_left_in _ = false
 
 -- in an s-expression or not, from a mode that wants n, and at most `more` behind an octet, and in which quotes are open or not
 abbrev length_fits : Bool → ℕ → ℕ → Bool → Action → Bool

@@ -7,7 +7,7 @@ use Rattle.ion_text.specs.Names.{Blob, Bracket, Catalog, Clob, Content, Field, F
 use Rattle.ion_model.specs.declared.value.Payload.TheVariants as payloads
 use Rattle.ion_model.specs.declared.value.Payload.TheViews as views
 use Rattle.ion_model.specs.laws.Measures.{nodes-at-Fields, nodes-at-List, nodes-at-Sexp, nodes-more, nodes-out}
-use Rattle.ion_text.specs.laws.reading.Brackets.{Closes, closes_or_not, ends_list, ends_none, ends_sexp, ends_struct}
+use Rattle.ion_text.specs.laws.reading.Brackets.{Closes, bare_each, closes_or_not, ends_list, ends_none, ends_sexp, ends_struct, resolved_each}
 use Rattle.ion_text.specs.laws.reading.sound.StandsOpen.{start_now}
 
 -- the nodes of what is open so far: of the containers, of the annotations that wait, and of what waits itself
@@ -143,11 +143,6 @@ released_weighs setting spot [] (s ∷ ss) h n top k = paid_weighs setting spot 
 released_weighs setting spot (f ∷ fs) ss h n top k = paid_weighs setting spot (f ∷ fs) ss (held_payload h) n top (held_flat h) k
 released_weighs setting spot [] [] h n top k = paid_weighs setting spot [] [] (held_payload h) n top (held_flat h) k
 
-resolved_weighs : (n item start end : ℕ) (top : Bool) (r : Result (Option (List ℕ)) Reason) (f : Option (List ℕ) → Turn)
-    → ((s : Option (List ℕ)) → Weighs n item start end top (f s)) → Weighs n item start end top (resolved r f)
-resolved_weighs n item start end top (Ok s) f k = k s
-resolved_weighs n item start end top (Err e) f k = tt
-
 deeper_weighs : (n item start end : ℕ) (top : Bool) (depth : ℕ) (fs : List Frame) (t deep : Turn) → Weighs n item start end top t
     → Weighs n item start end top deep → Weighs n item start end top (deeper depth fs t deep)
 deeper_weighs n item start end top depth fs t deep h k =
@@ -163,10 +158,6 @@ closed_weighs setting spot bracket fs n top = by bracket fs (closes_or_not brack
     by _ _ (ends_sexp ss vs fs) h = ended_weighs setting spot fs _ n top (omega (arith, h, nodes-at-Sexp (annotated ss (payloads.Sexp vs)) vs refl))
     by _ _ (ends_struct ss ms fs) h = ended_weighs setting spot fs _ n top (omega (arith, h, nodes-at-Fields (annotated ss (payloads.Fields ms)) ms refl))
     by _ _ (ends_none bracket fs e) h = subst (Weighs n setting.limits.item spot.start spot.end top) (sym (e setting spot)) tt
-
-bare_weighs : (n item start end : ℕ) (top : Bool) (ss : Symbols) (t : Turn) → Weighs n item start end top t → Weighs n item start end top (bare_close ss t)
-bare_weighs n item start end top [] t h = h
-bare_weighs n item start end top (s ∷ ss) t h = tt
 
 -- a token that waits where it stood
 waits_top : (end : ℕ) (fs : List Frame) (h : Held) → TopWaits end (is_top fs) fs (Now.Pending h end)
@@ -189,8 +180,8 @@ module _ (g : Catalog) (l : Limits) where
 
     ready_weighs : (ss : Symbols) (x : Content) → frames_nodes fs + length ss + 1 ≤ n → WeighsHere (on_ready (under g l) spot fs ss x)
     ready_weighs ss (Word w) h = (h, omega arith, waits_top spot.end fs _)
-    ready_weighs ss (Id id) h = resolved_weighs n l.item spot.start spot.end (is_top fs) (resolve spot.context id) _
-        (λ s. (h, omega arith, waits_top spot.end fs _))
+    ready_weighs ss (Id id) h = resolved_each (Weighs n l.item spot.start spot.end (is_top fs)) (resolve spot.context id) _
+        (λ s. (h, omega arith, waits_top spot.end fs _)) (λ e. tt)
     ready_weighs ss (Quoted w) h = (h, omega arith, waits_top spot.end fs _)
     ready_weighs ss (TypedNull k) h = (h, omega arith, waits_top spot.end fs _)
     ready_weighs ss (Long w) h = (h, omega arith, long_top spot.end fs w)
@@ -202,10 +193,10 @@ module _ (g : Catalog) (l : Limits) where
     ready_weighs ss (Mark' Mark.ListOpen) h = deeper_weighs n l.item spot.start spot.end (is_top fs) l.depth fs _ _ (omega (arith, h), omega arith, tt) tt
     ready_weighs ss (Mark' Mark.SexpOpen) h = deeper_weighs n l.item spot.start spot.end (is_top fs) l.depth fs _ _ (omega (arith, h), omega arith, tt) tt
     ready_weighs ss (Mark' Mark.FieldsOpen) h = deeper_weighs n l.item spot.start spot.end (is_top fs) l.depth fs _ _ (omega (arith, h), omega arith, tt) tt
-    ready_weighs ss (Mark' Mark.ListClose) h = bare_weighs n l.item spot.start spot.end (is_top fs) ss _
-        (closed_weighs (under g l) spot Bracket.List fs n (is_top fs) (omega (arith, h)))
-    ready_weighs ss (Mark' Mark.SexpClose) h = bare_weighs n l.item spot.start spot.end (is_top fs) ss _
-        (closed_weighs (under g l) spot Bracket.Sexp fs n (is_top fs) (omega (arith, h)))
+    ready_weighs ss (Mark' Mark.ListClose) h = bare_each (Weighs n l.item spot.start spot.end (is_top fs)) ss _
+        (closed_weighs (under g l) spot Bracket.List fs n (is_top fs) (omega (arith, h))) tt
+    ready_weighs ss (Mark' Mark.SexpClose) h = bare_each (Weighs n l.item spot.start spot.end (is_top fs)) ss _
+        (closed_weighs (under g l) spot Bracket.Sexp fs n (is_top fs) (omega (arith, h))) tt
     ready_weighs ss (Mark' _) h = tt
 
     noted_weighs : (ss : Symbols) (r : Result (Option (List ℕ)) Reason) → frames_nodes fs + length ss + 1 ≤ n
@@ -248,8 +239,8 @@ module _ (g : Catalog) (l : Limits) where
         let k = keyed spot.start spot.context fs (Some w) in
         cond_both (is_keyword w) (late Reason.KeywordAsName k) (goes k) (Weighs n l.item spot.start spot.end top) (λ e. tt)
         (λ e. (omega (arith, h), omega arith, name_top fs top (Some w)))
-    name_weighs fs top (Id id) h = resolved_weighs n l.item spot.start spot.end top (resolve spot.context id) _
-        (λ s. (omega (arith, h), omega arith, name_top fs top s))
+    name_weighs fs top (Id id) h = resolved_each (Weighs n l.item spot.start spot.end top) (resolve spot.context id) _
+        (λ s. (omega (arith, h), omega arith, name_top fs top s)) (λ e. tt)
     name_weighs fs top (Quoted w) h = (omega (arith, h), omega arith, name_top fs top (Some w))
     name_weighs fs top (Short w) h = (omega (arith, h), omega arith, name_top fs top (Some w))
     name_weighs fs top (Long w) h = (omega (arith, h), omega arith, text_top fs top w)

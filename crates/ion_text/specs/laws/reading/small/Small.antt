@@ -312,19 +312,27 @@ module _ (g : Catalog) (l : Limits) where
     abbrev AgainNear : (State → Effect) → Type 0
     AgainNear again = (k : State) → Near from k.scan k.reading → k.scan.used ≡ used → CameNear from used o (again k)
 
-    left_came : (again : State → Effect) (t : Known) (turned : Turn) → AgainNear again → TurnNear from t turned → t.used ≡ used
-        → (GivesNone turned ⊎ (is_idle t.mode ≡ true)) → Sized t → CameNear from used o (behind_left again t turned)
-    left_came again t (goes r) f h e i z = f (with_scan t r) h e
-    left_came again t (gives v r) f h e (inl i) z = absurd i
-    left_came again t (gives v r) f h e (inr i) z =
+    -- What gives a value before the octet waited, and the octet ends no token behind it but a colon.
+    abbrev ShowsEnd : Known → Type 0
+    ShowsEnd s = (wants_next s.mode ≡ 1) × ((y : Lexeme) (t : Known) → feed Place.Top s o ≡ Left y t → y.kind ≡ TokenKind.Mark Mark.Colon)
+
+    leaves_came : (s : Known) (r : Reading) (v : Value) → HasSpan l.item from s.used v × (r ≡ fresh r.context) → s.used ≡ used → ShowsEnd s → Sized s
+        → CameNear from used o (leaves v (with_scan s r))
+    leaves_came s r v h e w z =
         let top : place r ≡ Place.Top = ap place h.1 in (
           subst (λ n. HasSpan l.item from n v) e h.0,
           e,
           h.1,
-          subst (λ n. ScannedNear n r (feed (place r) t o)) e (comes_again (place r) t r (feed (place r) t o) h.1 top (idle_next t.mode i)
-              (feed_measured (place r) t o z) (λ y k q. idle_colon t o i y k (ap (λ p. feed p t o) (sym top) ∙ q))),
+          subst (λ n. ScannedNear n r (feed (place r) s o)) e (comes_again (place r) s r (feed (place r) s o) h.1 top w.0 (feed_measured (place r) s o z)
+              (λ y t q. w.1 y t (ap (λ p. feed p s o) (sym top) ∙ q))),
           z,
         )
+
+    left_came : (again : State → Effect) (t : Known) (turned : Turn) → AgainNear again → TurnNear from t turned → t.used ≡ used
+        → (GivesNone turned ⊎ (is_idle t.mode ≡ true)) → Sized t → CameNear from used o (behind_left again t turned)
+    left_came again t (goes r) f h e i z = f (with_scan t r) h e
+    left_came again t (gives v r) f h e (inl i) z = absurd i
+    left_came again t (gives v r) f h e (inr i) z = leaves_came t r v h e (idle_next t.mode i, idle_colon t o i) z
     left_came again t (refuses x) f h e i z = tt
     left_came again t (late x r) f h e i z = worse_came x (again (with_scan t r))
 
@@ -370,10 +378,6 @@ module _ (g : Catalog) (l : Limits) where
         (λ c k. colon_fails again t r x c h.1 (colon_body x.octets c (subst (λ y. IsBody y x.octets (Ok c)) h.0 (said_body x.kind x.octets c k))))
     scan_came p s r again (Refused n y) q e f z h = tt
 
-    -- What gives a value before the octet waited, and the octet ends no token behind it but a colon.
-    abbrev ShowsEnd : Known → Type 0
-    ShowsEnd s = (wants_next s.mode ≡ 1) × ((y : Lexeme) (t : Known) → feed Place.Top s o ≡ Left y t → y.kind ≡ TokenKind.Mark Mark.Colon)
-
     long_shows : (s : Known) → Sized s → long_waits true (feed Place.Top s o) ≡ false → (is_idle s.mode ≡ true) ⊎ (is_quoting s.mode ≡ true) → ShowsEnd s
     long_shows s z w (inl i) = (idle_next s.mode i, idle_colon s o i)
     long_shows s z w (inr q) = (quoting_next s.mode q, λ y t e. absurd (quoted (feed Place.Top s o) (feed_measured Place.Top s o z) w y t e))
@@ -403,15 +407,7 @@ module _ (g : Catalog) (l : Limits) where
         let there = on_place (place_in fs now) (place r) s (sym k.0) z in
         scan_came (place r) s r again x refl e f there (comes_near from s r h x there (λ t q j. i t.mode j))
     settled_came s fs now again (gives v r) e z f h i k (inl w) = absurd w
-    settled_came s fs now again (gives v r) e z f h i k (inr w) =
-        let top : place r ≡ Place.Top = ap place h.1 in (
-          subst (λ n. HasSpan l.item from n v) e h.0,
-          e,
-          h.1,
-          subst (λ n. ScannedNear n r (feed (place r) s o)) e (comes_again (place r) s r (feed (place r) s o) h.1 top w.0 (feed_measured (place r) s o z)
-              (λ y t q. w.1 y t (ap (λ p. feed p s o) (sym top) ∙ q))),
-          z,
-        )
+    settled_came s fs now again (gives v r) e z f h i k (inr w) = leaves_came s r v h e w z
     settled_came s fs now again (refuses x) e z f h i k w = tt
     settled_came s fs now again (late x r) e z f h i k w = worse_came x (on_scan g l again r (feed (place_in fs now) s o))
 

@@ -5,7 +5,7 @@ use Rattle.ion_tokens.proofs.histories.Stepped.{all_since}
 use Rattle.ion_tokens.proofs.runs.Scans.{placed}
 use Rattle.ion_tokens.proofs.sound.Told.{ends_in_blank, ends_in_token}
 use Rattle.ion_text.specs.machine.Run.{ends}
-use Rattle.ion_text.specs.laws.reading.sound.Held.{Behind, NoLongText, Reads, Scans, none_noted, settled_end, token_read}
+use Rattle.ion_text.specs.laws.reading.sound.Held.{Behind, NoLongText, Reads, Scans, behind_as, none_noted, settled_end, token_read}
 use Rattle.ion_text.specs.laws.reading.sound.Quotes.{is_close, left_none}
 use Rattle.ion_text.specs.laws.reading.sound.StandsOpen.{NowStands}
 use Rattle.ion_text.specs.laws.reading.sound.Steps.{Stood, StoodBehind, begun_stood, run_ran}
@@ -123,22 +123,10 @@ module _ (g : Catalog) (l : Limits) where
       ended_behind : at_end (place r) s ≡ Ok None → Behind g l Ended u vs s r [] (NoLongText s.mode)
       ended_behind e =
           let k = all_since (place r) s u (b.front ++ b.item) b.scanned in
-          record {
-            front = b.front;
-            item = b.item;
-            scanned = subst (λ x. Lexes false 0 x (b.front ++ b.item)) (sym b.scanned.cut)
-                (ends_in_blank b.scanned.behind s b.scanned.front (b.front ++ b.item) b.scanned.left b.scanned.since k.0 (place r) b.scanned.told b.scanned.pass
-                k.1 b.scanned.ran e);
-            pieces = b.pieces;
-            stands = b.stands;
-            begins = b.begins;
-            ends = b.ends;
-            deep = b.deep;
-            apart = b.apart;
-            first = b.first;
-            sane = b.sane;
-            fine = b.fine;
-          }
+          behind_as g l Scanned Ended u u vs s s r [] [] (NoLongText s.mode) (NoLongText s.mode) b
+          (subst (λ x. Lexes false 0 x (b.front ++ b.item)) (sym b.scanned.cut)
+          (ends_in_blank b.scanned.behind s b.scanned.front (b.front ++ b.item) b.scanned.left b.scanned.since k.0 (place r) b.scanned.told b.scanned.pass
+          k.1 b.scanned.ran e)) (λ h. h) b.sane b.fine
 
       waiting_accepted : (used : ℕ) (x : Result (Option Lexeme) Reason) (t : Turn) (last : Option Value) → at_end (place r) s ≡ x → settle g l r ≡ t
           → end_waiting g l used x t ≡ Ok last → Accepted last

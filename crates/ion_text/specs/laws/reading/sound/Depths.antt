@@ -5,7 +5,7 @@ use Rattle.ion_text.specs.Names.{Blob, Bracket, Catalog, Clob, Content, Frame, H
 use Rattle.ion_model.specs.declared.value.Payload.TheVariants as payloads
 use Rattle.ion_model.specs.declared.value.Payload.TheViews as views
 use Rattle.ion_model.specs.laws.Measures.{deepest-more, depth-at}
-use Rattle.ion_text.specs.laws.reading.Brackets.{Closes, closes_or_not, ends_list, ends_none, ends_sexp, ends_struct}
+use Rattle.ion_text.specs.laws.reading.Brackets.{Closes, bare_each, closes_or_not, ends_list, ends_none, ends_sexp, ends_struct, resolved_each}
 use Rattle.ion_text.specs.laws.reading.complete.Complete.{depth-list, depth-sexp, depth-struct, depths, field_deepest-more, field_depths}
 
 -- what has come of the open containers stays within so many levels
@@ -106,11 +106,6 @@ released_deep n setting spot [] (s ∷ ss) h d = paid_deep n setting spot [] (s 
 released_deep n setting spot (f ∷ fs) ss h d = paid_deep n setting spot (f ∷ fs) ss h _ refl d
 released_deep n setting spot [] [] h d = paid_deep n setting spot [] [] h _ refl d
 
-resolved_deep : (n : ℕ) (r : Result (Option (List ℕ)) Reason) (f : Option (List ℕ) → Turn) → ((s : Option (List ℕ)) → GoesDeep n (f s))
-    → GoesDeep n (resolved r f)
-resolved_deep n (Ok s) f h = h s
-resolved_deep n (Err e) f h = tt
-
 deeper_deep : (n : ℕ) (fs : List Frame) (t deep : Turn) → (suc (length fs) ≤ n → GoesDeep n t) → GoesDeep n deep → GoesDeep n (deeper n fs t deep)
 deeper_deep n fs t deep h k = cond_both (nat_lt (length fs) n) t deep (GoesDeep n) (λ e. h (ltb-true (length fs) n e)) (λ e. k)
 
@@ -123,14 +118,10 @@ closed_deep n setting spot bracket fs = by bracket fs (closes_or_not bracket fs)
     by _ _ (ends_struct ss ms fs) d = let k = d.0 in let m = depth-struct ss ms in ended_deep n setting spot fs _ d.1 (omega arith)
     by _ _ (ends_none bracket fs e) d = subst (GoesDeep n) (sym (e setting spot)) tt
 
-bare_deep : (n : ℕ) (ss : Symbols) (t : Turn) → GoesDeep n t → GoesDeep n (bare_close ss t)
-bare_deep n [] t h = h
-bare_deep n (s ∷ ss) t h = tt
-
 ready_deep : (setting : Setting) (spot : Spot) (fs : List Frame) (ss : Symbols) (said : Content) → Deep setting.limits.depth fs
     → GoesDeep setting.limits.depth (on_ready setting spot fs ss said)
 ready_deep setting spot fs ss (Word w) d = d
-ready_deep setting spot fs ss (Id id) d = resolved_deep setting.limits.depth (resolve spot.context id) _ (λ s. d)
+ready_deep setting spot fs ss (Id id) d = resolved_each (GoesDeep setting.limits.depth) (resolve spot.context id) _ (λ s. d) (λ e. tt)
 ready_deep setting spot fs ss (Quoted w) d = d
 ready_deep setting spot fs ss (TypedNull k) d = d
 ready_deep setting spot fs ss (Long w) d = d
@@ -142,8 +133,10 @@ ready_deep setting spot fs ss (Blob w) d = flat_deep setting.limits.depth settin
 ready_deep setting spot fs ss (Mark' Mark.ListOpen) d = deeper_deep setting.limits.depth fs _ _ (λ k. (omega arith, d)) tt
 ready_deep setting spot fs ss (Mark' Mark.SexpOpen) d = deeper_deep setting.limits.depth fs _ _ (λ k. (omega arith, d)) tt
 ready_deep setting spot fs ss (Mark' Mark.FieldsOpen) d = deeper_deep setting.limits.depth fs _ _ (λ k. (omega arith, d)) tt
-ready_deep setting spot fs ss (Mark' Mark.ListClose) d = bare_deep setting.limits.depth ss _ (closed_deep setting.limits.depth setting spot Bracket.List fs d)
-ready_deep setting spot fs ss (Mark' Mark.SexpClose) d = bare_deep setting.limits.depth ss _ (closed_deep setting.limits.depth setting spot Bracket.Sexp fs d)
+ready_deep setting spot fs ss (Mark' Mark.ListClose) d = bare_each (GoesDeep setting.limits.depth) ss _
+    (closed_deep setting.limits.depth setting spot Bracket.List fs d) tt
+ready_deep setting spot fs ss (Mark' Mark.SexpClose) d = bare_each (GoesDeep setting.limits.depth) ss _
+    (closed_deep setting.limits.depth setting spot Bracket.Sexp fs d) tt
 ready_deep setting spot fs ss (Mark' _) d = tt
 
 noted_deep : (n start : ℕ) (c : List Slot) (fs : List Frame) (ss : Symbols) (r : Result (Option (List ℕ)) Reason) → Deep n fs
@@ -176,7 +169,7 @@ name_deep n setting spot fs (Word w) d =
     let k = keyed spot.start spot.context fs (Some w) in
     cond_both (is_keyword w) (late Reason.KeywordAsName k) (goes k) (GoesDeep n) (λ e. tt) (λ e. d)
 name_deep n setting spot fs (TypedNull k) d = tt
-name_deep n setting spot fs (Id id) d = resolved_deep n (resolve spot.context id) _ (λ s. d)
+name_deep n setting spot fs (Id id) d = resolved_each (GoesDeep n) (resolve spot.context id) _ (λ s. d) (λ e. tt)
 name_deep n setting spot fs (Quoted w) d = d
 name_deep n setting spot fs (Short w) d = d
 name_deep n setting spot fs (Long w) d = d

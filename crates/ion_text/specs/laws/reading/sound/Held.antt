@@ -194,13 +194,14 @@ module _ (g : Catalog) (l : Limits) where
     pub sane : is_sane s.mode ≡ true
     pub fine : Fine s
 
-  -- the same, with what else follows of where no segment does
-  abbrev pub apart_as : (S : Scans) (u : List ℕ) (vs : List Value) (s : Known) (r : Reading) (ahead : List ℕ) (A B : Type 0) → Behind S u vs s r ahead A
-      → (IsLongNow r.now ⊎ A → IsLongNow r.now ⊎ B) → Behind S u vs s r ahead B
-  apart_as S u vs s r ahead A B b f = record {
+  -- the same of other octets that are scanned to the same tokens
+  abbrev pub behind_as : (S S' : Scans) (u u' : List ℕ) (vs : List Value) (s s' : Known) (r : Reading) (ahead ahead' : List ℕ) (A A' : Type 0)
+      → (b : Behind S u vs s r ahead A) → S' (place r) s' u' (b.front ++ b.item) ahead' → (IsLongNow r.now ⊎ A → IsLongNow r.now ⊎ A')
+      → is_sane s'.mode ≡ true → Fine s' → Behind S' u' vs s' r ahead' A'
+  behind_as S S' u u' vs s s' r ahead ahead' A A' b scanned f sane fine = record {
     front = b.front;
     item = b.item;
-    scanned = b.scanned;
+    scanned = scanned;
     pieces = b.pieces;
     stands = b.stands;
     begins = b.begins;
@@ -208,8 +209,8 @@ module _ (g : Catalog) (l : Limits) where
     deep = b.deep;
     apart = λ e. f (b.apart e);
     first = b.first;
-    sane = b.sane;
-    fine = b.fine;
+    sane = sane;
+    fine = fine;
   }
 
   -- what a turn leads to
@@ -439,7 +440,7 @@ module _ (g : Catalog) (l : Limits) where
   -- What waited is settled by the end.
   module _ (S : Scans) (u : List ℕ) (vs : List Value) (s : Known) (ahead : List ℕ) (A : Type 0) where
     anywhere : (r : Reading) → Behind S u vs s r ahead A → Behind S u vs s r ahead (Unit {0})
-    anywhere r b = apart_as S u vs s r ahead A (Unit {0}) b (λ h. inr tt)
+    anywhere r b = behind_as S S u u vs s s r ahead ahead A (Unit {0}) b b.scanned (λ h. inr tt) b.sane b.fine
 
     -- where what waited is settled by the end, what the reader holds stands for the octets still
     pub settled_end : (r : Reading) → Behind S u vs s r ahead A → Reads S u vs s ahead (λ n. Unit {0}) (settle g l r)

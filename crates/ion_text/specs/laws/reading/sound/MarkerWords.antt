@@ -5,7 +5,7 @@ use Rattle.std.specs.Str.{bytes_eq}
 use Rattle.std.specs.List.{list_all}
 use Rattle.std.proofs.lemmas.Bool.Decides.{nat_tests}
 use Rattle.ion_text.specs.Names.{Annotations, Content, Held, Id, IsBody, IsWordBody, Kind, Long, Place, Placed, Segments, Slot, Symbols, TokenKind, Word, behind_front, held_word, id_of, is_digit, is_version, is_version_word, joined, no_annotation, number_in, one_annotation, segment, the_marker, version_parts}
-use Rattle.ion_text.specs.laws.reading.complete.Complete.{word_token}
+use Rattle.ion_text.specs.laws.reading.complete.Complete.{is_unmarked, word_token}
 
 -- a token that says neither a word nor an id isn't of that kind
 pub other_word : (t : Placed) (said : Content) → ((w : List ℕ) → said ≡ Word w → ⊥) → ((id : ℕ) → said ≡ Id id → ⊥)
@@ -73,11 +73,6 @@ pub noted_no_word : (c : List Slot) (p : Place) (notes us : List Placed) (ss : S
 noted_no_word c p _ us _ no_annotation h = h refl
 noted_no_word c p _ us _ (one_annotation (x ∷ []) rs t colons said s e i j k) h = refl
 noted_no_word c p _ us _ _ h = refl
-
--- what is held is no version marker
-abbrev pub is_unmarked : Held → Bool
-is_unmarked (Held.Version ours s) = false
-is_unmarked _ = true
 
 pub unmarked_word : (w : List ℕ) → is_unmarked (held_word w) ≡ true → is_version w ≡ false
 unmarked_word w h = go (bytes_eq w (codes "null")) (bytes_eq w (codes "true")) (bytes_eq w (codes "false")) (bytes_eq w (codes "nan")) (is_version w) refl refl

@@ -21,7 +21,8 @@ is_close (TokenKind.Mark Mark.SexpClose) = true
 is_close (TokenKind.Mark Mark.FieldsClose) = true
 is_close _ = false
 
-abbrev is_left_in : Mode → Bool
+-- behind what is left nothing is open but a slash
+abbrev pub is_left_in : Mode → Bool
 is_left_in Mode.Blank = true
 is_left_in Mode.Slash = true
 is_left_in _ = false

@@ -5,9 +5,9 @@ use Rattle.ion_text.specs.Names.{Blob, Bracket, Catalog, Clob, Content, Field, F
 use Rattle.ion_model.specs.declared.value.Payload.TheVariants as payloads
 use Rattle.ion_text.specs.Grammar.{is_quoted, is_sexp}
 use Rattle.ion_text.specs.laws.reading.Brackets.{Closes, closes_or_not, ends_list, ends_none, ends_sexp, ends_struct}
-use Rattle.ion_text.specs.laws.reading.complete.Complete.{depth-list, depth-sexp, depth-struct}
+use Rattle.ion_text.specs.laws.reading.complete.Complete.{depth-list, depth-sexp, depth-struct, is_unmarked}
 use Rattle.ion_text.specs.laws.reading.sound.Depths.{Deep, flat_blob, flat_clob, flat_held, flat_number, flat_symbol, flat_text}
-use Rattle.ion_text.specs.laws.reading.sound.MarkerWords.{id_no_word, is_unmarked, more_words, noted_no_word, other_word, segments_no_word, word_no_word}
+use Rattle.ion_text.specs.laws.reading.sound.MarkerWords.{id_no_word, more_words, noted_no_word, other_word, segments_no_word, word_no_word}
 use Rattle.ion_text.specs.laws.reading.sound.StandsOpen.{Around, EndsAt, HoldsWhatIsSaid, IsHeld, Items, LongFor, NameFor, NoSegmentComes, NowStands, Opened, PendingFor, ReadingStands, ReadyFor, Receives, begins_long_more, end_of_now, long_behind, more_around, no_note, not_long, notes_not_long, nothing_noted, opened_around, start_now, symbol_said, symbol_stood, value_place, whole_behind, word_stood}
 
 module _ (g : Catalog) (l : Limits) where

@@ -2,7 +2,7 @@
 use Rattle.std.proofs.Common.{◌≡◌, ℕ, ◌+◌, ◌≤◌, nat_le, nat_lt, List, [], ◌∷◌, ◌++◌, length, Bool, true, false, Result, Ok, Err, Option, Some, refl, sym, subst, if◌then◌else◌, ◌⊎◌, inl, inr}
 use Rattle.std.proofs.lemmas.Bool.{cond_both, leb-true}
 use Rattle.ion_text.specs.Names.{Blob, Bracket, Catalog, Clob, Content, Frame, Held, Id, Limits, Listing, Long, Mark, Mark', Now, Number', Operator, Payload, Quoted, Reading, Reason, Setting, Short, Slot, Spot, Symbols, Token, Turn, TypedNull, Value, Word, at, bare_close, begun_at, close_mark, closed, deeper, ended, fresh, gives, goes, held_payload, held_symbol, held_word, is_fresh, is_keyword, is_table, is_top, keyed, late, named, next, noted, on_after, on_comma, on_keyed, on_long, on_long_name, on_name, on_pending, on_ready, paid, refuses, released, resolve, resolved, settle, spot_at, token_at, turn, turn_now, turned, under, within}
-use Rattle.ion_text.specs.laws.reading.Brackets.{Closes, closes_or_not, ends_list, ends_none, ends_sexp, ends_struct}
+use Rattle.ion_text.specs.laws.reading.Brackets.{Closes, bare_each, closes_or_not, ends_list, ends_none, ends_sexp, ends_struct, resolved_each}
 use Rattle.ion_text.specs.laws.reading.sound.StandsOpen.{EndsAt, end_of_now, start_now}
 
 -- what closes a container
@@ -61,11 +61,6 @@ open_now : (start : ℕ) (c : List Slot) (fs : List Frame) (ss : Symbols) (now :
 open_now start c [] ss now h k = inr (refl, h, k)
 open_now start c (f ∷ fs) ss now h k = inl refl
 
-resolved_spans : (top : Bool) (said : Content) (item start end : ℕ) (r : Result (Option (List ℕ)) Reason) (f : Option (List ℕ) → Turn)
-    → ((s : Option (List ℕ)) → Spans top said item start end (f s)) → Spans top said item start end (resolved r f)
-resolved_spans top said item start end (Ok s) f h = h s
-resolved_spans top said item start end (Err e) f h = tt
-
 deeper_spans : (top : Bool) (said : Content) (item start end depth : ℕ) (fs : List Frame) (t deep : Turn) → Spans top said item start end t
     → Spans top said item start end deep → Spans top said item start end (deeper depth fs t deep)
 deeper_spans top said item start end depth fs t deep h k =
@@ -83,11 +78,6 @@ closed_spans setting spot bracket fs = by bracket fs (closes_or_not bracket fs)
     by _ _ (ends_none bracket fs e) =
         subst (Spans (is_top fs) (Mark' (close_mark bracket)) setting.limits.item spot.start spot.end) (sym (e setting spot)) tt
 
-bare_spans : (top : Bool) (said : Content) (item start end : ℕ) (ss : Symbols) (t : Turn) → Spans top said item start end t
-    → Spans top said item start end (bare_close ss t)
-bare_spans top said item start end [] t h = h
-bare_spans top said item start end (s ∷ ss) t h = tt
-
 some_note : (ss : Symbols) (s : Option (List ℕ)) (start : ℕ) (c : List Slot) → is_fresh (at start c [] (ss ++ s ∷ []) Now.Ready) ≡ false
 some_note [] s start c = refl
 some_note (x ∷ ss) s start c = refl
@@ -97,39 +87,20 @@ any_note [] start c now h = h
 any_note (s ∷ ss) start c now h = refl
 
 module _ (g : Catalog) (l : Limits) where
+  -- what waits in the frames that stay
+  waits_spans : (spot : Spot) (fs : List Frame) (ss : Symbols) (said : Content) (now : Now) → is_fresh (at spot.start spot.context [] [] now) ≡ false
+      → IsTopNow now → EndsAt now spot.end → Spans (is_top fs) said l.item spot.start spot.end (goes (at spot.start spot.context fs ss now))
+  waits_spans spot fs ss said now new top ends =
+      inl (open_now spot.start spot.context fs ss now (any_note ss spot.start spot.context now new) top, refl, ends)
+
   ready_spans : (spot : Spot) (fs : List Frame) (ss : Symbols) (said : Content)
       → Spans (is_top fs) said l.item spot.start spot.end (on_ready (under g l) spot fs ss said)
-  ready_spans spot fs ss (Word w) = inl (
-    open_now spot.start spot.context fs ss (Now.Pending (held_word w) spot.end)
-        (any_note ss spot.start spot.context (Now.Pending (held_word w) spot.end) refl) tt,
-    refl,
-    refl,
-  )
-  ready_spans spot fs ss (Id id) = resolved_spans (is_top fs) (Id id) l.item spot.start spot.end (resolve spot.context id) _
-      (λ s. inl (
-        open_now spot.start spot.context fs ss (Now.Pending (Held.Symbol s) spot.end)
-            (any_note ss spot.start spot.context (Now.Pending (Held.Symbol s) spot.end) refl) tt,
-        refl,
-        refl,
-      ))
-  ready_spans spot fs ss (Quoted w) = inl (
-    open_now spot.start spot.context fs ss (Now.Pending (Held.Symbol (Some w)) spot.end)
-        (any_note ss spot.start spot.context (Now.Pending (Held.Symbol (Some w)) spot.end) refl) tt,
-    refl,
-    refl,
-  )
-  ready_spans spot fs ss (TypedNull k) = inl (
-    open_now spot.start spot.context fs ss (Now.Pending (Held.Null k) spot.end)
-        (any_note ss spot.start spot.context (Now.Pending (Held.Null k) spot.end) refl) tt,
-    refl,
-    refl,
-  )
-  ready_spans spot fs ss (Long w) = inl (
-    open_now spot.start spot.context fs ss (Now.Long w spot.end)
-        (any_note ss spot.start spot.context (Now.Long w spot.end) refl) tt,
-    refl,
-    refl,
-  )
+  ready_spans spot fs ss (Word w) = waits_spans spot fs ss (Word w) (Now.Pending (held_word w) spot.end) refl tt refl
+  ready_spans spot fs ss (Id id) = resolved_each (Spans (is_top fs) (Id id) l.item spot.start spot.end) (resolve spot.context id) _
+      (λ s. waits_spans spot fs ss (Id id) (Now.Pending (Held.Symbol s) spot.end) refl tt refl) (λ e. tt)
+  ready_spans spot fs ss (Quoted w) = waits_spans spot fs ss (Quoted w) (Now.Pending (Held.Symbol (Some w)) spot.end) refl tt refl
+  ready_spans spot fs ss (TypedNull k) = waits_spans spot fs ss (TypedNull k) (Now.Pending (Held.Null k) spot.end) refl tt refl
+  ready_spans spot fs ss (Long w) = waits_spans spot fs ss (Long w) (Now.Long w spot.end) refl tt refl
   ready_spans spot fs ss (Short w) = one_spans (Short w) (under g l) spot fs _
   ready_spans spot fs ss (Number' n) = one_spans (Number' n) (under g l) spot fs _
   ready_spans spot fs ss (Operator w) = one_spans (Operator w) (under g l) spot fs _
@@ -138,8 +109,10 @@ module _ (g : Catalog) (l : Limits) where
   ready_spans spot fs ss (Mark' Mark.ListOpen) = deeper_spans (is_top fs) _ l.item spot.start spot.end l.depth fs _ _ (inl (inl refl, refl, tt)) tt
   ready_spans spot fs ss (Mark' Mark.SexpOpen) = deeper_spans (is_top fs) _ l.item spot.start spot.end l.depth fs _ _ (inl (inl refl, refl, tt)) tt
   ready_spans spot fs ss (Mark' Mark.FieldsOpen) = deeper_spans (is_top fs) _ l.item spot.start spot.end l.depth fs _ _ (inl (inl refl, refl, tt)) tt
-  ready_spans spot fs ss (Mark' Mark.ListClose) = bare_spans (is_top fs) _ l.item spot.start spot.end ss _ (closed_spans (under g l) spot Bracket.List fs)
-  ready_spans spot fs ss (Mark' Mark.SexpClose) = bare_spans (is_top fs) _ l.item spot.start spot.end ss _ (closed_spans (under g l) spot Bracket.Sexp fs)
+  ready_spans spot fs ss (Mark' Mark.ListClose) = bare_each (Spans (is_top fs) (Mark' Mark.ListClose) l.item spot.start spot.end) ss _
+      (closed_spans (under g l) spot Bracket.List fs) tt
+  ready_spans spot fs ss (Mark' Mark.SexpClose) = bare_each (Spans (is_top fs) (Mark' Mark.SexpClose) l.item spot.start spot.end) ss _
+      (closed_spans (under g l) spot Bracket.Sexp fs) tt
   ready_spans spot fs ss (Mark' _) = tt
 
   noted_spans : (spot : Spot) (fs : List Frame) (ss : Symbols) (r : Result (Option (List ℕ)) Reason)
@@ -183,7 +156,8 @@ module _ (g : Catalog) (l : Limits) where
       let k = keyed spot.start spot.context (f ∷ fs) (Some w) in
       cond_both (is_keyword w) (late Reason.KeywordAsName k) (goes k) (Spans false (Word w) l.item spot.start spot.end) (λ e. tt)
       (λ e. keyed_open spot f fs (Word w) (Some w))
-  name_spans spot f fs (Id id) = resolved_spans false (Id id) l.item spot.start spot.end (resolve spot.context id) _ (λ s. keyed_open spot f fs (Id id) s)
+  name_spans spot f fs (Id id) = resolved_each (Spans false (Id id) l.item spot.start spot.end) (resolve spot.context id) _
+      (λ s. keyed_open spot f fs (Id id) s) (λ e. tt)
   name_spans spot f fs (Quoted w) = keyed_open spot f fs (Quoted w) (Some w)
   name_spans spot f fs (Short w) = keyed_open spot f fs (Short w) (Some w)
   name_spans spot f fs (Long w) = inl (inl refl, refl, tt)

@@ -4,7 +4,7 @@ use Rattle.std.proofs.lemmas.Slice.Eq.{bytes_eq-Decides}
 use Rattle.std.specs.Str.{bytes_eq}
 use Rattle.ion_text.specs.Names.{Annotations, Bracket, Content, Elements, Frame, Held, Id, IsBody, IsName, IsScalar, IsSymbol, Kind, Listing, Long, Mark, Mark', Members, Now, Payload, Place, Placed, Quoted, Reading, Row, Says, Segments, Slot, Symbols, TokenKind, TypedNull, Value, Word, begins_long, begun_at, bracket_in, ends_long, held_payload, held_symbol, held_word, is_false, is_long, is_null, is_segment, is_symbol, is_true, is_version, is_version_word, is_word, joined, no_annotation, one_annotation, open_mark, place_in, resolve, the_marker}
 use Rattle.ion_model.specs.declared.value.Payload.TheVariants as payloads
-use Rattle.ion_text.specs.laws.reading.sound.MarkerWords.{is_unmarked}
+use Rattle.ion_text.specs.laws.reading.complete.Complete.{is_unmarked}
 
 -- where a value of the innermost container stands
 abbrev pub value_place : List Frame → Place

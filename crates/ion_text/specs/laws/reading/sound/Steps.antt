@@ -4,7 +4,7 @@ use Rattle.ion_text.specs.Names.{Catalog, Content, Continues, Effect, Follows, G
 use Rattle.ion_tokens.specs.machine.Told.{Begun}
 use Rattle.ion_tokens.specs.laws.Follows.{feed_follows}
 use Rattle.ion_tokens.proofs.runs.Scans.{scanned_given, scanned_left, scanned_next}
-use Rattle.ion_text.specs.laws.reading.sound.Held.{ApartAt, Behind, NoLongText, NoSegment, Reads, apart_as, nothing_open, open_apart, or_parts, settled_read, token_read}
+use Rattle.ion_text.specs.laws.reading.sound.Held.{ApartAt, Behind, NoLongText, NoSegment, Reads, behind_as, nothing_open, open_apart, or_parts, settled_read, token_read}
 use Rattle.ion_text.specs.laws.reading.sound.Quotes.{Fine, Finely, feed_fine, given_far, left_none}
 
 module _ (g : Catalog) (l : Limits) where
@@ -50,20 +50,9 @@ module _ (g : Catalog) (l : Limits) where
     next_after : (s s' : Known) (r : Reading) (ahead : List ℕ) → Continues (o ∷ []) ahead → (b : Behind g l Scanned u vs s r ahead (ApartAt o s r))
         → feed (place r) s o ≡ Next s' → Follows (place r) s.mode (Next s') → Fine s' → After u vs o (noticed l r s')
     next_after s s' r ahead c b e fo fi =
-        noticed_after u vs o r s' (record {
-          front = b.front;
-          item = b.item;
-          scanned = scanned_next (place r) s u (b.front ++ b.item) ahead b.scanned o c s' e;
-          pieces = b.pieces;
-          stands = b.stands;
-          begins = b.begins;
-          ends = b.ends;
-          deep = b.deep;
-          apart = λ k. elim (b.apart k) [ inl h ↦ inl h | inr h ↦ inr (subst (λ x. NoSegment (is_top r.frames) x) e h) ];
-          first = b.first;
-          sane = fo.0;
-          fine = fi;
-        })
+        noticed_after u vs o r s' (behind_as g l Scanned Scanned u (u ++ o ∷ []) vs s s' r ahead [] (ApartAt o s r) (NoLongText s'.mode) b
+        (scanned_next (place r) s u (b.front ++ b.item) ahead b.scanned o c s' e)
+        (λ k. elim k [ inl h ↦ inl h | inr h ↦ inr (subst (λ x. NoSegment (is_top r.frames) x) e h) ]) fo.0 fi)
 
     said_after : (r : Result Content Reason) (f : Content → Effect) → ((c : Content) → r ≡ Ok c → After u vs o (f c)) → After u vs o (on_said r f)
     said_after (Ok c) f h = h c refl
@@ -152,8 +141,8 @@ module _ (g : Catalog) (l : Limits) where
 
   unfoldable pub open_at : (u : List ℕ) (vs : List Value) (o : ℕ) (s : Known) (r : Reading) → Behind g l Scanned u vs s r [] (NoLongText s.mode)
       → Behind g l Scanned u vs s r [] (ApartAt o s r)
-  open_at u vs o s r b = apart_as g l Scanned u vs s r [] (NoLongText s.mode) (ApartAt o s r) b
-      (λ k. elim k [ inl h ↦ inl h | inr h ↦ inr (open_apart (is_top r.frames) (place r) s o b.sane b.fine h) ])
+  open_at u vs o s r b = behind_as g l Scanned Scanned u u vs s s r [] [] (NoLongText s.mode) (ApartAt o s r) b b.scanned
+      (λ k. elim k [ inl h ↦ inl h | inr h ↦ inr (open_apart (is_top r.frames) (place r) s o b.sane b.fine h) ]) b.sane b.fine
 
   -- what stands for octets, between two of them
   abbrev pub Stood : List ℕ → List Value → State → Type 0
