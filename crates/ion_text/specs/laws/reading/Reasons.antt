@@ -2,7 +2,7 @@
 use Rattle.std.proofs.Common.{◌≡◌, ℕ, zero, suc, ◌+◌, nat_le, nat_lt, List, [], ◌∷◌, length, Bool, true, false, cond, ◌&&◌, not, Result, Ok, Err, Option, Some, None, refl, ap, sym, subst, if◌then◌else◌, ◌⊎◌, inl, inr}
 use Rattle.std.specs.Prelude.{◌==◌}
 use Rattle.std.proofs.lemmas.Bool.{cond_both}
-use Rattle.ion_text.specs.Names.{Blob, Bracket, Catalog, Clob, Content, Effect, End, Frame, Given, Held, Id, IsBody, IsWordBody, Keep, Kind, Known, Left, Lexeme, Limits, Listing, Long, Mark, Mark', Mode, Next, Now, Number', Operator, Outcome, Payload, Place, Reading, ReadsNumber, Reason, Refusal, Refused, Run, Setting, Short, Slot, Spot, State, Symbols, Token, TokenKind, Turn, Value, Word, at, at_end, bare_close, begun, begun_at, behind_given, behind_left, closed, cut_short, deeper, eats, end_late, end_now, end_of, end_ready, end_said, end_settled, end_turned, end_waiting, ended, ends_at, ends_of, fails, feed, follow, fresh, gives, goes, held_payload, held_symbol, id_of, is_fresh, is_idle, is_keyword, is_sexp, is_table, keyed, kind_named, late, leaves, lesser, named, next, noted, noticed, null_of, on_after, on_comma, on_keyed, on_long, on_long_name, on_name, on_pending, on_ready, on_said, on_scan, on_settled, once_more, or_worse, paid, place, reaches, reason_number, refused_of, refuses, released, resolve, resolved, run, run_on, said, says, settle, shut, spot_at, spot_in, takes, tells, token_at, token_of, trace, turn, turn_now, turned, under, unsettled, uses, with_scan, within}
+use Rattle.ion_text.specs.Names.{Blob, Bracket, Catalog, Clob, Content, Effect, End, Frame, Given, Held, Id, IsBody, IsWordBody, Keep, Kind, Known, Left, Lexeme, Limits, Listing, Long, Mark, Mark', Mode, Next, Now, Number', Operator, Outcome, Payload, Place, Reading, ReadsNumber, Reason, Refusal, Refused, Run, Setting, Short, Slot, Spot, State, Symbols, Token, TokenKind, Turn, Value, Word, at, at_end, begun, begun_at, behind_given, behind_left, closed, cut_short, deeper, eats, end_late, end_now, end_of, end_ready, end_said, end_settled, end_turned, end_waiting, ended, ends_at, ends_of, fails, feed, follow, fresh, gives, goes, held_payload, held_symbol, id_of, is_fresh, is_idle, is_keyword, is_sexp, is_table, keyed, kind_named, late, leaves, lesser, named, next, noted, noticed, null_of, on_after, on_comma, on_keyed, on_long, on_long_name, on_name, on_pending, on_ready, on_said, on_scan, on_settled, once_more, or_worse, paid, place, reaches, reason_number, refused_of, refuses, released, resolve, resolved, run, run_on, said, says, settle, shut, spot_at, spot_in, takes, tells, token_at, token_of, trace, turn, turn_now, turned, under, unsettled, uses, with_scan, within}
 use Rattle.ion_tokens.proofs.bounds.Causes.{IsFair, run_fair}
 use Rattle.ion_tokens.proofs.bounds.Fits.{is_octet_reason}
 use Rattle.ion_symtab.specs.Decided.{Decides, IsDecided}
@@ -245,13 +245,12 @@ module _ (g : Catalog) (l : Limits) where
 
   takes_decides : (n : ℕ) (m : State) (o : ℕ) → EffectDecides (takes g l n m o)
   takes_decides zero m o = tt
-  takes_decides (suc n) m o = go (unsettled m.scan m.reading (feed (place m.reading) m.scan o)) (λ k. takes_decides n k o)
-    where
-      go : (b : Bool) → ((k : State) → EffectDecides (takes g l n k o))
-          → EffectDecides (if b then on_scan g l (λ k. takes g l n k o) m.reading (feed (place m.reading) m.scan o) else on_settled g l (λ k. takes g l n k o)
-          m.scan (feed (place m.reading) m.scan o) (settle g l m.reading))
-      go true f = scan_decides (λ k. takes g l n k o) (place m.reading) m.scan o m.reading (feed (place m.reading) m.scan o) refl f
-      go false f = settled_decides (λ k. takes g l n k o) (place m.reading) m.scan o (settle g l m.reading) (settle_decides m.reading) f
+  takes_decides (suc n) m o =
+      let x = feed (place m.reading) m.scan o in
+      let again = λ (k : State). takes g l n k o in
+      cond_both (unsettled m.scan m.reading x) (on_scan g l again m.reading x) (on_settled g l again m.scan x (settle g l m.reading)) EffectDecides
+      (λ e. scan_decides again (place m.reading) m.scan o m.reading x refl (λ k. takes_decides n k o))
+      (λ e. settled_decides again (place m.reading) m.scan o (settle g l m.reading) (settle_decides m.reading) (λ k. takes_decides n k o))
 
   -- of runs
   abbrev NowDecides : Result State Refusal → Type 0

@@ -1,7 +1,6 @@
 -- The reader of octets accepts each document, and gives its values.
 use Rattle.std.proofs.Common.{◌≡◌, ℕ, ◌+◌, ◌≤◌, ◌==◌, nat_le, List, [], ◌∷◌, ◌++◌, Bool, true, false, ◌&&◌, ◌||◌, Result, Ok, Err, Option, Some, None, refl, ap, sym, ◌∙◌, subst, arith, option_to_list, if◌then◌else◌, ◌⊎◌, inl, inr}
 use Rattle.std.proofs.lemmas.Bool.{and_right, cond_both, true_from_ne_false}
-use Rattle.std.proofs.lemmas.Bool.Decides.{nat_tests}
 use Rattle.ion_text.specs.Names.{Catalog, Content, Document, Effect, Frame, Given, Held, IsBody, IsLastBlank, Known, Leading, Left, Lexeme, Limits, Long, Mark, Mark', Mode, Next, Now, Outcome, Payload, Place, Placed, Reading, Reason, Run, Slot, Spot, State, Streams, Symbols, TokenKind, Turn, Value, at, at_end, bare, behind_given, behind_left, continues, continues_now, cut_short, eats, end_now, end_of, end_ready, end_said, end_settled, end_turned, end_waiting, ended, ends_of, feed, follow, fresh, gives, goes, held_payload, initial, is_colons, is_fresh, is_idle, is_quoted, is_quoting, is_sane, is_segment, is_table, is_top, is_two_quotes, next as next_slots, on_said, on_scan, on_settled, once_more, paid, place, plain, refuses, released, run, run_on, said, said_body, settle, settle_same, settle_still, spot_at, start_of, system_slots, takes, tells, token_at, token_of, trace, turn, turn_now, turned, under, unsettled, uses, waits, waits_now, with_scan, with_value, within}
 use Rattle.ion_model.specs.declared.value.Payload.TheVariants as payloads
 use Rattle.ion_tokens.proofs.runs.Runs.{feed_used, given_used}

@@ -178,21 +178,23 @@ module _ (g : Catalog) (l : Limits) where
   begun_behind c p start fs _ _ t us (one_annotation ts ss u colons said s d h i j) =
       begun_some _ t.lexeme.start fs ss s ∙ starts_more start fs ts (t ∷ us) u (colons ∷ [])
 
+  -- tokens behind others are read from where these lead
+  pub read_behind : (r n : Reading) (ts us : List Placed) → reads g l r ts ≡ done n → reads g l r (ts ++ us) ≡ reads g l n us
+  read_behind r n ts us e = reads-append g l ts us r ∙ (ap (λ x. then_walk x (λ k. reads g l k us)) e ∙ adds_none g l (reads g l n us))
+
   -- Annotations are read.
   pub notes_read : (c : List Slot) (p : Place) (start : ℕ) (fs : List Frame) (ts : List Placed) (ss : Symbols) → p ≡ place_in fs Now.Ready
       → Annotations c p ts ss → reads g l (at start c fs [] Now.Ready) ts ≡ done (at (starts start fs ts) c fs ss Now.Ready)
   notes_read c p start fs _ _ here no_annotation = refl
   notes_read c p start fs _ _ here (one_annotation ts ss t colons said s d h i j) =
       let w = symbol_held t.lexeme.end (begun_at (starts start fs ts) t.lexeme.start fs ss) c fs ss said s i in
-      reads-append g l ts (t ∷ colons ∷ []) (at start c fs [] Now.Ready)
-      ∙ (ap (λ x. then_walk x (λ k. reads g l k (t ∷ colons ∷ []))) (notes_read c p start fs ts ss here d)
-      ∙ (adds_none g l _
+      read_behind (at start c fs [] Now.Ready) (at (starts start fs ts) c fs ss Now.Ready) ts (t ∷ colons ∷ []) (notes_read c p start fs ts ss here d)
       ∙ (first_token g l p (at (starts start fs ts) c fs ss Now.Ready) t said (colons ∷ []) h here (inr refl)
       ∙ (ap (λ x. on_turn x (λ k. reads g l k (colons ∷ []))) w.waits
       ∙ (first_token g l p (at (begun_at (starts start fs ts) t.lexeme.start fs ss) c fs ss (Now.Pending w.held t.lexeme.end)) colons (Mark' Mark.Colons) [] j
       (here ∙ sym (pending_at fs w.held t.lexeme.end)) (inl refl)
       ∙ (ap (λ x. on_turn (noted (begun_at (starts start fs ts) t.lexeme.start fs ss) c fs ss x) (λ k. reads g l k [])) w.is.0
-      ∙ ap (λ x. done (at x c fs (ss ++ s ∷ []) Now.Ready)) (begun_behind c p start fs ts ss t (colons ∷ []) d)))))))
+      ∙ ap (λ x. done (at x c fs (ss ++ s ∷ []) Now.Ready)) (begun_behind c p start fs ts ss t (colons ∷ []) d)))))
 
   -- The tokens lead to this turn: with the last of them, or once it is known that nothing of what waits goes on.
   pub data LeadsToTurn (c : List Slot) (fs : List Frame) (r : Reading) (ts : List Placed) (t : Turn) : Type 0 where
@@ -208,13 +210,12 @@ module _ (g : Catalog) (l : Limits) where
       → reads g l (at start c fs ss Now.Ready) ts ≡ done (at (begun_at start (first_start 0 ts) fs ss) c fs ss (Now.Long w (end_of 0 ts)))
   segments_read c p start fs ss _ _ here (segment t w h) = first_token g l p (at start c fs ss Now.Ready) t (Long w) [] h here (inr refl)
   segments_read c p start fs ss _ _ here (joined ts v w t d h) =
-      reads-append g l ts (t ∷ []) (at start c fs ss Now.Ready)
-      ∙ (ap (λ x. then_walk x (λ k. reads g l k (t ∷ []))) (segments_read c p start fs ss ts v here d)
-      ∙ (adds_none g l _
+      read_behind (at start c fs ss Now.Ready) (at (begun_at start (first_start 0 ts) fs ss) c fs ss (Now.Long v (end_of 0 ts))) ts (t ∷ [])
+      (segments_read c p start fs ss ts v here d)
       ∙ (first_token g l p (at (begun_at start (first_start 0 ts) fs ss) c fs ss (Now.Long v (end_of 0 ts))) t (Long w) [] h
       (here ∙ sym (long_at fs v (end_of 0 ts))) (inl refl)
       ∙ (ap (λ x. done (at (begun_at start (first_start 0 ts) fs ss) c fs ss (Now.Long (v ++ w) x))) (sym (end_more ts t 0))
-      ∙ ap (λ x. done (at (begun_at start x fs ss) c fs ss (Now.Long (v ++ w) (end_of 0 (ts ++ t ∷ []))))) (first_more ts (segments_some ts v d))))))
+      ∙ ap (λ x. done (at (begun_at start x fs ss) c fs ss (Now.Long (v ++ w) (end_of 0 (ts ++ t ∷ []))))) (first_more ts (segments_some ts v d))))
     where
       first_more : (ts : List Placed) → (first : Placed) × (more : List Placed) × (ts ≡ first ∷ more) → first_start 0 ts ≡ first_start 0 (ts ++ t ∷ [])
       first_more [] h = absurd cc
@@ -270,10 +271,6 @@ module _ (g : Catalog) (l : Limits) where
   end_of_front : (ts us : List Placed) (t : Placed) (d : ℕ) → end_of d (ts ++ t ∷ us) ≡ end_of 0 (t ∷ us)
   end_of_front [] us t d = refl
   end_of_front (x ∷ ts) us t d = end_of_front ts us t x.lexeme.end
-
-  -- tokens behind others are read from where these lead
-  pub read_behind : (r n : Reading) (ts us : List Placed) → reads g l r ts ≡ done n → reads g l r (ts ++ us) ≡ reads g l n us
-  read_behind r n ts us e = reads-append g l ts us r ∙ (ap (λ x. then_walk x (λ k. reads g l k us)) e ∙ adds_none g l (reads g l n us))
 
   -- behind tokens that led somewhere
   leads_as : (c : List Slot) (fs : List Frame) (r n : Reading) (ts us : List Placed) (t : Turn) → reads g l r (ts ++ us) ≡ reads g l n us

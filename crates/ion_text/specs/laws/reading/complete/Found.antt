@@ -5,7 +5,7 @@ use Rattle.ion_tokens.specs.machine.Told.{Begun}
 use Rattle.ion_tokens.proofs.complete.Found as found
 use Rattle.ion_tokens.proofs.histories.Histories.{behind_front, stands_finds}
 use Rattle.ion_tokens.proofs.runs.Runs.{feed_used, given_used, left_used}
-use Rattle.ion_tokens.proofs.runs.Splits.{GivenSplit, LeftSplit, given_split, left_split}
+use Rattle.ion_tokens.proofs.runs.Splits.{given_split, left_split}
 use Rattle.ion_text.specs.laws.reading.complete.Going.{Going, InsideNext, Operators, TurnGoes, closed, closes_kind, going_said, going_settle, going_turn, inside_end, inside_token, stays, top_place}
 use Rattle.ion_text.specs.laws.reading.complete.Meets.{Meets, at_blank, at_token, goes_on, in_blank, is_given, is_left}
 use Rattle.ion_text.specs.laws.reading.sound.Quotes.{is_close}

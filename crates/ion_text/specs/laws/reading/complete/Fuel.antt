@@ -1,6 +1,7 @@
 -- An octet that is left is taken up at most twice more, so that three tries are enough.
 use Rattle.std.proofs.Common.{◌≡◌, ℕ, suc, Bool, true, false, refl, sym, ap, subst, Result, Ok, Err, if◌then◌else◌, ◌⊎◌, inl, inr}
 use Rattle.std.specs.Prelude.{◌&&◌, not, nat_le}
+use Rattle.std.proofs.lemmas.Bool.{cond_both}
 use Rattle.ion_text.specs.Names.{Catalog, Content, Effect, Given, IsUsed, Known, LeavesIn, Left, LeftIn, Lexeme, Limits, Mode, Next, Outcome, Place, Reading, Reason, Refused, Run, State, TokenKind, Turn, behind_given, behind_left, eats, fails, feed, goes, is_idle, late, leaves, noticed, on_octet, on_said, on_scan, on_settled, once_more, or_worse, place, reaches, run_on, said, settle, shut, takes, token_of, turn, unsettled, uses, with_scan}
 use Rattle.ion_tokens.specs.laws.Again as again
 use Rattle.ion_tokens.specs.laws.Again.{blank_uses, slash_uses, word_leaves}
@@ -141,14 +142,12 @@ module _ (g : Catalog) (l : Limits) where
 
   -- where nothing waits, an octet that the scanner uses ends no value before it
   pub eats_stays : (r : Reading) (s : Known) (o : ℕ) → settle g l r ≡ goes r → IsUsed (feed (place r) s o) → NotLeaves (eats g l (with_scan s r) o)
-  eats_stays r s o e u = go (unsettled s r (feed (place r) s o))
-    where
-      again : State → Effect
-      again = λ k. takes g l 2 k o
-
-      go : (w : Bool) → NotLeaves (if w then on_scan g l again r (feed (place r) s o) else on_settled g l again s (feed (place r) s o) (settle g l r))
-      go true = scan_stays again r (feed (place r) s o) u
-      go false = subst (λ t. NotLeaves (on_settled g l again s (feed (place r) s o) t)) (sym e) (scan_stays again r (feed (place r) s o) u)
+  eats_stays r s o e u =
+      let x = feed (place r) s o in
+      let again = λ (k : State). takes g l 2 k o in
+      let scan = scan_stays again r x u in
+      cond_both (unsettled s r x) (on_scan g l again r x) (on_settled g l again s x (settle g l r)) NotLeaves (λ w. scan)
+      (λ w. subst (λ t. NotLeaves (on_settled g l again s x t)) (sym e) scan)
 
   -- then once more is as at the first time
   pub more_same : (to : ℕ) (again : State → Effect) (rest : State → Run) (x : Effect) → NotLeaves x → once_more to rest x ≡ run_on to again rest x

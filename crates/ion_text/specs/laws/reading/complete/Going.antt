@@ -1,7 +1,7 @@
 -- Tokens that go on to the end of a document, read one by one, and that the reader of octets has no reason to refuse before.
 use Rattle.std.proofs.Common.{◌≡◌, ℕ, ◌+◌, ◌≤◌, List, [], ◌∷◌, ◌++◌, Bool, true, false, Result, Ok, Option, Some, None, refl, ap, sym, ◌∙◌, subst, arith, ◌⊎◌, inl, inr}
 use Rattle.std.proofs.lemmas.Bool.{cond-false}
-use Rattle.ion_text.specs.Names.{Catalog, Content, Frame, Given, IsBody, IsWordBody, Known, Leading, Left, Lexeme, Limits, Long, Mark, Mark', Mode, Next, Now, Operator, Place, Placed, Quoted, Reading, Reason, Says, Short, Slot, Symbols, Token, TokenKind, Turn, Value, Walk, Word, adds_values, at, begun_at, continues, done, end_of, feed, first_token, follow, fresh, gives, goes, id_of, in_place, is_fresh, is_idle, is_sexp, is_top, kind_named, late, null_of, on_judged, on_placed, on_turn, place, place_in, reads, refuses, said, said_body, same_is, same_place, settle, settle_same, settle_still, stopped, token_of, turn}
+use Rattle.ion_text.specs.Names.{Catalog, Content, Frame, Given, IsBody, IsWordBody, Known, Leading, Left, Lexeme, Limits, Long, Mark, Mark', Mode, Next, Now, Operator, Place, Placed, Quoted, Reading, Reason, Says, Short, Slot, Symbols, Token, TokenKind, Turn, Value, Walk, Word, adds_values, at, begun_at, continues, done, end_of, feed, first_token, follow, fresh, gives, goes, id_of, in_place, is_fresh, is_idle, is_sexp, is_top, kind_named, null_of, on_judged, on_placed, on_turn, place, place_in, reads, said, said_body, same_is, same_place, settle, settle_same, settle_still, stopped, token_of, turn}
 use Rattle.ion_tokens.proofs.runs.Runs.{feed_used, left_used}
 use Rattle.ion_text.specs.machine.TokenLists.{walked}
 use Rattle.ion_text.specs.laws.reading.complete.Meets.{Meets, at_blank, at_token, end_spans, finely_as, goes_on, idle_span, is_given, is_left, one_given}

@@ -260,13 +260,10 @@ module _ (g : Catalog) (l : Limits) where
       same_top _ h = h.1
 
       octet_kept : (x : Outcome) → Follows (place r) s.mode x → Finely s.mode x → KeptBehind (on_octet g l again (with_scan s r) x)
-      octet_kept x fo fi = go (unsettled s r x)
-        where
-          go : (w : Bool) → KeptBehind (if w then on_scan g l again r x else on_settled g l again s x (settle g l r))
-          go true = scan_kept r (place r) (λ h. sexp_open r.frames r.now h) again f s.mode x fo fi
-          go false =
-              turned_kept x fo fi (settle g l r) (same_top (settle g l r) (settle_same g l r.start r.context r.frames r.notes r.now))
-              (settled_top r.start r.context r.frames r.notes r.now)
+      octet_kept x fo fi = cond_both (unsettled s r x) (on_scan g l again r x) (on_settled g l again s x (settle g l r)) KeptBehind
+          (λ e. scan_kept r (place r) (λ h. sexp_open r.frames r.now h) again f s.mode x fo fi)
+          (λ e. turned_kept x fo fi (settle g l r) (same_top (settle g l r) (settle_same g l r.start r.context r.frames r.notes r.now))
+          (settled_top r.start r.context r.frames r.notes r.now))
 
     takes_kept : (n : ℕ) (m : State) (o : ℕ) → is_sane m.scan.mode ≡ true → Fine m.scan → KeptTop m.scan m.reading → KeptBehind (takes g l n m o)
     takes_kept zero m o sane fine kept = tt

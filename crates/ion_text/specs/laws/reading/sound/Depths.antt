@@ -1,7 +1,7 @@
 -- What the reader gives is no deeper than the limit.
 use Rattle.std.proofs.Common.{◌≡◌, ℕ, suc, ◌+◌, ◌≤◌, nat_le, nat_lt, List, [], ◌∷◌, length, Bool, true, false, Result, Ok, Err, Option, Some, refl, sym, ap, ◌∙◌, subst, arith, if◌then◌else◌}
 use Rattle.std.proofs.lemmas.Bool.{cond_both, ltb-true}
-use Rattle.ion_text.specs.Names.{Blob, Bracket, Catalog, Clob, Content, Frame, Held, Id, Limits, Listing, Long, Mark, Mark', Now, Number, Number', Operator, Payload, Quoted, Reading, Reason, Setting, Short, Slot, Spot, Symbols, Token, Turn, TypedNull, Value, Word, annotated, at, bare_close, begun_at, closed, deeper, depth, ended, field_of, fresh, gives, goes, held_payload, held_symbol, is_keyword, is_table, keyed, late, layer_depth, named, next, noted, number_payload, on_after, on_comma, on_keyed, on_long, on_long_name, on_name, on_pending, on_ready, paid, refuses, released, resolve, resolved, settle, spot_at, token_at, turn, turn_now, turned, under, within}
+use Rattle.ion_text.specs.Names.{Blob, Bracket, Catalog, Clob, Content, Frame, Held, Id, Limits, Listing, Long, Mark, Mark', Now, Number, Number', Operator, Payload, Quoted, Reading, Reason, Setting, Short, Slot, Spot, Symbols, Token, Turn, TypedNull, Value, Word, annotated, at, begun_at, closed, deeper, depth, ended, field_of, fresh, gives, goes, held_payload, held_symbol, is_keyword, is_table, keyed, late, layer_depth, named, next, noted, number_payload, on_after, on_comma, on_keyed, on_long, on_long_name, on_name, on_pending, on_ready, paid, refuses, released, resolve, settle, spot_at, token_at, turn, turn_now, turned, under, within}
 use Rattle.ion_model.specs.declared.value.Payload.TheVariants as payloads
 use Rattle.ion_model.specs.declared.value.Payload.TheViews as views
 use Rattle.ion_model.specs.laws.Measures.{deepest-more, depth-at}

@@ -1,5 +1,6 @@
 -- Each octet leads from what stands for octets to what stands for those and that one.
 use Rattle.std.proofs.Common.{◌≡◌, ℕ, zero, suc, ◌+◌, nat_le, List, [], ◌∷◌, ◌++◌, Bool, true, false, ◌&&◌, not, Result, Ok, Err, refl, sym, subst, arith, append_assoc, append-nil, if◌then◌else◌, inl, inr}
+use Rattle.std.proofs.lemmas.Bool.{cond_both}
 use Rattle.ion_text.specs.Names.{Catalog, Content, Continues, Effect, Follows, Given, Known, Leading, Left, Lexeme, Limits, Next, Outcome, Pieces, Place, Placed, Reading, Reason, Refusal, Refused, Run, Scanned, Slot, State, Turn, Value, begins, begun, behind_given, behind_left, eats, fails, feed, gives, goes, in_segment, initial, is_idle, is_quoted, is_sane, is_top, late, leaves, noticed, on_octet, on_said, on_scan, on_settled, once_more, or_worse, place, place_in, plain, reaches, refuses, run, run_on, said, said_passes, settle, settle_same, shut, system_slots, takes, tells, token_of, turn, unsettled, uses, waits, with_scan, with_value}
 use Rattle.ion_tokens.specs.machine.Told.{Begun}
 use Rattle.ion_tokens.specs.laws.Follows.{feed_follows}
@@ -123,15 +124,13 @@ module _ (g : Catalog) (l : Limits) where
 
     octet_after : (s : Known) (r : Reading) (ahead : List ℕ) (again : State → Effect) → Continues (o ∷ []) ahead → AtOctet again
         → (b : Behind g l Scanned u vs s r ahead (ApartAt o s r)) → After u vs o (on_octet g l again (with_scan s r) (feed (place r) s o))
-    octet_after s r ahead again c f b = go (unsettled s r (feed (place r) s o)) refl
-      where
-        go : (w : Bool) → unsettled s r (feed (place r) s o) ≡ w
-            → After u vs o (if w then on_scan g l again r (feed (place r) s o) else on_settled g l again s (feed (place r) s o) (settle g l r))
-        go true e = octet_scanned s r ahead again c f b
-        go false e = settled_after s ahead again (place r) c f (settle g l r)
-            (settled_read g l Scanned u vs s ahead o r.start r.context r.frames r.notes r.now b
-            (or_parts (waits r (feed (place r) s o)) (in_segment r.now s) e).0)
-            (places_only r.frames r.now (settle g l r) (settle_same g l r.start r.context r.frames r.notes r.now))
+    octet_after s r ahead again c f b =
+        let x = feed (place r) s o in
+        cond_both (unsettled s r x) (on_scan g l again r x) (on_settled g l again s x (settle g l r)) (After u vs o)
+        (λ e. octet_scanned s r ahead again c f b)
+        (λ e. settled_after s ahead again (place r) c f (settle g l r)
+        (settled_read g l Scanned u vs s ahead o r.start r.context r.frames r.notes r.now b (or_parts (waits r x) (in_segment r.now s) e).0)
+        (places_only r.frames r.now (settle g l r) (settle_same g l r.start r.context r.frames r.notes r.now)))
 
     -- an octet leads from what stands for octets to what stands for these and the octet
     pub takes_after : (n : ℕ) (s : Known) (r : Reading) (ahead : List ℕ) → Continues (o ∷ []) ahead → Behind g l Scanned u vs s r ahead (ApartAt o s r)
