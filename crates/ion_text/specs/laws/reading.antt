@@ -1,5 +1,6 @@
 -- The machine reads what the grammar says.
 pub mod Brackets
+pub mod Effects
 pub mod sound
 pub mod complete
 pub mod small

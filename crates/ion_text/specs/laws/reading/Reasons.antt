@@ -1,8 +1,9 @@
 -- Why octets are refused: for their own sake.
-use Rattle.std.proofs.Common.{◌≡◌, ℕ, zero, suc, ◌+◌, nat_le, nat_lt, List, [], ◌∷◌, length, Bool, true, false, cond, ◌&&◌, not, Result, Ok, Err, Option, Some, None, refl, ap, sym, subst, if◌then◌else◌, ◌⊎◌, inl, inr}
+use Rattle.std.proofs.Common.{◌≡◌, ℕ, zero, suc, ◌+◌, nat_le, nat_lt, List, [], ◌∷◌, length, Bool, true, false, cond, Result, Ok, Err, Option, Some, None, refl, ap, sym, subst, if◌then◌else◌, ◌⊎◌, inl, inr}
 use Rattle.std.specs.Prelude.{◌==◌}
+use Rattle.ion_text.specs.laws.reading.Effects.{noticed_each, said_each}
 use Rattle.std.proofs.lemmas.Bool.{cond_both}
-use Rattle.ion_text.specs.Names.{Blob, Bracket, Catalog, Clob, Content, Effect, End, Frame, Given, Held, Id, IsBody, IsWordBody, Keep, Kind, Known, Left, Lexeme, Limits, Listing, Long, Mark, Mark', Mode, Next, Now, Number', Operator, Outcome, Payload, Place, Reading, ReadsNumber, Reason, Refusal, Refused, Run, Setting, Short, Slot, Spot, State, Symbols, Token, TokenKind, Turn, Value, Word, at, at_end, begun, begun_at, behind_given, behind_left, closed, cut_short, deeper, eats, end_late, end_now, end_of, end_ready, end_said, end_settled, end_turned, end_waiting, ended, ends_at, ends_of, fails, feed, follow, fresh, gives, goes, held_payload, held_symbol, id_of, is_fresh, is_idle, is_keyword, is_sexp, is_table, keyed, kind_named, late, leaves, lesser, named, next, noted, noticed, null_of, on_after, on_comma, on_keyed, on_long, on_long_name, on_name, on_pending, on_ready, on_said, on_scan, on_settled, once_more, or_worse, paid, place, reaches, reason_number, refused_of, refuses, released, resolve, resolved, run, run_on, said, says, settle, shut, spot_at, spot_in, takes, tells, token_at, token_of, trace, turn, turn_now, turned, under, unsettled, uses, with_scan, within}
+use Rattle.ion_text.specs.Names.{Blob, Bracket, Catalog, Clob, Content, Effect, End, Frame, Given, Held, Id, IsBody, IsWordBody, Keep, Kind, Known, Left, Lexeme, Limits, Listing, Long, Mark, Mark', Mode, Next, Now, Number', Operator, Outcome, Payload, Place, Reading, ReadsNumber, Reason, Refusal, Refused, Run, Setting, Short, Slot, Spot, State, Symbols, Token, TokenKind, Turn, Value, Word, at, at_end, begun, begun_at, behind_given, behind_left, closed, cut_short, deeper, eats, end_late, end_now, end_of, end_ready, end_said, end_settled, end_turned, end_waiting, ended, ends_at, ends_of, fails, feed, follow, fresh, gives, goes, held_payload, held_symbol, id_of, is_fresh, is_keyword, is_sexp, is_table, keyed, kind_named, late, leaves, lesser, named, next, noted, noticed, null_of, on_after, on_comma, on_keyed, on_long, on_long_name, on_name, on_pending, on_ready, on_scan, on_settled, once_more, or_worse, paid, place, reason_number, refused_of, refuses, released, resolve, resolved, run, run_on, said, says, settle, spot_at, spot_in, takes, tells, token_at, token_of, trace, turn, turn_now, turned, under, unsettled, uses, with_scan, within}
 use Rattle.ion_tokens.proofs.bounds.Causes.{IsFair, run_fair}
 use Rattle.ion_tokens.proofs.bounds.Fits.{is_octet_reason}
 use Rattle.ion_symtab.specs.Decided.{Decides, IsDecided}
@@ -195,12 +196,7 @@ module _ (g : Catalog) (l : Limits) where
   EffectDecides _ = Unit {0}
 
   noticed_decides : (r : Reading) (s : Known) → EffectDecides (noticed l r s)
-  noticed_decides r s = go (shut r.now && not (is_idle s.mode)) (nat_le (reaches r.frames r s) l.item)
-    where
-      go : (a b : Bool) → EffectDecides (if a then fails Reason.Unexpected else
-          (if b then uses (record { scan = s; reading = r }) else fails Reason.ItemTooLong))
-      go false true = tt
-      go _ _ = tt
+  noticed_decides r s = noticed_each EffectDecides l r s tt tt tt
 
   lesser_decides : (e f : Reason) → IsDecided e → IsDecided f → IsDecided (lesser e f)
   lesser_decides e f h k = cond_both (nat_lt (reason_number f) (reason_number e)) f e IsDecided (λ i. k) (λ i. h)
@@ -222,18 +218,13 @@ module _ (g : Catalog) (l : Limits) where
   left_decides again s (refuses e) f h = h
   left_decides again s (late e r) f h = worse_decides e (again (with_scan s r)) h (f (with_scan s r))
 
-  on_said_decides : (c : Result Content Reason) (f : Content → Effect) → ((e : Reason) → c ≡ Err e → IsDecided e) → ((c : Content) → EffectDecides (f c))
-      → EffectDecides (on_said c f)
-  on_said_decides (Ok c) f h k = k c
-  on_said_decides (Err e) f h k = h e refl
-
   scan_decides : (again : State → Effect) (p : Place) (s : Known) (o : ℕ) (r : Reading) (x : Outcome) → feed p s o ≡ x → ((m : State) → EffectDecides (again m))
       → EffectDecides (on_scan g l again r x)
   scan_decides again p s o r (Next t) e f = noticed_decides r t
-  scan_decides again p s o r (Given x t) e f = on_said_decides (said x.kind x.octets) _ (said_decided x.kind x.octets)
-      (λ c. given_decides t (turn g l r (token_of x c)) (turn_decides r (token_of x c)))
-  scan_decides again p s o r (Left x t) e f = on_said_decides (said x.kind x.octets) _ (said_decided x.kind x.octets)
-      (λ c. left_decides again t (turn g l r (token_of x c)) f (turn_decides r (token_of x c)))
+  scan_decides again p s o r (Given x t) e f = said_each EffectDecides (said x.kind x.octets) _
+      (λ c k. given_decides t (turn g l r (token_of x c)) (turn_decides r (token_of x c))) (said_decided x.kind x.octets)
+  scan_decides again p s o r (Left x t) e f = said_each EffectDecides (said x.kind x.octets) _
+      (λ c k. left_decides again t (turn g l r (token_of x c)) f (turn_decides r (token_of x c))) (said_decided x.kind x.octets)
   scan_decides again p s o r (Refused n y) e f = feed_decided p s o n y e
 
   settled_decides : (again : State → Effect) (p : Place) (s : Known) (o : ℕ) (t : Turn) → TurnDecides t → ((m : State) → EffectDecides (again m))

@@ -1,8 +1,8 @@
 -- An octet that is left is taken up at most twice more, so that three tries are enough.
 use Rattle.std.proofs.Common.{◌≡◌, ℕ, suc, Bool, true, false, refl, sym, ap, subst, Result, Ok, Err, if◌then◌else◌, ◌⊎◌, inl, inr}
-use Rattle.std.specs.Prelude.{◌&&◌, not, nat_le}
+use Rattle.ion_text.specs.laws.reading.Effects.{noticed_each, said_each, worse_each}
 use Rattle.std.proofs.lemmas.Bool.{cond_both}
-use Rattle.ion_text.specs.Names.{Catalog, Content, Effect, Given, IsUsed, Known, LeavesIn, Left, LeftIn, Lexeme, Limits, Mode, Next, Outcome, Place, Reading, Reason, Refused, Run, State, TokenKind, Turn, behind_given, behind_left, eats, fails, feed, goes, is_idle, late, leaves, noticed, on_octet, on_said, on_scan, on_settled, once_more, or_worse, place, reaches, run_on, said, settle, shut, takes, token_of, turn, unsettled, uses, with_scan}
+use Rattle.ion_text.specs.Names.{Catalog, Content, Effect, Given, IsUsed, Known, LeavesIn, Left, LeftIn, Lexeme, Limits, Mode, Next, Outcome, Place, Reading, Reason, Refused, Run, State, TokenKind, Turn, behind_given, behind_left, eats, feed, goes, is_idle, late, leaves, noticed, on_octet, on_said, on_scan, on_settled, once_more, or_worse, place, run_on, said, settle, takes, token_of, turn, unsettled, with_scan}
 use Rattle.ion_tokens.specs.laws.Again as again
 use Rattle.ion_tokens.specs.laws.Again.{blank_uses, slash_uses, word_leaves}
 use Rattle.ion_text.specs.laws.reading.sound.Quotes.{Fine, Finely, feed_fine}
@@ -113,26 +113,17 @@ module _ (g : Catalog) (l : Limits) where
 
   -- an octet that ends no token ends no value before it
   pub noticed_stays : (r : Reading) (s : Known) → NotLeaves (noticed l r s)
-  noticed_stays r s = go (shut r.now && not (is_idle s.mode)) (nat_le (reaches r.frames r s) l.item)
-    where
-      go : (a b : Bool) → NotLeaves (if a then fails Reason.Unexpected else (if b then uses (record { scan = s; reading = r }) else fails Reason.ItemTooLong))
-      go false true = tt
-      go _ _ = tt
-
-  worse_stays : (e : Reason) (x : Effect) → NotLeaves (or_worse e x)
-  worse_stays e (uses m) = tt
-  worse_stays e _ = tt
+  noticed_stays r s = noticed_each NotLeaves l r s tt tt tt
 
   -- an octet that is the last of a token ends no value before it
   pub given_stays : (s : Known) (t : Turn) → NotLeaves (behind_given l s t)
   given_stays s (goes r) = noticed_stays r s
-  given_stays s (late e r) = worse_stays e (noticed l r s)
+  given_stays s (late e r) = worse_each NotLeaves e (noticed l r s) (λ f. tt)
   given_stays s _ = tt
 
   -- where what a token says ends no value before its octet, neither does the token
   pub said_stays : (c : Result Content Reason) (f : Content → Effect) → ((c : Content) → NotLeaves (f c)) → NotLeaves (on_said c f)
-  said_stays (Ok c) f h = h c
-  said_stays (Err e) f h = tt
+  said_stays c f h = said_each NotLeaves c f (λ d k. h d) (λ e k. tt)
 
   scan_stays : (again : State → Effect) (r : Reading) (x : Outcome) → IsUsed x → NotLeaves (on_scan g l again r x)
   scan_stays again r (Next s) u = noticed_stays r s

@@ -1,5 +1,6 @@
 -- No more octets are kept than an item may have.
 use Rattle.std.proofs.Common.{◌≡◌, ℕ, zero, suc, ◌+◌, ◌-◌, ◌≤◌, Bool, true, false, ◌&&◌, ◌||◌, not, nat_le, List, [], ◌∷◌, ◌++◌, length, Result, Ok, Err, Option, Some, None, refl, sym, ap, ◌∙◌, subst, arith, ◌⊎◌, inl, inr, if◌then◌else◌}
+use Rattle.ion_text.specs.laws.reading.Effects.{noticed_each, said_each, worse_each}
 use Rattle.std.proofs.lemmas.Bool.{cond_both}
 use Rattle.ion_text.specs.Names.{Begun, Catalog, Content, Effect, Follows, Form, Frame, Given, Held, IsBody, IsSteady, Known, Leading, Left, Lexeme, LexesTo, Limits, Mode, Next, Now, Operator, Outcome, Payload, Place, Placed, Ran, Reading, Reason, Refused, Run, Slot, Spot, State, Style, Symbols, TokenKind, Turn, Value, at, begun, begun_in, behind, behind_given, behind_left, ended, fails, feed, form_of, gives, goes, held_in, held_payload, is_idle, is_long_begun, is_long_form, is_sane, is_sexp, is_top, late, leaves, longest_top, noticed, on_octet, on_said, on_scan, on_settled, or_worse, paid, place, place_in, plain, reaches, refuses, released, run, said, said_body, settle, settle_same, settled, shut, spot_at, takes, tells, token_at, token_of, turn, turn_now, under, unkept, unsettled, uses, with_scan}
 use Rattle.ion_tokens.specs.laws.Follows.{feed_follows}
@@ -183,25 +184,12 @@ module _ (g : Catalog) (l : Limits) where
     KeptBehind _ = Unit {0}
 
     noticed_kept : (r : Reading) (s : Known) → KeptBehind (noticed l r s)
-    noticed_kept r s = go (shut r.now && not (is_idle s.mode)) (nat_le (reaches r.frames r s) l.item)
-      where
-        go : (a b : Bool) → KeptBehind (if a then fails Reason.Unexpected else
-            (if b then uses (record { scan = s; reading = r }) else fails Reason.ItemTooLong))
-        go false true = tt
-        go _ _ = tt
-
-    worse_kept : (e : Reason) (x : Effect) → KeptBehind (or_worse e x)
-    worse_kept e (fails f) = tt
-    worse_kept e _ = tt
+    noticed_kept r s = noticed_each KeptBehind l r s tt tt tt
 
     given_kept : (s : Known) (t : Turn) → KeptBehind (behind_given l s t)
     given_kept s (goes r) = noticed_kept r s
-    given_kept s (late e r) = worse_kept e (noticed l r s)
+    given_kept s (late e r) = worse_each KeptBehind e (noticed l r s) (λ f. tt)
     given_kept s _ = tt
-
-    said_kept : (x : Result Content Reason) (f : Content → Effect) → ((c : Content) → x ≡ Ok c → KeptBehind (f c)) → KeptBehind (on_said x f)
-    said_kept (Ok c) f h = h c refl
-    said_kept (Err e) f h = tt
 
     abbrev AgainKept : (State → Effect) → Type 0
     AgainKept again = (k : State) → is_sane k.scan.mode ≡ true → Fine k.scan → KeptTop k.scan k.reading → KeptBehind (again k)
@@ -212,7 +200,7 @@ module _ (g : Catalog) (l : Limits) where
     left_idle again s (goes r) f sane fine h = f (with_scan s r) sane fine (λ _. inl h)
     left_idle again s (gives v r) f sane fine h = inl h
     left_idle again s (refuses e) f sane fine h = tt
-    left_idle again s (late e r) f sane fine h = worse_kept e (again (with_scan s r))
+    left_idle again s (late e r) f sane fine h = worse_each KeptBehind e (again (with_scan s r)) (λ f. tt)
 
     -- or it is an operator in an s-expression
     left_inside : (again : State → Effect) (s : Known) (t : Turn) → AgainKept again → is_sane s.mode ≡ true → Fine s → StaysInside t
@@ -220,7 +208,7 @@ module _ (g : Catalog) (l : Limits) where
     left_inside again s (goes r) f sane fine h = f (with_scan s r) sane fine (λ e. absurd (let n : true ≡ false = sym e ∙ h in cc))
     left_inside again s (gives v r) f sane fine h = absurd h
     left_inside again s (refuses e) f sane fine h = tt
-    left_inside again s (late e r) f sane fine h = worse_kept e (again (with_scan s r))
+    left_inside again s (late e r) f sane fine h = worse_each KeptBehind e (again (with_scan s r)) (λ f. tt)
 
     module _ (r : Reading) (p : Place) (inside : is_sexp p ≡ true → is_top r.frames ≡ false) (again : State → Effect) (f : AgainKept again) where
       left_kept : (m : Mode) (x : Lexeme) (s : Known) → Follows p m (Left x s) → Finely m (Left x s) → (c : Content) → said x.kind x.octets ≡ Ok c
@@ -240,9 +228,10 @@ module _ (g : Catalog) (l : Limits) where
 
       scan_kept : (m : Mode) (x : Outcome) → Follows p m x → Finely m x → KeptBehind (on_scan g l again r x)
       scan_kept m (Next s) fo fi = noticed_kept r s
-      scan_kept m (Given x s) fo fi = said_kept (said x.kind x.octets) (λ c. behind_given l s (turn g l r (token_of x c)))
-          (λ c e. given_kept s (turn g l r (token_of x c)))
-      scan_kept m (Left x s) fo fi = said_kept (said x.kind x.octets) (λ c. behind_left again s (turn g l r (token_of x c))) (left_kept m x s fo fi)
+      scan_kept m (Given x s) fo fi = said_each KeptBehind (said x.kind x.octets) (λ c. behind_given l s (turn g l r (token_of x c)))
+          (λ c e. given_kept s (turn g l r (token_of x c))) (λ e k. tt)
+      scan_kept m (Left x s) fo fi = said_each KeptBehind (said x.kind x.octets) (λ c. behind_left again s (turn g l r (token_of x c)))
+          (left_kept m x s fo fi) (λ e k. tt)
       scan_kept m (Refused n e) fo fi = tt
 
     module _ (s : Known) (r : Reading) (kept : KeptTop s r) (again : State → Effect) (f : AgainKept again) where
@@ -251,7 +240,7 @@ module _ (g : Catalog) (l : Limits) where
       turned_kept x fo fi (goes n) same top = scan_kept n (place r) (λ h. same ∙ sexp_open r.frames r.now h) again f s.mode x fo fi
       turned_kept x fo fi (gives v n) same top = kept top
       turned_kept x fo fi (refuses e) same top = tt
-      turned_kept x fo fi (late e n) same top = worse_kept e (on_scan g l again n x)
+      turned_kept x fo fi (late e n) same top = worse_each KeptBehind e (on_scan g l again n x) (λ f. tt)
 
       same_top : (t : Turn) → Leading g l (λ n. (place n ≡ place r) × (is_top n.frames ≡ is_top r.frames)) t
           → Leading g l (λ n. is_top n.frames ≡ is_top r.frames) t

@@ -1,7 +1,8 @@
 -- Each value has at most as many nodes as octets were used since the value before it, and as the limit on items allows octets.
-use Rattle.std.proofs.Common.{◌≡◌, ℕ, zero, suc, ◌+◌, ◌≤◌, max, nat_le, List, [], ◌∷◌, ◌++◌, length, Bool, true, false, ◌&&◌, not, Result, Ok, Err, Option, Some, None, refl, ap, sym, ◌∙◌, subst, arith, if◌then◌else◌, ◌⊎◌, inl, inr}
+use Rattle.std.proofs.Common.{◌≡◌, ℕ, zero, suc, ◌+◌, ◌≤◌, max, List, [], ◌∷◌, ◌++◌, length, Bool, true, false, Result, Ok, Err, Option, Some, None, refl, ap, sym, ◌∙◌, subst, arith, if◌then◌else◌, ◌⊎◌, inl, inr}
+use Rattle.ion_text.specs.laws.reading.Effects.{noticed_each, said_each, worse_each}
 use Rattle.std.proofs.lemmas.Bool.{both_ways, or_cases, or_parts}
-use Rattle.ion_text.specs.Names.{Catalog, Content, Effect, Frame, Given, HasSpan, IsBody, IsSmall, Known, Leading, Left, Lexeme, Limits, Mark, Mark', Mode, Next, Now, Operator, Outcome, Place, Reading, Reason, Refusal, Refused, Run, Slot, Spaced, State, Symbols, TokenKind, Turn, Value, at, at_end, begun, behind_given, behind_left, cut_short, eats, end_late, end_now, end_of, end_ready, end_said, end_settled, end_turned, end_waiting, ends_of, fails, feed, fresh, gives, goes, in_segment, is_fresh, is_idle, is_quoted, is_quoting, is_sexp, is_top, late, leaves, long_waits, noticed, on_said, on_scan, on_settled, once_more, or_worse, place, place_in, reaches, refuses, run, run_on, said, said_body, settle, settle_same, shut, takes, tells, token_at, token_of, trace, turn, turn_now, under, unsettled, uses, waits, waits_now, with_scan}
+use Rattle.ion_text.specs.Names.{Catalog, Content, Effect, Frame, Given, HasSpan, IsBody, IsSmall, Known, Leading, Left, Lexeme, Limits, Mark, Mark', Mode, Next, Now, Operator, Outcome, Place, Reading, Reason, Refusal, Refused, Run, Slot, Spaced, State, Symbols, TokenKind, Turn, Value, at, at_end, begun, behind_given, behind_left, cut_short, eats, end_late, end_now, end_of, end_ready, end_said, end_settled, end_turned, end_waiting, ends_of, fails, feed, fresh, gives, goes, in_segment, is_fresh, is_idle, is_quoted, is_quoting, is_sexp, is_top, late, leaves, long_waits, noticed, on_scan, on_settled, once_more, place, place_in, refuses, run, run_on, said, said_body, settle, settle_same, takes, tells, token_at, token_of, trace, turn, turn_now, under, unsettled, uses, waits, waits_now, with_scan}
 use Rattle.ion_text.specs.laws.reading.complete.Meets.{IdleLeft, end_spans, idle_left}
 use Rattle.ion_text.specs.laws.reading.complete.Segments.{NotRefused, unsettled_waits}
 use Rattle.ion_text.specs.laws.reading.small.Lengths.{EndedToken, Measured, Sized, feed_measured, idle_next, next_wants, quoting_next, sized_initial, token_wants, wants, wants_next}
@@ -284,29 +285,15 @@ module _ (g : Catalog) (l : Limits) where
   CameNear from used o (fails e) = Unit {0}
 
   module _ (from used o : ℕ) where
-    worse_came : (e : Reason) (x : Effect) → CameNear from used o (or_worse e x)
-    worse_came e (fails f) = tt
-    worse_came e _ = tt
-
     noticed_came : (r : Reading) (t : Known) → Near from t r → t.used ≡ used + 1 → CameNear from used o (noticed l r t)
-    noticed_came r t h e = go (shut r.now && not (is_idle t.mode)) (nat_le (reaches r.frames r t) l.item)
-      where
-        go : (x y : Bool) → CameNear from used o (if x then fails Reason.Unexpected else
-            (if y then uses (record { scan = t; reading = r }) else fails Reason.ItemTooLong))
-        go false true = (h, e)
-        go _ _ = tt
-
-    said_came : (r : Result Content Reason) (f : Content → Effect) → ((c : Content) → r ≡ Ok c → CameNear from used o (f c))
-        → CameNear from used o (on_said r f)
-    said_came (Ok c) f h = h c refl
-    said_came (Err e) f h = tt
+    noticed_came r t h e = noticed_each (CameNear from used o) l r t (h, e) tt tt
 
     given_came : (t : Known) (turned : Turn) → TurnNear from t turned → t.used ≡ used + 1 → wants t.mode ≡ 0 → Sized t
         → CameNear from used o (behind_given l t turned)
     given_came t (goes r) h e w z = noticed_came r t h e
     given_came t (gives v r) h e w z = (subst (λ n. HasSpan l.item from n v) e h.0, near_fresh (used + 1) t r h.1 (omega (arith, e, w)) z, e)
     given_came t (refuses x) h e w z = tt
-    given_came t (late x r) h e w z = worse_came x (noticed l r t)
+    given_came t (late x r) h e w z = worse_each (CameNear from used o) x (noticed l r t) (λ f. tt)
 
     -- where the reader goes on at the octet
     abbrev AgainNear : (State → Effect) → Type 0
@@ -334,7 +321,7 @@ module _ (g : Catalog) (l : Limits) where
     left_came again t (gives v r) f h e (inl i) z = absurd i
     left_came again t (gives v r) f h e (inr i) z = leaves_came t r v h e (idle_next t.mode i, idle_colon t o i) z
     left_came again t (refuses x) f h e i z = tt
-    left_came again t (late x r) f h e i z = worse_came x (again (with_scan t r))
+    left_came again t (late x r) f h e i z = worse_each (CameNear from used o) x (again (with_scan t r)) (λ f. tt)
 
     -- a colon where no item is open
     colon_fails : (again : State → Effect) (t : Known) (r : Reading) (x : Lexeme) (c : Content) → r ≡ fresh r.context → c ≡ Mark' Mark.Colon
@@ -368,14 +355,16 @@ module _ (g : Catalog) (l : Limits) where
         → ScannedNear from r x → CameNear from used o (on_scan g l again r x)
     scan_came p s r again (Next t) q e f z h = noticed_came r t h (omega (arith, z.1, e))
     scan_came p s r again (Given x t) q e f z h =
-        said_came (said x.kind x.octets) (λ c. behind_given l t (turn g l r (token_of x c)))
-        (λ c k. given_came t (turn g l r (token_of x c)) (token_near from r x t c h) (omega (arith, z.1, e)) (omega (arith, z.1, z.2, h.rest)) h.sized)
+        said_each (CameNear from used o) (said x.kind x.octets) (λ c. behind_given l t (turn g l r (token_of x c)))
+        (λ c k. given_came t (turn g l r (token_of x c)) (token_near from r x t c h) (omega (arith, z.1, e)) (omega (arith, z.1, z.2, h.rest))
+        h.sized) (λ e k. tt)
     scan_came p s r again (Left x t) q e f z (inl h) =
-        said_came (said x.kind x.octets) (λ c. behind_left again t (turn g l r (token_of x c)))
-        (λ c k. left_came again t (turn g l r (token_of x c)) f (token_near from r x t c h) (omega (arith, z.1, e)) (left_idle p r x t c q z.0.idle k) h.sized)
+        said_each (CameNear from used o) (said x.kind x.octets) (λ c. behind_left again t (turn g l r (token_of x c)))
+        (λ c k. left_came again t (turn g l r (token_of x c)) f (token_near from r x t c h) (omega (arith, z.1, e)) (left_idle p r x t c q z.0.idle k)
+        h.sized) (λ e k. tt)
     scan_came p s r again (Left x t) q e f z (inr h) =
-        said_came (said x.kind x.octets) (λ c. behind_left again t (turn g l r (token_of x c)))
-        (λ c k. colon_fails again t r x c h.1 (colon_body x.octets c (subst (λ y. IsBody y x.octets (Ok c)) h.0 (said_body x.kind x.octets c k))))
+        said_each (CameNear from used o) (said x.kind x.octets) (λ c. behind_left again t (turn g l r (token_of x c)))
+        (λ c k. colon_fails again t r x c h.1 (colon_body x.octets c (subst (λ y. IsBody y x.octets (Ok c)) h.0 (said_body x.kind x.octets c k)))) (λ e k. tt)
     scan_came p s r again (Refused n y) q e f z h = tt
 
     long_shows : (s : Known) → Sized s → long_waits true (feed Place.Top s o) ≡ false → (is_idle s.mode ≡ true) ⊎ (is_quoting s.mode ≡ true) → ShowsEnd s
@@ -409,7 +398,7 @@ module _ (g : Catalog) (l : Limits) where
     settled_came s fs now again (gives v r) e z f h i k (inl w) = absurd w
     settled_came s fs now again (gives v r) e z f h i k (inr w) = leaves_came s r v h e w z
     settled_came s fs now again (refuses x) e z f h i k w = tt
-    settled_came s fs now again (late x r) e z f h i k w = worse_came x (on_scan g l again r (feed (place_in fs now) s o))
+    settled_came s fs now again (late x r) e z f h i k w = worse_each (CameNear from used o) x (on_scan g l again r (feed (place_in fs now) s o)) (λ f. tt)
 
     -- An octet behind what is read.
     takes_came : (n : ℕ) (s : Known) (r : Reading) → Near from s r → s.used ≡ used → CameNear from used o (takes g l n (with_scan s r) o)

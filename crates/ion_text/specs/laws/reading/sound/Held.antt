@@ -418,7 +418,8 @@ module _ (g : Catalog) (l : Limits) where
             (λ n e. subst (λ q. S q s u (b.front ++ b.item) ahead) (sym e.0) b.scanned) (settle g l (at start c fs ss now))
             (settle_same g l start c fs ss now))
             (map_turn (λ n. (place n ≡ place_in fs now) × (is_top n.frames ≡ is_top fs)) (λ n. ends_long (b.front ++ b.item) ≡ true → IsLongNow n.now
-            ⊎ ApartAt o s n) (λ n e k. inr (same_apart n (place_in fs now) (is_top fs) (feed (place_in fs now) s o) e.0 e.1 refl (elim (b.apart k) [ inl h ↦ f h | inr h ↦ h ])))
+            ⊎ ApartAt o s n) (λ n e k. inr (same_apart n (place_in fs now) (is_top fs) (feed (place_in fs now) s o) e.0 e.1 refl
+            (elim (b.apart k) [ inl h ↦ f h | inr h ↦ h ])))
             (settle g l (at start c fs ss now)) (settle_same g l start c fs ss now))
             b.first b.sane b.fine
           where

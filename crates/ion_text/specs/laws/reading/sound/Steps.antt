@@ -1,7 +1,8 @@
 -- Each octet leads from what stands for octets to what stands for those and that one.
-use Rattle.std.proofs.Common.{◌≡◌, ℕ, zero, suc, ◌+◌, nat_le, List, [], ◌∷◌, ◌++◌, Bool, true, false, ◌&&◌, not, Result, Ok, Err, refl, sym, subst, arith, append_assoc, append-nil, if◌then◌else◌, inl, inr}
+use Rattle.std.proofs.Common.{◌≡◌, ℕ, zero, suc, ◌+◌, List, [], ◌∷◌, ◌++◌, Bool, true, false, ◌&&◌, Result, Ok, Err, refl, sym, subst, arith, append_assoc, append-nil, inl, inr}
+use Rattle.ion_text.specs.laws.reading.Effects.{noticed_each, said_each, worse_each}
 use Rattle.std.proofs.lemmas.Bool.{cond_both}
-use Rattle.ion_text.specs.Names.{Catalog, Content, Continues, Effect, Follows, Given, Known, Leading, Left, Lexeme, Limits, Next, Outcome, Pieces, Place, Placed, Reading, Reason, Refusal, Refused, Run, Scanned, Slot, State, Turn, Value, begins, begun, behind_given, behind_left, eats, fails, feed, gives, goes, in_segment, initial, is_idle, is_quoted, is_sane, is_top, late, leaves, noticed, on_octet, on_said, on_scan, on_settled, once_more, or_worse, place, place_in, plain, reaches, refuses, run, run_on, said, said_passes, settle, settle_same, shut, system_slots, takes, tells, token_of, turn, unsettled, uses, waits, with_scan, with_value}
+use Rattle.ion_text.specs.Names.{Catalog, Content, Continues, Effect, Follows, Given, Known, Leading, Left, Lexeme, Limits, Next, Outcome, Pieces, Place, Placed, Reading, Refusal, Refused, Run, Scanned, Slot, State, Turn, Value, begins, begun, behind_given, behind_left, eats, fails, feed, gives, goes, in_segment, initial, is_quoted, is_sane, is_top, late, leaves, noticed, on_octet, on_said, on_scan, on_settled, once_more, place, place_in, plain, refuses, run, run_on, said, said_passes, settle, settle_same, system_slots, takes, tells, token_of, turn, unsettled, uses, waits, with_scan, with_value}
 use Rattle.ion_tokens.specs.machine.Told.{Begun}
 use Rattle.ion_tokens.specs.laws.Follows.{feed_follows}
 use Rattle.ion_tokens.proofs.runs.Scans.{scanned_given, scanned_left, scanned_next}
@@ -17,18 +18,9 @@ module _ (g : Catalog) (l : Limits) where
       × Behind g l Scanned u (vs ++ v ∷ []) m.scan m.reading ahead (ApartAt o m.scan m.reading)
   After u vs o (fails e) = Unit {0}
 
-  worse_after : (u : List ℕ) (vs : List Value) (o : ℕ) (e : Reason) (x : Effect) → After u vs o (or_worse e x)
-  worse_after u vs o e (fails f) = tt
-  worse_after u vs o e _ = tt
-
   noticed_after : (u : List ℕ) (vs : List Value) (o : ℕ) (r : Reading) (s : Known) → Behind g l Scanned (u ++ o ∷ []) vs s r [] (NoLongText s.mode)
       → After u vs o (noticed l r s)
-  noticed_after u vs o r s b = go (shut r.now && not (is_idle s.mode)) (nat_le (reaches r.frames r s) l.item)
-    where
-      go : (x y : Bool) → After u vs o (if x then fails Reason.Unexpected else
-          (if y then uses (record { scan = s; reading = r }) else fails Reason.ItemTooLong))
-      go false true = b
-      go _ _ = tt
+  noticed_after u vs o r s b = noticed_each (After u vs o) l r s b tt tt
 
   module _ (u : List ℕ) (vs : List Value) (o : ℕ) where
     -- where the reader goes on at the octet
@@ -39,14 +31,14 @@ module _ (g : Catalog) (l : Limits) where
     given_after s' (goes r) h = noticed_after u vs o r s' h
     given_after s' (gives v r) h = h.0
     given_after s' (refuses e) h = tt
-    given_after s' (late e r) h = worse_after u vs o e (noticed l r s')
+    given_after s' (late e r) h = worse_each (After u vs o) e (noticed l r s') (λ f. tt)
 
     left_after : (again : State → Effect) (s' : Known) (t : Turn) → AtOctet again → Reads g l Scanned u vs s' (o ∷ []) (λ r. ApartAt o s' r) t
         → After u vs o (behind_left again s' t)
     left_after again s' (goes r) f h = f (with_scan s' r) h
     left_after again s' (gives v r) f h = (o ∷ [], ([], refl), h.0)
     left_after again s' (refuses e) f h = tt
-    left_after again s' (late e r) f h = worse_after u vs o e (again (with_scan s' r))
+    left_after again s' (late e r) f h = worse_each (After u vs o) e (again (with_scan s' r)) (λ f. tt)
 
     next_after : (s s' : Known) (r : Reading) (ahead : List ℕ) → Continues (o ∷ []) ahead → (b : Behind g l Scanned u vs s r ahead (ApartAt o s r))
         → feed (place r) s o ≡ Next s' → Follows (place r) s.mode (Next s') → Fine s' → After u vs o (noticed l r s')
@@ -55,19 +47,15 @@ module _ (g : Catalog) (l : Limits) where
         (scanned_next (place r) s u (b.front ++ b.item) ahead b.scanned o c s' e)
         (λ k. elim k [ inl h ↦ inl h | inr h ↦ inr (subst (λ x. NoSegment (is_top r.frames) x) e h) ]) fo.0 fi)
 
-    said_after : (r : Result Content Reason) (f : Content → Effect) → ((c : Content) → r ≡ Ok c → After u vs o (f c)) → After u vs o (on_said r f)
-    said_after (Ok c) f h = h c refl
-    said_after (Err e) f h = tt
-
     token_given : (s s' : Known) (r : Reading) (ahead : List ℕ) → Continues (o ∷ []) ahead → (b : Behind g l Scanned u vs s r ahead (ApartAt o s r))
         → (x : Lexeme) → feed (place r) s o ≡ Given x s' → is_sane s'.mode ≡ true → Finely s.mode (Given x s')
         → After u vs o (on_said (said x.kind x.octets) (λ c. behind_given l s' (turn g l r (token_of x c))))
     token_given s s' r ahead c b x e sane fi =
-        said_after (said x.kind x.octets) (λ c. behind_given l s' (turn g l r (token_of x c)))
+        said_each (After u vs o) (said x.kind x.octets) (λ c. behind_given l s' (turn g l r (token_of x c)))
         (λ k h. given_after s' (turn g l r (token_of x k))
         (token_read g l Scanned u vs s r ahead (ApartAt o s r) b x (λ a. (subst (λ y. NoSegment (is_top r.frames) y) e a, λ t. given_far x fi.1)) Scanned
         (u ++ o ∷ []) s' [] (λ n. NoLongText s'.mode) k h
-        (λ q. scanned_given (place r) s u (b.front ++ b.item) ahead b.scanned o c s' x e (said_passes x.kind x.octets k h) q) sane fi.0))
+        (λ q. scanned_given (place r) s u (b.front ++ b.item) ahead b.scanned o c s' x e (said_passes x.kind x.octets k h) q) sane fi.0)) (λ y k. tt)
 
     -- what a token that is left leads to
     pub left_reads : (s s' : Known) (r : Reading) (ahead : List ℕ) → Continues (o ∷ []) ahead → (b : Behind g l Scanned u vs s r ahead (ApartAt o s r))
@@ -91,8 +79,8 @@ module _ (g : Catalog) (l : Limits) where
         → Finely s.mode (Left x s')
         → After u vs o (on_said (said x.kind x.octets) (λ c. behind_left again s' (turn g l r (token_of x c))))
     token_left s s' r ahead again c f b x e sane fi =
-        said_after (said x.kind x.octets) (λ c. behind_left again s' (turn g l r (token_of x c)))
-        (λ k h. left_after again s' (turn g l r (token_of x k)) f (left_reads s s' r ahead c b x e sane fi k h))
+        said_each (After u vs o) (said x.kind x.octets) (λ c. behind_left again s' (turn g l r (token_of x c)))
+        (λ k h. left_after again s' (turn g l r (token_of x k)) f (left_reads s s' r ahead c b x e sane fi k h)) (λ y k. tt)
 
     -- An octet at the scanner.
     scan_after : (s : Known) (r : Reading) (ahead : List ℕ) (again : State → Effect) → Continues (o ∷ []) ahead → AtOctet again
@@ -114,7 +102,7 @@ module _ (g : Catalog) (l : Limits) where
     settled_after s ahead again p c f (goes r) b e = subst (λ q. After u vs o (on_scan g l again r (feed q s o))) e (octet_scanned s r ahead again c f b)
     settled_after s ahead again p c f (gives v r) b e = (ahead, c, b.0)
     settled_after s ahead again p c f (refuses x) b e = tt
-    settled_after s ahead again p c f (late x r) b e = worse_after u vs o x (on_scan g l again r (feed p s o))
+    settled_after s ahead again p c f (late x r) b e = worse_each (After u vs o) x (on_scan g l again r (feed p s o)) (λ f. tt)
 
     places_only : (fs : List _) (now : _) (t : Turn) → Leading g l (λ r. (place r ≡ place_in fs now) × (is_top r.frames ≡ is_top fs)) t
         → Leading g l (λ n. place n ≡ place_in fs now) t
