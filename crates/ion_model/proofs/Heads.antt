@@ -1,5 +1,5 @@
 -- Two payloads of different kinds, or of which one is null: kind and nullness order them.
-use Rattle.std.proofs.Common.{◌≡◌, Bool, true, false, ◌&&◌, Ordering, Less, Equal, Greater, nat_eq, refl, sym, ◌∙◌, true≢false}
+use Rattle.std.proofs.Common.{◌≡◌, Bool, true, false, ◌&&◌, Ordering, Equal, nat_eq, refl, sym, ◌∙◌, true≢false}
 use Rattle.std.specs.Cmp.Lexicographic.{slice_cmp}
 use Rattle.std.specs.Ordering.{ordering_then, on, then_cmp, nat_cmp, int_cmp, bool_cmp}
 use Rattle.ion_model.specs.Names.{Kind, Layer, Payload-F, Scalar, Value, decimal_cmp, field_cmp, fields, heads_cmp, items, layer_cmp, scalar, symbol_cmp, text_cmp, timestamp_cmp}
@@ -22,11 +22,8 @@ not_full true true g p q h = q ∙ h
 -- behind a kind and nullness that decide, nothing counts
 decided : (k f r s : Ordering) → (ordering_then k f ≡ Equal → ordering_then r s ≡ Equal)
     → ordering_then k f ≡ ordering_then (ordering_then k (ordering_then f r)) s
-decided Less f r s h = refl
-decided Greater f r s h = refl
-decided Equal Less r s h = refl
-decided Equal Greater r s h = refl
 decided Equal Equal r s h = sym (h refl)
+decided _ _ r s h = refl
 
 -- two payloads by what stands behind kind and nullness
 abbrev parts_cmp : Scalar → Scalar → Ordering

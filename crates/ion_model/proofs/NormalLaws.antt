@@ -50,11 +50,10 @@ module _ {X : Type 0} (E : X → X → Bool) (eq : IsEquivalence E) where
   -- lists that agree place by place count alike
   count-pointwise : (xs ys : List X) (x : X) → pointwise E xs ys ≡ true → count E xs x ≡ count E ys x
   count-pointwise [] [] x h = refl
-  count-pointwise [] (y ∷ ys) x h = cc
-  count-pointwise (z ∷ xs) [] x h = cc
   count-pointwise (z ∷ xs) (y ∷ ys) x h =
       let zy : E z y ≡ true = first _ _ h in
       count_by-cons (E x) z xs ∙ rw (eq.symm x z, eq.congr z y x zy, eq.symm y x, count-pointwise xs ys x (second (E z y) _ h)) (sym (count_by-cons (E x) y ys))
+  count-pointwise _ _ x h = cc
 
   -- lists that agree place by place have each item as often
   pub pointwise_counts : (xs ys : List X) → pointwise E xs ys ≡ true → Counts E xs ys
@@ -71,9 +70,7 @@ fields_moved xs ys zs h p = alike_from (field_same same) zs xs (counts_moved (fi
 -- the value with a payload put back
 pub same_with : (v : Value) (p q : Payload) → q ≡ v.payload → layer_same same (out-Payload p) (out-Payload q) ≡ true
     → same (roll-Value (record { annotations = v.annotations; payload = p })) v ≡ true
-same_with v p q e h =
-    same_payload (roll-Value (record { annotations = v.annotations; payload = p })) v refl
-    (subst (λ r. layer_same same (out-Payload p) (out-Payload r) ≡ true) e h)
+same_with v p q e h = same_payload _ v refl (subst (λ r. layer_same same (out-Payload p) (out-Payload r) ≡ true) e h)
 
 module _ {X : Type 0} (E : X → X → Bool) where
   -- a walk that changes the item at i

@@ -1,5 +1,5 @@
 -- Each value has a normal form: its fields are put in order one by one, inner levels first.
-use Rattle.std.proofs.Common.{◌≡◌, ℕ, ◌≤◌, ◌<◌, ◌+◌, zero, suc, List, [], ◌∷◌, length, get_or, Bool, true, false, cond, Ordering, Less, Equal, Greater, refl, arith, add-one, ap, ◌∙◌, sym, subst, true≢false}
+use Rattle.std.proofs.Common.{◌≡◌, ℕ, ◌≤◌, ◌<◌, ◌+◌, zero, suc, List, [], ◌∷◌, length, get_or, Bool, true, false, cond, Ordering, Less, refl, arith, add-one, ap, ◌∙◌, sym, subst, true≢false}
 use Rattle.std.specs.Ordering.{is_lt, ordering_reverse}
 use lib.Pointwise.{pointwise}
 use Rattle.ion_model.specs.Names.{AllFieldsNormal, AllNormal, AreNormalOf, Field, FieldsInOrder, IsNormal, Layer, LayerNormal, Payload, Payload-F, Value, annotated, depth, field_cmp, field_same, fields, items, layer_depth, layer_same, order, out-Payload, outs-Fields, outs-List, outs-Sexp, same}
@@ -36,8 +36,7 @@ Up (f ∷ fs) = Above f fs × Up fs
 
 not_both : (a b : Ordering) → b ≡ ordering_reverse a → is_lt a ≡ true → is_lt b ≡ false
 not_both Less b r h = ap is_lt r
-not_both Equal b r h = absurd (true≢false (sym h))
-not_both Greater b r h = absurd (true≢false (sym h))
+not_both _ b r h = absurd (true≢false (sym h))
 
 turned : (f g : Field) → below f g ≡ true → below g f ≡ false
 turned f g h = not_both (field_cmp order f g) (field_cmp order g f) ((field_cmp-total order order-total).antisymm g f) h
@@ -64,10 +63,9 @@ sorted_up (f ∷ fs) = put_up f (sorted fs) (sorted_up fs)
 
 -- by places
 placed : (fs : List Field) → Up fs → (k : ℕ) (d : Field) → suc k < length fs → below (get_or fs (suc k) d) (get_or fs k d) ≡ false
-placed [] up k d h = absurd (omega arith)
-placed (f ∷ []) up k d h = absurd (omega arith)
 placed (f ∷ g ∷ fs) up zero d h = up.0
 placed (f ∷ g ∷ fs) up (suc k) d h = placed (g ∷ fs) up.1 k d (omega arith)
+placed _ up k d h = absurd (omega arith)
 
 in_order : (fs : List Field) → Up fs → FieldsInOrder fs
 in_order fs up k d low h = rw (add-one k) (placed fs up k d (omega arith))
@@ -197,15 +195,7 @@ module _ (n : ℕ) (each : (v : Value) → depth v < n → NormalOf v) where
       let r = field_forms fs (omega (arith, h, fields-deep (Payload-F.Fields fs))) in
       with_payload v (payloads.Fields r.0) (Payload-F.Fields fs) (Payload-F.Fields r.0) e (outs-Fields r.0)
       ((λ k d h. absurd (omega arith)), r.1.inner, r.1.ordered) r.1.same
-  at_layer v (Payload-F.Null k) e h = itself v (Payload-F.Null k) e refl refl
-  at_layer v (Payload-F.Truth x) e h = itself v (Payload-F.Truth x) e refl refl
-  at_layer v (Payload-F.Int x) e h = itself v (Payload-F.Int x) e refl refl
-  at_layer v (Payload-F.Decimal x) e h = itself v (Payload-F.Decimal x) e refl refl
-  at_layer v (Payload-F.Timestamp x) e h = itself v (Payload-F.Timestamp x) e refl refl
-  at_layer v (Payload-F.Symbol x) e h = itself v (Payload-F.Symbol x) e refl refl
-  at_layer v (Payload-F.Str x) e h = itself v (Payload-F.Str x) e refl refl
-  at_layer v (Payload-F.Clob x) e h = itself v (Payload-F.Clob x) e refl refl
-  at_layer v (Payload-F.Blob x) e h = itself v (Payload-F.Blob x) e refl refl
+  at_layer v a e h = itself v a e refl refl
 
 to_level : (n : ℕ) (v : Value) → depth v < n → NormalOf v
 to_level zero v h = absurd (omega arith)

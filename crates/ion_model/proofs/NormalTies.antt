@@ -47,8 +47,7 @@ same-from_order v w h =
 
 -- fields that tie in the order are the same
 pub field_back : (f g : Field) → field_cmp order f g ≡ Equal → field_same same f g ≡ true
-field_back f g e = both _ _ (symbol_back f.name g.name (then_first (symbol_cmp f.name g.name) _ e))
-    (same-from_order f.value g.value (then_second (symbol_cmp f.name g.name) _ e))
+field_back f g e = both _ _ (symbol_back f.name g.name (then_first _ _ e)) (same-from_order f.value g.value (then_second _ _ e))
 
 get-greatest : {A : Type 0} (f : A → ℕ) (xs : List A) (i : ℕ) (d : A) → i < length xs → f (get_or xs i d) ≤ greatest (map f xs)
 get-greatest f [] i d h = absurd (omega arith)

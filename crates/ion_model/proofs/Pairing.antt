@@ -25,11 +25,9 @@ module _ {X : Type 0} (p : X → Bool) where
   left-pair : (k : ℕ) (x : X) (xs : List X) (bs : List Bool) → slice_get xs k ≡ Some x → slice_get bs k ≡ Some false
       → left xs bs ≡ cond (p x) 1 0 + left xs (set bs k true)
   unfolding left
-  left-pair k x [] bs h i = cc
-  left-pair k x (y ∷ ys) [] h i = cc
-  left-pair zero x (y ∷ ys) (true ∷ bs) h i = cc
   left-pair zero x (y ∷ ys) (false ∷ bs) h i = let e : y ≡ x = cc in rw e (omega arith)
   left-pair (suc k) x (y ∷ ys) (b ∷ bs) h i = omega (arith, left-pair k x ys bs h i)
+  left-pair _ x _ _ h i = cc
 
 bit-most : (b : Bool) → cond b 1 0 ≤ 1
 bit-most true = omega arith

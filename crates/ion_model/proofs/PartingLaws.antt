@@ -52,15 +52,7 @@ module _ (E : Value → Value → Bool) where
   inside (Payload-F.List vs) b h e = absurd (not_list vs b h e)
   inside (Payload-F.Sexp vs) b h e = absurd (not_sexp vs b h e)
   inside (Payload-F.Fields fs) b h e = absurd (not_fields fs b h e)
-  inside (Payload-F.Null k) b h e = let p = empty b (omega (arith, e)) in nothing (Payload-F.Null k) b refl refl p.0 p.1
-  inside (Payload-F.Truth x) b h e = let p = empty b (omega (arith, e)) in nothing (Payload-F.Truth x) b refl refl p.0 p.1
-  inside (Payload-F.Int x) b h e = let p = empty b (omega (arith, e)) in nothing (Payload-F.Int x) b refl refl p.0 p.1
-  inside (Payload-F.Decimal x) b h e = let p = empty b (omega (arith, e)) in nothing (Payload-F.Decimal x) b refl refl p.0 p.1
-  inside (Payload-F.Timestamp x) b h e = let p = empty b (omega (arith, e)) in nothing (Payload-F.Timestamp x) b refl refl p.0 p.1
-  inside (Payload-F.Symbol x) b h e = let p = empty b (omega (arith, e)) in nothing (Payload-F.Symbol x) b refl refl p.0 p.1
-  inside (Payload-F.Str x) b h e = let p = empty b (omega (arith, e)) in nothing (Payload-F.Str x) b refl refl p.0 p.1
-  inside (Payload-F.Clob x) b h e = let p = empty b (omega (arith, e)) in nothing (Payload-F.Clob x) b refl refl p.0 p.1
-  inside (Payload-F.Blob x) b h e = let p = empty b (omega (arith, e)) in nothing (Payload-F.Blob x) b refl refl p.0 p.1
+  inside a b h e = let p = empty b (omega (arith, e)) in nothing a b refl refl p.0 p.1
 
 not_true : (b : Bool) → (b ≡ true → ⊥) → b ≡ false
 not_true true h = absurd (h refl)
@@ -117,19 +109,17 @@ struct_parts v w fs gs p q ann differ = not_true _ (λ h.
 -- the items at the first place that differs aren't equivalent
 pub differ_at : (vs ws : List Value) (k : ℕ) (v w : Value) → k < length vs → k < length ws → v ≡ get_or vs k v → w ≡ get_or ws k w
     → EndOrDiffer (drop k vs) (drop k ws) → same v w ≡ false
-differ_at [] ws k v w p q e f h = absurd (omega arith)
-differ_at (x ∷ vs) [] k v w p q e f h = absurd (omega arith)
 differ_at (x ∷ vs) (y ∷ ws) zero v w p q e f h = rw (e, f) h
 differ_at (x ∷ vs) (y ∷ ws) (suc k) v w p q e f h = differ_at vs ws k v w (omega arith) (omega arith) e f h
+differ_at _ _ k v w p q e f h = absurd (omega arith)
 
 -- one item more that agrees
 agree_suc : (vs ws : List Value) (k : ℕ) (v w : Value) → k < length vs → k < length ws → v ≡ get_or vs k v → w ≡ get_or ws k w → same v w ≡ true
     → pointwise same (take k vs) (take k ws) ≡ true → pointwise same (take (suc k) vs) (take (suc k) ws) ≡ true
-agree_suc [] ws k v w p q e f h so_far = absurd (omega arith)
-agree_suc (x ∷ vs) [] k v w p q e f h so_far = absurd (omega arith)
 agree_suc (x ∷ vs) (y ∷ ws) zero v w p q e f h so_far = both _ _ (rw (← e, ← f) h) refl
 agree_suc (x ∷ vs) (y ∷ ws) (suc k) v w p q e f h so_far =
     both _ _ (first (same x y) _ so_far) (agree_suc vs ws k v w (omega arith) (omega arith) e f h (second (same x y) _ so_far))
+agree_suc _ _ k v w p q e f h so_far = absurd (omega arith)
 
 -- items that agree up to a place agree up to the next, where those at it are the same
 pub agree_more : (vs ws : List Value) (k : ℕ) (v w : Value) → k < length vs → k < length ws → v ≡ get_or vs k v → w ≡ get_or ws k w → same v w ≡ true
@@ -140,14 +130,13 @@ agree_more vs ws k v w p q e f h so_far = rw (add-one k) (agree_suc vs ws k v w 
 pub one_ends : (P : Value → Value → Type 0) (vs ws : List Value) (k : ℕ) → (k < length vs → k < length ws → ⊥) → k ≤ length vs
     → pointwise same (take k vs) (take k ws) ≡ true → pointwise same vs ws ≡ false → AtItems [] P (drop k vs) (drop k ws)
 one_ends P [] [] k short le agree differ = absurd (true≢false differ)
-one_ends P [] (w ∷ ws) zero short le agree differ = refl
 one_ends P [] (w ∷ ws) (suc k) short le agree differ = absurd (omega arith)
-one_ends P (v ∷ vs) [] zero short le agree differ = refl
 one_ends P (v ∷ vs) [] (suc k) short le agree differ = absurd (true≢false (sym agree))
 one_ends P (v ∷ vs) (w ∷ ws) zero short le agree differ = absurd (short (omega arith) (omega arith))
 one_ends P (v ∷ vs) (w ∷ ws) (suc k) short le agree differ =
     one_ends P vs ws k (λ p q. short (omega arith) (omega arith)) (omega arith) (second (same v w) _ agree)
     (not_true _ (λ h. contra _ (both _ _ (first (same v w) _ agree) h) differ))
+one_ends P _ _ _ _ le agree differ = refl
 
 -- the fields of a name: what counts among all of them counts among these
 named_step : (f g : Field) (b : Bool) (fs : List Field) (n : ℕ) → n ≡ count_by (λ h. same f.value h.value) fs
@@ -160,9 +149,8 @@ named-count : (s : Option (List ℕ)) (f : Field) → symbol_same s f.name ≡ t
 named-count s f is [] = refl
 named-count s f is (g ∷ fs) =
     let q : symbol_same f.name g.name ≡ symbol_same s g.name = sym (symbol_same-equiv.congr s f.name g.name is) in
-    count_by-cons (field_same same f) g fs
-    ∙ ap (λ b. cond (b && same f.value g.value) 1 0 + field_count same fs f) q
-    ∙ named_step f g (symbol_same s g.name) (filter (λ g. symbol_same s g.name) fs) _ (named-count s f is fs)
+    count_by-cons (field_same same f) g fs ∙ ap (λ b. cond (b && same f.value g.value) 1 0 + field_count same fs f) q
+    ∙ named_step f g _ _ _ (named-count s f is fs)
 
 only_is : (fs : List Field) (f : Field) → only fs ≡ Some f → fs ≡ f ∷ []
 only_is [] f e = cc

@@ -43,8 +43,7 @@ NotLess s t = is_lt (symbol_cmp s t) ≡ false
 
 name_first : (a b : Ordering) → is_lt (ordering_then a b) ≡ false → is_lt a ≡ false
 name_first Less b h = h
-name_first Equal b h = refl
-name_first Greater b h = refl
+name_first _ b h = refl
 
 not_less_back : (a b : Ordering) → a ≡ Less → b ≡ ordering_reverse a → is_lt b ≡ false
 not_less_back a b p q = ap is_lt (q ∙ ap ordering_reverse p)
@@ -154,6 +153,5 @@ answer_from fs gs l r nl nr (Some s) h =
 -- where normal forms of fields first don't tie, the lesser name is the least that parts them
 pub least-name : (fs gs l r : List Field) → AreNormalOf l fs → AreNormalOf r gs
     → MatchOption (first_untied l r) (fields_same same fs gs ≡ true) (λ s. LeastParting fs gs s)
-least-name fs gs l r nl nr =
-    answer_from fs gs l r nl nr (first_untied l r)
+least-name fs gs l r nl nr = answer_from fs gs l r nl nr _
     (untied l r (record { inner = nl.inner; ordered = nl.ordered }) (record { inner = nr.inner; ordered = nr.ordered }))

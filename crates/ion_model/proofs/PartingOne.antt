@@ -1,5 +1,5 @@
 -- Two values have one path at most.
-use Rattle.std.proofs.Common.{◌≡◌, ℕ, ◌+◌, ◌<◌, zero, suc, List, [], ◌∷◌, take, drop, true, false, Ordering, Less, Equal, Greater, Option, Some, None, refl, arith, ap, ◌∙◌, sym, subst, true≢false, ◌⊎◌, ⊎_elim, inl, inr}
+use Rattle.std.proofs.Common.{◌≡◌, ℕ, ◌+◌, ◌<◌, zero, suc, List, [], ◌∷◌, take, drop, true, false, Ordering, Less, Equal, Greater, Option, Some, refl, arith, ap, ◌∙◌, sym, subst, true≢false, ◌⊎◌, ⊎_elim, inl, inr}
 use Rattle.std.specs.Ordering.{is_lt, ordering_reverse}
 use lib.Pointwise.{pointwise}
 use Rattle.ion_model.specs.Names.{AtFields, AtItems, Field, FieldsPart, IsPath, ItemsPart, Layer, LeastParting, Part, Payload-F, Value, field_count, fields, heads_same, items, once_named, out-Payload, same, scalar, symbol_cmp, symbol_same}
@@ -28,9 +28,8 @@ module _ (p q : List Part) (one : (v w : Value) → IsPath p v w → IsPath q v 
       (ap suc r.0, r.1)
 
   fields_one : (f g : Option Field) → AtFields p (IsPath p) f g → AtFields q (IsPath q) f g → p ≡ q
-  fields_one None g h k = h ∙ sym k
-  fields_one (Some f) None h k = h ∙ sym k
   fields_one (Some f) (Some g) h k = one f.value g.value h k
+  fields_one _ _ h k = h ∙ sym k
 
 -- names of which neither is less are one
 neither_less : (a b : Ordering) → b ≡ ordering_reverse a → is_lt a ≡ false → is_lt b ≡ false → a ≡ Equal
@@ -68,13 +67,10 @@ fields_gone fs gs s e f l = l.parted (ap (λ hs. field_count same hs l.field) (e
 -- two payloads of one kind don't part both at an item and at a name
 item_or_name : (a b : Layer) → tag (scalar a) ≡ tag (scalar b) → (p q : List Part) (n : ℕ) (s : Option (List ℕ)) → ItemsPart p (IsPath p) n (items a) (items b)
     → FieldsPart q (IsPath q) s (fields a) (fields b) → ⊥
-item_or_name a b e p q n s i f =
-    ⊎_elim
-    (λ none. ⊎_elim
-    (λ gone. items_gone p (IsPath p) (items a) (items b) i.before none gone i.there)
-    (λ r. fields_gone (fields a) (fields b) s (no_fields a (let low = r.1 in omega (arith, low))) r.0 f.name)
+item_or_name a b e p q n s i f = ⊎_elim (λ none. ⊎_elim (λ gone. items_gone p _ _ _ i.before none gone i.there)
+    (λ r. fields_gone _ _ s (no_fields a (let low = r.1 in omega (arith, low))) r.0 f.name)
     (items_or_fields b))
-    (λ r. fields_gone (fields a) (fields b) s r.0 (no_fields b (let low = r.1 in omega (arith, low))) f.name)
+    (λ r. fields_gone _ _ s r.0 (no_fields b (let low = r.1 in omega (arith, low))) f.name)
     (items_or_fields a)
 
 kinds_agree : (v w : Value) → heads_same v w ≡ true → tag (scalar (out-Payload v.payload)) ≡ tag (scalar (out-Payload w.payload))
@@ -91,10 +87,8 @@ path_one (Part.Item n ∷ p) (Part.Item m ∷ q) v w h k =
     let j = k.1 in
     let r = items_one p q (path_one p q) (items (out-Payload v.payload)) (items (out-Payload w.payload)) i.before j.before i.agree j.agree i.there j.there in
     ap (λ x. Part.Item x ∷ p) (i.number ∙ ap (λ x. x + 1) r.0 ∙ sym j.number) ∙ ap (λ x. Part.Item m ∷ x) r.1
-path_one (Part.Item n ∷ p) (Part.Name t ∷ q) v w h k =
-    absurd (item_or_name (out-Payload v.payload) (out-Payload w.payload) (kinds_agree v w h.0) p q n t h.1 k.1)
-path_one (Part.Name s ∷ p) (Part.Item m ∷ q) v w h k =
-    absurd (item_or_name (out-Payload v.payload) (out-Payload w.payload) (kinds_agree v w h.0) q p m s k.1 h.1)
+path_one (Part.Item n ∷ p) (Part.Name t ∷ q) v w h k = absurd (item_or_name _ _ (kinds_agree v w h.0) p q n t h.1 k.1)
+path_one (Part.Name s ∷ p) (Part.Item m ∷ q) v w h k = absurd (item_or_name _ _ (kinds_agree v w h.0) q p m s k.1 h.1)
 path_one (Part.Name s ∷ p) (Part.Name t ∷ q) v w h k =
     let fs = fields (out-Payload v.payload) in
     let gs = fields (out-Payload w.payload) in

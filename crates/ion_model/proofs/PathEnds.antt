@@ -1,19 +1,16 @@
 -- What stands at the end of a path truly differs.
-use Rattle.std.proofs.Common.{◌≡◌, ◌-◌, List, [], ◌∷◌, drop, Option, Some, None, arith, subst}
+use Rattle.std.proofs.Common.{◌≡◌, ◌-◌, List, [], ◌∷◌, drop, Option, Some, arith, subst}
 use Rattle.ion_model.specs.Names.{AtFields, AtItems, AtNamed, EndsApart, Field, IsPartedName, IsPath, Part, Value, fields, items, once_named, out-Payload}
 use Rattle.ion_model.proofs.PartingLaws.{path_differs}
 
 module _ (rest : List Part) (P Q : Value → Value → Type 0) (leads : (v w : Value) → P v w → Q v w) where
   at_items : (vs ws : List Value) → AtItems rest P vs ws → AtItems rest Q vs ws
-  at_items [] [] h = h
-  at_items [] (w ∷ ws) h = h
-  at_items (v ∷ vs) [] h = h
   at_items (v ∷ vs) (w ∷ ws) h = leads v w h
+  at_items _ _ h = h
 
   at_named : (N : Type 0) (f g : Option Field) → N → AtFields rest P f g → AtNamed rest Q N f g
   at_named N (Some f) (Some g) n h = leads f.value g.value h
-  at_named N (Some f) None n h = (h, n)
-  at_named N None g n h = (h, n)
+  at_named N _ _ n h = (h, n)
 
 -- what stands at the end of a path to where two values part truly differs
 pub ends_apart : (path : List Part) (v w : Value) → IsPath path v w → EndsApart path v w

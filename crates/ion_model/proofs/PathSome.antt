@@ -57,15 +57,13 @@ module _ (n : ℕ) (each : (v w : Value) → depth v < n → same v w ≡ false 
 
   items_some : (vs ws : List Value) → items_deep vs ≤ n → pointwise same vs ws ≡ false → ItemsOf vs ws
   items_some [] [] h differ = absurd (true≢false differ)
-  items_some [] (w ∷ ws) h differ = record { rest = []; before = 0; agree = refl; there = refl }
-  items_some (v ∷ vs) [] h differ = record { rest = []; before = 0; agree = refl; there = refl }
   items_some (v ∷ vs) (w ∷ ws) h differ = item_at v w vs ws (same v w) refl (omega arith) differ (items_some vs ws (omega arith))
+  items_some _ _ h differ = record { rest = []; before = 0; agree = refl; there = refl }
 
   field_at : (fs gs : List Field) (s : Option (List ℕ)) → LeastParting fs gs s → ((f : Field) → once_named s fs ≡ Some f → depth f.value < n)
       → (f g : Option Field) → once_named s fs ≡ f → once_named s gs ≡ g → (rest : List Part) × AtFields rest (IsPath rest) f g
   field_at fs gs s l deep (Some f) (Some g) p q = let r = each f.value g.value (deep f p) (once_parts fs gs s f g l p q) in (r.path, r.is)
-  field_at fs gs s l deep (Some f) None p q = ([], refl)
-  field_at fs gs s l deep None g p q = ([], refl)
+  field_at fs gs s l deep _ _ p q = ([], refl)
 
   fields_some : (a : Layer) (gs : List Field) → layer_depth a ≤ n → fields_same same (fields a) gs ≡ false → FieldsOf (fields a) gs
   fields_some a gs h differ =

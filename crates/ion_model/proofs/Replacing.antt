@@ -17,8 +17,7 @@ Symbols = List (Option (List ℕ))
 -- two values of the same annotations, by one level of their payloads
 level : (a : Symbols) (p q : Payload) (x y : Layer) → views.out-Payload p ≡ x → views.out-Payload q ≡ y → layer_same same x y ≡ true
     → same (annotated a p) (annotated a q) ≡ true
-level a p q x y e f h =
-    sym (same-payload (annotated a p) (annotated a q) ((lists_equiv symbol_same-equiv).refl a))
+level a p q x y e f h = sym (same-payload _ _ ((lists_equiv symbol_same-equiv).refl a))
     ∙ ap (λ l. layer_same same l (views.out-Payload q)) e ∙ ap (λ l. layer_same same x l) f ∙ h
 
 -- lists of the same annotations are equivalent, where their items are place by place

@@ -50,8 +50,7 @@ module _ {X : Type 0} (E : X → X → Bool) where
 
   pub pick : (p q : X → Bool) (xs : List X) → list_all q xs ≡ true → 0 < count_by p xs → Picked p q
   pick p q [] all h = absurd (omega arith)
-  pick p q (x ∷ xs) all h =
-      pick_at p q x xs (p x) refl (first _ _ all) (pick p q xs (second (q x) _ all)) (let e = count_by-cons p x xs in omega (arith, e))
+  pick p q (x ∷ xs) all h = pick_at p q x xs _ refl (first _ _ all) (pick p q xs (second (q x) _ all)) (let e = count_by-cons p x xs in omega (arith, e))
 
   -- the place of an item that E counts
   pub record Found (x : X) (ys : List X) : Type 0 where

@@ -25,10 +25,8 @@ depth_step-layer _ = refl
 -- the depth by one level
 pub depth-out : (v : Value) → depth v ≡ layer_depth (views.out-Payload v.payload)
 unfolding depth
-depth-out v =
-    fold_out-Value ℕ ℕ ℕ depth_step (λ f. f.value) (λ v. v.payload) v
-    ∙ fold_out-Payload ℕ ℕ ℕ depth_step (λ f. f.value) (λ v. v.payload) v.payload
-    ∙ depth_step-layer (views.out-Payload v.payload)
+depth-out v = fold_out-Value ℕ ℕ ℕ depth_step (λ f. f.value) (λ v. v.payload) v ∙ fold_out-Payload ℕ ℕ ℕ depth_step (λ f. f.value) (λ v. v.payload) v.payload
+    ∙ depth_step-layer _
 
 -- the same of any value whose payload is known
 pub depth-at : (v : Value) (p : Payload) → v.payload ≡ p → depth v ≡ layer_depth (views.out-Payload p)

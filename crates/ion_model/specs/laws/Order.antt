@@ -8,19 +8,15 @@ use Rattle.ion_model.specs.laws.Same.{Agree, fields-deep, fields_deep, items-dee
 
 slice_cmp-agree : (n : ℕ) (R S : Value → Value → Ordering) → Agree n R S → (vs ws : List Value) → items_deep vs ≤ n → items_deep ws ≤ n
     → slice_cmp R vs ws ≡ slice_cmp S vs ws
-slice_cmp-agree n R S h [] [] p q = refl
-slice_cmp-agree n R S h [] (w ∷ ws) p q = refl
-slice_cmp-agree n R S h (v ∷ vs) [] p q = refl
 slice_cmp-agree n R S h (v ∷ vs) (w ∷ ws) p q =
     rw (h.at v w (omega arith) (omega arith), slice_cmp-agree n R S h vs ws (omega arith) (omega arith))
+slice_cmp-agree n R S h _ _ p q = refl
 
 fields_cmp-agree : (n : ℕ) (R S : Value → Value → Ordering) → Agree n R S → (fs gs : List Field) → fields_deep fs ≤ n → fields_deep gs ≤ n
     → slice_cmp (field_cmp R) fs gs ≡ slice_cmp (field_cmp S) fs gs
-fields_cmp-agree n R S h [] [] p q = refl
-fields_cmp-agree n R S h [] (g ∷ gs) p q = refl
-fields_cmp-agree n R S h (f ∷ fs) [] p q = refl
 fields_cmp-agree n R S h (f ∷ fs) (g ∷ gs) p q =
     rw (h.at f.value g.value (omega arith) (omega arith), fields_cmp-agree n R S h fs gs (omega arith) (omega arith))
+fields_cmp-agree n R S h _ _ p q = refl
 
 layer-agree : (n : ℕ) (R S : Value → Value → Ordering) → Agree n R S → (a b : Layer) → layer_depth a ≤ n → layer_depth b ≤ n → layer_cmp R a b ≡ layer_cmp S a b
 layer-agree n R S h a b p q =
@@ -37,10 +33,8 @@ value-agree n R S h v w p q =
 
 stable : (m n k : ℕ) → k ≤ m → k ≤ n → Agree k (order_to m) (order_to n)
 stable m n zero p q = record { at = λ v w a b. absurd (omega arith) }
-stable zero n (suc k) p q = absurd (omega arith)
-stable (suc m) zero (suc k) p q = absurd (omega arith)
-stable (suc m) (suc n) (suc k) p q =
-    record { at = λ v w a b. value-agree k (order_to m) (order_to n) (stable m n k (omega arith) (omega arith)) v w (omega arith) (omega arith) }
+stable (suc m) (suc n) (suc k) p q = record { at = λ v w a b. value-agree k _ _ (stable m n k (omega arith) (omega arith)) v w (omega arith) (omega arith) }
+stable _ _ _ p q = absurd (omega arith)
 
 -- the order as far as n levels show is the order, of values less than n deep
 pub order-agrees : (n : ℕ) → Agree n (order_to n) order
@@ -58,24 +52,11 @@ order-is v w = value-agree (max (depth v) (depth w)) _ order (order-agrees (max 
 -- a proper prefix comes first
 pub prefix_first : {A : Type 0} (R : A → A → Ordering) (xs ys : List A) (i : ℕ) → length xs ≤ i → i ≤ length xs → length xs < length ys
     → Less ≡ slice_cmp R (drop i xs) (drop i ys)
-prefix_first R [] [] i p q h = absurd (omega arith)
-prefix_first R (x ∷ xs) [] i p q h = absurd (omega arith)
 prefix_first R [] (y ∷ ys) zero p q h = refl
-prefix_first R [] (y ∷ ys) (suc i) p q h = absurd (omega arith)
-prefix_first R (x ∷ xs) (y ∷ ys) zero p q h = absurd (omega arith)
 prefix_first R (x ∷ xs) (y ∷ ys) (suc i) p q h = prefix_first R xs ys i (omega arith) (omega arith) (omega arith)
+prefix_first R _ _ _ p q h = absurd (omega arith)
 
 -- the kind of one level, as a number
 pub scalar-kind : (a : Layer) → (scalar a).kind ≡ kind_rank (layer_kind a)
 scalar-kind (Payload-F.Null x) = refl
-scalar-kind (Payload-F.Truth x) = refl
-scalar-kind (Payload-F.Int x) = refl
-scalar-kind (Payload-F.Decimal x) = refl
-scalar-kind (Payload-F.Timestamp x) = refl
-scalar-kind (Payload-F.Symbol x) = refl
-scalar-kind (Payload-F.Str x) = refl
-scalar-kind (Payload-F.Clob x) = refl
-scalar-kind (Payload-F.Blob x) = refl
-scalar-kind (Payload-F.List x) = refl
-scalar-kind (Payload-F.Sexp x) = refl
-scalar-kind (Payload-F.Fields x) = refl
+scalar-kind _ = refl

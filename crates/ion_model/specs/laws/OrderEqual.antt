@@ -1,7 +1,7 @@
 -- The order ties no two values.
 use Rattle.std.proofs.Common.{◌≡◌, ℕ, ◌≤◌, ◌<◌, zero, suc, max, List, [], ◌∷◌, map, cond, Ordering, Equal, Option, refl, arith, ap, ◌∙◌, sym, eqb}
 use Rattle.std.specs.Cmp.Lexicographic.{slice_cmp}
-use Rattle.ion_model.specs.Names.{Field, Kind, Layer, Payload, Payload-F, Scalar, Value, depth, field_cmp, fields, greatest, items, kind_rank, layer_cmp, order, order_to, out-Payload, roll-out-Payload, scalar, scalar_cmp, symbol_cmp}
+use Rattle.ion_model.specs.Names.{Field, Kind, Layer, Payload, Payload-F, Scalar, Value, depth, field_cmp, fields, greatest, items, kind_rank, order, order_to, out-Payload, roll-out-Payload, scalar, symbol_cmp}
 use Rattle.ion_atoms.specs.laws.Ties.{then_first, then_second}
 use Rattle.ion_model.specs.declared.value.Payload.TheViews.{roll-Payload}
 use Rattle.ion_model.specs.laws.Measures.{depth-out}
@@ -19,18 +19,7 @@ kind_at n =
 kind_at-rank : (k : Kind) → kind_at (kind_rank k) ≡ k
 unfolding kind_at
 kind_at-rank Kind.Null = refl
-kind_at-rank Kind.Bool = refl
-kind_at-rank Kind.Int = refl
-kind_at-rank Kind.Float = refl
-kind_at-rank Kind.Decimal = refl
-kind_at-rank Kind.Timestamp = refl
-kind_at-rank Kind.Symbol = refl
-kind_at-rank Kind.Str = refl
-kind_at-rank Kind.Clob = refl
-kind_at-rank Kind.Blob = refl
-kind_at-rank Kind.List = refl
-kind_at-rank Kind.Sexp = refl
-kind_at-rank Kind.Fields = refl
+kind_at-rank _ = refl
 
 -- the layer that has these parts
 rebuild : Scalar → List Value → List Field → Layer
@@ -44,17 +33,7 @@ rebuild s vs fs = cond s.full (cond (eqb s.kind 1) (Payload-F.Truth s.truth)
 rebuilt : (a : Layer) → rebuild (scalar a) (items a) (fields a) ≡ a
 unfolding rebuild
 rebuilt (Payload-F.Null k) = ap Payload-F.Null (kind_at-rank k)
-rebuilt (Payload-F.Truth x) = refl
-rebuilt (Payload-F.Int x) = refl
-rebuilt (Payload-F.Decimal x) = refl
-rebuilt (Payload-F.Timestamp x) = refl
-rebuilt (Payload-F.Symbol x) = refl
-rebuilt (Payload-F.Str x) = refl
-rebuilt (Payload-F.Clob x) = refl
-rebuilt (Payload-F.Blob x) = refl
-rebuilt (Payload-F.List x) = refl
-rebuilt (Payload-F.Sexp x) = refl
-rebuilt (Payload-F.Fields x) = refl
+rebuilt _ = refl
 
 layer_is : (a b : Layer) → scalar a ≡ scalar b → items a ≡ items b → fields a ≡ fields b → a ≡ b
 layer_is a b p q r = sym (rebuilt a) ∙ ap (λ s. rebuild s (items a) (fields a)) p ∙ ap (λ vs. rebuild (scalar b) vs (fields a)) q
@@ -64,19 +43,16 @@ layer_is a b p q r = sym (rebuilt a) ∙ ap (λ s. rebuild s (items a) (fields a
 lists_are : {X : Type 0} (R : X → X → Ordering) (f : X → ℕ) (n : ℕ) → ((x y : X) → f x < n → f y < n → R x y ≡ Equal → x ≡ y) → (xs ys : List X)
     → greatest (map (λ x. suc (f x)) xs) ≤ n → greatest (map (λ x. suc (f x)) ys) ≤ n → slice_cmp R xs ys ≡ Equal → xs ≡ ys
 lists_are R f n each [] [] p q h = refl
-lists_are R f n each [] (y ∷ ys) p q h = cc
-lists_are R f n each (x ∷ xs) [] p q h = cc
 lists_are R f n each (x ∷ xs) (y ∷ ys) p q h =
     let head : x ≡ y = each x y (omega arith) (omega arith) (then_first (R x y) _ h) in
     let tail : xs ≡ ys = lists_are R f n each xs ys (omega arith) (omega arith) (then_second (R x y) _ h) in
     ap (λ z. z ∷ xs) head ∙ ap (λ zs. y ∷ zs) tail
+lists_are R f n each _ _ p q h = cc
 
 symbols_are : (xs ys : List (Option (List ℕ))) → slice_cmp symbol_cmp xs ys ≡ Equal → xs ≡ ys
 symbols_are [] [] h = refl
-symbols_are [] (y ∷ ys) h = cc
-symbols_are (x ∷ xs) [] h = cc
-symbols_are (x ∷ xs) (y ∷ ys) h = ap (λ z. z ∷ xs) (symbol_is x y (then_first (symbol_cmp x y) _ h))
-    ∙ ap (λ zs. y ∷ zs) (symbols_are xs ys (then_second (symbol_cmp x y) _ h))
+symbols_are (x ∷ xs) (y ∷ ys) h = ap (λ z. z ∷ xs) (symbol_is x y (then_first _ _ h)) ∙ ap (λ zs. y ∷ zs) (symbols_are xs ys (then_second _ _ h))
+symbols_are _ _ h = cc
 
 abbrev valued : List (Option (List ℕ)) → Payload → Value
 valued a p = record { annotations = a; payload = p }
@@ -94,17 +70,16 @@ is_to (suc n) v w p q h =
     let ib : items_deep (items b) ≤ n = omega (arith, depth-out w, items-deep b) in
     let fa : fields_deep (fields a) ≤ n = omega (arith, depth-out v, fields-deep a) in
     let fb : fields_deep (fields b) ≤ n = omega (arith, depth-out w, fields-deep b) in
-    let l = then_first (layer_cmp R a b) _ h in
-    let k = then_second (scalar_cmp (scalar a) (scalar b)) _ l in
+    let l = then_first _ _ h in
+    let k = then_second _ _ l in
     let field_is = λ (f g : Field) (df : depth f.value < n) (dg : depth g.value < n) (e : field_cmp R f g ≡ Equal).
-    ap (λ x. named x f.value) (symbol_is f.name g.name (then_first (symbol_cmp f.name g.name) _ e))
-    ∙ ap (λ x. named g.name x) (is_to n f.value g.value df dg (then_second (symbol_cmp f.name g.name) _ e)) in
-    let same_items : items a ≡ items b = lists_are R depth n (is_to n) (items a) (items b) ia ib (then_first (slice_cmp R (items a) (items b)) _ k) in
-    let same_fields : fields a ≡ fields b = lists_are (field_cmp R) (λ f. depth f.value) n field_is (fields a) (fields b) fa fb
-    (then_second (slice_cmp R (items a) (items b)) _ k) in
-    let layers : a ≡ b = layer_is a b (scalar_is (scalar a) (scalar b) (then_first (scalar_cmp (scalar a) (scalar b)) _ l)) same_items same_fields in
+    ap (λ x. named x f.value) (symbol_is f.name g.name (then_first _ _ e)) ∙ ap (λ x. named g.name x) (is_to n f.value g.value df dg (then_second _ _ e)) in
+    let same_items : items a ≡ items b = lists_are R depth n (is_to n) (items a) (items b) ia ib (then_first _ _ k) in
+    let same_fields : fields a ≡ fields b = lists_are (field_cmp R) _ n field_is (fields a) (fields b) fa fb
+    (then_second _ _ k) in
+    let layers : a ≡ b = layer_is a b (scalar_is _ _ (then_first _ _ l)) same_items same_fields in
     let payloads : v.payload ≡ w.payload = sym (roll-out-Payload v.payload) ∙ ap roll-Payload layers ∙ roll-out-Payload w.payload in
-    ap (λ x. valued x v.payload) (symbols_are v.annotations w.annotations (then_second (layer_cmp R a b) _ h)) ∙ ap (λ x. valued w.annotations x) payloads
+    ap (λ x. valued x v.payload) (symbols_are v.annotations w.annotations (then_second _ _ h)) ∙ ap (λ x. valued w.annotations x) payloads
 
 -- values that tie in the order are equal
 pub equal_from_order : (v w : Value) → order v w ≡ Equal → v ≡ w

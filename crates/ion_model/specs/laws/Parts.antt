@@ -15,9 +15,8 @@ use Rattle.ion_model.specs.laws.OrderTotal.{scalar_cmp-total, symbol_cmp-total}
 
 text_back : (s t : List ℕ) → text_cmp s t ≡ Equal → text_same s t ≡ true
 text_back [] [] h = refl
-text_back [] (y ∷ ys) h = cc
-text_back (x ∷ xs) [] h = cc
 text_back (x ∷ xs) (y ∷ ys) h = both _ _ (nat_back x y (then_first _ _ h)) (text_back xs ys (then_second (nat_cmp x y) _ h))
+text_back _ _ h = cc
 
 text_from : (s t : List ℕ) → text_same s t ≡ true → s ≡ t
 text_from s t h = (bytes_eq-Decides s t).0 h
@@ -28,16 +27,14 @@ text_is s t h = text_from s t (text_back s t h)
 -- symbols that are the same are equal
 pub symbol_from : (s t : Option (List ℕ)) → symbol_same s t ≡ true → s ≡ t
 symbol_from None None h = refl
-symbol_from None (Some t) h = cc
-symbol_from (Some s) None h = cc
 symbol_from (Some s) (Some t) h = ap Some (text_from s t h)
+symbol_from _ _ h = cc
 
 -- symbols that tie in the order are equal
 pub symbol_is : (s t : Option (List ℕ)) → symbol_cmp s t ≡ Equal → s ≡ t
 symbol_is None None h = refl
-symbol_is None (Some t) h = cc
-symbol_is (Some s) None h = cc
 symbol_is (Some s) (Some t) h = ap Some (text_is s t h)
+symbol_is _ _ h = cc
 
 -- scalars that agree in every part are equal
 pub scalar_from : (s t : Scalar) → scalar_same s t ≡ true → s ≡ t
@@ -98,16 +95,14 @@ pub pointwise_tie : {X : Type 0} (E : X → X → Bool) (R : X → X → Orderin
     → ((k : ℕ) (d : X) → k < length xs → k < length ys → E (get_or xs k d) (get_or ys k d) ≡ true → R (get_or xs k d) (get_or ys k d) ≡ Equal)
     → pointwise E xs ys ≡ true → slice_cmp R xs ys ≡ Equal
 pointwise_tie E R [] [] each h = refl
-pointwise_tie E R [] (y ∷ ys) each h = absurd (true≢false (sym h))
-pointwise_tie E R (x ∷ xs) [] each h = absurd (true≢false (sym h))
 pointwise_tie E R (x ∷ xs) (y ∷ ys) each h =
     then_tie _ _ (each 0 x (omega arith) (omega arith) (first _ _ h))
     (pointwise_tie E R xs ys (λ k d p q s. each (suc k) d (omega arith) (omega arith) s) (second (E x y) _ h))
+pointwise_tie E R _ _ each h = absurd (true≢false (sym h))
 
 -- lists that tie agree place by place, where items that tie are the same
 pub pointwise_back : {X : Type 0} (E : X → X → Bool) (R : X → X → Ordering) → ((x y : X) → R x y ≡ Equal → E x y ≡ true) → (xs ys : List X)
     → slice_cmp R xs ys ≡ Equal → pointwise E xs ys ≡ true
 pointwise_back E R each [] [] h = refl
-pointwise_back E R each [] (y ∷ ys) h = cc
-pointwise_back E R each (x ∷ xs) [] h = cc
 pointwise_back E R each (x ∷ xs) (y ∷ ys) h = both _ _ (each x y (then_first _ _ h)) (pointwise_back E R each xs ys (then_second (R x y) _ h))
+pointwise_back E R each _ _ h = cc

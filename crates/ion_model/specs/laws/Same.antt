@@ -21,11 +21,9 @@ fields_deep fs = greatest (map (λ f. suc (depth f.value)) fs)
 
 pointwise-agree : (n : ℕ) (E F : Value → Value → Bool) → Agree n E F → (vs ws : List Value) → items_deep vs ≤ n → items_deep ws ≤ n
     → pointwise E vs ws ≡ pointwise F vs ws
-pointwise-agree n E F h [] [] p q = refl
-pointwise-agree n E F h [] (w ∷ ws) p q = refl
-pointwise-agree n E F h (v ∷ vs) [] p q = refl
 pointwise-agree n E F h (v ∷ vs) (w ∷ ws) p q =
     rw (h.at v w (omega arith) (omega arith), pointwise-agree n E F h vs ws (omega arith) (omega arith))
+pointwise-agree n E F h _ _ p q = refl
 
 field_count-agree : (n : ℕ) (E F : Value → Value → Bool) → Agree n E F → (gs : List Field) (f : Field) → fields_deep gs ≤ n → depth f.value < n
     → field_count E gs f ≡ field_count F gs f
@@ -67,9 +65,9 @@ layer-agree n E F h a b p q =
     let fa : fields_deep (fields a) ≤ n = omega (arith, fields-deep a) in
     let fb : fields_deep (fields b) ≤ n = omega (arith, fields-deep b) in
     rw (
-      pointwise-agree n E F h (items a) (items b) ia ib,
-      counts-agree n E F h (fields a) (fields b) (fields a) fa fb fa,
-      counts-agree n E F h (fields a) (fields b) (fields b) fa fb fb,
+      pointwise-agree n E F h _ _ ia ib,
+      counts-agree n E F h _ _ _ fa fb fa,
+      counts-agree n E F h _ _ _ fa fb fb,
     )
 
 -- and one level above
@@ -81,10 +79,8 @@ value-agree n E F h v w p q =
 -- levels below the deepest value change nothing
 stable : (m n k : ℕ) → k ≤ m → k ≤ n → Agree k (same_to m) (same_to n)
 stable m n zero p q = record { at = λ v w a b. absurd (omega arith) }
-stable zero n (suc k) p q = absurd (omega arith)
-stable (suc m) zero (suc k) p q = absurd (omega arith)
-stable (suc m) (suc n) (suc k) p q =
-    record { at = λ v w a b. value-agree k (same_to m) (same_to n) (stable m n k (omega arith) (omega arith)) v w (omega arith) (omega arith) }
+stable (suc m) (suc n) (suc k) p q = record { at = λ v w a b. value-agree k _ _ (stable m n k (omega arith) (omega arith)) v w (omega arith) (omega arith) }
+stable _ _ _ p q = absurd (omega arith)
 
 -- equivalence to n levels is equivalence, of values less than n deep
 pub same-agrees : (n : ℕ) → Agree n (same_to n) same

@@ -64,13 +64,11 @@ tidy_rows-loop-i-preserved t c =
     let lt : c.loop-i.i < length c.loop-i.rows.items = omega (arith, c.args.rows.now.ok.0, c.loop-i.invariant.long) in
     record {
       long = length-set _ _ _ ∙ c.loop-i.invariant.long;
-      same = walked (field_same same) c.loop-i.rows.items c.args.rows.now.items c.loop-i.i
-          (roll-Field (record { name = c.index_mut.result.now.name; value = c.tidy.new.value })) c.index_mut.result.now lt c.loop-i.invariant.same
+      same = walked _ c.loop-i.rows.items c.args.rows.now.items c.loop-i.i _ c.index_mut.result.now lt c.loop-i.invariant.same
           c.loop-i.invariant.later c.index_mut.ensures.value (both _ _ (symbol_same-equiv.refl c.index_mut.result.now.name) c.in_ok-tidy.ensures.same);
       later = later_more c.loop-i.rows.items c.args.rows.now.items c.loop-i.i
           (roll-Field (record { name = c.index_mut.result.now.name; value = c.tidy.new.value })) c.loop-i.invariant.later;
-      normal = done_more (λ f. IsNormal f.value) c.loop-i.rows.items c.loop-i.i
-          (roll-Field (record { name = c.index_mut.result.now.name; value = c.tidy.new.value })) lt c.loop-i.invariant.normal c.in_ok-tidy.ensures.normal;
+      normal = done_more (λ f. IsNormal f.value) c.loop-i.rows.items c.loop-i.i _ lt c.loop-i.invariant.normal c.in_ok-tidy.ensures.normal;
     }
 
 pub tidy_values-loop-i-init : goal.tidy_values-loop-i-init

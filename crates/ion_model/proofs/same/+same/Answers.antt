@@ -1,7 +1,7 @@
 use Rattle.std.proofs.Common.{◌≡◌, ◌<◌, suc, map, length, Bool, true, false, ◌&&◌, refl, arith, ap, sym, ◌∙◌}
 use Rattle.std.specs.Bool.{beq}
 use lib.Pointwise.{pointwise}
-use Rattle.ion_model.specs.Names.{Layer, Payload, Payload-F, decimal_same, depth, greatest, layer_same, out-Payload, outs-Blob, outs-Clob, outs-Decimal, outs-Fields, outs-List, outs-Sexp, outs-Str, outs-Symbol, outs-Timestamp, outs-Truth, same, symbol_same, text_same, timestamp_same}
+use Rattle.ion_model.specs.Names.{Layer, Payload, decimal_same, depth, greatest, layer_same, out-Payload, outs-Blob, outs-Clob, outs-Decimal, outs-Fields, outs-List, outs-Sexp, outs-Str, outs-Symbol, outs-Timestamp, outs-Truth, same, symbol_same, text_same, timestamp_same}
 use Rattle.ion_model.specs.laws.Measures.{depth-at-Fields, depth-at-List, depth-at-Sexp, greatest-at}
 use Rattle.ion_model.specs.laws.Same.{counts_agree_fails, counts_agree_more, same-is}
 use Rattle.ion_model.proofs.same.+same.Goals as goal
@@ -79,72 +79,58 @@ same_payload-same_fields-requires t c =
 pub same_payload-returns-in-Truth-Truth : goal.same_payload-returns-in-Truth-Truth
 same_payload-returns-in-Truth-Truth t c =
     let arm = c.in-Truth-Truth in
-    held c.args.a.now.payload c.args.b.now.payload (Payload-F.Truth arm.s) (Payload-F.Truth arm.t) _ (ap out-Payload arm.is-0 ∙ outs-Truth arm.s)
-    (ap out-Payload arm.is-1 ∙ outs-Truth arm.t)
-    (behind (beq arm.s arm.t))
+    held _ _ _ _ _ (ap out-Payload arm.is-0 ∙ outs-Truth arm.s) (ap out-Payload arm.is-1 ∙ outs-Truth arm.t) (behind (beq arm.s arm.t))
 
 pub same_payload-returns-in-Decimal-Decimal : goal.same_payload-returns-in-Decimal-Decimal
 same_payload-returns-in-Decimal-Decimal t c =
     let arm = c.in-Decimal-Decimal in
-    held c.args.a.now.payload c.args.b.now.payload (Payload-F.Decimal arm.d) (Payload-F.Decimal arm.e) _ (ap out-Payload arm.is-0 ∙ outs-Decimal arm.d)
-    (ap out-Payload arm.is-1 ∙ outs-Decimal arm.e)
+    held _ _ _ _ _ (ap out-Payload arm.is-0 ∙ outs-Decimal arm.d) (ap out-Payload arm.is-1 ∙ outs-Decimal arm.e)
     (c.same.ensures ∙ behind (decimal_same arm.d arm.e))
 
 pub same_payload-returns-in-Timestamp-Timestamp : goal.same_payload-returns-in-Timestamp-Timestamp
 same_payload-returns-in-Timestamp-Timestamp t c =
     let arm = c.in-Timestamp-Timestamp in
-    held c.args.a.now.payload c.args.b.now.payload (Payload-F.Timestamp arm.s) (Payload-F.Timestamp arm.t) _ (ap out-Payload arm.is-0 ∙ outs-Timestamp arm.s)
-    (ap out-Payload arm.is-1 ∙ outs-Timestamp arm.t)
+    held _ _ _ _ _ (ap out-Payload arm.is-0 ∙ outs-Timestamp arm.s) (ap out-Payload arm.is-1 ∙ outs-Timestamp arm.t)
     (c.same-in-Timestamp-Timestamp.ensures ∙ behind (timestamp_same arm.s arm.t))
 
 pub same_payload-returns-in-Symbol-Symbol : goal.same_payload-returns-in-Symbol-Symbol
 same_payload-returns-in-Symbol-Symbol t c =
     let arm = c.in-Symbol-Symbol in
-    held c.args.a.now.payload c.args.b.now.payload (Payload-F.Symbol arm.s) (Payload-F.Symbol arm.t) _ (ap out-Payload arm.is-0 ∙ outs-Symbol arm.s)
-    (ap out-Payload arm.is-1 ∙ outs-Symbol arm.t)
+    held _ _ _ _ _ (ap out-Payload arm.is-0 ∙ outs-Symbol arm.s) (ap out-Payload arm.is-1 ∙ outs-Symbol arm.t)
     (c.same-in-Symbol-Symbol.ensures ∙ behind (symbol_same arm.s arm.t))
 
 pub same_payload-returns-in-Str-Str : goal.same_payload-returns-in-Str-Str
 same_payload-returns-in-Str-Str t c =
     let arm = c.in-Str-Str in
-    held c.args.a.now.payload c.args.b.now.payload (Payload-F.Str arm.s) (Payload-F.Str arm.t) _ (ap out-Payload arm.is-0 ∙ outs-Str arm.s)
-    (ap out-Payload arm.is-1 ∙ outs-Str arm.t)
+    held _ _ _ _ _ (ap out-Payload arm.is-0 ∙ outs-Str arm.s) (ap out-Payload arm.is-1 ∙ outs-Str arm.t)
     ((rw (c.as_str.ensures, c.as_str-in-Str-Str.ensures) at c.eq.ensures) ∙ last (text_same arm.s arm.t))
 
 pub same_payload-returns-in-Clob-Clob : goal.same_payload-returns-in-Clob-Clob
 same_payload-returns-in-Clob-Clob t c =
     let arm = c.in-Clob-Clob in
-    held c.args.a.now.payload c.args.b.now.payload (Payload-F.Clob arm.s) (Payload-F.Clob arm.t) _ (ap out-Payload arm.is-0 ∙ outs-Clob arm.s)
-    (ap out-Payload arm.is-1 ∙ outs-Clob arm.t)
+    held _ _ _ _ _ (ap out-Payload arm.is-0 ∙ outs-Clob arm.s) (ap out-Payload arm.is-1 ∙ outs-Clob arm.t)
     ((rw (c.as_slice.ensures, c.as_slice-in-Clob-Clob.ensures) at c.eq-in-Clob-Clob.ensures) ∙ last (text_same arm.s arm.t))
 
 pub same_payload-returns-in-Blob-Blob : goal.same_payload-returns-in-Blob-Blob
 same_payload-returns-in-Blob-Blob t c =
     let arm = c.in-Blob-Blob in
-    held c.args.a.now.payload c.args.b.now.payload (Payload-F.Blob arm.s) (Payload-F.Blob arm.t) _ (ap out-Payload arm.is-0 ∙ outs-Blob arm.s)
-    (ap out-Payload arm.is-1 ∙ outs-Blob arm.t)
-    ((rw (c.as_slice-in-Blob-Blob.ensures, c.as_slice-in-Blob-Blob-2.ensures) at c.eq-in-Blob-Blob.ensures)
-    ∙ last (text_same arm.s arm.t))
+    held _ _ _ _ _ (ap out-Payload arm.is-0 ∙ outs-Blob arm.s) (ap out-Payload arm.is-1 ∙ outs-Blob arm.t)
+    ((rw (c.as_slice-in-Blob-Blob.ensures, c.as_slice-in-Blob-Blob-2.ensures) at c.eq-in-Blob-Blob.ensures) ∙ last (text_same arm.s arm.t))
 
 pub same_payload-returns-in-List-List : goal.same_payload-returns-in-List-List
 same_payload-returns-in-List-List t c =
     let arm = c.in-List-List in
-    held c.args.a.now.payload c.args.b.now.payload (Payload-F.List arm.vs) (Payload-F.List arm.ws) _ (ap out-Payload arm.is-0 ∙ outs-List arm.vs)
-    (ap out-Payload arm.is-1 ∙ outs-List arm.ws)
-    ((rw (c.as_slice-in-List-List.ensures, c.as_slice-in-List-List-2.ensures) at c.same_items.ensures)
-    ∙ last (pointwise same arm.vs arm.ws))
+    held _ _ _ _ _ (ap out-Payload arm.is-0 ∙ outs-List arm.vs) (ap out-Payload arm.is-1 ∙ outs-List arm.ws)
+    ((rw (c.as_slice-in-List-List.ensures, c.as_slice-in-List-List-2.ensures) at c.same_items.ensures) ∙ last (pointwise same arm.vs arm.ws))
 
 pub same_payload-returns-in-Sexp-Sexp : goal.same_payload-returns-in-Sexp-Sexp
 same_payload-returns-in-Sexp-Sexp t c =
     let arm = c.in-Sexp-Sexp in
-    held c.args.a.now.payload c.args.b.now.payload (Payload-F.Sexp arm.vs) (Payload-F.Sexp arm.ws) _ (ap out-Payload arm.is-0 ∙ outs-Sexp arm.vs)
-    (ap out-Payload arm.is-1 ∙ outs-Sexp arm.ws)
-    ((rw (c.as_slice-in-Sexp-Sexp.ensures, c.as_slice-in-Sexp-Sexp-2.ensures) at c.same_items-in-Sexp-Sexp.ensures)
-    ∙ last (pointwise same arm.vs arm.ws))
+    held _ _ _ _ _ (ap out-Payload arm.is-0 ∙ outs-Sexp arm.vs) (ap out-Payload arm.is-1 ∙ outs-Sexp arm.ws)
+    ((rw (c.as_slice-in-Sexp-Sexp.ensures, c.as_slice-in-Sexp-Sexp-2.ensures) at c.same_items-in-Sexp-Sexp.ensures) ∙ last (pointwise same arm.vs arm.ws))
 
 pub same_payload-returns-in-Fields-Fields : goal.same_payload-returns-in-Fields-Fields
 same_payload-returns-in-Fields-Fields t c =
     let arm = c.in-Fields-Fields in
-    held c.args.a.now.payload c.args.b.now.payload (Payload-F.Fields arm.fs) (Payload-F.Fields arm.gs) _ (ap out-Payload arm.is-0 ∙ outs-Fields arm.fs)
-    (ap out-Payload arm.is-1 ∙ outs-Fields arm.gs)
+    held _ _ _ _ _ (ap out-Payload arm.is-0 ∙ outs-Fields arm.fs) (ap out-Payload arm.is-1 ∙ outs-Fields arm.gs)
     (rw (c.as_slice-in-Fields-Fields.ensures, c.as_slice-in-Fields-Fields-2.ensures) at c.same_fields.ensures)
