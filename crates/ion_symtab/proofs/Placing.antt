@@ -41,15 +41,12 @@ module _ {Y : Type 0} (old new : BTreeMap (String Y) Versions) (name : List ℕ)
   -- a place that is noted for a version of a name is found there, and all others are found as before
   pub placed : (version place : ℕ) → HasOneMore (get_by_text old name) after version place → (q : List ℕ) (v : ℕ) →
       version_kept (get_by_text new q) v ≡ cond (bytes_eq name q && (version == v)) (Some place) (version_kept (get_by_text old q) v)
-  placed version place h q v =
-      ap (λ o. version_kept o v) (updates q)
-      ∙ placed_at (get_by_text old name) (get_by_text old q) after version place v (bytes_eq name q) h (same_name q)
+  placed version place h q v = ap (λ o. version_kept o v) (updates q) ∙ placed_at _ _ after version place v _ h (same_name q)
 
   -- where the versions of one name keep their places, those of all names do
   pub places_stay : ((v : ℕ) → get nat_cmp after.places v ≡ version_kept (get_by_text old name) v) → (q : List ℕ) (v : ℕ) →
       version_kept (get_by_text new q) v ≡ version_kept (get_by_text old q) v
-  places_stay h q v = ap (λ o. version_kept o v) (updates q) ∙ placed_as (get_by_text old name) (get_by_text old q) after v (bytes_eq name q) (h v)
-      (same_name q)
+  places_stay h q v = ap (λ o. version_kept o v) (updates q) ∙ placed_as _ _ after v _ (h v) (same_name q)
 
   -- where one name keeps the place of its newest version, all names do
   pub newest_stays : Some after.newest ≡ newest_among (get_by_text old name) → (q : List ℕ) → newest_among (get_by_text new q)

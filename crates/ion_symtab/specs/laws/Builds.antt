@@ -3,7 +3,7 @@ use Rattle.std.proofs.Common.{◌≡◌, ℕ, ◌+◌, ◌-◌, ◌≤◌, Bool,
 use Rattle.std.proofs.lemmas.Grind.{common_steps}
 use Rattle.std.proofs.lemmas.Option.{same_Some}
 use Rattle.std.proofs.lemmas.List.{length-drop, take-append-drop}
-use Rattle.ion_symtab.specs.Names.{Answers, EndsOn, Event, Grows, Hears, IsFront, Led, Refusal, Telling, Trace, Value, WalksOn, events_of, given_at}
+use Rattle.ion_symtab.specs.Names.{Answers, EndsOn, Event, Grows, Hears, IsFront, Led, Refusal, Telling, Trace, Value, WalksOn, given_at}
 use Rattle.ion_visiting.specs.Building.{Built, builds, fresh, value_in, without_value}
 use Rattle.ion_visiting.specs.declared.building.Open.TheVariants.{Top}
 use Rattle.ion_visiting.specs.laws.Built.{value_built}
@@ -54,7 +54,7 @@ module _ {X : Type 0} (told : Telling X) (new : X) (before after : Built) (u : L
       → result ≡ Some value → result ≡ value_in after.place → left ≡ record after { place = without_value after.place }
       → Builds told new left (u ++ take used piece) (s ++ (value, length u + used) ∷ [])
   built_taken on value result left is said was =
-      let all : after ≡ record fresh { place = Top (Some on.0) } = value_built on.0 after (hears_on (events_of on.0) on.2) in
+      let all : after ≡ record fresh { place = Top (Some on.0) } = value_built on.0 after (hears_on _ on.2) in
       let same : on.0 ≡ value = same_Some on.0 value (sym (ap (λ (b : Built). value_in b.place) all) ∙ (sym said ∙ is)) in (
         [],
         subst (λ (v : Value). told new (u ++ take used piece) (s ++ (v, length u + used) ∷ []) []) same on.1,
@@ -97,8 +97,6 @@ module _ (said : List ℕ → Trace) (settled : (u w : List ℕ) → Grows (said
       let none : length (drop used piece) ≡ length piece - used = length-drop used piece in
       let some : length (drop used piece) ≡ suc (length awaited.0) = ap length rest in
       absurd (omega (arith, k, none, some))
-  step_said (Some v) None all awaited refused given next =
-      grown (s ++ (v, length u + used) ∷ []) (u ++ take used piece) (drop used piece) whole ([], given refl ∙ sym (append-nil (s ++ (v, length u + used) ∷ [])))
-  step_said (Some v) (Some o) all awaited refused given next =
-      grown (s ++ (v, length u + used) ∷ []) ((u ++ take used piece) ++ o ∷ []) awaited.0
+  step_said (Some v) None all awaited refused given next = grown _ _ _ whole ([], given refl ∙ sym (append-nil (s ++ (v, length u + used) ∷ [])))
+  step_said (Some v) (Some o) all awaited refused given next = grown _ _ awaited.0
       (append_assoc (u ++ take used piece) (o ∷ []) awaited.0 ∙ (ap (λ w. (u ++ take used piece) ++ w) (sym awaited.1) ∙ whole)) next

@@ -1,6 +1,6 @@
 -- The texts of a context are UTF-8 behind a local symbol table where they were before it, where those of the catalog's tables are, and where the table is a
 -- value that is kept.
-use Rattle.std.proofs.Common.{if◌then◌else◌, ◌≡◌, ℕ, zero, suc, ◌+◌, ◌-◌, ◌==◌, Bool, true, false, List, [], ◌∷◌, ◌++◌, length, map, take, replicate, Option, None, Some, Result, Ok, Err, codes, slice_get, refl, sym, subst}
+use Rattle.std.proofs.Common.{◌≡◌, ℕ, zero, suc, ◌+◌, ◌-◌, ◌==◌, List, [], ◌∷◌, ◌++◌, length, map, take, replicate, Option, None, Some, Result, Ok, Err, codes, slice_get, refl, sym, subst}
 use Rattle.std.specs.Prelude.{nat_le}
 use Rattle.std.specs.Str.{IsUtf8, bytes_eq}
 use Rattle.ion_symtab.specs.Names.Below.{AreTexts, Field, IsKept, IsText, KeptFields, KeptItems, KeptPayload, Layer, Payload, Payload-F, Reason, Value, a_field, an_item, has_text, kept, kept_blob, kept_clob, kept_decimal, kept_fields, kept_int, kept_list, kept_null, kept_sexp, kept_string, kept_symbol, kept_timestamp, kept_truth, no_fields, no_items, values_of}
@@ -10,6 +10,7 @@ use Rattle.ion_symtab.specs.Fields.{at_most_one, count_of, elements, elements_in
 use Rattle.ion_symtab.specs.Next.{Import, and_then, appends, base, chosen, element_added, element_import, extended, import_added, import_named, import_of, import_slots, imported, joined, local_slot, local_slots, next, next_fields, next_layer, shared_slot}
 use Rattle.ion_symtab.specs.Slots.{Slot, gap, greatest_id, resolve, symbol_at, system_slots, system_texts, text, unknown}
 use Rattle.ion_symtab.specs.Tables.{Table, find, is_named, newer, newest}
+use Rattle.ion_symtab.specs.laws.Reasons.{either}
 
 -- the texts of a context are UTF-8
 abbrev pub AreTextSlots : List Slot → Type 0
@@ -76,22 +77,18 @@ elements_kept : (o : Option Value) → KeptOption o → KeptItems (elements o)
 elements_kept None h = no_items
 elements_kept (Some v) h = elements_layer (views.out-Payload v.payload) (value_layer v h)
 
-kept_either : (b : Bool) (v : Value) (vs : List Value) → IsKept v → KeptItems vs → KeptItems (if b then v ∷ vs else vs)
-kept_either true v vs h hs = an_item v vs h hs
-kept_either false v vs h hs = hs
-
 values_kept : (name : List ℕ) (ms : List Field) → KeptFields ms → KeptItems (values_of name ms)
 values_kept name _ no_fields = no_items
-values_kept name _ (a_field s v ms t h hs) = kept_either (has_text name s) v (values_of name ms) h (values_kept name ms hs)
+values_kept name _ (a_field s v ms t h hs) =
+    either KeptItems (has_text name s) _ _ (an_item v (values_of name ms) h (values_kept name ms hs)) (values_kept name ms hs)
 
 abbrev KeptAnswer : Result (Option Value) Reason → Type 0
 KeptAnswer (Ok o) = KeptOption o
 KeptAnswer (Err reason) = Unit {0}
 
 one_kept : (vs : List Value) → KeptItems vs → KeptAnswer (at_most_one vs)
-one_kept _ no_items = tt
 one_kept _ (an_item v _ h no_items) = h
-one_kept _ (an_item v _ h (an_item w vs k ks)) = tt
+one_kept _ _ = tt
 
 only_kept : (name : List ℕ) (ms : List Field) → KeptFields ms → KeptAnswer (only name ms)
 only_kept name ms h = one_kept (values_of name ms) (values_kept name ms h)
@@ -102,22 +99,17 @@ text_by : (r s : Option (List ℕ)) → ◌≡◌ {A = Result (Option (List ℕ)
 text_by r s e h = let same : r ≡ s = cc in subst IsText same h
 
 text_at : (c : List Slot) (i : ℕ) (s : Option (List ℕ)) → AreTextSlots c → symbol_at (slice_get c i) ≡ Ok s → IsText s
-text_at [] i s h e = absurd (cc)
 text_at (text t ∷ c) zero s h e = text_by (Some t) s e h.0
 text_at (unknown ∷ c) zero s h e = text_by None s e tt
-text_at (gap ∷ c) zero s h e = absurd (cc)
 text_at (text t ∷ c) (suc i) s h e = text_at c i s h.1 e
 text_at (unknown ∷ c) (suc i) s h e = text_at c i s h e
 text_at (gap ∷ c) (suc i) s h e = text_at c i s h e
-
-text_if : (c : List Slot) (i : ℕ) (b : Bool) (s : Option (List ℕ)) → AreTextSlots c → (if b then Ok None else symbol_at (slice_get c i)) ≡ Ok s → IsText s
-text_if c i true s h e = text_by None s e tt
-text_if c i false s h e = text_at c i s h e
+text_at _ _ s h e = absurd (cc)
 
 -- the text of an id's symbol is UTF-8 where it is known, if those of the context are
 pub resolved_text : (c : List Slot) (id : ℕ) (s : Option (List ℕ)) → AreTextSlots c → resolve c id ≡ Ok s → IsText s
 unfolding resolve
-resolved_text c id s h e = text_if c (id - 1) (id == 0) s h e
+resolved_text c id s h e = either (λ r. r ≡ Ok s → IsText s) (id == 0) _ _ (λ k. text_by None s k tt) (text_at c (id - 1) s h) e
 
 -- 3. Slots.
 
@@ -128,11 +120,10 @@ slots_both (unknown ∷ c) d h k = slots_both c d h k
 slots_both (gap ∷ c) d h k = slots_both c d h k
 
 slots_taken : (n : ℕ) (c : List Slot) → AreTextSlots c → AreTextSlots (take n c)
-slots_taken zero c h = tt
-slots_taken (suc n) [] h = tt
 slots_taken (suc n) (text t ∷ c) h = (h.0, slots_taken n c h.1)
 slots_taken (suc n) (unknown ∷ c) h = slots_taken n c h
 slots_taken (suc n) (gap ∷ c) h = slots_taken n c h
+slots_taken _ _ h = tt
 
 gaps_texts : (n : ℕ) → AreTextSlots (replicate n gap)
 gaps_texts zero = tt
@@ -174,12 +165,8 @@ system_are_texts = (
   ),
 )
 
-joined_if : (b : Bool) (c : List Slot) → AreTextSlots c → TextAnswer (if b then Ok c else Err Reason.TableTooLarge)
-joined_if true c h = h
-joined_if false c h = tt
-
 joined_texts : (c more : List Slot) → AreTextSlots c → AreTextSlots more → TextAnswer (joined c more)
-joined_texts c more h k = joined_if (nat_le (length c + length more) greatest_id) (c ++ more) (slots_both c more h k)
+joined_texts c more h k = either TextAnswer (nat_le (length c + length more) greatest_id) _ _ (slots_both c more h k) tt
 
 -- 4. Imports.
 
@@ -187,23 +174,19 @@ abbrev FoundTexts : Option Table → Type 0
 FoundTexts None = Unit {0}
 FoundTexts (Some t) = AreTexts t.symbols
 
-found_either : (b : Bool) (o p : Option Table) → FoundTexts o → FoundTexts p → FoundTexts (if b then o else p)
-found_either true o p h k = h
-found_either false o p h k = k
-
 find_texts : (ts : List Table) (name : List ℕ) (version : ℕ) → AreTextTables ts → FoundTexts (find ts name version)
 find_texts [] name version h = tt
-find_texts (t ∷ ts) name version h = found_either (is_named name version t) (Some t) (find ts name version) h.0 (find_texts ts name version h.1)
+find_texts (t ∷ ts) name version h = either FoundTexts (is_named name version t) _ _ h.0 (find_texts ts name version h.1)
 
 newer_texts : (t : Table) (o : Option Table) → AreTexts t.symbols → FoundTexts o → FoundTexts (newer (Some t) o)
 newer_texts t None h k = h
-newer_texts t (Some u) h k = found_either (nat_le u.version t.version) (Some t) (Some u) h k
+newer_texts t (Some u) h k = either FoundTexts (nat_le u.version t.version) _ _ h k
 
 newest_texts : (ts : List Table) (name : List ℕ) → AreTextTables ts → FoundTexts (newest ts name)
 newest_texts [] name h = tt
 newest_texts (t ∷ ts) name h =
     let rest = newest_texts ts name h.1 in
-    found_either (bytes_eq t.name name) (newer (Some t) (newest ts name)) (newest ts name) (newer_texts t (newest ts name) h.0 rest) rest
+    either FoundTexts (bytes_eq t.name name) _ _ (newer_texts t (newest ts name) h.0 rest) rest
 
 abbrev ImportTexts : Option Import → Type 0
 ImportTexts None = Unit {0}
@@ -265,10 +248,6 @@ extended_texts ts c imports symbols h k m =
     (λ d n. joined_texts d (local_slots symbols) n (local_texts (map symbol_of (elements symbols))
     (symbols_texts (elements symbols) (elements_kept symbols m))))
 
-base_if : (b : Bool) (c : List Slot) → AreTextSlots c → AreTextSlots (if b then c else system_slots)
-base_if true c h = h
-base_if false c h = system_are_texts
-
 then_value : (r : Result (Option Value) Reason) (f : Option Value → Result (List Slot) Reason) → KeptAnswer r
     → ((o : Option Value) → KeptOption o → TextAnswer (f o)) → TextAnswer (and_then r f)
 then_value (Ok o) f h k = k o h
@@ -278,7 +257,7 @@ fields_texts : (c : List Slot) (ms : List Field) (ts : List Table) → AreTextTa
 fields_texts c ms ts h k m =
     then_value (only (codes "imports") ms) _ (only_kept (codes "imports") ms m)
     (λ imports i. then_value (only (codes "symbols") ms) _ (only_kept (codes "symbols") ms m) (λ symbols n.
-    extended_texts ts (base c imports) imports symbols h (base_if (appends imports) c k) n))
+    extended_texts ts (base c imports) imports symbols h (either AreTextSlots (appends imports) _ _ k system_are_texts) n))
 
 layer_texts : (c : List Slot) (d : Layer) (ts : List Table) → AreTextTables ts → AreTextSlots c → KeptLayer d → TextAnswer (next_layer c d ts)
 layer_texts c (Payload-F.Fields ms) ts h k m = fields_texts c ms ts h k m

@@ -10,38 +10,24 @@ use Rattle.ion_symtab.specs.Names.{Field, Import, Layer, Payload-F, Reason, Slot
 use Rattle.ion_symtab.specs.LocalTables.{EachGives, EachHasSlot, EachShared, HasElements, HasSlots, IsBase, MakesContext, NamedGives, StandsOnce, StructGives}
 use Rattle.ion_symtab.specs.laws.Contexts.{and_then_ok}
 
+-- answers that are the same answer the same
+ok_is : {A : Type 0} {x y : A} → ◌≡◌ {A = Result A Reason} (Ok x) (Ok y) → x ≡ y
+ok_is e = cc
+
 -- fields that stand once
 
-abbrev value_in : Result (Option Value) Reason → Option Value → Option Value
-value_in (Ok x) o = x
-value_in (Err e) o = o
-
-abbrev Once : List Value → Option Value → Type 0
-Once vs None = vs ≡ []
-Once vs (Some v) = vs ≡ v ∷ []
-
-once_from : (vs : List Value) (o : Option Value) → at_most_one vs ≡ Ok o → Once vs o
-once_from [] o e = subst (λ x. Once [] x) (ap (λ r. value_in r o) e) refl
-once_from (v ∷ []) o e = subst (λ x. Once (v ∷ []) x) (ap (λ r. value_in r o) e) refl
-once_from (v ∷ w ∷ vs) o e = absurd cc
-
-once_of : (vs : List Value) (o : Option Value) → Once vs o → at_most_one vs ≡ Ok o
-once_of vs None e = ap at_most_one e
-once_of vs (Some v) e = ap at_most_one e
-
-once_is : (name : List ℕ) (fields : List Field) (o : Option Value) → StandsOnce name fields o → Once (values_of name fields) o
-once_is name fields None h = h
-once_is name fields (Some v) h = h
-
-is_once : (name : List ℕ) (fields : List Field) (o : Option Value) → Once (values_of name fields) o → StandsOnce name fields o
-is_once name fields None h = h
-is_once name fields (Some v) h = h
+stands : (name : List ℕ) (fields : List Field) (vs : List Value) (o : Option Value) → values_of name fields ≡ vs → at_most_one vs ≡ Ok o
+    → StandsOnce name fields o
+stands name fields [] o is e = subst (StandsOnce name fields) (ok_is e) is
+stands name fields (v ∷ []) o is e = subst (StandsOnce name fields) (ok_is e) is
+stands name fields (v ∷ w ∷ vs) o is e = absurd cc
 
 stands_once : (name : List ℕ) (fields : List Field) (o : Option Value) → only name fields ≡ Ok o → StandsOnce name fields o
-stands_once name fields o e = is_once name fields o (once_from (values_of name fields) o e)
+stands_once name fields o e = stands name fields (values_of name fields) o refl e
 
 only_once : (name : List ℕ) (fields : List Field) (o : Option Value) → StandsOnce name fields o → only name fields ≡ Ok o
-only_once name fields o h = once_of (values_of name fields) o (once_is name fields o h)
+only_once name fields None h = ap at_most_one h
+only_once name fields (Some v) h = ap at_most_one h
 
 -- the base
 
@@ -49,7 +35,6 @@ abbrev AppendsIn : Layer → Type 0
 AppendsIn w = w ≡ Payload-F.Symbol (Some (codes "$ion_symbol_table"))
 
 appends_when : (w : Layer) → appends_in (Some w) ≡ true → AppendsIn w
-appends_when (Payload-F.Symbol None) e = absurd cc
 appends_when (Payload-F.Symbol (Some t)) e = ap (λ (x : List ℕ). Payload-F.Symbol (Some x)) ((bytes_eq-Decides t (codes "$ion_symbol_table")).0 e)
 appends_when _ e = absurd cc
 
@@ -79,17 +64,7 @@ AreIn w vs = (w ≡ Payload-F.List vs) ⊎ (((ws : List Value) → w ≡ Payload
 
 elements_are : (w : Layer) → AreIn w (elements_in (Some w))
 elements_are (Payload-F.List vs) = inl refl
-elements_are (Payload-F.Null _) = inr (λ ws e. cc, refl)
-elements_are (Payload-F.Truth _) = inr (λ ws e. cc, refl)
-elements_are (Payload-F.Int _) = inr (λ ws e. cc, refl)
-elements_are (Payload-F.Decimal _) = inr (λ ws e. cc, refl)
-elements_are (Payload-F.Timestamp _) = inr (λ ws e. cc, refl)
-elements_are (Payload-F.Symbol _) = inr (λ ws e. cc, refl)
-elements_are (Payload-F.Str _) = inr (λ ws e. cc, refl)
-elements_are (Payload-F.Clob _) = inr (λ ws e. cc, refl)
-elements_are (Payload-F.Blob _) = inr (λ ws e. cc, refl)
-elements_are (Payload-F.Sexp _) = inr (λ ws e. cc, refl)
-elements_are (Payload-F.Fields _) = inr (λ ws e. cc, refl)
+elements_are _ = inr (λ ws e. cc, refl)
 
 are_elements : (w : Layer) (vs : List Value) → AreIn w vs → elements_in (Some w) ≡ vs
 are_elements w vs (inl e) = ap (λ x. elements_in (Some x)) e
@@ -115,11 +90,9 @@ each_shared (None ∷ ts) = (refl, each_shared ts)
 
 shared_each : (ts : List (Option (List ℕ))) (slots : List Slot) → EachShared ts slots → map shared_slot ts ≡ slots
 shared_each [] [] h = refl
-shared_each [] (slot ∷ slots) h = absurd h
-shared_each (Some t ∷ ts) [] h = absurd h
-shared_each (None ∷ ts) [] h = absurd h
 shared_each (Some t ∷ ts) (slot ∷ slots) h = λ i. sym h.0 i ∷ shared_each ts slots h.1 i
 shared_each (None ∷ ts) (slot ∷ slots) h = λ i. sym h.0 i ∷ shared_each ts slots h.1 i
+shared_each _ _ h = absurd h
 
 cut_off : (count : ℕ) (own : List Slot) → count ≤ length own → cut_or_filled count own ≡ take count own
 cut_off count own few = ap (λ (k : ℕ). take count own ++ replicate k gap) (let none : count - length own ≡ 0 = omega arith in none)
@@ -149,62 +122,41 @@ abbrev given : Option Import → List Slot
 given None = []
 given (Some import) = import_slots import
 
-abbrev import_in : Result (Option Import) Reason → Option Import → Option Import
-import_in (Ok x) o = x
-import_in (Err e) o = o
-
 found_gives : (tables : List Table) (name : List ℕ) (version : ℕ) (f n : Option Table) (max_id : Option ℕ) (i : Option Import) → find tables name version ≡ f
     → newest tables name ≡ n → chosen f n max_id ≡ Ok i
     → NamedGives tables (Some name) version max_id (given i)
 found_gives tables name version (Some t) n None i f m e =
-    subst (λ x. NamedGives tables (Some name) version None (given x)) (ap (λ r. import_in r i) e)
+    subst (λ x. NamedGives tables (Some name) version None (given x)) (ok_is e)
     (t, length t.symbols, (f, refl), slots_are t (length t.symbols))
 found_gives tables name version (Some t) n (Some count) i f m e =
-    subst (λ x. NamedGives tables (Some name) version (Some count) (given x)) (ap (λ r. import_in r i) e)
+    subst (λ x. NamedGives tables (Some name) version (Some count) (given x)) (ok_is e)
     (t, count, (ap (λ o. otherwise o (newest tables name)) f, refl), slots_are t count)
 found_gives tables name version None (Some t) (Some count) i f m e =
-    subst (λ x. NamedGives tables (Some name) version (Some count) (given x)) (ap (λ r. import_in r i) e)
+    subst (λ x. NamedGives tables (Some name) version (Some count) (given x)) (ok_is e)
     (t, count, (ap (λ o. otherwise o (newest tables name)) f ∙ m, refl), slots_are t count)
-found_gives tables name version None (Some t) None i f m e = absurd cc
-found_gives tables name version None None max_id i f m e = absurd cc
+found_gives tables name version _ _ _ i f m e = absurd cc
 
 named_gives : (tables : List Table) (name : Option (List ℕ)) (version : ℕ) (max_id : Option ℕ) (i : Option Import) → import_named tables name version max_id
     ≡ Ok i → NamedGives tables name version max_id (given i)
-named_gives tables None version max_id i e = subst (λ x. given x ≡ []) (ap (λ r. import_in r i) e) refl
+named_gives tables None version max_id i e = subst (λ x. given x ≡ []) (ok_is e) refl
 named_gives tables (Some name) version max_id i e = found_gives tables name version (find tables name version) (newest tables name) max_id i refl refl e
 
 -- an import that gives these slots
 abbrev GivesSo : Result (Option Import) Reason → List Slot → Type 0
 GivesSo r slots = (i : Option Import) × (r ≡ Ok i) × (given i ≡ slots)
 
-abbrev table_in : Option Table → Table → Table
-table_in None t = t
-table_in (Some t) u = t
-
 gives_chosen : (tables : List Table) (name : List ℕ) (version : ℕ) (f n : Option Table) (max_id : Option ℕ) (slots : List Slot) → find tables name version ≡ f
     → newest tables name ≡ n → NamedGives tables (Some name) version max_id slots
     → GivesSo (chosen f n max_id) slots
 gives_chosen tables name version (Some u) n None slots f m (t, count, (is, size), h) =
-    let same : u ≡ t = ap (λ o. table_in o u) (sym f ∙ is) in (
-      Some (record { table = u; count = length u.symbols }),
-      refl,
-      ap (λ (x : Table). import_slots (record { table = x; count = length x.symbols })) same
-          ∙ ap (λ (k : ℕ). import_slots (record { table = t; count = k })) (sym size) ∙ slots_only t count slots h,
-    )
+    let same : u ≡ t = cc in
+    (Some (record { table = u; count = length u.symbols }), refl, rw (same, ← size) (slots_only t count slots h))
 gives_chosen tables name version (Some u) n (Some k) slots f m (t, count, (is, size), h) =
-    let same : u ≡ t = ap (λ o. table_in o u) (sym (ap (λ o. otherwise o (newest tables name)) f) ∙ is) in (
-      Some (record { table = u; count = k }),
-      refl,
-      ap (λ (x : Table). import_slots (record { table = x; count = k })) same
-          ∙ ap (λ (j : ℕ). import_slots (record { table = t; count = j })) (sym size) ∙ slots_only t count slots h,
-    )
+    let same : u ≡ t = cc in
+    (Some (record { table = u; count = k }), refl, rw (same, ← size) (slots_only t count slots h))
 gives_chosen tables name version None (Some u) (Some k) slots f m (t, count, (is, size), h) =
-    let same : u ≡ t = ap (λ o. table_in o u) (sym (ap (λ o. otherwise o (newest tables name)) f ∙ m) ∙ is) in (
-      Some (record { table = u; count = k }),
-      refl,
-      ap (λ (x : Table). import_slots (record { table = x; count = k })) same
-          ∙ ap (λ (j : ℕ). import_slots (record { table = t; count = j })) (sym size) ∙ slots_only t count slots h,
-    )
+    let same : u ≡ t = cc in
+    (Some (record { table = u; count = k }), refl, rw (same, ← size) (slots_only t count slots h))
 gives_chosen tables name version None (Some u) None slots f m (t, count, (is, size), h) = absurd (let x = sym f ∙ is in cc)
 gives_chosen tables name version None None None slots f m (t, count, (is, size), h) = absurd (let x = sym f ∙ is in cc)
 gives_chosen tables name version None None (Some k) slots f m (t, count, (is, size), h) =
@@ -213,8 +165,7 @@ gives_chosen tables name version None None (Some k) slots f m (t, count, (is, si
 gives_named : (tables : List Table) (name : Option (List ℕ)) (version : ℕ) (max_id : Option ℕ) (slots : List Slot) → NamedGives tables name version max_id slots
     → GivesSo (import_named tables name version max_id) slots
 gives_named tables None version max_id slots h = (None, refl, sym h)
-gives_named tables (Some name) version max_id slots h = gives_chosen tables name version (find tables name version) (newest tables name) max_id slots refl refl
-    h
+gives_named tables (Some name) version max_id slots h = gives_chosen tables name version _ _ max_id slots refl refl h
 
 struct_gives : (tables : List Table) (fields : List Field) (i : Option Import) → import_of tables fields ≡ Ok i → StructGives tables fields (given i)
 struct_gives tables fields i e =
@@ -236,11 +187,11 @@ then_ok r f x e = ap (λ y. and_then y f) e
 
 gives_struct : (tables : List Table) (fields : List Field) (slots : List Slot) → StructGives tables fields slots → GivesSo (import_of tables fields) slots
 gives_struct tables fields slots h =
-    let g = gives_named tables (table_name h.name) (version_of h.version) (count_of h.max_id) slots h.gives in (
+    let g = gives_named tables _ _ _ slots h.gives in (
       g.0,
-      then_ok (only (codes "name") fields) _ h.name (only_once (codes "name") fields h.name h.one_name)
-          ∙ then_ok (only (codes "version") fields) _ h.version (only_once (codes "version") fields h.version h.one_version)
-          ∙ then_ok (only (codes "max_id") fields) _ h.max_id (only_once (codes "max_id") fields h.max_id h.one_max_id) ∙ g.1,
+      then_ok (only (codes "name") fields) _ h.name (only_once _ fields h.name h.one_name)
+          ∙ then_ok (only (codes "version") fields) _ h.version (only_once _ fields h.version h.one_version)
+          ∙ then_ok (only (codes "max_id") fields) _ h.max_id (only_once _ fields h.max_id h.one_max_id) ∙ g.1,
       g.2,
     )
 
@@ -250,23 +201,9 @@ abbrev GivesIn : List Table → Layer → List Slot → Type 0
 GivesIn tables w slots = ((fields : List Field) × (w ≡ Payload-F.Fields fields) × StructGives tables fields slots)
     ⊎ (((fields : List Field) → w ≡ Payload-F.Fields fields → ⊥) × (slots ≡ []))
 
-nothing_given : (tables : List Table) (w : Layer) (i : Option Import) → ((fields : List Field) → w ≡ Payload-F.Fields fields → ⊥)
-    → ◌≡◌ {A = Result (Option Import) Reason} (Ok None) (Ok i) → GivesIn tables w (given i)
-nothing_given tables w i other e = inr (other, ap given (sym (ap (λ r. import_in r i) e)))
-
 layer_gives : (tables : List Table) (w : Layer) (i : Option Import) → element_import tables w ≡ Ok i → GivesIn tables w (given i)
 layer_gives tables (Payload-F.Fields fields) i e = inl (fields, refl, struct_gives tables fields i e)
-layer_gives tables (Payload-F.Null k) i e = nothing_given tables (Payload-F.Null k) i (λ ws f. cc) e
-layer_gives tables (Payload-F.Truth k) i e = nothing_given tables (Payload-F.Truth k) i (λ ws f. cc) e
-layer_gives tables (Payload-F.Int k) i e = nothing_given tables (Payload-F.Int k) i (λ ws f. cc) e
-layer_gives tables (Payload-F.Decimal k) i e = nothing_given tables (Payload-F.Decimal k) i (λ ws f. cc) e
-layer_gives tables (Payload-F.Timestamp k) i e = nothing_given tables (Payload-F.Timestamp k) i (λ ws f. cc) e
-layer_gives tables (Payload-F.Symbol k) i e = nothing_given tables (Payload-F.Symbol k) i (λ ws f. cc) e
-layer_gives tables (Payload-F.Str k) i e = nothing_given tables (Payload-F.Str k) i (λ ws f. cc) e
-layer_gives tables (Payload-F.Clob k) i e = nothing_given tables (Payload-F.Clob k) i (λ ws f. cc) e
-layer_gives tables (Payload-F.Blob k) i e = nothing_given tables (Payload-F.Blob k) i (λ ws f. cc) e
-layer_gives tables (Payload-F.List k) i e = nothing_given tables (Payload-F.List k) i (λ ws f. cc) e
-layer_gives tables (Payload-F.Sexp k) i e = nothing_given tables (Payload-F.Sexp k) i (λ ws f. cc) e
+layer_gives tables w i e = inr (λ ws f. cc, ap given (sym (ok_is e)))
 
 gives_layer : (tables : List Table) (w : Layer) (slots : List Slot) → GivesIn tables w slots → GivesSo (element_import tables w) slots
 gives_layer tables w slots (inl (fields, e, h)) = let g = gives_struct tables fields slots h in (g.0, ap (λ x. element_import tables x) e ∙ g.1, g.2)
@@ -275,16 +212,12 @@ gives_layer tables _ slots (inr (other, none)) = (None, refl, sym none)
 
 -- the slots with more behind them
 
-abbrev slots_in : Result (List Slot) Reason → List Slot → List Slot
-slots_in (Ok x) o = x
-slots_in (Err e) o = o
-
 joined_from : (c more d : List Slot) → joined c more ≡ Ok d → (d ≡ c ++ more) × (length d ≤ greatest_id)
 joined_from c more d e = by (nat_le (length c + length more) greatest_id) refl e where
   by : (b : Bool) → nat_le (length c + length more) greatest_id ≡ b → (if b then Ok (c ++ more) else Err Reason.TableTooLarge) ≡ Ok d → (d ≡ c ++ more)
       × (length d ≤ greatest_id)
   by true n f =
-      let s : c ++ more ≡ d = ap (λ r. slots_in r d) f in
+      let s : c ++ more ≡ d = ok_is f in
       let few = leb-true (length c + length more) greatest_id n in
       (sym s, omega (arith, ap length s, length-append c more, few))
   by false n f = absurd cc
@@ -294,7 +227,7 @@ joined_of c more few = ap (λ (b : Bool). if b then Ok (c ++ more) else Err Reas
     (le-leb (length c + length more) greatest_id (omega (arith, few, length-append c more)))
 
 added_from : (c : List Slot) (i : Option Import) (d : List Slot) → import_added c i ≡ Ok d → d ≡ c ++ given i
-added_from c None d e = sym (ap (λ r. slots_in r d) e) ∙ sym (append-nil c)
+added_from c None d e = sym (ok_is e) ∙ sym (append-nil c)
 added_from c (Some i) d e = (joined_from c (import_slots i) d e).0
 
 added_of : (c : List Slot) (i : Option Import) → length (c ++ given i) ≤ greatest_id → import_added c i ≡ Ok (c ++ given i)
@@ -306,13 +239,13 @@ flat parts = flat_map (λ part. part) parts
 
 imported_from : (tables : List Table) (c : List Slot) (vs : List Value) (d : List Slot) → imported tables c vs ≡ Ok d → (parts : List (List Slot))
     × EachGives tables vs parts × (d ≡ c ++ flat parts)
-imported_from tables c [] d e = ([], tt, sym (ap (λ r. slots_in r d) e) ∙ sym (append-nil c))
+imported_from tables c [] d e = ([], tt, sym (ok_is e) ∙ sym (append-nil c))
 imported_from tables c (v ∷ vs) d e =
     let p = and_then_ok (element_added tables c v) (λ more. imported tables more vs) d e in
     let q = and_then_ok (element_import tables (out-Payload v.payload)) (import_added c) p.0 p.1 in
     let rest = imported_from tables p.0 vs d p.2 in (
       given q.0 ∷ rest.0,
-      (layer_gives tables (out-Payload v.payload) q.0 q.1, rest.1),
+      (layer_gives tables _ q.0 q.1, rest.1),
       rest.2 ∙ ap (λ w. w ++ flat rest.0) (added_from c q.0 p.0 q.2) ∙ append_assoc c (given q.0) (flat rest.0)
           ∙ ap (λ w. c ++ w) (sym (flat_map-cons (λ part. part) (given q.0) rest.0)),
     )
@@ -320,8 +253,6 @@ imported_from tables c (v ∷ vs) d e =
 imported_of : (tables : List Table) (c : List Slot) (vs : List Value) (parts : List (List Slot)) → EachGives tables vs parts
     → length (c ++ flat parts) ≤ greatest_id → imported tables c vs ≡ Ok (c ++ flat parts)
 imported_of tables c [] [] h few = ap Ok (sym (append-nil c))
-imported_of tables c [] (part ∷ parts) h few = absurd h
-imported_of tables c (v ∷ vs) [] h few = absurd h
 imported_of tables c (v ∷ vs) (part ∷ parts) h few =
     let g = gives_layer tables (out-Payload v.payload) part h.0 in
     let whole : c ++ flat (part ∷ parts) ≡ (c ++ part) ++ flat parts = ap (λ w. c ++ w) (flat_map-cons (λ part. part) part parts)
@@ -332,6 +263,7 @@ imported_of tables c (v ∷ vs) (part ∷ parts) h few =
     ∙ added_of c g.0 (subst (λ w. length (c ++ w) ≤ greatest_id) (sym g.2) front) ∙ ap (λ w. Ok (c ++ w)) g.2 in
     then_ok (element_added tables c v) (λ more. imported tables more vs) (c ++ part) one
     ∙ imported_of tables (c ++ part) vs parts h.1 (subst (λ w. length w ≤ greatest_id) whole few) ∙ ap Ok (sym whole)
+imported_of tables c _ _ h few = absurd h
 
 -- the slots of `symbols`
 
@@ -340,17 +272,7 @@ SlotIn w slot = ((t : List ℕ) × (w ≡ Payload-F.Str t) × (slot ≡ text t))
 
 slot_in : (w : Layer) → SlotIn w (local_slot (layer_symbol w))
 slot_in (Payload-F.Str t) = inl (t, refl, refl)
-slot_in (Payload-F.Null _) = inr (λ t e. cc, refl)
-slot_in (Payload-F.Truth _) = inr (λ t e. cc, refl)
-slot_in (Payload-F.Int _) = inr (λ t e. cc, refl)
-slot_in (Payload-F.Decimal _) = inr (λ t e. cc, refl)
-slot_in (Payload-F.Timestamp _) = inr (λ t e. cc, refl)
-slot_in (Payload-F.Symbol _) = inr (λ t e. cc, refl)
-slot_in (Payload-F.Clob _) = inr (λ t e. cc, refl)
-slot_in (Payload-F.Blob _) = inr (λ t e. cc, refl)
-slot_in (Payload-F.List _) = inr (λ t e. cc, refl)
-slot_in (Payload-F.Sexp _) = inr (λ t e. cc, refl)
-slot_in (Payload-F.Fields _) = inr (λ t e. cc, refl)
+slot_in _ = inr (λ t e. cc, refl)
 
 in_slot : (w : Layer) (slot : Slot) → SlotIn w slot → local_slot (layer_symbol w) ≡ slot
 in_slot w slot (inl (t, e, is)) = ap (λ x. local_slot (layer_symbol x)) e ∙ sym is
@@ -363,9 +285,8 @@ each_slot (v ∷ vs) = (slot_in (out-Payload v.payload), each_slot vs)
 
 slots_each : (vs : List Value) (slots : List Slot) → EachHasSlot vs slots → map local_slot (map symbol_of vs) ≡ slots
 slots_each [] [] h = refl
-slots_each [] (slot ∷ slots) h = absurd h
-slots_each (v ∷ vs) [] h = absurd h
 slots_each (v ∷ vs) (slot ∷ slots) h = λ i. in_slot (out-Payload v.payload) slot h.0 i ∷ slots_each vs slots h.1 i
+slots_each _ _ h = absurd h
 
 -- the whole
 
@@ -422,11 +343,9 @@ context_made tables c v d h =
     let local : local_slots h.symbols ≡ h.local = ap (λ vs. map local_slot (map symbol_of vs)) (elements_has h.symbols h.named h.are_named)
     ∙ slots_each h.named h.local h.each_has in
     let last : joined (h.base ++ flat h.parts) (local_slots h.symbols) ≡ Ok d =
-    ap (λ w. joined (h.base ++ flat h.parts) w) local ∙ joined_of (h.base ++ flat h.parts) h.local (subst (λ w. length w ≤ greatest_id) h.joined h.in_range)
-    ∙ ap Ok (sym h.joined) in
-    ap (λ w. next_layer c w tables) h.is_struct
-    ∙ then_ok (only (codes "imports") h.fields) _ h.imports (only_once (codes "imports") h.fields h.imports h.one_imports)
-    ∙ then_ok (only (codes "symbols") h.fields) _ h.symbols (only_once (codes "symbols") h.fields h.symbols h.one_symbols)
+    ap (λ w. joined (h.base ++ flat h.parts) w) local ∙ joined_of _ h.local (subst (λ w. length w ≤ greatest_id) h.joined h.in_range) ∙ ap Ok (sym h.joined) in
+    ap (λ w. next_layer c w tables) h.is_struct ∙ then_ok (only (codes "imports") h.fields) _ h.imports (only_once _ h.fields h.imports h.one_imports)
+    ∙ then_ok (only (codes "symbols") h.fields) _ h.symbols (only_once _ h.fields h.symbols h.one_symbols)
     ∙ then_ok (imported tables (base c h.imports) (elements h.imports)) _ (h.base ++ flat h.parts) more ∙ last
 
 -- the context behind a table is the one that the table makes in the words of the symbols chapter

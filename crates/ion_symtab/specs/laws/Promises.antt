@@ -12,13 +12,12 @@ pub record SameCut (front other rest more : List ℕ) : Type 0 where
 -- two cuts of the same octets with fronts of one length are the same
 pub same_cut : (front other rest more : List ℕ) → front ++ rest ≡ other ++ more → length front ≡ length other → SameCut front other rest more
 same_cut [] [] rest more e h = record { fronts = refl; rests = e }
-same_cut [] (y ∷ other) rest more e h = absurd (omega arith)
-same_cut (x ∷ front) [] rest more e h = absurd (omega arith)
 same_cut (x ∷ front) (y ∷ other) rest more e h =
     let head : x ≡ y = cc in
     let tail : front ++ rest ≡ other ++ more = cc in
     let c = same_cut front other rest more tail (omega arith) in
     record { fronts = ap (λ z. z ∷ front) head ∙ ap (λ zs. y ∷ zs) c.fronts; rests = c.rests }
+same_cut _ _ rest _ e h = absurd (omega arith)
 
 -- where the same pieces have one stream, octets show one stream
 pub shown_once : (pieces : List ℕ → List ℕ → List Value → Type 0) (u : List ℕ) (s t : List Value) →

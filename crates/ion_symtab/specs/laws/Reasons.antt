@@ -1,7 +1,7 @@
 -- Ids and symbol tables are refused for no other reasons.
 use Rattle.std.proofs.Common.{ℕ, ◌+◌, ◌-◌, List, [], ◌∷◌, length, Result, Ok, Err, Option, Some, None, Bool, true, false, cond, nat_le, ◌==◌, slice_get, codes, map}
 use Rattle.std.specs.Prelude.{IfErr}
-use Rattle.ion_symtab.specs.Names.{Field, Import, IsIdReason, IsSharedReason, IsTableReason, Layer, Payload-F, Reason, RepeatedField, Slot, Table, Value, and_then, at_most_one, base, chosen, count_of, described, element_added, element_import, elements, extended, find, gap, greatest_id, import_added, import_named, import_of, import_slots, imported, imports_any, instead, is_shared, is_usable, joined, local_slots, newest, next, next_fields, next_layer, only, out-Payload, payload_of, resolve, shared_fields, shared_layer, shared_table, slot_symbol, symbol_at, symbol_of, table_name, text, unknown, values_of, version_of}
+use Rattle.ion_symtab.specs.Names.{Field, Import, IsIdReason, IsSharedReason, IsTableReason, Layer, Payload-F, Reason, RepeatedField, Slot, Table, Value, and_then, at_most_one, base, chosen, count_of, described, element_added, element_import, elements, extended, find, greatest_id, import_added, import_named, import_of, import_slots, imported, imports_any, instead, is_shared, is_usable, joined, local_slots, newest, next, next_fields, next_layer, only, out-Payload, payload_of, resolve, shared_fields, shared_layer, shared_table, slot_symbol, symbol_at, symbol_of, table_name, text, values_of, version_of}
 
 -- what holds of two things holds of the one that a test picks
 pub either : {A : Type 0} (P : A → Type 0) (b : Bool) (x y : A) → P x → P y → P (cond b x y)
@@ -17,9 +17,8 @@ module _ (P : Reason → Type 0) where
   and_then_fails (Err e) f p q = p
 
   at_most_fails : P RepeatedField → (vs : List Value) → IfErr (at_most_one vs) P
-  at_most_fails p [] = tt
-  at_most_fails p (v ∷ []) = tt
   at_most_fails p (v ∷ w ∷ vs) = p
+  at_most_fails p _ = tt
 
   -- what follows a field that may stand once
   field_fails : {B : Type 0} → P RepeatedField → (name : List ℕ) (fields : List Field) (f : Option Value → Result B Reason)
@@ -31,8 +30,7 @@ module _ (P : Reason → Type 0) where
 
 slot_fails : (slot : Slot) → IfErr (slot_symbol slot) IsIdReason
 slot_fails (text t) = tt
-slot_fails unknown = tt
-slot_fails gap = tt
+slot_fails _ = tt
 
 at_fails : (slot : Option Slot) → IfErr (symbol_at slot) IsIdReason
 at_fails None = tt
@@ -47,8 +45,7 @@ resolve_fails c id = if_fails IsIdReason (id == 0) (Ok None) (symbol_at (slice_g
 
 instead_fails : (t : Option Table) (n : Option ℕ) → IfErr (instead t n) IsTableReason
 instead_fails (Some t) (Some n) = tt
-instead_fails (Some t) None = tt
-instead_fails None n = tt
+instead_fails _ _ = tt
 
 chosen_fails : (t newest : Option Table) (n : Option ℕ) → IfErr (chosen t newest n) IsTableReason
 chosen_fails (Some t) newest n = tt

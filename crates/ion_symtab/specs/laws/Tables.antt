@@ -104,8 +104,7 @@ newest_either u ts name t n rest (inr e) = of_name_later u ts name t (rest e)
 
 newest_first : (u : Table) (ts : List Table) (name : List ℕ) (t : Table) (b : Bool) → bytes_eq u.name name ≡ b →
     (newest ts name ≡ Some t → IsOfName ts name t) → (if b then newer (Some u) (newest ts name) else newest ts name) ≡ Some t → IsOfName (u ∷ ts) name t
-newest_first u ts name t true n rest e =
-    newest_either u ts name t ((bytes_eq-Decides u.name name).0 n) rest (newer_is u (newest ts name) t e)
+newest_first u ts name t true n rest e = newest_either u ts name t ((bytes_eq-Decides u.name name).0 n) rest (newer_is u _ t e)
 newest_first u ts name t false n rest e = of_name_later u ts name t (rest e)
 
 -- the newest table of a name is there, under that name

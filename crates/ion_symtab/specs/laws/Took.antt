@@ -57,6 +57,5 @@ module _ {S : Type 0} (took : S → Option (List ℕ)) (written : S → List ℕ
   Front-behind old mid new octets more all h =
       record {
         count = length octets + h.count;
-        front = subst (λ (x : List ℕ). Took took written old new x) (sym (take-append-add octets more h.count))
-            (Took-trans old mid new octets (take h.count more) all h.front);
+        front = subst (λ (x : List ℕ). Took took written old new x) (sym (take-append-add octets more h.count)) (Took-trans old mid new octets _ all h.front);
       }
