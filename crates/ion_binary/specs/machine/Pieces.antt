@@ -29,8 +29,7 @@ on_now-more v given (Err refusal) rest = refl
 -- a run that ends with an outcome, and then another, is that other behind the outcome
 pub then_after : (to : ℕ) (o : Outcome) (k : Machine → Run) → then_run (run_after to o) k ≡ run_on to k o
 then_after to (goes m) k = refl
-then_after to (gives v m) k = refl
-then_after to (refuses e) k = refl
+then_after to _ k = refl
 
 module _ (g : Catalog) (l : Limits) where
   -- what is so for each machine that an octet may lead to is so for the outcome

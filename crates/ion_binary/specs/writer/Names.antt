@@ -13,9 +13,8 @@ use Rattle.ion_binary.specs.Output.{Names, id_of, system_names, with_name, with_
 
 pub same_is_equal : (s t : Option (List ℕ)) → symbol_same s t ≡ true → s ≡ t
 same_is_equal None None h = refl
-same_is_equal None (Some t) h = cc
-same_is_equal (Some s) None h = cc
 same_is_equal (Some s) (Some t) h = ap Some ((bytes_eq-Decides s t).0 h)
+same_is_equal _ _ h = cc
 
 pub symbol_self : (s : Option (List ℕ)) → symbol_same s s ≡ true
 symbol_self None = refl
@@ -93,11 +92,10 @@ resolve_zero c = refl
 
 -- a name has its id
 pub resolve_name : (names : Names) (s : Option (List ℕ)) → Starts names → IsAmong names s → resolve (slots names) (id_of names s) ≡ Ok s
-resolve_name [] s b h = absurd b
-resolve_name (Some t ∷ names) s b h = absurd b
 resolve_name (None ∷ names) None b h = resolve_zero (map local_slot names)
 resolve_name (None ∷ names) (Some t) b h = resolve_behind (map local_slot names) (position_or_len (symbol_same (Some t)) names) (Some t)
     (at_place (Some t) names h)
+resolve_name _ s b h = absurd b
 
 -- no id is greater than the number of names
 pub id_few : (names : Names) (s : Option (List ℕ)) → id_of names s ≤ length names
@@ -134,21 +132,18 @@ names_resolve_still names more (s ∷ ss) b h few =
 
 -- more names behind names leave the symbol of unknown text the first
 pub starts_more : (names more : Names) → Starts names → Starts (names ++ more)
-starts_more [] more b = absurd b
 starts_more (None ∷ names) more b = tt
-starts_more (Some t ∷ names) more b = absurd b
+starts_more _ _ b = absurd b
 
 -- the symbol of unknown text, which is the first, is among the names
 pub unknown_among : (names : Names) → Starts names → IsAmong names None
-unknown_among [] b = absurd b
 unknown_among (None ∷ names) b = refl
-unknown_among (Some t ∷ names) b = absurd b
+unknown_among _ b = absurd b
 
 -- more names behind names have their slots behind the slots of those
 pub slots_more : (names more : Names) → Starts names → slots (names ++ more) ≡ slots names ++ map local_slot more
-slots_more [] more b = absurd b
 slots_more (None ∷ names) more b = map-append local_slot names more
-slots_more (Some t ∷ names) more b = absurd b
+slots_more _ _ b = absurd b
 
 -- each is a known text
 abbrev pub AreKnown : Names → Type 0

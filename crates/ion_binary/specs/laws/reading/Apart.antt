@@ -28,15 +28,12 @@ pub record IsPiece (w : List ℕ) : Type 0 where
 
 sized_alike : (o : Opening) (rest other x y : List ℕ) → IsSizedBy o rest → IsSizedBy o other → rest ++ x ≡ other ++ y → length rest ≡ length other
 sized_alike (Refused reason) rest other x y h k e = absurd h
-sized_alike Marker rest other x y h k e = h ∙ sym k
-sized_alike (Null kind) rest other x y h k e = h ∙ sym k
-sized_alike (Truth truth) rest other x y h k e = h ∙ sym k
-sized_alike (Sized form (Known n)) rest other x y h k e = h ∙ sym k
 sized_alike (Sized form Follows) rest other x y (number, body, parts, is) (number', body', parts', is') e =
     let same : number ++ (body ++ x) ≡ number' ++ (body' ++ y) =
     sym (append_assoc number body x) ∙ (ap (λ w. w ++ x) (sym parts) ∙ (e ∙ (ap (λ w. w ++ y) parts' ∙ append_assoc number' body' y))) in
     let one = one_var_uint number number' (body ++ x) (body' ++ y) (length body) (length body') is is' same in
     omega (arith, one.0, one.1, ap length parts, ap length parts', length-append number body, length-append number' body')
+sized_alike _ rest other x y h k e = h ∙ sym k
 
 -- two pieces at one place are equally long
 piece_alike : (p q x y : List ℕ) → IsPiece p → IsPiece q → p ++ x ≡ q ++ y → length p ≡ length q

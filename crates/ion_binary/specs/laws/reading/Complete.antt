@@ -46,17 +46,13 @@ top_less item start form a b h r = λ p. let k = r p in omega arith
 misfits_none : (l : Limits) (start : ℕ) (fs : List Frame) (form : Form) (to : ℕ) → BodyMayEnd l start fs form to → misfits l.item start fs form to ≡ None
 misfits_none l start [] form to h = too_long_none l.item start form to h
 misfits_none l start (frames.Annotated end ss ∷ fs) form to h = cond-true _ _ _ (eq-eqb to end h)
-misfits_none l start (frames.Items end x vs ∷ fs) form to h = cond-true _ _ _ (le-leb to end h)
-misfits_none l start (frames.Fields end ms ∷ fs) form to h = cond-true _ _ _ (le-leb to end h)
-misfits_none l start (frames.Named end ms name ∷ fs) form to h = cond-true _ _ _ (le-leb to end h)
+misfits_none l start _ form to h = cond-true _ _ _ (le-leb to _ h)
 
 -- where the body's end fits, its header does
 ends_room : (l : Limits) (start : ℕ) (fs : List Frame) (form : Form) (a b : ℕ) → a ≤ b → BodyMayEnd l start fs form b → HasRoom l start fs form a
 ends_room l start [] form a b h r = top_less l.item start form a b h r
 ends_room l start (frames.Annotated end ss ∷ fs) form a b h r = omega arith
-ends_room l start (frames.Items end x vs ∷ fs) form a b h r = omega arith
-ends_room l start (frames.Fields end ms ∷ fs) form a b h r = omega arith
-ends_room l start (frames.Named end ms name ∷ fs) form a b h r = omega arith
+ends_room l start _ form a b h r = omega arith
 
 room_less : (l : Limits) (start : ℕ) (fs : List Frame) (form : Form) (a b : ℕ) → a ≤ b → HasRoom l start fs form b → HasRoom l start fs form a
 room_less l start [] form a b h r = top_less l.item start form a b h r
@@ -73,9 +69,8 @@ outside_none (f ∷ fs) used h = cond-true _ _ _ (lt-ltb used (end_of f) (omega 
 
 past_none : (l : Limits) (start : ℕ) (fs : List Frame) (p : Purpose) (used : ℕ) → NumberRoom l start fs p (used + 1) → past l.item start fs p used ≡ None
 past_none l start fs (Purpose.Length form) used h = unending_none l start fs form used h
-past_none l start fs Purpose.FieldName used h = outside_none fs used h
-past_none l start fs Purpose.AnnotationsLength used h = outside_none fs used h
 past_none l start fs (Purpose.Annotation stop) used h = cond-true _ _ _ (lt-ltb used stop (omega arith))
+past_none l start fs _ used h = outside_none fs used h
 
 in_less : (fs : List Frame) (a b : ℕ) → a ≤ b → InRoom fs b → InRoom fs a
 in_less [] a b h r = r
@@ -83,9 +78,8 @@ in_less (f ∷ fs) a b h r = omega arith
 
 number_less : (l : Limits) (start : ℕ) (fs : List Frame) (p : Purpose) (a b : ℕ) → a ≤ b → NumberRoom l start fs p b → NumberRoom l start fs p a
 number_less l start fs (Purpose.Length form) a b h r = room_less l start fs form a b h r
-number_less l start fs Purpose.FieldName a b h r = in_less fs a b h r
-number_less l start fs Purpose.AnnotationsLength a b h r = in_less fs a b h r
 number_less l start fs (Purpose.Annotation stop) a b h r = omega arith
+number_less l start fs _ a b h r = in_less fs a b h r
 
 -- a form may stand here
 pub record Admits (fs : List Frame) (form : Form) : Type 0 where
@@ -93,20 +87,13 @@ pub record Admits (fs : List Frame) (form : Form) : Type 0 where
   pub named : nameless fs form ≡ None
 
 stray_none : (fs : List Frame) (form : Form) → is_pad form ≡ false → is_wrapper form ≡ false → stray fs form ≡ None
-stray_none [] form p w = refl
 stray_none (frames.Annotated end ss ∷ fs) form p w = cond-false _ _ _ (ap (λ b. b || is_wrapper form) p ∙ w)
-stray_none (frames.Items end x vs ∷ fs) form p w = refl
-stray_none (frames.Fields end ms ∷ fs) form p w = refl
-stray_none (frames.Named end ms name ∷ fs) form p w = refl
+stray_none _ form p w = refl
 
 -- what may stand behind this field name doesn't depend on the form
 nameless_none : (fs : List Frame) (form : Form) → nameless fs Form.Struct ≡ None → nameless fs form ≡ None
-nameless_none [] form h = refl
-nameless_none (frames.Annotated end ss ∷ fs) form h = refl
-nameless_none (frames.Items end x vs ∷ fs) form h = refl
-nameless_none (frames.Fields end ms ∷ fs) form h = refl
-nameless_none (frames.Named end ms (Ok s) ∷ fs) form h = refl
 nameless_none (frames.Named end ms (Err e) ∷ fs) form h = absurd cc
+nameless_none _ form h = refl
 
 admits_plain : (fs : List Frame) (form : Form) → is_pad form ≡ false → is_wrapper form ≡ false → nameless fs Form.Struct ≡ None → Admits fs form
 admits_plain fs form p w h = record { fitting = stray_none fs form p w; named = nameless_none fs form h }
@@ -115,18 +102,14 @@ admits_plain fs form p w h = record { fitting = stray_none fs form p w; named = 
 ends_as : (l : Limits) (start : ℕ) (fs : List Frame) (form : Form) (to : ℕ) → BodyMayEnd l start fs Form.Struct to → BodyMayEnd l start fs form to
 ends_as l start [] form to r = λ p. r refl
 ends_as l start (frames.Annotated end ss ∷ fs) form to r = r
-ends_as l start (frames.Items end x vs ∷ fs) form to r = r
-ends_as l start (frames.Fields end ms ∷ fs) form to r = r
-ends_as l start (frames.Named end ms name ∷ fs) form to r = r
+ends_as l start _ form to r = r
 
 or_none : (a b : Option Reason) → a ≡ None → b ≡ None → or_else a b ≡ None
 or_none a b h k = ap (λ x. or_else x b) h ∙ k
 
 unfit_none : (l : Limits) (start : ℕ) (fs : List Frame) (form : Form) (to : ℕ) → Admits fs form → BodyMayEnd l start fs form to → unfit l.item start fs form to
     ≡ None
-unfit_none l start fs form to a h =
-    or_none (stray fs form) (or_else (misfits l.item start fs form to) (nameless fs form)) a.fitting
-    (or_none (misfits l.item start fs form to) (nameless fs form) (misfits_none l start fs form to h) a.named)
+unfit_none l start fs form to a h = or_none _ _ a.fitting (or_none _ _ (misfits_none l start fs form to h) a.named)
 
 -- numbers
 
@@ -137,12 +120,7 @@ hollow_scalar c Scalar.NegativeInt [] p h = absurd cc
 hollow_scalar c Scalar.NegativeInt (b ∷ bs) p h = cond-false _ _ _ (ne_eqb (suc (length bs)) 0 (λ e. omega arith))
 hollow_scalar c Scalar.Timestamp [] p h = absurd cc
 hollow_scalar c Scalar.Timestamp (b ∷ bs) p h = cond-false _ _ _ (ne_eqb (suc (length bs)) 0 (λ e. omega arith))
-hollow_scalar c Scalar.Int body p h = refl
-hollow_scalar c Scalar.Decimal body p h = refl
-hollow_scalar c Scalar.Symbol body p h = refl
-hollow_scalar c Scalar.Str body p h = refl
-hollow_scalar c Scalar.Clob body p h = refl
-hollow_scalar c Scalar.Blob body p h = refl
+hollow_scalar c _ body p h = refl
 
 -- a number with one more digit at its end
 pub digits_more : (ds : List ℕ) (d : ℕ) → positional 128 (ds ++ d ∷ []) ≡ 128 * positional 128 ds + d
@@ -162,12 +140,11 @@ joined_some h body k = let e = length-append h body in omega arith
 
 -- a value without annotations has an octet
 pub plain_some : (c : List Slot) (w : List ℕ) (p : Payload) → Plain c w p → 0 < length w
-plain_some c _ _ (is_null b k d) = omega arith
-plain_some c _ _ (is_truth b k d) = omega arith
 plain_some c _ _ (is_scalar h body t p d i) = joined_some h body (header_some _ _ h d)
 plain_some c _ _ (is_listing h body x vs d q) = joined_some h body (header_some _ _ h d)
 plain_some c _ _ (is_struct h body ms d q) = joined_some h body (header_some _ _ h d)
 plain_some c _ _ (is_ordered h body ms d n q) = joined_some h body (header_some _ _ h d)
+plain_some c _ _ _ = omega arith
 
 -- a value has an octet
 pub binary_some : (c : List Slot) (w : List ℕ) (v : Value) → Binary c w v → 0 < length w
@@ -202,9 +179,8 @@ module _ (g : Catalog) (l : Limits) where
   digit_step : (spot : Spot) (fs : List Frame) (p : Purpose) (a d to n : ℕ) → d < 128 → n ≡ 128 * a + d → n < 2 ^ 63 → to ≡ spot.used + 1
       → NumberRoom l spot.start fs p (to + 1)
       → feed (under g l) (at spot fs (InNumber p a)) d ≡ Outcome.goes (at (moved spot to) fs (InNumber p n))
-  digit_step spot fs p a d to n h e k i r =
-      rw (e, i) (cond-true _ _ _ (lt-ltb d 128 h) ∙ (cond-true _ _ _ (lt-ltb (128 * a + d) (2 ^ 63) (omega arith))
-      ∙ longer_goes (moved spot (spot.used + 1)) fs p (128 * a + d) (rw i at r)))
+  digit_step spot fs p a d to n h e k i r = rw (e, i) (cond-true _ _ _ (lt-ltb d 128 h) ∙ (cond-true _ _ _ (lt-ltb (128 * a + d) (2 ^ 63) (omega arith))
+      ∙ longer_goes _ fs p (128 * a + d) (rw i at r)))
 
   -- the digits of a number but the last
   digits_run : (spot : Spot) (fs : List Frame) (p : Purpose) (ds : List ℕ) (to : ℕ) → Digits128 ds → positional 128 ds < 2 ^ 63 → to ≡ spot.used + length ds
@@ -253,9 +229,8 @@ module _ (g : Catalog) (l : Limits) where
       let k = length_VarUInt h n v in
       run_via g l spot.used (spot.used + 1) (at spot fs Ready) (at (moved spot (spot.used + 1)) fs (InNumber (Purpose.Length form) 0)) _ (b ∷ []) h refl
       (ap (λ x. run_after (spot.used + 1) (on_descriptor (under g l) (moved spot (spot.used + 1)) fs x)) d
-      ∙ ap (run_after (spot.used + 1)) (unsized_goes (moved spot (spot.used + 1)) fs form a (ends_room l spot.start fs form _ _ (omega arith) r)))
-      (number_run (moved spot (spot.used + 1)) fs (Purpose.Length form) h n to v (omega arith) (ends_room l spot.start fs form _ _ (omega arith) r)
-      ∙ ap (run_after to) (sized_begins (moved spot to) fs form n hol a r))
+      ∙ ap (run_after (spot.used + 1)) (unsized_goes _ fs form a (ends_room l spot.start fs form _ _ (omega arith) r)))
+      (number_run _ fs _ h n to v (omega arith) (ends_room l spot.start fs form _ _ (omega arith) r) ∙ ap (run_after to) (sized_begins _ fs form n hol a r))
 
   -- bodies
 
@@ -281,32 +256,27 @@ module _ (g : Catalog) (l : Limits) where
   -- the octets of a body, behind those that have come
   pub body_run : (spot : Spot) (fs : List Frame) (t : Scalar) (n : ℕ) (came body : List ℕ) (to : ℕ) → length body ≡ suc n → to ≡ spot.used + length body
       → run g l spot.used (in_body spot fs t n came) body ≡ run_after to (judged (under g l) (moved spot to) fs (judge spot.context t (came ++ body)))
-  body_run spot fs t zero came [] to h e = absurd (omega arith)
   body_run spot fs t zero came (b ∷ []) to h e = rw e refl
-  body_run spot fs t zero came (b ∷ d ∷ bs) to h e = absurd (omega arith)
-  body_run spot fs t (suc n) came [] to h e = absurd (omega arith)
   body_run spot fs t (suc n) came (b ∷ bs) to h e =
       ap (run_on (spot.used + 1) (λ m. run g l (spot.used + 1) m bs)) (body_more g l (moved spot (spot.used + 1)) fs t n came b)
       ∙ body_run (moved spot (spot.used + 1)) fs t n (came ++ b ∷ []) bs to (omega arith) (omega arith)
       ∙ ap (λ x. run_after to (judged (under g l) (moved spot to) fs (judge spot.context t x))) (append_assoc came (b ∷ []) bs)
+  body_run spot fs t _ came _ to h e = absurd (omega arith)
 
   pad_run : (spot : Spot) (fs : List Frame) (n : ℕ) (body : List ℕ) (to : ℕ) → length body ≡ suc n → to ≡ spot.used + length body
       → run g l spot.used (at spot fs (InPad n)) body ≡ run_after to (proceed (under g l) (moved spot to) fs)
-  pad_run spot fs zero [] to h e = absurd (omega arith)
   pad_run spot fs zero (b ∷ []) to h e = rw e refl
-  pad_run spot fs zero (b ∷ d ∷ bs) to h e = absurd (omega arith)
-  pad_run spot fs (suc n) [] to h e = absurd (omega arith)
   pad_run spot fs (suc n) (b ∷ bs) to h e = ap (run_on (spot.used + 1) (λ m. run g l (spot.used + 1) m bs)) (pad_more g l (moved spot (spot.used + 1)) fs n)
       ∙ pad_run (moved spot (spot.used + 1)) fs n bs to (omega arith) (omega arith)
+  pad_run spot fs _ _ to h e = absurd (omega arith)
 
   -- a run from a header on
   from_header : (spot : Spot) (fs : List Frame) (form : Form) (h body : List ℕ) (mid : ℕ) (r : Run) → Header form (length body) h → hollow form (length body)
       ≡ None → Admits fs form → mid ≡ spot.used + length h → BodyMayEnd l spot.start fs form (mid + length body)
       → run_on mid (λ n. run g l mid n body) (begin (under g l) (moved spot mid) fs form (length body)) ≡ r
       → run g l spot.used (at spot fs Ready) (h ++ body) ≡ r
-  from_header spot fs form h body mid r d hol a e room k =
-      run-append g l spot.used mid h body e (at spot fs Ready)
-      ∙ (ap (λ x. then_run x (λ n. run g l mid n body)) (header_run spot fs form h (length body) mid d hol a e room)
+  from_header spot fs form h body mid r d hol a e room k = run-append g l spot.used mid h body e (at spot fs Ready)
+      ∙ (ap (λ x. then_run x (λ n. run g l mid n body)) (header_run spot fs form h _ mid d hol a e room)
       ∙ (then_after mid (begin (under g l) (moved spot mid) fs form (length body)) (λ n. run g l mid n body) ∙ k))
 
   scalar_ends : (spot : Spot) (fs : List Frame) (t : Scalar) (body : List ℕ) (to : ℕ) → to ≡ spot.used + length body
@@ -314,9 +284,8 @@ module _ (g : Catalog) (l : Limits) where
       ≡ run_after to (judged (under g l) (moved spot to) fs (judge spot.context t body))
   scalar_ends spot fs t [] to e =
       ap (λ n. run_after n (judged (under g l) (moved spot n) fs (judge spot.context t []))) (let j : spot.used ≡ to = omega arith in j)
-  scalar_ends spot fs t (b ∷ bs) to e =
-      ap (run_on spot.used (λ m. run g l spot.used m (b ∷ bs))) (begin_scalar spot fs t (length bs)) ∙ body_run spot fs t (length bs) []
-      (b ∷ bs) to refl e
+  scalar_ends spot fs t (b ∷ bs) to e = ap (run_on spot.used (λ m. run g l spot.used m (b ∷ bs))) (begin_scalar spot fs t (length bs))
+      ∙ body_run spot fs t _ [] _ to refl e
 
   scalar_begins : (spot : Spot) (fs : List Frame) (t : Scalar) (body : List ℕ) (p : Payload) (to : ℕ) → judge spot.context t body ≡ Ok p
       → to ≡ spot.used + length body
@@ -366,8 +335,7 @@ module _ (g : Catalog) (l : Limits) where
   pub name_run : (spot : Spot) (fs : List Frame) (end : ℕ) (ms : List Field) (id : List ℕ) (k to : ℕ) (r : Result (Option (List ℕ)) Reason) → VarUInt id k
       → resolve spot.context k ≡ r → to ≡ spot.used + length id → to < end
       → run g l spot.used (at spot (frames.Fields end ms ∷ fs) (InNumber Purpose.FieldName 0)) id ≡ led (at (moved spot to) (frames.Named end ms r ∷ fs) Ready)
-  name_run spot fs end ms id k to r v i h e =
-      number_run spot (frames.Fields end ms ∷ fs) Purpose.FieldName id k to v h (omega arith)
+  name_run spot fs end ms id k to r v i h e = number_run spot _ Purpose.FieldName id k to v h (omega arith)
       ∙ (ap (run_after to) (cond-true _ _ _ (lt-ltb to end e)) ∙ ap (λ n. led (at (moved spot to) (frames.Named end ms n ∷ fs) Ready)) i)
 
   -- the annotations
@@ -382,11 +350,10 @@ module _ (g : Catalog) (l : Limits) where
       let n = length-append us w in
       let m = length_VarUInt w k v in
       let mid = spot.used + length us in
-      run_via g l spot.used mid _ (at (moved spot mid) (frames.Annotated end ss ∷ fs) (InNumber (Purpose.Annotation stop) 0)) _ us w refl
+      run_via g l spot.used mid _ _ _ us w refl
       (ids_run spot fs end stop us ss mid b h refl (omega arith)
       ∙ ap (λ ph. led (at (moved spot mid) (frames.Annotated end ss ∷ fs) ph)) (cond-false _ _ _ (ne_eqb mid stop (λ k. omega arith))))
-      (number_run (moved spot mid) (frames.Annotated end ss ∷ fs) (Purpose.Annotation stop) w k to v (omega arith) j
-      ∙ ap (λ x. run_after to (annotation_came (moved spot to) (frames.Annotated end ss ∷ fs) stop x)) r)
+      (number_run _ _ _ w k to v (omega arith) j ∙ ap (λ x. run_after to (annotation_came (moved spot to) (frames.Annotated end ss ∷ fs) stop x)) r)
 
   -- behind the number of annotation octets, if it is good, the first id comes
   pub count_goes : (spot : Spot) (fs : List Frame) (end n : ℕ) (ss : List (Option (List ℕ))) → 0 < n → spot.used + n < end
@@ -409,15 +376,12 @@ module _ (g : Catalog) (l : Limits) where
       let mid2 = mid + length count in
       let mid3 = mid2 + length ids in
       let is_end : end ≡ mid + length (count ++ (ids ++ w)) = omega arith in
-      from_header spot fs Form.Wrapper h (count ++ (ids ++ w)) mid r d (cond-false _ _ _ (ne_eqb (length (count ++ (ids ++ w))) 0 (λ e. omega arith))) a refl
+      from_header spot fs Form.Wrapper h _ mid r d (cond-false _ _ _ (ne_eqb (length (count ++ (ids ++ w))) 0 (λ e. omega arith))) a refl
       (subst (BodyMayEnd l spot.start fs Form.Wrapper) is_end x)
       (ap (run_on mid (λ n. run g l mid n (count ++ (ids ++ w)))) (begin_wrapper (moved spot mid) fs (length (count ++ (ids ++ w))))
-      ∙ rw (← is_end) (run_via g l mid mid2 (at (moved spot mid) (frames.Annotated end [] ∷ fs) (InNumber Purpose.AnnotationsLength 0))
-      (at (moved spot mid2) (frames.Annotated end [] ∷ fs) (InNumber (Purpose.Annotation mid3) 0)) r count (ids ++ w) refl
-      (number_run (moved spot mid) (frames.Annotated end [] ∷ fs) Purpose.AnnotationsLength count (length ids) mid2 v refl (omega arith)
-      ∙ ap (run_after mid2) (count_goes (moved spot mid2) fs end (length ids) [] n (omega arith)))
-      (run_via g l mid2 mid3 _ (at (moved spot mid3) (frames.Annotated end ss ∷ fs) Ready) r ids w refl
-      (ids_run (moved spot mid2) fs end mid3 ids ss mid3 i (omega arith) refl (omega arith)
+      ∙ rw (← is_end) (run_via g l mid mid2 _ _ r count _ refl (number_run _ _ Purpose.AnnotationsLength count _ mid2 v refl (omega arith)
+      ∙ ap (run_after mid2) (count_goes (moved spot mid2) fs end _ [] n (omega arith)))
+      (run_via g l mid2 mid3 _ _ r ids w refl (ids_run _ fs end mid3 ids ss mid3 i (omega arith) refl (omega arith)
       ∙ ap (λ ph. led (at (moved spot mid3) (frames.Annotated end ss ∷ fs) ph)) (cond-true _ _ _ (eq-eqb mid3 mid3 refl)))
       k)))
 
@@ -438,12 +402,8 @@ module _ (g : Catalog) (l : Limits) where
       ∙ (k ∙ ap (run_after to) (cond-true _ _ _ (eq-eqb to (spot.used + length body) m)))
 
   wrapper_named : (fs : List Frame) → nameless fs Form.Wrapper ≡ None → nameless fs Form.Struct ≡ None
-  wrapper_named [] h = refl
-  wrapper_named (frames.Annotated end ss ∷ fs) h = refl
-  wrapper_named (frames.Items end x vs ∷ fs) h = refl
-  wrapper_named (frames.Fields end ms ∷ fs) h = refl
-  wrapper_named (frames.Named end ms (Ok s) ∷ fs) h = refl
   wrapper_named (frames.Named end ms (Err e) ∷ fs) h = absurd cc
+  wrapper_named _ h = refl
 
   -- an id isn't resolved before a pad
   pad_named : (end : ℕ) (ms : List Field) (r : Result (Option (List ℕ)) Reason) (fs : List Frame) → nameless (frames.Named end ms r ∷ fs) Form.Pad ≡ None
@@ -457,12 +417,10 @@ module _ (g : Catalog) (l : Limits) where
     plain_run : (used start : ℕ) (c : List Slot) (fs : List Frame) (to : ℕ) (w : List ℕ) (p : Payload) → Plain c w p → nameless fs Form.Struct ≡ None
         → to ≡ used + length w → BodyMayEnd l start fs Form.Struct to → depth (bare p) + levels fs ≤ l.depth
         → run g l used (at (spot_at used start c) fs Ready) w ≡ run_after to (deliver (under g l) (spot_at to start c) fs (bare p))
-    plain_run used start c fs to _ _ (is_null b k d) a e r q =
-        ap (λ x. run_after (used + 1) (on_descriptor (under g l) (spot_at (used + 1) start c) fs x)) d
-        ∙ one_run (spot_at used start c) fs to (payloads.Null k) e a r
-    plain_run used start c fs to _ _ (is_truth b k d) a e r q =
-        ap (λ x. run_after (used + 1) (on_descriptor (under g l) (spot_at (used + 1) start c) fs x)) d
-        ∙ one_run (spot_at used start c) fs to (payloads.Truth k) e a r
+    plain_run used start c fs to _ _ (is_null b k d) a e r q = ap (λ x. run_after (used + 1) (on_descriptor (under g l) (spot_at (used + 1) start c) fs x)) d
+        ∙ one_run _ fs to _ e a r
+    plain_run used start c fs to _ _ (is_truth b k d) a e r q = ap (λ x. run_after (used + 1) (on_descriptor (under g l) (spot_at (used + 1) start c) fs x)) d
+        ∙ one_run _ fs to _ e a r
     plain_run used start c fs to _ _ (is_scalar h body t p d i) a e r q =
         let k = length-append h body in
         let m : to ≡ used + length h + length body = omega arith in
@@ -474,30 +432,27 @@ module _ (g : Catalog) (l : Limits) where
         let mid = used + length h in
         let dv = depth-listed x vs in
         let m : to ≡ mid + length body = omega arith in
-        from_header (spot_at used start c) fs (Form.Listing x) h body mid _ d refl (admits_plain fs (Form.Listing x) refl refl a) refl
-        (ends_as l start fs (Form.Listing x) _ (subst (BodyMayEnd l start fs Form.Struct) m r))
+        from_header _ fs _ h body mid _ d refl (admits_plain fs _ refl refl a) refl
+        (ends_as l start fs _ _ (subst (BodyMayEnd l start fs Form.Struct) m r))
         (ap (run_on mid (λ n. run g l mid n body)) (cond-true _ _ _ (lt-ltb (levels fs) l.depth (omega arith)))
-        ∙ (items_run mid start c fs (mid + length body) x to body vs b m (omega arith) (omega arith)
-        ∙ ap (run_after to) (cond-true _ _ _ (eq-eqb to (mid + length body) m))))
+        ∙ (items_run mid start c fs _ x to body vs b m (omega arith) (omega arith) ∙ ap (run_after to) (cond-true _ _ _ (eq-eqb to (mid + length body) m))))
     plain_run used start c fs to _ _ (is_struct h body ms d b) a e r q =
         let k = length-append h body in
         let mid = used + length h in
         let dv = depth-fields ms in
         let m : to ≡ mid + length body = omega arith in
-        from_header (spot_at used start c) fs Form.Struct h body mid _ d refl (admits_plain fs Form.Struct refl refl a) refl
+        from_header _ fs Form.Struct h body mid _ d refl (admits_plain fs Form.Struct refl refl a) refl
         (subst (BodyMayEnd l start fs Form.Struct) m r)
-        (struct_run (spot_at mid start c) fs to body ms m (omega arith)
-        (fields_run mid start c fs (mid + length body) to body ms b m (omega arith) (omega arith)))
+        (struct_run _ fs to body ms m (omega arith) (fields_run mid start c fs _ to body ms b m (omega arith) (omega arith)))
     plain_run used start c fs to _ _ (is_ordered h body ms d n b) a e r q =
         let k = length-append h body in
         let mid = used + length h in
         let dv = depth-fields ms in
         let m : to ≡ mid + length body = omega arith in
-        from_header (spot_at used start c) fs Form.OrderedStruct h body mid _ d (cond-false _ _ _ (ne_eqb (length body) 0 (λ e. omega arith)))
+        from_header _ fs Form.OrderedStruct h body mid _ d (cond-false _ _ _ (ne_eqb (length body) 0 (λ e. omega arith)))
         (admits_plain fs Form.OrderedStruct refl refl a) refl (ends_as l start fs Form.OrderedStruct _ (subst (BodyMayEnd l start fs Form.Struct) m r))
-        (ap (run_on mid (λ n. run g l mid n body)) (begin_ordered (spot_at mid start c) fs (length body))
-        ∙ struct_run (spot_at mid start c) fs to body ms m (omega arith)
-        (fields_run mid start c fs (mid + length body) to body ms b m (omega arith) (omega arith)))
+        (ap (run_on mid (λ n. run g l mid n body)) (begin_ordered (spot_at mid start c) fs (length body)) ∙ struct_run _ fs to body ms m (omega arith)
+        (fields_run mid start c fs _ to body ms b m (omega arith) (omega arith)))
 
     -- a value, where there is room for it
     value_run : (used start : ℕ) (c : List Slot) (fs : List Frame) (to : ℕ) (w : List ℕ) (v : Value) → Binary c w v → Admits fs Form.Wrapper
@@ -551,27 +506,22 @@ module _ (g : Catalog) (l : Limits) where
         let m = field_deepest-more ms (field_of s v) in
         let mid = used + length us in
         let mid2 = mid + length id in
-        on_outcome g l used mid us (id ++ w) (run-append g l used mid us (id ++ w) refl)
-        (proceed (under g l) (spot_at used start c) (frames.Fields end [] ∷ fs))
+        on_outcome g l used mid us _ (run-append g l used mid us (id ++ w) refl) _
         ∙ (ap (λ y. then_run y (λ n. run g l mid n (id ++ w))) (fields_run used start c fs end mid us ms b refl (omega arith) (omega arith)
-        ∙ ap (run_after mid) (fields_go (spot_at mid start c) fs end ms (omega arith)))
-        ∙ run_via g l mid mid2 _ (at (spot_at mid2 start c) (frames.Named end ms (Ok s) ∷ fs) Ready) _ id w refl
-        (name_run (spot_at mid start c) fs end ms id k mid2 (Ok s) n y refl (omega arith))
-        (value_run mid2 start c (frames.Named end ms (Ok s) ∷ fs) to w v d (record { fitting = refl; named = refl }) (omega arith) r (omega arith)))
+        ∙ ap (run_after mid) (fields_go (spot_at mid start c) fs end ms (omega arith))) ∙ run_via g l mid mid2 _ _ _ id w refl
+        (name_run _ fs end ms id k mid2 _ n y refl (omega arith))
+        (value_run mid2 start c _ to w v d (record { fitting = refl; named = refl }) (omega arith) r (omega arith)))
     fields_run used start c fs end to _ _ (padded_field us id w ms k b n d) e r q =
         let n0 = length-append us (id ++ w) in
         let n1 = length-append id w in
         let j = pad_some w d in
         let mid = used + length us in
         let mid2 = mid + length id in
-        on_outcome g l used mid us (id ++ w) (run-append g l used mid us (id ++ w) refl)
-        (proceed (under g l) (spot_at used start c) (frames.Fields end [] ∷ fs))
+        on_outcome g l used mid us _ (run-append g l used mid us (id ++ w) refl) _
         ∙ (ap (λ y. then_run y (λ n. run g l mid n (id ++ w))) (fields_run used start c fs end mid us ms b refl (omega arith) q
-        ∙ ap (run_after mid) (fields_go (spot_at mid start c) fs end ms (omega arith)))
-        ∙ run_via g l mid mid2 _ (at (spot_at mid2 start c) (frames.Named end ms (resolve c k) ∷ fs) Ready) _ id w refl
-        (name_run (spot_at mid start c) fs end ms id k mid2 (resolve c k) n refl refl (omega arith))
-        (skip_run (spot_at mid2 start c) (frames.Named end ms (resolve c k) ∷ fs) w to d (record { fitting = refl; named = pad_named end ms (resolve c k) fs })
-        (omega arith) r))
+        ∙ ap (run_after mid) (fields_go (spot_at mid start c) fs end ms (omega arith))) ∙ run_via g l mid mid2 _ _ _ id w refl
+        (name_run _ fs end ms id k mid2 _ n refl refl (omega arith))
+        (skip_run _ _ w to d (record { fitting = refl; named = pad_named end ms _ fs }) (omega arith) r))
 
   -- a value, where there is room for it
   pub binary_run : (spot : Spot) (fs : List Frame) (to : ℕ) (w : List ℕ) (v : Value) → Binary spot.context w v → Admits fs Form.Wrapper

@@ -49,5 +49,4 @@ judge_decides c Scalar.Decimal body = as_decimal_decides (decimal_of_body body) 
 judge_decides c Scalar.Timestamp body = as_timestamp_decides (timestamp_of_body body) (judged_decides (timestamp_of_body body) (timestamp_judges body))
 judge_decides c Scalar.Symbol body = symbol_decides c (uint_field body) (uint_decides body)
 judge_decides c Scalar.Str body = either (Decides {A = Payload}) (is_utf8 body) _ _ tt tt
-judge_decides c Scalar.Clob body = tt
-judge_decides c Scalar.Blob body = tt
+judge_decides c _ body = tt

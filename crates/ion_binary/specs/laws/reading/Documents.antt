@@ -47,8 +47,7 @@ module _ (g : Catalog) (l : Limits) where
       let r = pieces_run u s c d in
       let k = length-append u w in
       let to = length (u ++ w) in
-      rw append-nil at (behind u w s [] c e [] r
-      (binary_run g l (anew (length u) c) [] to w v b top k (λ i. omega arith) (omega arith)
+      rw append-nil at (behind u w s [] c e [] r (binary_run g l _ [] to w v b top k (λ i. omega arith) (omega arith)
       ∙ (ap (run_after to) (cond-true _ _ _ t) ∙ ap (λ x. run_after to (turned to x)) n)) refl (rw append-nil (longer_spaced u w r.given r.spaced)))
   pieces_run _ _ _ (holds u w s c v d b t p q) =
       let r = pieces_run u s c d in

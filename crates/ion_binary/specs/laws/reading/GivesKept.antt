@@ -52,7 +52,6 @@ module _ (c : List Slot) (h : AreTextSlots c) where
 
     fields_kept : (w : List ℕ) (ms : List Field) → AreOctets w → Fields c w ms → KeptFields ms
     fields_kept _ _ o grammar.no_fields = no_fields
-    fields_kept _ _ o (one_field us id w ms k s v q n r b) =
-        fields_last ms s v (fields_kept us ms (octets_front us (id ++ w) o) q) (resolved_text c k s h r)
-        (binary_kept w v (octets_rest id w (octets_rest us (id ++ w) o)) b)
+    fields_kept _ _ o (one_field us id w ms k s v q n r b) = fields_last ms s v (fields_kept us ms (octets_front us _ o) q) (resolved_text c k s h r)
+        (binary_kept w v (octets_rest id w (octets_rest us _ o)) b)
     fields_kept _ _ o (padded_field us id w ms k q n b) = fields_kept us ms (octets_front us (id ++ w) o) q

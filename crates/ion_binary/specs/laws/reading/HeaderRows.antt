@@ -1,8 +1,8 @@
 -- The headers of the grammar are those of the type codes and length codes.
-use Rattle.std.proofs.Common.{◌≡◌, ◌≢◌, ◌↔◌, ℕ, ◌+◌, ◌*◌, ◌/◌, ◌%◌, ◌<◌, ◌≤◌, ◌==◌, Bool, true, false, List, [], ◌∷◌, refl, sym, ap, subst, ◌∙◌, arith, inl, inr, Result, Ok, Err, cond}
+use Rattle.std.proofs.Common.{◌≡◌, ◌≢◌, ◌↔◌, ℕ, ◌+◌, ◌*◌, ◌/◌, ◌%◌, ◌<◌, ◌≤◌, ◌==◌, Bool, false, List, [], ◌∷◌, refl, sym, ap, subst, ◌∙◌, arith, inl, inr, Result, Ok, Err, cond}
 use Rattle.std.specs.Prelude.{◌||◌}
 use Rattle.std.proofs.lemmas.Bool.{cases_lt, cond_both, eqb-true, eqb-false}
-use Rattle.ion_binary.specs.Names.{Descriptor, Float, Follows, Form, Header, IsBodyLength, IsHeader, Known, Listing, Malformed, Opening, Reason, Scalar, Size, Sized, body_of, descriptor_of, long, long_code, opening_of, opens, short, size, type_code, typed, with_octets}
+use Rattle.ion_binary.specs.Names.{Descriptor, Float, Follows, Form, Header, IsBodyLength, IsHeader, Known, Malformed, Opening, Reason, Scalar, Size, Sized, body_of, descriptor_of, long, long_code, opening_of, opens, short, size, type_code, typed, with_octets}
 use Rattle.ion_binary.specs.laws.writing.Headers.{below, follows, known}
 
 -- a type code and a length code that open a form of that size
@@ -44,17 +44,16 @@ module _ (code length : ℕ) where
       ]
 
   body_opens : length < 15 → (code ≡ 13 → length ≢ 1) → (code ≡ 14 → 3 ≤ length) → Opens (body_of code (size length))
-  body_opens low struct wrapper =
-      cond_both (code == 2) _ _ Opens (λ e. sized_opens (Form.Scalar Scalar.Int) low (eqb-true code 2 e) refl (λ _. tt))
+  body_opens low struct wrapper = cond_both (code == 2) _ _ Opens (λ e. sized_opens _ low (eqb-true code 2 e) refl (λ _. tt))
       (λ _. cond_both (code == 3) _ _ Opens (λ e. some_opens Scalar.NegativeInt low (eqb-true code 3 e) (λ some. some))
-      (λ _. cond_both (code == 5) _ _ Opens (λ e. sized_opens (Form.Scalar Scalar.Decimal) low (eqb-true code 5 e) refl (λ _. tt))
+      (λ _. cond_both (code == 5) _ _ Opens (λ e. sized_opens _ low (eqb-true code 5 e) refl (λ _. tt))
       (λ _. cond_both (code == 6) _ _ Opens (λ e. some_opens Scalar.Timestamp low (eqb-true code 6 e) (λ some. some))
-      (λ _. cond_both (code == 7) _ _ Opens (λ e. sized_opens (Form.Scalar Scalar.Symbol) low (eqb-true code 7 e) refl (λ _. tt))
-      (λ _. cond_both (code == 8) _ _ Opens (λ e. sized_opens (Form.Scalar Scalar.Str) low (eqb-true code 8 e) refl (λ _. tt))
-      (λ _. cond_both (code == 9) _ _ Opens (λ e. sized_opens (Form.Scalar Scalar.Clob) low (eqb-true code 9 e) refl (λ _. tt))
-      (λ _. cond_both (code == 10) _ _ Opens (λ e. sized_opens (Form.Scalar Scalar.Blob) low (eqb-true code 10 e) refl (λ _. tt))
-      (λ _. cond_both (code == 11) _ _ Opens (λ e. sized_opens (Form.Listing Listing.List) low (eqb-true code 11 e) refl (λ _. tt))
-      (λ _. cond_both (code == 12) _ _ Opens (λ e. sized_opens (Form.Listing Listing.Sexp) low (eqb-true code 12 e) refl (λ _. tt))
+      (λ _. cond_both (code == 7) _ _ Opens (λ e. sized_opens _ low (eqb-true code 7 e) refl (λ _. tt))
+      (λ _. cond_both (code == 8) _ _ Opens (λ e. sized_opens _ low (eqb-true code 8 e) refl (λ _. tt))
+      (λ _. cond_both (code == 9) _ _ Opens (λ e. sized_opens _ low (eqb-true code 9 e) refl (λ _. tt))
+      (λ _. cond_both (code == 10) _ _ Opens (λ e. sized_opens _ low (eqb-true code 10 e) refl (λ _. tt))
+      (λ _. cond_both (code == 11) _ _ Opens (λ e. sized_opens _ low (eqb-true code 11 e) refl (λ _. tt))
+      (λ _. cond_both (code == 12) _ _ Opens (λ e. sized_opens _ low (eqb-true code 12 e) refl (λ _. tt))
       (λ _. cond_both (code == 13) _ _ Opens (λ e. sized_opens Form.Struct low (eqb-true code 13 e) refl (λ _. struct (eqb-true code 13 e)))
       (λ _. cond_both (code == 14) _ _ Opens (λ e. sized_opens Form.Wrapper low (eqb-true code 14 e) refl (λ _. wrapper (eqb-true code 14 e)))
       (λ _ f y e. absurd cc))))))))))))
@@ -81,9 +80,7 @@ module _ (code length : ℕ) where
     where
       none_of : (x y z : Bool) → (x || y || z) ≡ false → (x ≡ false) × (y ≡ false) × (z ≡ false)
       none_of false false false h = (refl, refl, refl)
-      none_of false false true h = absurd cc
-      none_of false true z h = absurd cc
-      none_of true y z h = absurd cc
+      none_of _ _ _ h = absurd cc
 
   typed_opens : length < 16 → TypeOpens (typed code length)
   typed_opens low =

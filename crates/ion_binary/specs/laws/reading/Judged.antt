@@ -21,8 +21,7 @@ judge_scalar c body _ _ (is_decimal d h k) = ap as_decimal (decimal_body_read bo
 judge_scalar c body _ _ (is_timestamp t h) = ap as_timestamp (timestamp_read body t h)
 judge_scalar c body _ _ (is_symbol s h k) = ap (symbol_of c) (cond-true _ _ _ (lt-ltb (positional 256 body) (2 ^ 127) h)) ∙ ap as_symbol k
 judge_scalar c body _ _ (is_string h) = cond-true _ _ _ (is_utf8-from_IsUtf8 body h)
-judge_scalar c body _ _ is_clob = refl
-judge_scalar c body _ _ is_blob = refl
+judge_scalar c body _ _ _ = refl
 
 then_ok : {A : Type 0} (b : Bool) (x : Result A Reason) (e : Reason) (v : A) → cond b x (Err e) ≡ Ok v → (b ≡ true) × (x ≡ Ok v)
 then_ok true x e v h = (refl, h)
@@ -86,8 +85,7 @@ judge_sound c Scalar.Blob body p h = let e : payloads.Blob body ≡ p = cc in su
 -- a scalar has no depth
 pub scalar_flat : (c : List Slot) (body : List ℕ) (t : Scalar) (p : Payload) → IsScalar c body t p → depth (bare p) ≡ 0
 scalar_flat c body _ _ (is_int h) = depth-out (bare (payloads.Int (pos (positional 256 body)))) ∙ ap layer_depth (views.outs-Int (pos (positional 256 body)))
-scalar_flat c body _ _ (is_negative h k) = depth-out (bare (payloads.Int (neg_ℤ (pos (positional 256 body)))))
-    ∙ ap layer_depth (views.outs-Int (neg_ℤ (pos (positional 256 body))))
+scalar_flat c body _ _ (is_negative h k) = depth-out _ ∙ ap layer_depth (views.outs-Int (neg_ℤ (pos (positional 256 body))))
 scalar_flat c body _ _ (is_decimal d h k) = depth-out (bare (payloads.Decimal d)) ∙ ap layer_depth (views.outs-Decimal d)
 scalar_flat c body _ _ (is_timestamp t h) = depth-out (bare (payloads.Timestamp t)) ∙ ap layer_depth (views.outs-Timestamp t)
 scalar_flat c body _ _ (is_symbol s h k) = depth-out (bare (payloads.Symbol s)) ∙ ap layer_depth (views.outs-Symbol s)

@@ -3,7 +3,7 @@ use Rattle.std.proofs.Common.{◌≡◌, ℕ, ◌+◌, ◌*◌, ◌^◌, ◌<◌
 use Rattle.std.proofs.lemmas.Bool.{cond-true, cond-false}
 use Rattle.ion_binary.specs.Names.{Before, Catalog, Count, Digits128, EndsHeader, EndsNumber, Form, Frame, Headed, Id, InNumber, Items, LastOctet, Length, Limits, MayGoOn, Name, Named, Noted, Number, Open, Outcome, Phase, Purpose, Ready, Reason, Slot, TakesValue, Value, a_count, a_length, a_name, an_id, at, by_descriptor, by_length, feed, goes, initial, led, more, nameless, none, number_came, of_annotations, of_container, of_struct, of_wrapper, on_descriptor, past, positional, reason_number, refuses, run, run-append, run_after, run_on, run_via, sized, spot_at, then_run, under, unending, unless}
 use Rattle.ion_binary.specs.Deciding as deciding
-use Rattle.ion_binary.specs.Deciding.{Container, MayBegin, Names}
+use Rattle.ion_binary.specs.Deciding.{Container, Names}
 use Rattle.ion_binary.specs.machine.Frames as frames
 use Rattle.ion_binary.specs.laws.reading.Complete.{begin_wrapper, count_goes, digits_more, ids_run, last_step, number_run, too_long_none}
 use Rattle.ion_binary.specs.laws.reading.OpenRuns.{Leads, Match, headed_run, items, may_admit, named, names, noted, nothing_open, open_run, phase_of, takes_phase}
@@ -23,6 +23,10 @@ pub data InFrames (c : List Slot) : List Container → Number → List Frame →
   id_in : (ks : List Container) (end stop : ℕ) (ss : List (Option (List ℕ))) (fs : List Frame) → Match c fs ks
       → InFrames c ks (Id stop) (frames.Annotated end ss ∷ fs)
 
+-- refused for this reason or one with a smaller number
+abbrev pub Least : Reason → Outcome → Type 0
+Least f o = (e : Reason) × (o ≡ refuses e) × (reason_number e ≤ reason_number f)
+
 module _ (g : Catalog) (l : Limits) where
   -- the last of these octets is refused, for this reason or one with a smaller number
   pub record Stopped (u : List ℕ) (e : Reason) : Type 0 where
@@ -33,11 +37,8 @@ module _ (g : Catalog) (l : Limits) where
   module _ (c : List Slot) (start : ℕ) where
     -- where a descriptor comes next, the machine is ready for one
     pub ready : (ks : List Container) → TakesValue ks → phase_of ks ≡ Ready
-    ready [] h = refl
-    ready (Items end ∷ ks) h = refl
     ready (Names end ∷ ks) h = absurd h
-    ready (Named end id ∷ ks) h = refl
-    ready (Noted end ∷ ks) h = refl
+    ready _ h = refl
 
     -- the octets lead there
     pub record Holds (fs : List Frame) (phase : Phase) (u : List ℕ) : Type 0 where
@@ -91,10 +92,8 @@ module _ (g : Catalog) (l : Limits) where
 
     go_less : (ks : List Container) (p : Number) (a b : ℕ) → a ≤ b → MayGoOn g l c start ks p b → MayGoOn g l c start ks p a
     go_less [] (Length form) a b i h = λ e. let k = h e in omega arith
-    go_less [] Name a b i h = λ last r. let k = h last r in omega arith
-    go_less [] (Count end) a b i h = λ last r. let k = h last r in omega arith
-    go_less [] (Id stop) a b i h = λ last r. let k = h last r in omega arith
     go_less (k ∷ ks) p a b i h = λ last r. let j = h last r in omega arith
+    go_less _ _ a b i h = λ last r. let k = h last r in omega arith
 
     -- where it may go on, the machine goes on
     pub past_none : (ks : List Container) (p : Number) (fs : List Frame) (used : ℕ) → MayGoOn g l c start ks p used → InFrames c ks p fs
@@ -108,8 +107,7 @@ module _ (g : Catalog) (l : Limits) where
         cond-true _ _ _ (lt-ltb used end (goes_last (Named end id ∷ ks) (Length form) used end h (of_container (Named end id) ks form)))
     past_none _ _ _ used h (length_in _ form _ (noted end ss fs ks m)) =
         cond-true _ _ _ (lt-ltb used end (goes_last (Noted end ∷ ks) (Length form) used end h (of_container (Noted end) ks form)))
-    past_none _ _ _ used h (name_in _ _ _ (names end ms fs ks m)) =
-        cond-true _ _ _ (lt-ltb used end (goes_last (Names end ∷ ks) Name used end h (of_struct end ks)))
+    past_none _ _ _ used h (name_in _ _ _ (names end ms fs ks m)) = cond-true _ _ _ (lt-ltb used end (goes_last _ Name used end h (of_struct end ks)))
     past_none _ _ _ used h (count_in ks end fs m) = cond-true _ _ _ (lt-ltb used end (goes_last ks (Count end) used end h (of_wrapper ks end)))
     past_none _ _ _ used h (id_in ks end stop ss fs m) = cond-true _ _ _ (lt-ltb used stop (goes_last ks (Id stop) used stop h (of_annotations ks stop)))
 
@@ -128,11 +126,10 @@ module _ (g : Catalog) (l : Limits) where
         record {
           fs = o.fs;
           inside = o.inside;
-          holds = subst (Holds o.fs (InNumber (purpose_of p) n)) (sym i)
-              (goes_with o.fs o.fs (InNumber (purpose_of p) a) (InNumber (purpose_of p) n) u d o.holds
+          holds = subst (Holds o.fs (InNumber (purpose_of p) n)) (sym i) (goes_with o.fs o.fs _ _ u d o.holds
               (cond-true _ _ _ (lt-ltb d 128 q) ∙ (cond-true _ _ _ (lt-ltb (128 * a + d) (2 ^ 63) (omega arith))
               ∙ (ap (λ x. unless x (goes (at (spot_at (length u + 1) start c) o.fs (InNumber (purpose_of p) (128 * a + d)))))
-              (past_none ks p o.fs (length u + 1) (subst (MayGoOn g l c start ks p) j h) o.inside)
+              (past_none ks p o.fs _ (subst (MayGoOn g l c start ks p) j h) o.inside)
               ∙ ap (λ x. goes (at (spot_at (length u + 1) start c) o.fs (InNumber (purpose_of p) x))) (sym e)))));
         }
 
@@ -157,8 +154,7 @@ module _ (g : Catalog) (l : Limits) where
         record {
           fs = frames.Annotated end [] ∷ d.fs;
           inside = count_in ks end d.fs d.match;
-          holds = holds_via d.fs (frames.Annotated end [] ∷ d.fs) (phase_of ks) (InNumber Purpose.AnnotationsLength 0) h.before (h.header ++ []) u
-              (leads_holds ks h.before d) (h.parts ∙ ap (λ x. h.before ++ x) (sym (append-nil h.header)))
+          holds = holds_via d.fs _ _ _ h.before _ u (leads_holds ks h.before d) (h.parts ∙ ap (λ x. h.before ++ x) (sym (append-nil h.header)))
               (ap (λ p. run g l (length h.before) (at (spot_at (length h.before) start c) d.fs p) (h.header ++ []))
               (takes_phase g l c start ks Form.Wrapper h.begins)
               ∙ (headed_run g l c start ks d.fs Form.Wrapper end u [] (Open g l c start ks) h (cond-false _ _ _ (ne_eqb h.n 0 (λ x. omega arith))) d.match
@@ -166,8 +162,9 @@ module _ (g : Catalog) (l : Limits) where
               ∙ ap (λ x. led (at (spot_at (length u) start c) (frames.Annotated x [] ∷ d.fs) (InNumber Purpose.AnnotationsLength 0))) here)));
         }
 
-    count_frames : (ks : List Container) (end : ℕ) (fs : List Frame) → InFrames c ks (Count end) fs → (hs : List Frame) × (fs ≡ frames.Annotated end [] ∷ hs)
-        × Match c hs ks
+    -- before the annotations, none has come yet
+    pub count_frames : (ks : List Container) (end : ℕ) (fs : List Frame) → InFrames c ks (Count end) fs
+        → (hs : List Frame) × (fs ≡ frames.Annotated end [] ∷ hs) × Match c hs ks
     count_frames _ _ _ (count_in ks end fs m) = (fs, refl, m)
 
     -- before a number
@@ -182,12 +179,10 @@ module _ (g : Catalog) (l : Limits) where
         record {
           fs = d.fs;
           inside = inside;
-          holds = goes_with d.fs d.fs Ready (InNumber (Purpose.Length form) 0) u b
-              (subst (λ p. Holds d.fs p u) (takes_phase g l c start ks form m) (leads_holds ks u d))
+          holds = goes_with d.fs d.fs Ready _ u b (subst (λ p. Holds d.fs p u) (takes_phase g l c start ks form m) (leads_holds ks u d))
               (ap (on_descriptor (under g l) (spot_at (length u + 1) start c) d.fs) i
               ∙ (ap (λ x. unless x (unless (unending l.item start d.fs form (length u + 1)) (unless (nameless d.fs form) G))) a.fitting
-              ∙ (ap (λ x. unless x (unless (nameless d.fs form) G))
-              (past_none ks (Length form) d.fs (length u + 1) (subst (MayGoOn g l c start ks (Length form)) j h) inside)
+              ∙ (ap (λ x. unless x (unless (nameless d.fs form) G)) (past_none ks _ d.fs _ (subst (MayGoOn g l c start ks (Length form)) j h) inside)
               ∙ ap (λ x. unless x G) a.named)));
         }
     before_holds _ _ _ (a_name end ks u o) h =
@@ -202,19 +197,17 @@ module _ (g : Catalog) (l : Limits) where
         let mid = length front + length count in
         let stop = mid + n in
         let u = front ++ (count ++ ids) in
-        let before = goes_last ks (Id stop) (length u) stop h (of_annotations ks stop) in
+        let before = goes_last ks _ _ stop h (of_annotations ks stop) in
         let there : length u ≡ mid + length ids = omega arith in
         record {
           fs = frames.Annotated end ss ∷ f.0;
           inside = id_in ks end stop ss f.0 f.2;
-          holds = holds_via w.fs (frames.Annotated end ss ∷ f.0) (InNumber Purpose.AnnotationsLength 0) (InNumber (Purpose.Annotation stop) 0) front
-              (count ++ ids) u w.holds refl
+          holds = holds_via w.fs _ _ _ front _ u w.holds refl
               (ap (λ fs. run g l (length front) (at (spot_at (length front) start c) fs (InNumber Purpose.AnnotationsLength 0)) (count ++ ids)) f.1
-              ∙ run_via g l (length front) mid (at (spot_at (length front) start c) (frames.Annotated end [] ∷ f.0) (InNumber Purpose.AnnotationsLength 0))
-              (at (spot_at mid start c) (frames.Annotated end [] ∷ f.0) (InNumber (Purpose.Annotation stop) 0)) _ count ids refl
+              ∙ run_via g l _ mid _ _ _ count ids refl
               (number_run g l (spot_at (length front) start c) (frames.Annotated end [] ∷ f.0) Purpose.AnnotationsLength count n mid v refl (omega arith)
               ∙ ap (run_after mid) (count_goes g l (spot_at mid start c) f.0 end n [] some room))
-              (ids_run g l (spot_at mid start c) f.0 end stop ids ss (length u) t (omega arith) there (omega arith)
+              (ids_run g l _ f.0 end stop ids ss _ t (omega arith) there (omega arith)
               ∙ ap (λ ph. led (at (spot_at (length u) start c) (frames.Annotated end ss ∷ f.0) ph))
               (cond-false _ _ _ (ne_eqb (length u) stop (λ x. omega arith)))));
         }
@@ -230,10 +223,6 @@ module _ (g : Catalog) (l : Limits) where
         (digits_hold ks p o.digits o.before o.small (before_holds ks p o.before o.comes (go_less ks p _ _ (omega arith) o.goes_on)) (omega arith)
         (subst (λ x. MayGoOn g l c start ks p (length x)) o.parts o.goes_on)))
 
-    -- for this reason or one with a smaller number
-    abbrev pub Least : Reason → Outcome → Type 0
-    Least f o = (e : Reason) × (o ≡ refuses e) × (reason_number e ≤ reason_number f)
-
     -- at the end of a number
     pub number_stops : (ks : List Container) (p : Number) (n : ℕ) (u : List ℕ) (f : Reason) → EndsNumber g l c start ks p n u
         → ((fs : List Frame) → InFrames c ks p fs → Least f (number_came (under g l) (spot_at (length u) start c) fs (purpose_of p) n)) → Stopped u f
@@ -245,11 +234,11 @@ module _ (g : Catalog) (l : Limits) where
         let value = o.value in
         let b = 128 + o.last in
         subst (λ x. Stopped x f) (sym o.parts)
-        (stops_with i.fs (InNumber (purpose_of p) o.digits) o.before b r.0 f i.holds
-        (last_step g l (spot_at (length o.before) start c) i.fs (purpose_of p) o.digits b (length u) n (omega arith) (omega arith) o.bound (omega arith) ∙ r.1)
+        (stops_with i.fs _ o.before b r.0 f i.holds (last_step g l _ i.fs _ o.digits b (length u) n (omega arith) (omega arith) o.bound (omega arith) ∙ r.1)
         r.2)
 
-    length_match : (ks : List Container) (form : Form) (fs : List Frame) → InFrames c ks (Length form) fs → Match c fs ks
+    -- the length of a form stands in the frames of its container
+    pub length_match : (ks : List Container) (form : Form) (fs : List Frame) → InFrames c ks (Length form) fs → Match c fs ks
     length_match _ _ _ (length_in ks form fs m) = m
 
     -- at the end of a header

@@ -1,11 +1,12 @@
 -- What octets that were not refused are: whole pieces, and then an open rest.
 use Rattle.std.proofs.Common.{◌≡◌, ℕ, ◌+◌, ◌^◌, ◌<◌, ◌≤◌, List, [], ◌∷◌, ◌++◌, length, refl, ap, sym, ◌∙◌, subst, inl, inr, arith, length-append, append_assoc, append-nil, Bool, false, ◌⊎◌, Option}
-use Rattle.ion_binary.specs.Names.{Catalog, Field, First, Follows, Form, Fourth, Frame, InBody, InMarker, InNumber, InPad, Limits, Mark, OpenRest, Phase, Purpose, Ready, Scalar, Second, Sized, Slot, Third, Value, Whole, document, end_of, is_pad, no_piece, of_item, of_marker, of_pad, of_pad_length}
+use Rattle.ion_binary.specs.Names.{Catalog, Field, First, Follows, Form, Frame, InBody, InMarker, InNumber, InPad, Limits, Mark, OpenRest, Phase, Purpose, Ready, Scalar, Sized, Slot, Value, Whole, document, end_of, is_pad, no_piece, of_item, of_marker, of_pad, of_pad_length}
 use Rattle.ion_symtab.specs.Decided.{Decides}
 use Rattle.ion_symtab.specs.laws.Decided.{resolve_decides}
 use Rattle.ion_binary.specs.machine.Frames as frames
-use Rattle.ion_binary.specs.laws.reading.Stands.{BodyMayEnd, BodyStands, Box, Front, InFields, IsStructOf, LengthStands, MarkerStands, NumberStands, Opened, Standing, marker_place}
+use Rattle.ion_binary.specs.laws.reading.Stands.{BodyMayEnd, BodyStands, Box, Front, InFields, LengthStands, MarkerStands, NumberStands, Opened, Standing, marker_place}
 use Rattle.ion_binary.specs.laws.reading.Steady.{FineFrames}
+use Rattle.ion_binary.specs.laws.reading.sound.Bounds.{struct_sized}
 
 module _ (g : Catalog) (l : Limits) where
   -- whole pieces up to `start`, and the rest
@@ -41,8 +42,7 @@ module _ (g : Catalog) (l : Limits) where
   opened_cut start c s (frames.Named end ms name ∷ fs) u o =
       cut_on start s o.front o.id u o.whole (struct_before start c s (Opened g l start c s fs) fs end ms o.front (opened_cut start c s fs) o.inside)
   opened_cut start c s (frames.Annotated end ss ∷ fs) u o =
-      cut_on start s o.front (o.count ++ o.ids) u o.whole (box_before start s (Opened g l start c s fs) fs Form.Wrapper end o.front (opened_cut start c s fs)
-      o.box)
+      cut_on start s o.front _ u o.whole (box_before start s _ fs Form.Wrapper end o.front (opened_cut start c s fs) o.box)
 
   front_cut : (start : ℕ) (c : List Slot) (s : List Value) (u : List ℕ) → Front g l start c s u → Cut start s u
   front_cut start c s u (inl h) = record { front = []; rest = u; parts = refl; whole = subst (Whole g l []) (sym h.1) no_piece; at = sym h.2 }
@@ -56,44 +56,33 @@ module _ (g : Catalog) (l : Limits) where
   ends_within : (start : ℕ) (f : Frame) (fs : List Frame) (form : Form) (to : ℕ) → end_of f ≤ start + l.item → BodyMayEnd l start (f ∷ fs) form to
       → to ≤ start + l.item
   ends_within start (frames.Items end x vs) fs form to h r = omega arith
-  ends_within start (frames.Fields end ms) fs form to h r = omega arith
-  ends_within start (frames.Named end ms name) fs form to h r = omega arith
-  ends_within start (frames.Annotated end ss) fs form to h r = omega arith
+  ends_within start _ fs form to h r = omega arith
 
-  struct_form : (form : Form) (n : ℕ) → IsStructOf form n → is_pad form ≡ false
-  struct_form Form.Pad n h = absurd h
-  struct_form (Form.Scalar t) n h = refl
-  struct_form (Form.Listing x) n h = refl
-  struct_form Form.Struct n h = refl
-  struct_form Form.OrderedStruct n h = refl
-  struct_form Form.Wrapper n h = refl
+  -- an open container ends within the item, if what has a header beside it does
+  end_by : (start : ℕ) (c : List Slot) (s : List Value) (f : Frame) (fs : List Frame) (u : List ℕ)
+      → ((form : Form) (end : ℕ) (w : List ℕ) → is_pad form ≡ false → Box l start (Opened g l start c s fs) fs form end w → end ≤ start + l.item)
+      → Opened g l start c s (f ∷ fs) u → end_of f ≤ start + l.item
+  end_by start c s (frames.Items end x vs) fs u within o = within (Form.Listing x) end o.front refl o.box
+  end_by start c s (frames.Fields end ms) fs u within o = within o.form end o.front (struct_sized o.form o.box.n o.kind) o.box
+  end_by start c s (frames.Named end ms name) fs u within o =
+      let i = o.inside in within i.form end i.front (struct_sized i.form i.box.n i.kind) i.box
+  end_by start c s (frames.Annotated end ss) fs u within o = within Form.Wrapper end o.front refl o.box
+
+  box_within : (start : ℕ) (c : List Slot) (s : List Value) (fs : List Frame) (form : Form) (end : ℕ) (u : List ℕ) → is_pad form ≡ false
+      → Box l start (Opened g l start c s fs) fs form end u → end ≤ start + l.item
+  box_within start c s [] form end u p o = o.room p
+  box_within start c s (k ∷ fs) form end u p o = ends_within start k fs form end (end_by start c s k fs o.before (box_within start c s fs) o.outer) o.room
 
   -- an open container ends within the item
   end_within : (start : ℕ) (c : List Slot) (s : List Value) (f : Frame) (fs : List Frame) (u : List ℕ) → Opened g l start c s (f ∷ fs) u
       → end_of f ≤ start + l.item
-  end_within start c s (frames.Items end x vs) [] u o = o.box.room refl
-  end_within start c s (frames.Items end x vs) (k ∷ fs) u o =
-      ends_within start k fs (Form.Listing x) end (end_within start c s k fs o.box.before o.box.outer) o.box.room
-  end_within start c s (frames.Fields end ms) [] u o = o.box.room (struct_form o.form o.box.n o.kind)
-  end_within start c s (frames.Fields end ms) (k ∷ fs) u o = ends_within start k fs o.form end (end_within start c s k fs o.box.before o.box.outer) o.box.room
-  end_within start c s (frames.Named end ms name) [] u o = o.inside.box.room (struct_form o.inside.form o.inside.box.n o.inside.kind)
-  end_within start c s (frames.Named end ms name) (k ∷ fs) u o =
-      ends_within start k fs o.inside.form end (end_within start c s k fs o.inside.box.before o.inside.box.outer) o.inside.box.room
-  end_within start c s (frames.Annotated end ss) [] u o = o.box.room refl
-  end_within start c s (frames.Annotated end ss) (k ∷ fs) u o =
-      ends_within start k fs Form.Wrapper end (end_within start c s k fs o.box.before o.box.outer) o.box.room
-
-  wrapper_within : (start : ℕ) (c : List Slot) (s : List Value) (fs : List Frame) (end : ℕ) (u : List ℕ)
-      → Box l start (Opened g l start c s fs) fs Form.Wrapper end u → end ≤ start + l.item
-  wrapper_within start c s [] end u o = o.room refl
-  wrapper_within start c s (k ∷ fs) end u o = ends_within start k fs Form.Wrapper end (end_within start c s k fs o.before o.outer) o.room
+  end_within start c s f fs u o = end_by start c s f fs u (box_within start c s fs) o
 
   -- the octets so far don't go beyond the innermost container
   within_end : (start : ℕ) (c : List Slot) (s : List Value) (f : Frame) (fs : List Frame) (u : List ℕ) → Opened g l start c s (f ∷ fs) u → length u ≤ end_of f
-  within_end start c s (frames.Items end x vs) fs u o = o.within
-  within_end start c s (frames.Fields end ms) fs u o = o.within
   within_end start c s (frames.Named end ms name) fs u o = let h = o.within in omega arith
   within_end start c s (frames.Annotated end ss) fs u o = let h = o.within in omega arith
+  within_end start c s _ fs u o = o.within
 
   -- the ids of the open field names were looked up
   pub opened_fine : (start : ℕ) (c : List Slot) (s : List Value) (fs : List Frame) (u : List ℕ) → Opened g l start c s fs u → FineFrames fs
@@ -123,9 +112,7 @@ module _ (g : Catalog) (l : Limits) where
 
   few_places : (m : Mark) → marker_place m ≤ 3
   few_places First = omega arith
-  few_places Second = omega arith
-  few_places Third = omega arith
-  few_places Fourth = omega arith
+  few_places _ = omega arith
 
   marker_open : (start : ℕ) (c : List Slot) (s : List Value) (fs : List Frame) (m : Mark) (good : Bool) (u : List ℕ) → MarkerStands g l start c s fs m good u
       → OpenCut start s u
@@ -143,11 +130,7 @@ module _ (g : Catalog) (l : Limits) where
 
   pad_or : (form : Form) → (form ≡ Form.Pad) ⊎ (is_pad form ≡ false)
   pad_or Form.Pad = inl refl
-  pad_or (Form.Scalar t) = inr refl
-  pad_or (Form.Listing x) = inr refl
-  pad_or Form.Struct = inr refl
-  pad_or Form.OrderedStruct = inr refl
-  pad_or Form.Wrapper = inr refl
+  pad_or _ = inr refl
 
   length_open : (start : ℕ) (c : List Slot) (s : List Value) (fs : List Frame) (form : Form) (a : ℕ) (u : List ℕ) → LengthStands g l start c s fs form a u
       → OpenCut start s u
@@ -175,15 +158,14 @@ module _ (g : Catalog) (l : Limits) where
       (struct_before start c s (Opened g l start c s fs) fs end ms o.front (opened_cut start c s fs) o.inside)) (omega arith)
   number_open start c s (frames.Annotated end ss ∷ fs) Purpose.AnnotationsLength a u o =
       let h = o.going in
-      let e = wrapper_within start c s fs end o.front o.box in
+      let e = box_within start c s fs Form.Wrapper end o.front refl o.box in
       item_open start s u (cut_on start s o.front o.digits u o.whole
       (box_before start s (Opened g l start c s fs) fs Form.Wrapper end o.front (opened_cut start c s fs) o.box)) (omega arith)
   number_open start c s (frames.Annotated end ss ∷ fs) (Purpose.Annotation stop) a u o =
       let h = o.going in
       let r = o.room in
-      let e = wrapper_within start c s fs end o.front o.box in
-      item_open start s u (cut_on start s o.front (o.count ++ (o.ids ++ o.digits)) u o.whole
-      (box_before start s (Opened g l start c s fs) fs Form.Wrapper end o.front (opened_cut start c s fs) o.box)) (omega arith)
+      let e = box_within start c s fs Form.Wrapper end o.front refl o.box in
+      item_open start s u (cut_on start s o.front _ u o.whole (box_before start s _ fs Form.Wrapper end o.front (opened_cut start c s fs) o.box)) (omega arith)
   number_open start c s _ _ a u o = absurd o
 
   body_long : (start : ℕ) (c : List Slot) (s : List Value) (fs : List Frame) (form : Form) (n : ℕ) (came : List ℕ) (u : List ℕ)

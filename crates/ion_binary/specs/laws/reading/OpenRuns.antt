@@ -1,7 +1,7 @@
 -- Behind octets the machine holds the containers that stand open there.
 use Rattle.std.proofs.Common.{◌≡◌, ℕ, suc, ◌+◌, ◌<◌, List, [], ◌∷◌, ◌++◌, length, Result, Ok, Err, Option, None, Bool, true, false, refl, ap, sym, ◌∙◌, subst, arith, length-append, append_assoc, lt-ltb, eq-eqb, ne_eqb}
 use Rattle.std.proofs.lemmas.Bool.{cond-true, cond-false}
-use Rattle.ion_binary.specs.Names.{Catalog, Field, Form, Frame, Headed, InNumber, InStruct, IsStruct, Items, Limits, Listing, MayReach, Named, Noted, Open, Phase, Purpose, Ready, Reason, Slot, Value, VarUInt, at, begin, container_levels, hollow, initial, is_pad, is_wrapper, led, nameless, open_struct, proceed, resolve, run, run-append, run_after, run_on, run_via, spot_at, stray, then_after, then_run, under}
+use Rattle.ion_binary.specs.Names.{Catalog, Field, Form, Frame, Headed, InNumber, InStruct, IsStruct, Items, Limits, Listing, MayReach, Named, Noted, Open, Phase, Purpose, Ready, Reason, Slot, Value, VarUInt, at, begin, container_levels, hollow, initial, is_pad, is_wrapper, led, nameless, open_struct, resolve, run, run-append, run_after, run_on, run_via, spot_at, then_after, then_run, under}
 use Rattle.ion_binary.specs.Deciding.{Container, MayBegin, Names}
 use Rattle.ion_binary.specs.machine.EachOctet as machine
 use Rattle.ion_binary.specs.machine.Frames as frames
@@ -31,10 +31,7 @@ same_levels c _ _ (noted end ss fs ks m) = same_levels c fs ks m
 pub reach_ends : (l : Limits) (start : ℕ) (c : List Slot) (fs : List Frame) (ks : List Container) (form : Form) (to : ℕ) → Match c fs ks
     → MayReach l start ks (is_pad form) to → BodyMayEnd l start fs form to
 reach_ends l start c _ _ form to nothing_open h = h
-reach_ends l start c _ _ form to (items end x vs fs ks m) h = h
-reach_ends l start c _ _ form to (names end ms fs ks m) h = h
-reach_ends l start c _ _ form to (named end id ms fs ks m) h = h
-reach_ends l start c _ _ form to (noted end ss fs ks m) h = h
+reach_ends l start c _ _ form to _ h = h
 
 named_ok : (form : Form) (end : ℕ) (ms : List Field) (fs : List Frame) (r : Result (Option (List ℕ)) Reason)
     → (is_pad form ≡ false → (s : Option (List ℕ)) × (r ≡ Ok s)) → nameless (frames.Named end ms r ∷ fs) form ≡ None
@@ -48,11 +45,10 @@ named_ok form end ms fs (Err e) h = go (is_pad form) refl
 -- a form that may begin in the containers may stand in the frames
 pub may_admit : (c : List Slot) (fs : List Frame) (ks : List Container) (form : Form) → Match c fs ks → MayBegin c ks (is_pad form) (is_wrapper form)
     → Admits fs form
-may_admit c _ _ form nothing_open h = record { fitting = refl; named = refl }
-may_admit c _ _ form (items end x vs fs ks m) h = record { fitting = refl; named = refl }
 may_admit c _ _ form (names end ms fs ks m) h = absurd h
 may_admit c _ _ form (named end id ms fs ks m) h = record { fitting = refl; named = named_ok form end ms fs (resolve c id) h }
 may_admit c _ _ form (noted end ss fs ks m) h = record { fitting = cond-false _ _ _ h; named = refl }
+may_admit c _ _ form _ h = record { fitting = refl; named = refl }
 
 -- the name of a field comes next in a struct, and a descriptor elsewhere
 abbrev pub phase_of : List Container → Phase
@@ -90,17 +86,14 @@ module _ (g : Catalog) (l : Limits) (c : List Slot) (start : ℕ) where
       let j = length-append h.before h.header in
       run-append g l (length h.before) (length u) h.header body (omega arith) (at (spot_at (length h.before) start c) fs Ready)
       ∙ (ap (λ x. then_run x (λ n. run g l (length u) n body))
-      (header_run g l (spot_at (length h.before) start c) fs form h.header h.n (length u) h.head hol (may_admit c fs ks form m h.begins) (omega arith)
-      (reach_ends l start c fs ks form (length u + h.n) m (subst (MayReach l start ks (is_pad form)) h.ends h.reaches)))
+      (header_run g l _ fs form h.header h.n _ h.head hol (may_admit c fs ks form m h.begins) (omega arith)
+      (reach_ends l start c fs ks form _ m (subst (MayReach l start ks (is_pad form)) h.ends h.reaches)))
       ∙ then_after (length u) (begin (under g l) (spot_at (length u) start c) fs form h.n) (λ n. run g l (length u) n body))
 
   -- where a form may begin, the machine is ready for a descriptor
   pub takes_phase : (ks : List Container) (form : Form) → MayBegin c ks (is_pad form) (is_wrapper form) → phase_of ks ≡ Ready
-  takes_phase [] form h = refl
-  takes_phase (Items end ∷ ks) form h = refl
   takes_phase (Names end ∷ ks) form h = absurd h
-  takes_phase (Named end id ∷ ks) form h = refl
-  takes_phase (Noted end ∷ ks) form h = refl
+  takes_phase _ form h = refl
 
   -- a header behind octets that lead so far, and what follows it
   behind_header : (ks js : List Container) (form : Form) (end : ℕ) (front body u : List ℕ) (fs : List Frame) (Outer : List ℕ → Type 0)
@@ -116,18 +109,12 @@ module _ (g : Catalog) (l : Limits) (c : List Slot) (start : ℕ) where
       ≡ open_struct (under g l) (spot_at used start c) fs n
   struct_opens fs Form.Struct n used i h = refl
   struct_opens fs Form.OrderedStruct n used i h = begin_ordered g l (spot_at used start c) fs n
-  struct_opens fs Form.Pad n used i h = absurd i
-  struct_opens fs (Form.Scalar t) n used i h = absurd i
-  struct_opens fs (Form.Listing x) n used i h = absurd i
-  struct_opens fs Form.Wrapper n used i h = absurd i
+  struct_opens fs _ n used i h = absurd i
 
   struct_hollow : (form : Form) (n : ℕ) → IsStruct form → 0 < n → hollow form n ≡ None
   struct_hollow Form.Struct n i h = refl
   struct_hollow Form.OrderedStruct n i h = cond-false _ _ _ (ne_eqb n 0 (λ e. omega arith))
-  struct_hollow Form.Pad n i h = absurd i
-  struct_hollow (Form.Scalar t) n i h = absurd i
-  struct_hollow (Form.Listing x) n i h = absurd i
-  struct_hollow Form.Wrapper n i h = absurd i
+  struct_hollow _ n i h = absurd i
 
   pub struct_run : (ks : List Container) (end : ℕ) (u : List ℕ) → (o : InStruct l c start (Open g l c start ks) ks end u) → Leads ks o.headed.before
       → Leads (Names end ∷ ks) u
@@ -211,13 +198,12 @@ module _ (g : Catalog) (l : Limits) (c : List Slot) (start : ℕ) where
       let mid2 = mid + length o.count in
       let here : mid + o.headed.n ≡ end = sym e in
       let there : length u ≡ mid2 + length o.ids = omega arith in
-      behind_header ks (Noted end ∷ ks) Form.Wrapper end o.front (o.count ++ o.ids) u (frames.Annotated end o.symbols ∷ d.fs) _ o.headed
+      behind_header ks _ Form.Wrapper end o.front _ u _ _ o.headed
       (cond-false _ _ _ (ne_eqb o.headed.n 0 (λ x. omega arith))) d o.parts (noted end o.symbols d.fs ks d.match)
       (ap (run_on mid (λ n. run g l mid n (o.count ++ o.ids))) (begin_wrapper g l (spot_at mid start c) d.fs o.headed.n)
-      ∙ (rw here (run_via g l mid mid2 (at (spot_at mid start c) (frames.Annotated end [] ∷ d.fs) (InNumber Purpose.AnnotationsLength 0))
-      (at (spot_at mid2 start c) (frames.Annotated end [] ∷ d.fs) (InNumber (Purpose.Annotation (mid2 + length o.ids)) 0)) _ o.count o.ids refl
+      ∙ (rw here (run_via g l mid mid2 _ _ _ o.count o.ids refl
       (number_run g l (spot_at mid start c) (frames.Annotated end [] ∷ d.fs) Purpose.AnnotationsLength o.count (length o.ids) mid2 o.number refl (omega arith)
       ∙ ap (run_after mid2) (count_goes g l (spot_at mid2 start c) d.fs end (length o.ids) [] some (omega arith)))
-      (ids_run g l (spot_at mid2 start c) d.fs end (mid2 + length o.ids) o.ids o.symbols (length u) o.come (omega arith) there (omega arith)
+      (ids_run g l _ d.fs end _ o.ids o.symbols _ o.come (omega arith) there (omega arith)
       ∙ ap (λ ph. led (at (spot_at (length u) start c) (frames.Annotated end o.symbols ∷ d.fs) ph))
       (cond-true _ _ _ (eq-eqb (length u) (mid2 + length o.ids) there))))))

@@ -12,11 +12,8 @@ use Rattle.ion_binary.specs.laws.reading.Stands.{BodyMayEnd, Box, Fitting, Going
 
 -- where the frames let a descriptor come, one comes next in the containers
 pub takes : (c : List Slot) (fs : List Frame) (ks : List Container) → Match c fs ks → Receives fs → TakesValue ks
-takes c _ _ nothing_open r = tt
-takes c _ _ (items end x vs fs ks m) r = tt
 takes c _ _ (names end ms fs ks m) r = absurd r
-takes c _ _ (named end id ms fs ks m) r = tt
-takes c _ _ (noted end ss fs ks m) r = tt
+takes c _ _ _ r = tt
 
 -- where a reason would be given if a test held, and none is, the test fails
 pub some_none : (b : Bool) (x : Reason) → cond b (Some x) None ≡ None → b ≡ false
@@ -26,8 +23,6 @@ some_none false x h = refl
 -- a form that may stand in the frames may begin in the containers
 pub may_begin : (c : List Slot) (fs : List Frame) (ks : List Container) (form : Form) → Match c fs ks → Fitting fs form
     → MayBegin c ks (is_pad form) (is_wrapper form)
-may_begin c _ _ form nothing_open h = tt
-may_begin c _ _ form (items end x vs fs ks m) h = tt
 may_begin c _ _ form (names end ms fs ks m) h = absurd h.receives
 may_begin c _ _ form (noted end ss fs ks m) h = some_none (is_pad form || is_wrapper form) Malformed h.fitting
 may_begin c _ _ form (named end id ms fs ks m) h = λ p. go (resolve c id) refl p
@@ -38,31 +33,24 @@ may_begin c _ _ form (named end id ms fs ks m) h = λ p. go (resolve c id) refl 
         let n : nameless (frames.Named end ms (Err x) ∷ fs) form ≡ None = ap (λ r. nameless (frames.Named end ms r ∷ fs) form) (sym e) ∙ h.named in
         let k : cond (is_pad form) None (Some x) ≡ Some x = cond-false _ _ _ p in
         absurd (let q : Some x ≡ None = sym k ∙ n in cc)
+may_begin c _ _ form _ h = tt
 
 -- a body may reach in the containers up to where it may end in the frames
 pub may_reach : (l : Limits) (start : ℕ) (c : List Slot) (fs : List Frame) (ks : List Container) (form : Form) (to : ℕ) → Match c fs ks
     → BodyMayEnd l start fs form to → MayReach l start ks (is_pad form) to
 may_reach l start c _ _ form to nothing_open h = h
-may_reach l start c _ _ form to (items end x vs fs ks m) h = h
-may_reach l start c _ _ form to (names end ms fs ks m) h = h
-may_reach l start c _ _ form to (named end id ms fs ks m) h = h
-may_reach l start c _ _ form to (noted end ss fs ks m) h = h
+may_reach l start c _ _ form to _ h = h
 
 is_struct : (form : Form) (n : ℕ) → IsStructOf form n → deciding.IsStruct form
 is_struct Form.Struct n h = tt
 is_struct Form.OrderedStruct n h = tt
-is_struct Form.Pad n h = absurd h
-is_struct (Form.Scalar t) n h = absurd h
-is_struct (Form.Listing x) n h = absurd h
-is_struct Form.Wrapper n h = absurd h
+is_struct _ n h = absurd h
 
 -- what ends inside of a container begins there
 pub ends_inside : (l : Limits) (start : ℕ) (fs : List Frame) (form : Form) (end n : ℕ) → BodyMayEnd l start fs form end → n < end → Inside fs n
 ends_inside l start [] form end n r h = tt
 ends_inside l start (frames.Annotated e ss ∷ fs) form end n r h = omega arith
-ends_inside l start (frames.Items e x vs ∷ fs) form end n r h = omega arith
-ends_inside l start (frames.Fields e ms ∷ fs) form end n r h = omega arith
-ends_inside l start (frames.Named e ms name ∷ fs) form end n r h = omega arith
+ends_inside l start _ form end n r h = omega arith
 
 module _ (g : Catalog) (l : Limits) (start : ℕ) (c : List Slot) (s : List Value) where
   -- the frames are containers that stand open
@@ -127,8 +115,7 @@ module _ (g : Catalog) (l : Limits) (start : ℕ) (c : List Slot) (s : List Valu
           listing = x;
           items = vs;
           parts = o.whole;
-          headed =
-              headed fs (Form.Listing x) end o.front o.box p;
+          headed = headed fs _ end o.front o.box p;
           come = o.items;
           deep = omega arith;
           more = i;
@@ -191,10 +178,7 @@ module _ (g : Catalog) (l : Limits) (start : ℕ) (c : List Slot) (s : List Valu
   in_container : (fs : List Frame) (ks : List Container) (form : Form) (used : ℕ) → Match c fs ks → Going l start fs form used
       → MayGoOn g l c start ks (Length form) used
   in_container _ _ form used nothing_open h = h
-  in_container _ _ form used (items end x vs fs ks m) h = before_end (Items end) ks form used h
-  in_container _ _ form used (names end ms fs ks m) h = before_end (Names end) ks form used h
-  in_container _ _ form used (named end id ms fs ks m) h = before_end (Named end id) ks form used h
-  in_container _ _ form used (noted end ss fs ks m) h = before_end (Noted end) ks form used h
+  in_container _ _ form used _ h = before_end _ _ form used h
 
   name_goes : (ks : List Container) (end used : ℕ) → used < end → (last : ℕ) → LastOctet g l c start (Names end ∷ ks) Name last → used < last
   name_goes ks end used h last (of_struct _ _) = h

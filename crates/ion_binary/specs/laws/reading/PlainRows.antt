@@ -47,34 +47,12 @@ either false y h = inr h
 
 int_alone : (k : Kind) → is_int k ≡ true → k ≡ Kind.Int
 int_alone Kind.Int h = refl
-int_alone Kind.Null h = absurd cc
-int_alone Kind.Bool h = absurd cc
-int_alone Kind.Float h = absurd cc
-int_alone Kind.Decimal h = absurd cc
-int_alone Kind.Timestamp h = absurd cc
-int_alone Kind.Symbol h = absurd cc
-int_alone Kind.Str h = absurd cc
-int_alone Kind.Clob h = absurd cc
-int_alone Kind.Blob h = absurd cc
-int_alone Kind.List h = absurd cc
-int_alone Kind.Sexp h = absurd cc
-int_alone Kind.Fields h = absurd cc
+int_alone _ h = absurd cc
 
 null_opens : (k : Kind) → opening_of (null_octet k) ≡ Null k
 unfolding opening_of descriptor_of
 null_opens Kind.Null = refl
-null_opens Kind.Bool = refl
-null_opens Kind.Int = refl
-null_opens Kind.Float = refl
-null_opens Kind.Decimal = refl
-null_opens Kind.Timestamp = refl
-null_opens Kind.Symbol = refl
-null_opens Kind.Str = refl
-null_opens Kind.Clob = refl
-null_opens Kind.Blob = refl
-null_opens Kind.List = refl
-null_opens Kind.Sexp = refl
-null_opens Kind.Fields = refl
+null_opens _ = refl
 
 other_int_opens : opening_of 0x3F ≡ Null Kind.Int
 unfolding opening_of descriptor_of

@@ -2,7 +2,7 @@
 use Rattle.std.proofs.Common.{◌≡◌, ◌↔◌, ℕ, ◌+◌, ◌≤◌, ◌<◌, List, [], ◌∷◌, ◌++◌, length, take, Result, Ok, Err, Option, Some, None, false, refl, ap, sym, ◌∙◌, subst, arith, append_assoc, append-nil, length-append, Bool, cond, option_to_list, inl, inr}
 use Rattle.std.proofs.lemmas.Bool.{cases_lt}
 use Rattle.std.proofs.Math.Seq.{take-append-add}
-use Rattle.ion_binary.specs.Names.{BeginsNone, Catalog, Document, EndsValues, Frame, GivesNoTable, Grows, HasPieces, HasReasons, InBody, InMarker, InNumber, InPad, Incomplete, IsFirst, IsReadersReason, IsSmall, Limits, Machine, NoTables, OpenRest, Phase, Pieces, Ready, Reason, Refusal, Refuses, Run, Shown, Shows, Slot, Spaced, Streams, Value, Whole, anew, at, begins, document, ends_of, holds, initial, is_table, marked, no_piece, of_marker, on_now, plain, refused_of, run, run-append, skips, the_marker, then_run, trace, trace_of, turns, under, whole}
+use Rattle.ion_binary.specs.Names.{BeginsNone, Catalog, Document, EndsValues, Frame, GivesNoTable, Grows, HasPieces, HasReasons, Incomplete, IsFirst, IsReadersReason, IsSmall, Limits, Machine, NoTables, OpenRest, Phase, Pieces, Ready, Reason, Refusal, Refuses, Run, Shown, Shows, Slot, Spaced, Streams, Value, Whole, anew, at, begins, document, ends_of, holds, initial, is_table, marked, no_piece, of_marker, on_now, plain, refused_of, run, run-append, skips, the_marker, then_run, trace, trace_of, turns, under, whole}
 use Rattle.ion_symtab.specs.Decided.{IsDecided}
 use Rattle.ion_symtab.specs.laws.Promises.{first_refused, shown_once}
 use Rattle.ion_binary.specs.laws.reading.Documents.{pieces_run}
@@ -17,15 +17,8 @@ use Rattle.ion_binary.specs.laws.reading.sound.Sound.{Ended, initial_stands, run
 finished : (g : Catalog) (l : Limits) (c : List Slot) (fs : List Frame) (phase : Phase) (start : ℕ) (s : List Value) (body u : List ℕ) (r : Refusal)
     (last : Option Value) → Standing g l start c s fs body phase u → cond (whole phase fs) (Ok None) (Err r) ≡ Ok last → (last ≡ None) × Document g l u s
 finished g l c [] Ready start s body u r last o h = (cc, (c, o.opened.0))
-finished g l c [] (InMarker m good) start s body u r last o h = absurd cc
-finished g l c [] (InNumber p a) start s body u r last o h = absurd cc
-finished g l c [] (InBody b n) start s body u r last o h = absurd cc
-finished g l c [] (InPad n) start s body u r last o h = absurd cc
 finished g l c (f ∷ fs) Ready start s body u r last o h = absurd cc
-finished g l c (f ∷ fs) (InMarker m good) start s body u r last o h = absurd cc
-finished g l c (f ∷ fs) (InNumber p a) start s body u r last o h = absurd cc
-finished g l c (f ∷ fs) (InBody b n) start s body u r last o h = absurd cc
-finished g l c (f ∷ fs) (InPad n) start s body u r last o h = absurd cc
+finished g l c _ _ start s body u r last o h = absurd cc
 
 ended_well : (g : Catalog) (l : Limits) (u : List ℕ) (given : List (Value × ℕ)) (now : Result Machine Refusal) (last : Option Value) → Ended g l u [] given now
     → ends_of now ≡ Ok last → (last ≡ None) × Document g l u (plain given)

@@ -45,7 +45,7 @@ answers g l u r h =
       subst (λ w. Answers g l w r.reason) (sym taken) (record {
         decides = stopped_decides g l u r p;
         smallest = λ f d.
-            let q = decides_stopped g l (p.before ++ p.b ∷ []) f d in
+            let q = decides_stopped g l _ f d in
             let same : q.reason ≡ r.reason = ap (λ x. reason_in x r.reason) (sym q.now ∙ stopped g l u r p) in
             subst (λ (x : Reason). reason_number x ≤ reason_number f) same q.least;
       }),

@@ -1,12 +1,13 @@
 -- An octet never moves the start of the open piece back, and is refused for no want of memory or octets.
-use Rattle.std.proofs.Common.{ℕ, ◌+◌, ◌-◌, ◌*◌, ◌/◌, ◌%◌, ◌^◌, ◌≤◌, List, [], ◌∷◌, ◌++◌, Result, Ok, Err, Option, Some, None, arith, Bool, ◌||◌, nat_lt, nat_le, ◌==◌}
-use Rattle.ion_binary.specs.Names.{Descriptor, First, Follows, Form, Fourth, Frame, InBody, InMarker, InNumber, InPad, Known, Machine, Mark, Marker, Null, Opening, Outcome, Payload, Phase, Purpose, Ready, Reason, Refused, Scalar, Second, Setting, Size, Sized, Slot, Spot, Third, Truth, Value, annotated, annotation_came, bare, begin, body_of, count_came, counted, deeper, deliver, descriptor_of, end_of, feed, field_of, gives, goes, hollow, is_pad, is_table, is_wrapper, judge, judged, levels, listed, longer, misfits, name_came, nameless, next, number_came, on_descriptor, on_marker, on_phase, one_octet, open_struct, opening_of, opens, or_else, outside, past, proceed, refuses, resolve, sized, stray, too_long, turned, typed, unending, unfit, unless, unsized, with_octets}
+use Rattle.std.proofs.Common.{ℕ, ◌+◌, ◌-◌, ◌*◌, ◌^◌, ◌≤◌, List, [], ◌∷◌, ◌++◌, Result, Ok, Err, Option, Some, None, arith, Bool, ◌||◌, nat_lt, nat_le, ◌==◌, inl, inr, sym, subst, ◌≡◌, refl}
+use Rattle.ion_binary.specs.Names.{First, Follows, Form, Fourth, Frame, InBody, InMarker, InNumber, InPad, Known, Machine, Malformed, Mark, Marker, Null, Opening, Outcome, Payload, Phase, Purpose, Ready, Reason, Refused, Setting, Sized, Slot, Spot, Truth, Value, annotation_came, bare, begin, count_came, counted, deeper, deliver, end_of, feed, gives, goes, hollow, is_pad, is_table, judge, judged, levels, longer, misfits, name_came, nameless, number_came, on_descriptor, on_marker, on_phase, one_octet, open_struct, opening_of, or_else, outside, past, proceed, refuses, resolve, sized, stray, too_long, turned, unending, unfit, unless, unsized}
 use Rattle.ion_model.specs.declared.value.Payload.TheVariants as payloads
 use Rattle.ion_symtab.specs.Decided.{Decides, IsDecided}
 use Rattle.ion_symtab.specs.laws.Decided.{next_decides, resolve_decides}
 use Rattle.ion_symtab.specs.laws.Reasons.{either}
 use Rattle.ion_binary.specs.machine.Frames as frames
 use Rattle.ion_binary.specs.laws.reading.Decided.{judge_decides}
+use Rattle.ion_binary.specs.laws.reading.OnlyReasons.{PlainOpening, hollow_only, opening_plain, stray_only}
 
 -- the open piece begins at `start` or behind it
 pub record Onward (start : ℕ) (m : Machine) : Type 0 where
@@ -38,9 +39,8 @@ FineOpening (Refused e) = IsDecided e
 FineOpening _ = Unit {0}
 
 weaken : (start : ℕ) (P Q : Type 0) (o : Outcome) → (P → Q) → Steady start Q o → Steady start P o
-weaken start P Q (goes m) f h = h
-weaken start P Q (gives v m) f h = h
 weaken start P Q (refuses e) f h = λ p. h (f p)
+weaken start P Q _ f h = h
 
 steady_unless : (start : ℕ) (P : Type 0) (o : Option Reason) (r : Outcome) → (P → Fine o) → Steady start P r → Steady start P (unless o r)
 steady_unless start P None r f h = h
@@ -52,58 +52,34 @@ turned_steady used start P (Err e) h f = λ p. f
 
 deliver_steady : (setting : Setting) (spot : Spot) (fs : List Frame) (v : Value) → spot.start ≤ spot.used
     → Steady spot.start (FineFrames fs) (deliver setting spot fs v)
-deliver_steady setting spot [] v h =
-    either (Steady spot.start (FineFrames [])) (is_table v) _ _
-    (turned_steady spot.used spot.start (FineFrames []) (next spot.context v setting.catalog) h (next_decides spot.context v setting.catalog))
+deliver_steady setting spot [] v h = either (Steady spot.start (FineFrames [])) (is_table v) _ _
+    (turned_steady spot.used spot.start (FineFrames []) _ h (next_decides spot.context v setting.catalog))
     (record { from = h; to = omega arith })
-deliver_steady setting spot (frames.Items end x vs ∷ fs) v h =
-    either (Steady spot.start (FineFrames (frames.Items end x vs ∷ fs))) (spot.used == end) _ _
-    (weaken spot.start (FineFrames (frames.Items end x vs ∷ fs)) (FineFrames fs) (deliver setting spot fs (bare (listed x (vs ++ v ∷ [])))) (λ p. p.1)
-    (deliver_steady setting spot fs (bare (listed x (vs ++ v ∷ []))) h)) (record { from = omega arith; to = h })
+deliver_steady setting spot (frames.Items end x vs ∷ fs) v h = either (Steady spot.start (FineFrames (frames.Items end x vs ∷ fs))) (spot.used == end) _ _
+    (weaken spot.start _ _ _ (λ p. p.1) (deliver_steady setting spot fs _ h)) (record { from = omega arith; to = h })
 deliver_steady setting spot (frames.Fields end ms ∷ fs) v h = λ p. tt
 deliver_steady setting spot (frames.Named end ms (Ok s) ∷ fs) v h =
     either (Steady spot.start (FineFrames (frames.Named end ms (Ok s) ∷ fs))) (spot.used == end) _ _
-    (weaken spot.start (FineFrames (frames.Named end ms (Ok s) ∷ fs)) (FineFrames fs)
-    (deliver setting spot fs (bare (payloads.Fields (ms ++ field_of s v ∷ [])))) (λ p. p.1)
-    (deliver_steady setting spot fs (bare (payloads.Fields (ms ++ field_of s v ∷ []))) h)) (record { from = omega arith; to = h })
+    (weaken spot.start _ _ _ (λ p. p.1) (deliver_steady setting spot fs _ h)) (record { from = omega arith; to = h })
 deliver_steady setting spot (frames.Named end ms (Err e) ∷ fs) v h = λ p. p.0
-deliver_steady setting spot (frames.Annotated end ss ∷ fs) v h =
-    weaken spot.start (FineFrames (frames.Annotated end ss ∷ fs)) (FineFrames fs) (deliver setting spot fs (annotated ss v.payload)) (λ p. p.1)
-    (deliver_steady setting spot fs (annotated ss v.payload) h)
+deliver_steady setting spot (frames.Annotated end ss ∷ fs) v h = weaken spot.start _ _ _ (λ p. p.1) (deliver_steady setting spot fs _ h)
 
 proceed_steady : (setting : Setting) (spot : Spot) (fs : List Frame) → spot.start ≤ spot.used → Steady spot.start (FineFrames fs) (proceed setting spot fs)
 proceed_steady setting spot [] h = record { from = h; to = omega arith }
-proceed_steady setting spot (frames.Items end x vs ∷ fs) h =
-    either (Steady spot.start (FineFrames (frames.Items end x vs ∷ fs))) (spot.used == end) _ _
-    (weaken spot.start (FineFrames (frames.Items end x vs ∷ fs)) (FineFrames fs) (deliver setting spot fs (bare (listed x vs))) (λ p. p.1)
-    (deliver_steady setting spot fs (bare (listed x vs)) h)) (record { from = omega arith; to = h })
-proceed_steady setting spot (frames.Fields end ms ∷ fs) h =
-    either (Steady spot.start (FineFrames (frames.Fields end ms ∷ fs))) (spot.used == end) _ _
-    (weaken spot.start (FineFrames (frames.Fields end ms ∷ fs)) (FineFrames fs) (deliver setting spot fs (bare (payloads.Fields ms))) (λ p. p.1)
-    (deliver_steady setting spot fs (bare (payloads.Fields ms)) h)) (record { from = omega arith; to = h })
-proceed_steady setting spot (frames.Named end ms name ∷ fs) h =
-    either (Steady spot.start (FineFrames (frames.Named end ms name ∷ fs))) (spot.used == end) _ _
-    (weaken spot.start (FineFrames (frames.Named end ms name ∷ fs)) (FineFrames fs) (deliver setting spot fs (bare (payloads.Fields ms))) (λ p. p.1)
-    (deliver_steady setting spot fs (bare (payloads.Fields ms)) h)) (record { from = omega arith; to = h })
+proceed_steady setting spot (frames.Items end x vs ∷ fs) h = either (Steady spot.start (FineFrames (frames.Items end x vs ∷ fs))) (spot.used == end) _ _
+    (weaken spot.start _ _ _ (λ p. p.1) (deliver_steady setting spot fs _ h)) (record { from = omega arith; to = h })
+proceed_steady setting spot (frames.Fields end ms ∷ fs) h = either (Steady spot.start (FineFrames (frames.Fields end ms ∷ fs))) (spot.used == end) _ _
+    (weaken spot.start _ _ _ (λ p. p.1) (deliver_steady setting spot fs _ h)) (record { from = omega arith; to = h })
+proceed_steady setting spot (frames.Named end ms name ∷ fs) h = either (Steady spot.start (FineFrames (frames.Named end ms name ∷ fs))) (spot.used == end) _ _
+    (weaken spot.start _ _ _ (λ p. p.1) (deliver_steady setting spot fs _ h)) (record { from = omega arith; to = h })
 proceed_steady setting spot (frames.Annotated end ss ∷ fs) h = λ p. tt
 
 long_fine : (item start : ℕ) (form : Form) (to : ℕ) → Fine (too_long item start form to)
 long_fine item start form to = either Fine (is_pad form || nat_le to (start + item)) _ _ tt tt
 
-hollow_fine : (form : Form) (n : ℕ) → Fine (hollow form n)
-hollow_fine (Form.Scalar Scalar.NegativeInt) n = either Fine (n == 0) _ _ tt tt
-hollow_fine (Form.Scalar Scalar.Timestamp) n = either Fine (n == 0) _ _ tt tt
-hollow_fine (Form.Scalar Scalar.Int) n = tt
-hollow_fine (Form.Scalar Scalar.Decimal) n = tt
-hollow_fine (Form.Scalar Scalar.Symbol) n = tt
-hollow_fine (Form.Scalar Scalar.Str) n = tt
-hollow_fine (Form.Scalar Scalar.Clob) n = tt
-hollow_fine (Form.Scalar Scalar.Blob) n = tt
-hollow_fine Form.OrderedStruct n = either Fine (n == 0) _ _ tt tt
-hollow_fine Form.Wrapper n = either Fine (n == 0) _ _ tt tt
-hollow_fine Form.Pad n = tt
-hollow_fine (Form.Listing x) n = tt
-hollow_fine Form.Struct n = tt
+only_fine : (o : Option Reason) → ((e : Reason) → o ≡ Some e → e ≡ Malformed) → Fine o
+only_fine None h = tt
+only_fine (Some e) h = subst IsDecided (sym (h e refl)) tt
 
 misfits_fine : (item start : ℕ) (fs : List Frame) (form : Form) (to : ℕ) → Fine (misfits item start fs form to)
 misfits_fine item start [] form to = long_fine item start form to
@@ -112,20 +88,9 @@ misfits_fine item start (frames.Items end x vs ∷ fs) form to = either Fine (na
 misfits_fine item start (frames.Fields end ms ∷ fs) form to = either Fine (nat_le to end) _ _ tt tt
 misfits_fine item start (frames.Named end ms name ∷ fs) form to = either Fine (nat_le to end) _ _ tt tt
 
-stray_fine : (fs : List Frame) (form : Form) → Fine (stray fs form)
-stray_fine [] form = tt
-stray_fine (frames.Annotated end ss ∷ fs) form = either Fine (is_pad form || is_wrapper form) _ _ tt tt
-stray_fine (frames.Items end x vs ∷ fs) form = tt
-stray_fine (frames.Fields end ms ∷ fs) form = tt
-stray_fine (frames.Named end ms name ∷ fs) form = tt
-
 nameless_fine : (fs : List Frame) (form : Form) → FineFrames fs → Fine (nameless fs form)
-nameless_fine [] form p = tt
-nameless_fine (frames.Annotated end ss ∷ fs) form p = tt
-nameless_fine (frames.Items end x vs ∷ fs) form p = tt
-nameless_fine (frames.Fields end ms ∷ fs) form p = tt
-nameless_fine (frames.Named end ms (Ok s) ∷ fs) form p = tt
 nameless_fine (frames.Named end ms (Err e) ∷ fs) form p = either Fine (is_pad form) _ _ tt p.0
+nameless_fine _ form p = tt
 
 unending_fine : (item start : ℕ) (fs : List Frame) (form : Form) (used : ℕ) → Fine (unending item start fs form used)
 unending_fine item start [] form used = long_fine item start form used
@@ -137,9 +102,8 @@ outside_fine (f ∷ fs) used = either Fine (nat_lt used (end_of f)) _ _ tt tt
 
 past_fine : (item start : ℕ) (fs : List Frame) (p : Purpose) (used : ℕ) → Fine (past item start fs p used)
 past_fine item start fs (Purpose.Length form) used = unending_fine item start fs form used
-past_fine item start fs Purpose.FieldName used = outside_fine fs used
-past_fine item start fs Purpose.AnnotationsLength used = outside_fine fs used
 past_fine item start fs (Purpose.Annotation stop) used = either Fine (nat_lt used stop) _ _ tt tt
+past_fine item start fs _ used = outside_fine fs used
 
 or_fine : (a b : Option Reason) → Fine a → Fine b → Fine (or_else a b)
 or_fine None b h k = k
@@ -147,8 +111,7 @@ or_fine (Some e) b h k = h
 
 unfit_fine : (item start : ℕ) (fs : List Frame) (form : Form) (to : ℕ) → FineFrames fs → Fine (unfit item start fs form to)
 unfit_fine item start fs form to p =
-    or_fine (stray fs form) (or_else (misfits item start fs form to) (nameless fs form)) (stray_fine fs form)
-    (or_fine (misfits item start fs form to) (nameless fs form) (misfits_fine item start fs form to) (nameless_fine fs form p))
+    or_fine _ _ (only_fine (stray fs form) (stray_only fs form)) (or_fine _ _ (misfits_fine item start fs form to) (nameless_fine fs form p))
 
 judged_steady : (setting : Setting) (spot : Spot) (fs : List Frame) (r : Result Payload Reason) → spot.start ≤ spot.used → Decides r
     → Steady spot.start (FineFrames fs) (judged setting spot fs r)
@@ -160,9 +123,9 @@ deeper_steady depth start fs r h = either (Steady start (FineFrames fs)) (nat_lt
 
 struct_steady : (setting : Setting) (spot : Spot) (fs : List Frame) (n : ℕ) → spot.start ≤ spot.used
     → Steady spot.start (FineFrames fs) (open_struct setting spot fs n)
-struct_steady setting spot fs n h =
-    deeper_steady setting.limits.depth spot.start fs _ (weaken spot.start (FineFrames fs) (FineFrames (frames.Fields (spot.used + n) [] ∷ fs))
-    (proceed setting spot (frames.Fields (spot.used + n) [] ∷ fs)) (λ p. (tt, p)) (proceed_steady setting spot (frames.Fields (spot.used + n) [] ∷ fs) h))
+struct_steady setting spot fs n h = deeper_steady setting.limits.depth spot.start fs _
+    (weaken spot.start _ (FineFrames (frames.Fields (spot.used + n) [] ∷ fs)) _ (λ p. (tt, p))
+    (proceed_steady setting spot (frames.Fields (spot.used + n) [] ∷ fs) h))
 
 begin_steady : (setting : Setting) (spot : Spot) (fs : List Frame) (form : Form) (n : ℕ) → spot.start ≤ spot.used
     → Steady spot.start (FineFrames fs) (begin setting spot fs form n)
@@ -170,19 +133,16 @@ begin_steady setting spot fs Form.Pad n h = either (Steady spot.start (FineFrame
     (record { from = omega arith; to = h })
 begin_steady setting spot fs (Form.Scalar t) n h = either (Steady spot.start (FineFrames fs)) (n == 0) _ _
     (judged_steady setting spot fs (judge spot.context t []) h (judge_decides spot.context t [])) (record { from = omega arith; to = h })
-begin_steady setting spot fs (Form.Listing x) n h =
-    deeper_steady setting.limits.depth spot.start fs _ (weaken spot.start (FineFrames fs) (FineFrames (frames.Items (spot.used + n) x [] ∷ fs))
-    (proceed setting spot (frames.Items (spot.used + n) x [] ∷ fs)) (λ p. (tt, p)) (proceed_steady setting spot (frames.Items (spot.used + n) x [] ∷ fs) h))
-begin_steady setting spot fs Form.Struct n h = struct_steady setting spot fs n h
-begin_steady setting spot fs Form.OrderedStruct n h = struct_steady setting spot fs n h
+begin_steady setting spot fs (Form.Listing x) n h = deeper_steady setting.limits.depth spot.start fs _
+    (weaken spot.start _ (FineFrames (frames.Items (spot.used + n) x [] ∷ fs)) _ (λ p. (tt, p))
+    (proceed_steady setting spot (frames.Items (spot.used + n) x [] ∷ fs) h))
 begin_steady setting spot fs Form.Wrapper n h = record { from = omega arith; to = h }
+begin_steady setting spot fs _ n h = struct_steady setting spot fs n h
 
 sized_steady : (setting : Setting) (spot : Spot) (fs : List Frame) (form : Form) (n : ℕ) → spot.start ≤ spot.used
     → Steady spot.start (FineFrames fs) (sized setting spot fs form n)
-sized_steady setting spot fs form n h =
-    steady_unless spot.start (FineFrames fs) (hollow form n) _ (λ i. hollow_fine form n)
-    (steady_unless spot.start (FineFrames fs) (unfit setting.limits.item spot.start fs form (spot.used + n)) _
-    (unfit_fine setting.limits.item spot.start fs form (spot.used + n)) (begin_steady setting spot fs form n h))
+sized_steady setting spot fs form n h = steady_unless spot.start _ _ _ (λ i. only_fine (hollow form n) (hollow_only form n)) (steady_unless spot.start _ _ _
+    (unfit_fine setting.limits.item spot.start fs form _) (begin_steady setting spot fs form n h))
 
 longer_steady : (setting : Setting) (spot : Spot) (fs : List Frame) (p : Purpose) (a : ℕ) → spot.start ≤ spot.used
     → Steady spot.start (FineFrames fs) (longer setting spot fs p a)
@@ -191,11 +151,9 @@ longer_steady setting spot fs p a h = steady_unless spot.start (FineFrames fs) (
 
 unsized_steady : (setting : Setting) (spot : Spot) (fs : List Frame) (form : Form) → spot.start ≤ spot.used
     → Steady spot.start (FineFrames fs) (unsized setting spot fs form)
-unsized_steady setting spot fs form h =
-    steady_unless spot.start (FineFrames fs) (stray fs form) _ (λ i. stray_fine fs form)
-    (steady_unless spot.start (FineFrames fs) (unending setting.limits.item spot.start fs form spot.used) _
+unsized_steady setting spot fs form h = steady_unless spot.start _ _ _ (λ i. only_fine (stray fs form) (stray_only fs form)) (steady_unless spot.start _ _ _
     (λ i. unending_fine setting.limits.item spot.start fs form spot.used)
-    (steady_unless spot.start (FineFrames fs) (nameless fs form) _ (nameless_fine fs form) (record { from = omega arith; to = h })))
+    (steady_unless spot.start _ _ _ (nameless_fine fs form) (record { from = omega arith; to = h })))
 
 one_steady : (setting : Setting) (spot : Spot) (fs : List Frame) (p : Payload) → spot.start ≤ spot.used
     → Steady spot.start (FineFrames fs) (one_octet setting spot fs p)
@@ -204,43 +162,10 @@ one_steady setting spot fs p h = steady_unless spot.start (FineFrames fs) (unfit
 
 -- why a descriptor is refused
 
-with_fine : (t : Scalar) (z : Size) → FineOpening (with_octets t z)
-with_fine t (Known n) = either FineOpening (n == 0) _ _ tt tt
-with_fine t Follows = tt
-
-body_fine : (code : ℕ) (z : Size) → FineOpening (body_of code z)
-body_fine code z =
-    either FineOpening (code == 2) _ _ tt (either FineOpening (code == 3) _ _ (with_fine Scalar.NegativeInt z)
-    (either FineOpening (code == 5) _ _ tt (either FineOpening (code == 6) _ _ (with_fine Scalar.Timestamp z)
-    (either FineOpening (code == 7) _ _ tt (either FineOpening (code == 8) _ _ tt
-    (either FineOpening (code == 9) _ _ tt (either FineOpening (code == 10) _ _ tt
-    (either FineOpening (code == 11) _ _ tt (either FineOpening (code == 12) _ _ tt
-    (either FineOpening (code == 13) _ _ tt (either FineOpening (code == 14) _ _ tt tt)))))))))))
-
-opens_fine : (d : Result Descriptor Reason) → Decides d → FineOpening (opens d)
-opens_fine (Err e) h = h
-opens_fine (Ok Descriptor.Marker) h = tt
-opens_fine (Ok (Descriptor.Null k)) h = tt
-opens_fine (Ok (Descriptor.Truth t)) h = tt
-opens_fine (Ok (Descriptor.Pad z)) h = tt
-opens_fine (Ok Descriptor.Ordered) h = tt
-opens_fine (Ok (Descriptor.Body code z)) h = body_fine code z
-
-typed_fine : (t n : ℕ) → Decides (typed t n)
-typed_fine t n =
-    let P : Result Descriptor Reason → Type 0 = λ d. Decides d in
-    either P (t == 15) _ _ tt
-    (either P (t == 14) _ _
-    (either P (n == 0) _ _ tt (either P ((n == 1) || (n == 2) || (n == 15)) _ _ tt tt))
-    (either P (n == 15) _ _ tt
-    (either P (t == 0) _ _ tt
-    (either P (t == 1) _ _ (either P (n == 0) _ _ tt (either P (n == 1) _ _ tt tt))
-    (either P (t == 4) _ _ (either P ((n == 0) || (n == 4) || (n == 8)) _ _ tt tt)
-    (either P (t == 13) _ _ (either P (n == 1) _ _ tt tt) tt))))))
-
-opening_fine : (b : ℕ) → FineOpening (opening_of b)
-unfolding opening_of descriptor_of
-opening_fine b = opens_fine (descriptor_of b) (typed_fine (b / 16) (b % 16))
+plain_fine : (d : Opening) → PlainOpening d → FineOpening d
+plain_fine (Refused e) (inl h) = subst IsDecided (sym h) tt
+plain_fine (Refused e) (inr h) = subst IsDecided (sym h) tt
+plain_fine _ p = tt
 
 descriptor_steady : (setting : Setting) (spot : Spot) (fs : List Frame) (d : Opening) → spot.start ≤ spot.used → FineOpening d
     → Steady spot.start (FineFrames fs) (on_descriptor setting spot fs d)
@@ -253,30 +178,21 @@ descriptor_steady setting spot fs (Sized form (Known n)) h f = sized_steady sett
 descriptor_steady setting spot fs (Sized form Follows) h f = unsized_steady setting spot fs form h
 
 name_steady : (spot : Spot) (fs : List Frame) (id : ℕ) → spot.start ≤ spot.used → Steady spot.start (FineFrames fs) (name_came spot fs id)
-name_steady spot [] id h = λ p. tt
 name_steady spot (frames.Fields end ms ∷ fs) id h = either (Steady spot.start (FineFrames (frames.Fields end ms ∷ fs))) (nat_lt spot.used end) _ _
     (record { from = omega arith; to = h }) (λ p. tt)
-name_steady spot (frames.Items end x vs ∷ fs) id h = λ p. tt
-name_steady spot (frames.Named end ms name ∷ fs) id h = λ p. tt
-name_steady spot (frames.Annotated end ss ∷ fs) id h = λ p. tt
+name_steady spot _ id h = λ p. tt
 
 count_steady : (spot : Spot) (fs : List Frame) (n : ℕ) → spot.start ≤ spot.used → Steady spot.start (FineFrames fs) (count_came spot fs n)
-count_steady spot [] n h = λ p. tt
 count_steady spot (frames.Annotated end ss ∷ fs) n h =
     let P : Outcome → Type 0 = Steady spot.start (FineFrames (frames.Annotated end ss ∷ fs)) in
     either P (n == 0) _ _ (λ p. tt) (either P (nat_lt (spot.used + n) end) _ _ (record { from = omega arith; to = h }) (λ p. tt))
-count_steady spot (frames.Fields end ms ∷ fs) n h = λ p. tt
-count_steady spot (frames.Items end x vs ∷ fs) n h = λ p. tt
-count_steady spot (frames.Named end ms name ∷ fs) n h = λ p. tt
+count_steady spot _ n h = λ p. tt
 
 annotation_steady : (spot : Spot) (fs : List Frame) (stop : ℕ) (r : Result (Option (List ℕ)) Reason) → spot.start ≤ spot.used → Decides r
     → Steady spot.start (FineFrames fs) (annotation_came spot fs stop r)
-annotation_steady spot [] stop r h f = λ p. tt
 annotation_steady spot (frames.Annotated end ss ∷ fs) stop (Ok s) h f = record { from = omega arith; to = h }
 annotation_steady spot (frames.Annotated end ss ∷ fs) stop (Err e) h f = λ p. f
-annotation_steady spot (frames.Fields end ms ∷ fs) stop r h f = λ p. tt
-annotation_steady spot (frames.Items end x vs ∷ fs) stop r h f = λ p. tt
-annotation_steady spot (frames.Named end ms name ∷ fs) stop r h f = λ p. tt
+annotation_steady spot _ stop r h f = λ p. tt
 
 came_steady : (setting : Setting) (spot : Spot) (fs : List Frame) (p : Purpose) (n : ℕ) → spot.start ≤ spot.used
     → Steady spot.start (FineFrames fs) (number_came setting spot fs p n)
@@ -288,15 +204,14 @@ came_steady setting spot fs (Purpose.Annotation stop) n h = annotation_steady sp
 marker_steady : (spot : Spot) (fs : List Frame) (m : Mark) (good : Bool) (b : ℕ) → spot.start ≤ spot.used
     → Steady spot.start (FineFrames fs) (on_marker spot fs m good b)
 marker_steady spot fs First good b h = either (Steady spot.start (FineFrames fs)) (b == 224) _ _ (record { from = omega arith; to = h }) (λ p. tt)
-marker_steady spot fs Second good b h = record { from = omega arith; to = h }
-marker_steady spot fs Third good b h = record { from = omega arith; to = h }
 marker_steady spot fs Fourth good b h = either (Steady spot.start (FineFrames fs)) (b == 234) _ _
     (either (Steady spot.start (FineFrames fs)) good _ _ (record { from = h; to = omega arith }) (λ p. tt)) (λ p. tt)
+marker_steady spot fs _ good b h = record { from = omega arith; to = h }
 
 phase_steady : (setting : Setting) (m : Machine) (p : Phase) (b : ℕ) → m.spot.start ≤ m.spot.used
     → Steady m.spot.start (FineFrames m.frames) (on_phase setting m p b)
 phase_steady setting m (InMarker mark good) b h = marker_steady m.spot m.frames mark good b h
-phase_steady setting m Ready b h = descriptor_steady setting m.spot m.frames (opening_of b) h (opening_fine b)
+phase_steady setting m Ready b h = descriptor_steady setting m.spot m.frames (opening_of b) h (plain_fine (opening_of b) (opening_plain b))
 phase_steady setting m (InNumber p a) b h =
     let P : Outcome → Type 0 = Steady m.spot.start (FineFrames m.frames) in
     either P (nat_lt b 128) _ _

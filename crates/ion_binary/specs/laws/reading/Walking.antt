@@ -1,6 +1,6 @@
 -- What is known of a reader that holds no values and told a visitor what it did.
 use Rattle.std.proofs.Common.{ℕ, ◌≤◌, List, length, ap, arith}
-use Rattle.ion_binary.specs.Names.{BinaryWalk, Catalog, Event, Frame, HasTold, InBody, InMarker, InNumber, InPad, Limits, Phase, Ready, Run, Slot, Told, Value, awaits, body_so_far, failed, machine_of, plain, taken, trace, trace_of}
+use Rattle.ion_binary.specs.Names.{BinaryWalk, Catalog, Event, Frame, HasTold, InBody, Limits, Phase, Run, Slot, Told, Value, awaits, body_so_far, failed, machine_of, plain, taken, trace, trace_of}
 use Rattle.ion_binary.specs.walking.Runs.{kept}
 use Rattle.ion_binary.specs.laws.reading.OpenRests.{body_within}
 use Rattle.ion_binary.specs.laws.reading.Promises.{ran_stands}
@@ -9,10 +9,7 @@ use Rattle.ion_binary.specs.laws.reading.Stands.{Standing}
 so_far_within : (g : Catalog) (l : Limits) (start : ℕ) (c : List Slot) (s : List Value) (fs : List Frame) (body : List ℕ) (phase : Phase) (u : List ℕ)
     → Standing g l start c s fs (body_so_far phase body) phase u → length (body_so_far phase body) ≤ l.item
 so_far_within g l start c s fs body (InBody t n) u o = body_within g l start c s fs body t n u o
-so_far_within g l start c s fs body (InMarker m good) u o = omega arith
-so_far_within g l start c s fs body Ready u o = omega arith
-so_far_within g l start c s fs body (InNumber p a) u o = omega arith
-so_far_within g l start c s fs body (InPad n) u o = omega arith
+so_far_within g l start c s fs body _ u o = omega arith
 
 -- where it told what octets did, the trace says the same of them
 pub has_told : (r : BinaryWalk) (u : List ℕ) (s : List (Value × ℕ)) (es : List Event) → Told r u s es

@@ -43,27 +43,12 @@ known Form.Pad n h k = opens_typed 0 n (omega arith) ∙ rw (below n 15 (omega a
 pub follows : (form : Form) → opening_of (16 * type_code form + long_code form) ≡ Sized form Follows
 unfolding opening_of descriptor_of
 follows (Form.Scalar Scalar.Int) = refl
-follows (Form.Scalar Scalar.NegativeInt) = refl
-follows (Form.Scalar Scalar.Decimal) = refl
-follows (Form.Scalar Scalar.Timestamp) = refl
-follows (Form.Scalar Scalar.Symbol) = refl
-follows (Form.Scalar Scalar.Str) = refl
-follows (Form.Scalar Scalar.Clob) = refl
-follows (Form.Scalar Scalar.Blob) = refl
 follows (Form.Listing Listing.List) = refl
-follows (Form.Listing Listing.Sexp) = refl
-follows Form.Struct = refl
-follows Form.OrderedStruct = refl
-follows Form.Wrapper = refl
-follows Form.Pad = refl
+follows _ = refl
 
 usual : (form : Form) (n : ℕ) → IsBodyLength form n → long_code form ≡ 14
-usual (Form.Scalar _) n h = refl
-usual (Form.Listing _) n h = refl
-usual Form.Struct n h = refl
 usual Form.OrderedStruct n h = absurd h
-usual Form.Wrapper n h = refl
-usual Form.Pad n h = refl
+usual _ n h = refl
 
 -- the header that is written for a body is one of its form and length
 pub header_is : (form : Form) (n : ℕ) → IsBodyLength form n → n < 2 ^ 63 → Header form n (header (type_code form) n)

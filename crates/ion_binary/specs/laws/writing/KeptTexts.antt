@@ -14,8 +14,7 @@ by_layer p d e h = subst (λ (d : Layer). AreTexts (layer_symbols d)) (sym e) h
 mutual
   -- the symbols of a value that is kept are of unknown text or UTF-8
   pub value_texts : (v : Value) → IsKept v → AreTexts (symbols_of v)
-  value_texts _ (kept ss p ts k) = subst AreTexts (sym (symbols-out (annotated ss p)))
-      (texts_both ss (layer_symbols (views.out-Payload p)) ts (payload_texts p k))
+  value_texts _ (kept ss p ts k) = subst AreTexts (sym (symbols-out (annotated ss p))) (texts_both ss _ ts (payload_texts p k))
 
   payload_texts : (p : Payload) → KeptPayload p → AreTexts (layer_symbols (views.out-Payload p))
   payload_texts _ (kept_null k) = by_layer (payloads.Null k) _ (views.outs-Null k) tt

@@ -102,14 +102,11 @@ table_of names more =
     ++ (named_octets names (Some (codes "symbols")) (framed 11 (flat_map (λ t. framed 8 (name_text t)) more)) ++ [])))
 
 table_row : (names more : Names) → value_octets names (table_value more) ≡ table_of names more
-table_row names more =
-    octets_row names _ _ _ (views.outs-Fields _)
-    ∙ rw (
-      text_octets names (codes "$ion_symbol_table"),
-      octets_row names [] (payloads.List (map string_value more)) _
-          (views.outs-List (map string_value more)),
-      strings_octets names more,
-    ) refl
+table_row names more = octets_row names _ _ _ (views.outs-Fields _) ∙ rw (
+  text_octets names (codes "$ion_symbol_table"),
+  octets_row names [] _ _ (views.outs-List (map string_value more)),
+  strings_octets names more,
+) refl
 
 -- 5. One value of a stream: its symbols, the table before it, its octets, and what comes behind it.
 value_row : (names : Names) (begun : Bool) (v : Value) (vs : List Value) (ss : Names) (table octets rest : List ℕ) → symbols_of v ≡ ss
@@ -133,8 +130,7 @@ none_row = refl
 
 name_row : bin_of (symbol_value (codes "name") ∷ []) ≡ 0xE0 ∷ 0x01 ∷ 0x00 ∷ 0xEA ∷ 0x71 ∷ 0x04 ∷ []
 unfolding bin_of system_names system_texts
-name_row = value_row system_names false (symbol_value (codes "name")) [] (Some (codes "name") ∷ []) [] (0x71 ∷ 0x04 ∷ []) [] (text_symbols (codes "name")) refl
-    (text_octets _ (codes "name")) refl
+name_row = value_row system_names false _ [] _ [] _ [] (text_symbols (codes "name")) refl (text_octets _ (codes "name")) refl
 
 table_a : value_octets with_a (table_value (Some (codes "a") ∷ [])) ≡ 0xEA ∷ 0x81 ∷ 0x83 ∷ 0xD7 ∷ 0x86 ∷ 0x71 ∷ 0x03 ∷ 0x87 ∷ 0xB2 ∷ 0x81 ∷ 0x61 ∷ []
 unfolding system_names system_texts
@@ -156,8 +152,7 @@ third = value_row with_b true value_a [] (Some (codes "a") ∷ []) [] (0x71 ∷ 
 second : bin_from (record { names = with_a; begun = true }) (value_b ∷ value_a ∷ []) ≡
     0xEA ∷ 0x81 ∷ 0x83 ∷ 0xD7 ∷ 0x86 ∷ 0x71 ∷ 0x03 ∷ 0x87 ∷ 0xB2 ∷ 0x81 ∷ 0x62 ∷ 0x71 ∷ 0x0B ∷ 0x71 ∷ 0x0A ∷ []
 unfolding system_names system_texts
-second = value_row with_a true value_b (value_a ∷ []) (Some (codes "b") ∷ []) _ (0x71 ∷ 0x0B ∷ []) (0x71 ∷ 0x0A ∷ []) (text_symbols (codes "b")) table_b
-    (text_octets _ (codes "b")) third
+second = value_row with_a true value_b (value_a ∷ []) _ _ _ _ (text_symbols (codes "b")) table_b (text_octets _ (codes "b")) third
 
 symbols_row_of : bin_of worked_items ≡
     0xE0 ∷ 0x01 ∷ 0x00 ∷ 0xEA
@@ -165,36 +160,31 @@ symbols_row_of : bin_of worked_items ≡
     ∷ 0xEA ∷ 0x81 ∷ 0x83 ∷ 0xD7 ∷ 0x86 ∷ 0x71 ∷ 0x03 ∷ 0x87 ∷ 0xB2 ∷ 0x81 ∷ 0x62 ∷ 0x71 ∷ 0x0B
     ∷ 0x71 ∷ 0x0A ∷ []
 unfolding bin_of system_names system_texts
-symbols_row_of = value_row system_names false value_a (value_b ∷ value_a ∷ []) (Some (codes "a") ∷ []) _ (0x71 ∷ 0x0A ∷ []) _ (text_symbols (codes "a")) table_a
-    (text_octets _ (codes "a")) second
+symbols_row_of = value_row system_names false value_a (value_b ∷ value_a ∷ []) _ _ _ _ (text_symbols (codes "a")) table_a (text_octets _ (codes "a")) second
 
 list_symbols : symbols_of worked_list ≡ Some (codes "a") ∷ Some (codes "b") ∷ Some (codes "a") ∷ []
 list_symbols = symbols_row [] (payloads.List worked_items) _ (views.outs-List worked_items) ∙ rw (text_symbols (codes "a"), text_symbols (codes "b")) refl
 
 list_octets : value_octets with_b worked_list ≡ 0xB6 ∷ 0x71 ∷ 0x0A ∷ 0x71 ∷ 0x0B ∷ 0x71 ∷ 0x0A ∷ []
 unfolding system_names system_texts
-list_octets = octets_row with_b [] (payloads.List worked_items) _ (views.outs-List worked_items)
-    ∙ rw (text_octets with_b (codes "a"), text_octets with_b (codes "b")) refl
+list_octets = octets_row with_b [] _ _ (views.outs-List worked_items) ∙ rw (text_octets with_b (codes "a"), text_octets with_b (codes "b")) refl
 
 list_row : bin_of (worked_list ∷ []) ≡
     0xE0 ∷ 0x01 ∷ 0x00 ∷ 0xEA
     ∷ 0xEC ∷ 0x81 ∷ 0x83 ∷ 0xD9 ∷ 0x86 ∷ 0x71 ∷ 0x03 ∷ 0x87 ∷ 0xB4 ∷ 0x81 ∷ 0x61 ∷ 0x81 ∷ 0x62
     ∷ 0xB6 ∷ 0x71 ∷ 0x0A ∷ 0x71 ∷ 0x0B ∷ 0x71 ∷ 0x0A ∷ []
 unfolding bin_of system_names system_texts
-list_row = value_row system_names false worked_list [] (Some (codes "a") ∷ Some (codes "b") ∷ Some (codes "a") ∷ []) _ _ [] list_symbols table_a_b list_octets
-    refl
+list_row = value_row system_names false worked_list [] _ _ _ [] list_symbols table_a_b list_octets refl
 
 year_row : bin_of (bare (payloads.Timestamp in_2007) ∷ []) ≡ 0xE0 ∷ 0x01 ∷ 0x00 ∷ 0xEA ∷ 0x63 ∷ 0xC0 ∷ 0x0F ∷ 0xD7 ∷ []
 unfolding bin_of system_names system_texts timestamp_octets moved
-year_row = value_row system_names false (bare (payloads.Timestamp in_2007)) [] [] [] (0x63 ∷ 0xC0 ∷ 0x0F ∷ 0xD7 ∷ []) []
-    (symbols_row [] (payloads.Timestamp in_2007) _ (views.outs-Timestamp in_2007)) refl
-    (octets_row _ [] (payloads.Timestamp in_2007) _ (views.outs-Timestamp in_2007)) refl
+year_row = value_row system_names false _ [] [] [] _ [] (symbols_row [] _ _ (views.outs-Timestamp in_2007)) refl
+    (octets_row _ [] _ _ (views.outs-Timestamp in_2007)) refl
 
 zero_row : bin_of (bare (payloads.Decimal minus_zero) ∷ []) ≡ 0xE0 ∷ 0x01 ∷ 0x00 ∷ 0xEA ∷ 0x52 ∷ 0x80 ∷ 0x80 ∷ []
 unfolding bin_of system_names system_texts
-zero_row = value_row system_names false (bare (payloads.Decimal minus_zero)) [] [] [] (0x52 ∷ 0x80 ∷ 0x80 ∷ []) []
-    (symbols_row [] (payloads.Decimal minus_zero) _ (views.outs-Decimal minus_zero)) refl
-    (octets_row _ [] (payloads.Decimal minus_zero) _ (views.outs-Decimal minus_zero)) refl
+zero_row = value_row system_names false _ [] [] [] _ [] (symbols_row [] _ _ (views.outs-Decimal minus_zero)) refl
+    (octets_row _ [] _ _ (views.outs-Decimal minus_zero)) refl
 
 half_symbols : symbols_of (bare (payloads.Decimal one_and_a_half)) ≡ []
 half_symbols = symbols_row [] (payloads.Decimal one_and_a_half) _ (views.outs-Decimal one_and_a_half)

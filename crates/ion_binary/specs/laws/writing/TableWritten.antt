@@ -101,9 +101,7 @@ list_symbols : (more : Names) → symbols_of (symbols_value more) ≡ []
 list_symbols more = symbols-out (symbols_value more) ∙ (ap layer_symbols (views.outs-List (map string_value more)) ∙ no_symbols more)
 
 symbols_table : (more : Names) → symbols_of (table_value more) ≡ table_symbols
-symbols_table more =
-    symbols-out (table_value more)
-    ∙ (ap (λ (d : Layer). table_word ∷ layer_symbols d) (views.outs-Fields (table_fields more))
+symbols_table more = symbols-out _ ∙ (ap (λ (d : Layer). table_word ∷ layer_symbols d) (views.outs-Fields (table_fields more))
     ∙ (ap (λ (ss : Names). table_word ∷ imports_word ∷ (ss ++ ((symbols_word ∷ symbols_of (symbols_value more)) ++ []))) imports_symbols
     ∙ ap (λ (ss : Names). table_word ∷ imports_word ∷ table_word ∷ symbols_word ∷ (ss ++ [])) (list_symbols more)))
 
@@ -143,9 +141,8 @@ next_is c g more h few =
 -- 4. Pieces.
 
 pub slots_long : (names : Names) → Starts names → suc (length (slots names)) ≡ length names
-slots_long [] b = absurd b
 slots_long (None ∷ names) b = let e = length-map names local_slot in omega arith
-slots_long (Some t ∷ names) b = absurd b
+slots_long _ b = absurd b
 
 module _ (g : Catalog) (l : Limits) where
   table_turns : (u : List ℕ) (s : List Value) (names more : Names) → Starts names → AreAmong names table_symbols → AreKnown more

@@ -2,7 +2,7 @@
 use Rattle.std.proofs.Common.{◌≡◌, ◌≢◌, ℕ, ℤ, suc, pos, negsuc, neg_ℤ, ◌^◌, ◌<◌, ◌≤◌, Bool, true, false, List, [], ◌∷◌, ◌++◌, length, Option, Ok, refl, sym, ap, subst, ◌∙◌, arith, length-append, append_assoc, append-nil, le-ltb}
 use Rattle.std.specs.Prelude.{nat_lt}
 use Rattle.std.specs.List.{flat_map}
-use Rattle.ion_binary.specs.Names.{Binary, DecimalParts, Field, Fields, Form, Ids, IsBodyLength, IsDecimal, IsKept, IsScalar, IsTimestamp, IsTimestampBody, IsWhole, KeptFields, KeptItems, KeptPayload, Kind, Layer, Listing, Names, Payload, Plain, Resolves, Scalar, Sequence, Slot, TimestampParts, Value, VarInt, a_field, an_item, annotated, decimal_octets, field_octets, field_of, field_symbols, framed, header, id_of, ids_octets, is_blob, is_clob, is_decimal, is_int, is_listing, is_negative, is_null, is_scalar, is_string, is_struct, is_symbol, is_timestamp, is_truth, kept, kept_blob, kept_clob, kept_decimal, kept_fields, kept_int, kept_list, kept_null, kept_sexp, kept_string, kept_symbol, kept_timestamp, kept_truth, layer_octets, layer_symbols, listed, no_ids, no_items, nothing, null_octet, one_field, one_id, one_more, opening_of, padded_field, positional, resolve, symbols_of, timestamp_octets, truth_octet, type_code, uint_octets, unannotated, value_octets, var_uint_octets, whole_octets, with_count, wrapped}
+use Rattle.ion_binary.specs.Names.{Binary, DecimalParts, Field, Fields, Form, Ids, IsBodyLength, IsDecimal, IsKept, IsScalar, IsTimestamp, IsTimestampBody, IsWhole, KeptFields, KeptItems, KeptPayload, Kind, Layer, Listing, Names, Payload, Plain, Resolves, Scalar, Sequence, Slot, TimestampParts, Value, VarInt, a_field, an_item, annotated, decimal_octets, field_octets, field_of, field_symbols, framed, header, id_of, ids_octets, is_blob, is_clob, is_decimal, is_int, is_listing, is_negative, is_null, is_scalar, is_string, is_struct, is_symbol, is_timestamp, is_truth, kept, kept_blob, kept_clob, kept_decimal, kept_fields, kept_int, kept_list, kept_null, kept_sexp, kept_string, kept_symbol, kept_timestamp, kept_truth, layer_octets, layer_symbols, listed, no_ids, no_items, nothing, null_octet, one_field, one_id, one_more, opening_of, padded_field, positional, resolve, symbols_of, timestamp_octets, truth_octet, type_code, uint_octets, unannotated, value_octets, var_uint_octets, whole_octets, with_count}
 use Rattle.ion_model.specs.Kept as keeping
 use Rattle.ion_model.specs.declared.value.Payload.TheVariants as payloads
 use Rattle.ion_model.specs.declared.value.Payload.TheViews as views
@@ -44,9 +44,8 @@ truth_is c true = is_truth 0x11 true refl
 
 framed_scalar : (c : List Slot) (t : Scalar) (body : List ℕ) (p : Payload) → IsBodyLength (Form.Scalar t) (length body) → IsScalar c body t p
     → length (framed (type_code (Form.Scalar t)) body) < 2 ^ 63 → Plain c (framed (type_code (Form.Scalar t)) body) p
-framed_scalar c t body p fits is small =
-    is_scalar (header (type_code (Form.Scalar t)) (length body)) body t p
-    (header_is (Form.Scalar t) (length body) fits (omega (arith, framed_long (type_code (Form.Scalar t)) body))) is
+framed_scalar c t body p fits is small = is_scalar (header (type_code (Form.Scalar t)) (length body)) body t p
+    (header_is _ _ fits (omega (arith, framed_long (type_code (Form.Scalar t)) body))) is
 
 -- octets of a number that is not 0
 some_octets : (w : List ℕ) (n : ℕ) → positional 256 w ≡ n → 0 < n → 0 < length w
@@ -174,8 +173,7 @@ module _ (c : List Slot) (names : Names) where
       (header_is (Form.Listing x) (length body) tt (omega (arith, framed_long (type_code (Form.Listing x)) body))) q
 
   struct_is : (body : List ℕ) (ms : List Field) → Fields c body ms → length (framed 13 body) < 2 ^ 63 → Plain c (framed 13 body) (payloads.Fields ms)
-  struct_is body ms q small = is_struct (header 13 (length body)) body ms
-      (header_is Form.Struct (length body) (never_one c body ms q) (omega (arith, framed_long 13 body))) q
+  struct_is body ms q small = is_struct _ body ms (header_is Form.Struct _ (never_one c body ms q) (omega (arith, framed_long 13 body))) q
 
   mutual
     -- the octets that are written of a kept value are that value, where its symbols have these ids
@@ -196,20 +194,14 @@ module _ (c : List Slot) (names : Names) where
     payload_is _ (kept_decimal d h) = by_layer (payloads.Decimal d) _ (views.outs-Decimal d) (λ r small. decimal_is c d h small)
     payload_is _ (kept_timestamp t h) = by_layer (payloads.Timestamp t) _ (views.outs-Timestamp t) (λ r small. timestamp_is c t h small)
     payload_is _ (kept_symbol s h) = by_layer (payloads.Symbol s) _ (views.outs-Symbol s) (λ r small. symbol_is c (id_of names s) s r.0.0 r.0.1 small)
-    payload_is _ (kept_string text h) = by_layer (payloads.Str text) _ (views.outs-Str text)
-        (λ r small. framed_scalar c Scalar.Str text (payloads.Str text) tt (is_string h) small)
-    payload_is _ (kept_clob body h) = by_layer (payloads.Clob body) _ (views.outs-Clob body)
-        (λ r small. framed_scalar c Scalar.Clob body (payloads.Clob body) tt is_clob small)
-    payload_is _ (kept_blob body h) = by_layer (payloads.Blob body) _ (views.outs-Blob body)
-        (λ r small. framed_scalar c Scalar.Blob body (payloads.Blob body) tt is_blob small)
-    payload_is _ (kept_list vs k) =
-        by_layer (payloads.List vs) _ (views.outs-List vs) (λ r small.
+    payload_is _ (kept_string text h) = by_layer _ _ (views.outs-Str text) (λ r small. framed_scalar c Scalar.Str text _ tt (is_string h) small)
+    payload_is _ (kept_clob body h) = by_layer _ _ (views.outs-Clob body) (λ r small. framed_scalar c Scalar.Clob body _ tt is_clob small)
+    payload_is _ (kept_blob body h) = by_layer _ _ (views.outs-Blob body) (λ r small. framed_scalar c Scalar.Blob body _ tt is_blob small)
+    payload_is _ (kept_list vs k) = by_layer _ _ (views.outs-List vs) (λ r small.
         listing_is Listing.List _ vs (items_are [] [] vs nothing k r (omega (arith, framed_long 11 (flat_map (value_octets names) vs)))) small)
-    payload_is _ (kept_sexp vs k) =
-        by_layer (payloads.Sexp vs) _ (views.outs-Sexp vs) (λ r small.
+    payload_is _ (kept_sexp vs k) = by_layer _ _ (views.outs-Sexp vs) (λ r small.
         listing_is Listing.Sexp _ vs (items_are [] [] vs nothing k r (omega (arith, framed_long 12 (flat_map (value_octets names) vs)))) small)
-    payload_is _ (kept_fields ms k) =
-        by_layer (payloads.Fields ms) _ (views.outs-Fields ms)
+    payload_is _ (kept_fields ms k) = by_layer _ _ (views.outs-Fields ms)
         (λ r small. struct_is _ ms (fields_are [] [] ms grammar.no_fields k r (omega (arith, framed_long 13 (flat_map (field_octets names) ms)))) small)
 
     items_are : (us : List ℕ) (before vs : List Value) → Sequence c us before → KeptItems vs → Resolves c names (flat_map symbols_of vs)

@@ -1,6 +1,6 @@
 -- What an octet of a scalar's body or of a pad leaves stands for the octets.
 use Rattle.std.proofs.Common.{◌≡◌, ℕ, zero, suc, List, [], ◌∷◌, ◌++◌, length, refl, ap, sym, ◌∙◌, subst, arith, length-append, append_assoc}
-use Rattle.ion_binary.specs.Names.{Catalog, Decides, Form, Frame, Header, Limits, Scalar, Spot, Value, bad_body, bare, deliver, is_scalar, judge, length-one, on_body, on_pad, proceed, skipped, under}
+use Rattle.ion_binary.specs.Names.{Catalog, Decides, Form, Frame, Header, Limits, Scalar, Spot, Value, bad_body, bare, deliver, is_scalar, length-one, on_body, on_pad, proceed, skipped, under}
 use Rattle.ion_binary.specs.machine.AtOnce.{body_more, pad_more}
 use Rattle.ion_binary.specs.laws.reading.Complete.{header_some}
 use Rattle.ion_binary.specs.laws.reading.Judged.{judge_sound, scalar_flat}
@@ -22,11 +22,11 @@ module _ (g : Catalog) (l : Limits) where
       let sizes = o.sizes in
       let ends = o.ends in
       let sh = shallow g l spot.start spot.context s fs o.before o.outer in
-      let some = header_some (Form.Scalar t) o.size o.header o.head in
+      let some = header_some _ o.size o.header o.head in
       let k3 = length-append o.before o.header in
       let sp = opened_open g l spot.start spot.context s fs o.before o.outer
-      (ends_inside l spot.start fs (Form.Scalar t) o.end (length o.before) o.room (omega arith)) in
-      judged_leaves g l (u ++ b ∷ []) s spot fs (judge spot.context t (came ++ b ∷ []))
+      (ends_inside l spot.start fs _ o.end (length o.before) o.room (omega arith)) in
+      judged_leaves g l _ s spot fs _
       (λ x j. subst (λ y. Decides g l y x) (append_assoc o.before o.header (came ++ b ∷ []) ∙ sym whole)
       (bad_body spot.context spot.start o.end sp.ks t (o.before ++ o.header) (came ++ b ∷ []) x
       (record {
@@ -35,23 +35,21 @@ module _ (g : Catalog) (l : Limits) where
         n = o.size;
         parts = refl;
         outer = sp.open';
-        begins =
-            may_begin spot.context fs sp.ks (Form.Scalar t) sp.match o.admits;
+        begins = may_begin spot.context fs sp.ks (Form.Scalar t) sp.match o.admits;
         head = o.head;
         ends = omega arith;
-        reaches =
-            may_reach l spot.start spot.context fs sp.ks (Form.Scalar t) o.end sp.match o.room;
+        reaches = may_reach l spot.start spot.context fs sp.ks _ o.end sp.match o.room;
       })
       (omega arith) (omega arith) j)) (λ p j.
-      let is = judge_sound spot.context t (came ++ b ∷ []) p j in
+      let is = judge_sound spot.context t _ p j in
       let flat = scalar_flat spot.context (came ++ b ∷ []) t p is in
       let full : o.size ≡ length (came ++ b ∷ []) = omega arith in
       let here : o.end ≡ spot.used = omega arith in
       subst (λ y. Leaves g l y s (deliver (under g l) spot fs (bare p))) (sym whole)
       (deliver_stands g l spot s fs o.before (o.header ++ (came ++ b ∷ [])) (bare p) o.outer
       (plain_comes spot.context fs _ _ (is_scalar o.header (came ++ b ∷ []) t p (subst (λ n. Header (Form.Scalar t) n o.header) full o.head) is))
-      (e ∙ ap length whole) (omega arith) (ends_back l spot.start fs (Form.Scalar t) spot.used refl
-      (subst (BodyMayEnd l spot.start fs (Form.Scalar t)) here o.room)) o.admits.receives (named_struct fs (Form.Scalar t) refl o.admits.named)))
+      (e ∙ ap length whole) (omega arith) (ends_back l spot.start fs _ spot.used refl
+      (subst (BodyMayEnd l spot.start fs (Form.Scalar t)) here o.room)) o.admits.receives (named_struct fs _ refl o.admits.named)))
   body_stands spot s fs u b t (suc n) came o e =
       let one = length-one came b in
       let sizes = o.sizes in

@@ -1,5 +1,6 @@
 -- Octets that pass a test of the machine fit, in the grammar's words; for those that don't, a row of the table decides.
 use Rattle.std.proofs.Common.{◌≡◌, ℕ, ◌+◌, ◌≤◌, List, [], ◌∷◌, Result, Ok, Err, Option, Some, None, refl, sym, ◌∙◌, Bool, true, false, ◌||◌, cond, leb-true, ltb-true, eqb-true, nat_le}
+use Rattle.std.proofs.lemmas.Bool.{cond-false}
 use Rattle.ion_binary.specs.Names.{Catalog, Decides, Form, Frame, ItemTooLong, Limits, Malformed, Outcome, Payload, Reason, Spot, Value, bare, deliver, end_of, is_pad, is_wrapper, judged, misfits, nameless, or_else, stray, under, unending, unless}
 use Rattle.ion_binary.specs.machine.Frames as frames
 use Rattle.ion_binary.specs.laws.reading.Openings.{some_none}
@@ -10,18 +11,12 @@ pub ends_back : (l : Limits) (start : ℕ) (fs : List Frame) (form : Form) (to :
     → BodyMayEnd l start fs Form.Struct to
 ends_back l start [] form to i r = λ p. r i
 ends_back l start (frames.Annotated end ss ∷ fs) form to i r = r
-ends_back l start (frames.Items end x vs ∷ fs) form to i r = r
-ends_back l start (frames.Fields end ms ∷ fs) form to i r = r
-ends_back l start (frames.Named end ms name ∷ fs) form to i r = r
+ends_back l start _ form to i r = r
 
 -- a struct is no pad
 pub struct_sized : (form : Form) (n : ℕ) → IsStructOf form n → is_pad form ≡ false
 struct_sized Form.Pad n h = absurd h
-struct_sized (Form.Scalar t) n h = refl
-struct_sized (Form.Listing x) n h = refl
-struct_sized Form.Struct n h = refl
-struct_sized Form.OrderedStruct n h = refl
-struct_sized Form.Wrapper n h = refl
+struct_sized _ n h = refl
 
 -- where a reason would be given unless a test held, and none is, the test holds
 pub cond_none : (b : Bool) (x : Reason) → cond b None (Some x) ≡ None → b ≡ true
@@ -36,9 +31,7 @@ top_room false item start to h e = leb-true to (start + item) (cond_none _ _ h)
 pub misfits_ends : (l : Limits) (start : ℕ) (fs : List Frame) (form : Form) (to : ℕ) → misfits l.item start fs form to ≡ None → BodyMayEnd l start fs form to
 misfits_ends l start [] form to h = top_room (is_pad form) l.item start to h
 misfits_ends l start (frames.Annotated end ss ∷ fs) form to h = eqb-true to end (cond_none _ _ h)
-misfits_ends l start (frames.Items end x vs ∷ fs) form to h = leb-true to end (cond_none _ _ h)
-misfits_ends l start (frames.Fields end ms ∷ fs) form to h = leb-true to end (cond_none _ _ h)
-misfits_ends l start (frames.Named end ms name ∷ fs) form to h = leb-true to end (cond_none _ _ h)
+misfits_ends l start _ form to h = leb-true to _ (cond_none _ _ h)
 
 -- where a number may go on, the octets so far are within what is open
 pub unending_going : (l : Limits) (start : ℕ) (fs : List Frame) (form : Form) (used : ℕ) → unending l.item start fs form used ≡ None
@@ -52,34 +45,19 @@ or_none None b h = (refl, h)
 or_none (Some e) b h = absurd cc
 
 stray_bare : (fs : List Frame) (form : Form) → (is_pad form || is_wrapper form) ≡ true → stray fs form ≡ None → IsBare fs
-stray_bare [] form i h = tt
 stray_bare (frames.Annotated end ss ∷ fs) form i h = let k = some_none (is_pad form || is_wrapper form) Malformed h in absurd cc
-stray_bare (frames.Items end x vs ∷ fs) form i h = tt
-stray_bare (frames.Fields end ms ∷ fs) form i h = tt
-stray_bare (frames.Named end ms name ∷ fs) form i h = tt
+stray_bare _ form i h = tt
 
 -- where values may come and a form is not astray, the innermost container accepts it
 pub stray_accepts : (fs : List Frame) (form : Form) → Receives fs → stray fs form ≡ None → Accepts form fs
 stray_accepts fs Form.Pad r h = (r, stray_bare fs Form.Pad refl h)
 stray_accepts fs Form.Wrapper r h = stray_bare fs Form.Wrapper refl h
-stray_accepts fs (Form.Scalar t) r h = tt
-stray_accepts fs (Form.Listing x) r h = tt
-stray_accepts fs Form.Struct r h = tt
-stray_accepts fs Form.OrderedStruct r h = tt
+stray_accepts fs _ r h = tt
 
 -- what is no pad needs the same of a name
 pub named_struct : (fs : List Frame) (form : Form) → is_pad form ≡ false → nameless fs form ≡ None → nameless fs Form.Struct ≡ None
-named_struct [] form p h = refl
-named_struct (frames.Annotated end ss ∷ fs) form p h = refl
-named_struct (frames.Items end x vs ∷ fs) form p h = refl
-named_struct (frames.Fields end ms ∷ fs) form p h = refl
-named_struct (frames.Named end ms (Ok n) ∷ fs) form p h = refl
-named_struct (frames.Named end ms (Err e) ∷ fs) form p h = let k : cond (is_pad form) None (Some e) ≡ Some e = cond-false' (is_pad form) e p in
-    absurd (let q : Some e ≡ None = sym k ∙ h in cc)
-  where
-    cond-false' : (b : Bool) (e : Reason) → b ≡ false → cond b None (Some e) ≡ Some e
-    cond-false' true e h = absurd cc
-    cond-false' false e h = refl
+named_struct (frames.Named end ms (Err e) ∷ fs) form p h = absurd (let q : Some e ≡ None = sym (cond-false _ _ _ p) ∙ h in cc)
+named_struct _ form p h = refl
 
 module _ (g : Catalog) (l : Limits) where
   -- an outcome stands for the octets, if each reason against it decides there

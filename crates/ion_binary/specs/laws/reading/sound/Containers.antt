@@ -16,28 +16,19 @@ Comes c _ w v = Binary c w v
 
 -- a value without annotations may come in the innermost container
 pub plain_comes : (c : List Slot) (fs : List Frame) (w : List ℕ) (p : Payload) → Plain c w p → Comes c fs w (bare p)
-plain_comes c [] w p h = unannotated w p h
 plain_comes c (frames.Annotated end ss ∷ fs) w p h = h
-plain_comes c (frames.Items end x vs ∷ fs) w p h = unannotated w p h
-plain_comes c (frames.Fields end ms ∷ fs) w p h = unannotated w p h
-plain_comes c (frames.Named end ms name ∷ fs) w p h = unannotated w p h
+plain_comes c _ w p h = unannotated w p h
 
 binary_comes : (c : List Slot) (fs : List Frame) (w : List ℕ) (v : Value) → IsBare fs → Binary c w v → Comes c fs w v
-binary_comes c [] w v i h = h
 binary_comes c (frames.Annotated end ss ∷ fs) w v i h = absurd i
-binary_comes c (frames.Items end x vs ∷ fs) w v i h = h
-binary_comes c (frames.Fields end ms ∷ fs) w v i h = h
-binary_comes c (frames.Named end ms name ∷ fs) w v i h = h
+binary_comes c _ w v i h = h
 
 -- a whole struct
 struct_is : (c : List Slot) (form : Form) (n : ℕ) (h body : List ℕ) (ms : List Field) → IsStructOf form n → Header form n h → n ≡ length body → Fields c body ms
     → Plain c (h ++ body) (payloads.Fields ms)
 struct_is c Form.Struct n h body ms i d e b = is_struct h body ms (subst (λ n. Header Form.Struct n h) e d) b
 struct_is c Form.OrderedStruct n h body ms i d e b = is_ordered h body ms (subst (λ n. Header Form.OrderedStruct n h) e d) (omega arith) b
-struct_is c Form.Pad n h body ms i d e b = absurd i
-struct_is c (Form.Scalar t) n h body ms i d e b = absurd i
-struct_is c (Form.Listing x) n h body ms i d e b = absurd i
-struct_is c Form.Wrapper n h body ms i d e b = absurd i
+struct_is c _ n h body ms i d e b = absurd i
 
 -- three pieces, bracketed from the right
 pub regroup : (a b c d : List ℕ) → a ++ (b ++ c) ++ d ≡ a ++ (b ++ (c ++ d))
@@ -152,7 +143,7 @@ module _ (g : Catalog) (l : Limits) where
       let deep = i.deep in
       let whole : u ++ w ≡ i.front ++ (i.body ++ (o.id ++ w)) =
       ap (λ y. y ++ w) o.whole ∙ (append_assoc o.front o.id w ∙ (ap (λ y. y ++ (o.id ++ w)) i.whole ∙ append_assoc i.front i.body (o.id ++ w))) in
-      fields_stand spot s fs (u ++ w) end (ms ++ field_of n v ∷ []) (deliver_stands spot s fs)
+      fields_stand spot s fs _ end _ (deliver_stands spot s fs)
       (record {
         front = i.front;
         body = i.body ++ (o.id ++ w);
@@ -160,8 +151,7 @@ module _ (g : Catalog) (l : Limits) where
         whole = whole;
         box = i.box;
         kind = i.kind;
-        items =
-            one_field i.body o.id w ms o.k n v i.items o.number (sym o.named) b;
+        items = one_field i.body o.id w ms o.k n v i.items o.number (sym o.named) b;
         deep = omega arith;
         within = omega arith;
       }) e
@@ -196,7 +186,7 @@ module _ (g : Catalog) (l : Limits) where
       let i = o.inside in
       let whole : u ++ w ≡ i.front ++ (i.body ++ (o.id ++ w)) =
       ap (λ y. y ++ w) o.whole ∙ (append_assoc o.front o.id w ∙ (ap (λ y. y ++ (o.id ++ w)) i.whole ∙ append_assoc i.front i.body (o.id ++ w))) in
-      fields_stand spot s fs (u ++ w) end ms (deliver_stands spot s fs)
+      fields_stand spot s fs _ end ms (deliver_stands spot s fs)
       (record {
         front = i.front;
         body = i.body ++ (o.id ++ w);
@@ -204,8 +194,7 @@ module _ (g : Catalog) (l : Limits) where
         whole = whole;
         box = i.box;
         kind = i.kind;
-        items =
-            padded_field i.body o.id w ms o.k i.items o.number b;
+        items = padded_field i.body o.id w ms o.k i.items o.number b;
         deep = i.deep;
         within = omega arith;
       }) e
@@ -213,7 +202,6 @@ module _ (g : Catalog) (l : Limits) where
   -- no more levels are open than the limit has
   pub shallow : (start : ℕ) (c : List Slot) (s : List Value) (fs : List Frame) (u : List ℕ) → Opened g l start c s fs u → levels fs ≤ l.depth
   shallow start c s [] u o = omega arith
-  shallow start c s (frames.Items end x vs ∷ fs) u o = let d = o.deep in omega arith
-  shallow start c s (frames.Fields end ms ∷ fs) u o = let d = o.deep in omega arith
   shallow start c s (frames.Named end ms name ∷ fs) u o = let d = o.inside.deep in omega arith
   shallow start c s (frames.Annotated end ss ∷ fs) u o = shallow start c s fs o.box.before o.box.outer
+  shallow start c s _ u o = let d = o.deep in omega arith

@@ -25,22 +25,19 @@ module _ (g : Catalog) (l : Limits) where
       → Opened g l spot.start spot.context s fs u → Header form n h → spot.used ≡ length (u ++ h) → BodyMayEnd l spot.start fs form (spot.used + n)
       → Fitting fs form → (l.depth ≤ levels fs → Decides g l (u ++ h) Depth)
       → Leaves g l (u ++ h) s (open_struct (under g l) spot fs n)
-  struct_begins spot s fs u h form n i o d e r ad deepest =
-      cond_both (nat_lt (levels fs) l.depth) _ _ (Leaves g l (u ++ h) s)
+  struct_begins spot s fs u h form n i o d e r ad deepest = cond_both (nat_lt (levels fs) l.depth) _ _ (Leaves g l (u ++ h) s)
       (λ j. let deep = ltb-true (levels fs) l.depth j in
-      fields_stand g l spot s fs (u ++ h) (spot.used + n) [] (deliver_stands g l spot s fs)
+      fields_stand g l spot s fs _ _ [] (deliver_stands g l spot s fs)
       (record {
         front = u ++ h;
         body = [];
         form = form;
         whole = sym (append-nil (u ++ h));
-        box =
-            boxed spot.start spot.context s fs u h form n (spot.used + n) o d (omega arith) r ad;
+        box = boxed spot.start spot.context s fs u h form n (spot.used + n) o d (omega arith) r ad;
         kind = i;
         items = no_fields;
         deep = omega arith;
-        within =
-            omega arith;
+        within = omega arith;
       }) e)
       (λ j. deepest (ltb-false (levels fs) l.depth j))
 
@@ -104,30 +101,23 @@ module _ (g : Catalog) (l : Limits) where
           room = r;
         };
       })
-  begin_stands spot s fs u h (Form.Listing x) n o a d e r ad hr h0 =
-      cond_both (nat_lt (levels fs) l.depth) _ _ (Leaves g l (u ++ h) s)
+  begin_stands spot s fs u h (Form.Listing x) n o a d e r ad hr h0 = cond_both (nat_lt (levels fs) l.depth) _ _ (Leaves g l (u ++ h) s)
       (λ j. let deep = ltb-true (levels fs) l.depth j in
-      items_stand g l spot s fs (u ++ h) (spot.used + n) x [] (deliver_stands g l spot s fs)
+      items_stand g l spot s fs _ _ x [] (deliver_stands g l spot s fs)
       (record {
         front = u ++ h;
         body = [];
         whole = sym (append-nil (u ++ h));
-        box =
-            boxed spot.start spot.context s fs u h (Form.Listing x) n (spot.used + n) o d (omega arith) r ad;
+        box = boxed spot.start spot.context s fs u h (Form.Listing x) n (spot.used + n) o d (omega arith) r ad;
         items = nothing;
         deep = omega arith;
-        within =
-            omega arith;
+        within = omega arith;
       }) e)
-      (λ j. deep_row g l spot.context spot.start fs (Form.Listing x) n (u ++ h) hr tt (ltb-false (levels fs) l.depth j))
+      (λ j. deep_row g l spot.context spot.start fs _ n _ hr tt (ltb-false (levels fs) l.depth j))
   begin_stands spot s fs u h Form.Struct n o a d e r ad hr h0 =
       struct_begins spot s fs u h Form.Struct n tt o d e r ad (λ j. deep_row g l spot.context spot.start fs Form.Struct n (u ++ h) hr tt j)
-  begin_stands spot s fs u h Form.OrderedStruct zero o a d e r ad hr h0 = let q : Some Malformed ≡ None = h0 in absurd cc
-  begin_stands spot s fs u h Form.OrderedStruct (suc n) o a d e r ad hr h0 =
-      subst (Leaves g l (u ++ h) s) (sym (begin_ordered g l spot fs (suc n)))
-      (struct_begins spot s fs u h Form.OrderedStruct (suc n) (omega arith) o d e r ad
-      (λ j. deep_row g l spot.context spot.start fs Form.OrderedStruct (suc n) (u ++ h) hr tt j))
-  begin_stands spot s fs u h Form.Wrapper zero o a d e r ad hr h0 = let q : Some Malformed ≡ None = h0 in absurd cc
+  begin_stands spot s fs u h Form.OrderedStruct (suc n) o a d e r ad hr h0 = subst (Leaves g l (u ++ h) s) (sym (begin_ordered g l spot fs (suc n)))
+      (struct_begins spot s fs u h Form.OrderedStruct _ (omega arith) o d e r ad (λ j. deep_row g l spot.context spot.start fs Form.OrderedStruct _ _ hr tt j))
   begin_stands spot s fs u h Form.Wrapper (suc n) o a d e r ad hr h0 =
       subst (Leaves g l (u ++ h) s) (sym (begin_wrapper g l spot fs (suc n)))
       (record {
@@ -147,6 +137,7 @@ module _ (g : Catalog) (l : Limits) where
           going = omega arith;
         };
       })
+  begin_stands spot s fs u h _ _ o a d e r ad hr h0 = let q : Some Malformed ≡ None = h0 in absurd cc
 
   -- what a whole header leads to stands for the octets
   pub sized_stands : (spot : Spot) (s : List Value) (fs : List Frame) (u h : List ℕ) (form : Form) (n : ℕ) → Opened g l spot.start spot.context s fs u
@@ -154,13 +145,12 @@ module _ (g : Catalog) (l : Limits) where
       → HeaderEnds g l spot.context spot.start fs form n (u ++ h)
       → ((x : Reason) → unfit l.item spot.start fs form (length (u ++ h) + n) ≡ Some x → Decides g l (u ++ h) x)
       → Leaves g l (u ++ h) s (sized (under g l) spot fs form n)
-  sized_stands spot s fs u h form n o a d e rc hr rows =
-      unless_leaves g l (u ++ h) s _ (hollow form n) (hollow_row g l spot.context spot.start fs form n (u ++ h) hr) (λ j0.
-      unless_leaves g l (u ++ h) s (begin (under g l) spot fs form n) (unfit l.item spot.start fs form (spot.used + n))
+  sized_stands spot s fs u h form n o a d e rc hr rows = unless_leaves g l _ s _ _ (hollow_row g l spot.context spot.start fs form n _ hr) (λ j0.
+      unless_leaves g l _ s _ _
       (λ x i. rows x (ap (λ k. unfit l.item spot.start fs form (k + n)) (sym e) ∙ i)) (λ j.
       let j1 = or_none (stray fs form) (or_else (misfits l.item spot.start fs form (spot.used + n)) (nameless fs form)) j in
       let j2 = or_none (misfits l.item spot.start fs form (spot.used + n)) (nameless fs form) j1.1 in
-      begin_stands spot s fs u h form n o (a j1.0) d e (misfits_ends l spot.start fs form (spot.used + n) j2.0)
+      begin_stands spot s fs u h form n o (a j1.0) d e (misfits_ends l spot.start fs form _ j2.0)
       (record { receives = rc; fitting = j1.0; named = j2.1 }) hr j0))
 
   -- a value of one octet
@@ -219,11 +209,10 @@ module _ (g : Catalog) (l : Limits) where
   descriptor_stands spot s fs u b (Sized form Follows) i o e =
       let sp = opened_open g l spot.start spot.context s fs u o.opened o.more in
       let t = takes spot.context fs sp.ks sp.match o.receives in
-      unless_leaves g l (u ++ b ∷ []) s _ (stray fs form) (follows_stray g l spot.context spot.start fs sp.ks form u b sp.match sp.open' i) (λ j1.
-      unless_leaves g l (u ++ b ∷ []) s _ (unending l.item spot.start fs form spot.used)
+      unless_leaves g l _ s _ _ (follows_stray g l spot.context spot.start fs sp.ks form u b sp.match sp.open' i) (λ j1. unless_leaves g l _ s _ _
       (λ x q. unending_row g l spot.context spot.start fs sp.ks form u b sp.match sp.open' t i x
       (ap (λ k. unending l.item spot.start fs form k) (sym (e ∙ length-one u b)) ∙ q)) (λ j2.
-      unless_leaves g l (u ++ b ∷ []) s _ (nameless fs form) (follows_name g l spot.context spot.start fs sp.ks form u b sp.match sp.open' i) (λ j3.
+      unless_leaves g l _ s _ _ (follows_name g l spot.context spot.start fs sp.ks form u b sp.match sp.open' i) (λ j3.
       record {
         used = e;
         standing = record {
@@ -232,13 +221,11 @@ module _ (g : Catalog) (l : Limits) where
           digits = [];
           whole = refl;
           outer = o.opened;
-          accepts =
-              stray_accepts fs form o.receives j1;
+          accepts = stray_accepts fs form o.receives j1;
           admits = record { receives = o.receives; fitting = j1; named = j3 };
           more = o.more;
           head = i;
-          small =
-              none;
+          small = none;
           value = refl;
           bound = omega arith;
           going = subst (Going l spot.start fs form) e (unending_going l spot.start fs form spot.used j2);

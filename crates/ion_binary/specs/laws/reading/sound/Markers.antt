@@ -1,44 +1,18 @@
 -- What an octet of a version marker leaves stands for the octets.
 use Rattle.std.proofs.Common.{◌≡◌, ℕ, ◌+◌, ◌/◌, ◌%◌, List, [], ◌∷◌, ◌++◌, length, Result, Ok, Err, refl, ap, sym, ◌∙◌, subst, subst₂, inl, inr, arith, Bool, true, false, ◌&&◌, ◌||◌, cond, append_assoc, eqb-true, eq-eqb, ◌==◌}
 use Rattle.std.proofs.lemmas.Bool.{cond_both, eqb-false}
-use Rattle.ion_binary.specs.Names.{Catalog, Decides, Descriptor, First, Float, Follows, Form, Fourth, Frame, Known, Limits, Listing, Malformed, Mark, Marker, Opening, Pieces, Ready, Reason, Refused, Scalar, Second, Size, Sized, Slot, Spot, Third, Value, Version, anew, at, begins, body_of, descriptor_of, goes, kind, length-one, marked, no_marker, on_marker, opening_of, opens, other_marker, other_version, refuses, size, system_slots, the_marker, typed, with_octets}
+use Rattle.ion_binary.specs.Names.{Catalog, Decides, Descriptor, First, Float, Fourth, Frame, Limits, Malformed, Mark, Marker, Opening, Pieces, Ready, Reason, Second, Slot, Spot, Third, Value, Version, anew, at, begins, descriptor_of, goes, kind, length-one, marked, no_marker, on_marker, opening_of, opens, other_marker, other_version, refuses, size, system_slots, the_marker, typed}
 use Rattle.ion_symtab.specs.laws.Reasons.{either}
 use Rattle.ion_binary.specs.Deciding as deciding
+use Rattle.ion_binary.specs.laws.reading.OnlyReasons.{body_all}
 use Rattle.ion_binary.specs.laws.reading.Stands.{AtFirst, Front, IfGood, Leaves, MachineStands, MarkCame, MarkerStands, marker_front, marker_place}
 
 -- no descriptor but E0 is the marker
 
-with_marker : (t : Scalar) (z : Size) → with_octets t z ≡ Marker → ⊥
-with_marker t (Known n) =
-    let P : Opening → Type 0 = λ o. o ≡ Marker → ⊥ in
-    let sized_no : P (Sized (Form.Scalar t) (Known n)) = λ e. cc in
-    let refused_no : P (Refused Malformed) = λ e. cc in
-    either P (n == 0) _ _ refused_no sized_no
-with_marker t Follows = λ e. cc
-
-body_no_marker : (code : ℕ) (z : Size) → body_of code z ≡ Marker → ⊥
-body_no_marker code z =
-    let P : Opening → Type 0 = λ o. o ≡ Marker → ⊥ in
-    let no : (form : Form) → P (Sized form z) = λ form e. cc in
-    let refused_no : P (Refused Malformed) = λ e. cc in
-    either P (code == 2) _ _ (no (Form.Scalar Scalar.Int))
-    (either P (code == 3) _ _ (with_marker Scalar.NegativeInt z)
-    (either P (code == 5) _ _ (no (Form.Scalar Scalar.Decimal)) (either P (code == 6) _ _ (with_marker Scalar.Timestamp z)
-    (either P (code == 7) _ _ (no (Form.Scalar Scalar.Symbol))
-    (either P (code == 8) _ _ (no (Form.Scalar Scalar.Str))
-    (either P (code == 9) _ _ (no (Form.Scalar Scalar.Clob)) (either P (code == 10) _ _ (no (Form.Scalar Scalar.Blob))
-    (either P (code == 11) _ _ (no (Form.Listing Listing.List))
-    (either P (code == 12) _ _ (no (Form.Listing Listing.Sexp))
-    (either P (code == 13) _ _ (no Form.Struct) (either P (code == 14) _ _ (no Form.Wrapper) refused_no)))))))))))
-
 opens_marker : (d : Result Descriptor Reason) → opens d ≡ Marker → d ≡ Ok Descriptor.Marker
-opens_marker (Err e) h = absurd cc
 opens_marker (Ok Descriptor.Marker) h = refl
-opens_marker (Ok (Descriptor.Null k)) h = absurd cc
-opens_marker (Ok (Descriptor.Truth t)) h = absurd cc
-opens_marker (Ok (Descriptor.Pad z)) h = absurd cc
-opens_marker (Ok Descriptor.Ordered) h = absurd cc
-opens_marker (Ok (Descriptor.Body code z)) h = absurd (body_no_marker code z h)
+opens_marker (Ok (Descriptor.Body code z)) h = absurd (body_all (λ (o : Opening). o ≡ Marker → ⊥) (λ form z e. cc) (λ e. cc) code z h)
+opens_marker _ h = absurd cc
 
 -- only type code 14 with length code 0 is the marker's descriptor
 typed_marker : (t n : ℕ) → typed t n ≡ Ok Descriptor.Marker → (t ≡ 14) × (n ≡ 0)
@@ -70,8 +44,7 @@ marker_is b h =
 
 good_and : (g h : Bool) (P Q : Type 0) → (h ≡ true → P → Q) → IfGood g P → IfGood (g && h) Q
 good_and true true P Q f p = f refl p
-good_and true false P Q f p = tt
-good_and false h P Q f p = tt
+good_and _ _ P Q f p = tt
 
 good_map : (g : Bool) (P Q : Type 0) → (P → Q) → IfGood g P → IfGood g Q
 good_map true P Q f p = f p
@@ -116,12 +89,10 @@ module _ (g : Catalog) (l : Limits) where
   pub marker_stands : (spot : Spot) (s : List Value) (fs : List Frame) (u : List ℕ) (b : ℕ) (m : Mark) (good : Bool)
       → MarkerStands g l spot.start spot.context s fs m good u → spot.used ≡ length (u ++ b ∷ [])
       → Leaves g l (u ++ b ∷ []) s (on_marker spot fs m good b)
-  marker_stands spot s fs u b First good o e =
-      cond_both (b == 224) _ _ (Leaves g l (u ++ b ∷ []) s)
+  marker_stands spot s fs u b First good o e = cond_both (b == 224) _ _ (Leaves g l (u ++ b ∷ []) s)
       (λ h. record {
         used = e;
-        standing = goes_on spot.start spot.context s fs u b First Second good good o refl
-            (good_map good (o.came ≡ marker_front First) (o.came ++ b ∷ [] ≡ marker_front Second)
+        standing = goes_on spot.start spot.context s fs u b First Second good good o refl (good_map good _ _
             (λ p. ap (λ x. x ++ b ∷ []) p ∙ ap (λ x. x ∷ []) (eqb-true b 224 h))) (
               ap (λ x. x ++ b ∷ []) o.octets.0 ∙ ap (λ x. x ∷ []) (eqb-true b 224 h),
               o.octets.1,
@@ -133,16 +104,14 @@ module _ (g : Catalog) (l : Limits) where
   marker_stands spot s fs u b Second good o e =
       record {
         used = e;
-        standing = goes_on spot.start spot.context s fs u b Second Third good (good && (b == 1)) o refl
-            (good_and good (b == 1) (o.came ≡ marker_front Second) (o.came ++ b ∷ [] ≡ marker_front Third)
+        standing = goes_on spot.start spot.context s fs u b Second Third good _ o refl (good_and good _ _ _
             (λ h p. ap (λ x. x ++ b ∷ []) p ∙ ap (λ x. 224 ∷ x ∷ []) (eqb-true b 1 h)))
             (b, ap (λ x. x ++ b ∷ []) o.octets.0, ap (λ x. x && (b == 1)) o.octets.1) tt;
       }
   marker_stands spot s fs u b Third good o e =
       record {
         used = e;
-        standing = goes_on spot.start spot.context s fs u b Third Fourth good (good && (b == 0)) o refl
-            (good_and good (b == 0) (o.came ≡ marker_front Third) (o.came ++ b ∷ [] ≡ marker_front Fourth)
+        standing = goes_on spot.start spot.context s fs u b Third Fourth good _ o refl (good_and good _ _ _
             (λ h p. ap (λ x. x ++ b ∷ []) p ∙ ap (λ x. 224 ∷ 1 ∷ x ∷ []) (eqb-true b 0 h)))
             (o.octets.0, b, ap (λ x. x ++ b ∷ []) o.octets.1, ap (λ x. x && (b == 0)) o.octets.2) tt;
       }

@@ -1,7 +1,7 @@
 -- What an octet of a VarUInt leaves stands for the octets: of a length, a field's name, or annotations.
-use Rattle.std.proofs.Common.{◌≡◌, ℕ, ◌+◌, ◌-◌, ◌*◌, ◌^◌, ◌<◌, ◌≤◌, List, [], ◌∷◌, ◌++◌, length, Result, Ok, Err, Option, None, refl, ap, sym, ◌∙◌, subst, arith, length-append, Bool, true, false, cond, append_assoc, append-nil, leb-true, ltb-true, ltb-false, eqb-true, nat_lt, ◌==◌}
-use Rattle.std.proofs.lemmas.Bool.{cond_both, eqb-false, leb-false}
-use Rattle.ion_binary.specs.Names.{Catalog, Digits128, EndsNumber, Frame, Ids, Limits, Purpose, Reason, Slot, Spot, Value, VarUInt, annotation_came, at, is_last, length-one, long, longer, more, no_ids, none, number_came, on_number, one_id, past, positional, positional_push, resolve, seven_bits, sized, under}
+use Rattle.std.proofs.Common.{◌≡◌, ℕ, ◌+◌, ◌-◌, ◌*◌, ◌^◌, ◌<◌, ◌≤◌, List, [], ◌∷◌, ◌++◌, length, Result, Ok, Err, Option, None, refl, ap, sym, ◌∙◌, subst, arith, length-append, append_assoc, append-nil, ltb-true, ltb-false, eqb-true, nat_lt, ◌==◌}
+use Rattle.std.proofs.lemmas.Bool.{cond_both, eqb-false, cond-true, cond-false, lt-leb, le-leb}
+use Rattle.ion_binary.specs.Names.{Catalog, Digits128, EndsNumber, Frame, Ids, Limits, Purpose, Reason, Slot, Spot, Value, VarUInt, annotation_came, at, length-one, long, longer, more, no_ids, none, number_came, on_number, one_id, past, positional, positional_push, resolve, seven_bits, sized, under}
 use Rattle.ion_binary.specs.Deciding as deciding
 use Rattle.ion_binary.specs.machine.Frames as frames
 use Rattle.ion_binary.specs.laws.reading.Openings.{Numbered, numbered}
@@ -18,18 +18,10 @@ ended ds a b s v h m =
     record { digits = ds; last = b - 128; small = s; octets = ap (λ x. ds ++ x ∷ []) (omega arith); value = omega arith; bound = m }
 
 seven_small : (b : ℕ) → b < 128 → seven_bits b ≡ b
-seven_small b h = by (is_last b) refl
-  where
-    by : (x : Bool) → is_last b ≡ x → seven_bits b ≡ b
-    by true i = absurd (let k = leb-true 128 b i in omega arith)
-    by false i = ap (λ x. cond x (b - 128) b) i
+seven_small b h = cond-false _ _ _ (lt-leb 128 b h)
 
 seven_large : (b : ℕ) → 128 ≤ b → seven_bits b ≡ b - 128
-seven_large b h = by (is_last b) refl
-  where
-    by : (x : Bool) → is_last b ≡ x → seven_bits b ≡ b - 128
-    by true i = ap (λ x. cond x (b - 128) b) i
-    by false i = absurd (let k = leb-false 128 b i in omega arith)
+seven_large b h = cond-true _ _ _ (le-leb 128 b h)
 
 module _ (g : Catalog) (l : Limits) where
   -- a VarUInt goes on
@@ -280,11 +272,10 @@ module _ (g : Catalog) (l : Limits) where
       (λ k. goes_stands spot s fs u p a b o w (ltb-true b 128 j) (ltb-true (128 * a + b) (2 ^ 63) k) e)
       (λ k. let i = ltb-false (128 * a + b) (2 ^ 63) k in let q = seven_small b (ltb-true b 128 j) in
       deciding.too_large spot.context spot.start w.ks w.q a u b w.inside (omega arith)))
-      (λ j. cond_both (nat_lt (128 * a + (b - 128)) (2 ^ 63)) _ _ (Leaves g l (u ++ b ∷ []) s)
-      (λ k.
+      (λ j. cond_both (nat_lt (128 * a + (b - 128)) (2 ^ 63)) _ _ (Leaves g l (u ++ b ∷ []) s) (λ k.
       let i = ltb-true (128 * a + (b - 128)) (2 ^ 63) k in
       let h = ltb-false b 128 j in
-      came_stands spot s fs u p a b (128 * a + (b - 128)) o w
+      came_stands spot s fs u p a b _ o w
       (record { before = u; digits = a; last = b - 128; parts = ap (λ x. u ++ x ∷ []) (omega arith); inside = w.inside; value = refl; bound = i })
       (λ ds t v. ended ds a b t v h i) e)
       (λ k. let i = ltb-false (128 * a + (b - 128)) (2 ^ 63) k in let q = seven_large b (ltb-false b 128 j) in
