@@ -19,6 +19,6 @@ unfoldable pub use Rattle.ion_scalar.specs.binary.TimestampSpellings.{timestamp_
 pub use Rattle.ion_scalar.specs.declared.backward.TheConstants.{ROOM}
 pub use Rattle.ion_scalar.specs.text.Decimals.{IsDecimalBody, IsEnd, IsExponent, IsFraction, IsLetter, IsPlain, IsPower, IsSigned, IsTail, Shows, signed}
 pub use Rattle.ion_scalar.specs.text.Ints.{BeginsWithMinus, BeginsWithNone, GoesNotOn, HasBase, IsDigits, IsMagnitude, IsRadix, IsWholePart, continued, digits_in, number}
-pub use Rattle.ion_scalar.specs.text.Numbers.{Fits, IsBehind, IsFloat, IsFloatBody, IsNumber, IsNumeral, IsThere, ReadsBehind, ReadsNumber, ReadsNumeral, ReadsTimestamp, decimal_read}
+pub use Rattle.ion_scalar.specs.text.Numbers.{Fits, HasParts, IsBehind, IsFloat, IsFloatBody, IsNumber, IsNumeral, IsThere, ReadsBehind, ReadsNumber, ReadsNumeral, ReadsTimestamp, decimal_read}
 pub use Rattle.ion_scalar.specs.text.Texts.{number_text}
 pub use Rattle.ion_scalar.specs.text.Timestamps.{AreFourAt, AreTwoAt, BeginsWithDay, BeginsWithMinute, BeginsWithMonth, BeginsWithSecond, IsAt, IsDay, IsDigitAt, IsFractionEnd, IsMonth, IsOffsetToken, IsShort, IsTimestampToken, IsYear, dated, day, four, fraction, minute, minute_read, month, offset_minutes, offset_read, read_precision, second, stamp, timed, two, year}

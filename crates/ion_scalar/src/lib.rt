@@ -25,6 +25,7 @@ pub use fields::{Signed, int_of, is_uint, read_var_int, read_var_uint, uint_of};
 pub use ints::split_sign;
 pub use number::{Number, number_of};
 pub use put::{put_decimal, put_int, put_uint, put_var_int, put_var_uint};
+pub use short_number::{ShortNumber, short_number_of};
 pub use text::put_number;
 pub use timestamp_body::timestamp_of;
 pub use timestamp_usual::is_timestamp_body;

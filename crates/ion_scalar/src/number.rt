@@ -6,7 +6,7 @@ ghost use Rattle.ion_scalar.specs.declared.number.Number.TheVariants as numbers;
 use crate::decimals::{Tail, power, tail_of, whole_of};
 use crate::digits::all_digits;
 use crate::ints::split_sign;
-use crate::short_number::short_number;
+use crate::short_number::short_number_of;
 use crate::timestamps::{is_short, stamp_of};
 use crate::usual_token::{rare_timestamp, usual_timestamp};
 use ion_atoms::{Decimal, Reason, Timestamp, Whole};
@@ -42,7 +42,15 @@ fn answer_of(token: &[u8]) -> Result<Number, Reason>
     if token.len() > 4 && (token[4] == b'-' || token[4] == b'T') {
         return dated_answer(token);
     }
-    match short_number(token) {
+    let Some(short) = short_number_of(token) else {
+        return unusual_answer(token);
+    };
+    let number = if short.is_decimal {
+        short.decimal()
+    } else {
+        short.int()
+    };
+    match number {
         Some(number) => Ok(number),
         None => unusual_answer(token),
     }

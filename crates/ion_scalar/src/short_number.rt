@@ -2,7 +2,7 @@
 //! are added up in 64 bits. What is longer or has another form isn't told of here.
 ghost use Rattle.std.specs.Prelude.{◌≡◌, ◌<◌, ◌≤◌, ◌+◌, ◌*◌, ◌^◌, ◌-ℤ◌, pos, length, take, false, IfSome, Ok};
 ghost use Rattle.std.specs.Char.{digit_value};
-ghost use Rattle.ion_scalar.specs.Names.{Fits, IsDigits, IsExponent, IsMagnitude, IsPlain, IsSigned, IsWholePart, ReadsBehind, ReadsNumeral, decimal_read, number, signed};
+ghost use Rattle.ion_scalar.specs.Names.{Fits, HasParts, Number as AnyNumber, IsDigits, IsExponent, IsMagnitude, IsPlain, IsSigned, IsWholePart, ReadsBehind, ReadsNumber, decimal_read, number, signed};
 ghost use Rattle.ion_scalar.specs.declared.number.Number.TheVariants as numbers;
 ghost use Rattle.ion_scalar.specs.text.laws.DigitRuns.{Place};
 ghost use Rattle.ion_scalar.specs.text.laws.ShortNumbers.{IsScaled, MarkedRun, PlainRun};
@@ -30,26 +30,70 @@ pub struct PlainDigits {
     pub used: usize,
 }
 
-/// The int or decimal that a whole token spells, if it has at most 19 octets behind the sign. Not
-/// told are ints of base two, those of base sixteen with `_` or more than 16 digits, and decimals
-/// with `_` or more than 9 digits of an exponent.
+/// An int or decimal by its parts.
+#[derive(Clone, Copy)]
+pub struct ShortNumber {
+    pub negative: bool,
+    /// The number of its digits.
+    pub magnitude: u64,
+    pub is_decimal: bool,
+    /// That of a decimal; of an int it counts for nothing.
+    pub exponent: i32,
+}
+
+impl ShortNumber {
+    /// The int that it is; `None` of a decimal. Takes no memory.
+    #[inline(always)]
+    pub fn int(self) -> Option<Number>
+        ensures { IfSome result (HasParts self) }
+    {
+        if self.is_decimal {
+            return None;
+        }
+        let magnitude = i128::from(self.magnitude);
+        match Whole::new(if self.negative { -magnitude } else { magnitude }) {
+            Some(whole) => Some(Number::Int(whole)),
+            None => None,
+        }
+    }
+
+    /// The decimal that it is; `None` of an int. Takes no memory.
+    #[inline(always)]
+    pub fn decimal(self) -> Option<Number>
+        ensures { IfSome result (HasParts self) }
+    {
+        if !self.is_decimal {
+            return None;
+        }
+        match Decimal::new(self.negative, u128::from(self.magnitude), self.exponent) {
+            Some(decimal) => Some(Number::Decimal(decimal)),
+            None => None,
+        }
+    }
+}
+
+/// The parts of the int or decimal that a whole token spells, if it has at most 19 octets behind the
+/// sign. Not told are ints of base two, those of base sixteen with `_` or more than 16 digits, and
+/// decimals with `_` or more than 9 digits of an exponent.
 #[inline(always)]
-pub fn short_number(token: &[u8]) -> Option<Number>
-    ensures { IfSome result (λ x. ReadsNumeral token.now (Ok x)) }
+pub fn short_number_of(token: &[u8]) -> Option<ShortNumber>
+    ensures { IfSome result (λ short. (x : AnyNumber) → HasParts short x →
+        ReadsNumber token.now (Ok x)) }
 {
     let (negative, body) = split_sign(token);
     short_body(negative, body)
 }
 
 #[inline(always)]
-fn short_body(negative: bool, body: &[u8]) -> Option<Number>
-    ensures { IfSome result (λ x. ReadsBehind negative body.now (Ok x)) }
+fn short_body(negative: bool, body: &[u8]) -> Option<ShortNumber>
+    ensures { IfSome result (λ short. (x : AnyNumber) → HasParts short x →
+        ReadsBehind negative body.now (Ok x)) }
 {
     let Some(whole) = short_whole(body) else {
         return None;
     };
     if whole.used == body.len() {
-        return short_int(negative, whole.value);
+        return Some(short_int(negative, whole.value));
     }
     if body[whole.used] != b'.' {
         return rare_body(negative, body, whole);
@@ -60,7 +104,35 @@ fn short_body(negative: bool, body: &[u8]) -> Option<Number>
         let end = &behind[fraction.used..];
         return scaled_decimal(negative, fraction.value, fraction.used, end);
     }
-    short_decimal(negative, fraction.value, fraction.used)
+    Some(short_decimal(negative, fraction.value, fraction.used))
+}
+
+#[inline(always)]
+fn short_int(negative: bool, magnitude: u64) -> ShortNumber
+    ensures { (x : AnyNumber) → HasParts result x →
+        (x ≡ numbers.Int (signed negative magnitude)) × Fits x }
+{
+    ShortNumber {
+        negative,
+        magnitude,
+        is_decimal: false,
+        exponent: 0,
+    }
+}
+
+// The decimal of a coefficient with so many fraction digits.
+#[inline(always)]
+fn short_decimal(negative: bool, magnitude: u64, count: usize) -> ShortNumber
+    requires { count < 20 }
+    ensures { (x : AnyNumber) → HasParts result x →
+        (x ≡ decimal_read negative magnitude false 0 count) × Fits x }
+{
+    ShortNumber {
+        negative,
+        magnitude,
+        is_decimal: true,
+        exponent: -(count as i32),
+    }
 }
 
 /// The digits at the front of at most 19 octets, if they are a whole part.
@@ -83,20 +155,20 @@ fn short_whole(body: &[u8]) -> Option<PlainDigits>
     Some(whole)
 }
 
-// What has something else than a point behind its first digits. What is rare is left to functions
-// of their own, which hand out numbers that registers hold, so that usual numbers stay in them.
+// What has something else than a point behind its first digits.
 #[inline(always)]
-fn rare_body(negative: bool, body: &[u8], whole: PlainDigits) -> Option<Number>
+fn rare_body(negative: bool, body: &[u8], whole: PlainDigits) -> Option<ShortNumber>
     requires run { PlainRun body.now 0 whole.used whole.value }
     requires whole { IsWholePart (take whole.used body.now) }
     requires more { whole.used < length body.now }
     requires few { length body.now ≤ 19 }
-    ensures { IfSome result (λ x. ReadsBehind negative body.now (Ok x)) }
+    ensures { IfSome result (λ short. (x : AnyNumber) → HasParts short x →
+        ReadsBehind negative body.now (Ok x)) }
 {
     match body[whole.used] {
         b'd' | b'D' => scaled_decimal(negative, whole.value, 0, &body[whole.used..]),
         _ => match rare_magnitude(body, whole) {
-            Some(magnitude) => short_int(negative, magnitude),
+            Some(magnitude) => Some(short_int(negative, magnitude)),
             None => None,
         },
     }
@@ -121,44 +193,28 @@ pub fn plain_digits(octets: &[u8], before: u64) -> PlainDigits
     PlainDigits { value, used }
 }
 
-#[inline(always)]
-fn short_int(negative: bool, magnitude: u64) -> Option<Number>
-    ensures { IfSome result (λ x. (x ≡ numbers.Int (signed negative magnitude)) × Fits x) }
-{
-    let value = i128::from(magnitude);
-    match Whole::new(if negative { -value } else { value }) {
-        Some(whole) => Some(Number::Int(whole)),
-        None => None,
-    }
-}
-
-// The decimal of a coefficient with so many fraction digits.
-#[inline(always)]
-fn short_decimal(negative: bool, magnitude: u64, count: usize) -> Option<Number>
-    requires { count < 20 }
-    ensures { IfSome result (λ x. (x ≡ decimal_read negative magnitude false 0 count) × Fits x) }
-{
-    match Decimal::new(negative, u128::from(magnitude), -(count as i32)) {
-        Some(decimal) => Some(Number::Decimal(decimal)),
-        None => None,
-    }
-}
-
 // The decimal of a coefficient with so many fraction digits, and of the exponent that all of the
 // octets behind them are.
 #[inline(always)]
-fn scaled_decimal(negative: bool, magnitude: u64, count: usize, octets: &[u8]) -> Option<Number>
+fn scaled_decimal(
+    negative: bool,
+    magnitude: u64,
+    count: usize,
+    octets: &[u8],
+) -> Option<ShortNumber>
     requires { count < 20 }
-    ensures { IfSome result (IsScaled negative magnitude count octets.now) }
+    ensures { IfSome result (λ short. (x : AnyNumber) → HasParts short x →
+        IsScaled negative magnitude count octets.now x) }
 {
     let Some((below, written)) = short_exponent(octets) else {
         return None;
     };
-    let exponent = less_fraction(below, written, count);
-    match Decimal::new(negative, u128::from(magnitude), exponent) {
-        Some(decimal) => Some(Number::Decimal(decimal)),
-        None => None,
-    }
+    Some(ShortNumber {
+        negative,
+        magnitude,
+        is_decimal: true,
+        exponent: less_fraction(below, written, count),
+    })
 }
 
 /// A written exponent less the number of fraction digits.

@@ -3,7 +3,7 @@ use Rattle.std.proofs.Common.{◌≡◌, List, [], ◌∷◌, ◌++◌, reverse,
 use Rattle.std.specs.Prelude.{◌<◌, IsSome}
 use Rattle.std.specs.Option.{option_to_list}
 use Rattle.std.proofs.lemmas.List.{reverse-append}
-use Rattle.ion_text.specs.Names.{AreAround, AreOpen, Bracket, Does, DoesAlone, Enters, Event, Frame, Goes, Hears, Holds, Listing, MayClose, Now, Reason, Setting, Spot, Symbols, TableFilter, Tells, TextWalk, Turned, Value, WasTold, WentOn, annotated, annotation, at, behind_comma, bracket_of, brackets_of, calm, closed, closes_in, ended, events_of, first_now, goes, has_notes, heard, is_same, name, named, on_comma, open_brackets, opened, opens, told, unexpected}
+use Rattle.ion_text.specs.Names.{AreAround, AreOpen, Bracket, Does, DoesAlone, Enters, Event, Frame, Goes, Hears, Holds, Listing, MayClose, Now, Reason, Setting, Spot, Symbols, TableFilter, Tells, TextWalk, Turned, Value, WasTold, WentOn, annotated, annotation, at, behind_comma, bracket_of, brackets_of, calm, closed, closes_in, ended, events_of, first_now, goes, has_notes, heard, is_same, name, named, on_comma, open_brackets, opened, opens, told}
 use Rattle.ion_model.specs.declared.value.Payload.TheVariants as payloads
 use Rattle.ion_visiting.specs.Events.{closes}
 use Rattle.ion_text.specs.walk.Holds.{told_in}
@@ -247,14 +247,3 @@ comma_goes r new s behind is stage fs h =
         let now : Now.Name ≡ s = ap (now_in s) e in
         subst (λ n. DoesAlone (told (Frame.Fields ss ms ∷ fs) []) (on_comma r.start r.context (Frame.Fields ss ms ∷ fs)) (Ok Goes) (staged r n)) now
         (Frame.Fields ss ms ∷ fs, [], refl, (record { frames = h.0.frames; notes = h.0.notes; open_there = o }, h.1), refl)
-
-pub comma_refused : (r : TextWalk) → behind_comma (open_brackets r) ≡ None → r.stage ≡ Now.After
-    → (fs : List Frame) → Holds r fs [] → on_comma r.start r.context fs ≡ unexpected
-comma_refused r none stage fs h = by fs (subst (λ n. AreOpen fs [] (calm n)) stage h.0.open_there) (ap behind_comma (sym h.0.frames) ∙ none)
-  where
-    by : (fs : List Frame) → AreOpen fs [] Now.After → behind_comma (brackets_of fs) ≡ None → on_comma r.start r.context fs ≡ unexpected
-    by [] o e = absurd o
-    by (Frame.Items Listing.Sexp ss vs ∷ fs) o e = absurd o
-    by (Frame.Named ss ms t ∷ fs) o e = absurd o
-    by (Frame.Items Listing.List ss vs ∷ fs) o e = absurd cc
-    by (Frame.Fields ss ms ∷ fs) o e = absurd cc

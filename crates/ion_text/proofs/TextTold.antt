@@ -1,15 +1,12 @@
 -- What the visitor that writes text has written of events is the text of the values that they are told of.
-use Rattle.std.proofs.Common.{◌≡◌, ℕ, ◌<◌, zero, suc, List, [], ◌∷◌, ◌++◌, map, length, take, false, Option, Some, None, refl, ap, sym, subst, ◌∙◌, append_assoc, append-nil, arith}
-use Rattle.std.specs.Prelude.{codes, option_to_list, ⊤}
+use Rattle.std.proofs.Common.{◌≡◌, ℕ, ◌<◌, zero, suc, List, [], ◌∷◌, ◌++◌, map, length, Option, Some, None, refl, ap, sym, ◌∙◌, append_assoc, append-nil, arith}
+use Rattle.std.specs.Prelude.{codes, ⊤}
 use Rattle.std.specs.List.{flat_map}
-use Rattle.std.proofs.lemmas.List.{take_all, take_at}
-use Rattle.ion_text.specs.Names.{AreKept, AreKeptEvents, Bracket, Built, Event, Field, IsKept, Layer, Led, Payload, Payload-F, Value, Writes, Written, adds, annotation, between, bracket_close, depth, enclosed, events_of, field_events, field_text, front, greatest, layer_depth, layer_events, layer_text, lines, name, no_text, notes_text, octet_between, open_octet, opens, part, stream_events, symbol_text, text_of, value_text, with_begun, with_close, with_item, with_open, wrote}
+use Rattle.std.proofs.lemmas.List.{take_all}
+use Rattle.ion_text.specs.Names.{AreKept, AreKeptEvents, Bracket, Event, Field, IsKept, Layer, Led, Payload, Payload-F, Value, Writes, Written, adds, annotation, between, bracket_close, depth, enclosed, events_of, field_events, field_text, front, greatest, layer_depth, layer_events, layer_text, lines, no_text, notes_text, octet_between, open_octet, part, stream_events, symbol_text, text_of, value_text, with_begun, with_close, with_item, with_open, wrote}
 use Rattle.ion_model.specs.declared.value.Payload.TheViews as views
 use Rattle.ion_model.specs.laws.Measures.{depth-out}
-use Rattle.ion_visiting.specs.Building.{fresh}
 use Rattle.ion_visiting.specs.Events.{closes, ended, within}
-use Rattle.ion_visiting.specs.declared.building.Open.{Open}
-use Rattle.ion_visiting.specs.laws.Built.{Awaits, is_end, value_awaited}
 use Rattle.ion_visiting.specs.laws.KeptEvents as kept_events
 use Rattle.ion_visiting.specs.laws.Led.{events_out}
 use Rattle.ion_text.specs.laws.writing.Output.{text-out}

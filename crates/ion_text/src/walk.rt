@@ -230,6 +230,7 @@ impl TextWalk<'_> {
     }
 
     /// The same of a number.
+    #[inline(always)]
     fn whole_number<V: Visitor>(
         &mut self,
         number: Number,

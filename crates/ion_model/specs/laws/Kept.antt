@@ -1,6 +1,5 @@
 -- Values that are kept, behind values that are; and by levels.
-use Rattle.std.proofs.Common.{◌≡◌, ℕ, ◌+◌, ◌<◌, List, [], ◌∷◌, ◌++◌, length, drop, get_or, Option, sym, subst, arith}
-use Rattle.std.proofs.lemmas.List.{drop_more}
+use Rattle.std.proofs.Common.{ℕ, List, [], ◌∷◌, ◌++◌, Option, subst}
 use Rattle.ion_model.specs.Names.{AreTexts, Field, IsText, Layer, Payload-F, Value, field_of, out-Payload, roll-out-Payload}
 use Rattle.ion_model.specs.Kept.{AreKept, IsKept, KeptFields, KeptItems, KeptLayer, KeptPayload, a_field, an_item, kept, kept_blob, kept_clob, kept_decimal, kept_fields, kept_int, kept_list, kept_null, kept_sexp, kept_string, kept_symbol, kept_timestamp, kept_truth, no_fields, no_items}
 use Rattle.ion_model.specs.declared.value.Payload.TheViews.{roll-Payload}

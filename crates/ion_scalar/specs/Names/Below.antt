@@ -19,5 +19,6 @@ pub use Rattle.ion_scalar.specs.declared.descriptor.Descriptor.TheVariants.{Body
 pub use Rattle.ion_scalar.specs.declared.descriptor.Size.TheVariants.{Follows, Known}
 pub use Rattle.ion_scalar.specs.declared.fields.Signed.{Signed}
 pub use Rattle.ion_scalar.specs.declared.number.Number.{Number}
+pub use Rattle.ion_scalar.specs.declared.short_number.ShortNumber.{ShortNumber}
 pub use Rattle.ion_scalar.specs.declared.timestamp_body.Utc.{Utc}
 pub use Rattle.ion_scalar.specs.declared.timestamps.Stamp.{Stamp}

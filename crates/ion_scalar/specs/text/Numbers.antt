@@ -1,6 +1,6 @@
 -- Number tokens: which octets spell which number, and what each answer of reading one says.
-use Rattle.std.specs.Prelude.{ℕ, ℤ, ◌≡◌, Bool, true, false, List, ◌++◌, pos, ◌-ℤ◌, Result, Ok, Err}
-use Rattle.ion_scalar.specs.Names.Below.{Float, IsDecimal, IsTimestamp, IsWhole, Malformed, Number, Reason, TimestampParts, TooLarge, minus}
+use Rattle.std.specs.Prelude.{ℕ, ℤ, ◌≡◌, Bool, true, false, List, ◌++◌, pos, ◌-ℤ◌, Result, Ok, Err, if◌then◌else◌}
+use Rattle.ion_scalar.specs.Names.Below.{Float, IsDecimal, IsTimestamp, IsWhole, Malformed, Number, Reason, ShortNumber, TimestampParts, TooLarge, minus}
 use Rattle.ion_scalar.specs.text.Decimals.{IsDecimalBody, signed}
 use Rattle.ion_scalar.specs.text.Ints.{IsMagnitude}
 use Rattle.ion_scalar.specs.text.Timestamps.{IsShort, IsTimestampToken}
@@ -27,6 +27,12 @@ Fits (Number.Timestamp t) = IsShort t.precision
 abbrev pub decimal_read : Bool → ℕ → Bool → ℕ → ℕ → Number
 decimal_read negative magnitude below written count = Number.Decimal
     (record { negative = negative; magnitude = magnitude; exponent = signed below written -ℤ pos count })
+
+-- a number of these parts, within the bounds
+abbrev pub HasParts : ShortNumber → Number → Type 0
+HasParts short x = (x ≡ (if short.is_decimal
+    then Number.Decimal (record { negative = short.negative; magnitude = short.magnitude; exponent = short.exponent })
+    else Number.Int (signed short.negative short.magnitude))) × Fits x
 
 -- what an answer says of the octets behind a sign: a number, one that is too large, a float, or neither
 abbrev pub ReadsBehind : Bool → List ℕ → Result Number Reason → Type 0

@@ -18,7 +18,8 @@ pub use Rattle.ion_model.specs.declared.value.Payload.TheOpen.{Payload-F}
 pub use Rattle.ion_model.specs.declared.value.Payload.TheViews.{out-Payload}
 pub use Rattle.ion_model.specs.declared.value.Value.{Value}
 pub use Rattle.ion_scalar.specs.declared.number.Number.{Number}
-pub use Rattle.ion_scalar.specs.text.Numbers.{ReadsNumber}
+pub use Rattle.ion_scalar.specs.declared.short_number.ShortNumber.{ShortNumber}
+pub use Rattle.ion_scalar.specs.text.Numbers.{HasParts, ReadsNumber}
 pub use Rattle.ion_scalar.specs.text.Reading.{number_reads}
 unfoldable pub use Rattle.ion_scalar.specs.text.Reading.{number_read}
 pub use Rattle.ion_scalar.specs.text.Texts.{number_text}

@@ -1,13 +1,13 @@
 //! Tokens at the front of octets that are a value or a field's name, with what they say. Of a token
 //! that isn't whole, isn't plain or may be a symbol's id nothing is found.
 ghost use Rattle.std.specs.Prelude.{◌≡◌, ◌<◌, false, true, length, take, IfSome, Ok, Some};
-ghost use Rattle.ion_text.specs.Names.{BeginsName, FoundNumber, FoundPart, FoundSymbol, IsFound, IsFree, IsValue, Number', Rest, held_payload, held_word, is_name, payload_of, said};
+ghost use Rattle.ion_text.specs.Names.{BeginsName, FoundNumber, FoundPart, FoundSymbol, HasParts, IsFound, IsFree, IsValue, Number as AnyNumber, Number', Rest, held_payload, held_word, is_name, payload_of, said};
 ghost use Rattle.ion_tokens.specs.Bodies.{content};
 
 use super::symbols::plain_text;
 use crate::words::{is_keyword, may_be_keyword};
 use ion_model::Kind;
-use ion_scalar::{Number, number_of};
+use ion_scalar::{Number, ShortNumber, number_of, short_number_of};
 use ion_tokens::{
     Body, FoundToken, Place, TokenKind, number, operator, quoted_symbol, short_string, typed_null,
     word,
@@ -138,6 +138,29 @@ pub(crate) fn string_at(octets: &[u8]) -> Option<(Scalar, Part<'_>)>
         scalar,
         Part::Str(unsafe { str::from_utf8_unchecked(content) }),
     ))
+}
+
+/// The int or decimal there by its parts, if 64 bits hold its digits; the octet behind it shows its
+/// end.
+#[inline(always)]
+pub(crate) fn short_number_at(octets: &[u8]) -> Option<(FoundToken, ShortNumber)>
+    ensures found { IfSome result (λ found. (x : AnyNumber) → HasParts found.1 x →
+        (here : Place) (rest : Rest) → is_name here ≡ false →
+        FoundNumber here rest octets.now found.0 x) }
+    ensures left { IfSome result (λ found. found.0.left ≡ true) }
+    ensures within { IfSome result (λ found. found.0.count < length octets.now) }
+{
+    let count = number(octets)?;
+    if count >= octets.len() {
+        return None;
+    }
+    let short = short_number_of(&octets[..count])?;
+    let token = FoundToken {
+        kind: TokenKind::Number,
+        count,
+        left: true,
+    };
+    Some((token, short))
 }
 
 /// The number there, whose end the octet behind it shows.

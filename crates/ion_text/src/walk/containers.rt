@@ -1,5 +1,5 @@
 //! Containers: where they open, where they close, and what stands between their values.
-ghost use Rattle.std.specs.Prelude.{◌≡◌, [], List, OnOk, IfErr};
+ghost use Rattle.std.specs.Prelude.{option_map, if◌then◌else◌, ◌≡◌, [], List, OnOk, IfErr};
 ghost use Rattle.ion_text.specs.Names.{Does, DoesAlone, Enters, Frame, Holds, MayClose, Memory, SameSetting, Symbols, behind_comma, calm, closed, closes_in, first_now, named, on_comma, open_brackets, opening, setting_of, spot_of, told};
 ghost use Rattle.ion_text.specs.declared.state.Now.TheVariants as nows;
 
@@ -72,14 +72,16 @@ impl TextWalk<'_> {
         }
     }
 
-    // What may come behind a comma, where one may stand behind a value.
+    // Whether a field's name may come behind a comma, where one may stand behind a value; else an
+    // element may.
     #[inline(always)]
-    fn behind_comma(&self) -> Option<Now>
-        ensures { result ≡ behind_comma (open_brackets self.now) }
+    fn names_behind_comma(&self) -> Option<bool>
+        ensures { behind_comma (open_brackets self.now)
+            ≡ option_map (λ names. if names then nows.Name else nows.Ready) result }
     {
         match self.frames.last() {
-            Some(Bracket::List) => Some(Now::Ready),
-            Some(Bracket::Fields) => Some(Now::Name),
+            Some(Bracket::List) => Some(false),
+            Some(Bracket::Fields) => Some(true),
             _ => None,
         }
     }
@@ -116,13 +118,15 @@ impl TextWalk<'_> {
             result self.new }
         ensures setting { SameSetting self.old self.new }
     {
-        match self.behind_comma() {
-            None => Err(Reason::Unexpected),
-            Some(stage) => {
-                self.set_stage(stage);
-                Ok(Effect::Goes)
-            }
+        let Some(names) = self.names_behind_comma() else {
+            return Err(Reason::Unexpected);
+        };
+        if names {
+            self.set_stage(Now::Name);
+            return Ok(Effect::Goes);
         }
+        self.set_stage(Now::Ready);
+        Ok(Effect::Goes)
     }
 
     /// Behind the colon of a field of this name.

@@ -8,7 +8,7 @@
 #![tactic(auto)]
 
 ghost use Rattle.std.specs.Prelude.{◌≡◌, ℕ, ◌+◌, ◌-◌, ◌<◌, ◌≤◌, ◌^◌, List, [], ◌∷◌, ◌++◌, length, get_or, take, drop, false, true, Some, IfOk, IfErr, IfSome, OnOk};
-ghost use Rattle.ion_text.specs.Names.{BeginsName, Does, EndsBy, FoundPart, FoundSymbol, Frame, Holds, IsFine, IsHere, IsStill, MayClose, Memory, OpensAt, Place as AnyPlace, Rest as AnyRest, RestsBehind, SamePlace, SameReader, SameSetting, StaysSteady, Symbols, Takes, TookSo, WentOn, begun_at, calm, close_octet, closes, ends_symbol, is_null_struct, is_top, named, names_table, only_goes, past_blank, past_token, payload_of, resting, scanned, told, value_took};
+ghost use Rattle.ion_text.specs.Names.{BeginsName, Does, EndsBy, FoundNumber, FoundPart, FoundSymbol, Frame, Holds, IsFine, IsHere, IsStill, MayClose, Memory, OpensAt, Place as AnyPlace, Rest as AnyRest, RestsBehind, SamePlace, SameReader, SameSetting, StaysSteady, Symbols, Takes, TookSo, WentOn, begun_at, calm, close_octet, closes, ends_symbol, is_name, is_null_struct, is_top, named, names_table, only_goes, past_blank, past_token, payload_of, resting, scanned, told, value_took};
 ghost use Rattle.ion_tokens.specs.declared.mode.Place.TheVariants as places;
 ghost use Rattle.ion_text.specs.declared.state.Now.TheVariants as nows;
 
@@ -18,11 +18,12 @@ use crate::state::{Effect, Now, Taken};
 use crate::tokens::annotations::{Note, note_at};
 use crate::tokens::finders::{
     Scalar, begins_number, begins_symbol, may_be_rare, number_at, operator_at, other_symbol_at,
-    plain_name, string_at, word_at,
+    plain_name, short_number_at, string_at, word_at,
 };
 use crate::tokens::marks::{bracket_at, close_mark, open_mark};
 use crate::tokens::symbols::{behind_name, behind_waiting};
 use ion_model::{Kind, Reason};
+use ion_scalar::Number;
 use ion_tokens::{FoundToken, Mark, Place, Rest, TokenKind, blank_with_comments, blanks};
 use ion_visiting::{Bracket, Part, Visitor};
 
@@ -465,7 +466,8 @@ impl TextWalk<'_> {
         )
     }
 
-    /// A number, which is told.
+    /// A number, which is told: by its parts where it has few digits, so that no number of whatever
+    /// kind is made before it is known which.
     #[inline(never)]
     fn tell_number<V: Visitor>(
         &mut self,
@@ -477,9 +479,53 @@ impl TextWalk<'_> {
         ensures { EndsBy V.takes self.old self.new rest.old rest.new octets.now result
             visitor.old visitor.new }
     {
-        let Some((token, number)) = number_at(octets) else {
-            return self.take_other(rest, octets, visitor);
+        let Some((token, short)) = short_number_at(octets) else {
+            return self.tell_other_number(rest, octets, visitor);
         };
+        if let Some(number) = short.int() {
+            return self.tell_this_number(token, number, rest, octets, visitor);
+        }
+        match short.decimal() {
+            None => self.tell_other_number(rest, octets, visitor),
+            Some(number) => self.tell_this_number(token, number, rest, octets, visitor),
+        }
+    }
+
+    /// The same of any number.
+    #[inline(never)]
+    fn tell_other_number<V: Visitor>(
+        &mut self,
+        rest: &mut Rest,
+        octets: &[u8],
+        visitor: &mut V,
+    ) -> Result<(usize, Taken), Reason>
+        requires { Takes nows.Ready self.old rest.old octets.now }
+        ensures { EndsBy V.takes self.old self.new rest.old rest.new octets.now result
+            visitor.old visitor.new }
+    {
+        match number_at(octets) {
+            None => self.take_other(rest, octets, visitor),
+            Some((token, number)) => self.tell_this_number(token, number, rest, octets, visitor),
+        }
+    }
+
+    /// This number.
+    #[inline(always)]
+    fn tell_this_number<V: Visitor>(
+        &mut self,
+        token: FoundToken,
+        number: Number,
+        rest: &mut Rest,
+        octets: &[u8],
+        visitor: &mut V,
+    ) -> Result<(usize, Taken), Reason>
+        requires takes { Takes nows.Ready self.old rest.old octets.now }
+        requires found { (here : AnyPlace) (rest : AnyRest) → is_name here ≡ false →
+            FoundNumber here rest octets.now token number }
+        requires within { token.count < length octets.now }
+        ensures { EndsBy V.takes self.old self.new rest.old rest.new octets.now result
+            visitor.old visitor.new }
+    {
         let here = self.place();
         self.start = self.begun_at(rest.used);
         *rest = rest.past_token(here, token.kind, token.count);

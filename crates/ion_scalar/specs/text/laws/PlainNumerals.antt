@@ -1,10 +1,10 @@
 -- Ints and decimals of few plain digits, where their numbers aren't asked for.
-use Rattle.std.proofs.Common.{◌≡◌, ◌≢◌, ℕ, zero, suc, ◌+◌, ◌-◌, ◌*◌, ◌^◌, ◌<◌, ◌≤◌, ◌⊎◌, inl, inr, List, length, take, drop, get_or, pos, neg_ℤ, ◌-ℤ◌, ◌++◌, Bool, true, false, Some, Ok, refl, sym, subst, ◌∙◌, arith, length-drop}
+use Rattle.std.proofs.Common.{◌≡◌, ◌≢◌, ℕ, zero, suc, ◌+◌, ◌-◌, ◌*◌, ◌^◌, ◌<◌, ◌≤◌, ◌⊎◌, inl, inr, List, length, take, drop, get_or, pos, neg_ℤ, ◌-ℤ◌, ◌++◌, Bool, true, false, Ok, refl, sym, subst, ◌∙◌, arith, length-drop}
 use Rattle.std.proofs.lemmas.Int.{ints}
 use Rattle.std.specs.Prelude.{◌≤ℤ◌, ◌<ℤ◌}
 use Rattle.std.proofs.lemmas.List.{get_or-take, get_or-drop, length-take-le}
-use Rattle.ion_scalar.specs.Names.{BeginsWithMinus, IsWhole, Number, ReadsBehind, ReadsNumber, ReadsNumeral, decimal_read, minus, signed}
-use Rattle.ion_scalar.specs.text.laws.ShortNumbers.{PlainRun, below_room, marked_from, plain_more, room_behind, room_decimal, short_decimal, short_int, short_whole}
+use Rattle.ion_scalar.specs.Names.{BeginsWithMinus, IsWhole, Number, ReadsBehind, ReadsNumber, decimal_read, minus, signed}
+use Rattle.ion_scalar.specs.text.laws.ShortNumbers.{PlainRun, below_room, marked_from, number_of_numeral, plain_more, room_behind, room_decimal, short_decimal, short_int, short_whole}
 use Rattle.ion_scalar.specs.text.laws.Unsigned.{token_answer}
 
 -- `0` to `9`
@@ -57,8 +57,8 @@ body_reads negative body h = elim h.behind [
       let run = run_of body 0 h.whole (omega arith) h.digits in
       let x = Number.Int (signed negative run.0) in (
         x,
-        short_int negative body h.whole run.0 (Some x) run.1 all (short_whole body h.whole run.0 run.1 h.some h.first)
-            (refl, signed_fits negative run.0 (room_decimal body h.whole run.0 h.few (marked_from body h.whole run.0 run.1))),
+        short_int negative body h.whole run.0 x run.1 all (short_whole body h.whole run.0 run.1 h.some h.first) refl
+            (signed_fits negative run.0 (room_decimal body h.whole run.0 h.few (marked_from body h.whole run.0 run.1))),
       )
   | inr point ↦
       let run = run_of body 0 h.whole (omega (arith, point.0)) h.digits in
@@ -72,15 +72,10 @@ body_reads negative body h = elim h.behind [
       let x = decimal_read negative behind.0 false 0 (length rest) in
       let power = power_fits (length rest) (omega (arith, size, h.few)) in (
         x,
-        short_decimal negative body h.whole run.0 (length rest) behind.0 (Some x) run.1
-            (short_whole body h.whole run.0 run.1 h.some h.first) point.0 point.1 behind.1 (omega arith)
-            (refl, (omega arith, power.0, power.1)),
+        short_decimal negative body h.whole run.0 (length rest) behind.0 x run.1
+            (short_whole body h.whole run.0 run.1 h.some h.first) point.0 point.1 behind.1 (omega arith) refl (omega arith, power.0, power.1),
       )
 ]
-
-number_of_numeral : (token : List ℕ) (x : Number) → ReadsNumeral token (Ok x) → ReadsNumber token (Ok x)
-number_of_numeral token (Number.Timestamp t) h = absurd h.0.is
-number_of_numeral token _ h = (h.0, h.1, tt)
 
 -- what the numeral says doesn't hang on the octets behind it
 alone : (os : List ℕ) (count : ℕ) → PlainNumeral os count → PlainNumeral (take count os) (length (take count os))

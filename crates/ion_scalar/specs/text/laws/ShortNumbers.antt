@@ -5,7 +5,7 @@ use Rattle.std.proofs.lemmas.Str.{digit_value_digit}
 use Rattle.std.proofs.lemmas.Bool.{cases_lt}
 use Rattle.std.proofs.Math.Nat.{pow-suc, one-le-pow, pow-le-pow_right, mul-le-mul_left, mul-le-mul_right}
 use Rattle.std.proofs.lemmas.List.{take_all, take-append-drop, append-nil, drop_more, drop_all, length-drop}
-use Rattle.ion_scalar.specs.Names.{BeginsWithMinus, Fits, IsBehind, IsDecimalBody, IsDigits, IsEnd, IsExponent, IsPlain, IsTail, IsWholePart, Number, ReadsBehind, ReadsNumeral, continued, decimal_read, digits_in, minus, number, positional, positional_push, signed}
+use Rattle.ion_scalar.specs.Names.{BeginsWithMinus, Fits, HasParts, IsBehind, IsDecimalBody, IsDigits, IsEnd, IsExponent, IsPlain, IsTail, IsWholePart, Number, ReadsBehind, ReadsNumber, ReadsNumeral, ShortNumber, continued, decimal_read, digits_in, minus, number, positional, positional_push, signed}
 use Rattle.ion_scalar.specs.text.laws.DecimalCuts.{continued_number}
 use Rattle.ion_scalar.specs.text.laws.DecimalTails.{fraction_is}
 use Rattle.ion_scalar.specs.text.laws.DigitRuns.{Place, continued_more, not_mark, run_step}
@@ -120,15 +120,13 @@ marked_end base os used value run all some =
     subst P (take_all used os all) (run.digits (omega arith), run.counts)
 
 -- a whole part that is all of the octets is an int
-pub short_int : (negative : Bool) (body : List ℕ) (used value : ℕ) (r : Option Number) → PlainRun body 0 used value → used ≡ length body
-    → IsWholePart (take used body)
-    → IfSome r (λ x. (x ≡ Number.Int (signed negative value)) × Fits x) → IfSome r (λ x. ReadsBehind negative body (Ok x))
-short_int negative body used value None run all whole h = tt
-short_int negative body used value (Some x) run all whole h =
+pub short_int : (negative : Bool) (body : List ℕ) (used value : ℕ) (x : Number) → PlainRun body 0 used value → used ≡ length body
+    → IsWholePart (take used body) → x ≡ Number.Int (signed negative value) → Fits x → ReadsBehind negative body (Ok x)
+short_int negative body used value x run all whole is fits =
     let same : take used body ≡ body = take_all used body (omega arith) in
     let counts : value ≡ number 10 body = run.counts ∙ (continued_none 10 (take used body) ∙ ap (number 10) same) in
     let P : Number → Type 0 = IsBehind negative body in
-    (subst P (sym h.0) (value, inl (subst IsWholePart same whole, counts), refl), h.1)
+    (subst P (sym is) (value, inl (subst IsWholePart same whole, counts), refl), fits)
 
 -- a whole part, a point, digits or none, and an exponent or none are a decimal
 decimal_body : (body : List ℕ) (used value count all : ℕ) (below : Bool) (written : ℕ) → PlainRun body 0 used value → IsWholePart (take used body)
@@ -154,14 +152,14 @@ decimal_body body used value count all below written run whole more point behind
       power = ap (λ n. signed below written -ℤ pos n) (sym behind.many);
     }
 
-pub short_decimal : (negative : Bool) (body : List ℕ) (used value count all : ℕ) (r : Option Number) → PlainRun body 0 used value → IsWholePart (take used body)
+-- behind a whole part, a point and digits make a decimal
+pub short_decimal : (negative : Bool) (body : List ℕ) (used value count all : ℕ) (x : Number) → PlainRun body 0 used value → IsWholePart (take used body)
     → used < length body → get_or body used 0 ≡ 46 → PlainRun (drop (used + 1) body) value count all → length (drop (used + 1) body) ≤ count
-    → IfSome r (λ x. (x ≡ decimal_read negative all false 0 count) × Fits x) → IfSome r (λ x. ReadsBehind negative body (Ok x))
-short_decimal negative body used value count all None run whole more point behind end h = tt
-short_decimal negative body used value count all (Some x) run whole more point behind end h =
+    → x ≡ decimal_read negative all false 0 count → Fits x → ReadsBehind negative body (Ok x)
+short_decimal negative body used value count all x run whole more point behind end is fits =
     let P : Number → Type 0 = IsBehind negative body in
     let none = inl (drop_all count (drop (used + 1) body) end, refl, refl, refl) in
-    (subst P (sym h.0) (refl, decimal_body body used value count all false 0 run whole more point behind none), h.1)
+    (subst P (sym is) (refl, decimal_body body used value count all false 0 run whole more point behind none), fits)
 
 -- a decimal of a coefficient, and of the exponent that these octets are
 abbrev pub IsScaled : Bool → ℕ → ℕ → List ℕ → Number → Type 0
@@ -184,12 +182,14 @@ nine_digits os used value run all few =
     omega arith
 
 -- behind a whole part, a point and digits or none, an exponent makes a decimal
-pub scaled_decimal : (negative : Bool) (body : List ℕ) (used value count all : ℕ) (r : Option Number) → PlainRun body 0 used value → IsWholePart (take used body)
-    → used < length body → get_or body used 0 ≡ 46 → PlainRun (drop (used + 1) body) value count all
-    → IfSome r (IsScaled negative all count (drop count (drop (used + 1) body))) → IfSome r (λ x. ReadsBehind negative body (Ok x))
-scaled_decimal negative body used value count all None run whole more point behind h = tt
-scaled_decimal negative body used value count all (Some x) run whole more point behind h =
+pub scaled_decimal : (negative : Bool) (body : List ℕ) (used value count all : ℕ) (r : Option ShortNumber) → PlainRun body 0 used value
+    → IsWholePart (take used body) → used < length body → get_or body used 0 ≡ 46 → PlainRun (drop (used + 1) body) value count all
+    → IfSome r (λ short. (x : Number) → HasParts short x → IsScaled negative all count (drop count (drop (used + 1) body)) x)
+    → IfSome r (λ short. (x : Number) → HasParts short x → ReadsBehind negative body (Ok x))
+scaled_decimal negative body used value count all None run whole more point behind scaled = tt
+scaled_decimal negative body used value count all (Some short) run whole more point behind scaled = λ x parts.
     let P : Number → Type 0 = IsBehind negative body in
+    let h = scaled x parts in
     (subst P (sym h.3) (refl, decimal_body body used value count all h.0 h.1 run whole more point behind (inr h.2)), h.4)
 
 exponent_tail : (os : List ℕ) (below : Bool) (n : ℕ) → IsExponent os false below n → IsTail os [] false below n
@@ -197,10 +197,12 @@ exponent_tail [] below n h = h
 exponent_tail (c ∷ os) below n h = inr (refl, h)
 
 -- so does one behind a whole part alone
-pub scaled_whole : (negative : Bool) (body : List ℕ) (used value : ℕ) (r : Option Number) → PlainRun body 0 used value → IsWholePart (take used body)
-    → IfSome r (IsScaled negative value 0 (drop used body)) → IfSome r (λ x. ReadsBehind negative body (Ok x))
-scaled_whole negative body used value None run whole h = tt
-scaled_whole negative body used value (Some x) run whole h =
+pub scaled_whole : (negative : Bool) (body : List ℕ) (used value : ℕ) (r : Option ShortNumber) → PlainRun body 0 used value → IsWholePart (take used body)
+    → IfSome r (λ short. (x : Number) → HasParts short x → IsScaled negative value 0 (drop used body) x)
+    → IfSome r (λ short. (x : Number) → HasParts short x → ReadsBehind negative body (Ok x))
+scaled_whole negative body used value None run whole scaled = tt
+scaled_whole negative body used value (Some short) run whole scaled = λ x parts.
+    let h = scaled x parts in
     let w = take used body in
     let P : Number → Type 0 = IsBehind negative body in
     let is : IsDecimalBody false body value (signed h.0 h.1 -ℤ pos 0) = record {
@@ -217,11 +219,18 @@ scaled_whole negative body used value (Some x) run whole h =
     } in
     (subst P (sym h.3) (refl, is), h.4)
 
+-- a numeral is a number
+pub number_of_numeral : (token : List ℕ) (x : Number) → ReadsNumeral token (Ok x) → ReadsNumber token (Ok x)
+number_of_numeral token (Number.Timestamp t) h = absurd h.0.is
+number_of_numeral token _ h = (h.0, h.1, tt)
+
 -- from what stands behind the sign to the token
-pub short_token : (negative : Bool) (token body : List ℕ) (r : Option Number) → BeginsWithMinus negative token → token ≡ minus negative ++ body
-    → IfSome r (λ x. ReadsBehind negative body (Ok x)) → IfSome r (λ x. ReadsNumeral token (Ok x))
+pub short_token : (negative : Bool) (token body : List ℕ) (r : Option ShortNumber) → BeginsWithMinus negative token → token ≡ minus negative ++ body
+    → IfSome r (λ short. (x : Number) → HasParts short x → ReadsBehind negative body (Ok x))
+    → IfSome r (λ short. (x : Number) → HasParts short x → ReadsNumber token (Ok x))
 short_token negative token body None b e h = tt
-short_token negative token body (Some x) b e h = token_answer negative token body (Ok x) b e h
+short_token negative token body (Some short) b e h = λ x parts.
+    number_of_numeral token x (token_answer negative token body (Ok x) b e (h x parts))
 
 -- one digit alone is a whole part
 one_whole : (c : ℕ) → IsDigits 10 (c ∷ []) → IsWholePart (c ∷ [])

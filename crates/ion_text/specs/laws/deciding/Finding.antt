@@ -2,7 +2,7 @@
 use Rattle.std.proofs.Common.{◌≡◌, ℕ, ◌+◌, ◌-◌, ◌==◌, Bool, true, false, ◌&&◌, List, [], ◌∷◌, ◌++◌, length, drop, Option, Some, None, refl, sym, ap, ◌∙◌, subst, arith, length-append, codes}
 use Rattle.std.proofs.lemmas.Bool.{cond_both}
 use Rattle.std.specs.Str.{bytes_eq}
-use Rattle.ion_text.specs.Names.{Action, Catalog, Given, Known, Left, LexesTo, Limits, Mark, Mode, Next, Outcome, Place, Placed, TokenKind, acts, blob_ends, blob_of, cut, feed, follow, initial, scan as run}
+use Rattle.ion_text.specs.Names.{Action, Catalog, Given, Known, Left, LexesTo, Limits, Mark, Mode, Next, Outcome, Place, Placed, TokenKind, acts, blob_ends, blob_of, feed, follow, initial, scan as run}
 use Rattle.ion_tokens.specs.machine.Table.{next}
 use Rattle.ion_tokens.specs.laws.ByRows.{by_rows_where}
 use Rattle.ion_tokens.proofs.complete.Found.{FindsUpTo, Gives, Last, Leaves, Nothing, Unclosed, in_word}

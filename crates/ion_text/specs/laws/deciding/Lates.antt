@@ -2,7 +2,7 @@
 use Rattle.std.proofs.Common.{◌≡◌, ℕ, zero, suc, ◌+◌, ◌≤◌, nat_le, nat_lt, List, [], ◌∷◌, ◌++◌, length, Bool, true, false, ◌&&◌, not, Result, Ok, Err, Option, Some, None, refl, sym, ap, ◌∙◌, subst, arith, if◌then◌else◌, inl, inr}
 use Rattle.std.proofs.lemmas.Bool.{cond_both}
 use Rattle.std.proofs.lemmas.Bool.Decides.{nat_tests}
-use Rattle.ion_text.specs.Names.{Blob, Bracket, Catalog, Clob, Content, Effect, Frame, Given, HasRow, Held, Id, IsBody, IsUsed, IsWordBody, Kind, Known, Left, Lexeme, Limits, Listing, Long, Mark, Mark', Next, Now, Number', Operator, Outcome, Payload, Place, Quoted, Reading, ReadsNumber, Reason, Refused, Setting, Short, Slot, Spot, State, Symbols, Token, TokenKind, Turn, TypedNull, Value, Word, annotated, at, bare_close, begun_at, behind_given, behind_left, beyond_depth, closed, deeper, ended, fails, feed, field_of, first_now, follow, fresh, gives, goes, held_symbol, id_of, is_idle, is_keyword, is_table, keyed, kind_named, late, named, next, noted, noticed, null_of, number_payload, on_after, on_comma, on_keyed, on_long, on_long_name, on_name, on_pending, on_ready, on_said, on_scan, on_settled, opened, opening, place, reaches, refuses, resolve, resolved, said, said_body, says, settle, shut, spot_at, spot_in, takes, token_of, turn, turn_now, turned, under, unsettled, with_scan, within}
+use Rattle.ion_text.specs.Names.{Bracket, Catalog, Content, Effect, Frame, Given, HasRow, Held, Id, IsBody, IsUsed, IsWordBody, Kind, Known, Left, Lexeme, Limits, Listing, Long, Mark, Mark', Next, Now, Outcome, Payload, Place, Quoted, Reading, ReadsNumber, Reason, Refused, Setting, Short, Slot, Spot, State, Symbols, Token, TokenKind, Turn, TypedNull, Value, Word, annotated, at, bare_close, begun_at, behind_given, behind_left, beyond_depth, closed, deeper, ended, fails, feed, field_of, first_now, follow, fresh, gives, goes, held_symbol, id_of, is_idle, is_keyword, is_table, keyed, kind_named, late, named, next, noted, noticed, null_of, on_after, on_comma, on_keyed, on_long, on_long_name, on_name, on_pending, on_ready, on_said, on_scan, on_settled, opened, opening, place, reaches, refuses, resolve, resolved, said, said_body, says, settle, shut, spot_at, spot_in, takes, token_of, turn, turn_now, turned, under, unsettled, with_scan, within}
 use Rattle.ion_model.specs.declared.value.Payload.TheVariants as payloads
 use Rattle.ion_tokens.proofs.bounds.Causes.{IsFair, run_fair}
 use Rattle.ion_tokens.proofs.bounds.Fits.{is_octet_reason}

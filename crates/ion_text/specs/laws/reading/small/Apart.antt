@@ -1,9 +1,9 @@
 -- Between whole pieces with the values before a value and whole pieces with it stand at least as many octets as it has nodes.
-use Rattle.std.proofs.Common.{◌≡◌, ℕ, ◌+◌, ◌≤◌, ◌==◌, ◌&&◌, ◌||◌, Bool, true, false, List, [], ◌∷◌, ◌++◌, length, Ok, refl, sym, ap, ◌∙◌, subst, arith, append_assoc, append-nil, length-append, inl, inr, codes}
+use Rattle.std.proofs.Common.{◌≡◌, ℕ, ◌+◌, ◌≤◌, ◌==◌, ◌&&◌, Bool, true, false, List, [], ◌∷◌, ◌++◌, length, Ok, refl, sym, ap, ◌∙◌, subst, arith, append_assoc, append-nil, length-append, inl, inr, codes}
 use Rattle.std.proofs.lemmas.Bool.{and_parts, false_from_ne_true, or_cases}
 use Rattle.std.proofs.lemmas.List.{append_cancel_left}
 use Rattle.std.proofs.lemmas.Bool.Decides.{nat_tests}
-use Rattle.ion_text.specs.Names.{BeginsWith, Catalog, Content, IsBody, Leading, LexesTo, Limits, Mark, Mark', Place, Placed, Reading, TokenKind, Turn, Value, Whole, adds_values, begins_as_long, colon_behind, continues, done, ends_long, fresh, gives, goes, initial, is_long, is_sexp, is_two_quotes, late, nodes, on_turn, place, reads, refuses, said, said_body, settle, settle_still, system_slots, token_of, turn}
+use Rattle.ion_text.specs.Names.{BeginsWith, Catalog, Content, IsBody, Leading, LexesTo, Limits, Mark, Mark', Place, Placed, Reading, TokenKind, Turn, Value, Whole, adds_values, begins_as_long, colon_behind, continues, done, ends_long, fresh, gives, goes, initial, is_long, is_sexp, is_two_quotes, nodes, on_turn, place, reads, said, said_body, settle, settle_still, system_slots, token_of, turn}
 use Rattle.ion_text.specs.machine.TokenLists.{walked}
 use Rattle.ion_text.specs.laws.reading.complete.Complete.{Begins}
 use Rattle.ion_text.specs.laws.reading.complete.Going.{Going, TurnGoes, going_said, going_settle, going_turn, mark_kind}

@@ -1,8 +1,8 @@
 -- No more octets are kept than an item may have.
-use Rattle.std.proofs.Common.{◌≡◌, ℕ, zero, suc, ◌+◌, ◌-◌, ◌≤◌, Bool, true, false, ◌&&◌, ◌||◌, not, nat_le, List, [], ◌∷◌, ◌++◌, length, Result, Ok, Err, Option, Some, None, refl, sym, ap, ◌∙◌, subst, arith, ◌⊎◌, inl, inr, if◌then◌else◌}
+use Rattle.std.proofs.Common.{◌≡◌, ℕ, zero, suc, ◌+◌, ◌-◌, ◌≤◌, Bool, true, false, ◌||◌, List, [], ◌∷◌, ◌++◌, length, Result, Ok, Err, Option, Some, None, refl, sym, ap, ◌∙◌, subst, arith, ◌⊎◌, inl, inr, if◌then◌else◌}
 use Rattle.ion_text.specs.laws.reading.Effects.{noticed_each, said_each, worse_each}
 use Rattle.std.proofs.lemmas.Bool.{cond_both}
-use Rattle.ion_text.specs.Names.{Begun, Catalog, Content, Effect, Follows, Form, Frame, Given, Held, IsBody, IsSteady, Known, Leading, Left, Lexeme, LexesTo, Limits, Mode, Next, Now, Operator, Outcome, Payload, Place, Placed, Ran, Reading, Reason, Refused, Run, Slot, Spot, State, Style, Symbols, TokenKind, Turn, Value, at, begun, begun_in, behind, behind_given, behind_left, ended, fails, feed, form_of, gives, goes, held_in, held_payload, is_idle, is_long_begun, is_long_form, is_sane, is_sexp, is_top, late, leaves, longest_top, noticed, on_octet, on_said, on_scan, on_settled, or_worse, paid, place, place_in, plain, reaches, refuses, released, run, said, said_body, settle, settle_same, settled, shut, spot_at, takes, tells, token_at, token_of, turn, turn_now, under, unkept, unsettled, uses, with_scan}
+use Rattle.ion_text.specs.Names.{Begun, Catalog, Content, Effect, Follows, Form, Frame, Given, Held, IsBody, IsSteady, Known, Leading, Left, Lexeme, LexesTo, Limits, Mode, Next, Now, Operator, Outcome, Payload, Place, Placed, Ran, Reading, Reason, Refused, Run, Slot, Spot, State, Style, Symbols, TokenKind, Turn, Value, at, begun, begun_in, behind, behind_given, behind_left, ended, feed, form_of, gives, goes, held_in, held_payload, is_idle, is_long_begun, is_long_form, is_sane, is_sexp, is_top, late, leaves, longest_top, noticed, on_octet, on_scan, on_settled, paid, place, place_in, plain, reaches, refuses, released, run, said, said_body, settle, settle_same, settled, spot_at, takes, token_at, token_of, turn, turn_now, under, unkept, unsettled, with_scan}
 use Rattle.ion_tokens.specs.laws.Follows.{feed_follows}
 use Rattle.ion_tokens.proofs.foreseen.Reaches.{begun_stays}
 use Rattle.ion_tokens.proofs.sound.Holds.{InMode}

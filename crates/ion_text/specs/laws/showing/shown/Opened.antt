@@ -2,9 +2,8 @@
 use Rattle.std.proofs.Common.{◌≡◌, ℕ, ◌+◌, ◌≤◌, ◌==◌, Bool, true, false, ◌||◌, List, [], ◌∷◌, ◌++◌, length, refl, sym, ap, ◌∙◌, subst, arith, append_assoc, append-nil, length-append, Ok, ◌⊎◌, inl, inr, codes}
 use Rattle.std.proofs.lemmas.Bool.{false_from_ne_true}
 use Rattle.std.proofs.lemmas.Bool.Decides.{nat_tests}
-use Rattle.ion_text.specs.Names.{ArePieces, BeginsWith, BlankThen, Catalog, Content, Continues, Frame, Held, IsBody, IsLexeme, Known, Leading, LexesTo, Limits, Listing, Long, Mark, Mark', Mode, Now, Place, Placed, Quoted, Reading, Scanned, Segments, State, Symbols, TokenKind, Value, Whole, adds_values, colon_behind, continues, done, ends_long, fresh, goes, initial, is_fresh, is_idle, is_quoting, is_segment, is_sexp, joined, on_turn, place, place_in, reads, said, said_body, scan as run, segment, settle, system_slots, takes_colon, token_of}
+use Rattle.ion_text.specs.Names.{ArePieces, BeginsWith, BlankThen, Catalog, Content, Continues, Frame, Held, IsBody, IsLexeme, Known, Leading, LexesTo, Limits, Listing, Long, Mark, Mark', Now, Place, Placed, Quoted, Reading, Scanned, Segments, State, Symbols, TokenKind, Value, Whole, adds_values, colon_behind, continues, done, ends_long, fresh, goes, initial, is_fresh, is_idle, is_quoting, is_segment, is_sexp, joined, on_turn, place, place_in, reads, said, said_body, scan as run, segment, settle, system_slots, takes_colon, token_of}
 use Rattle.ion_tokens.proofs.complete.Moves.{at as scanning}
-use Rattle.ion_tokens.proofs.complete.Wholes.{run_behind}
 use Rattle.ion_tokens.proofs.histories.Escapes.{Escape, Escapes, escape}
 use Rattle.ion_tokens.proofs.histories.Histories.{begins_completes}
 use Rattle.ion_tokens.proofs.sound.Holds.{InMode}
@@ -21,7 +20,7 @@ use Rattle.ion_text.specs.laws.reading.sound.Steps.{Stood}
 use Rattle.ion_text.specs.laws.showing.shown.Longest.{escaped, k as behind_all, long as their_long, octets as all_octets, size as their_size, theirs as their_tokens, token_more}
 use Rattle.ion_text.specs.laws.showing.tokens.Closing.{Closing, colons_close, quotes_close}
 use Rattle.ion_text.specs.laws.showing.tokens.Compare.{Found', OneIsFront, begins_after, lexes_once, meet}
-use Rattle.ion_text.specs.laws.showing.tokens.Cuts.{Is, OpenBehind, Parted, lexed_front, one_found, parted}
+use Rattle.ion_text.specs.laws.showing.tokens.Cuts.{Is, OpenBehind, Parted, parted}
 use Rattle.ion_text.specs.laws.showing.tokens.Firsts.{opens_item, symbol_kind}
 use Rattle.ion_text.specs.laws.showing.tokens.Froms.{AllFrom, From, Waits, fresh_parts, settle_from, walked_from}
 use Rattle.ion_text.specs.laws.showing.tokens.Once.{begins_lexed, operator_inside, whole_found, whole_going, whole_operators}

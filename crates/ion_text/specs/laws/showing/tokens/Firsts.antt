@@ -2,7 +2,7 @@
 use Rattle.std.proofs.Common.{◌≡◌, ℕ, ◌+◌, ◌-◌, Bool, true, false, List, [], ◌∷◌, ◌++◌, length, refl, sym, ap, ◌∙◌, subst, arith, Result, Ok, Option, Some, inl, inr, if◌then◌else◌}
 use Rattle.std.specs.Prelude.{◌==◌, ◌||◌}
 use Rattle.std.proofs.lemmas.Bool.Decides.{nat_tests}
-use Rattle.ion_text.specs.Names.{Annotations, BeginsWith, Blob, Bracket, Clob, Content, Frame, Given, IsBlank, IsBody, IsSymbol, Known, Left, Lexeme, Long, Mark, Mark', Mode, Next, Now, Number', Operator, Outcome, Place, Placed, Reason, Refused, Says, Segments, Slot, Style, Symbols, TokenKind, Within, Word, acts, before, begins_as_long, end_of, ends_at, feed, follow, is_id, is_idle, is_quoting, is_segment, is_two_quotes, is_word, joined, no_annotation, one_annotation, open_mark, scan as run, segment}
+use Rattle.ion_text.specs.Names.{Annotations, BeginsWith, Blob, Bracket, Clob, Content, Frame, Given, IsBlank, IsBody, IsSymbol, Known, Left, Lexeme, Long, Mark, Mark', Mode, Next, Now, Number', Outcome, Place, Placed, Reason, Refused, Says, Segments, Slot, Style, Symbols, TokenKind, Within, acts, before, begins_as_long, end_of, ends_at, feed, follow, is_id, is_idle, is_quoting, is_segment, is_two_quotes, is_word, joined, no_annotation, one_annotation, open_mark, scan as run, segment}
 use Rattle.ion_tokens.specs.machine.Table.{go as go_on}
 use Rattle.ion_tokens.proofs.complete.Moves.{at, blank}
 use Rattle.ion_tokens.proofs.complete.TakesBlanks.{passes_blank}

@@ -1,5 +1,5 @@
 -- Tokens that are read without a refusal.
-use Rattle.std.proofs.Common.{◌≡◌, ◌-◌, Bool, true, false, List, [], ◌∷◌, ◌++◌, refl, sym, ap, ◌∙◌, Result, Ok, inr}
+use Rattle.std.proofs.Common.{◌≡◌, Bool, true, false, List, [], ◌∷◌, ◌++◌, refl, sym, ap, ◌∙◌, Result, Ok, inr}
 use Rattle.std.proofs.lemmas.Bool.{cond-false}
 use Rattle.ion_text.specs.Names.{Catalog, Content, Leading, Limits, Placed, Reading, Reason, Turn, Value, Walk, adds_values, continues, first_token, gives, goes, in_place, is_top, on_judged, on_placed, on_turn, place, reads, reads-append, said, same_is, same_place, settle, settle_same, settle_still, stopped, then_walk, token_of, turn}
 use Rattle.ion_text.specs.machine.TokenLists.{walked}

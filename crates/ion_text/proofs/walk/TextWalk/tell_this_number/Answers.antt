@@ -4,7 +4,7 @@ use Rattle.ion_text.proofs.LastTokens.{value_answer}
 use Rattle.ion_text.proofs.SaidThere.{number_begins}
 use Rattle.ion_text.specs.laws.deciding.Turns.{flat_number}
 use Rattle.ion_text.proofs.Strides.{value_place}
-use Rattle.ion_text.proofs.walk.TextWalk.tell_number.Goals as goal
+use Rattle.ion_text.proofs.walk.TextWalk.tell_this_number.Goals as goal
 
 pub returns : goal.returns
 returns g c =
@@ -15,13 +15,13 @@ returns g c =
     let octets = c.args.octets.now in
     let a = c.args.visitor.now in
     let b = c.whole_number.new.visitor in
-    let token = c.in-Some.token in
-    let number = c.in-Some.number in
+    let token = c.args.token in
+    let number = c.args.number in
     let here = c.place-here.result in
     subst (λ x. EndsBy g.V.Visitor.takes old new rest after octets x a b) (sym c.value_took.ensures)
     (value_answer g.V.Visitor.takes old new rest after octets a b c.begun_at-self.result c.whole_number.ensures.setting c.begun_at-self.ensures here
-    c.place-here.ensures c.requires (number_payload number) (λ fs ss h top. flat_number number) token c.whole_number.result c.past_token.ensures
-    c.in-Some.ensures.within
+    c.place-here.ensures c.requires.takes (number_payload number) (λ fs ss h top. flat_number number) token c.whole_number.result c.past_token.ensures
+    c.requires.within
     (λ fs ss h. number_begins here rest octets token number
-    (c.in-Some.ensures.found here rest (ap is_name (c.place-here.ensures fs ss h) ∙ value_place old fs ss c.requires.stage h)))
+    (c.requires.found here rest (ap is_name (c.place-here.ensures fs ss h) ∙ value_place old fs ss c.requires.takes.stage h)))
     c.whole_number.ensures.does)
