@@ -327,20 +327,16 @@ impl TextWalk<'_> {
             (ended (setting_of self.old) (spot_of self.old end) [] v) result self.new }
         ensures setting { SameSetting self.old self.new }
     {
-        if self.filter.may_be_table() {
+        if !self.filter.ends_plain() {
             return self.give_table(end);
         }
         let last = self.start.saturating_add(self.limits.item);
         self.set_stage(Now::Ready);
         self.start = 0;
-        match self.filter.end() {
-            None if end <= last => Ok(Effect::Gives),
-            None => Err(Reason::ItemTooLong),
-            Some(table) => {
-                drop(table);
-                Err(Reason::Memory)
-            }
+        if end > last {
+            return Err(Reason::ItemTooLong);
         }
+        Ok(Effect::Gives)
     }
 
     /// The same of what may be a local symbol table, which changes the context (Ion 1.0, "Symbols",
