@@ -120,19 +120,19 @@ plain_of Table.No b h = refl
 plain_of Table.Noted b h = absurd (false≢true (sym h))
 plain_of Table.Yes b h = absurd (false≢true (sym h))
 
-module _ {V : Type 0} (takes : V → Event → V → Type 0) (c : List Slot) (t : Scalar) (body : List ℕ) (f g : TableFilter) (a : V)
+module _ {V : Type 0} (takes : V → Event → V → Type 0) (c : List Slot) (t : Scalar) (body : List ℕ) (f g : TableFilter) (a b : V)
     (plain : is_of_table f.table true ≡ false) (passes : (es : List Event) → WasTold f es → LetsPass g × (heard es ≡ es))
-    (still : (p : Payload) → takes a (part p) a) where
-  unread_by : (r : Result Payload Reason) → judge c t body ≡ r → is_ok r ≡ true → TellsAs takes (judge c t body) f g a a
+    (went : (p : Payload) → takes a (part p) b) where
+  unread_by : (r : Result Payload Reason) → judge c t body ≡ r → is_ok r ≡ true → TellsAs takes (judge c t body) f g a b
   unread_by (Ok p) e h = (
     p,
     e,
     scalar_leaf c body t p (judge_sound c t body p e),
-    visitor_tells takes (part p) f g a a a tt (plain_of f.table (begins_struct (part p)) plain)
-        (λ es h. let i = passes es h in (i.0, hears_none takes (heard es) es a (sym i.1))) (still p),
+    visitor_tells takes (part p) f g a a b tt (plain_of f.table (begins_struct (part p)) plain)
+        (λ es h. let i = passes es h in (i.0, hears_none takes (heard es) es a (sym i.1))) (went p),
   )
   unread_by (Err reason) e h = absurd (false≢true h)
 
-  -- it is told to a visitor that stays as it is, where it is part of no table
-  pub unread_told : is_ok (judge c t body) ≡ true → TellsAs takes (judge c t body) f g a a
+  -- it is told to a visitor that goes on whatever it says, where it is part of no table
+  pub unread_told : is_ok (judge c t body) ≡ true → TellsAs takes (judge c t body) f g a b
   unread_told h = unread_by (judge c t body) refl h

@@ -13,7 +13,7 @@ use Rattle.ion_text.proofs.Arms.{ended_stays, found_passes, mark_says, ready_tur
 use Rattle.ion_text.proofs.LongStrings.{long_unsettled, settled_on}
 use Rattle.ion_text.proofs.Nested.{close_found, closing}
 use Rattle.ion_text.proofs.Passing.{NoticesNothing, blank_quiet, blank_waits}
-use Rattle.ion_text.proofs.Strides.{IsBegun, begun_inner, begun_with, ends_so, front_same, settings_begun, settings_on, strides_there, strode_on, take_short, token_leads, token_strode, with_moved}
+use Rattle.ion_text.proofs.Strides.{IsBegun, begun_inner, begun_with, ends_so, front_same, moved_by, settings_begun, settings_on, strides_there, strode_on, take_short, token_leads, token_strode, with_moved}
 use Rattle.ion_text.proofs.Striding.{still_settles}
 use Rattle.ion_text.proofs.Symbols.{ends_waits, symbol_passes}
 use Rattle.ion_text.proofs.Tops.{passes_then, token_gives, top_ended, top_quiet, waits_notices}
@@ -255,7 +255,7 @@ module _ {V : Type 0} (leads : V → Event → V → Type 0) where
       → after ≡ past_token here rest (TokenKind.Mark (close_mark x)) 1 → 1 < length octets → get_or octets 0 0 ≡ close_octet x
       → ((fs : List Frame) (ss : Symbols) → Holds old fs ss → (closes x fs old.stage ≡ true) × (ss ≡ [])) → IsHere old here
       → ((fs : List Frame) → Holds old fs [] → Does leads (told fs []) (closed x (setting_of old) (spot_of old after.used) fs) (Ok Gives) new a b)
-      → EndsBy leads old new rest after octets (Ok (1, Taken.Tells)) a b
+      → EndsBy leads old new rest after octets (Ok Taken.Tells) a b
   container_answer old new rest after octets a b same here x there more first fits is does =
       ends_so leads old new rest after octets 1 Taken.Tells a b
       (λ fs ss h.
@@ -303,7 +303,7 @@ module _ {V : Type 0} (leads : V → Event → V → Type 0) where
           (reading_of new [] []) d.1)
 
       value_so : (x : Result Turned Reason) (left : Bool) → AtTop (if left then Taken.Leaves else Taken.Tells)
-          → ((fs : List Frame) (ss : Symbols) → Holds old fs ss → Ends end k fs ss x) → EndsBy leads old new rest after octets (value_took x n left) a b
+          → ((fs : List Frame) (ss : Symbols) → Holds old fs ss → Ends end k fs ss x) → EndsBy leads old new rest after octets (value_took x left) a b
       value_so (Ok Goes) left top does =
           ends_so leads old new rest after octets n Taken.Uses a b
           (λ fs ss h. goes_in fs ss h (begun_so (Ok Goes) fs ss h.holds (does fs ss h.holds))) more used (settings_begun old new k s)
@@ -320,7 +320,7 @@ module _ {V : Type 0} (leads : V → Event → V → Type 0) where
     pub value_answer : (token : FoundToken) (x : Result Turned Reason) → after ≡ past_token here rest token.kind token.count → token.count < length octets
         → ((fs : List Frame) (ss : Symbols) → Holds old fs ss → BeginsValue false here rest octets token payload)
         → ((fs : List Frame) (ss : Symbols) → Holds old fs ss → Ends after.used k fs ss x)
-        → EndsBy leads old new rest after octets (value_took x token.count token.left) a b
+        → EndsBy leads old new rest after octets (value_took x token.left) a b
     value_answer token x there more begins' does =
         let used = ap (λ (r : Rest). r.used) there in
         value_so (rest.used + token.count) token.count more used
@@ -348,7 +348,7 @@ module _ {V : Type 0} (leads : V → Event → V → Type 0) where
         → RestsBehind (drop token.count octets) m (past_token here rest token.kind token.count) after
         → ends_symbol (get_or octets (token.count + m) 0) ≡ true
         → ((fs : List Frame) (ss : Symbols) → Holds old fs ss → Ends (rest.used + token.count) k fs ss x)
-        → EndsBy leads old new rest after octets (value_took x (token.count + m) true) a b
+        → EndsBy leads old new rest after octets (value_took x true) a b
     word_answer token m held x more some waits pays free rests ends does =
         let used = rests.used in
         value_so (rest.used + token.count) (token.count + m) more (omega arith)
@@ -378,7 +378,7 @@ module _ {V : Type 0} (leads : V → Event → V → Type 0) where
       (x : Result Turned Reason) → LongThere here rest octets count after text
       → ((fs : List Frame) (ss : Symbols) → Holds old fs ss
       → EndsAt old new a b (payloads.Str text) after.used k fs ss x)
-      → EndsBy leads old new rest after octets (value_took x count true) a b
+      → EndsBy leads old new rest after octets (value_took x true) a b
   long_answer old new rest after octets a b k s begins here is t count text x long does =
       value_so old new rest after octets a b k s begins here is t (payloads.Str text) (λ fs ss h top. text_flat text) after.used count long.more long.segments.used
       (λ fs ss h inner d.
@@ -476,10 +476,13 @@ module _ {V : Type 0} (leads : V → Event → V → Type 0) where
 
 module _ {V : Type 0} (leads : V → Event → V → Type 0) (old mid new : TextWalk) (r s t : Rest) where
   -- the same of what is answered
-  pub ends_on : (octets behind : List ℕ) (i j : ℕ) (a m b : V) → behind ≡ drop i octets → SameSetting old mid → Strode leads old mid r s octets i a m
-      → (e : Taken) → EndsBy leads mid new s t behind (Ok (j, e)) m b → EndsBy leads old new r t octets (Ok (i + j, e)) a b
-  ends_on octets behind i j a m b is same x e y =
-      record { ended = ended_on leads old mid new r s t octets behind i j a m b is same x e y.ended; memory = tt; same = settings_on old mid new same y.same }
+  pub ends_on : (octets behind : List ℕ) (i : ℕ) (a m b : V) → behind ≡ drop i octets → SameSetting old mid → Strode leads old mid r s octets i a m
+      → (x : Result Taken Reason) → EndsBy leads mid new s t behind x m b → EndsBy leads old new r t octets x a b
+  ends_on octets behind i a m b is same front (Ok e) y =
+      let j = t.used - s.used in
+      moved_by leads old new r t octets (i + j) e a b (ended_on leads old mid new r s t octets behind i j a m b is same front e y.ended)
+      (settings_on old mid new same y.same)
+  ends_on octets behind i a m b is same front (Err e) y = record { ended = tt; memory = y.memory; same = settings_on old mid new same y.same }
 
 get_there : (j k : ℕ) (w : List ℕ) → j < k → get_or (take k w) j 0 ≡ get_or w j 0
 get_there j k w h = grind (arith, common_steps)

@@ -4,7 +4,7 @@ use Rattle.std.specs.Prelude.{if◌then◌else◌, nat_lt}
 use Rattle.std.proofs.lemmas.Bool.Decides.{nat_tests}
 use Rattle.std.proofs.lemmas.Grind.{common_steps}
 use Rattle.std.proofs.lemmas.List.{length-map, length-reverse, length-take}
-use Rattle.ion_text.specs.Names.{Ahead, AreAround, AreOpen, Bracket, Catalog, Content, Does, DoesAlone, EndsBy, EndsSo, Event, FoundNote, FoundToken, Frame, Gives, Goes, Holds, IsCalm, IsFound, IsHere, IsPassed, IsStill, Known, Late, Limits, Listing, Mark, Mark', NameThere, Now, OpensAt, Passes, Place, Reading, Reason, Rest, RestsBehind, SameSetting, Scanner, Slot, Strides, Strode, StrodeFrom, SymbolThere, Symbols, Taken, Takes, TextWalk, TokenKind, Turn, Turned, WentOn, at, before_end, begun_at, behind_note, beyond_depth, bracket_of, brackets_of, calm, close_mark, close_octet, closed, closes, first_now, goes, heard, is_name, is_top, lexeme_at, named, on_comma, only_goes, open_brackets, open_mark, opened, opening, past_blank, past_token, place, place_in, reading_of, resting, resting_at, said, scanned, setting_of, spot_at, spot_of, takes_colon, token_of, told, turn, under, with_scan}
+use Rattle.ion_text.specs.Names.{Ahead, AreAround, AreOpen, Bracket, Catalog, Content, Does, DoesAlone, Ended, EndsBy, EndsSo, Event, FoundNote, FoundToken, Frame, Gives, Goes, Holds, IsCalm, IsFound, IsHere, IsPassed, IsStill, Known, Late, Limits, Listing, Mark, Mark', NameThere, Now, OpensAt, Passes, Place, Reading, Reason, Rest, RestsBehind, SameSetting, Scanner, Slot, Strides, Strode, StrodeFrom, SymbolThere, Symbols, Taken, Takes, TextWalk, TokenKind, Turn, Turned, WentOn, at, before_end, begun_at, behind_note, beyond_depth, bracket_of, brackets_of, calm, close_mark, close_octet, closed, closes, first_now, goes, heard, is_name, is_top, lexeme_at, named, on_comma, only_goes, open_brackets, open_mark, opened, opening, past_blank, past_token, place, place_in, reading_of, resting, resting_at, said, scanned, setting_of, spot_at, spot_of, takes_colon, token_of, told, turn, under, with_scan}
 use Rattle.ion_tokens.proofs.runs.WholeTokens.{comma_found}
 use Rattle.ion_visiting.specs.laws.Filters.{hears_both, hears_none}
 use Rattle.ion_text.proofs.Arms.{StaysIn, after_turns, blank_used, comma_stays, mark_says, named_stays, ready_turns, went}
@@ -343,12 +343,20 @@ module _ {V : Type 0} (takes : V → Event → V → Type 0) where
 
   -- what each token answers, from what its method does
 
+  -- the octets taken up, which are how far the place has moved
+  pub moved_by : (old new : TextWalk) (before after : Rest) (octets : List ℕ) (count : ℕ) (t : Taken) (a b : V)
+      → Ended takes old new before after octets (count, t) a b → SameSetting old new → EndsBy takes old new before after octets (Ok t) a b
+  moved_by old new before after octets count t a b y same =
+      let used = y.used in
+      let moved : count ≡ after.used - before.used = omega arith in
+      record { ended = subst (λ n. Ended takes old new before after octets (n, t) a b) moved y; memory = tt; same = same }
+
   -- what leads so, whatever the reader stood for
   pub ends_so : (old new : TextWalk) (before after : Rest) (octets : List ℕ) (count : ℕ) (t : Taken) (a b : V)
       → ((fs : List Frame) (ss : Symbols) → Ahead old fs ss before (length octets) → EndsSo takes fs ss old new before after octets count a b t)
-      → count < length octets → after.used ≡ before.used + count → SameSetting old new → EndsBy takes old new before after octets (Ok (count, t)) a b
+      → count < length octets → after.used ≡ before.used + count → SameSetting old new → EndsBy takes old new before after octets (Ok t) a b
   ends_so old new before after octets count t a b h within used same =
-      record { ended = record { leads = h; within = omega arith; used = used }; memory = tt; same = same }
+      moved_by old new before after octets count t a b (record { leads = h; within = omega arith; used = used }) same
 
   module _ (old new : TextWalk) (rest after : Rest) (octets : List ℕ) (a b : V) (same : SameSetting old new) where
     -- a token that only goes on
@@ -357,7 +365,7 @@ module _ {V : Type 0} (takes : V → Event → V → Type 0) where
         → ((fs : List Frame) (ss : Symbols) → Ahead old fs ss rest (length octets) → Does takes (told fs ss) (t fs ss) (Ok Goes) new a b
         → StrodeFrom takes fs ss old new rest last octets n a b)
         → ((fs : List Frame) (ss : Symbols) → Holds old fs ss → Does takes (told fs ss) (t fs ss) x new a b)
-        → EndsBy takes old new rest after octets (only_goes x n) a b
+        → EndsBy takes old new rest after octets (only_goes x) a b
     goes_so n last t (Ok Goes) there more used leads does =
         ends_so old new rest after octets n Taken.Uses a b
         (λ fs ss h. subst (λ r. StrodeFrom takes fs ss old new rest r octets n a b) (sym there) (leads fs ss h (does fs ss h.holds))) more
@@ -377,7 +385,7 @@ module _ {V : Type 0} (takes : V → Event → V → Type 0) where
     pub comma_answer : (here : Place) (x : Result Turned Reason) → after ≡ past_token here rest (TokenKind.Mark Mark.Comma) 1
         → Takes Now.After old rest octets → get_or octets 0 0 ≡ 44 → IsHere old here → a ≡ b
         → ((fs : List Frame) → Holds old fs [] → DoesAlone (told fs []) (on_comma old.start old.context fs) x new)
-        → EndsBy takes old new rest after octets (only_goes x 1) a b
+        → EndsBy takes old new rest after octets (only_goes x) a b
     comma_answer here x there t first is silent does =
         let more = t.more in
         goes_so 1 (past_token here rest (TokenKind.Mark Mark.Comma) 1) (λ fs ss. on_comma old.start old.context fs) x there more refl
@@ -398,7 +406,7 @@ module _ {V : Type 0} (takes : V → Event → V → Type 0) where
         → get_or octets 0 0 ≡ close_octet x
         → ((fs : List Frame) (ss : Symbols) → Holds old fs ss → (closes x fs old.stage ≡ true) × (ss ≡ [])) → IsHere old here → 1 < length old.frames.items
         → ((fs : List Frame) → Holds old fs [] → Does takes (told fs []) (closed x (setting_of old) (spot_of old after.used) fs) (Ok Goes) new a b)
-        → EndsBy takes old new rest after octets (Ok (1, Taken.Uses)) a b
+        → EndsBy takes old new rest after octets (Ok Taken.Uses) a b
     close_answer here x there more first fits is nested does =
         ends_so old new rest after octets 1 Taken.Uses a b
         (λ fs ss h.
@@ -436,7 +444,7 @@ module _ {V : Type 0} (takes : V → Event → V → Type 0) where
         → get_or octets (token.count + m) 0 ≡ 58 → get_or octets (token.count + m + 1) 0 ≡ 58
         → ((fs : List Frame) (ss : Symbols) → Holds old fs ss
         → Does takes (told fs ss) (goes (at old.start old.context fs (ss ++ s ∷ []) Now.Ready)) x new a b)
-        → EndsBy takes old new rest after octets (only_goes x (token.count + m + 2)) a b
+        → EndsBy takes old new rest after octets (only_goes x) a b
     symbol_note_answer here token m s x there more t inner is symbol passed one two does =
         let n = token.count in
         let used = blank_used (past_token here rest token.kind n) m in
@@ -468,7 +476,7 @@ module _ {V : Type 0} (takes : V → Event → V → Type 0) where
         → NameThere old.context rest octets token name → IsPassed (drop token.count octets) m → get_or octets (token.count + m) 0 ≡ 58
         → get_or octets (token.count + m + 1) 0 ≢ 58
         → ((fs : List Frame) → Holds old fs [] → Does takes (told fs []) (named old.start old.context fs name) x new a b)
-        → EndsBy takes old new rest after octets (only_goes x (token.count + m + 1)) a b
+        → EndsBy takes old new rest after octets (only_goes x) a b
     key_answer token m name x there more t is passed colon one does =
         let n = token.count in
         let kind = token.kind in
@@ -500,7 +508,7 @@ module _ {V : Type 0} (takes : V → Event → V → Type 0) where
         → ((fs : List Frame) (ss : Symbols) → Holds old fs ss → new.start ≡ begun_at old.start rest.used fs ss) → new.context ≡ old.context
         → IsPassed (drop token.count octets) m → get_or octets (token.count + m) 0 ≡ 58 → get_or octets (token.count + m + 1) 0 ≡ 58
         → ((fs : List Frame) (ss : Symbols) → Holds old fs ss → WentOn takes (told fs ss) new fs (ss ++ f.name ∷ []) a b)
-        → EndsBy takes old new rest after octets (Ok (token.count + m + 2, Taken.Uses)) a b
+        → EndsBy takes old new rest after octets (Ok Taken.Uses) a b
     note_answer here token f m there more t stage is start context passed one two w =
         let used = blank_used (past_token here rest token.kind token.count) m in
         let last = ap (λ (r : Rest). r.used) there in
@@ -515,7 +523,7 @@ module _ {V : Type 0} (takes : V → Event → V → Type 0) where
       → Takes Now.Ready old rest octets → OpensAt octets bracket → IsHere old here → IsBegun old rest k
       → ((fs : List Frame) (ss : Symbols) → Holds old fs ss → nat_lt (length fs) old.limits.depth ≡ true)
       → ((fs : List Frame) (ss : Symbols) → Holds old fs ss → Does takes (told fs ss) (opening bracket old.limits.depth k old.context fs ss) x new a b)
-      → EndsBy takes old new rest after octets (only_goes x 1) a b
+      → EndsBy takes old new rest after octets (only_goes x) a b
   open_answer old new rest after octets a b k s here bracket x there t opens is begun admits does =
       let same = settings_begun old new k s in
       goes_so old new rest after octets a b same 1 (past_token here rest (TokenKind.Mark (open_mark bracket)) 1)

@@ -16,9 +16,9 @@ pub let_by : (b x : Bool) → (b ≡ false → x ≡ true) → x ≡ false → b
 let_by true x k h = refl
 let_by false x k h = absurd (false≢true (sym h ∙ k refl))
 
--- a part is as told to a visitor that stays as it is, where it is part of no table
-pub untold_tells : {V : Type 0} (takes : V → Event → V → Type 0) (f g : TableFilter) (a : V) (p : Payload) → is_of_table f.table true ≡ false
-    → ((es : List Event) → WasTold f es → LetsPass g × (heard es ≡ es)) → takes a (part p) a → Tells takes (part p) f g a a
-untold_tells takes f g a p plain passes still =
-    visitor_tells takes (part p) f g a a a tt (plain_of f.table (begins_struct (part p)) plain)
-    (λ es h. let i = passes es h in (i.0, hears_none takes (heard es) es a (sym i.1))) still
+-- a part is as told to a visitor that goes on whatever it says, where it is part of no table
+pub untold_tells : {V : Type 0} (takes : V → Event → V → Type 0) (f g : TableFilter) (a b : V) (p : Payload) → is_of_table f.table true ≡ false
+    → ((es : List Event) → WasTold f es → LetsPass g × (heard es ≡ es)) → takes a (part p) b → Tells takes (part p) f g a b
+untold_tells takes f g a b p plain passes went =
+    visitor_tells takes (part p) f g a a b tt (plain_of f.table (begins_struct (part p)) plain)
+    (λ es h. let i = passes es h in (i.0, hears_none takes (heard es) es a (sym i.1))) went

@@ -270,30 +270,29 @@ impl TextWalk<'_> {
         self.ended(end)
     }
 
-    /// Whether a part has to be told: the visitor heeds it, or it may be one of a local symbol table.
+    /// Whether what a part says has to be told: the visitor heeds it, or it may be a local symbol
+    /// table's.
     #[inline(always)]
     fn needs_telling<V: Visitor>(&self, visitor: &V) -> bool
         ensures plain { result ≡ false → is_of_table self.now.filter.table true ≡ false }
-        ensures unheeded { result ≡ false → (payload : Payload) →
-            V.takes visitor.now (part payload) visitor.now }
     {
         !visitor.heeds_nothing() || self.filter.may_be_table()
     }
 
-    /// A part that needn't be told ended at `end`, and with it a value.
+    /// A part ended at `end`, and with it a value; what it says needn't be told.
     #[inline(always)]
-    fn whole_untold<V: Visitor>(&mut self, end: u64, visitor: &V) -> Result<Effect, Reason>
+    fn whole_untold<V: Visitor>(&mut self, end: u64, visitor: &mut V) -> Result<Effect, Reason>
         requires now { self.old.stage ≡ nows.Ready }
         requires plain { is_of_table self.old.filter.table true ≡ false }
-        requires unheeded { (payload : Payload) → V.takes visitor.now (part payload) visitor.now }
         ensures does { (payload : Payload) →
             layer_events (out-Payload payload) ≡ part payload ∷ [] →
             (fs : List Frame) (ss : Symbols) → Holds self.old fs ss →
             Does V.takes (told fs ss)
             (ended (setting_of self.old) (spot_of self.old end) fs (annotated ss payload))
-            result self.new visitor.now visitor.now }
+            result self.new visitor.old visitor.new }
         ensures setting { SameSetting self.old self.new }
     {
+        heard(visitor.any_part())?;
         let _passes = self.filter.lets_pass();
         self.ended(end)
     }

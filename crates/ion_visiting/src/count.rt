@@ -40,6 +40,11 @@ impl Visitor for Count {
     }
 
     #[inline(always)]
+    fn any_part(&mut self) -> bool {
+        true
+    }
+
+    #[inline(always)]
     fn part(&mut self, _said: &Part<'_>) -> bool {
         true
     }

@@ -107,6 +107,21 @@ impl Visitor for Outlining {
 
     ghost takes = { outlines };
 
+    // Inside of brackets a part is a node more, and no more than that.
+    #[inline(always)]
+    fn heeds_nothing(&self) -> bool {
+        self.level > 0
+    }
+
+    #[inline(always)]
+    fn any_part(&mut self) -> bool {
+        if self.level == 0 {
+            return false;
+        }
+        self.count();
+        true
+    }
+
     #[inline(always)]
     fn part(&mut self, said: &Part<'_>) -> bool {
         self.count_value(part_kind(said));

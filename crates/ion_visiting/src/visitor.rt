@@ -18,9 +18,15 @@ pub trait Visitor {
     /// From which state to which an event leads it.
     ghost takes: { Self → Event → Self → Type 0 };
 
-    /// Whether it stays as it is whatever a part says: then none is read for it.
-    fn heeds_nothing(&self) -> bool
-        ensures { result ≡ true → (payload : Payload) → takes self.now (part payload) self.now }
+    /// Whether it heeds nothing of what the next part says: then that isn't read for it, and it is
+    /// told by `any_part`.
+    fn heeds_nothing(&self) -> bool {
+        false
+    }
+
+    /// A part, whatever it says. Only where `heeds_nothing`.
+    fn any_part(&mut self) -> bool
+        ensures { result ≡ true → (payload : Payload) → takes self.old (part payload) self.new }
     {
         false
     }

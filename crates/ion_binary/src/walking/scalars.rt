@@ -16,7 +16,7 @@ use ion_symtab::Context;
 use ion_visiting::{Part, TableFilter, Visitor};
 
 /// Tells the scalar that a body is (Ion 1.0, "Ion Binary Encoding", typed value formats). A visitor
-/// that heeds no part isn't told it: that it is one is enough.
+/// that heeds nothing of a part isn't told which: that it is one is enough.
 ///
 /// `TooLarge` for an int of magnitude 2^127 and more, `Malformed` for a negative zero, `BadUtf8`
 /// for a string that isn't UTF-8; for a symbol what `Context::symbol` says of its id, and
@@ -36,7 +36,7 @@ pub(super) fn tell_scalar<V: Visitor>(
         judge context.now scalar body.now ≡ Err reason) }
 {
     if visitor.heeds_nothing() && is_scalar(context, scalar, body) && filter.lets_pass() {
-        return Ok(());
+        return heard(visitor.any_part());
     }
     read_scalar(context, scalar, body, filter, visitor)
 }

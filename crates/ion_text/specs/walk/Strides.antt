@@ -33,17 +33,17 @@ abbrev pub is_null_struct : Part → Bool
 is_null_struct (Part.Null kind) = is_fields kind
 is_null_struct _ = false
 
--- what a token of so many octets answers that only goes on; what else could come of it is told as memory that ran out
-abbrev pub only_goes : Result Turned Reason → ℕ → Result (ℕ × Taken) Reason
-only_goes (Ok Goes) count = Ok (count, Taken.Uses)
-only_goes _ count = Err Memory
+-- what a token answers that only goes on; what else could come of it is told as memory that ran out
+abbrev pub only_goes : Result Turned Reason → Result Taken Reason
+only_goes (Ok Goes) = Ok Taken.Uses
+only_goes _ = Err Memory
 
 -- the same of one that ends a value, whose end the octet behind it shows, or its last one
-abbrev pub value_took : Result Turned Reason → ℕ → Bool → Result (ℕ × Taken) Reason
-value_took (Ok Goes) count left = Ok (count, Taken.Uses)
-value_took (Ok Gives) count true = Ok (count, Taken.Leaves)
-value_took (Ok Gives) count false = Ok (count, Taken.Tells)
-value_took _ count left = Err Memory
+abbrev pub value_took : Result Turned Reason → Bool → Result Taken Reason
+value_took (Ok Goes) left = Ok Taken.Uses
+value_took (Ok Gives) true = Ok Taken.Leaves
+value_took (Ok Gives) false = Ok Taken.Tells
+value_took _ left = Err Memory
 
 module _ {V : Type 0} (takes : V → Event → V → Type 0) where
   -- From where a reader stood a run goes on over so many octets to where it stands now, and a visitor heard what there was to hear of them.
@@ -87,9 +87,9 @@ module _ {V : Type 0} (takes : V → Event → V → Type 0) where
   abbrev pub Strode : TextWalk → TextWalk → Rest → Rest → List ℕ → ℕ → V → V → Type 0
   Strode old new before after octets count a b = Ended old new before after octets (count, Taken.Uses) a b
 
-  -- what taking up of these octets answers
-  pub record EndsBy (old new : TextWalk) (before after : Rest) (octets : List ℕ) (result : Result (ℕ × Taken) Reason) (a b : V) : Type 0 where
-    pub ended : IfOk result (λ ends. Ended old new before after octets ends a b)
+  -- what taking up of these octets answers; how many were taken up is how far the place has moved
+  pub record EndsBy (old new : TextWalk) (before after : Rest) (octets : List ℕ) (result : Result Taken Reason) (a b : V) : Type 0 where
+    pub ended : IfOk result (λ taken. Ended old new before after octets (after.used - before.used, taken) a b)
     pub memory : IfErr result (λ reason. reason ≡ Memory)
     pub same : SameSetting old new
 

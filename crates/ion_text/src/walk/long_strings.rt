@@ -23,7 +23,7 @@ impl TextWalk<'_> {
         rest: &mut Rest,
         octets: &[u8],
         visitor: &mut V,
-    ) -> Result<(usize, Taken), Reason>
+    ) -> Result<Taken, Reason>
         requires { Takes nows.Ready self.old rest.old octets.now }
         ensures { EndsBy V.takes self.old self.new rest.old rest.new octets.now result
             visitor.old visitor.new }
@@ -48,7 +48,7 @@ impl TextWalk<'_> {
         rest: &mut Rest,
         octets: &[u8],
         visitor: &mut V,
-    ) -> Result<(usize, Taken), Reason>
+    ) -> Result<Taken, Reason>
         requires takes { Takes nows.Ready self.old rest.old octets.now }
         requires here { IsHere self.old here }
         ensures { EndsBy V.takes self.old self.new rest.old rest.new octets.now result
@@ -56,7 +56,7 @@ impl TextWalk<'_> {
     {
         let mut text = String::new(self.alloc);
         match join_segments(&mut self.beside, here, *rest, octets, true, &mut text) {
-            None => Ok((0, Taken::Uses)),
+            None => Ok(Taken::Uses),
             Some((count, behind)) => {
                 self.take_text(here, count, behind, text.as_str(), rest, octets, visitor)
             }
@@ -74,7 +74,7 @@ impl TextWalk<'_> {
         rest: &mut Rest,
         octets: &[u8],
         visitor: &mut V,
-    ) -> Result<(usize, Taken), Reason>
+    ) -> Result<Taken, Reason>
         requires takes { Takes nows.Ready self.old rest.old octets.now }
         requires here { IsHere self.old here }
         requires long { LongThere here rest.old octets.now count behind text.now }
@@ -83,10 +83,6 @@ impl TextWalk<'_> {
     {
         self.start = self.begun_at(rest.used);
         *rest = behind;
-        value_took(
-            self.whole(&Part::Str(text), behind.used, visitor),
-            count,
-            true,
-        )
+        value_took(self.whole(&Part::Str(text), behind.used, visitor), true)
     }
 }

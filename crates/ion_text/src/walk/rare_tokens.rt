@@ -82,14 +82,14 @@ impl TextWalk<'_> {
         rest: &mut Rest,
         octets: &[u8],
         visitor: &mut V,
-    ) -> Result<(usize, Taken), Reason>
+    ) -> Result<Taken, Reason>
         requires takes { Takes nows.Ready self.old rest.old octets.now }
         requires here { IsHere self.old here }
         ensures { EndsBy V.takes self.old self.new rest.old rest.new octets.now result
             visitor.old visitor.new }
     {
         let Some((token, body)) = rare_at(&mut self.beside, here, *rest, octets) else {
-            return Ok((0, Taken::Uses));
+            return Ok(Taken::Uses);
         };
         let taken = self.take_body(here, token, &body, rest, octets, visitor);
         drop(body);
@@ -105,7 +105,7 @@ impl TextWalk<'_> {
         rest: &mut Rest,
         octets: &[u8],
         visitor: &mut V,
-    ) -> Result<(usize, Taken), Reason>
+    ) -> Result<Taken, Reason>
         requires takes { Takes nows.Ready self.old rest.old octets.now }
         requires here { IsHere self.old here }
         requires says { SaysThere here rest.old octets.now token (content body.now) }
@@ -113,7 +113,7 @@ impl TextWalk<'_> {
             visitor.old visitor.new }
     {
         let Some((waits, said)) = value_part(body) else {
-            return Ok((0, Taken::Uses));
+            return Ok(Taken::Uses);
         };
         let scalar = Scalar { token, waits };
         if !waits {
@@ -136,7 +136,7 @@ impl TextWalk<'_> {
         rest: &mut Rest,
         octets: &[u8],
         visitor: &mut V,
-    ) -> Result<(usize, Taken), Reason>
+    ) -> Result<Taken, Reason>
         requires takes { Takes nows.Ready self.old rest.old octets.now }
         requires here { IsHere self.old here }
         requires token { BeginsValue true here rest.old octets.now token (payload_of said.now) }
@@ -144,7 +144,7 @@ impl TextWalk<'_> {
             visitor.old visitor.new }
     {
         let Part::Symbol(text) = said else {
-            return Ok((0, Taken::Uses));
+            return Ok(Taken::Uses);
         };
         let symbol = self.recent.symbol(text)?;
         self.take_known_note(here, token, symbol, rest, octets, visitor)
@@ -157,17 +157,17 @@ impl TextWalk<'_> {
         rest: &mut Rest,
         octets: &[u8],
         visitor: &mut V,
-    ) -> Result<(usize, Taken), Reason>
+    ) -> Result<Taken, Reason>
         requires { Takes nows.Name self.old rest.old octets.now }
         ensures { EndsBy V.takes self.old self.new rest.old rest.new octets.now result
             visitor.old visitor.new }
     {
         let Some((token, body)) = rare_at(&mut self.beside, Place::Name, *rest, octets) else {
-            return Ok((0, Taken::Uses));
+            return Ok(Taken::Uses);
         };
         let Some(text) = name_text(&body) else {
             drop(body);
-            return Ok((0, Taken::Uses));
+            return Ok(Taken::Uses);
         };
         let taken = self.take_key(token, text, rest, octets, visitor);
         drop(body);

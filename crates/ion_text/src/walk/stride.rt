@@ -68,33 +68,26 @@ fn is_null_struct(said: &Part<'_>) -> bool
     }
 }
 
-// What a token answers that is only followed by more, of so many octets.
+// What a token answers that is only followed by more.
 #[inline(always)]
-pub(super) fn only_goes(
-    effect: Result<Effect, Reason>,
-    count: usize,
-) -> Result<(usize, Taken), Reason>
-    ensures { result ≡ only_goes effect count }
+pub(super) fn only_goes(effect: Result<Effect, Reason>) -> Result<Taken, Reason>
+    ensures { result ≡ only_goes effect }
 {
     match effect {
-        Ok(Effect::Goes) => Ok((count, Taken::Uses)),
+        Ok(Effect::Goes) => Ok(Taken::Uses),
         _ => Err(Reason::Memory),
     }
 }
 
-// What a token answers that ends a value, of so many octets; the octet behind them may show its end.
+// What a token answers that ends a value; the octet behind it may show its end.
 #[inline(always)]
-pub(super) fn value_took(
-    effect: Result<Effect, Reason>,
-    count: usize,
-    left: bool,
-) -> Result<(usize, Taken), Reason>
-    ensures { result ≡ value_took effect count left }
+pub(super) fn value_took(effect: Result<Effect, Reason>, left: bool) -> Result<Taken, Reason>
+    ensures { result ≡ value_took effect left }
 {
     match effect {
-        Ok(Effect::Goes) => Ok((count, Taken::Uses)),
-        Ok(Effect::Gives) if left => Ok((count, Taken::Leaves)),
-        Ok(Effect::Gives) => Ok((count, Taken::Tells)),
+        Ok(Effect::Goes) => Ok(Taken::Uses),
+        Ok(Effect::Gives) if left => Ok(Taken::Leaves),
+        Ok(Effect::Gives) => Ok(Taken::Tells),
         _ => Err(Reason::Memory),
     }
 }
@@ -131,9 +124,9 @@ impl TextWalk<'_> {
             return Ok((0, Taken::Uses));
         }
         let mut rest = first;
-        let (count, taken) = self.take_each(&mut rest, octets, visitor)?;
+        let taken = self.take_each(&mut rest, octets, visitor)?;
         self.scanner.move_to(rest);
-        Ok((count, taken))
+        Ok(((rest.used - first.used) as usize, taken))
     }
 
     /// Where the scanner rests, if tokens may be taken up at once: none has begun, and nothing
@@ -168,31 +161,33 @@ impl TextWalk<'_> {
         }
     }
 
-    /// The same of octets, behind which the scanner isn't moved yet.
+    /// The same of octets, behind which the scanner isn't moved yet. How many were taken up is how
+    /// far the place it would rest at has moved.
     #[inline(always)]
     fn take_each<V: Visitor>(
         &mut self,
         rest: &mut Rest,
         octets: &[u8],
         visitor: &mut V,
-    ) -> Result<(usize, Taken), Reason>
+    ) -> Result<Taken, Reason>
         requires room { rest.old.used + length octets.now < 2 ^ 63 }
         ensures { EndsBy V.takes self.old self.new rest.old rest.new octets.now result
             visitor.old visitor.new }
     {
         let mut at = 0;
         for _ in 0..octets.len() {
-            let (count, taken) = self.take_next(rest, &octets[at..], visitor)?;
-            at += count;
+            let before = rest.used;
+            let taken = self.take_next(rest, &octets[at..], visitor)?;
+            let count = (rest.used - before) as usize;
             if count == 0 {
-                return Ok((at, taken));
+                return Ok(taken);
             }
             match taken {
-                Taken::Uses => {}
-                _ => return Ok((at, taken)),
+                Taken::Uses => at += count,
+                _ => return Ok(taken),
             }
         }
-        Ok((at, Taken::Uses))
+        Ok(Taken::Uses)
     }
 
     /// A blank, and the token behind it.
@@ -202,21 +197,21 @@ impl TextWalk<'_> {
         rest: &mut Rest,
         octets: &[u8],
         visitor: &mut V,
-    ) -> Result<(usize, Taken), Reason>
+    ) -> Result<Taken, Reason>
         requires room { rest.old.used + length octets.now < 2 ^ 63 }
         ensures { EndsBy V.takes self.old self.new rest.old rest.new octets.now result
             visitor.old visitor.new }
     {
         let blank = blanks(octets);
         if blank >= octets.len() {
-            return Ok((0, Taken::Uses));
+            return Ok(Taken::Uses);
         }
         if octets[blank] == b'/' {
-            return Ok((past_comments(rest, octets), Taken::Uses));
+            past_comments(rest, octets);
+            return Ok(Taken::Uses);
         }
         go_past_blank(rest, blank);
-        let (count, taken) = self.take_token(rest, &octets[blank..], visitor)?;
-        Ok((blank + count, taken))
+        self.take_token(rest, &octets[blank..], visitor)
     }
 
     /// A token, with what has to be seen behind it.
@@ -226,19 +221,19 @@ impl TextWalk<'_> {
         rest: &mut Rest,
         octets: &[u8],
         visitor: &mut V,
-    ) -> Result<(usize, Taken), Reason>
+    ) -> Result<Taken, Reason>
         requires room { rest.old.used + length octets.now < 2 ^ 63 }
         ensures { EndsBy V.takes self.old self.new rest.old rest.new octets.now result
             visitor.old visitor.new }
     {
         if octets.len() < 2 {
-            return Ok((0, Taken::Uses));
+            return Ok(Taken::Uses);
         }
         match &self.stage {
             Now::Ready => self.take_value(rest, octets, visitor),
             Now::Name => self.take_field(rest, octets, visitor),
             Now::After => self.take_after(rest, octets, visitor),
-            _ => Ok((0, Taken::Uses)),
+            _ => Ok(Taken::Uses),
         }
     }
 
@@ -249,7 +244,7 @@ impl TextWalk<'_> {
         rest: &mut Rest,
         octets: &[u8],
         visitor: &mut V,
-    ) -> Result<(usize, Taken), Reason>
+    ) -> Result<Taken, Reason>
         requires { Takes nows.After self.old rest.old octets.now }
         ensures { EndsBy V.takes self.old self.new rest.old rest.new octets.now result
             visitor.old visitor.new }
@@ -267,7 +262,7 @@ impl TextWalk<'_> {
         rest: &mut Rest,
         octets: &[u8],
         visitor: &V,
-    ) -> Result<(usize, Taken), Reason>
+    ) -> Result<Taken, Reason>
         requires takes { Takes nows.After self.old rest.old octets.now }
         requires comma { get_or octets.now 0 0 ≡ 44 }
         ensures { EndsBy V.takes self.old self.new rest.old rest.new octets.now result
@@ -275,7 +270,7 @@ impl TextWalk<'_> {
     {
         let here = self.place();
         *rest = rest.past_token(here, TokenKind::Mark(Mark::Comma), 1);
-        only_goes(self.on_comma(), 1)
+        only_goes(self.on_comma())
     }
 
     /// What the octet closes, if that is the innermost container.
@@ -304,7 +299,7 @@ impl TextWalk<'_> {
         rest: &mut Rest,
         octets: &[u8],
         visitor: &mut V,
-    ) -> Result<(usize, Taken), Reason>
+    ) -> Result<Taken, Reason>
         requires more { 1 < length octets.now }
         requires room { rest.old.used + length octets.now < 2 ^ 63 }
         ensures { EndsBy V.takes self.old self.new rest.old rest.new octets.now result
@@ -312,16 +307,16 @@ impl TextWalk<'_> {
     {
         let nested = self.frames.len() > 1;
         if !nested && self.filter.may_be_table() {
-            return Ok((0, Taken::Uses));
+            return Ok(Taken::Uses);
         }
         let Some(bracket) = self.closing(octets[0]) else {
-            return Ok((0, Taken::Uses));
+            return Ok(Taken::Uses);
         };
         let here = self.place();
         *rest = rest.past_token(here, TokenKind::Mark(close_mark(bracket)), 1);
         match self.close(bracket, rest.used, visitor) {
-            Ok(Effect::Goes) if nested => Ok((1, Taken::Uses)),
-            Ok(Effect::Gives) => Ok((1, Taken::Tells)),
+            Ok(Effect::Goes) if nested => Ok(Taken::Uses),
+            Ok(Effect::Gives) => Ok(Taken::Tells),
             _ => Err(Reason::Memory),
         }
     }
@@ -333,7 +328,7 @@ impl TextWalk<'_> {
         rest: &mut Rest,
         octets: &[u8],
         visitor: &mut V,
-    ) -> Result<(usize, Taken), Reason>
+    ) -> Result<Taken, Reason>
         requires { Takes nows.Name self.old rest.old octets.now }
         ensures { EndsBy V.takes self.old self.new rest.old rest.new octets.now result
             visitor.old visitor.new }
@@ -347,7 +342,7 @@ impl TextWalk<'_> {
         match plain_name(octets) {
             Some((token, text)) => self.take_key(token, text, rest, octets, visitor),
             None if may_be_rare(octets) => self.take_rare_name(rest, octets, visitor),
-            None => Ok((0, Taken::Uses)),
+            None => Ok(Taken::Uses),
         }
     }
 
@@ -360,20 +355,20 @@ impl TextWalk<'_> {
         rest: &mut Rest,
         octets: &[u8],
         visitor: &mut V,
-    ) -> Result<(usize, Taken), Reason>
+    ) -> Result<Taken, Reason>
         requires takes { Takes nows.Name self.old rest.old octets.now }
         requires token { BeginsName places.Name rest.old octets.now token (Some text.now) }
         ensures { EndsBy V.takes self.old self.new rest.old rest.new octets.now result
             visitor.old visitor.new }
     {
         let Some(between) = behind_name(octets, token.count) else {
-            return Ok((0, Taken::Uses));
+            return Ok(Taken::Uses);
         };
         *rest = rest
             .past_token(Place::Name, token.kind, token.count)
             .past_blank(between)
             .past_token(Place::Name, TokenKind::Mark(Mark::Colon), 1);
-        only_goes(self.named_by(text, visitor), token.count + between + 1)
+        only_goes(self.named_by(text, visitor))
     }
 
     /// Behind the colon of a field of this name.
@@ -398,7 +393,7 @@ impl TextWalk<'_> {
         rest: &mut Rest,
         octets: &[u8],
         visitor: &mut V,
-    ) -> Result<(usize, Taken), Reason>
+    ) -> Result<Taken, Reason>
         requires { Takes nows.Ready self.old rest.old octets.now }
         ensures { EndsBy V.takes self.old self.new rest.old rest.new octets.now result
             visitor.old visitor.new }
@@ -423,19 +418,19 @@ impl TextWalk<'_> {
         rest: &mut Rest,
         octets: &[u8],
         visitor: &mut V,
-    ) -> Result<(usize, Taken), Reason>
+    ) -> Result<Taken, Reason>
         requires takes { Takes nows.Ready self.old rest.old octets.now }
         requires opens { OpensAt octets.now bracket }
         ensures { EndsBy V.takes self.old self.new rest.old rest.new octets.now result
             visitor.old visitor.new }
     {
         if !self.may_deepen() {
-            return Ok((0, Taken::Uses));
+            return Ok(Taken::Uses);
         }
         let here = self.place();
         self.start = self.begun_at(rest.used);
         *rest = rest.past_token(here, TokenKind::Mark(open_mark(bracket)), 1);
-        only_goes(self.open(bracket, visitor), 1)
+        only_goes(self.open(bracket, visitor))
     }
 
     /// A number, whose end the octet behind it shows.
@@ -445,7 +440,7 @@ impl TextWalk<'_> {
         rest: &mut Rest,
         octets: &[u8],
         visitor: &mut V,
-    ) -> Result<(usize, Taken), Reason>
+    ) -> Result<Taken, Reason>
         requires { Takes nows.Ready self.old rest.old octets.now }
         ensures { EndsBy V.takes self.old self.new rest.old rest.new octets.now result
             visitor.old visitor.new }
@@ -459,11 +454,7 @@ impl TextWalk<'_> {
         let here = self.place();
         self.start = self.begun_at(rest.used);
         *rest = rest.past_token(here, token.kind, token.count);
-        value_took(
-            self.whole_untold(rest.used, visitor),
-            token.count,
-            token.left,
-        )
+        value_took(self.whole_untold(rest.used, visitor), token.left)
     }
 
     /// A number, which is told: by its parts where it has few digits, so that no number of whatever
@@ -474,7 +465,7 @@ impl TextWalk<'_> {
         rest: &mut Rest,
         octets: &[u8],
         visitor: &mut V,
-    ) -> Result<(usize, Taken), Reason>
+    ) -> Result<Taken, Reason>
         requires { Takes nows.Ready self.old rest.old octets.now }
         ensures { EndsBy V.takes self.old self.new rest.old rest.new octets.now result
             visitor.old visitor.new }
@@ -498,7 +489,7 @@ impl TextWalk<'_> {
         rest: &mut Rest,
         octets: &[u8],
         visitor: &mut V,
-    ) -> Result<(usize, Taken), Reason>
+    ) -> Result<Taken, Reason>
         requires { Takes nows.Ready self.old rest.old octets.now }
         ensures { EndsBy V.takes self.old self.new rest.old rest.new octets.now result
             visitor.old visitor.new }
@@ -518,7 +509,7 @@ impl TextWalk<'_> {
         rest: &mut Rest,
         octets: &[u8],
         visitor: &mut V,
-    ) -> Result<(usize, Taken), Reason>
+    ) -> Result<Taken, Reason>
         requires takes { Takes nows.Ready self.old rest.old octets.now }
         requires found { (here : AnyPlace) (rest : AnyRest) → is_name here ≡ false →
             FoundNumber here rest octets.now token number }
@@ -529,11 +520,7 @@ impl TextWalk<'_> {
         let here = self.place();
         self.start = self.begun_at(rest.used);
         *rest = rest.past_token(here, token.kind, token.count);
-        value_took(
-            self.whole_number(number, rest.used, visitor),
-            token.count,
-            token.left,
-        )
+        value_took(self.whole_number(number, rest.used, visitor), token.left)
     }
 
     /// A short string, an operator or a close.
@@ -543,7 +530,7 @@ impl TextWalk<'_> {
         rest: &mut Rest,
         octets: &[u8],
         visitor: &mut V,
-    ) -> Result<(usize, Taken), Reason>
+    ) -> Result<Taken, Reason>
         requires { Takes nows.Ready self.old rest.old octets.now }
         ensures { EndsBy V.takes self.old self.new rest.old rest.new octets.now result
             visitor.old visitor.new }
@@ -576,7 +563,7 @@ impl TextWalk<'_> {
         rest: &mut Rest,
         octets: &[u8],
         visitor: &mut V,
-    ) -> Result<(usize, Taken), Reason>
+    ) -> Result<Taken, Reason>
         requires takes { Takes nows.Ready self.old rest.old octets.now }
         requires here { IsHere self.old here }
         requires found { FoundPart here rest.old octets.now scalar (payload_of said.now) }
@@ -586,18 +573,14 @@ impl TextWalk<'_> {
     {
         let token = scalar.token;
         if token.count >= octets.len() {
-            return Ok((0, Taken::Uses));
+            return Ok(Taken::Uses);
         }
         if self.is_left(1, is_null_struct(said)) {
-            return Ok((0, Taken::Uses));
+            return Ok(Taken::Uses);
         }
         self.start = self.begun_at(rest.used);
         *rest = rest.past_token(here, token.kind, token.count);
-        value_took(
-            self.whole(said, rest.used, visitor),
-            token.count,
-            token.left,
-        )
+        value_took(self.whole(said, rest.used, visitor), token.left)
     }
 
     /// A symbol, a null or a truth, or an annotation, where the octets show which; or a long string.
@@ -608,7 +591,7 @@ impl TextWalk<'_> {
         rest: &mut Rest,
         octets: &[u8],
         visitor: &mut V,
-    ) -> Result<(usize, Taken), Reason>
+    ) -> Result<Taken, Reason>
         requires { Takes nows.Ready self.old rest.old octets.now }
         ensures { EndsBy V.takes self.old self.new rest.old rest.new octets.now result
             visitor.old visitor.new }
@@ -626,7 +609,7 @@ impl TextWalk<'_> {
         rest: &mut Rest,
         octets: &[u8],
         visitor: &mut V,
-    ) -> Result<(usize, Taken), Reason>
+    ) -> Result<Taken, Reason>
         requires { Takes nows.Ready self.old rest.old octets.now }
         ensures { EndsBy V.takes self.old self.new rest.old rest.new octets.now result
             visitor.old visitor.new }
@@ -646,7 +629,7 @@ impl TextWalk<'_> {
         rest: &mut Rest,
         octets: &[u8],
         visitor: &mut V,
-    ) -> Result<(usize, Taken), Reason>
+    ) -> Result<Taken, Reason>
         requires takes { Takes nows.Ready self.old rest.old octets.now }
         requires found { (here : AnyPlace) (rest : AnyRest) →
             FoundSymbol here rest octets.now scalar (payload_of said.now) }
@@ -685,7 +668,7 @@ impl TextWalk<'_> {
         rest: &mut Rest,
         octets: &[u8],
         visitor: &mut V,
-    ) -> Result<(usize, Taken), Reason>
+    ) -> Result<Taken, Reason>
         requires takes { Takes nows.Ready self.old rest.old octets.now }
         requires here { IsHere self.old here }
         requires found { FoundSymbol here rest.old octets.now scalar (payload_of said.now) }
@@ -697,13 +680,13 @@ impl TextWalk<'_> {
             visitor.old visitor.new }
     {
         if self.is_left(between, is_null_struct(said)) {
-            return Ok((0, Taken::Uses));
+            return Ok(Taken::Uses);
         }
         let token = scalar.token;
         let end = rest.used + token.count as u64;
         self.start = self.begun_at(rest.used);
         *rest = behind;
-        value_took(self.whole(said, end, visitor), token.count + between, true)
+        value_took(self.whole(said, end, visitor), true)
     }
 
     /// An annotation with its `::`.
@@ -713,13 +696,13 @@ impl TextWalk<'_> {
         rest: &mut Rest,
         octets: &[u8],
         visitor: &mut V,
-    ) -> Result<(usize, Taken), Reason>
+    ) -> Result<Taken, Reason>
         requires { Takes nows.Ready self.old rest.old octets.now }
         ensures { EndsBy V.takes self.old self.new rest.old rest.new octets.now result
             visitor.old visitor.new }
     {
         let Some(note) = note_at(octets) else {
-            return Ok((0, Taken::Uses));
+            return Ok(Taken::Uses);
         };
         let here = self.place();
         self.start = self.begun_at(rest.used);
@@ -729,7 +712,7 @@ impl TextWalk<'_> {
             .past_token(here, token.kind, token.count)
             .past_blank(note.between)
             .past_token(here, TokenKind::Mark(Mark::Colons), 2);
-        Ok((token.count + note.between + 2, Taken::Uses))
+        Ok(Taken::Uses)
     }
 
     /// An annotation of this text, which names no local symbol tables, has come.

@@ -45,7 +45,7 @@ impl TextWalk<'_> {
         rest: &mut Rest,
         octets: &[u8],
         visitor: &mut V,
-    ) -> Result<(usize, Taken), Reason>
+    ) -> Result<Taken, Reason>
         requires takes { Takes nows.Ready self.old rest.old octets.now }
         requires here { IsHere self.old here }
         ensures { EndsBy V.takes self.old self.new rest.old rest.new octets.now result
@@ -58,17 +58,17 @@ impl TextWalk<'_> {
             return self.take_id_note(here, token, id, rest, octets, visitor);
         };
         if self.is_left(between, false) {
-            return Ok((0, Taken::Uses));
+            return Ok(Taken::Uses);
         }
         let begin = self.begun_at(rest.used);
         let Ok(symbol) = self.context.symbol(id) else {
-            return Ok((0, Taken::Uses));
+            return Ok(Taken::Uses);
         };
         let end = rest.used + token.count as u64;
         heard(self.filter.symbol(symbol, visitor))?;
         self.start = begin;
         *rest = behind;
-        value_took(self.ended(end), token.count + between, true)
+        value_took(self.ended(end), true)
     }
 
     /// The symbol of this id as an annotation, with its `::`.
@@ -81,7 +81,7 @@ impl TextWalk<'_> {
         rest: &mut Rest,
         octets: &[u8],
         visitor: &mut V,
-    ) -> Result<(usize, Taken), Reason>
+    ) -> Result<Taken, Reason>
         requires takes { Takes nows.Ready self.old rest.old octets.now }
         requires here { IsHere self.old here }
         requires says { SaysThere here rest.old octets.now token (Id id) }
@@ -90,7 +90,7 @@ impl TextWalk<'_> {
             visitor.old visitor.new }
     {
         let Ok(symbol) = self.context.resolve(id) else {
-            return Ok((0, Taken::Uses));
+            return Ok(Taken::Uses);
         };
         self.take_known_note(here, token, symbol, rest, octets, visitor)
     }
@@ -104,7 +104,7 @@ impl TextWalk<'_> {
         rest: &mut Rest,
         octets: &[u8],
         visitor: &mut V,
-    ) -> Result<(usize, Taken), Reason>
+    ) -> Result<Taken, Reason>
         requires takes { Takes nows.Ready self.old rest.old octets.now }
         requires here { IsHere self.old here }
         requires there { SymbolThere self.old.context here rest.old octets.now token symbol }
@@ -113,17 +113,17 @@ impl TextWalk<'_> {
     {
         let Some(between) = behind_annotation(octets, token.count) else {
             drop(symbol);
-            return Ok((0, Taken::Uses));
+            return Ok(Taken::Uses);
         };
         if self.is_top() {
             drop(symbol);
-            return Ok((0, Taken::Uses));
+            return Ok(Taken::Uses);
         }
         *rest = rest
             .past_token(here, token.kind, token.count)
             .past_blank(between)
             .past_token(here, TokenKind::Mark(Mark::Colons), 2);
-        only_goes(self.note(symbol, visitor), token.count + between + 2)
+        only_goes(self.note(symbol, visitor))
     }
 
     /// A field's name that begins with `$`, with its colon.
@@ -133,7 +133,7 @@ impl TextWalk<'_> {
         rest: &mut Rest,
         octets: &[u8],
         visitor: &mut V,
-    ) -> Result<(usize, Taken), Reason>
+    ) -> Result<Taken, Reason>
         requires { Takes nows.Name self.old rest.old octets.now }
         ensures { EndsBy V.takes self.old self.new rest.old rest.new octets.now result
             visitor.old visitor.new }
@@ -142,10 +142,10 @@ impl TextWalk<'_> {
             return self.take_rare_name(rest, octets, visitor);
         };
         let Some(between) = behind_name(octets, token.count) else {
-            return Ok((0, Taken::Uses));
+            return Ok(Taken::Uses);
         };
         let Ok(name) = self.context.symbol(id) else {
-            return Ok((0, Taken::Uses));
+            return Ok(Taken::Uses);
         };
         heard(self.filter.name(name, visitor))?;
         self.set_stage(Now::Ready);
@@ -153,6 +153,6 @@ impl TextWalk<'_> {
             .past_token(Place::Name, token.kind, token.count)
             .past_blank(between)
             .past_token(Place::Name, TokenKind::Mark(Mark::Colon), 1);
-        Ok((token.count + between + 1, Taken::Uses))
+        Ok(Taken::Uses)
     }
 }
