@@ -10,9 +10,9 @@ use Rattle.ion_tokens.proofs.complete.Wholes.{run_behind}
 use Rattle.ion_tokens.proofs.histories.Ended.{stands_used, told_all}
 use Rattle.ion_tokens.proofs.histories.Histories.{end_blank, end_token, given_next, left_next, refusal_right}
 use Rattle.ion_tokens.proofs.runs.Cutting.{one_body}
-use Rattle.ion_tokens.proofs.runs.LastOctets.{RefusedSplit, refused_split}
+use Rattle.ion_tokens.proofs.runs.LastOctets.{LastOctet, cut_behind, last_octet, ran_shown, refused_here, shown, size_shown}
 use Rattle.ion_tokens.proofs.runs.Runs.{next_used}
-use Rattle.ion_tokens.proofs.runs.Splits.{GivenSplit, LeftSplit, given_some, given_split, left_split}
+use Rattle.ion_tokens.proofs.runs.Splits.{given_one, left_one}
 use Rattle.ion_tokens.proofs.sound.Told.{ends_in_blank, ends_in_token, told_right}
 
 -- at most one octet is left
@@ -116,63 +116,79 @@ module _ (p : Place) (s : Known) (u : List ℕ) (ts : List Placed) (ahead : List
   pub scanned_used : s.used ≡ length u
   scanned_used = let stood = stands_used h.behind h.front ts h.left h.told in omega (arith, stood, since_used, ap length h.cut, length-append h.front h.since)
 
+  -- where something came of an octet of a piece: the octets up to that one behind those since the last token
+  module _ (piece : List ℕ) (x : Outcome) (d : LastOctet p piece s x) (c : Continues piece ahead) where
+    from_shown : Continues (h.since ++ shown d) h.left
+    from_shown = from_left piece (shown d) d.rest c (cut_behind d) (omega (arith, size_shown d))
+
+    since_ran : run p (h.since ++ shown d) h.behind ≡ x
+    since_ran = behind_since (shown d) x (ran_shown d)
+
+    lexes_there : (octets rest : List ℕ) (others : List Placed) → octets ≡ u ++ shown d → Lexes false 0 (octets ++ rest) (ts ++ others)
+        → Lexes false 0 (h.front ++ ((h.since ++ shown d) ++ rest)) (ts ++ others)
+    lexes_there octets rest others e lexes = subst (λ o. Lexes false 0 o (ts ++ others)) (ap (λ l. l ++ rest) e ∙ there (shown d) rest) lexes
+
+    -- those up to a refusal's offset
+    at_offset : (offset : ℕ) → offset ≡ d.known.used + 1 → take offset (u ++ piece) ≡ u ++ shown d
+    at_offset offset at =
+        front_is (u ++ piece) (u ++ shown d) d.rest offset (ap (λ l. u ++ l) (cut_behind d) ∙ sym (append_assoc u (shown d) d.rest))
+        (omega (arith, at, d.counted, size_shown d, scanned_used, length-append u (shown d)))
+
   gave : (piece : List ℕ) (s' : Known) (l : Lexeme) (scan : Stepped) (t : Token) → scan.left ≡ false → Continues piece ahead → run p piece s ≡ Given l s'
       → s'.used ≡ s.used + scan.used → IsToken l t → Tells p u piece ts scan t s'
-  gave piece s' l scan t used_all c e n is = by (given_split p piece s s' l e) where
-    by : GivenSplit p piece s s' l → Tells p u piece ts scan t s'
-    by x =
-        let size : scan.used ≡ length x.octets = omega (arith, n, x.used) in
-        let some : 1 ≤ length x.octets = given_some p x.octets s s' l x.ran in
-        let from = from_left piece x.octets x.rest c x.cut some in
-        let front : take scan.used piece ≡ x.octets = front_is piece x.octets x.rest scan.used x.cut size in
-        let decide : take (deciding scan.used scan.left) piece ≡ x.octets = ap (λ b. take (deciding scan.used b) piece) used_all ∙ front in
-        record {
-          lexeme = l;
-          is = is;
-          longest = λ rest others looks lexes.
-              given_next h.behind s' h.front ts h.left (h.since ++ x.octets) from.0 p l h.told from.1 (behind_since x.octets (Given l s') x.ran) rest others
-              looks
-              (subst (λ o. Lexes false 0 o (ts ++ others)) (ap (λ l. (u ++ l) ++ rest) decide ∙ there x.octets rest) lexes);
-          ahead = [];
-          left = let whole = ap (λ b. deciding scan.used b) used_all in omega (arith, whole);
-          again = (drop scan.used piece, refl);
-          scanned = λ q. subst (λ o. Scanned q s' (u ++ o) (ts ++ record { place = p; lexeme = l } ∷ []) []) (sym front)
-              (told_more x.octets (record { place = p; lexeme = l }) s' []
-              (Gave h.behind h.front ts h.left (record { place = p; lexeme = l }) (h.since ++ x.octets) from.0 s' h.told from.1
-              (behind_since x.octets (Given l s') x.ran) (omega (arith, x.used, since_used, length-append h.since x.octets))) is.passes q);
-        }
+  gave piece s' l scan t used_all c e n is =
+      let x = Given l s' in
+      let d = last_octet p piece s x tt e in
+      let from = from_shown piece x d c in
+      let one = given_one p d.octet d.known s' l d.fed in
+      let front : take scan.used piece ≡ shown d =
+      front_is piece (shown d) d.rest scan.used (cut_behind d) (omega (arith, n, one, d.counted, size_shown d)) in
+      let whole = ap (λ b. deciding scan.used b) used_all in
+      let token : Placed = record { place = p; lexeme = l } in
+      record {
+        lexeme = l;
+        is = is;
+        longest = λ rest others looks lexes.
+            given_next h.behind s' h.front ts h.left (h.since ++ shown d) from.0 p l h.told from.1 (since_ran piece x d c) rest others looks
+            (lexes_there piece x d c _ rest others (ap (λ (i : ℕ). u ++ take i piece) whole ∙ ap (λ o. u ++ o) front) lexes);
+        ahead = [];
+        left = omega (arith, whole);
+        again = (drop scan.used piece, refl);
+        scanned = λ q. subst (λ o. Scanned q s' (u ++ o) (ts ++ token ∷ []) []) (sym front)
+            (told_more (shown d) token s' []
+            (Gave h.behind h.front ts h.left token (h.since ++ shown d) from.0 s' h.told from.1 (since_ran piece x d c)
+            (omega (arith, one, d.counted, size_shown d, since_used, length-append h.since (shown d)))) is.passes q);
+      }
 
   left : (piece : List ℕ) (s' : Known) (l : Lexeme) (scan : Stepped) (t : Token) → scan.left ≡ true → Continues piece ahead → run p piece s ≡ Left l s'
       → s'.used ≡ s.used + scan.used → IsToken l t → Tells p u piece ts scan t s'
-  left piece s' l scan t one_left c e n is = by (left_split p piece s s' l e) where
-    by : LeftSplit p piece s s' l → Tells p u piece ts scan t s'
-    by x =
-        let size : scan.used ≡ length x.octets = omega (arith, n, x.used) in
-        let whole : piece ≡ (x.octets ++ x.octet ∷ []) ++ x.rest = x.cut ∙ sym (append_assoc x.octets (x.octet ∷ []) x.rest) in
-        let from = from_left piece (x.octets ++ x.octet ∷ []) x.rest c whole (omega (arith, length-append x.octets (x.octet ∷ []))) in
-        let front : take scan.used piece ≡ x.octets = front_is piece x.octets (x.octet ∷ x.rest) scan.used x.cut size in
-        let back : drop scan.used piece ≡ x.octet ∷ x.rest = ap (λ l. drop scan.used l) x.cut ∙ ap (λ (n : ℕ). drop n (x.octets ++ x.octet ∷ x.rest)) size
-        ∙ drop-append_seam x.octets (x.octet ∷ x.rest) in
-        let longer : scan.used + 1 ≡ length (x.octets ++ x.octet ∷ []) = omega (arith, size, length-append x.octets (x.octet ∷ [])) in
-        let decide : take (deciding scan.used scan.left) piece ≡ x.octets ++ x.octet ∷ [] = ap (λ b. take (deciding scan.used b) piece) one_left
-        ∙ front_is piece (x.octets ++ x.octet ∷ []) x.rest (scan.used + 1) whole longer in
-        record {
-          lexeme = l;
-          is = is;
-          longest = λ rest others looks lexes.
-              left_next h.behind s' h.front ts h.left (h.since ++ (x.octets ++ x.octet ∷ [])) from.0 p l h.told from.1
-              (behind_since (x.octets ++ x.octet ∷ []) (Left l s') x.ran) rest others looks
-              (subst (λ o. Lexes false 0 o (ts ++ others)) (ap (λ l. (u ++ l) ++ rest) decide ∙ there (x.octets ++ x.octet ∷ []) rest) lexes);
-          ahead = x.octet ∷ [];
-          left = let one = ap (λ b. deciding scan.used b) one_left in omega (arith, one);
-          again = (x.rest, back);
-          scanned = λ q. subst (λ o. Scanned q s' (u ++ o) (ts ++ record { place = p; lexeme = l } ∷ []) (x.octet ∷ [])) (sym front)
-              (told_more x.octets (record { place = p; lexeme = l }) s' (x.octet ∷ [])
-              (Leaved h.behind h.front ts h.left (record { place = p; lexeme = l }) (h.since ++ x.octets) from.0 x.octet s' h.told
-              (append_assoc h.since x.octets (x.octet ∷ []) ∙ from.1)
-              (ap (λ o. run p o h.behind) (append_assoc h.since x.octets (x.octet ∷ [])) ∙ behind_since (x.octets ++ x.octet ∷ []) (Left l s') x.ran)
-              (omega (arith, x.used, since_used, length-append h.since x.octets))) is.passes q);
-        }
+  left piece s' l scan t one_left c e n is =
+      let x = Left l s' in
+      let d = last_octet p piece s x tt e in
+      let from = from_shown piece x d c in
+      let one = left_one p d.octet d.known s' l d.fed in
+      let size : scan.used ≡ length d.before = omega (arith, n, one, d.counted) in
+      let front : take scan.used piece ≡ d.before = front_is piece d.before (d.octet ∷ d.rest) scan.used d.cut size in
+      let back : drop scan.used piece ≡ d.octet ∷ d.rest = ap (λ l. drop scan.used l) d.cut ∙ ap (λ (n : ℕ). drop n (d.before ++ d.octet ∷ d.rest)) size
+      ∙ drop-append_seam d.before (d.octet ∷ d.rest) in
+      let whole = ap (λ b. deciding scan.used b) one_left in
+      let decide : take (scan.used + 1) piece ≡ shown d = front_is piece (shown d) d.rest (scan.used + 1) (cut_behind d) (omega (arith, size, size_shown d)) in
+      let token : Placed = record { place = p; lexeme = l } in
+      record {
+        lexeme = l;
+        is = is;
+        longest = λ rest others looks lexes.
+            left_next h.behind s' h.front ts h.left (h.since ++ shown d) from.0 p l h.told from.1 (since_ran piece x d c) rest others looks
+            (lexes_there piece x d c _ rest others (ap (λ (i : ℕ). u ++ take i piece) whole ∙ ap (λ o. u ++ o) decide) lexes);
+        ahead = d.octet ∷ [];
+        left = omega (arith, whole);
+        again = (d.rest, back);
+        scanned = λ q. subst (λ o. Scanned q s' (u ++ o) (ts ++ token ∷ []) (d.octet ∷ [])) (sym front)
+            (told_more d.before token s' (d.octet ∷ [])
+            (Leaved h.behind h.front ts h.left token (h.since ++ d.before) from.0 d.octet s' h.told (append_assoc h.since d.before (d.octet ∷ []) ∙ from.1)
+            (ap (λ o. run p o h.behind) (append_assoc h.since d.before (d.octet ∷ [])) ∙ since_ran piece x d c)
+            (omega (arith, one, d.counted, since_used, length-append h.since d.before))) is.passes q);
+      }
 
   -- what a step that answers `Ok` says of the octets
   pub step_goes : (piece : List ℕ) (x : Outcome) (scan : Stepped) (now : Known) → Continues piece ahead → run p piece s ≡ x → Answers s.used x (Ok scan) now
@@ -197,49 +213,32 @@ module _ (p : Place) (s : Known) (u : List ℕ) (ts : List Placed) (ahead : List
   says_none l e (t ∷ others) b say next = let same = one_body l.kind l.octets (Ok say.0.0) (Err e)
       (subst (λ (m : Lexeme). IsBody m.kind m.octets (Ok say.0.0)) next say.0.1) b in cc
 
-  -- the octets up to a refusal's offset
-  at_offset : (piece octets after rest : List ℕ) (offset : ℕ) → piece ≡ octets ++ after → offset ≡ s.used + length octets → take offset (u ++ piece) ++ rest
-      ≡ h.front ++ ((h.since ++ octets) ++ rest)
-  at_offset piece octets after rest offset cut n =
-      let size : offset ≡ length (u ++ octets) = omega (arith, n, scanned_used, length-append u octets) in
-      ap (λ l. l ++ rest) (front_is (u ++ piece) (u ++ octets) after offset (ap (λ l. u ++ l) cut ∙ sym (append_assoc u octets after)) size) ∙ there octets rest
-
   -- where a step refuses, no document goes on with the octets up to its offset
   pub step_refuses : (piece : List ℕ) (x : Outcome) (r : Refusal) (now : Known) → r.reason ≢ Reason.Memory → Continues piece ahead → run p piece s ≡ x
       → Answers s.used x (Err r) now → NoDocument p (take r.offset (u ++ piece)) ts
   step_refuses piece (Next s') r now n c e a = absurd (a n)
-  step_refuses piece (Given l s') r now n c e a = by (given_split p piece s s' l e) where
-    by : GivenSplit p piece s s' l → NoDocument p (take r.offset (u ++ piece)) ts
-    by x = λ rest others looks say lexes.
-        let from = from_left piece x.octets x.rest c x.cut (given_some p x.octets s s' l x.ran) in
-        says_none l r.reason others (a n).says say
-        (given_next h.behind s' h.front ts h.left (h.since ++ x.octets) from.0 p l h.told from.1 (behind_since x.octets (Given l s') x.ran) rest others looks
-        (subst (λ o. Lexes false 0 o (ts ++ others)) (at_offset piece x.octets x.rest rest r.offset x.cut ((a n).offset ∙ x.used)) lexes))
-  step_refuses piece (Left l s') r now n c e a = by (left_split p piece s s' l e) where
-    by : LeftSplit p piece s s' l → NoDocument p (take r.offset (u ++ piece)) ts
-    by x = λ rest others looks say lexes.
-        let octets = x.octets ++ x.octet ∷ [] in
-        let whole : piece ≡ octets ++ x.rest = x.cut ∙ sym (append_assoc x.octets (x.octet ∷ []) x.rest) in
-        let size = length-append x.octets (x.octet ∷ []) in
-        let from = from_left piece octets x.rest c whole (omega (arith, size)) in
-        says_none l r.reason others (a n).says say
-        (left_next h.behind s' h.front ts h.left (h.since ++ octets) from.0 p l h.told from.1 (behind_since octets (Left l s') x.ran) rest others looks
-        (subst (λ o. Lexes false 0 o (ts ++ others)) (at_offset piece octets x.rest rest r.offset whole (let at = (a n).offset in
-        omega (arith, at, x.used, size))) lexes))
-  step_refuses piece (Refused k reason) r now n c e a = by (refused_split p piece s k reason e) where
-    by : RefusedSplit p piece s k reason → NoDocument p (take r.offset (u ++ piece)) ts
-    by x = λ rest others looks say lexes.
-        let last = x.last in
-        let octets = last.before ++ last.octet ∷ [] in
-        let whole : piece ≡ octets ++ last.rest = last.cut ∙ sym (append_assoc last.before (last.octet ∷ []) last.rest) in
-        let size = length-append last.before (last.octet ∷ []) in
-        let from = from_left piece octets last.rest c whole (omega (arith, size)) in
-        let at : r.offset ≡ k = ap (λ (q : Refusal). q.offset) (a n) in
-        let ran : run p octets s ≡ Refused k reason = run_behind p last.before (last.octet ∷ []) s last.known last.ran
-        ∙ ap (λ y. follow y (λ t. Next t)) last.fed in
-        refusal_right h.behind h.front ts h.left (h.since ++ octets) from.0 p k reason h.told from.1 (behind_since octets (Refused k reason) ran) rest others
-        looks
-        (subst (λ o. Lexes false 0 o (ts ++ others)) (at_offset piece octets last.rest rest r.offset whole (omega (arith, at, x.offset, size))) lexes)
+  step_refuses piece (Given l s') r now n c e a = λ rest others looks say lexes.
+      let x = Given l s' in
+      let d = last_octet p piece s x tt e in
+      let from = from_shown piece x d c in
+      says_none l r.reason others (a n).says say
+      (given_next h.behind s' h.front ts h.left (h.since ++ shown d) from.0 p l h.told from.1 (since_ran piece x d c) rest others looks
+      (lexes_there piece x d c _ rest others (at_offset piece x d c r.offset ((a n).offset ∙ given_one p d.octet d.known s' l d.fed)) lexes))
+  step_refuses piece (Left l s') r now n c e a = λ rest others looks say lexes.
+      let x = Left l s' in
+      let d = last_octet p piece s x tt e in
+      let from = from_shown piece x d c in
+      let one = left_one p d.octet d.known s' l d.fed in
+      says_none l r.reason others (a n).says say
+      (left_next h.behind s' h.front ts h.left (h.since ++ shown d) from.0 p l h.told from.1 (since_ran piece x d c) rest others looks
+      (lexes_there piece x d c _ rest others (at_offset piece x d c r.offset ((a n).offset ∙ ap (λ (k : ℕ). k + 1) one)) lexes))
+  step_refuses piece (Refused k reason) r now n c e a = λ rest others looks say lexes.
+      let x = Refused k reason in
+      let d = last_octet p piece s x tt e in
+      let from = from_shown piece x d c in
+      let at : r.offset ≡ k = ap (λ (q : Refusal). q.offset) (a n) in
+      refusal_right h.behind h.front ts h.left (h.since ++ shown d) from.0 p k reason h.told from.1 (since_ran piece x d c) rest others looks
+      (lexes_there piece x d c _ rest others (at_offset piece x d c r.offset (at ∙ refused_here p d.known d.octet k reason d.fed)) lexes)
 
 module _ (p : Place) (s : Known) (u : List ℕ) (ts : List Placed) (h : Scanned p s u ts []) where
   -- where no octet must come next, those since the last token begin with the one it left

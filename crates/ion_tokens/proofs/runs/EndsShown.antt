@@ -1,71 +1,40 @@
 -- The octet that shows the end of a token, in the octets that a machine ran over.
-use Rattle.std.proofs.Common.{◌≡◌, ℕ, ◌+◌, ◌-◌, ◌<◌, suc, Bool, true, false, List, [], ◌∷◌, length, take, refl, sym, ap, ◌∙◌, subst, arith}
+use Rattle.std.proofs.Common.{◌≡◌, ℕ, ◌+◌, ◌-◌, ◌<◌, Bool, true, false, List, [], ◌∷◌, ◌++◌, length, take, refl, sym, ap, ◌∙◌, subst, arith, length-append}
 use Rattle.std.specs.Prelude.{slice_index, Option, Some, None, IfSome}
-use Rattle.ion_tokens.specs.Names.{Ended, FoundToken, Given, IsFound, Known, Left, Lexeme, Machine, Next, Outcome, Place, Refused, Rest, TokenKind, ended, feed, follow, lexeme_at, past_token, resting, run}
+use Rattle.std.proofs.Math.Seq.{take-append_seam, get_or-append_seam}
+use Rattle.ion_tokens.specs.Names.{Ended, FoundToken, IsFound, Known, Lexeme, Machine, Place, Rest, TokenKind, before_end, ended, feed, lexeme_at, past_token, resting, run}
 use Rattle.ion_tokens.specs.machine.Machines.{known, lexeme_in}
-use Rattle.ion_tokens.proofs.runs.Runs.{feed_used}
+use Rattle.ion_tokens.proofs.runs.LastOctets.{IsLast, LastOctet, last_octet}
 use Rattle.ion_tokens.proofs.runs.Splits.{given_one, left_one}
 
--- how many octets are used of the one that shows the end
-abbrev used_of : Bool → ℕ
-used_of true = 0
-used_of false = 1
+is_last : (left : Bool) (l : Lexeme) (t : Known) → IsLast (ended left l t)
+is_last true l t = tt
+is_last false l t = tt
 
--- behind n octets stands the one that ends the token
-pub record ShownAt (p : Place) (octets : List ℕ) (s s' : Known) (l : Lexeme) (left : Bool) : Type 0 where
-  pub n : ℕ
-  pub within : n < length octets
-  pub known : Known
-  pub ran : run p (take n octets) s ≡ Next known
-  pub ends : feed p known (slice_index octets n) ≡ ended left l s'
-  pub used : s'.used ≡ s.used + n + used_of left
-
-ended_used : (left : Bool) (p : Place) (o : ℕ) (s s' : Known) (l : Lexeme) → feed p s o ≡ ended left l s' → s'.used ≡ s.used + 0 + used_of left
-ended_used true p o s s' l e = let h = left_one p o s s' l e in omega arith
-ended_used false p o s s' l e = let h = given_one p o s s' l e in omega arith
-
-pub shown_at : (left : Bool) (p : Place) (octets : List ℕ) (s s' : Known) (l : Lexeme) → run p octets s ≡ ended left l s' → ShownAt p octets s s' l left
-shown_at true p [] s s' l e = cc
-shown_at false p [] s s' l e = cc
-shown_at left p (o ∷ os) s s' l e = by (feed p s o) refl e (λ t. shown_at left p os t s' l) where
-  by : (x : Outcome) → feed p s o ≡ x → follow x (λ t. run p os t) ≡ ended left l s' → ((t : Known) → run p os t ≡ ended left l s' → ShownAt p os t s' l left)
-      → ShownAt p (o ∷ os) s s' l left
-  by (Next t) f g more =
-      let r = more t g in
-      record {
-        n = suc r.n;
-        within = omega (arith, r.within);
-        known = r.known;
-        ran = ap (λ x. follow x (λ t. run p (take r.n os) t)) f ∙ r.ran;
-        ends = r.ends;
-        used = omega (arith, feed_used p s t o f, r.used);
-      }
-  by (Given m t) f g more = record { n = 0; within = omega arith; known = s; ran = refl; ends = f ∙ g; used = ended_used left p o s s' l (f ∙ g) }
-  by (Left m t) f g more = record { n = 0; within = omega arith; known = s; ran = refl; ends = f ∙ g; used = ended_used left p o s s' l (f ∙ g) }
-  by (Refused n r) f g more = record { n = 0; within = omega arith; known = s; ran = refl; ends = f ∙ g; used = ended_used left p o s s' l (f ∙ g) }
+-- the octet that shows the end stands before the token's end, or behind it
+shows : (left : Bool) (p : Place) (octets : List ℕ) (r : Rest) (t : Known) (l : Lexeme) (n : ℕ) → t.used ≡ r.used + n
+    → (d : LastOctet p octets (resting r) (ended left l t)) → before_end left n ≡ length d.before
+shows true p octets r t l n used d = omega (arith, used, d.counted, left_one p d.octet d.known t l d.fed)
+shows false p octets r t l n used d = omega (arith, used, d.counted, given_one p d.octet d.known t l d.fed)
 
 -- A token to which a machine that rests comes over these octets, and behind which it rests again, stands whole at their front.
 pub found_by_run : (p : Place) (r : Rest) (octets : List ℕ) (kind : TokenKind) (kept : List ℕ) (n : ℕ) (left : Bool) → 0 < n → run p octets (resting r)
     ≡ ended left (lexeme_at r kind kept n) (resting (past_token p r kind n)) → IsFound p r octets kind kept n left
-found_by_run p r octets kind kept n true some e =
-    let h = shown_at true p octets (resting r) (resting (past_token p r kind n)) (lexeme_at r kind kept n) e in
-    let is : h.n ≡ n = omega (arith, h.used) in
+found_by_run p r octets kind kept n left some e =
+    let l = lexeme_at r kind kept n in
+    let t = resting (past_token p r kind n) in
+    let d = last_octet p octets (resting r) (ended left l t) (is_last left l t) e in
+    let m : ℕ = before_end left n in
+    let is : m ≡ length d.before = shows left p octets r t l n refl d in
+    let octet : slice_index octets m ≡ d.octet =
+    ap (λ w. slice_index w m) d.cut ∙ ap (slice_index (d.before ++ d.octet ∷ d.rest)) is ∙ get_or-append_seam d.before d.octet d.rest 0 in
     record {
       some = some;
-      shown = omega (arith, h.within);
-      known = h.known;
-      ran = subst (λ (i : ℕ). run p (take i octets) (resting r) ≡ Next h.known) is h.ran;
-      ends = subst (λ (i : ℕ). feed p h.known (slice_index octets i) ≡ Left (lexeme_at r kind kept n) (resting (past_token p r kind n))) is h.ends;
-    }
-found_by_run p r octets kind kept n false some e =
-    let h = shown_at false p octets (resting r) (resting (past_token p r kind n)) (lexeme_at r kind kept n) e in
-    let is : h.n ≡ n - 1 = omega (arith, h.used) in
-    record {
-      some = some;
-      shown = omega (arith, h.within);
-      known = h.known;
-      ran = subst (λ (i : ℕ). run p (take i octets) (resting r) ≡ Next h.known) is h.ran;
-      ends = subst (λ (i : ℕ). feed p h.known (slice_index octets i) ≡ Given (lexeme_at r kind kept n) (resting (past_token p r kind n))) is h.ends;
+      shown = omega (arith, is, ap length d.cut, length-append d.before (d.octet ∷ d.rest));
+      known = d.known;
+      ran = ap (λ w. run p w (resting r)) (ap (take m) d.cut ∙ ap (λ (i : ℕ). take i (d.before ++ d.octet ∷ d.rest)) is
+          ∙ take-append_seam d.before (d.octet ∷ d.rest)) ∙ d.ran;
+      ends = ap (λ (o : ℕ). feed p d.known o) octet ∙ d.fed;
     }
 
 -- the same of what was found, if something was

@@ -1,7 +1,8 @@
 -- Where something comes of octets: the last one that was looked at, and what the scanner knew before it. Crates above cite these names.
-use Rattle.std.proofs.Common.{◌≡◌, ℕ, ◌+◌, List, [], ◌∷◌, ◌++◌, length, refl, sym, ap, ◌∙◌, subst, arith}
+use Rattle.std.proofs.Common.{◌≡◌, ℕ, ◌+◌, List, [], ◌∷◌, ◌++◌, length, refl, sym, ap, ◌∙◌, subst, arith, append_assoc, length-append}
 use Rattle.ion_tokens.specs.Names.{Known, Next, Outcome, Place, Reason, Refused, feed, follow, run}
 use Rattle.ion_tokens.specs.machine.Table.{next}
+use Rattle.ion_tokens.proofs.runs.Cutting.{run-append}
 use Rattle.ion_tokens.proofs.runs.Runs.{Between, acts_between, feed_used}
 
 -- the octet at which a run came to this, those before and behind it, and what was known before it
@@ -14,6 +15,25 @@ pub record LastOctet (p : Place) (piece : List ℕ) (s : Known) (y : Outcome) : 
   pub ran : run p before s ≡ Next known
   pub fed : feed p known octet ≡ y
   pub counted : known.used ≡ s.used + length before
+
+-- the octets up to that one
+abbrev pub shown : {p : Place} {piece : List ℕ} {s : Known} {y : Outcome} → LastOctet p piece s y → List ℕ
+shown d = d.before ++ d.octet ∷ []
+
+pub size_shown : {p : Place} {piece : List ℕ} {s : Known} {y : Outcome} (d : LastOctet p piece s y) → length (shown d) ≡ length d.before + 1
+size_shown d = length-append d.before (d.octet ∷ [])
+
+pub cut_behind : {p : Place} {piece : List ℕ} {s : Known} {y : Outcome} (d : LastOctet p piece s y) → piece ≡ shown d ++ d.rest
+cut_behind d = d.cut ∙ sym (append_assoc d.before (d.octet ∷ []) d.rest)
+
+-- a run over them comes to this
+pub ran_shown : {p : Place} {piece : List ℕ} {s : Known} {y : Outcome} (d : LastOctet p piece s y) → run p (shown d) s ≡ y
+ran_shown {p = p} {s = s} {y = y} d =
+    run-append p d.before (d.octet ∷ []) s ∙ ap (λ x. follow x (λ t. run p (d.octet ∷ []) t)) d.ran ∙ ap (λ x. follow x (λ t. Next t)) d.fed ∙ alone y
+  where
+    alone : (y : Outcome) → follow y (λ t. Next t) ≡ y
+    alone (Next s) = refl
+    alone _ = refl
 
 -- a token or a refusal
 abbrev pub IsLast : Outcome → Type 0
@@ -46,14 +66,3 @@ last_octet p (o ∷ os) s y l e = by (feed p s o) refl e (λ t. last_octet p os 
 pub refused_here : (p : Place) (s : Known) (o n : ℕ) (e : Reason) → feed p s o ≡ Refused n e → n ≡ s.used + 1
 unfolding Between
 refused_here p s o n e f = let h = subst (λ x. Between x s.used 1) f (acts_between p s o (next p s.colon s.mode o)) in omega (arith, h.0, h.1)
-
--- the octets before the one that was refused, that octet and the rest
-pub record RefusedSplit (p : Place) (piece : List ℕ) (s : Known) (n : ℕ) (e : Reason) : Type 0 where
-  pub last : LastOctet p piece s (Refused n e)
-  pub offset : n ≡ s.used + (length last.before + 1)
-
--- a piece that is refused is cut at the octet that decides it
-pub refused_split : (p : Place) (piece : List ℕ) (s : Known) (n : ℕ) (e : Reason) → run p piece s ≡ Refused n e → RefusedSplit p piece s n e
-refused_split p piece s n e ran =
-    let x = last_octet p piece s (Refused n e) tt ran in
-    record { last = x; offset = omega (arith, refused_here p x.known x.octet n e x.fed, x.counted) }

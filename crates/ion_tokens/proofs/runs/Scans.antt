@@ -4,7 +4,7 @@ use Rattle.ion_tokens.specs.Names.{Continues, Gave, Given, IsAhead, Known, Leave
 use Rattle.ion_tokens.proofs.complete.Wholes.{run_behind}
 use Rattle.ion_tokens.proofs.histories.Stepped.{goes_on, pass_more}
 use Rattle.ion_tokens.proofs.runs.Runs.{next_used}
-use Rattle.ion_tokens.proofs.runs.Splits.{GivenSplit, LeftSplit, given_split, left_split}
+use Rattle.ion_tokens.proofs.runs.Splits.{given_one, left_one}
 
 -- a token, and the place that it was looked for in
 abbrev pub placed : Place → Lexeme → Placed
@@ -22,28 +22,6 @@ module _ (p : Place) (s : Known) (u : List ℕ) (ts : List Placed) (ahead : List
   since_used : s.used ≡ h.behind.used + length h.since
   since_used = next_used p h.since h.behind s (sym h.ran)
 
-  one_given : (s' : Known) (x : Lexeme) → feed p s o ≡ Given x s' → s'.used ≡ s.used + 1
-  one_given s' x e = go (given_split p (o ∷ []) s s' x (ap (λ y. follow y (λ t. Next t)) e))
-    where
-      go : GivenSplit p (o ∷ []) s s' x → s'.used ≡ s.used + 1
-      go d = by d.octets d.rest d.cut d.ran d.used
-        where
-          by : (os rest : List ℕ) → o ∷ [] ≡ os ++ rest → run p os s ≡ Given x s' → s'.used ≡ s.used + length os → s'.used ≡ s.used + 1
-          by [] rest cut r n = absurd cc
-          by (y ∷ []) rest cut r n = n
-          by (y ∷ z ∷ os) rest cut r n = absurd cc
-
-  one_left : (s' : Known) (x : Lexeme) → feed p s o ≡ Left x s' → s'.used ≡ s.used
-  one_left s' x e = go (left_split p (o ∷ []) s s' x (ap (λ y. follow y (λ t. Next t)) e))
-    where
-      go : LeftSplit p (o ∷ []) s s' x → s'.used ≡ s.used
-      go d = by d.octets d.cut d.used
-        where
-          by : (os : List ℕ) → o ∷ [] ≡ os ++ d.octet ∷ d.rest → s'.used ≡ s.used + length os → s'.used ≡ s.used
-          by [] cut n = omega arith
-          by (y ∷ []) cut n = absurd cc
-          by (y ∷ z ∷ os) cut n = absurd cc
-
   -- behind one octet that ends nothing, the same tokens are told
   pub scanned_next : (s' : Known) → feed p s o ≡ Next s' → Scanned p s' (u ++ o ∷ []) ts []
   scanned_next s' e = goes_on p s u ts ahead h (o ∷ []) s' c (ap (λ y. follow y (λ t. Next t)) e)
@@ -53,7 +31,7 @@ module _ (p : Place) (s : Known) (u : List ℕ) (ts : List Placed) (ahead : List
       → Scanned q s' (u ++ o ∷ []) (ts ++ placed p x ∷ []) []
   scanned_given s' x e pass q =
       let from = from_left h.next in
-      let n = one_given s' x e in
+      let n = given_one p o s s' x e in
       let k = length-append h.since (o ∷ []) in
       record {
         behind = s';
@@ -72,7 +50,7 @@ module _ (p : Place) (s : Known) (u : List ℕ) (ts : List Placed) (ahead : List
   pub scanned_left : (s' : Known) (x : Lexeme) → feed p s o ≡ Left x s' → Passes x.kind x.octets → (q : Place) → Scanned q s' u (ts ++ placed p x ∷ []) (o ∷ [])
   scanned_left s' x e pass q =
       let from = from_left h.next in
-      let n = one_left s' x e in
+      let n = left_one p o s s' x e in
       record {
         behind = s';
         front = u;

@@ -1,8 +1,9 @@
 -- Where in a piece a token came.
-use Rattle.std.proofs.Common.{◌≡◌, ℕ, ◌+◌, ◌≤◌, List, [], ◌∷◌, ◌++◌, length, refl, ap, ◌∙◌, subst, arith}
-use Rattle.ion_tokens.specs.Names.{Given, Known, Left, Lexeme, Next, Outcome, Place, feed, follow, run}
+use Rattle.std.proofs.Common.{◌≡◌, ℕ, ◌+◌, ◌≤◌, List, [], ◌∷◌, ◌++◌, length, subst, arith}
+use Rattle.ion_tokens.specs.Names.{Given, Known, Left, Lexeme, Place, feed, run}
 use Rattle.ion_tokens.specs.machine.Table.{next}
-use Rattle.ion_tokens.proofs.runs.Runs.{Between, acts_between, feed_used}
+use Rattle.ion_tokens.proofs.runs.LastOctets.{cut_behind, last_octet, ran_shown, shown, size_shown}
+use Rattle.ion_tokens.proofs.runs.Runs.{Between, acts_between}
 
 -- the octets up to the one that ended the token, and the rest
 pub record GivenSplit (p : Place) (piece : List ℕ) (s s' : Known) (l : Lexeme) : Type 0 where
@@ -33,59 +34,25 @@ left_one p o s s' l e = let h = subst (λ x. Between x s.used 1) e (acts_between
 
 -- a piece that gives a token is cut behind the octet that ended it
 pub given_split : (p : Place) (piece : List ℕ) (s s' : Known) (l : Lexeme) → run p piece s ≡ Given l s' → GivenSplit p piece s s' l
-given_split p [] s s' l e = cc
-given_split p (o ∷ os) s s' l e = by (feed p s o) refl e (λ t. given_split p os t s' l) where
-  by : (x : Outcome) → feed p s o ≡ x → follow x (λ t. run p os t) ≡ Given l s' → ((t : Known) → run p os t ≡ Given l s' → GivenSplit p os t s' l)
-      → GivenSplit p (o ∷ os) s s' l
-  by (Next t) f g more =
-      let r = more t g in
-      record {
-        octets = o ∷ r.octets;
-        rest = r.rest;
-        cut = ap (λ l. o ∷ l) r.cut;
-        ran = ap (λ x. follow x (λ t. run p r.octets t)) f ∙ r.ran;
-        used =
-            omega (arith, feed_used p s t o f, r.used);
-      }
-  by (Given m t) f g more = record {
-    octets = o ∷ [];
-    rest = os;
-    cut = refl;
-    ran =
-        ap (λ x. follow x (λ t. Next t)) (f ∙ g);
-    used = given_one p o s s' l (f ∙ g);
-  }
-  by _ f g more = cc
+given_split p piece s s' l e =
+    let d = last_octet p piece s (Given l s') tt e in
+    record {
+      octets = shown d;
+      rest = d.rest;
+      cut = cut_behind d;
+      ran = ran_shown d;
+      used = omega (arith, given_one p d.octet d.known s' l d.fed, d.counted, size_shown d);
+    }
 
 -- a piece in which a token ended before an octet is cut at that octet
 pub left_split : (p : Place) (piece : List ℕ) (s s' : Known) (l : Lexeme) → run p piece s ≡ Left l s' → LeftSplit p piece s s' l
-left_split p [] s s' l e = cc
-left_split p (o ∷ os) s s' l e = by (feed p s o) refl e (λ t. left_split p os t s' l) where
-  by : (x : Outcome) → feed p s o ≡ x → follow x (λ t. run p os t) ≡ Left l s' → ((t : Known) → run p os t ≡ Left l s' → LeftSplit p os t s' l)
-      → LeftSplit p (o ∷ os) s s' l
-  by (Next t) f g more =
-      let r = more t g in
-      record {
-        octets = o ∷ r.octets;
-        octet = r.octet;
-        rest = r.rest;
-        cut = ap (λ l. o ∷ l) r.cut;
-        ran =
-            ap (λ x. follow x (λ t. run p (r.octets ++ r.octet ∷ []) t)) f ∙ r.ran;
-        used = omega (arith, feed_used p s t o f, r.used);
-      }
-  by (Left m t) f g more = record {
-    octets = [];
-    octet = o;
-    rest = os;
-    cut = refl;
-    ran = ap (λ x. follow x (λ t. Next t)) (f ∙ g);
-    used = let h =
-        left_one p o s s' l (f ∙ g) in omega (arith, h);
-  }
-  by _ f g more = cc
-
--- a token that is given has an octet
-pub given_some : (p : Place) (octets : List ℕ) (s s' : Known) (l : Lexeme) → run p octets s ≡ Given l s' → 1 ≤ length octets
-given_some p [] s s' l e = cc
-given_some p (o ∷ os) s s' l e = omega arith
+left_split p piece s s' l e =
+    let d = last_octet p piece s (Left l s') tt e in
+    record {
+      octets = d.before;
+      octet = d.octet;
+      rest = d.rest;
+      cut = d.cut;
+      ran = ran_shown d;
+      used = omega (arith, left_one p d.octet d.known s' l d.fed, d.counted);
+    }

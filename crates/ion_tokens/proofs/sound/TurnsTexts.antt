@@ -6,8 +6,8 @@ use Rattle.std.proofs.lemmas.Bool.{cond_both, eqb-true, true≢false}
 use Rattle.ion_tokens.specs.Names.{Action, Each, Lob, Mode, Place, Segment, Style, TokenKind, Within, before, begins, in_quote, in_quotes, in_text, is_name, kept_after, raw, segment_spelling}
 use Rattle.ion_tokens.proofs.sound.Opens.{InText, IsLongFront, IsLongText, IsOpen, Turns}
 use Rattle.ion_tokens.proofs.sound.TurnsWords.{empty_symbol}
-use Rattle.ion_tokens.proofs.texts.TextsRead.{LeadsText, keeps_behind, reads_none, text_step}
-use Rattle.ion_tokens.proofs.texts.TextsSound.{Closes}
+use Rattle.ion_tokens.proofs.texts.TextsRead.{LeadsText, reads_none, text_step}
+use Rattle.ion_tokens.proofs.texts.TextsSound.{Closes, keeps_behind}
 
 in_style : (p : Place) (s t : Style) (v : Within) (w kept : List ℕ) → s ≡ t → InText p t v w kept → InText p s v w kept
 in_style p s t v w kept e h = subst (λ x. InText p x v w kept) (sym e) h

@@ -8,13 +8,12 @@ use Rattle.std.proofs.lemmas.Bool.Decides.{nat_tests}
 use lib.Utf8.{encode, scalar, scalar_cases}
 use Rattle.ion_tokens.specs.Names.{Action, Cr, CrLf, Digits, Element, Hex, Hidden, IsElement, IsHexAfter, IsQuoted, Keep, Lf, Mode, Pair, Raw, RawLine, Reason, Simple, Style, Within, after_digits, character, close_long, ends_in_cr, grow, hex_length, hexadecimal_digit, in_escape, in_text, in_utf8, is_clob, is_long, is_raw_lf, is_raw_quote, kept_after, meaning, meant, quote_of, raw, spelling, with_digit}
 use Rattle.ion_tokens.specs.Octets.{escaped}
-use Rattle.ion_tokens.proofs.complete.TakesTexts.{drops_two}
 use Rattle.ion_tokens.proofs.texts.Encodings.{order}
 use Rattle.ion_tokens.proofs.texts.TextElements.{below_max, two_small}
 use Rattle.ion_tokens.proofs.texts.TextOrders.{Base, base_more, base_none, base_quote, base_quotes, last_is, last_is_last, quoted}
 use Rattle.ion_tokens.proofs.texts.TextSteps.{Caps, after_high, after_low, as_raw, caps_grow, exact, letter_only, more_digits, quote_low, utf8_last, utf8_more, utf8_wrong}
 use Rattle.ion_tokens.proofs.texts.TextsComplete.{eq_or}
-use Rattle.ion_tokens.proofs.texts.TextsSound.{After, Closes, EndsAfter, FitsBehind, GivesText, HexPart, IsHigh, Keeps, Leads, LeadsTo, Part, Reads, SoFar, TextOnly, Whole, by_action, fits_raw, leads_no_drop, one_element, part_only, raw_leads, rebase, rebase_kept}
+use Rattle.ion_tokens.proofs.texts.TextsSound.{After, Closes, EndsAfter, FitsBehind, HexPart, IsHigh, Leads, LeadsBehind, Part, Reads, SoFar, TextOnly, Whole, by_action, fits_raw, leads_over, one_element, part_only, raw_leads, rebase}
 
 -- inside a character
 utf8_leads : (s : Style) (es : List Element) (left lo hi o : ℕ) (p : List ℕ) → Base s es → is_clob s ≡ false → 0 < left → EndsAfter left lo hi p
@@ -215,8 +214,8 @@ some_left _ p left m h = h.2.2
 
 -- behind a CR that takes no LF
 return_over : (s : Style) (es : List Element) (f : Element) (o : ℕ) → Base s es → IsElement s f → ends_in_cr f ≡ true → is_raw_lf f ≡ false
-    → is_raw_quote f ≡ false → o ≢ 10 → Leads s es (raw s o) (spelling f ++ o ∷ []) (meaning s f)
-return_over s es f o b i c l q n = rebase s es f (raw s o) (o ∷ []) (raw_leads s (es ++ f ∷ []) o
+    → is_raw_quote f ≡ false → o ≢ 10 → Leads s es (raw s o) (spelling f ++ o ∷ []) (meaning s f ++ [])
+return_over s es f o b i c l q n = rebase s es f (raw s o) (o ∷ []) [] (raw_leads s (es ++ f ∷ []) o
     (record { base = base_more s es f b i (λ h. l) (λ h. q); lf = λ e. absurd (n e); quote = λ h e. last_is_last is_raw_quote es f ∙ q }))
 
 return_leads : (s : Style) (es : List Element) (o : ℕ) (p q : List ℕ) → Base s es → Part s Within.AfterReturn p q
@@ -239,21 +238,19 @@ raw_39 s l = (refl, (λ e. omega arith), inl l, inr (inr (inr (omega arith))), (
 one_quote_over : (s : Style) (es : List Element) (o : ℕ) → Base s es → is_long s ≡ true → last_is is_raw_quote es ≡ false → o ≢ 39
     → Leads s es (raw s o) (39 ∷ o ∷ []) (39 ∷ [])
 unfolding encode
-one_quote_over s es o b l h n = rebase s es (Raw 39) (raw s o) (o ∷ []) (raw_leads s (es ++ Raw 39 ∷ []) o
+one_quote_over s es o b l h n = rebase s es (Raw 39) (raw s o) (o ∷ []) [] (raw_leads s (es ++ Raw 39 ∷ []) o
     (record { base = base_quote s es b l (raw_39 s l) h; lf = λ e. last_is_last ends_in_cr es (Raw 39); quote = λ m e. absurd (n e) }))
 
 two_quotes_over : (s : Style) (es : List Element) (o : ℕ) → Base s es → is_long s ≡ true → last_is is_raw_quote es ≡ false → o ≢ 39
     → Leads s es (raw s o) (39 ∷ 39 ∷ o ∷ []) (39 ∷ 39 ∷ [])
 unfolding encode
 two_quotes_over s es o b l h n =
-    let es2 : List Element = (es ++ Raw 39 ∷ []) ++ Raw 39 ∷ [] in
-    let over = raw_leads s es2 o (record {
+    rebase s es (Raw 39) (raw s o) (39 ∷ o ∷ []) (39 ∷ []) (rebase s (es ++ Raw 39 ∷ []) (Raw 39) (raw s o) (o ∷ []) []
+    (raw_leads s ((es ++ Raw 39 ∷ []) ++ Raw 39 ∷ []) o (record {
       base = base_quotes s es b l (raw_39 s l) h;
       lf = λ e. last_is_last ends_in_cr (es ++ Raw 39 ∷ []) (Raw 39);
       quote = λ m e. absurd (n e);
-    }) in
-    rebase_kept s es (Raw 39) (raw s o) (39 ∷ o ∷ []) (39 ∷ []) (leads_no_drop s es2 (raw s o) (o ∷ []) over)
-    (rebase s (es ++ Raw 39 ∷ []) (Raw 39) (raw s o) (o ∷ []) over)
+    })))
 
 quote_pending : (s : Style) (es : List Element) (o : ℕ) (p q : List ℕ) → Base s es → last_is is_raw_quote es ≡ false → Part s Within.OneQuote p q
     → Leads s es (in_text s Within.OneQuote o) (p ++ o ∷ []) q
@@ -323,49 +320,17 @@ step_leads s (Within.HighSurrogateEscape x) es o p q b a (e, t, first, f, h) =
 
 -- what an action does to a text that was read so far, of which these octets are kept
 abbrev pub LeadsText : Style → Action → List ℕ → List ℕ → Type 0
-LeadsText s (Action.Go m k) w kept = Keeps k kept × LeadsTo s m w (kept_after k kept)
-LeadsText s (Action.Give kind k) w kept = Keeps k kept × GivesText s kind × Closes s w (kept_after k kept)
-LeadsText s (Action.Refuse e) w kept = Unit {0}
-LeadsText s _ w kept = ⊥
-
--- octets kept before a text stay in front of what an action leaves of it
-pub keeps_behind : (front q : List ℕ) (k : _) → Keeps k q → kept_after k (front ++ q) ≡ front ++ kept_after k q
-keeps_behind front q Keep.Nothing h = refl
-keeps_behind front q (Keep.One o) h = append_assoc front q (o ∷ [])
-keeps_behind front q (Keep.Two o x) h = ap (λ l. l ++ x ∷ []) (append_assoc front q (o ∷ [])) ∙ append_assoc front (q ++ o ∷ []) (x ∷ [])
-keeps_behind front q (Keep.Character c) h = append_assoc front q (encode c)
-keeps_behind front q Keep.DropQuotes (rest, e) = subst (λ l. kept_after Keep.DropQuotes (front ++ l) ≡ front ++ kept_after Keep.DropQuotes l) (sym e)
-    (ap (kept_after Keep.DropQuotes) (sym (append_assoc front rest (39 ∷ 39 ∷ []))) ∙ drops (front ++ rest) ∙ ap (λ l. front ++ l) (sym (drops rest)))
-  where
-    drops : (k : List ℕ) → kept_after Keep.DropQuotes (k ++ 39 ∷ 39 ∷ []) ≡ k
-    drops k = ap (kept_after Keep.DropQuotes) (sym (append_assoc k (39 ∷ []) (39 ∷ []))) ∙ drops_two k 39 39
-
-keeps_more : (front q kept : List ℕ) (k : _) → kept ≡ front ++ q → Keeps k q → Keeps k kept
-keeps_more front q kept Keep.DropQuotes e (rest, f) = (front ++ rest, e ∙ ap (λ l. front ++ l) f ∙ sym (append_assoc front rest (39 ∷ 39 ∷ [])))
-keeps_more front q kept _ e h = tt
-
--- behind the elements
-lift : (s : Style) (es : List Element) (a : Action) (w kept p q : List ℕ) → w ≡ flat_map spelling es ++ p → kept ≡ flat_map (meaning s) es ++ q
-    → Leads s es a p q → LeadsText s a w kept
-lift s es (Action.Go m k) w kept p q e f (h, l) = (
-  keeps_more (flat_map (meaning s) es) q kept k f h,
-  subst (λ x. LeadsTo s m x (kept_after k kept)) (sym e) (subst (λ x. LeadsTo s m (flat_map spelling es ++ p) x)
-      (sym (ap (kept_after k) f ∙ keeps_behind (flat_map (meaning s) es) q k h)) l),
-)
-lift s es (Action.Give kind k) w kept p q e f (h, g, l) = (
-  keeps_more (flat_map (meaning s) es) q kept k f h,
-  g,
-  subst (λ x. Closes s x (kept_after k kept)) (sym e)
-      (subst (λ x. Closes s (flat_map spelling es ++ p) x) (sym (ap (kept_after k) f ∙ keeps_behind (flat_map (meaning s) es) q k h)) l),
-)
-lift s es (Action.Refuse r) w kept p q e f h = tt
-lift s es _ w kept p q e f h = h
+LeadsText s = LeadsBehind s [] []
 
 -- One octet more of a text leads to what was read with it: more of the text, or all of it, or a refusal.
 pub text_step : (s : Style) (v : Within) (o : ℕ) (w kept : List ℕ) → Reads s v w kept → LeadsText s (in_text s v o) (w ++ o ∷ []) kept
-text_step s v o w kept h = lift s h.elements (in_text s v o) (w ++ o ∷ []) kept (h.p ++ o ∷ []) h.q
-    (ap (λ l. l ++ o ∷ []) h.spelled ∙ append_assoc (flat_map spelling h.elements) h.p (o ∷ [])) h.means
-    (step_leads s v h.elements o h.p h.q h.base h.after h.part)
+text_step s v o w kept h =
+    let spelled : List ℕ = flat_map spelling h.elements in
+    let means : List ℕ = flat_map (meaning s) h.elements in
+    let octets : spelled ++ (h.p ++ o ∷ []) ≡ w ++ o ∷ [] = sym (ap (λ l. l ++ o ∷ []) h.spelled ∙ append_assoc spelled h.p (o ∷ [])) in
+    subst (λ l. LeadsText s (in_text s v o) l kept) octets
+    (subst (λ l. LeadsText s (in_text s v o) (spelled ++ (h.p ++ o ∷ [])) l) (sym h.means)
+    (leads_over s [] [] spelled means (in_text s v o) (h.p ++ o ∷ []) h.q (step_leads s v h.elements o h.p h.q h.base h.after h.part)))
 
 -- no octets are read as a text of which nothing is kept
 pub reads_none : (s : Style) → Reads s Within.Plain [] []

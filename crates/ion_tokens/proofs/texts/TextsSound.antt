@@ -7,6 +7,7 @@ use Rattle.std.proofs.lemmas.Bool.{true≢false}
 use Rattle.std.proofs.lemmas.Bool.Decides.{nat_tests}
 use lib.Utf8.{encode}
 use Rattle.ion_tokens.specs.Names.{Action, Digits, Element, IsElement, IsHexAfter, IsQuoted, IsRaw, Keep, Lf, Lob, Mode, Raw, RawLine, Reason, Style, TokenKind, Within, ends_in_cr, is_clob, is_long, is_raw_lf, is_raw_quote, kept_after, meaning, quote_of, raw, spelling}
+use Rattle.ion_tokens.proofs.complete.TakesTexts.{drops_two}
 use Rattle.ion_tokens.proofs.texts.Encodings as law
 use Rattle.ion_tokens.proofs.texts.Encodings.{order}
 use Rattle.ion_tokens.proofs.texts.TextOrders.{Base, base_more, flat_last, last_is, last_is_last, quoted}
@@ -106,12 +107,16 @@ abbrev pub Keeps : Keep → List ℕ → Type 0
 Keeps Keep.DropQuotes q = (front : List ℕ) × (q ≡ front ++ 39 ∷ 39 ∷ [])
 Keeps _ q = Unit {0}
 
--- behind elements, an action leads to what was read
+-- behind octets that were read, and what they mean, an action leads to what was read
+abbrev pub LeadsBehind : Style → List ℕ → List ℕ → Action → List ℕ → List ℕ → Type 0
+LeadsBehind s w l (Action.Go m k) p q = Keeps k q × LeadsTo s m (w ++ p) (l ++ kept_after k q)
+LeadsBehind s w l (Action.Give kind k) p q = Keeps k q × GivesText s kind × Closes s (w ++ p) (l ++ kept_after k q)
+LeadsBehind s w l (Action.Refuse e) p q = Unit {0}
+LeadsBehind s w l _ p q = ⊥
+
+-- so behind elements
 abbrev pub Leads : Style → List Element → Action → List ℕ → List ℕ → Type 0
-Leads s es (Action.Go m k) p q = Keeps k q × LeadsTo s m (flat_map spelling es ++ p) (flat_map (meaning s) es ++ kept_after k q)
-Leads s es (Action.Give kind k) p q = Keeps k q × GivesText s kind × Closes s (flat_map spelling es ++ p) (flat_map (meaning s) es ++ kept_after k q)
-Leads s es (Action.Refuse e) p q = Unit {0}
-Leads s es _ p q = ⊥
+Leads s es = LeadsBehind s (flat_map spelling es) (flat_map (meaning s) es)
 
 -- what holds of an action holds of it by another name
 pub by_action : (s : Style) (es : List Element) {a b : Action} (p q : List ℕ) → a ≡ b → Leads s es b p q → Leads s es a p q
@@ -306,89 +311,41 @@ raw_leads s es o b =
     ⊎_elim (λ c. by_action s es (o ∷ []) [] (raw_clob s o c (quote_small s) h) tt) (λ t. high_leads s es o b.base t h) (bool_cases (is_clob s)))
     (order o 128)) (order o 32)) (eq_or o (quote_of s))) (eq_or o 92)
 
-no_drop : (k : List ℕ) → ((front : List ℕ) × ([] ≡ front ++ 39 ∷ 39 ∷ [])) → ⊥
-no_drop k (front, e) = by front e where
-  by : (front : List ℕ) → [] ≡ front ++ 39 ∷ 39 ∷ [] → ⊥
-  by [] e = cc
-  by (x ∷ xs) e = cc
+-- octets kept before a text stay in front of what an action leaves of it
+pub keeps_behind : (front q : List ℕ) (k : Keep) → Keeps k q → kept_after k (front ++ q) ≡ front ++ kept_after k q
+keeps_behind front q Keep.Nothing h = refl
+keeps_behind front q (Keep.One o) h = append_assoc front q (o ∷ [])
+keeps_behind front q (Keep.Two o x) h = ap (λ l. l ++ x ∷ []) (append_assoc front q (o ∷ [])) ∙ append_assoc front (q ++ o ∷ []) (x ∷ [])
+keeps_behind front q (Keep.Character c) h = append_assoc front q (encode c)
+keeps_behind front q Keep.DropQuotes (rest, e) = subst (λ l. kept_after Keep.DropQuotes (front ++ l) ≡ front ++ kept_after Keep.DropQuotes l) (sym e)
+    (ap (kept_after Keep.DropQuotes) (sym (append_assoc front rest (39 ∷ 39 ∷ []))) ∙ drops (front ++ rest) ∙ ap (λ l. front ++ l) (sym (drops rest)))
+  where
+    drops : (k : List ℕ) → kept_after Keep.DropQuotes (k ++ 39 ∷ 39 ∷ []) ≡ k
+    drops k = ap (kept_after Keep.DropQuotes) (sym (append_assoc k (39 ∷ []) (39 ∷ []))) ∙ drops_two k 39 39
 
-shift : (s : Style) (es : List Element) (f : Element) (p : List ℕ) (x : List ℕ) (m : Mode) (y : List ℕ) → y ≡ meaning s f ++ x
-    → LeadsTo s m (flat_map spelling (es ++ f ∷ []) ++ p) (flat_map (meaning s) (es ++ f ∷ []) ++ x)
-    → LeadsTo s m (flat_map spelling es ++ (spelling f ++ p)) (flat_map (meaning s) es ++ y)
-shift s es f p x m y e h =
-    let octets : flat_map spelling (es ++ f ∷ []) ++ p ≡ flat_map spelling es ++ (spelling f ++ p) = ap (λ l. l ++ p) (flat_last spelling es f)
-    ∙ append_assoc (flat_map spelling es) (spelling f) p in
-    let kept : flat_map (meaning s) (es ++ f ∷ []) ++ x ≡ flat_map (meaning s) es ++ y = ap (λ l. l ++ x) (flat_last (meaning s) es f)
-    ∙ append_assoc (flat_map (meaning s) es) (meaning s f) x ∙ ap (λ l. flat_map (meaning s) es ++ l) (sym e) in
-    subst (λ l. LeadsTo s m l (flat_map (meaning s) es ++ y)) octets (subst (λ l. LeadsTo s m (flat_map spelling (es ++ f ∷ []) ++ p) l) kept h)
+keeps_more : (front q : List ℕ) (k : Keep) → Keeps k q → Keeps k (front ++ q)
+keeps_more front q Keep.DropQuotes (rest, e) = (front ++ rest, ap (λ l. front ++ l) e ∙ sym (append_assoc front rest (39 ∷ 39 ∷ [])))
+keeps_more front q _ h = tt
 
-shift_closes : (s : Style) (es : List Element) (f : Element) (p : List ℕ) (x : List ℕ) (y : List ℕ) → y ≡ meaning s f ++ x
-    → Closes s (flat_map spelling (es ++ f ∷ []) ++ p) (flat_map (meaning s) (es ++ f ∷ []) ++ x)
-    → Closes s (flat_map spelling es ++ (spelling f ++ p)) (flat_map (meaning s) es ++ y)
-shift_closes s es f p x y e h =
-    let octets : flat_map spelling (es ++ f ∷ []) ++ p ≡ flat_map spelling es ++ (spelling f ++ p) = ap (λ l. l ++ p) (flat_last spelling es f)
-    ∙ append_assoc (flat_map spelling es) (spelling f) p in
-    let kept : flat_map (meaning s) (es ++ f ∷ []) ++ x ≡ flat_map (meaning s) es ++ y = ap (λ l. l ++ x) (flat_last (meaning s) es f)
-    ∙ append_assoc (flat_map (meaning s) es) (meaning s f) x ∙ ap (λ l. flat_map (meaning s) es ++ l) (sym e) in
-    subst (λ l. Closes s l (flat_map (meaning s) es ++ y)) octets (subst (λ l. Closes s (flat_map spelling (es ++ f ∷ []) ++ p) l) kept h)
+-- what an action leads to behind more octets, it does with those as part of what is read
+pub leads_over : (s : Style) (w l w' l' : List ℕ) (a : Action) (p q : List ℕ) → LeadsBehind s (w ++ w') (l ++ l') a p q
+    → LeadsBehind s w l a (w' ++ p) (l' ++ q)
+leads_over s w l w' l' a p q = by a where
+  moved : (P : List ℕ → List ℕ → Type 0) (k : Keep) → Keeps k q → P ((w ++ w') ++ p) ((l ++ l') ++ kept_after k q)
+      → P (w ++ (w' ++ p)) (l ++ kept_after k (l' ++ q))
+  moved P k t h = subst (λ x. P x (l ++ kept_after k (l' ++ q))) (append_assoc w w' p)
+      (subst (λ x. P ((w ++ w') ++ p) x) (append_assoc l l' (kept_after k q) ∙ ap (λ x. l ++ x) (sym (keeps_behind l' q k t))) h)
 
--- an action with nothing kept before
-pub rebase : (s : Style) (es : List Element) (f : Element) (a : Action) (p : List ℕ) → Leads s (es ++ f ∷ []) a p []
-    → Leads s es a (spelling f ++ p) (meaning s f)
-rebase s es f (Action.Go m Keep.Nothing) p (t, h) = (tt, shift s es f p [] m (meaning s f) (sym (append-nil (meaning s f))) h)
-rebase s es f (Action.Go m (Keep.One o)) p (t, h) = (tt, shift s es f p (o ∷ []) m (meaning s f ++ o ∷ []) refl h)
-rebase s es f (Action.Go m (Keep.Two o x)) p (t, h) = (
-  tt,
-  shift s es f p (o ∷ x ∷ []) m ((meaning s f ++ o ∷ []) ++ x ∷ []) (append_assoc (meaning s f) (o ∷ []) (x ∷ [])) h,
-)
-rebase s es f (Action.Go m (Keep.Character c)) p (t, h) = (tt, shift s es f p (encode c) m (meaning s f ++ encode c) refl h)
-rebase s es f (Action.Go m Keep.DropQuotes) p (t, h) = absurd (no_drop [] t)
-rebase s es f (Action.Give kind Keep.Nothing) p (t, g, h) = (tt, g, shift_closes s es f p [] (meaning s f) (sym (append-nil (meaning s f))) h)
-rebase s es f (Action.Give kind (Keep.One o)) p (t, g, h) = (tt, g, shift_closes s es f p (o ∷ []) (meaning s f ++ o ∷ []) refl h)
-rebase s es f (Action.Give kind (Keep.Two o x)) p (t, g, h) =
-    (tt, g, shift_closes s es f p (o ∷ x ∷ []) ((meaning s f ++ o ∷ []) ++ x ∷ []) (append_assoc (meaning s f) (o ∷ []) (x ∷ [])) h)
-rebase s es f (Action.Give kind (Keep.Character c)) p (t, g, h) = (tt, g, shift_closes s es f p (encode c) (meaning s f ++ encode c) refl h)
-rebase s es f (Action.Give kind Keep.DropQuotes) p (t, g, h) = absurd (no_drop [] t)
-rebase s es f (Action.Refuse e) p h = tt
-rebase s es f _ p h = h
-
--- the same where something was kept that isn't dropped
-abbrev NoDrop : Action → Type 0
-NoDrop (Action.Go m Keep.DropQuotes) = ⊥
-NoDrop (Action.Give kind Keep.DropQuotes) = ⊥
-NoDrop _ = Unit {0}
+  by : (a : Action) → LeadsBehind s (w ++ w') (l ++ l') a p q → LeadsBehind s w l a (w' ++ p) (l' ++ q)
+  by (Action.Go m k) (t, h) = (keeps_more l' q k t, moved (LeadsTo s m) k t h)
+  by (Action.Give kind k) (t, g, h) = (keeps_more l' q k t, g, moved (Closes s) k t h)
+  by (Action.Refuse e) h = tt
+  by _ h = h
 
 -- what an action leads to behind one element more, it does with that one as part of what is read
-pub rebase_kept : (s : Style) (es : List Element) (f : Element) (a : Action) (p q : List ℕ) → NoDrop a → Leads s (es ++ f ∷ []) a p q
+pub rebase : (s : Style) (es : List Element) (f : Element) (a : Action) (p q : List ℕ) → Leads s (es ++ f ∷ []) a p q
     → Leads s es a (spelling f ++ p) (meaning s f ++ q)
-rebase_kept s es f (Action.Go m Keep.Nothing) p q n (t, h) = (tt, shift s es f p q m (meaning s f ++ q) refl h)
-rebase_kept s es f (Action.Go m (Keep.One o)) p q n (t, h) =
-    (tt, shift s es f p (q ++ o ∷ []) m ((meaning s f ++ q) ++ o ∷ []) (append_assoc (meaning s f) q (o ∷ [])) h)
-rebase_kept s es f (Action.Go m (Keep.Two o x)) p q n (t, h) = (
-  tt,
-  shift s es f p ((q ++ o ∷ []) ++ x ∷ []) m (((meaning s f ++ q) ++ o ∷ []) ++ x ∷ []) (ap (λ l. l ++ x ∷ []) (append_assoc (meaning s f) q (o ∷ []))
-      ∙ append_assoc (meaning s f) (q ++ o ∷ []) (x ∷ [])) h,
-)
-rebase_kept s es f (Action.Go m (Keep.Character c)) p q n (t, h) =
-    (tt, shift s es f p (q ++ encode c) m ((meaning s f ++ q) ++ encode c) (append_assoc (meaning s f) q (encode c)) h)
-rebase_kept s es f (Action.Go m Keep.DropQuotes) p q n h = absurd n
-rebase_kept s es f (Action.Give kind Keep.Nothing) p q n (t, g, h) = (tt, g, shift_closes s es f p q (meaning s f ++ q) refl h)
-rebase_kept s es f (Action.Give kind (Keep.One o)) p q n (t, g, h) =
-    (tt, g, shift_closes s es f p (q ++ o ∷ []) ((meaning s f ++ q) ++ o ∷ []) (append_assoc (meaning s f) q (o ∷ [])) h)
-rebase_kept s es f (Action.Give kind (Keep.Two o x)) p q n (t, g, h) = (
-  tt,
-  g,
-  shift_closes s es f p ((q ++ o ∷ []) ++ x ∷ []) (((meaning s f ++ q) ++ o ∷ []) ++ x ∷ [])
-      (ap (λ l. l ++ x ∷ []) (append_assoc (meaning s f) q (o ∷ [])) ∙ append_assoc (meaning s f) (q ++ o ∷ []) (x ∷ [])) h,
-)
-rebase_kept s es f (Action.Give kind (Keep.Character c)) p q n (t, g, h) =
-    (tt, g, shift_closes s es f p (q ++ encode c) ((meaning s f ++ q) ++ encode c) (append_assoc (meaning s f) q (encode c)) h)
-rebase_kept s es f (Action.Give kind Keep.DropQuotes) p q n h = absurd n
-rebase_kept s es f (Action.Refuse e) p q n h = tt
-rebase_kept s es f _ p q n h = h
-
--- an action behind a part of which nothing is kept drops no quotes
-pub leads_no_drop : (s : Style) (es : List Element) (a : Action) (p : List ℕ) → Leads s es a p [] → NoDrop a
-leads_no_drop s es (Action.Go m Keep.DropQuotes) p h = no_drop [] h.0
-leads_no_drop s es (Action.Give kind Keep.DropQuotes) p h = no_drop [] h.0
-leads_no_drop s es _ p h = tt
+rebase s es f a p q h =
+    leads_over s (flat_map spelling es) (flat_map (meaning s) es) (spelling f) (meaning s f) a p q
+    (subst (λ w. LeadsBehind s w (flat_map (meaning s) es ++ meaning s f) a p q) (flat_last spelling es f)
+    (subst (λ l. LeadsBehind s (flat_map spelling (es ++ f ∷ [])) l a p q) (flat_last (meaning s) es f) h))

@@ -7,7 +7,7 @@ use Rattle.ion_tokens.specs.laws.TokensTraced.{AreSought, EndsInOperand}
 use Rattle.ion_tokens.proofs.complete.Found.{Finds, Gives, Last, Leaves, Nothing, Unclosed, in_word}
 use Rattle.ion_tokens.proofs.histories.Histories.{behind_front, completes}
 use Rattle.ion_tokens.proofs.runs.Cutting.{one_body}
-use Rattle.ion_tokens.proofs.runs.LastOctets.{last_octet}
+use Rattle.ion_tokens.proofs.runs.LastOctets.{cut_behind, last_octet, shown, size_shown}
 use Rattle.ion_tokens.proofs.runs.Runs.{next_used}
 use Rattle.ion_tokens.proofs.runs.Splits.{given_one, left_one}
 use Rattle.ion_tokens.proofs.traces.Traced.{debt_small, left_owes, over_end, over_next, settles}
@@ -108,13 +108,10 @@ module _ (places : Places) where
     given e more =
         let d = last_octet t.place octets s (Given t.lexeme s') tt e in
         let one = given_one t.place d.octet d.known s' t.lexeme d.fed in
-        let shown = d.before ++ d.octet ∷ [] in
-        let long : length shown ≡ length d.before + 1 = length-append d.before (d.octet ∷ []) in
-        let whole : octets ≡ shown ++ d.rest = d.cut ∙ sym (append_assoc d.before (d.octet ∷ []) d.rest) in
-        let counted = d.counted in
-        let used : s'.used ≡ s.used + length shown = omega (arith, one, counted, long) in
-        let back : drop (s'.used - s.used) octets ≡ d.rest = ap (λ l. drop (s'.used - s.used) l) whole ∙ behind_front shown d.rest s.used s'.used used in
-        joined d.rest back (omega (arith, used, size, ap length whole, length-append shown d.rest))
+        let used : s'.used ≡ s.used + length (shown d) = omega (arith, one, d.counted, size_shown d) in
+        let back : drop (s'.used - s.used) octets ≡ d.rest =
+        ap (λ l. drop (s'.used - s.used) l) (cut_behind d) ∙ behind_front (shown d) d.rest s.used s'.used used in
+        joined d.rest back (omega (arith, used, size, ap length (cut_behind d), length-append (shown d) d.rest))
         (ap (λ l. over places l before s) d.cut ∙ over_end places before t.place octets d.rest s (Given t.lexeme s') (sym place) d
         ∙ ap (λ y. then_by y (over places d.rest)) (judged_so s'.used)) more
 

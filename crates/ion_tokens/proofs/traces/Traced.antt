@@ -12,7 +12,7 @@ use Rattle.ion_tokens.specs.machine.Table.{next}
 use Rattle.ion_tokens.proofs.bounds.Fits.{Fits, table_fits}
 use Rattle.ion_tokens.proofs.histories.Stepped.{begins_front, front_is}
 use Rattle.ion_tokens.proofs.runs.Cutting.{one_body}
-use Rattle.ion_tokens.proofs.runs.LastOctets.{LastOctet, last_octet, refused_here}
+use Rattle.ion_tokens.proofs.runs.LastOctets.{LastOctet, cut_behind, last_octet, refused_here, shown, size_shown}
 use Rattle.ion_tokens.proofs.runs.Runs.{next_used}
 use Rattle.ion_tokens.proofs.runs.Splits.{given_one, left_one}
 
@@ -130,23 +130,11 @@ module _ (p : Place) (s : Known) (piece : List ℕ) where
   }
 
   module _ (x : Outcome) (d : LastOctet p piece s x) where
-    abbrev shown : List ℕ
-    shown = d.before ++ d.octet ∷ []
-
-    cut_behind : piece ≡ shown ++ d.rest
-    cut_behind = d.cut ∙ sym (append_assoc d.before (d.octet ∷ []) d.rest)
-
-    size_shown : length shown ≡ length d.before + 1
-    size_shown = length-append d.before (d.octet ∷ [])
-
-    before_used : d.known.used ≡ s.used + length d.before
-    before_used = d.counted
-
     -- the octets shown begin with those ahead
-    begins : (ahead : List ℕ) → length ahead ≤ 1 → Continues piece ahead → Continues shown ahead
-    begins ahead one (more, c) = begins_front ahead shown d.rest more one (omega (arith, size_shown)) (sym cut_behind ∙ c)
+    begins : (ahead : List ℕ) → length ahead ≤ 1 → Continues piece ahead → Continues (shown d) ahead
+    begins ahead one (more, c) = begins_front ahead (shown d) d.rest more one (omega (arith, size_shown d)) (sym (cut_behind d) ∙ c)
 
-    over_shown : (places : Places) (ts : List Told) (rest : List ℕ) → places ts ≡ p → over places (shown ++ rest) ts s
+    over_shown : (places : Places) (ts : List Told) (rest : List ℕ) → places ts ≡ p → over places (shown d ++ rest) ts s
         ≡ then_by (comes (takes 2 places d.octet) ts x) (over places rest)
     over_shown places ts rest place = ap (λ l. over places l ts s) (append_assoc d.before (d.octet ∷ []) rest) ∙ over_end places ts p piece rest s x place d
 
@@ -157,12 +145,12 @@ module _ (p : Place) (s : Known) (piece : List ℕ) where
         ≡ record { told = ts; refused = Some r; ends = Err r }
     refuses places u ts ahead r h c place at stops rest =
         let used = h.used in
-        let size : r.offset ≡ length (u ++ shown) = omega (arith, at, used, before_used, size_shown, length-append u shown) in
-        let front : take r.offset (u ++ piece) ≡ u ++ shown = front_is (u ++ piece) (u ++ shown) d.rest r.offset
-        (ap (λ l. u ++ l) cut_behind ∙ sym (append_assoc u shown d.rest)) size in
+        let size : r.offset ≡ length (u ++ shown d) = omega (arith, at, used, d.counted, size_shown d, length-append u (shown d)) in
+        let front : take r.offset (u ++ piece) ≡ u ++ shown d = front_is (u ++ piece) (u ++ shown d) d.rest r.offset
+        (ap (λ l. u ++ l) (cut_behind d) ∙ sym (append_assoc u (shown d) d.rest)) size in
         ap (λ t. traced places t)
-        (ap (λ l. over places (l ++ rest) [] initial) front ∙ ap (λ l. over places l [] initial) (append_assoc u shown rest)
-        ∙ h.leads (shown ++ rest) (continues_more shown rest ahead (begins ahead h.one c)) ∙ over_shown places ts rest place
+        (ap (λ l. over places (l ++ rest) [] initial) front ∙ ap (λ l. over places l [] initial) (append_assoc u (shown d) rest)
+        ∙ h.leads (shown d ++ rest) (continues_more (shown d) rest ahead (begins ahead h.one c)) ∙ over_shown places ts rest place
         ∙ ap (λ t. then_by t (over places rest)) stops)
 
   -- the same by other names
@@ -185,11 +173,11 @@ module _ (p : Place) (s : Known) (piece : List ℕ) where
   -- behind a token that was given, whatever octet decides it
   pub given_stands : (places : Places) (u : List ℕ) (ts : List Told) (ahead : List ℕ) (l : Lexeme) (t : Known) (x : Told) (d : LastOctet p piece s (Given l t))
       → ((decided : ℕ) → judged ts l decided t (said l.kind l.octets) ≡ Leads (ts ++ x ∷ []) t) → IsTraced places s u ts ahead
-      → Continues piece ahead → places ts ≡ p → t.used ≡ d.known.used + 1 → IsTraced places t (u ++ shown (Given l t) d) (ts ++ x ∷ []) []
+      → Continues piece ahead → places ts ≡ p → t.used ≡ d.known.used + 1 → IsTraced places t (u ++ shown d) (ts ++ x ∷ []) []
   given_stands places u ts ahead l t x d is h c place one =
       let y = Given l t in
-      stands_on places u ts (ts ++ x ∷ []) ahead [] (shown y d) t h (omega arith) (omega (arith, one, before_used y d, size_shown y d))
-      (λ rest k. continues_more (shown y d) rest ahead (begins y d ahead h.one c))
+      stands_on places u ts (ts ++ x ∷ []) ahead [] (shown d) t h (omega arith) (omega (arith, one, d.counted, size_shown d))
+      (λ rest k. continues_more (shown d) rest ahead (begins y d ahead h.one c))
       (λ rest k. over_shown y d places ts rest place ∙ ap (λ z. then_by z (over places rest)) (is t.used))
 
   -- and of one before which an octet is left
@@ -197,10 +185,10 @@ module _ (p : Place) (s : Known) (piece : List ℕ) where
       → ((decided : ℕ) → judged ts l decided t (said l.kind l.octets) ≡ Leads (ts ++ x ∷ []) t) → IsTraced places s u ts ahead
       → Continues piece ahead → places ts ≡ p → t.used ≡ d.known.used → IsTraced places t (u ++ d.before) (ts ++ x ∷ []) (d.octet ∷ [])
   left_stands places u ts ahead l t x d is h c place one =
-      stands_on places u ts us ahead (d.octet ∷ []) d.before t h (omega arith) (omega (arith, one, before_used (Left l t) d))
+      stands_on places u ts us ahead (d.octet ∷ []) d.before t h (omega arith) (omega (arith, one, d.counted))
       (λ rest (more, r).
       subst (λ r. Continues (d.before ++ r) ahead) (sym r) (subst (λ w. Continues w ahead) (append_assoc d.before (d.octet ∷ []) more)
-      (continues_more (shown (Left l t) d) more ahead (begins (Left l t) d ahead h.one c))))
+      (continues_more (shown d) more ahead (begins (Left l t) d ahead h.one c))))
       (λ rest (more, r). subst (λ r. over places (d.before ++ r) ts s ≡ over places r us t) (sym r) (leads more))
     where
       us : List Told
@@ -236,9 +224,9 @@ module _ (p : Place) (s : Known) (piece : List ℕ) where
         let one = given_one p d.octet d.known t l d.fed in
         let same : now.used ≡ t.used = ap (λ (k : Known). k.used) uses.known in
         let counted = uses.counted in
-        let size : scan.used ≡ length (shown (Given l t) d) = omega (arith, one, before_used (Given l t) d, size_shown (Given l t) d, same, counted) in
-        same_stand places u (shown (Given l t) d) [] (ts ++ told_by scan.token now.used) (ts ++ told_as tok t.used ∷ []) scan now t
-        (front_is piece (shown (Given l t) d) d.rest scan.used (cut_behind (Given l t) d) size) (ap (λ b. take (deciding 0 b) (drop scan.used piece)) flag)
+        let size : scan.used ≡ length (shown d) = omega (arith, one, d.counted, size_shown d, same, counted) in
+        same_stand places u (shown d) [] (ts ++ told_by scan.token now.used) (ts ++ told_as tok t.used ∷ []) scan now t
+        (front_is piece (shown d) d.rest scan.used (cut_behind d) size) (ap (λ b. take (deciding 0 b) (drop scan.used piece)) flag)
         (λ i. ts ++ told_by (f i) (same i)) uses.known (given_stands places u ts ahead l t (told_as tok t.used) d (λ decided. judged_so ts l decided t tok g) h c place one)
   step_traced (Left l t) scan now e (uses, gives, flag) = by scan.token refl gives where
     by : (o : Option Token) → scan.token ≡ o → GivesToken l o → AnswersTrace p s piece (Ok scan) now
@@ -248,7 +236,7 @@ module _ (p : Place) (s : Known) (piece : List ℕ) where
         let one = left_one p d.octet d.known t l d.fed in
         let same : now.used ≡ t.used = ap (λ (k : Known). k.used) uses.known in
         let counted = uses.counted in
-        let size : scan.used ≡ length d.before = omega (arith, one, before_used (Left l t) d, same, counted) in
+        let size : scan.used ≡ length d.before = omega (arith, one, d.counted, same, counted) in
         let back : drop scan.used piece ≡ d.octet ∷ d.rest = ap (λ l. drop scan.used l) d.cut ∙ ap (λ (n : ℕ). drop n (d.before ++ d.octet ∷ d.rest)) size
         ∙ drop-append_seam d.before (d.octet ∷ d.rest) in
         same_stand places u d.before (d.octet ∷ []) (ts ++ told_by scan.token now.used) (ts ++ told_as tok t.used ∷ []) scan now t
