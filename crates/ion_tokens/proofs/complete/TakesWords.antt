@@ -1,5 +1,5 @@
 -- Words, typed nulls, numbers and marks are read as they are spelled.
-use Rattle.std.proofs.Common.{◌≡◌, ℕ, ◌+◌, ◌-◌, ◌⊎◌, inl, inr, ⊎_elim, Bool, true, false, List, [], ◌∷◌, ◌++◌, length, refl, sym, ap, ◌∙◌, subst, arith, append_assoc, length-append, cond}
+use Rattle.std.proofs.Common.{◌≡◌, ℕ, ◌+◌, ◌-◌, ⊎_elim, Bool, true, false, List, [], ◌∷◌, ◌++◌, length, refl, sym, ap, ◌∙◌, subst, arith, append_assoc, length-append, cond}
 use Rattle.std.specs.Prelude.{◌==◌, ◌&&◌, ◌||◌, not, codes}
 use Rattle.std.specs.Str.{bytes_eq}
 use Rattle.std.proofs.lemmas.Bool.{and_parts, eqb-true, false≢true, not-true, or_parts}
@@ -146,17 +146,6 @@ takes_number p colon w (x ∷ r) n h = ⊎_elim (λ e. cc) (λ e. ⊎_elim stop 
 mark_one : (p : Place) (colon : Bool) (o : ℕ) (m : Mark) (r : List ℕ) → in_blank p colon o ≡ give m → Takes p colon (o ∷ []) r (TokenKind.Mark m) []
 mark_one p colon o m r e = Now (λ start used. ap (λ a. follow (acts p (blank colon start used) o a) (λ t. run p r t)) e)
 
-value_mark : (p : Place) (colon : Bool) (o : ℕ) (m : Mark) (r : List ℕ) → is_name p ≡ false → ((o ≡ 91) × (m ≡ Mark.ListOpen))
-    ⊎ (((o ≡ 93) × (m ≡ Mark.ListClose)) ⊎ (((o ≡ 40) × (m ≡ Mark.SexpOpen)) ⊎ ((o ≡ 41) × (m ≡ Mark.SexpClose)))) → in_blank p colon o ≡ give m
-value_mark p colon o m r n (inl e) = subst (λ x. in_blank p colon o ≡ give x) (sym e.1)
-    (subst (λ (x : ℕ). in_blank p colon x ≡ give Mark.ListOpen) (sym e.0) (rw n))
-value_mark p colon o m r n (inr (inl e)) = subst (λ x. in_blank p colon o ≡ give x) (sym e.1)
-    (subst (λ (x : ℕ). in_blank p colon x ≡ give Mark.ListClose) (sym e.0) (rw n))
-value_mark p colon o m r n (inr (inr (inl e))) = subst (λ x. in_blank p colon o ≡ give x) (sym e.1)
-    (subst (λ (x : ℕ). in_blank p colon x ≡ give Mark.SexpOpen) (sym e.0) (rw n))
-value_mark p colon o m r n (inr (inr (inr e))) = subst (λ x. in_blank p colon o ≡ give x) (sym e.1)
-    (subst (λ (x : ℕ). in_blank p colon x ≡ give Mark.SexpClose) (sym e.0) (rw n))
-
 -- a `{` opens a struct or a lob, where no field's name stands
 pub opens_brace : (p : Place) (colon : Bool) → is_name p ≡ false → Opens p colon (123 ∷ []) Mode.Brace []
 opens_brace p colon n = opens_one p colon 123 Mode.Brace Keep.Nothing (rw n)
@@ -182,10 +171,10 @@ takes_mark p colon Mark.FieldsOpen [] s e = takes_end p colon (123 ∷ []) (Toke
 takes_mark p colon Mark.FieldsOpen (x ∷ r) s e = takes_left p colon (123 ∷ []) x r (TokenKind.Mark Mark.FieldsOpen) Mode.Brace [] Keep.Nothing (λ s u. refl)
     (opens_brace p colon s) (λ c. brace_ends x e c p)
 takes_mark p colon Mark.FieldsClose r s e = mark_one p colon 125 Mark.FieldsClose r refl
-takes_mark p colon Mark.ListOpen r s e = mark_one p colon 91 Mark.ListOpen r (value_mark p colon 91 Mark.ListOpen r s (inl (refl, refl)))
-takes_mark p colon Mark.ListClose r s e = mark_one p colon 93 Mark.ListClose r (value_mark p colon 93 Mark.ListClose r s (inr (inl (refl, refl))))
-takes_mark p colon Mark.SexpOpen r s e = mark_one p colon 40 Mark.SexpOpen r (value_mark p colon 40 Mark.SexpOpen r s (inr (inr (inl (refl, refl)))))
-takes_mark p colon Mark.SexpClose r s e = mark_one p colon 41 Mark.SexpClose r (value_mark p colon 41 Mark.SexpClose r s (inr (inr (inr (refl, refl)))))
+takes_mark p colon Mark.ListOpen r s e = mark_one p colon 91 Mark.ListOpen r (rw s)
+takes_mark p colon Mark.ListClose r s e = mark_one p colon 93 Mark.ListClose r (rw s)
+takes_mark p colon Mark.SexpOpen r s e = mark_one p colon 40 Mark.SexpOpen r (rw s)
+takes_mark p colon Mark.SexpClose r s e = mark_one p colon 41 Mark.SexpClose r (rw s)
 takes_mark p colon Mark.Comma r s e = mark_one p colon 44 Mark.Comma r refl
 takes_mark p colon Mark.Colon [] s e = takes_end p colon (58 ∷ []) (TokenKind.Mark Mark.Colon) Mode.Colon [] [] (opens_colon p colon s) (λ start used. refl)
 takes_mark p colon Mark.Colon (x ∷ r) s e = takes_left p colon (58 ∷ []) x r (TokenKind.Mark Mark.Colon) Mode.Colon [] Keep.Nothing (λ s u. refl)

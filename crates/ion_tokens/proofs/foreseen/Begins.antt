@@ -1,9 +1,9 @@
 -- What is known of a token that has begun.
 use Rattle.std.proofs.Common.{◌≡◌, ℕ, ◌+◌, ◌-◌, ◌≤◌, ◌⊎◌, inl, inr, Bool, true, false, cond, List, [], ◌∷◌, ◌++◌, length, drop, refl, sym, ap, ◌∙◌, subst, arith, append_assoc, append-nil, length-append}
 use Rattle.std.specs.Prelude.{◌==◌, ◌&&◌, ◌||◌, not, codes, take, Option, Some, None, Result, Ok}
-use Rattle.std.proofs.lemmas.Bool.{true≢false}
+use Rattle.std.proofs.lemmas.Bool.{cond_both, true≢false}
 use Rattle.std.proofs.lemmas.Bool.Decides.{nat_tests}
-use Rattle.ion_tokens.specs.Names.{Begun, BegunSo, BlockComment, Continues, Covers, End, Form, Given, HasBegun, IsBlank, IsFirstColon, IsForm, Keep, Known, Left, Lexeme, Lexes, LexesTo, LineComment, LooksIn, Mark, MayComment, Mode, Next, Outcome, Place, Placed, Reason, Scanned, ShowsBegun, Style, TokenKind, begins, begins_number, begins_word, begun_in, behind, end_of, ends_at, form_of, is_digit, is_idle, is_operator_octet, is_sexp, run, start_of}
+use Rattle.ion_tokens.specs.Names.{Begun, BegunSo, BlockComment, Continues, Covers, End, Form, Given, HasBegun, IsBlank, IsFirstColon, IsForm, Known, Left, Lexeme, Lexes, LexesTo, LineComment, LooksIn, Mark, MayComment, Mode, Next, Outcome, Place, Placed, Reason, Scanned, ShowsBegun, Style, TokenKind, begins, begins_number, begins_word, begun_in, behind, end_of, ends_at, form_of, is_digit, is_idle, is_operator_octet, is_sexp, run, start_of}
 use Rattle.ion_tokens.proofs.complete.Found.{Finds, Gives, Last, Leaves, Nothing, Unclosed, in_word}
 use Rattle.ion_tokens.proofs.complete.Wholes.{run_behind}
 use Rattle.ion_tokens.proofs.foreseen.Reaches.{Reaches, begun_stays, run_reaches}
@@ -121,23 +121,25 @@ none_begun p u ts colon k Mode.BlockCommentStar kept start since i (e, c) =
 none_begun p u ts colon k Mode.Colon kept start since i h = let (w, kept, flag) = h.is in inr (flag, h.front, h.blank, h.cut ∙ ap (λ l. h.front ++ l) w)
 none_begun p u ts colon k _ kept start since i h = cc
 
+-- at the end no token shows, or a colon
+abbrev is_colon : TokenKind → Bool
+is_colon (TokenKind.Mark Mark.Colon) = true
+is_colon _ = false
+
+abbrev shows_colon : Result (Option Lexeme) Reason → Bool
+shows_colon (Ok None) = true
+shows_colon (Ok (Some l)) = is_colon l.kind
+shows_colon _ = false
+
+-- then none has begun
+shown_idle : (p : Place) (s : Known) (m : Mode) → shows_colon (ends_at s (end_of p m)) ≡ true → is_idle m ≡ true
+shown_idle p s (Mode.Operator x) e = cond_both (is_sexp p) _ _ (λ x. shows_colon (ends_at s x) ≡ true → false ≡ true) (λ _ f. f) (λ _ f. f) e
+shown_idle p s Mode.OperatorSlash e = cond_both (is_sexp p) _ _ (λ x. shows_colon (ends_at s x) ≡ true → false ≡ true) (λ _ f. f) (λ _ f. f) e
+shown_idle p s _ e = cc
+
 -- where the end shows no token, none has begun
 pub end_idle : (p : Place) (s : Known) (m : Mode) → ends_at s (end_of p m) ≡ Ok None → is_idle m ≡ true
-end_idle p s Mode.Blank e = refl
-end_idle p s Mode.Slash e = refl
-end_idle p s Mode.LineComment e = refl
-end_idle p s Mode.BlockComment e = refl
-end_idle p s Mode.BlockCommentStar e = refl
-end_idle p s Mode.Colon e = refl
-end_idle p s (Mode.Operator x) e = by (is_sexp p) e where
-  by : (b : Bool) → ends_at s (cond b (End.Token TokenKind.Operator Keep.Nothing) (End.Refuse Reason.Incomplete)) ≡ Ok None → false ≡ true
-  by true f = cc
-  by false f = cc
-end_idle p s Mode.OperatorSlash e = by (is_sexp p) e where
-  by : (b : Bool) → ends_at s (cond b (End.Token TokenKind.Operator (Keep.One 47)) (End.Refuse Reason.Incomplete)) ≡ Ok None → false ≡ true
-  by true f = cc
-  by false f = cc
-end_idle p s _ e = cc
+end_idle p s m e = shown_idle p s m (ap shows_colon e)
 
 -- a token at the end of the input
 end_token_is : (s : Known) (e : End) (l : Lexeme) → ends_at s e ≡ Ok (Some l) → (l.start ≡ start_of s.mode s.start s.used) × (l.end ≡ s.used)
@@ -149,32 +151,7 @@ end_token_is s _ l h = cc
 
 -- where the end shows a colon, no token has begun
 colon_idle : (p : Place) (s : Known) (m : Mode) (l : Lexeme) → l.kind ≡ TokenKind.Mark Mark.Colon → ends_at s (end_of p m) ≡ Ok (Some l) → is_idle m ≡ true
-colon_idle p s m l k e = by m (ends_at s (end_of p m)) refl e where
-  kind_in : Result (Option Lexeme) Reason → TokenKind
-  kind_in (Ok (Some x)) = x.kind
-  kind_in _ = TokenKind.Mark Mark.Colon
-
-  other : (x : End) (kind : TokenKind) (c : Keep) → x ≡ End.Token kind c → ends_at s x ≡ Ok (Some l) → kind ≡ TokenKind.Mark Mark.Colon
-  other x kind c f g = sym (ap kind_in (ap (λ y. ends_at s y) f)) ∙ ap kind_in g ∙ k
-
-  run : (b : Bool) (c : Keep) → ends_at s (cond b (End.Token TokenKind.Operator c) (End.Refuse Reason.Incomplete)) ≡ Ok (Some l) → false ≡ true
-  run true c f = let h = other (End.Token TokenKind.Operator c) TokenKind.Operator c refl f in cc
-  run false c f = cc
-
-  by : (m : Mode) (x : Result (Option Lexeme) Reason) → ends_at s (end_of p m) ≡ x → x ≡ Ok (Some l) → is_idle m ≡ true
-  by Mode.Word x f g = let h = other (end_of p Mode.Word) TokenKind.Word Keep.Nothing refl (f ∙ g) in cc
-  by Mode.KindName x f g = let h = other (end_of p Mode.KindName) TokenKind.KindName Keep.Nothing refl (f ∙ g) in cc
-  by Mode.Number x f g = let h = other (end_of p Mode.Number) TokenKind.Number Keep.Nothing refl (f ∙ g) in cc
-  by Mode.NumberSlash x f g = let h = other (end_of p Mode.NumberSlash) TokenKind.Number (Keep.One 47) refl (f ∙ g) in cc
-  by (Mode.Operator e) x f g = run (is_sexp p) Keep.Nothing (f ∙ g)
-  by Mode.OperatorSlash x f g = run (is_sexp p) (Keep.One 47) (f ∙ g)
-  by (Mode.Infinity n) x f g = let h = f ∙ g in cc
-  by Mode.Quote x f g = let h = f ∙ g in cc
-  by Mode.Quotes x f g = let h = other (end_of p Mode.Quotes) TokenKind.QuotedSymbol Keep.Nothing refl (f ∙ g) in cc
-  by (Mode.Text t v) x f g = let h = f ∙ g in cc
-  by Mode.Brace x f g = let h = other (end_of p Mode.Brace) (TokenKind.Mark Mark.FieldsOpen) Keep.Nothing refl (f ∙ g) in cc
-  by (Mode.Lob t) x f g = let h = f ∙ g in cc
-  by _ x f g = refl
+colon_idle p s m l k e = shown_idle p s m (ap shows_colon e ∙ ap is_colon k)
 
 -- what comes of octets behind some that left a token open
 reached : (p : Place) (s0 s : Known) (octets rest : List ℕ) (start end : ℕ) → run p octets s0 ≡ Next s → Reaches start end (Next s) → (q : Place) (x : Outcome)

@@ -1,9 +1,9 @@
 -- Where octets show no token, none but those told has ended whatever follows.
-use Rattle.std.proofs.Common.{◌≡◌, ℕ, ◌+◌, ◌≤◌, Bool, false, List, [], ◌∷◌, ◌++◌, length, refl, sym, ap, ◌∙◌, subst, arith, append_assoc, length-append}
+use Rattle.std.proofs.Common.{◌≡◌, ℕ, ◌+◌, ◌≤◌, Bool, false, List, [], ◌∷◌, ◌++◌, length, inl, inr, refl, sym, ap, ◌∙◌, subst, arith, append_assoc, length-append}
 use Rattle.std.specs.Prelude.{Option, Some, Result, Ok}
-use Rattle.ion_tokens.specs.Names.{AllPass, AreOctets, BeginsLexed, End, Gave, Given, Known, Leaved, Left, Lexeme, LexesBefore, Next, Outcome, Place, Placed, Reason, Refused, Stands, at_end, end_of, ends_at, run}
+use Rattle.ion_tokens.specs.Names.{AllPass, AreOctets, BeginsLexed, End, Gave, Given, Known, Leaved, Lexeme, LexesBefore, Next, Outcome, Place, Placed, Reason, Refused, Stands, end_of, ends_at, run}
 use Rattle.ion_tokens.specs.machine.Told.{Begun}
-use Rattle.ion_tokens.proofs.complete.Found.{FindsUpTo, Gives, Last, Leaves, Unclosed}
+use Rattle.ion_tokens.proofs.complete.Found.{FindsUpTo, FoundBy, found_by}
 use Rattle.ion_tokens.proofs.complete.Wholes.{run_behind}
 use Rattle.ion_tokens.proofs.histories.Escapes.{Escape, Escapes, Goes, Grows, Refuses, escape}
 use Rattle.ion_tokens.proofs.histories.Histories.{begins_completes, stands_found}
@@ -41,48 +41,21 @@ end_used s (End.Token kind k) l h = sym (ap (λ x. end_in x l) h) where
   end_in _ m = m.end
 end_used s _ l h = cc
 
-abbrev lexeme_end : Outcome → ℕ
-lexeme_end (Given l s) = l.end
-lexeme_end _ = 0
-
 -- what is found over the octets and those behind them ends behind them
 not_found : (s : Known) (octets r : List ℕ) (s' : Known) (t : Placed) → run t.place octets s ≡ Next s' → Escapes t.place s' r → t.lexeme.end ≤ s'.used
     → FindsUpTo (λ s octets. Unit {0}) (Unit {0}) s (octets ++ r) (t ∷ []) → ⊥
-not_found s octets r s' t e (Refuses n x f) ended found = by found where
-  whole : run t.place (octets ++ r) s ≡ Refused n x
-  whole = run_behind t.place octets r s s' e ∙ f
+not_found s octets r s' t e escapes ended found = by escapes where
+  -- what is found is so of what the octets lead to
+  found_so : (x : Outcome) → run t.place r s' ≡ x → FoundBy (λ s octets. Unit {0}) (Unit {0}) s (octets ++ r) t [] x
+  found_so x f = found_by _ _ s (octets ++ r) t [] x (run_behind t.place octets r s s' e ∙ f) found
 
-  by : FindsUpTo (λ s octets. Unit {0}) (Unit {0}) s (octets ++ r) (t ∷ []) → ⊥
-  by (Last _ _ _ s'' g h) = let k : Refused n x ≡ Next s'' = sym whole ∙ g in cc
-  by (Gives _ _ _ _ s'' g h) = let k : Refused n x ≡ Given t.lexeme s'' = sym whole ∙ g in cc
-  by (Leaves _ _ _ _ s'' g h) = let k : Refused n x ≡ Left t.lexeme s'' = sym whole ∙ g in cc
-  by (Unclosed _ _ _ _ s'' _ _ m g h _ _ _) = let k : Refused n x ≡ Next s'' = sym whole ∙ g in cc
-not_found s octets r s' t e (Goes z f some more) ended found = by found where
-  whole : run t.place (octets ++ r) s ≡ Next z
-  whole = run_behind t.place octets r s s' e ∙ f
-
-  state_in : Outcome → Known
-  state_in (Next s) = s
-  state_in _ = z
-
-  by : FindsUpTo (λ s octets. Unit {0}) (Unit {0}) s (octets ++ r) (t ∷ []) → ⊥
-  by (Last _ _ _ s'' g h) =
-      let same : s'' ≡ z = ap state_in (sym g ∙ whole) in
-      let at : t.lexeme.end ≡ s''.used = end_used s'' (end_of t.place s''.mode) t.lexeme h in
-      let used = next_used t.place r s' z (sym f) in
-      absurd (omega (arith, at, ap (λ (x : Known). x.used) same, used, some, ended))
-  by (Gives _ _ _ _ s'' g h) = let k : Next z ≡ Given t.lexeme s'' = sym whole ∙ g in cc
-  by (Leaves _ _ _ _ s'' g h) = let k : Next z ≡ Left t.lexeme s'' = sym whole ∙ g in cc
-  by (Unclosed _ _ _ _ s'' _ _ m g h _ _ _) = let same : s'' ≡ z = ap state_in (sym g ∙ whole) in more (ap (λ x. at_end t.place x) (sym same) ∙ h)
-not_found s octets r s' t e (Grows l z f later) ended found = by found where
-  whole : run t.place (octets ++ r) s ≡ Given l z
-  whole = run_behind t.place octets r s s' e ∙ f
-
-  by : FindsUpTo (λ s octets. Unit {0}) (Unit {0}) s (octets ++ r) (t ∷ []) → ⊥
-  by (Last _ _ _ s'' g h) = let k : Given l z ≡ Next s'' = sym whole ∙ g in cc
-  by (Gives _ _ _ _ s'' g h) = let k : l.end ≡ t.lexeme.end = ap lexeme_end (sym whole ∙ g) in absurd (omega (arith, k, later, ended))
-  by (Leaves _ _ _ _ s'' g h) = let k : Given l z ≡ Left t.lexeme s'' = sym whole ∙ g in cc
-  by (Unclosed _ _ _ _ s'' _ _ m g h _ _ _) = let k : Given l z ≡ Next s'' = sym whole ∙ g in cc
+  by : Escapes t.place s' r → ⊥
+  by (Refuses n x f) = found_so (Refused n x) f
+  by (Goes z f some more) = elim (found_so (Next z) f) [
+    | inl last ↦ absurd (omega (arith, end_used z (end_of t.place z.mode) t.lexeme last.1, next_used t.place r s' z (sym f), some, ended))
+    | inr more_comes ↦ more more_comes.1
+  ]
+  by (Grows l z f later) = absurd (omega (arith, ap (λ (y : Lexeme). y.end) (found_so (Given l z) f).0, later, ended))
 
 -- Where octets show no token, none but those told has ended whatever octets follow.
 pub told_all : (s s' : Known) (u : List ℕ) (ts : List Placed) (ahead piece more : List ℕ) (p : Place) → Stands s u ts ahead → AllPass ts → piece ≡ ahead ++ more

@@ -1,5 +1,5 @@
 -- The octet that shows the end of a token, in the octets that a machine ran over.
-use Rattle.std.proofs.Common.{◌≡◌, ℕ, ◌+◌, ◌-◌, ◌<◌, Bool, true, false, List, [], ◌∷◌, ◌++◌, length, take, refl, sym, ap, ◌∙◌, subst, arith, length-append}
+use Rattle.std.proofs.Common.{◌≡◌, ℕ, ◌+◌, ◌<◌, Bool, true, false, List, ◌∷◌, ◌++◌, length, take, refl, sym, ap, ◌∙◌, subst, arith, length-append}
 use Rattle.std.specs.Prelude.{slice_index, Option, Some, None, IfSome}
 use Rattle.std.proofs.Math.Seq.{take-append_seam, get_or-append_seam}
 use Rattle.ion_tokens.specs.Names.{Ended, FoundToken, IsFound, Known, Lexeme, Machine, Place, Rest, TokenKind, before_end, ended, feed, lexeme_at, past_token, resting, run}

@@ -1,20 +1,20 @@
 -- How octets in memory show that a quoted text with escapes, or a typed null, stands whole at their front.
-use Rattle.std.proofs.Common.{◌≡◌, ◌≢◌, ℕ, ◌+◌, ◌-◌, ◌*◌, ◌<◌, ◌≤◌, zero, suc, Bool, true, false, cond, List, [], ◌∷◌, ◌++◌, length, take, drop, refl, sym, ap, ◌∙◌, subst, arith, length-append, take-append-drop, IsTrue}
+use Rattle.std.proofs.Common.{◌≡◌, ◌≢◌, ℕ, ◌+◌, ◌-◌, ◌*◌, ◌<◌, ◌≤◌, suc, Bool, true, false, cond, List, [], ◌∷◌, ◌++◌, length, take, drop, refl, sym, ap, ◌∙◌, subst, arith, length-append, IsTrue}
 use Rattle.std.specs.Prelude.{slice_index, Some, codes}
 use Rattle.std.specs.List.{take_while}
 use Rattle.std.proofs.lemmas.Bool.Decides.{nat_tests}
-use Rattle.std.proofs.Math.Seq.{take-add, take-nil}
+use Rattle.std.proofs.Math.Seq.{take-add}
 use Rattle.std.specs.Char.{IsScalar}
-use Rattle.std.proofs.lemmas.List.{length-take, length-take-le}
+use Rattle.std.proofs.lemmas.List.{length-take-le}
 use Rattle.std.proofs.lemmas.Bool.{ne_eqb}
 use lib.Utf8.{encode}
 use Rattle.ion_tokens.specs.Names.{AreKept, FoundToken, Hex, IsElement, IsFound, IsHexAfter, Keep, LeadsOn, Mode, Place, Rest, StandsWhole, Style, TokenKind, Within, hex_length, is_clob, is_high, is_low, is_word_octet}
 use Rattle.ion_tokens.specs.Octets.{escaped}
 use Rattle.ion_tokens.specs.machine.Table.{next}
-use Rattle.ion_tokens.proofs.complete.Moves.{Opens, opens_one, opens_then}
-use Rattle.ion_tokens.proofs.complete.TakesTexts.{BeginsOther, from_quote, opens_quote, opens_quotes, quotes_end}
+use Rattle.ion_tokens.proofs.complete.Moves.{Opens}
+use Rattle.ion_tokens.proofs.complete.TakesTexts.{opens_quotes, quotes_end}
 use Rattle.ion_tokens.proofs.complete.TakesWords.{kind_ends, opens_kind}
-use Rattle.ion_tokens.proofs.runs.WholeTokens.{front_each, front_stops, long_closes, opened_given, opened_left}
+use Rattle.ion_tokens.proofs.runs.WholeTokens.{front_each, front_stops, opened_left}
 use Rattle.ion_tokens.proofs.texts.Characters.{kept_goes}
 use Rattle.ion_tokens.proofs.texts.TextElements.{goes_one, goes_then, read_hex, read_pair}
 use Rattle.ion_tokens.proofs.texts.TextSteps.{in_simple}
@@ -105,54 +105,11 @@ pub stands_as : (octets kept kept' : List ℕ) (found : FoundToken) (kind : Toke
     → ((p : Place) (r : Rest) → IsFound p r octets kind kept n left) → StandsWhole octets kept' found
 stands_as octets kept kept' found kind n left is e f p r = found_as p r octets kept kept' found kind n left is e (f p r)
 
--- what leads on up to a quote stands whole behind another as a short string
-pub string_stands : (content kept : List ℕ) (n : ℕ) → n < length content → slice_index content n ≡ 34
-    → LeadsOn Style.ShortString (take n content) [] kept
-    → (p : Place) (r : Rest) → IsFound p r (34 ∷ content) TokenKind.ShortString kept (n + 2) false
-string_stands content kept n more last leads p r =
-    let m : Mode = Mode.Text Style.ShortString Within.Plain in
-    let size : suc n + 1 ≡ n + 2 = omega arith in
-    subst (λ (i : ℕ). IsFound p r (34 ∷ content) TokenKind.ShortString kept i false) size
-    (opened_given p r (34 ∷ content) (suc n) TokenKind.ShortString m kept Keep.Nothing
-    (opens_then p r.colon (34 ∷ []) (take n content) m m [] kept (opens_one p r.colon 34 m Keep.Nothing refl) (leads p))
-    (λ s u. refl) (omega arith) (ap (λ (x : ℕ). next p r.colon m x) last))
-
-begins_other : (content : List ℕ) (n : ℕ) → slice_index content 0 ≢ 39 → BeginsOther (take n content)
-begins_other [] n h = subst BeginsOther (sym (take-nil n)) tt
-begins_other (o ∷ os) zero h = tt
-begins_other (o ∷ os) (suc n) h = h
-
--- what begins with no quote and leads on up to one stands whole behind another as a quoted symbol
-pub symbol_stands : (content kept : List ℕ) (n : ℕ) → n < length content → slice_index content n ≡ 39 → slice_index content 0 ≢ 39
-    → LeadsOn Style.QuotedSymbol (take n content) [] kept
-    → (p : Place) (r : Rest) → IsFound p r (39 ∷ content) TokenKind.QuotedSymbol kept (n + 2) false
-symbol_stands content kept n more last first leads p r =
-    let m : Mode = Mode.Text Style.QuotedSymbol Within.Plain in
-    let size : suc n + 1 ≡ n + 2 = omega arith in
-    let some : n ≢ 0 = λ e. first (subst (λ (i : ℕ). slice_index content i ≡ 39) e last) in
-    let full : take n content ≢ [] = λ e. let none = ap (λ (l : List ℕ). length l) e in let l = length-take n content in some (omega arith) in
-    subst (λ (i : ℕ). IsFound p r (39 ∷ content) TokenKind.QuotedSymbol kept i false) size
-    (opened_given p r (39 ∷ content) (suc n) TokenKind.QuotedSymbol m kept Keep.Nothing
-    (opens_then p r.colon (39 ∷ []) (take n content) Mode.Quote m [] kept (opens_quote p r.colon)
-    (from_quote p (take n content) kept Within.Plain full (begins_other content n first) (leads p)))
-    (λ s u. refl) (omega arith) (ap (λ (x : ℕ). next p r.colon m x) last))
-
 -- two single quotes stand whole as the empty symbol before an octet that is none
 pub empty_stands : (x : ℕ) (os : List ℕ) → x ≢ 39 → (p : Place) (r : Rest) → IsFound p r (39 ∷ 39 ∷ x ∷ os) TokenKind.QuotedSymbol [] 2 true
 empty_stands x os other p r =
     opened_left p r (39 ∷ 39 ∷ x ∷ os) 2 TokenKind.QuotedSymbol Mode.Quotes [] Keep.Nothing (opens_quotes p r.colon) (λ s u. refl) (omega arith) (omega arith)
     (quotes_end x (ne_eqb x 39 other) r.colon p)
-
--- what leads on up to three quotes stands whole behind three as a segment of a long string
-pub segment_stands : (content kept us : List ℕ) (n : ℕ) → n < length content → drop n content ≡ 39 ∷ 39 ∷ 39 ∷ us
-    → LeadsOn Style.LongString (take n content) [] kept
-    → (p : Place) (r : Rest) → IsFound p r (39 ∷ 39 ∷ 39 ∷ content) TokenKind.LongString kept (n + 6) false
-segment_stands content kept us n more shuts leads p r =
-    let whole : take n content ++ 39 ∷ 39 ∷ 39 ∷ us ≡ content = ap (λ x. take n content ++ x) (sym shuts) ∙ take-append-drop n content in
-    let size : length (take n content) ≡ n = length-take-le n content (omega arith) in
-    subst (λ (i : ℕ). IsFound p r (39 ∷ 39 ∷ 39 ∷ content) TokenKind.LongString kept (i + 6) false) size
-    (subst (λ x. IsFound p r (39 ∷ 39 ∷ 39 ∷ x) TokenKind.LongString kept (length (take n content) + 6) false) whole
-    (long_closes (take n content) us kept leads p r))
 
 -- `null.` and the name behind it stand whole before an octet of no word
 pub null_stands : (name : List ℕ) (n : ℕ) → n ≡ length (take_while is_word_octet name) → n < length name

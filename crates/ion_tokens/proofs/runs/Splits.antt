@@ -1,5 +1,5 @@
 -- Where in a piece a token came.
-use Rattle.std.proofs.Common.{◌≡◌, ℕ, ◌+◌, ◌≤◌, List, [], ◌∷◌, ◌++◌, length, subst, arith}
+use Rattle.std.proofs.Common.{◌≡◌, ℕ, ◌+◌, List, [], ◌∷◌, ◌++◌, length, subst, arith}
 use Rattle.ion_tokens.specs.Names.{Given, Known, Left, Lexeme, Place, feed, run}
 use Rattle.ion_tokens.specs.machine.Table.{next}
 use Rattle.ion_tokens.proofs.runs.LastOctets.{cut_behind, last_octet, ran_shown, shown, size_shown}

@@ -1,19 +1,19 @@
 -- How octets in memory show that a blank or a token stands whole at their front. Crates above cite these names.
-use Rattle.std.proofs.Common.{◌≡◌, ◌≢◌, ◌⊎◌, inl, inr, ℕ, ◌+◌, ◌-◌, ◌<◌, ◌≤◌, zero, suc, Bool, true, false, cond, List, [], ◌∷◌, ◌++◌, length, take, drop, refl, sym, ap, ◌∙◌, subst, arith, append-nil, length-append, take-append-drop}
+use Rattle.std.proofs.Common.{◌≡◌, ◌≢◌, ◌⊎◌, inl, inr, ℕ, ◌+◌, ◌-◌, ◌<◌, ◌≤◌, zero, suc, Bool, true, false, cond, List, [], ◌∷◌, ◌++◌, length, take, drop, refl, sym, ap, ◌∙◌, subst, arith, append-nil, append_assoc, length-append, length-drop, take-append-drop}
 use Rattle.std.specs.Prelude.{◌==◌, ◌&&◌, ◌||◌, not, slice_index, IsUtf8}
 use Rattle.std.specs.List.{take_while, prefix_len}
 use Rattle.std.proofs.lemmas.Bool.Decides.{nat_tests}
-use Rattle.std.proofs.Math.Seq.{take-append_seam, get_or-append_seam}
+use Rattle.std.proofs.Math.Seq.{take-append_seam, get_or-append_seam, take-nil}
 use Rattle.std.proofs.lemmas.List.{length-take, length-take-le}
 use Rattle.std.proofs.lemmas.List.Folds.{length-prefix_len}
 use Rattle.std.proofs.lemmas.List.Sums.{prefix_len_stops, prefix_len-le-length}
 use Rattle.std.proofs.lemmas.Str.{IsUtf8-from_ascii}
 use Rattle.std.proofs.lemmas.Bool.{and_cases, eqb-true, ne_eqb, not-false, or_cases}
-use Rattle.ion_tokens.specs.Names.{Action, AreKept, Each, Given, IsFound, IsPassed, IsWord, Keep, Known, LeadsOn, Left, Mark, Mode, Next, Place, Rest, Style, TokenKind, Within, acts, begins, begins_number, begins_word, cut, feed, go_to, in_blank, is_digit, is_name, is_numeric, is_operator_octet, is_plain_operator, is_raw, is_stop, is_white, is_word_octet, kept_after, past, past_blank, resting, run}
+use Rattle.ion_tokens.specs.Names.{Action, AreKept, Each, Given, IsFound, IsPassed, IsWord, Keep, Known, LeadsOn, Left, Mark, Mode, Next, Place, Rest, Style, TokenKind, Within, acts, begins, begins_number, begins_word, cut, feed, go_to, in_blank, is_digit, is_name, is_numeric, is_operator_octet, is_plain_operator, is_raw, is_stop, is_white, is_word_octet, kept_after, past, past_blank, quote_of, resting, run}
 use Rattle.ion_tokens.specs.machine.Table.{next}
-use Rattle.ion_tokens.proofs.complete.Moves.{Moves, Opens, Stays, at, moves_one, moves_then, opens_one, opens_then}
+use Rattle.ion_tokens.proofs.complete.Moves.{Opens, Stays, at, opens_one, opens_then}
 use Rattle.ion_tokens.proofs.complete.TakesOperators.{low_operator, other_ends, plain_is, plain_opens}
-use Rattle.ion_tokens.proofs.complete.TakesTexts.{BeginsOther, drops_two, from_quote, opens_long, opens_quote}
+use Rattle.ion_tokens.proofs.complete.TakesTexts.{BeginsOther, drops_two, from_quote, long_quotes, opens_long, opens_quote}
 use Rattle.ion_tokens.proofs.complete.TakesWords.{brace_ends, colon_ends, no_dot, number_stops, opens_brace, opens_colon, opens_number, opens_word, word_ends}
 use Rattle.ion_tokens.proofs.runs.GoesOn.{each_front, front_all, front_on, rest_is}
 use Rattle.ion_tokens.proofs.texts.Characters.{ascii_each, kept_goes}
@@ -220,40 +220,126 @@ operator_text octets n e = front_text is_plain_operator octets n operator_ascii 
 
 -- What stands between quotes.
 
-text_moves : (p : Place) (s : Style) (w kept : List ℕ) → AreKept s w → Moves p (Mode.Text s Within.Plain) kept w (Mode.Text s Within.Plain) (kept ++ w)
-text_moves p s w kept h = kept_goes p s w kept h
-
-same_size : (p : Place) (r : Rest) (octets os : List ℕ) (kind : TokenKind) (n : ℕ) → IsFound p r octets kind (take n os) (suc n + 1) false
-    → IsFound p r octets kind (take (n + 2 - 2) os) (n + 2) false
-same_size p r octets os kind n h =
-    let kept : n ≡ n + 2 - 2 = omega arith in
+-- what leads on up to a quote stands whole behind another as a short string
+pub string_stands : (content kept : List ℕ) (n : ℕ) → n < length content → slice_index content n ≡ 34
+    → LeadsOn Style.ShortString (take n content) [] kept
+    → (p : Place) (r : Rest) → IsFound p r (34 ∷ content) TokenKind.ShortString kept (n + 2) false
+string_stands content kept n more last leads p r =
+    let m : Mode = Mode.Text Style.ShortString Within.Plain in
     let size : suc n + 1 ≡ n + 2 = omega arith in
-    subst (λ (i : ℕ). IsFound p r octets kind (take i os) (n + 2) false) kept (subst (λ (i : ℕ). IsFound p r octets kind (take n os) i false) size h)
+    subst (λ (i : ℕ). IsFound p r (34 ∷ content) TokenKind.ShortString kept i false) size
+    (opened_given p r (34 ∷ content) (suc n) TokenKind.ShortString m kept Keep.Nothing
+    (opens_then p r.colon (34 ∷ []) (take n content) m m [] kept (opens_one p r.colon 34 m Keep.Nothing refl) (leads p))
+    (λ s u. refl) (omega arith) (ap (λ (x : ℕ). next p r.colon m x) last))
 
-short_stands : (octets : List ℕ) (n : ℕ) → 0 < length octets → slice_index octets 0 ≡ 34 → AreKept Style.ShortString (take n (drop 1 octets))
-    → n < length (drop 1 octets) → slice_index (drop 1 octets) n ≡ 34
-    → (p : Place) (r : Rest) → IsFound p r octets TokenKind.ShortString (take (n + 2 - 2) (drop 1 octets)) (n + 2) false
-short_stands [] n some first kept more last p r = absurd (omega arith)
-short_stands (o ∷ os) n some first kept more last p r =
-    subst (λ (x : ℕ). IsFound p r (x ∷ os) TokenKind.ShortString (take (n + 2 - 2) os) (n + 2) false) (sym first)
-    (same_size p r (34 ∷ os) os TokenKind.ShortString n
-    (opened_given p r (34 ∷ os) (suc n) TokenKind.ShortString (Mode.Text Style.ShortString Within.Plain) (take n os) Keep.Nothing
-    (opens_then p r.colon (34 ∷ []) (take n os) (Mode.Text Style.ShortString Within.Plain) (Mode.Text Style.ShortString Within.Plain) [] (take n os)
-    (opens_one p r.colon 34 (Mode.Text Style.ShortString Within.Plain) Keep.Nothing refl) (text_moves p Style.ShortString (take n os) [] kept))
-    (λ s u. refl) (omega arith) (ap (λ (x : ℕ). next p r.colon (Mode.Text Style.ShortString Within.Plain) x) last)))
+-- so does what begins with no quote as a quoted symbol
+symbol_closes : (content kept : List ℕ) (n : ℕ) → n < length content → slice_index content n ≡ 39 → take n content ≢ [] → BeginsOther (take n content)
+    → LeadsOn Style.QuotedSymbol (take n content) [] kept
+    → (p : Place) (r : Rest) → IsFound p r (39 ∷ content) TokenKind.QuotedSymbol kept (n + 2) false
+symbol_closes content kept n more last full other leads p r =
+    let m : Mode = Mode.Text Style.QuotedSymbol Within.Plain in
+    let size : suc n + 1 ≡ n + 2 = omega arith in
+    subst (λ (i : ℕ). IsFound p r (39 ∷ content) TokenKind.QuotedSymbol kept i false) size
+    (opened_given p r (39 ∷ content) (suc n) TokenKind.QuotedSymbol m kept Keep.Nothing
+    (opens_then p r.colon (39 ∷ []) (take n content) Mode.Quote m [] kept (opens_quote p r.colon)
+    (from_quote p (take n content) kept Within.Plain full other (leads p)))
+    (λ s u. refl) (omega arith) (ap (λ (x : ℕ). next p r.colon m x) last))
+
+full_front : (n : ℕ) (content : List ℕ) → n ≢ 0 → n < length content → take n content ≢ []
+full_front n content some more e = let none = ap (λ (l : List ℕ). length l) e in let l = length-take n content in some (omega arith)
+
+begins_other : (content : List ℕ) (n : ℕ) → slice_index content 0 ≢ 39 → BeginsOther (take n content)
+begins_other [] n h = subst BeginsOther (sym (take-nil n)) tt
+begins_other (o ∷ os) zero h = tt
+begins_other (o ∷ os) (suc n) h = h
+
+-- what begins with no quote and leads on up to one stands whole behind another as a quoted symbol
+pub symbol_stands : (content kept : List ℕ) (n : ℕ) → n < length content → slice_index content n ≡ 39 → slice_index content 0 ≢ 39
+    → LeadsOn Style.QuotedSymbol (take n content) [] kept
+    → (p : Place) (r : Rest) → IsFound p r (39 ∷ content) TokenKind.QuotedSymbol kept (n + 2) false
+symbol_stands content kept n more last first =
+    let some : n ≢ 0 = λ e. first (subst (λ (i : ℕ). slice_index content i ≡ 39) e last) in
+    symbol_closes content kept n more last (full_front n content some more) (begins_other content n first)
+
+-- three quotes, octets that lead from between two characters to between two, and three quotes stand whole as a segment of a long string
+pub long_closes : (w us kept : List ℕ) → LeadsOn Style.LongString w [] kept
+    → (p : Place) (r : Rest) → IsFound p r (39 ∷ 39 ∷ 39 ∷ (w ++ 39 ∷ 39 ∷ 39 ∷ us)) TokenKind.LongString kept (length w + 6) false
+long_closes w us kept leads p r =
+    let front : List ℕ = 39 ∷ 39 ∷ 39 ∷ (w ++ 39 ∷ 39 ∷ []) in
+    let inside : List ℕ = (kept ++ 39 ∷ []) ++ 39 ∷ [] in
+    let size : length front + 1 ≡ length w + 6 = omega (arith, length-append w (39 ∷ 39 ∷ [])) in
+    let whole : front ++ 39 ∷ us ≡ 39 ∷ 39 ∷ 39 ∷ (w ++ 39 ∷ 39 ∷ 39 ∷ us) = ap (λ l. 39 ∷ 39 ∷ 39 ∷ l) (append_assoc w (39 ∷ 39 ∷ []) (39 ∷ us)) in
+    subst (λ (i : ℕ). IsFound p r (39 ∷ 39 ∷ 39 ∷ (w ++ 39 ∷ 39 ∷ 39 ∷ us)) TokenKind.LongString kept i false) size
+    (subst (λ l. IsFound p r l TokenKind.LongString kept (length front + 1) false) whole
+    (subst (λ k. IsFound p r (front ++ 39 ∷ us) TokenKind.LongString k (length front + 1) false) (drops_two kept 39 39)
+    (given_behind p r front us 39 TokenKind.LongString (Mode.Text Style.LongString Within.TwoQuotes) inside Keep.DropQuotes
+    (opens_then p r.colon (39 ∷ 39 ∷ 39 ∷ []) (w ++ 39 ∷ 39 ∷ []) (Mode.Text Style.LongString Within.Plain) (Mode.Text Style.LongString Within.TwoQuotes) []
+    inside (opens_long p r.colon) (long_quotes p Style.LongString Within.Plain w [] kept refl tt (leads p)))
+    (λ s u. refl) refl)))
+
+-- what leads on up to three quotes stands whole behind three as a segment of a long string
+pub segment_stands : (content kept us : List ℕ) (n : ℕ) → n < length content → drop n content ≡ 39 ∷ 39 ∷ 39 ∷ us
+    → LeadsOn Style.LongString (take n content) [] kept
+    → (p : Place) (r : Rest) → IsFound p r (39 ∷ 39 ∷ 39 ∷ content) TokenKind.LongString kept (n + 6) false
+segment_stands content kept us n more shuts leads p r =
+    let whole : take n content ++ 39 ∷ 39 ∷ 39 ∷ us ≡ content = ap (λ x. take n content ++ x) (sym shuts) ∙ take-append-drop n content in
+    let size : length (take n content) ≡ n = length-take-le n content (omega arith) in
+    subst (λ (i : ℕ). IsFound p r (39 ∷ 39 ∷ 39 ∷ content) TokenKind.LongString kept (i + 6) false) size
+    (subst (λ x. IsFound p r (39 ∷ 39 ∷ 39 ∷ x) TokenKind.LongString kept (length (take n content) + 6) false) whole
+    (long_closes (take n content) us kept leads p r))
 
 -- What stands behind the first quote, as `&octets[1..]` has it.
 abbrev pub behind_first : List ℕ → List ℕ
 behind_first octets = take (length octets - 1) (drop 1 octets)
 
+-- what stands whole behind its first quote does so where that is the first octet
+quoted_in : (octets : List ℕ) (quote n : ℕ) (kind : TokenKind) (p : Place) (r : Rest) → 0 < length octets → slice_index octets 0 ≡ quote
+    → IsFound p r (quote ∷ drop 1 octets) kind (take n (drop 1 octets)) (n + 2) false
+    → IsFound p r octets kind (take (n + 2 - 2) (drop 1 octets)) (n + 2) false
+quoted_in [] quote n kind p r some first h = absurd (omega arith)
+quoted_in (o ∷ os) quote n kind p r some first h =
+    let same : n ≡ n + 2 - 2 = omega arith in
+    subst (λ (x : ℕ). IsFound p r (x ∷ os) kind (take (n + 2 - 2) os) (n + 2) false) (sym first)
+    (subst (λ (i : ℕ). IsFound p r (quote ∷ os) kind (take i os) (n + 2) false) same h)
+
+-- octets that a text keeps as they are, up to a quote behind another
+record KeptBehind (s : Style) (octets : List ℕ) (n : ℕ) : Type 0 where
+  more : n < length (drop 1 octets)
+  last : slice_index (drop 1 octets) n ≡ quote_of s
+  kept : AreKept s (take n (drop 1 octets))
+
+kept_behind : (s : Style) (octets : List ℕ) (n : ℕ) → AreKept s (take n (behind_first octets)) → n < length (behind_first octets)
+    → slice_index (behind_first octets) n ≡ quote_of s → KeptBehind s octets n
+kept_behind s octets n kept more last =
+    let tail = rest_is octets 1 in
+    record {
+      more = subst (λ (w : List ℕ). n < length w) tail more;
+      last = subst (λ w. slice_index w n ≡ quote_of s) tail last;
+      kept = subst (λ w. AreKept s (take n w)) tail kept;
+    }
+
 -- a short string stands whole where it has characters alone that are kept as they are
 pub short_found : (octets : List ℕ) (n : ℕ) → 0 < length octets → slice_index octets 0 ≡ 34 → AreKept Style.ShortString (take n (behind_first octets))
     → n < length (behind_first octets) → slice_index (behind_first octets) n ≡ 34
     → (p : Place) (r : Rest) → IsFound p r octets TokenKind.ShortString (take (n + 2 - 2) (drop 1 octets)) (n + 2) false
-short_found octets n some first kept more last =
-    let tail = rest_is octets 1 in
-    short_stands octets n some first (subst (λ w. AreKept Style.ShortString (take n w)) tail kept) (subst (λ (w : List ℕ). n < length w) tail more)
-    (subst (λ w. slice_index w n ≡ 34) tail last)
+short_found octets n some first kept more last p r =
+    let h = kept_behind Style.ShortString octets n kept more last in
+    quoted_in octets 34 n TokenKind.ShortString p r some first
+    (string_stands (drop 1 octets) (take n (drop 1 octets)) n h.more h.last (λ q. kept_goes q Style.ShortString _ [] h.kept) p r)
+
+raw_begins : (w : List ℕ) → Each (is_raw false 39) w → BeginsOther w
+raw_begins [] h = tt
+raw_begins (o ∷ os) h = λ e. let never : is_raw false 39 39 ≡ true = subst (λ (x : ℕ). is_raw false 39 x ≡ true) e h.0 in cc
+
+-- a quoted symbol that isn't empty stands whole where its characters are kept as they are
+pub quoted_found : (octets : List ℕ) (n : ℕ) → 0 < length octets → slice_index octets 0 ≡ 39 → AreKept Style.QuotedSymbol (take n (behind_first octets))
+    → n ≢ 0 → n < length (behind_first octets) → slice_index (behind_first octets) n ≡ 39
+    → (p : Place) (r : Rest) → IsFound p r octets TokenKind.QuotedSymbol (take (n + 2 - 2) (drop 1 octets)) (n + 2) false
+quoted_found octets n some first kept one more last p r =
+    let h = kept_behind Style.QuotedSymbol octets n kept more last in
+    quoted_in octets 39 n TokenKind.QuotedSymbol p r some first
+    (symbol_closes (drop 1 octets) (take n (drop 1 octets)) n h.more h.last (full_front n _ one h.more) (raw_begins _ h.kept.0)
+    (λ q. kept_goes q Style.QuotedSymbol _ [] h.kept) p r)
 
 -- characters that are kept as they are, behind the first quote, are a text
 pub quoted_text : (s : Style) (octets : List ℕ) (n : ℕ) → AreKept s (take n (behind_first octets)) → IsUtf8 (take (n + 2 - 2) (drop 1 octets))
@@ -261,100 +347,18 @@ quoted_text s octets n kept =
     let same : n ≡ n + 2 - 2 = omega arith in
     subst (λ (i : ℕ). IsUtf8 (take i (drop 1 octets))) same (subst (λ w. IsUtf8 (take n w)) (rest_is octets 1) kept.1)
 
-raw_begins : (w : List ℕ) → Each (is_raw false 39) w → BeginsOther w
-raw_begins [] h = tt
-raw_begins (o ∷ os) h = λ e. let never : is_raw false 39 39 ≡ true = subst (λ (x : ℕ). is_raw false 39 x ≡ true) e h.0 in cc
-
-quoted_stands : (octets : List ℕ) (n : ℕ) → 0 < length octets → slice_index octets 0 ≡ 39 → AreKept Style.QuotedSymbol (take n (drop 1 octets)) → 0 < n
-    → n < length (drop 1 octets) → slice_index (drop 1 octets) n ≡ 39
-    → (p : Place) (r : Rest) → IsFound p r octets TokenKind.QuotedSymbol (take (n + 2 - 2) (drop 1 octets)) (n + 2) false
-quoted_stands [] n some first kept one more last p r = absurd (omega arith)
-quoted_stands (o ∷ os) n some first kept one more last p r =
-    subst (λ (x : ℕ). IsFound p r (x ∷ os) TokenKind.QuotedSymbol (take (n + 2 - 2) os) (n + 2) false) (sym first)
-    (same_size p r (39 ∷ os) os TokenKind.QuotedSymbol n
-    (opened_given p r (39 ∷ os) (suc n) TokenKind.QuotedSymbol (Mode.Text Style.QuotedSymbol Within.Plain) (take n os) Keep.Nothing
-    (opens_then p r.colon (39 ∷ []) (take n os) Mode.Quote (Mode.Text Style.QuotedSymbol Within.Plain) [] (take n os) (opens_quote p r.colon)
-    (from_quote p (take n os) (take n os) Within.Plain (λ none. let size = ap (λ (l : List ℕ). length l) none in let l = length-take n os in omega arith)
-    (raw_begins (take n os) kept.0) (text_moves p Style.QuotedSymbol (take n os) [] kept)))
-    (λ s u. refl) (omega arith) (ap (λ (x : ℕ). next p r.colon (Mode.Text Style.QuotedSymbol Within.Plain) x) last)))
-
--- a quoted symbol that isn't empty stands whole where its characters are kept as they are
-pub quoted_found : (octets : List ℕ) (n : ℕ) → 0 < length octets → slice_index octets 0 ≡ 39 → AreKept Style.QuotedSymbol (take n (behind_first octets))
-    → n ≢ 0 → n < length (behind_first octets) → slice_index (behind_first octets) n ≡ 39
-    → (p : Place) (r : Rest) → IsFound p r octets TokenKind.QuotedSymbol (take (n + 2 - 2) (drop 1 octets)) (n + 2) false
-quoted_found octets n some first kept one more last =
-    let tail = rest_is octets 1 in
-    quoted_stands octets n some first (subst (λ w. AreKept Style.QuotedSymbol (take n w)) tail kept) (omega arith)
-    (subst (λ (w : List ℕ). n < length w) tail more) (subst (λ w. slice_index w n ≡ 39) tail last)
-
--- three quotes, octets that lead from between two characters to between two, and three quotes stand whole as a segment of a long string
-pub long_closes : (w us kept : List ℕ) → LeadsOn Style.LongString w [] kept
-    → (p : Place) (r : Rest) → IsFound p r (39 ∷ 39 ∷ 39 ∷ (w ++ 39 ∷ 39 ∷ 39 ∷ us)) TokenKind.LongString kept (length w + 6) false
-long_closes w us kept leads p r =
-    let octets : List ℕ = 39 ∷ 39 ∷ 39 ∷ (w ++ 39 ∷ 39 ∷ 39 ∷ us) in
-    let n : ℕ = length w + 5 in
-    let inside : List ℕ = (kept ++ 39 ∷ []) ++ 39 ∷ [] in
-    let size : length octets ≡ length w + 6 + length us = omega (arith, length-append w (39 ∷ 39 ∷ 39 ∷ us)) in
-    let opens : Opens p r.colon (take n octets) (Mode.Text Style.LongString Within.TwoQuotes) inside =
-    subst (λ x. Opens p r.colon x (Mode.Text Style.LongString Within.TwoQuotes) inside) (sym (front w us))
-    (opens_then p r.colon (39 ∷ 39 ∷ 39 ∷ []) (w ++ 39 ∷ 39 ∷ []) (Mode.Text Style.LongString Within.Plain) (Mode.Text Style.LongString Within.TwoQuotes) []
-    inside (opens_long p r.colon)
-    (moves_then p (Mode.Text Style.LongString Within.Plain) (Mode.Text Style.LongString Within.Plain) (Mode.Text Style.LongString Within.TwoQuotes) w
-    (39 ∷ 39 ∷ []) [] kept inside (leads p)
-    (moves_then p (Mode.Text Style.LongString Within.Plain) (Mode.Text Style.LongString Within.OneQuote) (Mode.Text Style.LongString Within.TwoQuotes)
-    (39 ∷ []) (39 ∷ []) kept (kept ++ 39 ∷ []) inside
-    (moves_one p (Mode.Text Style.LongString Within.Plain) 39 kept (Mode.Text Style.LongString Within.OneQuote) (Keep.One 39) (λ a b. refl) (λ b. refl))
-    (moves_one p (Mode.Text Style.LongString Within.OneQuote) 39 (kept ++ 39 ∷ []) (Mode.Text Style.LongString Within.TwoQuotes) (Keep.One 39)
-    (λ a b. refl) (λ b. refl))))) in
-    let last : slice_index octets n ≡ 39 = third w us in
-    let total : n + 1 ≡ length w + 6 = omega arith in
-    subst (λ (k : ℕ). IsFound p r octets TokenKind.LongString kept k false) total
-    (subst (λ k. IsFound p r octets TokenKind.LongString k (n + 1) false) (drops_two kept 39 39)
-    (opened_given p r octets n TokenKind.LongString (Mode.Text Style.LongString Within.TwoQuotes) inside Keep.DropQuotes opens (λ s u. refl) (omega arith)
-    (ap (λ (x : ℕ). next p r.colon (Mode.Text Style.LongString Within.TwoQuotes) x) last)))
-  where
-    inner : (w us : List ℕ) (k : ℕ) → k ≡ length w + 2 → take k (w ++ 39 ∷ 39 ∷ 39 ∷ us) ≡ w ++ 39 ∷ 39 ∷ []
-    inner [] us k e = let two : k ≡ 2 = omega arith in ap (λ k. take k (39 ∷ 39 ∷ 39 ∷ us)) two
-    inner (o ∷ os) us zero e = absurd (omega arith)
-    inner (o ∷ os) us (suc k) e = ap (λ l. o ∷ l) (inner os us k (omega arith))
-
-    front : (w us : List ℕ) → take (length w + 5) (39 ∷ 39 ∷ 39 ∷ (w ++ 39 ∷ 39 ∷ 39 ∷ us)) ≡ 39 ∷ 39 ∷ 39 ∷ (w ++ 39 ∷ 39 ∷ [])
-    front w us =
-        let e : length w + 5 ≡ suc (suc (suc (length w + 2))) = omega arith in
-        ap (λ k. take k (39 ∷ 39 ∷ 39 ∷ (w ++ 39 ∷ 39 ∷ 39 ∷ us))) e ∙ ap (λ l. 39 ∷ 39 ∷ 39 ∷ l) (inner w us (length w + 2) refl)
-
-    at_third : (w us : List ℕ) (k : ℕ) → k ≡ length w + 2 → slice_index (w ++ 39 ∷ 39 ∷ 39 ∷ us) k ≡ 39
-    at_third [] us k e = let two : k ≡ 2 = omega arith in ap (slice_index (39 ∷ 39 ∷ 39 ∷ us)) two
-    at_third (o ∷ os) us zero e = absurd (omega arith)
-    at_third (o ∷ os) us (suc k) e = at_third os us k (omega arith)
-
-    third : (w us : List ℕ) → slice_index (39 ∷ 39 ∷ 39 ∷ (w ++ 39 ∷ 39 ∷ 39 ∷ us)) (length w + 5) ≡ 39
-    third w us =
-        let e : length w + 5 ≡ suc (suc (suc (length w + 2))) = omega arith in
-        ap (slice_index (39 ∷ 39 ∷ 39 ∷ (w ++ 39 ∷ 39 ∷ 39 ∷ us))) e ∙ at_third w us (length w + 2) refl
-
--- so do characters that are kept as they are
-long_stands : (w us : List ℕ) → AreKept Style.LongString w
-    → (p : Place) (r : Rest) → IsFound p r (39 ∷ 39 ∷ 39 ∷ (w ++ 39 ∷ 39 ∷ 39 ∷ us)) TokenKind.LongString w (length w + 6) false
-long_stands w us kept p r = long_closes w us w (λ p. text_moves p Style.LongString w [] kept) p r
-
 -- a segment of a long string stands whole where its characters are kept as they are
 pub long_found : (octets content behind us : List ℕ) (n : ℕ) → octets ≡ 39 ∷ 39 ∷ 39 ∷ behind → content ≡ drop 3 octets
     → AreKept Style.LongString (take n content) → n ≤ length content → drop n content ≡ 39 ∷ 39 ∷ 39 ∷ us
     → (p : Place) (r : Rest) → IsFound p r octets TokenKind.LongString (take (n + 6 - 6) (drop 3 octets)) (n + 6) false
 long_found octets content behind us n opens is kept within shuts p r =
-    let there : drop 3 octets ≡ behind = ap (drop 3) opens in
-    let whole : behind ≡ take n behind ++ 39 ∷ 39 ∷ 39 ∷ us =
-    sym (take-append-drop n behind) ∙ ap (λ x. take n behind ++ x) (ap (drop n) (sym there ∙ sym is) ∙ shuts) in
-    let k : length (take n behind) ≡ n =
-    length-take-le n behind (subst (λ (x : List ℕ). n ≤ length x) (is ∙ there) within) in
-    let m : n + 6 - 6 ≡ n = omega arith in
-    let found = long_stands (take n behind) us (subst (λ x. AreKept Style.LongString (take n x)) (is ∙ there) kept) p r in
-    let all : octets ≡ 39 ∷ 39 ∷ 39 ∷ (take n behind ++ 39 ∷ 39 ∷ 39 ∷ us) = opens ∙ ap (λ x. 39 ∷ 39 ∷ 39 ∷ x) whole in
-    subst (λ o. IsFound p r o TokenKind.LongString (take (n + 6 - 6) (drop 3 octets)) (n + 6) false) (sym all)
-    (subst (λ x. IsFound p r (39 ∷ 39 ∷ 39 ∷ (take n behind ++ 39 ∷ 39 ∷ 39 ∷ us)) TokenKind.LongString (take (n + 6 - 6) x) (n + 6) false) (sym there)
-    (subst (λ (j : ℕ). IsFound p r (39 ∷ 39 ∷ 39 ∷ (take n behind ++ 39 ∷ 39 ∷ 39 ∷ us)) TokenKind.LongString (take j behind) (n + 6) false) (sym m)
-    (subst (λ (j : ℕ). IsFound p r (39 ∷ 39 ∷ 39 ∷ (take n behind ++ 39 ∷ 39 ∷ 39 ∷ us)) TokenKind.LongString (take n behind) (j + 6) false) k found)))
+    let same : n ≡ n + 6 - 6 = omega arith in
+    let more : n < length content = omega (arith, length-drop n content, ap (λ (w : List ℕ). length w) shuts) in
+    let all : 39 ∷ 39 ∷ 39 ∷ content ≡ octets = ap (λ w. 39 ∷ 39 ∷ 39 ∷ w) (is ∙ ap (drop 3) opens) ∙ sym opens in
+    subst (λ o. IsFound p r o TokenKind.LongString (take (n + 6 - 6) (drop 3 octets)) (n + 6) false) all
+    (subst (λ w. IsFound p r (39 ∷ 39 ∷ 39 ∷ content) TokenKind.LongString (take (n + 6 - 6) w) (n + 6) false) is
+    (subst (λ (i : ℕ). IsFound p r (39 ∷ 39 ∷ 39 ∷ content) TokenKind.LongString (take i content) (n + 6) false) same
+    (segment_stands content (take n content) us n more shuts (λ q. kept_goes q Style.LongString _ [] kept) p r)))
 
 -- and says a text
 pub long_text : (octets content : List ℕ) (n : ℕ) → content ≡ drop 3 octets → AreKept Style.LongString (take n content)

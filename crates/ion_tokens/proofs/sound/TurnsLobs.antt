@@ -4,20 +4,11 @@ use Rattle.std.specs.Prelude.{◌==◌, ◌||◌, not, codes}
 use Rattle.std.specs.List.{flat_map, AllByRecursion}
 use Rattle.std.proofs.lemmas.Bool.Decides.{nat_tests}
 use Rattle.std.proofs.lemmas.Bool.{cond_both, eqb-true, or_right}
-use Rattle.ion_tokens.specs.Names.{Action, Each, IsSegment, Lob, LongTexts, Mode, Place, Segment, ShortText, Style, TokenKind, Within, after_long, after_short, in_blob, in_lob, is_base64, is_name, is_white, lob_start, second_brace, segment_spelling, third_quote}
+use Rattle.ion_tokens.specs.Names.{Action, Each, IsSegment, Lob, LongTexts, Mode, Place, Segment, ShortText, Style, Within, in_blob, in_lob, is_base64, is_name, is_white, segment_spelling}
 use Rattle.ion_tokens.specs.laws.Each.{each_last}
 use Rattle.ion_tokens.proofs.sound.Opens.{AnyBlob, InLob, IsLongText, IsOpen, Turns, solid}
 use Rattle.ion_tokens.proofs.sound.TurnsTexts.{segments_last}
 use Rattle.ion_tokens.proofs.texts.TextsRead.{reads_none}
-
--- an action behind {{ and more
-abbrev At : Place → Bool → List ℕ → List ℕ → ℕ → Action → Type 0
-At p colon inside kept o a = Turns p colon (123 ∷ 123 ∷ inside) kept o a
-
--- whichever way a test of the table goes
-on : (p : Place) (colon : Bool) (inside kept : List ℕ) (o : ℕ) (test : Bool) (x y : Action) → (test ≡ true → At p colon inside kept o x)
-    → (test ≡ false → At p colon inside kept o y) → At p colon inside kept o (cond test x y)
-on p colon inside kept o test x y = cond_both test x y (At p colon inside kept o)
 
 spread : (b : Bool) (x : ℕ) (s r : List ℕ) → cond b (x ∷ (s ++ r)) (s ++ r) ≡ cond b (x ∷ s) s ++ r
 spread true x s r = refl
@@ -45,75 +36,8 @@ base_any o h = (or_right (is_white o) (is_base64 o) h, grind (arith, nat_tests))
 any_white : (o : ℕ) → is_white o ≡ true → AnyBlob o ≡ true
 any_white o h = ap (λ b. b || is_base64 o) h
 
--- in the content of a blob
-blob_turns : (p : Place) (colon : Bool) (inside kept : List ℕ) (o : ℕ) → is_name p ≡ false → Each AnyBlob inside → kept ≡ solid inside
-    → At p colon inside kept o (in_blob o)
-blob_turns p colon inside kept o n h e =
-    on p colon inside kept o (o == 125) _ _ (λ f. (n, inside, refl, h, e, eqb-true o 125 f)) (λ _.
-    on p colon inside kept o (is_base64 o) _ _ (λ f. let b = base_any o f in
-    (n, inside ++ o ∷ [], refl, (each_last AnyBlob inside o h b.0, ap (λ l. l ++ o ∷ []) e ∙ sym (solid_more inside o b.1)))) (λ _. tt))
-
--- behind {{ and white space
-start_turns : (p : Place) (colon : Bool) (inside kept : List ℕ) (o : ℕ) → is_name p ≡ false → InLob Lob.Start inside kept
-    → At p colon inside kept o (lob_start o)
-start_turns p colon inside kept o n (k, w) =
-    on p colon inside kept o (is_white o) _ _ (λ f. (n, inside ++ o ∷ [], refl, (k, each_last is_white inside o w f))) (λ _.
-    on p colon inside kept o (o == 34) _ _ (λ f. (
-      n,
-      inside,
-      [],
-      w,
-      subst (λ l. Rattle.ion_tokens.proofs.texts.TextsSound.Reads Style.ShortClob Within.Plain [] l) (sym k) (reads_none Style.ShortClob),
-      (λ i. 123 ∷ 123 ∷ (inside ++ eqb-true o 34 f i ∷ [])),
-    )) (λ _.
-    on p colon inside kept o (o == 39) _ _ (λ f. (n, inside ++ o ∷ [], refl, (k, inside, w, (λ i. inside ++ eqb-true o 39 f i ∷ []))))
-    (λ _. blob_turns p colon inside kept o n (white_any inside w) (k ∙ sym (solid_none inside w)))))
-
-start_quote_turns : (p : Place) (colon : Bool) (inside kept : List ℕ) (o : ℕ) → is_name p ≡ false → InLob Lob.StartQuote inside kept
-    → At p colon inside kept o (third_quote o (Mode.Lob Lob.StartQuotes))
-start_quote_turns p colon inside kept o n (k, b, w, e) = on p colon inside kept o (o == 39) _ _
-    (λ f. (n, inside ++ o ∷ [], refl, (k, b, w, (λ i. e i ++ eqb-true o 39 f i ∷ []) ∙ append_assoc b (39 ∷ []) (39 ∷ [])))) (λ _. tt)
-
-start_quotes_turns : (p : Place) (colon : Bool) (inside kept : List ℕ) (o : ℕ) → is_name p ≡ false → InLob Lob.StartQuotes inside kept
-    → At p colon inside kept o (third_quote o (Mode.Text Style.LongClob Within.Plain))
-start_quotes_turns p colon inside kept o n (k, b, w, e) = on p colon inside kept o (o == 39) _ _ (λ f. (
-  n,
-  b,
-  [],
-  [],
-  [],
-  record { before = b; segments = []; white = w; each = tt; spelled = sym (append-nil b); means = refl },
-  reads_none Style.LongClob,
-  ap (λ l. 123 ∷ 123 ∷ l) ((λ i. e i ++ eqb-true o 39 f i ∷ []) ∙ append_assoc b (39 ∷ 39 ∷ []) (39 ∷ [])),
-  k,
-)) (λ _. tt)
-
-base_turns : (p : Place) (colon : Bool) (inside kept : List ℕ) (o : ℕ) → is_name p ≡ false → InLob Lob.Base64 inside kept
-    → At p colon inside kept o (in_lob Lob.Base64 o)
-base_turns p colon inside kept o n (h, e) = on p colon inside kept o (is_white o) _ _
-    (λ f. (n, inside ++ o ∷ [], refl, (each_last AnyBlob inside o h (any_white o f), e ∙ sym (solid_white inside o f))))
-    (λ _. blob_turns p colon inside kept o n h e)
-
 two_braces : (content inside : List ℕ) (o : ℕ) → inside ≡ content ++ 125 ∷ [] → o ≡ 125 → 123 ∷ 123 ∷ inside ++ o ∷ [] ≡ codes "{{" ++ content ++ codes "}}"
 two_braces content inside o e is = ap (λ l. 123 ∷ 123 ∷ l) ((λ i. e i ++ is i ∷ []) ∙ append_assoc content (125 ∷ []) (125 ∷ []))
-
-blob_close_turns : (p : Place) (colon : Bool) (inside kept : List ℕ) (o : ℕ) → is_name p ≡ false → InLob Lob.BlobClose inside kept
-    → At p colon inside kept o (second_brace o TokenKind.Blob)
-blob_close_turns p colon inside kept o n (content, h, e) =
-    on p colon inside kept o (o == 125) _ _ (λ f r j. (n, content, h, two_braces content inside o e (eqb-true o 125 f))) (λ _. tt)
-
-clob_close_turns : (p : Place) (colon : Bool) (inside kept : List ℕ) (o : ℕ) → is_name p ≡ false → InLob Lob.ClobClose inside kept
-    → At p colon inside kept o (second_brace o TokenKind.Clob)
-clob_close_turns p colon inside kept o n (content, h, e) =
-    on p colon inside kept o (o == 125) _ _ (λ f r j. (n, content, h, two_braces content inside o e (eqb-true o 125 f))) (λ _. tt)
-
-after_short_turns : (p : Place) (colon : Bool) (inside kept : List ℕ) (o : ℕ) → is_name p ≡ false → InLob Lob.AfterShort inside kept
-    → At p colon inside kept o (after_short o)
-after_short_turns p colon inside kept o n (b, t, a, bw, q, aw, e) =
-    on p colon inside kept o (is_white o) _ _ (λ f. let longer = ap (λ l. l ++ o ∷ []) e ∙ append_assoc (b ++ (34 ∷ t)) (34 ∷ a) (o ∷ []) in
-    (n, inside ++ o ∷ [], refl, (b, t, a ++ o ∷ [], bw, q, each_last is_white a o aw f, longer))) (λ _.
-    on p colon inside kept o (o == 125) _ _
-    (λ f. (n, inside ++ o ∷ [], refl, (inside, ShortText b t a bw q aw e, (λ i. inside ++ eqb-true o 125 f i ∷ [])))) (λ _. tt))
 
 -- white space behind the last segment
 more_white : (inside kept : List ℕ) (o : ℕ) → IsLongText inside kept → is_white o ≡ true → IsLongText (inside ++ o ∷ []) kept
@@ -143,59 +67,85 @@ some_segment : (gs : List Segment) (g : Segment) → gs ++ g ∷ [] ≢ []
 some_segment [] g e = cc
 some_segment (x ∷ gs) g e = cc
 
-after_long_turns : (p : Place) (colon : Bool) (inside kept : List ℕ) (o : ℕ) → is_name p ≡ false → InLob Lob.AfterLong inside kept
-    → At p colon inside kept o (after_long o)
-after_long_turns p colon inside kept o n h =
-    on p colon inside kept o (is_white o) _ _ (λ f. (n, inside ++ o ∷ [], refl, more_white inside kept o h f)) (λ _.
-    on p colon inside kept o (o == 125) _ _ (λ f. let each = all_segments h.segments h.last h.each h.is_last in
-    let texts = LongTexts h.before (h.segments ++ h.last ∷ []) h.white (some_segment h.segments h.last) each h.spelled h.means in
-    (n, inside ++ o ∷ [], refl, (inside, texts, (λ i. inside ++ eqb-true o 125 f i ∷ [])))) (λ _.
-    on p colon inside kept o (o == 39) _ _ (λ f. (n, inside ++ o ∷ [], refl, (inside, h, (λ i. inside ++ eqb-true o 39 f i ∷ [])))) (λ _. tt)))
+module _ (p : Place) (colon : Bool) (inside kept : List ℕ) (o : ℕ) (n : is_name p ≡ false) where
+  -- an action behind {{ and more
+  abbrev At : Action → Type 0
+  At a = Turns p colon (123 ∷ 123 ∷ inside) kept o a
 
-after_quote_turns : (p : Place) (colon : Bool) (inside kept : List ℕ) (o : ℕ) → is_name p ≡ false → InLob Lob.AfterQuote inside kept
-    → At p colon inside kept o (third_quote o (Mode.Lob Lob.AfterQuotes))
-after_quote_turns p colon inside kept o n (front, h, e) = on p colon inside kept o (o == 39) _ _
-    (λ f. (n, inside ++ o ∷ [], refl, (front, h, (λ i. e i ++ eqb-true o 39 f i ∷ []) ∙ append_assoc front (39 ∷ []) (39 ∷ [])))) (λ _. tt)
+  -- whichever way a test of the table goes
+  on : (test : Bool) (x y : Action) → (test ≡ true → At x) → (test ≡ false → At y) → At (cond test x y)
+  on test x y = cond_both test x y At
 
-after_quotes_turns : (p : Place) (colon : Bool) (inside kept : List ℕ) (o : ℕ) → is_name p ≡ false → InLob Lob.AfterQuotes inside kept
-    → At p colon inside kept o (third_quote o (Mode.Text Style.LongClob Within.Plain))
-after_quotes_turns p colon inside kept o n (front, h, e) = on p colon inside kept o (o == 39) _ _ (λ f. (
-  n,
-  front,
-  kept,
-  [],
-  [],
-  record {
-    before = h.before;
-    segments = h.segments ++ h.last ∷ [];
-    white = h.white;
-    each = all_segments h.segments h.last h.each h.is_last;
-    spelled = h.spelled;
-    means = h.means;
-  },
-  reads_none Style.LongClob,
-  ap (λ l. 123 ∷ 123 ∷ l) ((λ i. e i ++ eqb-true o 39 f i ∷ []) ∙ append_assoc front (39 ∷ 39 ∷ []) (39 ∷ [])),
-  sym (append-nil kept),
-)) (λ _. tt)
+  -- in the content of a blob
+  blob_turns : Each AnyBlob inside → kept ≡ solid inside → At (in_blob o)
+  blob_turns h e =
+      on (o == 125) _ _ (λ f. (n, inside, refl, h, e, eqb-true o 125 f)) (λ _.
+      on (is_base64 o) _ _ (λ f. let b = base_any o f in
+      (n, inside ++ o ∷ [], refl, (each_last AnyBlob inside o h b.0, ap (λ l. l ++ o ∷ []) e ∙ sym (solid_more inside o b.1)))) (λ _. tt))
+
+  -- one quote more behind some
+  quote_more : (front quotes : List ℕ) → inside ≡ front ++ quotes → (o == 39) ≡ true → inside ++ o ∷ [] ≡ front ++ (quotes ++ 39 ∷ [])
+  quote_more front quotes e f = (λ i. e i ++ eqb-true o 39 f i ∷ []) ∙ append_assoc front quotes (39 ∷ [])
+
+  turns : (l : Lob) → InLob l inside kept → At (in_lob l o)
+  turns Lob.Start (k, w) =
+      on (is_white o) _ _ (λ f. (n, inside ++ o ∷ [], refl, (k, each_last is_white inside o w f))) (λ _.
+      on (o == 34) _ _ (λ f. (
+        n,
+        inside,
+        [],
+        w,
+        subst (λ l. Rattle.ion_tokens.proofs.texts.TextsSound.Reads Style.ShortClob Within.Plain [] l) (sym k) (reads_none Style.ShortClob),
+        (λ i. 123 ∷ 123 ∷ (inside ++ eqb-true o 34 f i ∷ [])),
+      )) (λ _.
+      on (o == 39) _ _ (λ f. (n, inside ++ o ∷ [], refl, (k, inside, w, (λ i. inside ++ eqb-true o 39 f i ∷ []))))
+      (λ _. blob_turns (white_any inside w) (k ∙ sym (solid_none inside w)))))
+  turns Lob.StartQuote (k, b, w, e) = on (o == 39) _ _ (λ f. (n, inside ++ o ∷ [], refl, (k, b, w, quote_more b (39 ∷ []) e f))) (λ _. tt)
+  turns Lob.StartQuotes (k, b, w, e) = on (o == 39) _ _ (λ f. (
+    n,
+    b,
+    [],
+    [],
+    [],
+    record { before = b; segments = []; white = w; each = tt; spelled = sym (append-nil b); means = refl },
+    reads_none Style.LongClob,
+    ap (λ l. 123 ∷ 123 ∷ l) (quote_more b (39 ∷ 39 ∷ []) e f),
+    k,
+  )) (λ _. tt)
+  turns Lob.Base64 (h, e) = on (is_white o) _ _
+      (λ f. (n, inside ++ o ∷ [], refl, (each_last AnyBlob inside o h (any_white o f), e ∙ sym (solid_white inside o f)))) (λ _. blob_turns h e)
+  turns Lob.BlobClose (content, h, e) = on (o == 125) _ _ (λ f r j. (n, content, h, two_braces content inside o e (eqb-true o 125 f))) (λ _. tt)
+  turns Lob.AfterShort (b, t, a, bw, q, aw, e) =
+      on (is_white o) _ _ (λ f. let longer = ap (λ l. l ++ o ∷ []) e ∙ append_assoc (b ++ (34 ∷ t)) (34 ∷ a) (o ∷ []) in
+      (n, inside ++ o ∷ [], refl, (b, t, a ++ o ∷ [], bw, q, each_last is_white a o aw f, longer))) (λ _.
+      on (o == 125) _ _ (λ f. (n, inside ++ o ∷ [], refl, (inside, ShortText b t a bw q aw e, (λ i. inside ++ eqb-true o 125 f i ∷ [])))) (λ _. tt))
+  turns Lob.AfterLong h =
+      on (is_white o) _ _ (λ f. (n, inside ++ o ∷ [], refl, more_white inside kept o h f)) (λ _.
+      on (o == 125) _ _ (λ f. let each = all_segments h.segments h.last h.each h.is_last in
+      let texts = LongTexts h.before (h.segments ++ h.last ∷ []) h.white (some_segment h.segments h.last) each h.spelled h.means in
+      (n, inside ++ o ∷ [], refl, (inside, texts, (λ i. inside ++ eqb-true o 125 f i ∷ [])))) (λ _.
+      on (o == 39) _ _ (λ f. (n, inside ++ o ∷ [], refl, (inside, h, (λ i. inside ++ eqb-true o 39 f i ∷ [])))) (λ _. tt)))
+  turns Lob.AfterQuote (front, h, e) = on (o == 39) _ _ (λ f. (n, inside ++ o ∷ [], refl, (front, h, quote_more front (39 ∷ []) e f))) (λ _. tt)
+  turns Lob.AfterQuotes (front, h, e) = on (o == 39) _ _ (λ f. (
+    n,
+    front,
+    kept,
+    [],
+    [],
+    record {
+      before = h.before;
+      segments = h.segments ++ h.last ∷ [];
+      white = h.white;
+      each = all_segments h.segments h.last h.each h.is_last;
+      spelled = h.spelled;
+      means = h.means;
+    },
+    reads_none Style.LongClob,
+    ap (λ l. 123 ∷ 123 ∷ l) (quote_more front (39 ∷ 39 ∷ []) e f),
+    sym (append-nil kept),
+  )) (λ _. tt)
+  turns Lob.ClobClose (content, h, e) = on (o == 125) _ _ (λ f r j. (n, content, h, two_braces content inside o e (eqb-true o 125 f))) (λ _. tt)
 
 -- what the table does with an octet of an open lob fits the lob
 pub lob_turns : (p : Place) (colon : Bool) (l : Lob) (w kept : List ℕ) (o : ℕ) → IsOpen p colon (Mode.Lob l) w kept → Turns p colon w kept o (in_lob l o)
-lob_turns p colon Lob.Start w kept o (n, inside, e, h) = subst (λ x. Turns p colon x kept o (lob_start o)) (sym e) (start_turns p colon inside kept o n h)
-lob_turns p colon Lob.StartQuote w kept o (n, inside, e, h) =
-    subst (λ x. Turns p colon x kept o (in_lob Lob.StartQuote o)) (sym e) (start_quote_turns p colon inside kept o n h)
-lob_turns p colon Lob.StartQuotes w kept o (n, inside, e, h) =
-    subst (λ x. Turns p colon x kept o (in_lob Lob.StartQuotes o)) (sym e) (start_quotes_turns p colon inside kept o n h)
-lob_turns p colon Lob.Base64 w kept o (n, inside, e, h) =
-    subst (λ x. Turns p colon x kept o (in_lob Lob.Base64 o)) (sym e) (base_turns p colon inside kept o n h)
-lob_turns p colon Lob.BlobClose w kept o (n, inside, e, h) =
-    subst (λ x. Turns p colon x kept o (in_lob Lob.BlobClose o)) (sym e) (blob_close_turns p colon inside kept o n h)
-lob_turns p colon Lob.AfterShort w kept o (n, inside, e, h) =
-    subst (λ x. Turns p colon x kept o (after_short o)) (sym e) (after_short_turns p colon inside kept o n h)
-lob_turns p colon Lob.AfterLong w kept o (n, inside, e, h) =
-    subst (λ x. Turns p colon x kept o (after_long o)) (sym e) (after_long_turns p colon inside kept o n h)
-lob_turns p colon Lob.AfterQuote w kept o (n, inside, e, h) =
-    subst (λ x. Turns p colon x kept o (in_lob Lob.AfterQuote o)) (sym e) (after_quote_turns p colon inside kept o n h)
-lob_turns p colon Lob.AfterQuotes w kept o (n, inside, e, h) =
-    subst (λ x. Turns p colon x kept o (in_lob Lob.AfterQuotes o)) (sym e) (after_quotes_turns p colon inside kept o n h)
-lob_turns p colon Lob.ClobClose w kept o (n, inside, e, h) =
-    subst (λ x. Turns p colon x kept o (in_lob Lob.ClobClose o)) (sym e) (clob_close_turns p colon inside kept o n h)
+lob_turns p colon l w kept o (n, inside, e, h) = subst (λ x. Turns p colon x kept o (in_lob l o)) (sym e) (turns p colon inside kept o n l h)

@@ -1,7 +1,8 @@
 use Rattle.std.proofs.Common.{◌≡◌, ◌∷◌, ◌+◌, ◌-◌, ◌∙◌, sym, rules, subst, false, length, take, drop}
 use Rattle.std.proofs.lemmas.List.{take_rest}
 use Rattle.ion_tokens.specs.Names.{LeadsOn, Style, TokenKind}
-use Rattle.ion_tokens.proofs.runs.EscapedTexts.{segment_stands, stands_as}
+use Rattle.ion_tokens.proofs.runs.EscapedTexts.{stands_as}
+use Rattle.ion_tokens.proofs.runs.WholeTokens.{segment_stands}
 use Rattle.ion_tokens.proofs.machine.Machine.escaped_segment.Goals as goal
 
 pub returns : goal.returns

@@ -1,6 +1,7 @@
 use Rattle.std.proofs.Common.{subst, false, take, ◌+◌}
 use Rattle.ion_tokens.specs.Names.{LeadsOn, Style, TokenKind}
-use Rattle.ion_tokens.proofs.runs.EscapedTexts.{stands_as, string_stands}
+use Rattle.ion_tokens.proofs.runs.EscapedTexts.{stands_as}
+use Rattle.ion_tokens.proofs.runs.WholeTokens.{string_stands}
 use Rattle.ion_tokens.proofs.machine.Machine.escaped_string.Goals as goal
 
 pub returns : goal.returns

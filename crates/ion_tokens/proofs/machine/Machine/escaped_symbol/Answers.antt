@@ -1,6 +1,7 @@
 use Rattle.std.proofs.Common.{◌≢◌, rules, slice_index, subst, false, take, ◌+◌}
 use Rattle.ion_tokens.specs.Names.{LeadsOn, Style, TokenKind}
-use Rattle.ion_tokens.proofs.runs.EscapedTexts.{stands_as, symbol_stands}
+use Rattle.ion_tokens.proofs.runs.EscapedTexts.{stands_as}
+use Rattle.ion_tokens.proofs.runs.WholeTokens.{symbol_stands}
 use Rattle.ion_tokens.proofs.machine.Machine.escaped_symbol.Goals as goal
 
 pub returns : goal.returns
