@@ -5,6 +5,7 @@ use Rattle.std.proofs.lemmas.Bool.{cond_both}
 use Rattle.ion_tokens.specs.Names.{Action, Answers, Given, IsBody, IsWordBody, Kind, Known, Left, Next, Outcome, Place, ReadsNumber, Reason, Refusal, Refused, Scan, TokenKind, acts, answered, blob_ends, blob_of, debt, feed, follow, id_of, is_idle, is_step_reason, kind_named, null_of, run, unkept}
 use Rattle.ion_tokens.specs.machine.Table.{next}
 use Rattle.ion_tokens.proofs.bounds.Fits.{Fits, is_octet_reason, table_fits}
+use Rattle.ion_tokens.proofs.runs.Runs.{blob_both}
 
 -- what octets come to is refused for their own sake
 unfoldable pub IsFair : Outcome → Type 0
@@ -17,15 +18,10 @@ not_memory : (e : Reason) → is_octet_reason e ≡ true → e ≢ Reason.Memory
 not_memory Reason.Memory h = cc
 not_memory _ h = λ i. cc
 
-blob_fair : (s : Known) (b : Option (List ℕ)) → IsFair (blob_ends s b)
-unfolding IsFair
-blob_fair s None = refl
-blob_fair s (Some b) = tt
-
 acts_fair : (p : Place) (s : Known) (o : ℕ) (a : Action) → Fits (unkept s.mode) (debt s.mode) (is_idle s.mode) a → IsFair (acts p s o a)
 unfolding IsFair
 acts_fair p s o Action.EndWord f = cond_both ((o == 46) && bytes_eq s.kept (codes "null")) _ _ IsFair (λ _. tt) (λ _. tt)
-acts_fair p s o Action.EndBlob f = blob_fair s (blob_of s.kept)
+acts_fair p s o Action.EndBlob f = blob_both IsFair s (blob_of s.kept) refl (λ _. tt)
 acts_fair p s o (Action.Refuse e) f = f.is
 acts_fair p s o _ f = tt
 

@@ -6,7 +6,7 @@ use Rattle.ion_tokens.specs.Names.{Action, Answers, Given, Known, Left, Next, Ou
 use Rattle.ion_tokens.specs.machine.Table.{next}
 use Rattle.ion_tokens.proofs.bounds.Fits.{Fits, added, is_fresh, is_nothing, table_fits}
 use Rattle.ion_tokens.proofs.bounds.Steady.{ended_well, le_of, les_of, went_well}
-use Rattle.ion_tokens.proofs.runs.Runs.{Between, acts_between, run_between}
+use Rattle.ion_tokens.proofs.runs.Runs.{Between, acts_between, blob_both, run_between}
 
 -- Behind octets that were all used one is taken up, whatever comes of it.
 pub took_one : (x : Outcome) (before n used : ℕ) → Between x used 1 → used ≡ before + n → taken_up before x ≡ n + 1
@@ -22,12 +22,8 @@ Owes owed before (Given l s) = debt s.mode < owed + (s.used - before)
 Owes owed before (Left l s) = debt s.mode < owed + (s.used - before)
 Owes owed before (Refused at r) = Unit {0}
 
-blob_owes : (s : Known) (b : Option (List ℕ)) → Owes (debt s.mode) s.used (blob_ends s b)
-unfolding Owes
-blob_owes s None = tt
-blob_owes s (Some b) = omega arith
-
-acts_owes : (p : Place) (s : Known) (o : ℕ) (a : Action) → Fits (unkept s.mode) (debt s.mode) (is_idle s.mode) a → Owes (debt s.mode) s.used (acts p s o a)
+-- one octet, too
+pub acts_owes : (p : Place) (s : Known) (o : ℕ) (a : Action) → Fits (unkept s.mode) (debt s.mode) (is_idle s.mode) a → Owes (debt s.mode) s.used (acts p s o a)
 unfolding Owes
 acts_owes p s o (Action.Go m k) f =
     let t = went_well (added k + unkept m) (unkept s.mode + 1) (debt m) (debt s.mode + 1) (not (is_idle m) || (is_idle s.mode && is_nothing k)) f.is in
@@ -40,7 +36,7 @@ acts_owes p s o Action.EndWord f =
     cond_both ((o == 46) && bytes_eq s.kept (codes "null")) _ _ (Owes (debt s.mode) s.used) (λ _. omega arith)
     (λ _. let t = le_of 1 (debt s.mode) f.is in omega arith)
 acts_owes p s o (Action.Split letters) f = let t = les_of letters (unkept s.mode) 2 (debt s.mode) f.is in omega arith
-acts_owes p s o Action.EndBlob f = blob_owes s (blob_of s.kept)
+acts_owes p s o Action.EndBlob f = blob_both (Owes (debt s.mode) s.used) s (blob_of s.kept) tt (λ _. omega arith)
 acts_owes p s o (Action.Refuse e) f = tt
 
 -- behind one octet more

@@ -6,6 +6,7 @@ use Rattle.std.proofs.lemmas.Bool.{cond_both, leb-true}
 use Rattle.ion_tokens.specs.Names.{Action, Given, Known, Left, Mode, Next, Outcome, Place, Refused, TokenKind, acts, behind, blob_ends, blob_of, feed, follow, is_idle, left_of, run, start_of}
 use Rattle.ion_tokens.specs.machine.Table.{next}
 use Rattle.ion_tokens.specs.laws.ByRows.{by_rows_where}
+use Rattle.ion_tokens.proofs.runs.Runs.{blob_both}
 
 -- The token goes on, or ends so late: so many octets at its end may turn out to be part of a comment.
 abbrev late : ℕ → Action → Bool
@@ -40,11 +41,6 @@ module _ (p : Place) (s : Known) (o : ℕ) (start end : ℕ) (begun : is_idle s.
   same_start : start_of s.mode s.start s.used ≡ start
   same_start = begun_stays s.mode s.start s.used begun ∙ from
 
-  blob_reaches : (b : Option (List ℕ)) → Reaches start end (blob_ends s b)
-  unfolding Reaches
-  blob_reaches None = tt
-  blob_reaches (Some octets) = (same_start, refl, omega (arith, reached))
-
   acts_reaches : (a : Action) → late (behind s.mode) a ≡ true → Reaches start end (acts p s o a)
   unfolding Reaches
   acts_reaches (Action.Go m k) h = let parts = goes_parts (behind m) (behind s.mode) (is_idle m) h in
@@ -57,7 +53,7 @@ module _ (p : Place) (s : Known) (o : ℕ) (start end : ℕ) (begun : is_idle s.
       cond_both ((o == 46) && bytes_eq s.kept (codes "null")) _ _ (Reaches start end) (λ _. (same_start, refl, omega (arith, reached)))
       (λ _. (same_start, inl (omega (arith, reached))))
   acts_reaches (Action.Split n) h = (same_start, inr (refl, refl, refl, omega (arith, reached)))
-  acts_reaches Action.EndBlob h = blob_reaches (blob_of s.kept)
+  acts_reaches Action.EndBlob h = blob_both (Reaches start end) s (blob_of s.kept) tt (λ _. (same_start, refl, omega (arith, reached)))
   acts_reaches (Action.Refuse e) h = tt
 
   feed_reaches : Reaches start end (feed p s o)

@@ -14,6 +14,7 @@ use Rattle.ion_tokens.proofs.runs.LastOctets.{LastOctet, cut_behind, last_octet,
 use Rattle.ion_tokens.proofs.runs.Runs.{next_used}
 use Rattle.ion_tokens.proofs.runs.Splits.{given_one, left_one}
 use Rattle.ion_tokens.proofs.sound.Told.{ends_in_blank, ends_in_token, told_right}
+use Rattle.ion_tokens.specs.laws.Each.{all_last}
 
 -- at most one octet is left
 pub at_most_one : (s : Known) (u : List ℕ) (ts : List Placed) (ahead : List ℕ) → Stands s u ts ahead → length ahead ≤ 1
@@ -29,8 +30,7 @@ begins_front (y ∷ z ∷ ys) octets rest more h k e = absurd (omega arith)
 
 -- where tokens aren't refused when they are judged, nor is one more, none of them all is
 pub pass_more : (ts : List Placed) (t : Placed) → AllPass ts → Passes t.lexeme.kind t.lexeme.octets → AllPass (ts ++ t ∷ [])
-pass_more [] t h k = (k, tt)
-pass_more (x ∷ ts) t h k = (h.0, pass_more ts t h.1 k)
+pass_more ts t h k = all_last (λ (x : Placed). Passes x.lexeme.kind x.lexeme.octets) ts t h k
 
 -- so many octets of a piece are its front
 pub front_is : (piece octets rest : List ℕ) (n : ℕ) → piece ≡ octets ++ rest → n ≡ length octets → take n piece ≡ octets

@@ -12,29 +12,15 @@ use Rattle.ion_tokens.specs.laws.Each.{each_append}
 use Rattle.ion_tokens.proofs.complete.Moves.{Moves, Opens, moves_one, moves_then, opens_then}
 use Rattle.ion_tokens.proofs.complete.TakesLobs.{opens_blob, opens_lob, segment_leads, short_leads, white_moves}
 use Rattle.ion_tokens.proofs.runs.WholeTokens.{front_each, front_within, given_behind, opened_given}
+use Rattle.ion_tokens.proofs.sound.Opens.{AnyBlob, solid}
+use Rattle.ion_tokens.proofs.sound.TurnsLobs.{base_any, solid_none, white_any}
 
-abbrev in_content : ℕ → Bool
-in_content o = is_white o || is_base64 o
-
-abbrev solid : List ℕ → List ℕ
-solid os = filter (λ o. not (is_white o)) os
-
-white_in : (os : List ℕ) → Each is_white os → Each in_content os × (solid os ≡ [])
-white_in [] h = (tt, refl)
-white_in (o ∷ os) h =
-    let more = white_in os h.1 in
-    ((rw h.0 refl, more.0), ap (λ b. cond (not b) (o ∷ solid os) (solid os)) h.0 ∙ more.1)
-
--- base64 has no white octets
-no_blank : (o : ℕ) → is_base64 o ≡ true → is_white o ≡ false
-no_blank o h = grind (arith, nat_tests)
-
-base64_in : (os : List ℕ) → Each is_base64 os → Each in_content os × (solid os ≡ os)
+base64_in : (os : List ℕ) → Each is_base64 os → Each AnyBlob os × (solid os ≡ os)
 base64_in [] h = (tt, refl)
 base64_in (o ∷ os) h =
     let more = base64_in os h.1 in
-    let far = no_blank o h.0 in
-    ((ap (λ b. b || is_base64 o) far ∙ h.0, more.0), ap (λ b. cond (not b) (o ∷ solid os) (solid os)) far ∙ ap (λ l. o ∷ l) more.1)
+    let is = base_any o h.0 in
+    ((is.0, more.0), ap (λ b. cond (not b) (o ∷ solid os) (solid os)) is.1 ∙ ap (λ l. o ∷ l) more.1)
 
 -- nothing adds nothing
 pub none_adds : (kept : List ℕ) → AddsBase64 [] kept kept
@@ -43,8 +29,8 @@ none_adds kept = (tt, sym (append-nil kept))
 -- of white octets nothing is kept
 pub white_adds : (octets kept : List ℕ) (n : ℕ) → n ≡ length (take_while is_white octets) → AddsBase64 (take n octets) kept kept
 white_adds octets kept n e =
-    let all = white_in (take n octets) (front_each is_white octets n e) in
-    (all.0, sym (append-nil kept) ∙ ap (λ l. kept ++ l) (sym all.1))
+    let all = front_each is_white octets n e in
+    (white_any (take n octets) all, sym (append-nil kept) ∙ ap (λ l. kept ++ l) (sym (solid_none (take n octets) all)))
 
 -- base64 without white space is kept as it is
 pub solid_adds : (octets kept : List ℕ) → Each is_base64 octets → AddsBase64 octets kept (kept ++ octets)
@@ -60,7 +46,7 @@ pub adds_then : (octets rest kept kept' kept'' : List ℕ) (at n : ℕ) → rest
     → AddsBase64 (take n rest) kept' kept'' → AddsBase64 (take (at + n) octets) kept kept''
 adds_then octets rest kept kept' kept'' at n is f g =
     subst (λ w. AddsBase64 w kept kept'') (ap (λ w. take at octets ++ take n w) is ∙ sym (take-add at n octets)) (
-      each_append in_content (take at octets) (take n rest) f.0 g.0,
+      each_append AnyBlob (take at octets) (take n rest) f.0 g.0,
       g.1 ∙ ap (λ l. l ++ solid (take n rest)) f.1 ∙ append_assoc kept (solid (take at octets)) (solid (take n rest))
           ∙ ap (λ l. kept ++ l) (sym (filter-append (λ o. not (is_white o)) (take at octets) (take n rest))),
     )

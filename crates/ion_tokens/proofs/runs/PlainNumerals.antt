@@ -9,7 +9,7 @@ use Rattle.std.proofs.lemmas.List.Folds.{length-prefix_len}
 use Rattle.std.proofs.lemmas.List.Sums.{prefix_len_passes, prefix_len_is, prefix_len-le-length}
 use Rattle.ion_tokens.specs.Names.{BeginsWithMinus, IsFound, Number, Place, ReadsNumber, Rest, TokenKind, is_digit, is_name, is_numeric, is_stop, minus, slash}
 use Rattle.ion_scalar.specs.text.laws.PlainNumerals.{IsPlainDigit, PlainNumeral, numeral_reads}
-use Rattle.ion_tokens.proofs.runs.WholeTokens.{number_found}
+use Rattle.ion_tokens.proofs.runs.WholeTokens.{front_length, front_within, number_found}
 
 plain_digit : (o : ℕ) → is_digit o ≡ true → IsPlainDigit o
 plain_digit o h = (grind (arith, nat_tests), grind (arith, nat_tests))
@@ -17,15 +17,9 @@ plain_digit o h = (grind (arith, nat_tests), grind (arith, nat_tests))
 numeric_digit : (o : ℕ) → IsPlainDigit o → is_numeric o ≡ true
 numeric_digit o h = grind (arith, nat_tests)
 
-counted : (os : List ℕ) (n : ℕ) → n ≡ length (take_while is_digit os) → n ≡ prefix_len is_digit os
-counted os n e = e ∙ length-prefix_len is_digit os
-
 -- each octet that was counted is a digit
 each_digit : (os : List ℕ) (n : ℕ) → n ≡ length (take_while is_digit os) → (i : ℕ) → i < n → IsPlainDigit (get_or os i 0)
-each_digit os n e i less = plain_digit _ (prefix_len_passes is_digit os i 0 (omega (arith, counted os n e)))
-
-within : (os : List ℕ) (n : ℕ) → n ≡ length (take_while is_digit os) → n ≤ length os
-within os n e = omega (arith, counted os n e, prefix_len-le-length is_digit os)
+each_digit os n e i less = plain_digit _ (prefix_len_passes is_digit os i 0 (omega (arith, front_length is_digit os n e)))
 
 -- digits alone
 pub int_there : (os : List ℕ) (whole : ℕ) → whole ≡ length (take_while is_digit os) → 0 < whole → whole ≤ 19 → (1 < whole → get_or os 0 0 ≢ 48)
@@ -34,7 +28,7 @@ int_there os whole e some few first = record {
   whole = whole;
   some = some;
   few = few;
-  within = within os whole e;
+  within = front_within is_digit os whole e;
   digits = each_digit os whole e;
   first = first;
   behind = inl refl;
@@ -50,7 +44,7 @@ point_there os whole fraction e some first more point f few =
       whole = whole;
       some = some;
       few = few;
-      within = omega (arith, within rest fraction f, length-drop (whole + 1) os);
+      within = omega (arith, front_within is_digit rest fraction f, length-drop (whole + 1) os);
       digits = each_digit os whole e;
       first = first;
       behind = inr (

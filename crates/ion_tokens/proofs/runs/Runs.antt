@@ -2,33 +2,8 @@
 use Rattle.std.proofs.Common.{◌≡◌, ℕ, ◌+◌, ◌<◌, ◌≤◌, refl, subst, arith, Bool, true, false, cond, List, [], ◌∷◌, length, drop, get_or, sym, ap, suc, drop-cons, add-one, Option}
 use Rattle.std.specs.Prelude.{◌==◌, ◌&&◌, bytes_eq, codes, Some, None}
 use Rattle.std.proofs.lemmas.Bool.{cond_both}
-use Rattle.ion_tokens.specs.Names.{Action, Given, Known, Left, Lexeme, Mode, Next, Outcome, Place, Refused, TokenKind, acts, blob_ends, blob_of, cut, feed, follow, go_to, past, run}
+use Rattle.ion_tokens.specs.Names.{Action, Given, Known, Left, Lexeme, Lob, Mode, Next, Outcome, Place, Reason, Refused, TokenKind, acts, blob_ends, blob_of, cut, feed, follow, go_to, past, run}
 use Rattle.ion_tokens.specs.machine.Table.{next}
-
--- how many octets were used, where all were
-used_in : Outcome → ℕ → ℕ
-used_in (Next s) n = s.used
-used_in _ n = n
-
-blob_used : (s s' : Known) (b : Option (List ℕ)) → blob_ends s b ≡ Next s' → s'.used ≡ s.used + 1
-unfolding used_in
-blob_used s s' None e = cc
-blob_used s s' (Some b) e = sym (ap (λ x. used_in x 0) e)
-
-acts_used : (p : Place) (s s' : Known) (o : ℕ) (a : Action) → acts p s o a ≡ Next s' → s'.used ≡ s.used + 1
-unfolding used_in
-acts_used p s s' o (Action.Go m k) e = sym (ap (λ x. used_in x 0) e)
-acts_used p s s' o Action.EndWord e = sym (one ((o == 46) && bytes_eq s.kept (codes "null")) e) where
-  one : (b : Bool) → cond b (Next (go_to s Mode.KindName [])) (Left (cut s TokenKind.Word s.kept s.used) (past p TokenKind.Word Mode.Blank [] s.used s.used))
-      ≡ Next s' → s.used + 1 ≡ s'.used
-  one true h = ap (λ x. used_in x 0) h
-  one false h = cc
-acts_used p s s' o Action.EndBlob e = blob_used s s' (blob_of s.kept) e
-acts_used p s s' o _ e = cc
-
--- where an octet was used, it is one more
-pub feed_used : (p : Place) (s s' : Known) (o : ℕ) → feed p s o ≡ Next s' → s'.used ≡ s.used + 1
-feed_used p s s' o e = acts_used p s s' o (next p s.colon s.mode o) e
 
 -- one more octet of the piece
 pub run_more : (p : Place) (piece : List ℕ) (i : ℕ) (s s' : Known) → i < length piece → feed p s (get_or piece i 0) ≡ Next s'
@@ -42,10 +17,11 @@ Between (Given l s) before n = (before < s.used) × (s.used ≤ before + n)
 Between (Left l s) before n = (before ≤ s.used) × (s.used < before + n)
 Between (Refused at r) before n = (before < at) × (at ≤ before + n)
 
-blob_between : (s : Known) (b : Option (List ℕ)) → Between (blob_ends s b) s.used 1
-unfolding Between
-blob_between s None = (omega arith, omega arith)
-blob_between s (Some b) = refl
+-- what holds where a blob's text decodes and where it doesn't, holds of its end
+pub blob_both : (P : Outcome → Type 0) (s : Known) (b : Option (List ℕ)) → P (Refused (s.used + 1) Reason.BadBase64)
+    → ((octets : List ℕ) → P (Next (go_to s (Mode.Lob Lob.BlobClose) octets))) → P (blob_ends s b)
+blob_both P s None h k = h
+blob_both P s (Some octets) h k = k octets
 
 -- of one octet, whatever the action: it is used, or left, or it decides a refusal
 pub acts_between : (p : Place) (s : Known) (o : ℕ) (a : Action) → Between (acts p s o a) s.used 1
@@ -53,8 +29,13 @@ unfolding Between
 acts_between p s o (Action.Go m k) = refl
 acts_between p s o Action.EndWord =
     cond_both ((o == 46) && bytes_eq s.kept (codes "null")) _ _ (λ x. Between x s.used 1) (λ _. refl) (λ _. (omega arith, omega arith))
-acts_between p s o Action.EndBlob = blob_between s (blob_of s.kept)
+acts_between p s o Action.EndBlob = blob_both (λ x. Between x s.used 1) s (blob_of s.kept) (omega arith, omega arith) (λ _. refl)
 acts_between p s o _ = (omega arith, omega arith)
+
+-- where an octet was used, it is one more
+pub feed_used : (p : Place) (s s' : Known) (o : ℕ) → feed p s o ≡ Next s' → s'.used ≡ s.used + 1
+unfolding Between
+feed_used p s s' o e = subst (λ x. Between x s.used 1) e (acts_between p s o (next p s.colon s.mode o))
 
 -- behind one octet more
 between_next : (x : Outcome) (before n : ℕ) → Between x (before + 1) n → Between x before (suc n)

@@ -84,7 +84,7 @@ given_behind p r w us o kind m kept k f h e =
 
 -- The front of a class.
 
-front_length : (class : ℕ → Bool) (octets : List ℕ) (n : ℕ) → n ≡ length (take_while class octets) → n ≡ prefix_len class octets
+pub front_length : (class : ℕ → Bool) (octets : List ℕ) (n : ℕ) → n ≡ length (take_while class octets) → n ≡ prefix_len class octets
 front_length class octets n e = e ∙ length-prefix_len class octets
 
 front_some : (class : ℕ → Bool) (octets : List ℕ) (n : ℕ) → 0 < length octets → class (slice_index octets 0) ≡ true → n ≡ length (take_while class octets)

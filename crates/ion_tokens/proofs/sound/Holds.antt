@@ -12,6 +12,7 @@ use Rattle.ion_tokens.specs.Lexemes.{ends}
 use Rattle.ion_tokens.specs.laws.Blobs.{blob_octets, octet_at}
 use Rattle.ion_tokens.proofs.complete.Moves.{at}
 use Rattle.ion_tokens.proofs.sound.Opens.{AnyBlob, IsOpen, IsUnjudgedToken, solid}
+use Rattle.ion_tokens.specs.laws.Each.{all_last, flat_last}
 
 -- behind a blank, an open block comment, which ends in a star or not
 pub record IsOpenBlock (since : List ℕ) (star : Bool) : Type 0 where
@@ -66,15 +67,6 @@ Sound p colon k since o (Given l s) = IsTold p colon k (since ++ o ∷ []) [] []
 Sound p colon k since o (Left l s) = (ahead : List ℕ) × IsTold p colon k since ahead (o ∷ []) l s
 Sound p colon k since o (Refused n r) = Unit {0}
 
--- blanks
-flat_last : (f : BlankPiece → List ℕ) (bs : List BlankPiece) (b : BlankPiece) → flat_map f (bs ++ b ∷ []) ≡ flat_map f bs ++ f b
-flat_last f [] b = append-nil (f b)
-flat_last f (x ∷ bs) b = ap (λ l. f x ++ l) (flat_last f bs b) ∙ sym (append_assoc (f x) (flat_map f bs) (f b))
-
-each_piece : (bs : List BlankPiece) (b : BlankPiece) → AllByRecursion IsBlankPiece bs → IsBlankPiece b → AllByRecursion IsBlankPiece (bs ++ b ∷ [])
-each_piece [] b h i = (i, tt)
-each_piece (x ∷ bs) b h i = (h.0, each_piece bs b h.1 i)
-
 -- no octets are a blank
 pub blank_none : IsBlank []
 blank_none = record { pieces = []; each = tt; spelled = refl }
@@ -83,7 +75,7 @@ blank_none = record { pieces = []; each = tt; spelled = refl }
 pub blank_more : (w : List ℕ) (b : BlankPiece) → IsBlank w → IsBlankPiece b → IsBlank (w ++ blank_spelling b)
 blank_more w b h i = record {
   pieces = h.pieces ++ b ∷ [];
-  each = each_piece h.pieces b h.each i;
+  each = all_last IsBlankPiece h.pieces b h.each i;
   spelled = ap (λ l. l ++ blank_spelling b) h.spelled
       ∙ sym (flat_last blank_spelling h.pieces b);
 }

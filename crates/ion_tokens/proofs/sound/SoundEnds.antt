@@ -3,11 +3,11 @@ use Rattle.std.proofs.Common.{◌≡◌, ℕ, ◌+◌, inl, inr, Bool, List, [],
 use Rattle.std.specs.Prelude.{Option, Some, None, Result, Ok, Err}
 use Rattle.std.proofs.lemmas.Bool.{cond_both, or_from, true≢false}
 use Rattle.ion_tokens.specs.Names.{End, IsBlank, IsLastBlank, IsOperator, Keep, Known, Lexeme, Mode, Place, Reason, Style, TokenKind, at_end, comment_within, end_of, ends_at, is_sexp, kept_after, operator_end}
-use Rattle.ion_tokens.specs.laws.Each.{each_last}
+use Rattle.ion_tokens.specs.laws.Each.{each_last, not_empty}
 use Rattle.ion_tokens.proofs.complete.Moves.{Stays, at}
 use Rattle.ion_tokens.proofs.sound.Holds.{Holds, InMode, IsBegun}
 use Rattle.ion_tokens.proofs.sound.Opens.{IsOpen, IsOpenRun, IsUnjudgedToken}
-use Rattle.ion_tokens.proofs.sound.TurnsOperators.{apart_more, comment_append, found_run, not_empty}
+use Rattle.ion_tokens.proofs.sound.TurnsOperators.{apart_more, comment_append, found_run}
 use Rattle.ion_tokens.proofs.sound.TurnsWords.{empty_symbol, number_found, slash_in}
 
 -- behind a blank, a token up to the end of the input

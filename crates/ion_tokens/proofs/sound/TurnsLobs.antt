@@ -5,32 +5,28 @@ use Rattle.std.specs.List.{flat_map, AllByRecursion}
 use Rattle.std.proofs.lemmas.Bool.Decides.{nat_tests}
 use Rattle.std.proofs.lemmas.Bool.{cond_both, eqb-true, or_right}
 use Rattle.ion_tokens.specs.Names.{Action, Each, IsSegment, Lob, LongTexts, Mode, Place, Segment, ShortText, Style, Within, in_blob, in_lob, is_base64, is_name, is_white, segment_spelling}
-use Rattle.ion_tokens.specs.laws.Each.{each_last}
+use Rattle.ion_tokens.specs.laws.Each.{each_last, all_last, flat_last, not_empty}
 use Rattle.ion_tokens.proofs.sound.Opens.{AnyBlob, InLob, IsLongText, IsOpen, Turns, solid}
-use Rattle.ion_tokens.proofs.sound.TurnsTexts.{segments_last}
 use Rattle.ion_tokens.proofs.texts.TextsRead.{reads_none}
-
-spread : (b : Bool) (x : ℕ) (s r : List ℕ) → cond b (x ∷ (s ++ r)) (s ++ r) ≡ cond b (x ∷ s) s ++ r
-spread true x s r = refl
-spread false x s r = refl
+use Rattle.std.proofs.lemmas.List.Elements.{filter-append}
 
 solid_more : (os : List ℕ) (o : ℕ) → is_white o ≡ false → solid (os ++ o ∷ []) ≡ solid os ++ o ∷ []
-solid_more [] o h = ap (λ b. cond (not b) (o ∷ []) []) h
-solid_more (x ∷ os) o h = ap (λ l. cond (not (is_white x)) (x ∷ l) l) (solid_more os o h) ∙ spread (not (is_white x)) x (solid os) (o ∷ [])
+solid_more os o h = filter-append (λ o. not (is_white o)) os (o ∷ []) ∙ ap (λ b. solid os ++ cond (not b) (o ∷ []) []) h
 
 solid_white : (os : List ℕ) (o : ℕ) → is_white o ≡ true → solid (os ++ o ∷ []) ≡ solid os
-solid_white [] o h = ap (λ b. cond (not b) (o ∷ []) []) h
-solid_white (x ∷ os) o h = ap (λ l. cond (not (is_white x)) (x ∷ l) l) (solid_white os o h)
+solid_white os o h = filter-append (λ o. not (is_white o)) os (o ∷ []) ∙ ap (λ b. solid os ++ cond (not b) (o ∷ []) []) h ∙ append-nil (solid os)
 
-solid_none : (os : List ℕ) → Each is_white os → solid os ≡ []
+-- white space is content of a blob, of which nothing is kept
+pub solid_none : (os : List ℕ) → Each is_white os → solid os ≡ []
 solid_none [] h = refl
 solid_none (o ∷ os) h = ap (λ b. cond (not b) (o ∷ solid os) (solid os)) h.0 ∙ solid_none os h.1
 
-white_any : (os : List ℕ) → Each is_white os → Each AnyBlob os
+pub white_any : (os : List ℕ) → Each is_white os → Each AnyBlob os
 white_any [] h = tt
 white_any (o ∷ os) h = (ap (λ b. b || is_base64 o) h.0, white_any os h.1)
 
-base_any : (o : ℕ) → is_base64 o ≡ true → (AnyBlob o ≡ true) × (is_white o ≡ false)
+-- base64 is content that is kept
+pub base_any : (o : ℕ) → is_base64 o ≡ true → (AnyBlob o ≡ true) × (is_white o ≡ false)
 base_any o h = (or_right (is_white o) (is_base64 o) h, grind (arith, nat_tests))
 
 any_white : (o : ℕ) → is_white o ≡ true → AnyBlob o ≡ true
@@ -52,20 +48,12 @@ more_white inside kept o h f =
       white = h.white;
       each = h.each;
       is_last = (h.is_last.0, each_last is_white h.last.white o h.is_last.1 f);
-      spelled = ap (λ l. l ++ o ∷ []) (h.spelled ∙ ap (λ l. h.before ++ l) (segments_last segment_spelling h.segments h.last))
+      spelled = ap (λ l. l ++ o ∷ []) (h.spelled ∙ ap (λ l. h.before ++ l) (flat_last segment_spelling h.segments h.last))
           ∙ append_assoc h.before (front ++ (text ++ h.last.white)) (o ∷ [])
           ∙ ap (λ l. h.before ++ l) (append_assoc front (text ++ h.last.white) (o ∷ []) ∙ ap (λ l. front ++ l) (append_assoc text h.last.white (o ∷ []))
-          ∙ sym (segments_last segment_spelling h.segments g));
-      means = h.means ∙ segments_last (λ (s : Segment). s.octets) h.segments h.last ∙ sym (segments_last (λ (s : Segment). s.octets) h.segments g);
+          ∙ sym (flat_last segment_spelling h.segments g));
+      means = h.means ∙ flat_last (λ (s : Segment). s.octets) h.segments h.last ∙ sym (flat_last (λ (s : Segment). s.octets) h.segments g);
     }
-
-all_segments : (gs : List Segment) (g : Segment) → AllByRecursion IsSegment gs → IsSegment g → AllByRecursion IsSegment (gs ++ g ∷ [])
-all_segments [] g h i = (i, tt)
-all_segments (x ∷ gs) g h i = (h.0, all_segments gs g h.1 i)
-
-some_segment : (gs : List Segment) (g : Segment) → gs ++ g ∷ [] ≢ []
-some_segment [] g e = cc
-some_segment (x ∷ gs) g e = cc
 
 module _ (p : Place) (colon : Bool) (inside kept : List ℕ) (o : ℕ) (n : is_name p ≡ false) where
   -- an action behind {{ and more
@@ -121,8 +109,8 @@ module _ (p : Place) (colon : Bool) (inside kept : List ℕ) (o : ℕ) (n : is_n
       on (o == 125) _ _ (λ f. (n, inside ++ o ∷ [], refl, (inside, ShortText b t a bw q aw e, (λ i. inside ++ eqb-true o 125 f i ∷ [])))) (λ _. tt))
   turns Lob.AfterLong h =
       on (is_white o) _ _ (λ f. (n, inside ++ o ∷ [], refl, more_white inside kept o h f)) (λ _.
-      on (o == 125) _ _ (λ f. let each = all_segments h.segments h.last h.each h.is_last in
-      let texts = LongTexts h.before (h.segments ++ h.last ∷ []) h.white (some_segment h.segments h.last) each h.spelled h.means in
+      on (o == 125) _ _ (λ f. let each = all_last IsSegment h.segments h.last h.each h.is_last in
+      let texts = LongTexts h.before (h.segments ++ h.last ∷ []) h.white (not_empty h.segments h.last) each h.spelled h.means in
       (n, inside ++ o ∷ [], refl, (inside, texts, (λ i. inside ++ eqb-true o 125 f i ∷ [])))) (λ _.
       on (o == 39) _ _ (λ f. (n, inside ++ o ∷ [], refl, (inside, h, (λ i. inside ++ eqb-true o 39 f i ∷ [])))) (λ _. tt)))
   turns Lob.AfterQuote (front, h, e) = on (o == 39) _ _ (λ f. (n, inside ++ o ∷ [], refl, (front, h, quote_more front (39 ∷ []) e f))) (λ _. tt)
@@ -136,7 +124,7 @@ module _ (p : Place) (colon : Bool) (inside kept : List ℕ) (o : ℕ) (n : is_n
       before = h.before;
       segments = h.segments ++ h.last ∷ [];
       white = h.white;
-      each = all_segments h.segments h.last h.each h.is_last;
+      each = all_last IsSegment h.segments h.last h.each h.is_last;
       spelled = h.spelled;
       means = h.means;
     },

@@ -5,7 +5,7 @@ use Rattle.std.proofs.lemmas.Bool.{and_cases, and_parts, cond_both, eqb-true, fa
 use Rattle.std.proofs.lemmas.Bool.Decides.{nat_tests}
 use Rattle.ion_tokens.specs.Names.{Action, Ending, IsLexeme, IsOperator, Mode, Place, TokenKind, begins, begins_comment, begins_infinity, comment_within, digit_behind, in_infinity, in_operator, in_operator_slash, is_digit, is_name, is_operator_octet, is_other, is_sexp, is_stop, is_word_octet, refused, run_ending}
 use Rattle.ion_tokens.specs.Lexemes.{ends}
-use Rattle.ion_tokens.specs.laws.Each.{each_last}
+use Rattle.ion_tokens.specs.laws.Each.{each_last, not_empty}
 use Rattle.ion_tokens.proofs.sound.Opens.{IsOpen, IsOpenNumber, IsOpenRun, RunEndsSo, Turns}
 use Rattle.ion_tokens.proofs.complete.TakesOperators.{ends_last}
 
@@ -27,11 +27,6 @@ apart_more (o ∷ x ∷ w) r h e = by ((o == 47) && ((x == 47) || (x == 42))) h 
       → (comment_within (x ∷ w) [] ≡ false → ends (λ o. o == 47) (x ∷ w) ≡ false → comment_within (x ∷ w) r ≡ false) → (b || comment_within (x ∷ w) r) ≡ false
   by true h f = absurd (true≢false h)
   by false h f = f h e
-
--- octets and one more are some
-pub not_empty : (xs : List ℕ) (o : ℕ) → xs ++ o ∷ [] ≢ []
-not_empty [] o e = cc
-not_empty (x ∷ xs) o e = cc
 
 -- one character more
 run_more : (w : List ℕ) (o : ℕ) → IsOpenRun w → is_operator_octet o ≡ true → (o == 47) ≡ false → IsOpenRun (w ++ o ∷ [])

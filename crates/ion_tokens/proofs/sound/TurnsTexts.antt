@@ -8,6 +8,7 @@ use Rattle.ion_tokens.proofs.sound.Opens.{InText, IsLongFront, IsLongText, IsOpe
 use Rattle.ion_tokens.proofs.sound.TurnsWords.{empty_symbol}
 use Rattle.ion_tokens.proofs.texts.TextsRead.{LeadsText, reads_none, text_step}
 use Rattle.ion_tokens.proofs.texts.TextsSound.{Closes, keeps_behind}
+use Rattle.ion_tokens.specs.laws.Each.{flat_last}
 
 in_style : (p : Place) (s t : Style) (v : Within) (w kept : List ℕ) → s ≡ t → InText p t v w kept → InText p s v w kept
 in_style p s t v w kept e h = subst (λ x. InText p x v w kept) (sym e) h
@@ -84,10 +85,6 @@ short_clob_turns p colon before part kept o (Action.Refuse e) n w h = tt
 short_clob_turns p colon before part kept o a n w h = absurd h
 
 -- segments of long clobs
-pub segments_last : {A : Type 0} (f : Segment → List A) (gs : List Segment) (g : Segment) → flat_map f (gs ++ g ∷ []) ≡ flat_map f gs ++ f g
-segments_last f [] g = append-nil (f g)
-segments_last f (x ∷ gs) g = ap (λ l. f x ++ l) (segments_last f gs g) ∙ sym (append_assoc (f x) (flat_map f gs) (f g))
-
 long_ends : (front kept' part q octets : List ℕ) (o : ℕ) → IsLongFront front kept' → (c : Closes Style.LongClob (part ++ o ∷ []) octets)
     → IsLongText ((front ++ 39 ∷ 39 ∷ 39 ∷ part) ++ o ∷ []) (kept' ++ octets)
 long_ends front kept' part q octets o f c =
@@ -102,8 +99,8 @@ long_ends front kept' part q octets o f c =
       spelled = append_assoc front (39 ∷ 39 ∷ 39 ∷ part) (o ∷ []) ∙ (λ i. f.spelled i ++ 39 ∷ 39 ∷ 39 ∷ c.spelled i)
           ∙ append_assoc f.before (flat_map segment_spelling f.segments) (39 ∷ 39 ∷ 39 ∷ (c.content ++ 39 ∷ 39 ∷ 39 ∷ []))
           ∙ ap (λ l. f.before ++ (flat_map segment_spelling f.segments ++ l)) (sym (append-nil (39 ∷ 39 ∷ 39 ∷ (c.content ++ 39 ∷ 39 ∷ 39 ∷ []))))
-          ∙ ap (λ l. f.before ++ l) (sym (segments_last segment_spelling f.segments g));
-      means = ap (λ l. l ++ octets) f.means ∙ sym (segments_last (λ (g : Segment). g.octets) f.segments g);
+          ∙ ap (λ l. f.before ++ l) (sym (flat_last segment_spelling f.segments g));
+      means = ap (λ l. l ++ octets) f.means ∙ sym (flat_last (λ (g : Segment). g.octets) f.segments g);
     }
 
 long_clob_turns : (p : Place) (colon : Bool) (front kept' part q : List ℕ) (o : ℕ) (a : Action) → is_name p ≡ false → IsLongFront front kept'

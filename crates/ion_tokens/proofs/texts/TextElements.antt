@@ -9,6 +9,7 @@ use Rattle.ion_tokens.specs.Names.{Action, Digits, Hex, IsElement, IsHexAfter, K
 use Rattle.ion_tokens.proofs.texts.Encodings as law
 use Rattle.ion_tokens.proofs.texts.Encodings.{Encoding, four_octets, one_octet, order, three_octets, two_octets}
 use Rattle.ion_tokens.proofs.texts.TextSteps.{Admits, Caps, StandsRaw, after_high, after_low, after_unit, as_raw, caps_grow, char_is, exact, in_digit, last_digit, least_four, least_three, more_digits, most_four, most_three, quote_small, raw_four, raw_one, raw_three, raw_two, utf8_last, utf8_more}
+use Rattle.ion_tokens.specs.laws.TokensKept.{hex_small}
 
 -- what the scanner knows within a quoted text
 abbrev pub reading : Style → Bool → ℕ → Within → List ℕ → ℕ → Known
@@ -141,17 +142,6 @@ letters letter n e = grind (arith, nat_tests)
 abbrev keep_of : Style → ℕ → Keep
 keep_of s c = cond (is_clob s) (Keep.One (c % 256)) (Keep.Character c)
 
--- a hexadecimal digit is below sixteen
-pub digit_small : (o d : ℕ) → hexadecimal_digit o ≡ Some d → d < 16
-digit_small o d h = grind (arith, nat_tests)
-
--- two hexadecimal digits are an octet
-pub two_small : (os : List ℕ) (c : ℕ) → length os ≡ 2 → IsHexAfter 0 os c → c < 256
-two_small [] c e h = absurd (omega arith)
-two_small (o ∷ []) c e h = absurd (omega arith)
-two_small (o ∷ p ∷ []) c e (d, f, (d', f', g)) = let a : d < 16 = digit_small o d f in let b : d' < 16 = digit_small p d' f' in omega arith
-two_small (o ∷ p ∷ q ∷ os) c e h = absurd (omega arith)
-
 hex_keeps : (s : Style) (letter c : ℕ) (os kept : List ℕ) → (IsTrue (is_clob s) → c < 256) → kept_after (keep_of s c) kept ≡ kept ++ meaning s (Hex letter os c)
 hex_keeps s letter c os kept h = by (is_clob s) h where
   by : (b : Bool) → (IsTrue b → c < 256) → kept_after (cond b (Keep.One (c % 256)) (Keep.Character c)) kept ≡ kept ++ cond b (c ∷ []) (encode c)
@@ -222,7 +212,7 @@ clob_small : (s : Style) (letter : ℕ) (os : List ℕ) (c : ℕ) → hex_length
     → IsTrue (is_clob s) → c < 256
 clob_small s letter os c k h g clob =
     let same : Some (length os) ≡ Some 2 = sym k ∙ ap hex_length (h clob) in
-    let two : length os ≡ 2 = cc in two_small os c two g
+    let two : length os ≡ 2 = cc in hex_small os c two g
 
 -- an escape by digits is read as its character, in a clob as its octet
 pub read_hex : (p : Place) (s : Style) (w : Within) (kept : List ℕ) (letter : ℕ) (os : List ℕ) (c : ℕ) → Admits w 92 → IsElement s (Hex letter os c)

@@ -2,6 +2,7 @@
 use Rattle.std.proofs.Common.{◌≡◌, ℕ, ◌+◌, ◌<◌, Bool, true, false, List, [], ◌∷◌, ◌++◌, refl, sym, ap, ◌∙◌, subst, arith, append_assoc, append-nil, cond}
 use Rattle.std.specs.List.{flat_map, AllByRecursion}
 use Rattle.ion_tokens.specs.Names.{ClosesFirst, CrTakesLf, Element, IsElement, IsQuoted, Style, ends_in_cr, is_long, is_raw_lf, is_raw_quote, meaning, quotes, spelling}
+use Rattle.ion_tokens.specs.laws.Each.{all_last}
 
 -- the last element is there, and is so
 abbrev pub last_is : (Element → Bool) → List Element → Bool
@@ -63,10 +64,6 @@ pub record Base (s : Style) (es : List Element) : Type 0 where
   pub crs : CrTakesLf es
   pub few : is_long s ≡ true → Few es
 
-each_more : (s : Style) (es : List Element) (e : Element) → AllByRecursion (IsElement s) es → IsElement s e → AllByRecursion (IsElement s) (es ++ e ∷ [])
-each_more s [] e h i = (i, tt)
-each_more s (x ∷ es) e h i = (h.0, each_more s es e h.1 i)
-
 -- no elements are a text that may go on
 pub base_none : (s : Style) → Base s []
 base_none s = record { each = tt; crs = tt; few = λ l. tt }
@@ -74,13 +71,13 @@ base_none s = record { each = tt; crs = tt; few = λ l. tt }
 -- one more element, which splits no CR LF and is no long text's quote, leaves a text that may go on
 pub base_more : (s : Style) (es : List Element) (e : Element) → Base s es → IsElement s e → (last_is ends_in_cr es ≡ true → is_raw_lf e ≡ false)
     → (is_long s ≡ true → is_raw_quote e ≡ false) → Base s (es ++ e ∷ [])
-base_more s es e b i lf quote = record { each = each_more s es e b.each i; crs = crs_more es e lf b.crs; few = λ l. few_more es e (quote l) (b.few l) }
+base_more s es e b i lf quote = record { each = all_last (IsElement s) es e b.each i; crs = crs_more es e lf b.crs; few = λ l. few_more es e (quote l) (b.few l) }
 
 -- a raw quote of a long text, behind at most one
 pub base_quote : (s : Style) (es : List Element) → Base s es → is_long s ≡ true → IsElement s (Element.Raw 39) → last_is is_raw_quote es ≡ false
     → Base s (es ++ Element.Raw 39 ∷ [])
 base_quote s es b l i h = record {
-  each = each_more s es (Element.Raw 39) b.each i;
+  each = all_last (IsElement s) es (Element.Raw 39) b.each i;
   crs = crs_more es (Element.Raw 39) (λ c. refl) b.crs;
   few =
       λ m. few_append es (Element.Raw 39 ∷ []) h (b.few l) (omega arith, tt);
@@ -90,16 +87,11 @@ base_quote s es b l i h = record {
 pub base_quotes : (s : Style) (es : List Element) → Base s es → is_long s ≡ true → IsElement s (Element.Raw 39) → last_is is_raw_quote es ≡ false
     → Base s ((es ++ Element.Raw 39 ∷ []) ++ Element.Raw 39 ∷ [])
 base_quotes s es b l i h = record {
-  each = each_more s (es ++ Element.Raw 39 ∷ []) (Element.Raw 39) (each_more s es (Element.Raw 39) b.each i) i;
+  each = all_last (IsElement s) (es ++ Element.Raw 39 ∷ []) (Element.Raw 39) (all_last (IsElement s) es (Element.Raw 39) b.each i) i;
   crs = crs_more (es ++ Element.Raw 39 ∷ []) (Element.Raw 39) (λ c. refl) (crs_more es (Element.Raw 39) (λ c. refl) b.crs);
   few = λ m. subst Few (sym (append_assoc es (Element.Raw 39 ∷ []) (Element.Raw 39 ∷ [])))
       (few_append es (Element.Raw 39 ∷ Element.Raw 39 ∷ []) h (b.few l) (omega arith, (omega arith, tt)));
 }
-
--- what one more element comes to stands behind what the others do
-pub flat_last : {A : Type 0} (f : Element → List A) (es : List Element) (e : Element) → flat_map f (es ++ e ∷ []) ≡ flat_map f es ++ f e
-flat_last f [] e = append-nil (f e)
-flat_last f (x ∷ es) e = ap (λ l. f x ++ l) (flat_last f es e) ∙ sym (append_assoc (f x) (flat_map f es) (f e))
 
 -- up to the quotes that close them, they are a text
 pub quoted : (s : Style) (es : List Element) → Base s es → (is_long s ≡ true → last_is is_raw_quote es ≡ false)

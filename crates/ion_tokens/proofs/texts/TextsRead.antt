@@ -9,11 +9,12 @@ use lib.Utf8.{encode, scalar, scalar_cases}
 use Rattle.ion_tokens.specs.Names.{Action, Cr, CrLf, Digits, Element, Hex, Hidden, IsElement, IsHexAfter, IsQuoted, Keep, Lf, Mode, Pair, Raw, RawLine, Reason, Simple, Style, Within, after_digits, character, close_long, ends_in_cr, grow, hex_length, hexadecimal_digit, in_escape, in_text, in_utf8, is_clob, is_long, is_raw_lf, is_raw_quote, meaning, meant, quote_of, raw, spelling, with_digit}
 use Rattle.ion_tokens.specs.Octets.{escaped}
 use Rattle.ion_tokens.proofs.texts.Encodings.{order}
-use Rattle.ion_tokens.proofs.texts.TextElements.{below_max, two_small}
+use Rattle.ion_tokens.proofs.texts.TextElements.{below_max}
 use Rattle.ion_tokens.proofs.texts.TextOrders.{Base, base_more, base_none, base_quote, base_quotes, last_is, last_is_last, quoted}
 use Rattle.ion_tokens.proofs.texts.TextSteps.{Caps, after_high, after_low, as_raw, caps_grow, exact, letter_only, more_digits, quote_low, utf8_last, utf8_more, utf8_wrong}
 use Rattle.ion_tokens.proofs.texts.TextsComplete.{eq_or}
 use Rattle.ion_tokens.proofs.texts.TextsSound.{After, Closes, EndsAfter, FitsBehind, HexPart, IsHigh, Leads, LeadsBehind, Part, Reads, SoFar, TextOnly, Whole, by_action, fits_raw, leads_over, one_element, part_only, raw_leads, rebase}
+use Rattle.ion_tokens.specs.laws.TokensKept.{hex_small}
 
 -- inside a character
 utf8_leads : (s : Style) (es : List Element) (left lo hi o : ℕ) (p : List ℕ) → Base s es → is_clob s ≡ false → 0 < left → EndsAfter left lo hi p
@@ -131,7 +132,7 @@ octet_leads s es m os b f = by (is_clob s) refl where
   by : (x : Bool) → is_clob s ≡ x → Leads s es (cond x (Action.Go (Mode.Text s Within.Plain) (Keep.One (m % 256))) (character s m)) (92 ∷ 120 ∷ os) []
   by false t = char_leads s es 120 2 m os b t refl f
   by true t =
-      let small : f.0 < 256 = two_small os f.0 f.1 f.2 in
+      let small : f.0 < 256 = hex_small os f.0 f.1 f.2 in
       let same : m ≡ f.0 = exact m f.0 f.3 (omega arith) in
       let rest : m % 256 ≡ f.0 = omega arith in (
         tt,

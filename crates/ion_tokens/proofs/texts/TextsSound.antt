@@ -10,9 +10,10 @@ use Rattle.ion_tokens.specs.Names.{Action, Digits, Element, IsElement, IsHexAfte
 use Rattle.ion_tokens.proofs.complete.TakesTexts.{drops_two}
 use Rattle.ion_tokens.proofs.texts.Encodings as law
 use Rattle.ion_tokens.proofs.texts.Encodings.{order}
-use Rattle.ion_tokens.proofs.texts.TextOrders.{Base, base_more, flat_last, last_is, last_is_last, quoted}
+use Rattle.ion_tokens.proofs.texts.TextOrders.{Base, base_more, last_is, last_is_last, quoted}
 use Rattle.ion_tokens.proofs.texts.TextSteps.{Caps, StandsRaw, least_four, least_three, most_four, most_three, quote_small, raw_cr, raw_four, raw_lf, raw_one, raw_quote, raw_three, raw_two}
 use Rattle.ion_tokens.proofs.texts.TextsComplete.{bool_cases, eq_or, long_quote}
+use Rattle.ion_tokens.specs.laws.Each.{flat_last}
 
 -- the octets are a character beyond ASCII
 abbrev pub Whole : List ℕ → Type 0

@@ -8,6 +8,7 @@ use Rattle.ion_tokens.proofs.histories.Stepped.{all_since, begun_scanned, behind
 use Rattle.ion_tokens.proofs.runs.Splits.{given_one, left_one}
 use Rattle.ion_tokens.proofs.sound.Told.{ends_in_token}
 use Rattle.ion_tokens.proofs.traces.Traced.{debt_small, left_owes}
+use Rattle.ion_tokens.proofs.runs.Scans.{scanned_given, scanned_left, scanned_next}
 
 -- what was told before, and one token more
 told_one : (places : Places) (before : List Told) (ts : List Placed) (xs : List Told) (t : Placed) (x : Told) → AreTold places before ts xs
@@ -39,19 +40,12 @@ module _ (places : Places) where
     b : Scanned p s u h.ts ahead
     b = h.scanned p refl
 
-    ran : (x : Outcome) → feed p s o ≡ x → run p (o ∷ []) s ≡ follow x (λ t. Next t)
-    ran x e = ap (λ y. follow y (λ t. Next t)) e
-
     used : (t : Known) → feed p s o ≡ Next t → TellsFurther places told t (u ++ o ∷ []) []
     used t e = record {
       ts = h.ts;
       are = h.are;
-      scanned = λ q same. subst (λ q. Scanned q t (u ++ o ∷ []) h.ts []) (sym same)
-          (goes_on p s u h.ts ahead b (o ∷ []) t c (ran (Next t) e));
+      scanned = λ q same. subst (λ q. Scanned q t (u ++ o ∷ []) h.ts []) (sym same) (scanned_next p s u h.ts ahead b o c t e);
     }
-
-    from : Continues (b.since ++ o ∷ []) b.left
-    from = from_left p s u h.ts ahead b (o ∷ []) (o ∷ []) [] c (sym (append-nil (o ∷ []))) (omega arith)
 
     given : (l : Lexeme) (t : Known) (x : Content) → said l.kind l.octets ≡ Ok x → feed p s o ≡ Given l t
         → TellsFurther places (told ++ record { start = l.start; end = l.end; says = x; total = t.used } ∷ []) t (u ++ o ∷ []) []
@@ -59,10 +53,7 @@ module _ (places : Places) where
       ts = h.ts ++ record { place = p; lexeme = l } ∷ [];
       are = told_one places [] h.ts told (record { place = p; lexeme = l }) (record { start = l.start; end = l.end; says = x; total = t.used }) h.are refl
           (is_told l t x say);
-      scanned = λ q same. told_more p s u h.ts ahead b (o ∷ []) (record { place = p; lexeme = l }) t []
-          (Gave b.behind b.front h.ts b.left (record { place = p; lexeme = l }) (b.since ++ o ∷ []) from.0 t b.told from.1
-          (behind_since p s u h.ts ahead b (o ∷ []) (Given l t) (ran (Given l t) e))
-          (omega (arith, given_one p o s t l e, since_used p s u h.ts ahead b, length-append b.since (o ∷ [])))) (passes l x say) q;
+      scanned = λ q same. scanned_given p s u h.ts ahead b o c t l e (passes l x say) q;
     }
 
     left : (l : Lexeme) (t : Known) (x : Content) → said l.kind l.octets ≡ Ok x → feed p s o ≡ Left l t
@@ -71,12 +62,7 @@ module _ (places : Places) where
       ts = h.ts ++ record { place = p; lexeme = l } ∷ [];
       are = told_one places [] h.ts told (record { place = p; lexeme = l }) (record { start = l.start; end = l.end; says = x; total = t.used }) h.are refl
           (is_told l t x say);
-      scanned = λ q same. subst (λ v. Scanned q t v (h.ts ++ record { place = p; lexeme = l } ∷ []) (o ∷ [])) (append-nil u)
-          (told_more p s u h.ts ahead b [] (record { place = p; lexeme = l }) t (o ∷ [])
-          (subst (λ v. Stands t (b.front ++ v) (h.ts ++ record { place = p; lexeme = l } ∷ []) (o ∷ [])) (sym (append-nil b.since))
-          (Leaved b.behind b.front h.ts b.left (record { place = p; lexeme = l }) b.since from.0 o t b.told from.1
-          (behind_since p s u h.ts ahead b (o ∷ []) (Left l t) (ran (Left l t) e))
-          (omega (arith, left_one p o s t l e, since_used p s u h.ts ahead b)))) (passes l x say) q);
+      scanned = λ q same. scanned_left p s u h.ts ahead b o c t l e (passes l x say) q;
     }
 
   told_in : Trail → List Told → List Told

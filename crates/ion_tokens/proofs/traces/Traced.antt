@@ -9,37 +9,13 @@ use Rattle.ion_tokens.specs.Names.{Action, Answers, AnswersTrace, Content, Conti
 use Rattle.ion_tokens.specs.Bodies.{content}
 use Rattle.ion_tokens.specs.machine.Steps.{Ends}
 use Rattle.ion_tokens.specs.machine.Table.{next}
-use Rattle.ion_tokens.proofs.bounds.Fits.{Fits, table_fits}
+use Rattle.ion_tokens.proofs.bounds.Fits.{table_fits}
+use Rattle.ion_tokens.proofs.bounds.Pending.{Owes, acts_owes}
 use Rattle.ion_tokens.proofs.histories.Stepped.{begins_front, front_is}
 use Rattle.ion_tokens.proofs.runs.Cutting.{one_body}
 use Rattle.ion_tokens.proofs.runs.LastOctets.{LastOctet, cut_behind, last_octet, refused_here, shown, size_shown}
 use Rattle.ion_tokens.proofs.runs.Runs.{next_used}
 use Rattle.ion_tokens.proofs.runs.Splits.{given_one, left_one}
-
--- An octet that is left owes less: it is left at most twice.
-unfoldable OwesLess : ℕ → Outcome → Type 0
-OwesLess d (Left l t) = debt t.mode < d
-OwesLess d _ = Unit {0}
-
-first_less : (a b : ℕ) (x y : Bool) → (nat_lt a b && x && y) ≡ true → a < b
-first_less a b true true h = grind (arith, nat_tests)
-first_less a b _ _ h = grind (arith, nat_tests)
-
-last_least : (a b : ℕ) (x : Bool) → (x && nat_le a b) ≡ true → a ≤ b
-last_least a b true h = grind (arith, nat_tests)
-last_least a b false h = cc
-
-acts_owe : (p : Place) (s : Known) (o : ℕ) (a : Action) → Fits (unkept s.mode) (debt s.mode) (is_idle s.mode) a → OwesLess (debt s.mode) (acts p s o a)
-unfolding OwesLess
-acts_owe p s o (Action.Before _ _ m) f = first_less (debt m) (debt s.mode) _ _ f.is
-acts_owe p s o Action.EndWord f =
-    cond_both ((o == 46) && bytes_eq s.kept (codes "null")) _ _ (OwesLess (debt s.mode)) (λ _. tt) (λ _. last_least 1 (debt s.mode) true f.is)
-acts_owe p s o (Action.Split n) f = last_least 2 (debt s.mode) _ f.is
-acts_owe p s o Action.EndBlob f = by (blob_of s.kept) where
-  by : (b : Option (List ℕ)) → OwesLess (debt s.mode) (blob_ends s b)
-  by None = tt
-  by (Some octets) = tt
-acts_owe p s o _ f = tt
 
 -- no more than two octets may be taken up again before another is used
 pub debt_small : (m : Mode) → debt m < 3
@@ -51,8 +27,10 @@ debt_small _ = omega arith
 
 -- an octet that is left leaves fewer to be taken up again
 pub left_owes : (p : Place) (s t : Known) (o : ℕ) (l : Lexeme) → feed p s o ≡ Left l t → debt t.mode < debt s.mode
-unfolding OwesLess
-left_owes p s t o l e = subst (λ x. OwesLess (debt s.mode) x) e (acts_owe p s o (next p s.colon s.mode o) (table_fits p s.colon s.mode o))
+unfolding Owes
+left_owes p s t o l e =
+    let owes = subst (Owes (debt s.mode) s.used) e (acts_owes p s o (next p s.colon s.mode o) (table_fits p s.colon s.mode o)) in
+    omega (arith, owes, left_one p o s t l e)
 
 -- one time more changes nothing
 pub settles : (n : ℕ) (places : Places) (o : ℕ) (ts : List Told) (s : Known) → debt s.mode < n → takes n places o ts s ≡ takes (suc n) places o ts s

@@ -9,13 +9,15 @@ use Rattle.ion_tokens.specs.laws.Blobs.{octets_append}
 
 -- 1. The octets of a lob.
 
-digit_small : (o d : ℕ) → hexadecimal_digit o ≡ Some d → d < 16
+-- a hexadecimal digit is below sixteen
+pub digit_small : (o d : ℕ) → hexadecimal_digit o ≡ Some d → d < 16
 digit_small o d e = grind (arith, nat_tests)
 
 two_long : (n : ℕ) → hex_length 120 ≡ Some n → n ≡ 2
 two_long n e = cc
 
-hex_small : (digits : List ℕ) (c : ℕ) → length digits ≡ 2 → IsHexAfter 0 digits c → c < 256
+-- two of them are an octet
+pub hex_small : (digits : List ℕ) (c : ℕ) → length digits ≡ 2 → IsHexAfter 0 digits c → c < 256
 hex_small [] c e h = absurd (omega arith)
 hex_small (a ∷ []) c e h = absurd (omega arith)
 hex_small (a ∷ b ∷ []) c e (d, x, (f, y, z)) = let p = digit_small a d x in let q = digit_small b f y in omega arith

@@ -1,12 +1,7 @@
-use Rattle.std.proofs.Common.{◌∙◌, ap, length, arith}
-use Rattle.std.specs.List.{take_while}
+use Rattle.std.proofs.Common.{arith}
 use Rattle.ion_tokens.specs.Names.{is_word_octet}
-use Rattle.ion_tokens.proofs.masks.LaneRuns.{at_start, goes_through, stops_at, then_each}
-use Rattle.ion_tokens.proofs.runs.GoesOn.{rest_is}
+use Rattle.ion_tokens.proofs.masks.LaneRuns.{goes_through, stops_at}
 use Rattle.ion_tokens.proofs.front.of_word.Goals as goal
-
-pub loop-at-init : goal.loop-at-init
-loop-at-init c = at_start is_word_octet c.args.octets.now
 
 pub loop-at-preserved : goal.loop-at-preserved
 loop-at-preserved c =
@@ -17,9 +12,3 @@ pub returns-then-ends-ne0 : goal.returns-then-ends-ne0
 returns-then-ends-ne0 c =
     stops_at is_word_octet c.args.octets.now c.loop-at.at 16 c.word_ends-ends.result c.loop-at.invariant (omega arith) (omega arith) c.word_ends-ends.ensures
     (omega arith)
-
-pub returns : goal.returns
-returns c =
-    let class = is_word_octet in
-    then_each class c.args.octets.now c.loop-at.at c.each_of_word.result c.loop-at.invariant
-    (c.each_of_word.ensures ∙ ap (λ w. length (take_while class w)) (rest_is c.args.octets.now c.loop-at.at))
