@@ -9,13 +9,16 @@ abbrev pub at : Mode → List ℕ → Bool → ℕ → ℕ → Known
 at m kept colon start used = record { mode = m; kept = kept; colon = colon; start = start; used = used }
 
 -- over these octets it comes from the one mode to the other, whatever follows
-abbrev pub Moves : Place → Mode → List ℕ → List ℕ → Mode → List ℕ → Type 0
-Moves p m kept os m' kept' = (colon : Bool) (start used : ℕ) (r : List ℕ) → run p (os ++ r) (at m kept colon start used)
-    ≡ run p r (at m' kept' colon start (used + length os))
+pub record Moves (p : Place) (m : Mode) (kept os : List ℕ) (m' : Mode) (kept' : List ℕ) : Type 0 where
+  pub on : (colon : Bool) (start used : ℕ) (r : List ℕ) → run p (os ++ r) (at m kept colon start used)
+      ≡ run p r (at m' kept' colon start (used + length os))
 
 -- over no octets the scanner stays in its mode
-pub moves_none : (p : Place) (m : Mode) (kept : List ℕ) → Moves p m kept [] m kept
-moves_none p m kept colon start used r = let none : used ≡ used + length {A = ℕ} [] = omega arith in ap (λ (n : ℕ). run p r (at m kept colon start n)) none
+pub moves_none : {p : Place} {m : Mode} {kept : List ℕ} → Moves p m kept [] m kept
+moves_none {p = p} {m = m} {kept = kept} = record {
+  on = λ colon start used r. let none : used ≡ used + length {A = ℕ} [] = omega arith in
+      ap (λ (n : ℕ). run p r (at m kept colon start n)) none;
+}
 
 -- an open token's start stays
 abbrev pub Stays : Mode → Type 0
@@ -24,41 +27,47 @@ Stays m = (start used : ℕ) → start_of m start used ≡ start
 -- one octet leads from mode to mode as the table says
 pub moves_one : (p : Place) (m : Mode) (o : ℕ) (kept : List ℕ) (m' : Mode) (k : Keep) → Stays m → ((colon : Bool) → next p colon m o ≡ Action.Go m' k)
     → Moves p m kept (o ∷ []) m' (kept_after k kept)
-moves_one p m o kept m' k stays e colon start used r =
-    ap (λ a. follow (acts p (at m kept colon start used) o a) (λ t. run p r t)) (e colon)
-    ∙ ap (λ (n : ℕ). run p r (at m' (kept_after k kept) colon n (used + 1))) (stays start used)
+moves_one p m o kept m' k stays e = record {
+  on = λ colon start used r.
+      ap (λ a. follow (acts p (at m kept colon start used) o a) (λ t. run p r t)) (e colon)
+      ∙ ap (λ (n : ℕ). run p r (at m' (kept_after k kept) colon n (used + 1))) (stays start used);
+}
 
 -- two moves, one behind the other, are one over the octets of both
-pub moves_then : (p : Place) (m n l : Mode) (xs ys kept kept' kept'' : List ℕ) → Moves p m kept xs n kept' → Moves p n kept' ys l kept''
+pub moves_then : {p : Place} {m n l : Mode} {xs ys kept kept' kept'' : List ℕ} → Moves p m kept xs n kept' → Moves p n kept' ys l kept''
     → Moves p m kept (xs ++ ys) l kept''
-moves_then p m n l xs ys kept kept' kept'' f g colon start used r =
-    let longer : (used + length xs) + length ys ≡ used + length (xs ++ ys) = omega (arith, length-append xs ys) in
-    ap (λ os. run p os (at m kept colon start used)) (append_assoc xs ys r) ∙ f colon start used (ys ++ r) ∙ g colon start (used + length xs) r
-    ∙ ap (λ (i : ℕ). run p r (at l kept'' colon start i)) longer
+moves_then {p = p} {m = m} {l = l} {xs = xs} {ys = ys} {kept = kept} {kept'' = kept''} f g = record {
+  on = λ colon start used r.
+      let longer : (used + length xs) + length ys ≡ used + length (xs ++ ys) = omega (arith, length-append xs ys) in
+      ap (λ os. run p os (at m kept colon start used)) (append_assoc xs ys r) ∙ f.on colon start used (ys ++ r) ∙ g.on colon start (used + length xs) r
+      ∙ ap (λ (i : ℕ). run p r (at l kept'' colon start i)) longer;
+}
 
 -- what is kept behind a move may be spelled otherwise
-pub moves_to : (p : Place) (m n : Mode) (os kept kept' kept'' : List ℕ) → kept' ≡ kept'' → Moves p m kept os n kept' → Moves p m kept os n kept''
-moves_to p m n os kept kept' kept'' e f = subst (λ l. Moves p m kept os n l) e f
+pub moves_to : {p : Place} {m n : Mode} {os kept kept' kept'' : List ℕ} → kept' ≡ kept'' → Moves p m kept os n kept' → Moves p m kept os n kept''
+moves_to {p = p} {m = m} {n = n} {os = os} {kept = kept} e f = subst (λ l. Moves p m kept os n l) e f
 
 -- from a blank, where a token may begin
 abbrev pub blank : Bool → ℕ → ℕ → Known
 blank colon start used = at Mode.Blank [] colon start used
 
 -- from a blank over these octets into an open token, which begins there
-abbrev pub Opens : Place → Bool → List ℕ → Mode → List ℕ → Type 0
-Opens p colon os m kept = (start used : ℕ) (r : List ℕ) → run p (os ++ r) (blank colon start used) ≡ run p r (at m kept colon used (used + length os))
+pub record Opens (p : Place) (colon : Bool) (os : List ℕ) (m : Mode) (kept : List ℕ) : Type 0 where
+  pub on : (start used : ℕ) (r : List ℕ) → run p (os ++ r) (blank colon start used) ≡ run p r (at m kept colon used (used + length os))
 
 -- one octet opens a token where the table goes on from a blank
 pub opens_one : (p : Place) (colon : Bool) (o : ℕ) (m : Mode) (k : Keep) → in_blank p colon o ≡ Action.Go m k → Opens p colon (o ∷ []) m (kept_after k [])
-opens_one p colon o m k e start used r = ap (λ a. follow (acts p (blank colon start used) o a) (λ t. run p r t)) e
+opens_one p colon o m k e = record { on = λ start used r. ap (λ a. follow (acts p (blank colon start used) o a) (λ t. run p r t)) e }
 
 -- a token that is open goes on over the octets of a move from there
-pub opens_then : (p : Place) (colon : Bool) (xs ys : List ℕ) (m n : Mode) (kept kept' : List ℕ) → Opens p colon xs m kept → Moves p m kept ys n kept'
+pub opens_then : {p : Place} {colon : Bool} {xs ys : List ℕ} {m n : Mode} {kept kept' : List ℕ} → Opens p colon xs m kept → Moves p m kept ys n kept'
     → Opens p colon (xs ++ ys) n kept'
-opens_then p colon xs ys m n kept kept' f g start used r =
-    let longer : (used + length xs) + length ys ≡ used + length (xs ++ ys) = omega (arith, length-append xs ys) in
-    ap (λ os. run p os (blank colon start used)) (append_assoc xs ys r) ∙ f start used (ys ++ r) ∙ g colon used (used + length xs) r
-    ∙ ap (λ (i : ℕ). run p r (at n kept' colon used i)) longer
+opens_then {p = p} {colon = colon} {xs = xs} {ys = ys} {n = n} {kept' = kept'} f g = record {
+  on = λ start used r.
+      let longer : (used + length xs) + length ys ≡ used + length (xs ++ ys) = omega (arith, length-append xs ys) in
+      ap (λ os. run p os (blank colon start used)) (append_assoc xs ys r) ∙ f.on start used (ys ++ r) ∙ g.on colon used (used + length xs) r
+      ∙ ap (λ (i : ℕ). run p r (at n kept' colon used i)) longer;
+}
 
 -- the last octet ends the token
 pub gives : (p : Place) (colon : Bool) (o : ℕ) (m : Mode) (kept : List ℕ) (kind : TokenKind) (k : Keep) (start used : ℕ) (r : List ℕ) → Stays m
@@ -85,18 +94,16 @@ leaves p colon o m kept kind k start used r stays e =
 -- over octets of a class, each of which is kept
 pub moves_each : (p : Place) (m : Mode) (class : ℕ → Bool) (os kept : List ℕ) → Stays m
     → ((o : ℕ) → class o ≡ true → (colon : Bool) → next p colon m o ≡ Action.Go m (Keep.One o)) → Each class os → Moves p m kept os m (kept ++ os)
-moves_each p m class [] kept stays f h = moves_to p m m [] kept kept (kept ++ []) (sym (append-nil kept)) (moves_none p m kept)
+moves_each p m class [] kept stays f h = moves_to (sym (append-nil kept)) moves_none
 moves_each p m class (o ∷ os) kept stays f h =
-    moves_to p m m (o ∷ os) kept ((kept ++ o ∷ []) ++ os) (kept ++ o ∷ os) (append_assoc kept (o ∷ []) os)
-    (moves_then p m m m (o ∷ []) os kept (kept ++ o ∷ []) ((kept ++ o ∷ []) ++ os) (moves_one p m o kept m (Keep.One o) stays (f o h.0))
-    (moves_each p m class os (kept ++ o ∷ []) stays f h.1))
+    moves_to (append_assoc kept (o ∷ []) os)
+    (moves_then (moves_one p m o kept m (Keep.One o) stays (f o h.0)) (moves_each p m class os (kept ++ o ∷ []) stays f h.1))
 
 -- over octets of a class, none of which is kept
 pub moves_past : (p : Place) (m : Mode) (class : ℕ → Bool) (os kept : List ℕ) → Stays m
     → ((o : ℕ) → class o ≡ true → (colon : Bool) → next p colon m o ≡ Action.Go m Keep.Nothing) → Each class os → Moves p m kept os m kept
-moves_past p m class [] kept stays f h = moves_none p m kept
-moves_past p m class (o ∷ os) kept stays f h = moves_then p m m m (o ∷ []) os kept kept kept (moves_one p m o kept m Keep.Nothing stays (f o h.0))
-    (moves_past p m class os kept stays f h.1)
+moves_past p m class [] kept stays f h = moves_none
+moves_past p m class (o ∷ os) kept stays f h = moves_then (moves_one p m o kept m Keep.Nothing stays (f o h.0)) (moves_past p m class os kept stays f h.1)
 
 -- a token's end shows later: over these octets behind it a blank comes to this mode
 abbrev pub Resumes : List ℕ → Mode → List ℕ → Type 0
@@ -130,7 +137,7 @@ pub takes_now : (p : Place) (colon : Bool) (w : List ℕ) (o : ℕ) (r : List �
     → Opens p colon w m kept → ((c : Bool) → next p c m o ≡ Action.Give kind k) → Takes p colon (w ++ o ∷ []) r kind (kept_after k kept)
 takes_now p colon w o r kind m kept k stays f e = Now (λ start used.
     let longer : (used + length w) + 1 ≡ used + length (w ++ o ∷ []) = omega (arith, length-append w (o ∷ [])) in
-    ap (λ os. run p os (blank colon start used)) (append_assoc w (o ∷ []) r) ∙ f start used (o ∷ r)
+    ap (λ os. run p os (blank colon start used)) (append_assoc w (o ∷ []) r) ∙ f.on start used (o ∷ r)
     ∙ gives p colon o m kept kind k used (used + length w) r stays (e colon)
     ∙ ap (λ (n : ℕ). Given (record { start = used; end = n; kind = kind; octets = kept_after k kept }) (past p kind Mode.Blank [] n n)) longer)
 
@@ -139,11 +146,11 @@ pub takes_left : (p : Place) (colon : Bool) (w : List ℕ) (x : ℕ) (r : List �
     → Opens p colon w m kept → ((c : Bool) → next p c m x ≡ Action.Before kind k Mode.Blank) → Takes p colon w (x ∷ r) kind (kept_after k kept)
 takes_left p colon w x r kind m kept k stays f e = Later [] x r Mode.Blank [] refl resumes_none (λ start used.
     let none : used + length w ≡ (used + length w) + length {A = ℕ} [] = omega arith in
-    f start used (x ∷ r) ∙ leaves p colon x m kept kind k used (used + length w) r stays (e colon)
+    f.on start used (x ∷ r) ∙ leaves p colon x m kept kind k used (used + length w) r stays (e colon)
     ∙ ap (λ (n : ℕ). Left (lexeme w kind (kept_after k kept) used) (past p kind Mode.Blank [] (used + length w) n)) none)
 
 -- a token that the end of the input ends
 pub takes_end : (p : Place) (colon : Bool) (w : List ℕ) (kind : TokenKind) (m : Mode) (kept kept' : List ℕ) → Opens p colon w m kept
     → ((start used : ℕ) → at_end p (at m kept colon start used) ≡ Ok (Some (record { start = start; end = used; kind = kind; octets = kept' })))
     → Takes p colon w [] kind kept'
-takes_end p colon w kind m kept kept' f e = AtEnd refl (λ start used. (at m kept colon used (used + length w), f start used [], e used (used + length w)))
+takes_end p colon w kind m kept kept' f e = AtEnd refl (λ start used. (at m kept colon used (used + length w), f.on start used [], e used (used + length w)))

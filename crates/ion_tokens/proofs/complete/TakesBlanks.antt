@@ -26,7 +26,7 @@ passes_then p colon xs ys f g start used =
     )
 
 passes_opened : (p : Place) (colon : Bool) (os : List ℕ) → Opens p colon os Mode.Blank [] → PassesBlank p colon os
-passes_opened p colon os f start used = (used, f start used)
+passes_opened p colon os f start used = (used, f.on start used)
 
 white_first : (p : Place) (colon : Bool) (o : ℕ) → is_white o ≡ true → in_blank p colon o ≡ Action.Go Mode.Blank Keep.Nothing
 white_first p colon o h = rw h
@@ -35,16 +35,20 @@ passes_white : (p : Place) (colon : Bool) (o : ℕ) → is_white o ≡ true → 
 passes_white p colon o h start used = (used, λ r. ap (λ a. follow (acts p (blank colon start used) o a) (λ t. run p r t)) (white_first p colon o h))
 
 opens_line : (p : Place) (colon : Bool) → Opens p colon (codes "//") Mode.LineComment []
-opens_line p colon = λ start used r.
-    let two : (used + 1) + 1 ≡ used + 2 = omega arith in
-    let one : (used + 1) - 1 ≡ used = omega arith in
-    λ i. run p r (at Mode.LineComment [] colon (one i) (two i))
+opens_line p colon = record {
+  on = λ start used r.
+      let two : (used + 1) + 1 ≡ used + 2 = omega arith in
+      let one : (used + 1) - 1 ≡ used = omega arith in
+      λ i. run p r (at Mode.LineComment [] colon (one i) (two i));
+}
 
 opens_block : (p : Place) (colon : Bool) → Opens p colon (codes "/*") Mode.BlockComment []
-opens_block p colon = λ start used r.
-    let two : (used + 1) + 1 ≡ used + 2 = omega arith in
-    let one : (used + 1) - 1 ≡ used = omega arith in
-    λ i. run p r (at Mode.BlockComment [] colon (one i) (two i))
+opens_block p colon = record {
+  on = λ start used r.
+      let two : (used + 1) + 1 ≡ used + 2 = omega arith in
+      let one : (used + 1) - 1 ≡ used = omega arith in
+      λ i. run p r (at Mode.BlockComment [] colon (one i) (two i));
+}
 
 line_on : (o : ℕ) → not (is_line_end o) ≡ true → (c : Bool) (p : Place) → next p c Mode.LineComment o ≡ Action.Go Mode.LineComment Keep.Nothing
 line_on o h c p = rw (not-true (is_line_end o) h)
@@ -99,32 +103,25 @@ goes_other true o os h = no_close_behind o os h.1
 goes_other false o os h = no_close_behind o os h
 
 block_moves : (p : Place) (os : List ℕ) (star : Bool) → GoesOn star os → Moves p (block_mode star) [] (os ++ codes "*/") Mode.Blank []
-block_moves p [] star h = moves_then p (block_mode star) Mode.BlockCommentStar Mode.Blank (42 ∷ []) (47 ∷ []) [] [] []
-    (block_one p star true 42 (λ c. block_star p star c))
+block_moves p [] star h = moves_then (block_one p star true 42 (λ c. block_star p star c))
     (moves_one p Mode.BlockCommentStar 47 [] Mode.Blank Keep.Nothing (λ s u. refl) (λ c. refl))
-block_moves p (o ∷ os) star h = ⊎_elim (λ i. starred i (block_moves p os true))
-    (λ n. moves_then p (block_mode star) Mode.BlockComment Mode.Blank (o ∷ []) (os ++ codes "*/") [] [] []
-    (block_one p star false o (λ c. block_other p star o c n (no_slash star o os h)))
-    (block_moves p os false (goes_other star o os h))) (eq_or o 42)
+block_moves p (o ∷ os) star h = ⊎_elim (λ i. starred i (block_moves p os true)) (λ n. moves_then
+    (block_one p star false o (λ c. block_other p star o c n (no_slash star o os h))) (block_moves p os false (goes_other star o os h))) (eq_or o 42)
   where
     starred : o ≡ 42 → (HasNoClose (42 ∷ os) → Moves p Mode.BlockCommentStar [] (os ++ codes "*/") Mode.Blank [])
         → Moves p (block_mode star) [] (o ∷ os ++ codes "*/") Mode.Blank []
-    starred i f = subst (λ (x : ℕ). Moves p (block_mode star) [] (x ∷ os ++ codes "*/") Mode.Blank []) (sym i)
-        (moves_then p (block_mode star) Mode.BlockCommentStar Mode.Blank (42 ∷ []) (os ++ codes "*/") [] [] []
-        (block_one p star true 42 (λ c. block_star p star c))
-        (f (goes_star star os (subst (λ (x : ℕ). GoesOn star (x ∷ os)) i h))))
+    starred i f = subst (λ (x : ℕ). Moves p (block_mode star) [] (x ∷ os ++ codes "*/") Mode.Blank []) (sym i) (moves_then
+        (block_one p star true 42 (λ c. block_star p star c)) (f (goes_star star os (subst (λ (x : ℕ). GoesOn star (x ∷ os)) i h))))
 
 -- a line comment leads from its first slash back to a blank
 pub line_opens : (p : Place) (colon : Bool) (os : List ℕ) (last : ℕ) → HasNoLineEnd os → is_line_end last ≡ true
     → Opens p colon (codes "//" ++ os ++ last ∷ []) Mode.Blank []
-line_opens p colon os last h e = opens_then p colon (codes "//" ++ os) (last ∷ []) Mode.LineComment Mode.Blank [] []
-    (opens_then p colon (codes "//") os Mode.LineComment Mode.LineComment [] [] (opens_line p colon) (line_moves p os h))
+line_opens p colon os last h e = opens_then (opens_then (opens_line p colon) (line_moves p os h))
     (moves_one p Mode.LineComment last [] Mode.Blank Keep.Nothing (λ s u. refl) (λ c. line_ends last e c p))
 
 -- a block comment, too
 pub block_opens : (p : Place) (colon : Bool) (os : List ℕ) → HasNoClose os → Opens p colon (codes "/*" ++ os ++ codes "*/") Mode.Blank []
-block_opens p colon os h = opens_then p colon (codes "/*") (os ++ codes "*/") Mode.BlockComment Mode.Blank [] [] (opens_block p colon)
-    (block_moves p os false h)
+block_opens p colon os h = opens_then (opens_block p colon) (block_moves p os false h)
 
 passes_piece : (p : Place) (colon : Bool) (b : BlankPiece) → IsBlankPiece b → PassesBlank p colon (blank_spelling b)
 passes_piece p colon (White o) h = passes_white p colon o h
@@ -148,11 +145,11 @@ last_blank p colon w start used (inl b) =
     (blank colon f.0 (used + length w), ap (λ l. run p l (blank colon start used)) (sym (append-nil w)) ∙ f.1 [], refl)
 last_blank p colon w start used (inr c) =
     let f = passes_blank p colon c.front c.blank start used in
-    let line = opens_then p colon (codes "//") c.octets Mode.LineComment Mode.LineComment [] [] (opens_line p colon) (line_moves p c.octets c.one_line) in
+    let line : Opens p colon (codes "//" ++ c.octets) Mode.LineComment [] = opens_then (opens_line p colon) (line_moves p c.octets c.one_line) in
     let rest : List ℕ = codes "//" ++ c.octets in
     let now : ℕ = used + length c.front in (
       at Mode.LineComment [] colon now (now + length rest),
       ap (λ l. run p l (blank colon start used)) (c.cut ∙ append_assoc c.front (codes "//") c.octets) ∙ f.1 rest
-          ∙ ap (λ l. run p l (blank colon f.0 now)) (sym (append-nil rest)) ∙ line f.0 now [],
+          ∙ ap (λ l. run p l (blank colon f.0 now)) (sym (append-nil rest)) ∙ line.on f.0 now [],
       refl,
     )

@@ -18,8 +18,7 @@ abbrev lob : Lob → Mode
 lob l = Mode.Lob l
 
 pub opens_lob : (p : Place) (colon : Bool) → is_name p ≡ false → Opens p colon (123 ∷ 123 ∷ []) (lob Lob.Start) []
-opens_lob p colon n = opens_then p colon (123 ∷ []) (123 ∷ []) Mode.Brace (lob Lob.Start) [] [] (opens_brace p colon n)
-    (moves_one p Mode.Brace 123 [] (lob Lob.Start) Keep.Nothing (λ s u. refl) (λ c. refl))
+opens_lob p colon n = opens_then (opens_brace p colon n) (moves_one p Mode.Brace 123 [] (lob Lob.Start) Keep.Nothing (λ s u. refl) (λ c. refl))
 
 start_white : (o : ℕ) → is_white o ≡ true → lob_start o ≡ Action.Go (lob Lob.Start) Keep.Nothing
 start_white o h = rw h
@@ -38,13 +37,8 @@ pub short_leads : (p : Place) (before text after octets : List ℕ) (v : Within)
     → Moves p (Mode.Text Style.ShortClob Within.Plain) [] text (Mode.Text Style.ShortClob v) octets → Each is_white after
     → Moves p (lob Lob.Start) [] ((before ++ (34 ∷ text) ++ 34 ∷ after) ++ 125 ∷ []) (lob Lob.ClobClose) octets
 short_leads p before text after octets v b ended leads a =
-    moves_then p (lob Lob.Start) (lob Lob.AfterShort) (lob Lob.ClobClose) ((before ++ (34 ∷ text)) ++ 34 ∷ after) (125 ∷ []) [] octets octets
-    (moves_then p (lob Lob.Start) (Mode.Text Style.ShortClob v) (lob Lob.AfterShort) (before ++ (34 ∷ text)) (34 ∷ after) [] octets octets
-    (moves_then p (lob Lob.Start) (lob Lob.Start) (Mode.Text Style.ShortClob v) before (34 ∷ text) [] [] octets
-    (white_moves p before b)
-    (moves_then p (lob Lob.Start) (Mode.Text Style.ShortClob Within.Plain) (Mode.Text Style.ShortClob v) (34 ∷ []) text [] [] octets
-    (moves_one p (lob Lob.Start) 34 [] (Mode.Text Style.ShortClob Within.Plain) Keep.Nothing (λ s u. refl) (λ c. refl)) leads))
-    (moves_then p (Mode.Text Style.ShortClob v) (lob Lob.AfterShort) (lob Lob.AfterShort) (34 ∷ []) after octets octets octets
+    moves_then (moves_then (moves_then (white_moves p before b) (moves_then
+    (moves_one p (lob Lob.Start) 34 [] (Mode.Text Style.ShortClob Within.Plain) Keep.Nothing (λ s u. refl) (λ c. refl)) leads)) (moves_then
     (moves_one p (Mode.Text Style.ShortClob v) 34 octets (lob Lob.AfterShort) Keep.Nothing (λ s u. refl) (λ c. short_closes v ended))
     (moves_past p (lob Lob.AfterShort) is_white after octets (λ s u. refl) (λ o h c. rw h) a)))
     (moves_one p (lob Lob.AfterShort) 125 octets (lob Lob.ClobClose) Keep.Nothing (λ s u. refl) (λ c. refl))
@@ -57,10 +51,14 @@ short_moves p before text after octets b q a =
 
 -- the quotes that open a segment
 three_quotes : (p : Place) (l : Lob) (kept : List ℕ) → BeginsSegment l → Moves p (lob l) kept (39 ∷ 39 ∷ 39 ∷ []) (Mode.Text Style.LongClob Within.Plain) kept
-three_quotes p Lob.Start kept b = λ colon start used r. let three : ((used + 1) + 1) + 1 ≡ used + 3 = omega arith in
-    ap (λ (n : ℕ). run p r (at (Mode.Text Style.LongClob Within.Plain) kept colon start n)) three
-three_quotes p Lob.AfterLong kept b = λ colon start used r. let three : ((used + 1) + 1) + 1 ≡ used + 3 = omega arith in
-    ap (λ (n : ℕ). run p r (at (Mode.Text Style.LongClob Within.Plain) kept colon start n)) three
+three_quotes p Lob.Start kept b = record {
+  on = λ colon start used r. let three : ((used + 1) + 1) + 1 ≡ used + 3 = omega arith in
+      ap (λ (n : ℕ). run p r (at (Mode.Text Style.LongClob Within.Plain) kept colon start n)) three;
+}
+three_quotes p Lob.AfterLong kept b = record {
+  on = λ colon start used r. let three : ((used + 1) + 1) + 1 ≡ used + 3 = omega arith in
+      ap (λ (n : ℕ). run p r (at (Mode.Text Style.LongClob Within.Plain) kept colon start n)) three;
+}
 three_quotes p _ kept b = absurd b
 
 segment_cut : (text white : List ℕ) → (39 ∷ 39 ∷ 39 ∷ []) ++ (((text ++ 39 ∷ 39 ∷ []) ++ 39 ∷ []) ++ white) ≡ codes "'''" ++ text ++ codes "'''" ++ white
@@ -72,17 +70,8 @@ pub segment_leads : (p : Place) (l : Lob) (v : Within) (text white kept kept' : 
     → Moves p (lob l) kept (codes "'''" ++ text ++ codes "'''" ++ white) (lob Lob.AfterLong) kept'
 segment_leads p l v text white kept kept' b ended leads w =
     let open_end : List ℕ = (kept' ++ 39 ∷ []) ++ 39 ∷ [] in
-    subst (λ os. Moves p (lob l) kept os (lob Lob.AfterLong) kept') (segment_cut text white)
-    (moves_then p (lob l) (Mode.Text Style.LongClob Within.Plain) (lob Lob.AfterLong) (39 ∷ 39 ∷ 39 ∷ [])
-    (((text ++ 39 ∷ 39 ∷ []) ++ 39 ∷ []) ++ white) kept kept kept'
-    (three_quotes p l kept b)
-    (moves_then p (Mode.Text Style.LongClob Within.Plain) (lob Lob.AfterLong) (lob Lob.AfterLong) ((text ++ 39 ∷ 39 ∷ []) ++ 39 ∷ []) white kept kept'
-    kept'
-    (moves_then p (Mode.Text Style.LongClob Within.Plain) (Mode.Text Style.LongClob Within.TwoQuotes) (lob Lob.AfterLong) (text ++ 39 ∷ 39 ∷ [])
-    (39 ∷ []) kept open_end kept'
-    (long_quotes p Style.LongClob v text kept kept' refl ended leads)
-    (moves_to p (Mode.Text Style.LongClob Within.TwoQuotes) (lob Lob.AfterLong) (39 ∷ []) open_end (kept_after Keep.DropQuotes open_end) kept'
-    (drops_two kept' 39 39)
+    subst (λ os. Moves p (lob l) kept os (lob Lob.AfterLong) kept') (segment_cut text white) (moves_then (three_quotes p l kept b) (moves_then
+    (moves_then (long_quotes p Style.LongClob v text kept kept' refl ended leads) (moves_to (drops_two kept' 39 39)
     (moves_one p (Mode.Text Style.LongClob Within.TwoQuotes) 39 open_end (lob Lob.AfterLong) Keep.DropQuotes (λ s u. refl) (λ c. refl))))
     (moves_past p (lob Lob.AfterLong) is_white white kept' (λ s u. refl) (λ o h c. rw h) w)))
 
@@ -95,15 +84,11 @@ segment_moves p l kept g b (q, w) =
 segments_move : (p : Place) (l : Lob) (kept : List ℕ) (g : Segment) (gs : List Segment) → BeginsSegment l → IsSegment g → AllByRecursion IsSegment gs
     → Moves p (lob l) kept (flat_map segment_spelling (g ∷ gs)) (lob Lob.AfterLong) (kept ++ flat_map (λ (s : Segment). s.octets) (g ∷ gs))
 segments_move p l kept g [] b h hs =
-    subst (λ os. Moves p (lob l) kept os (lob Lob.AfterLong) (kept ++ (g.octets ++ []))) (sym (append-nil (segment_spelling g)))
-    (moves_to p (lob l) (lob Lob.AfterLong) (segment_spelling g) kept (kept ++ g.octets) (kept ++ (g.octets ++ []))
+    subst (λ os. Moves p (lob l) kept os (lob Lob.AfterLong) (kept ++ (g.octets ++ []))) (sym (append-nil (segment_spelling g))) (moves_to
     (ap (λ x. kept ++ x) (sym (append-nil g.octets))) (segment_moves p l kept g b h))
 segments_move p l kept g (g' ∷ gs) b h hs =
     let octets : Segment → List ℕ = λ (s : Segment). s.octets in
-    moves_to p (lob l) (lob Lob.AfterLong) (flat_map segment_spelling (g ∷ g' ∷ gs)) kept ((kept ++ g.octets) ++ flat_map octets (g' ∷ gs))
-    (kept ++ (g.octets ++ flat_map octets (g' ∷ gs))) (append_assoc kept g.octets (flat_map octets (g' ∷ gs)))
-    (moves_then p (lob l) (lob Lob.AfterLong) (lob Lob.AfterLong) (segment_spelling g) (flat_map segment_spelling (g' ∷ gs)) kept (kept ++ g.octets)
-    ((kept ++ g.octets) ++ flat_map octets (g' ∷ gs))
+    moves_to (append_assoc kept g.octets (flat_map octets (g' ∷ gs))) (moves_then
     (segment_moves p l kept g b h) (segments_move p Lob.AfterLong (kept ++ g.octets) g' gs tt hs.0 hs.1))
 
 long_moves : (p : Place) (before : List ℕ) (gs : List Segment) → Each is_white before → gs ≢ [] → AllByRecursion IsSegment gs
@@ -111,10 +96,7 @@ long_moves : (p : Place) (before : List ℕ) (gs : List Segment) → Each is_whi
 long_moves p before [] b some h = absurd (some refl)
 long_moves p before (g ∷ gs) b some h =
     let octets : List ℕ = flat_map (λ (s : Segment). s.octets) (g ∷ gs) in
-    moves_then p (lob Lob.Start) (lob Lob.AfterLong) (lob Lob.ClobClose) (before ++ flat_map segment_spelling (g ∷ gs)) (125 ∷ []) [] octets octets
-    (moves_then p (lob Lob.Start) (lob Lob.Start) (lob Lob.AfterLong) before (flat_map segment_spelling (g ∷ gs)) [] [] octets
-    (white_moves p before b)
-    (segments_move p Lob.Start [] g gs tt h.0 h.1))
+    moves_then (moves_then (white_moves p before b) (segments_move p Lob.Start [] g gs tt h.0 h.1))
     (moves_one p (lob Lob.AfterLong) 125 octets (lob Lob.ClobClose) Keep.Nothing (λ s u. refl) (λ c. refl))
 
 clob_moves : (p : Place) (content octets : List ℕ) → IsClobContent content octets
@@ -135,9 +117,7 @@ pub takes_clob : (p : Place) (colon : Bool) (content octets r : List ℕ) → is
 takes_clob p colon content octets r n h =
     subst (λ l. Takes p colon l r TokenKind.Clob octets) (lob_cut content)
     (takes_now p colon (123 ∷ 123 ∷ (content ++ 125 ∷ [])) 125 r TokenKind.Clob (lob Lob.ClobClose) octets Keep.Nothing (λ s u. refl)
-    (opens_then p colon (123 ∷ 123 ∷ []) (content ++ 125 ∷ []) (lob Lob.Start) (lob Lob.ClobClose) [] octets (opens_lob p colon n)
-    (clob_moves p content octets h))
-    (λ c. refl))
+    (opens_then (opens_lob p colon n) (clob_moves p content octets h)) (λ c. refl))
 
 -- blobs
 abbrev AnyBlob : ℕ → Bool
@@ -148,15 +128,12 @@ solid os = filter (λ o. not (is_white o)) os
 
 base_moves : (p : Place) (os kept : List ℕ) → Each AnyBlob os → Moves p (lob Lob.Base64) kept os (lob Lob.Base64) (kept ++ solid os)
 unfolding solid
-base_moves p [] kept h = moves_to p (lob Lob.Base64) (lob Lob.Base64) [] kept kept (kept ++ []) (sym (append-nil kept)) (moves_none p (lob Lob.Base64) kept)
+base_moves p [] kept h = moves_to (sym (append-nil kept)) (moves_none)
 base_moves p (o ∷ os) kept h = by (is_white o) refl h.0 (λ k. base_moves p os k h.1) where
   by : (b : Bool) → is_white o ≡ b → (b || is_base64 o) ≡ true → ((k : List ℕ) → Moves p (lob Lob.Base64) k os (lob Lob.Base64) (k ++ solid os))
       → Moves p (lob Lob.Base64) kept (o ∷ os) (lob Lob.Base64) (kept ++ cond (not b) (o ∷ solid os) (solid os))
-  by true e g f = moves_then p (lob Lob.Base64) (lob Lob.Base64) (lob Lob.Base64) (o ∷ []) os kept kept (kept ++ solid os)
-      (moves_one p (lob Lob.Base64) o kept (lob Lob.Base64) Keep.Nothing (λ s u. refl) (λ c. rw e)) (f kept)
-  by false e g f = moves_to p (lob Lob.Base64) (lob Lob.Base64) (o ∷ os) kept ((kept ++ o ∷ []) ++ solid os) (kept ++ o ∷ solid os)
-      (append_assoc kept (o ∷ []) (solid os))
-      (moves_then p (lob Lob.Base64) (lob Lob.Base64) (lob Lob.Base64) (o ∷ []) os kept (kept ++ o ∷ []) ((kept ++ o ∷ []) ++ solid os)
+  by true e g f = moves_then (moves_one p (lob Lob.Base64) o kept (lob Lob.Base64) Keep.Nothing (λ s u. refl) (λ c. rw e)) (f kept)
+  by false e g f = moves_to (append_assoc kept (o ∷ []) (solid os)) (moves_then
       (moves_one p (lob Lob.Base64) o kept (lob Lob.Base64) (Keep.One o) (λ s u. refl) (λ c. grind (arith, nat_tests))) (f (kept ++ o ∷ [])))
 
 -- where a blob may end
@@ -170,26 +147,27 @@ ToEnd p os kept = (l : Lob) × LobEnds l × Moves p (lob Lob.Start) [] os (lob l
 
 start_moves : (p : Place) (os : List ℕ) → Each AnyBlob os → ToEnd p os (solid os)
 unfolding solid
-start_moves p [] h = (Lob.Start, tt, moves_none p (lob Lob.Start) [])
+start_moves p [] h = (Lob.Start, tt, moves_none)
 start_moves p (o ∷ os) h = by (is_white o) refl h.0 (start_moves p os h.1) where
   by : (b : Bool) → is_white o ≡ b → (b || is_base64 o) ≡ true → ToEnd p os (solid os) → ToEnd p (o ∷ os) (cond (not b) (o ∷ solid os) (solid os))
   by true e g m = (
     m.0,
     m.1,
-    moves_then p (lob Lob.Start) (lob Lob.Start) (lob m.0) (o ∷ []) os [] [] (solid os)
-        (moves_one p (lob Lob.Start) o [] (lob Lob.Start) Keep.Nothing (λ s u. refl) (λ c. start_white o e)) m.2,
+    moves_then (moves_one p (lob Lob.Start) o [] (lob Lob.Start) Keep.Nothing (λ s u. refl) (λ c. start_white o e)) m.2,
   )
   by false e g m = (
     Lob.Base64,
     tt,
-    moves_then p (lob Lob.Start) (lob Lob.Base64) (lob Lob.Base64) (o ∷ []) os [] (o ∷ []) (o ∷ solid os)
+    moves_then
         (moves_one p (lob Lob.Start) o [] (lob Lob.Base64) (Keep.One o) (λ s u. refl) (λ c. grind (arith, nat_tests))) (base_moves p os (o ∷ []) h.1),
   )
 
 blob_closes : (p : Place) (l : Lob) (kept octets : List ℕ) → LobEnds l → blob_of kept ≡ Some octets
     → Moves p (lob l) kept (125 ∷ []) (lob Lob.BlobClose) octets
-blob_closes p Lob.Start kept octets h e = λ colon start used r. ap (λ x. follow (blob_ends (at (lob Lob.Start) kept colon start used) x) (λ t. run p r t)) e
-blob_closes p Lob.Base64 kept octets h e = λ colon start used r. ap (λ x. follow (blob_ends (at (lob Lob.Base64) kept colon start used) x) (λ t. run p r t)) e
+blob_closes p Lob.Start kept octets h e =
+    record { on = λ colon start used r. ap (λ x. follow (blob_ends (at (lob Lob.Start) kept colon start used) x) (λ t. run p r t)) e }
+blob_closes p Lob.Base64 kept octets h e =
+    record { on = λ colon start used r. ap (λ x. follow (blob_ends (at (lob Lob.Base64) kept colon start used) x) (λ t. run p r t)) e }
 blob_closes p _ kept octets h e = absurd h
 
 -- RFC 4648's text of octets decodes to them
@@ -203,9 +181,7 @@ pub opens_blob : (p : Place) (colon : Bool) (content octets : List ℕ) → is_n
 unfolding solid
 opens_blob p colon content octets n h e =
     let m = start_moves p content h in
-    opens_then p colon (123 ∷ 123 ∷ []) (content ++ 125 ∷ []) (lob Lob.Start) (lob Lob.BlobClose) [] octets (opens_lob p colon n)
-    (moves_then p (lob Lob.Start) (lob m.0) (lob Lob.BlobClose) content (125 ∷ []) [] (solid content) octets m.2
-    (blob_closes p m.0 (solid content) octets m.1 e))
+    opens_then (opens_lob p colon n) (moves_then m.2 (blob_closes p m.0 (solid content) octets m.1 e))
 
 -- a blob is read as the octets for which its base64 stands
 pub takes_blob : (p : Place) (colon : Bool) (content octets r : List ℕ) → is_name p ≡ false → IsBlobContent content octets

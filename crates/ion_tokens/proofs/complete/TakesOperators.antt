@@ -5,7 +5,7 @@ use Rattle.std.proofs.lemmas.Bool.{and_parts, eqb-false, eqb-true, false≢true,
 use Rattle.std.proofs.lemmas.Bool.Decides.{nat_tests}
 use Rattle.ion_tokens.specs.Names.{Action, Each, Ending, IsOperator, Keep, Left, Mode, Next, Place, TokenKind, acts, begins, begins_comment, begins_infinity, comment_within, follow, in_blank, in_infinity, in_operator, in_operator_slash, in_slash, is_digit, is_operator_octet, is_plain_operator, is_sexp, is_word_octet, past, run, run_ending}
 use Rattle.ion_tokens.specs.Lexemes.{ends}
-use Rattle.ion_tokens.proofs.complete.Moves.{AtEnd, Later, Moves, Now, Open, Opens, Resumes, Takes, at, blank, lexeme, moves_none, moves_one, moves_then, moves_to, opens_one, opens_then, takes_end, takes_left}
+use Rattle.ion_tokens.proofs.complete.Moves.{AtEnd, Later, Moves, Now, Open, Opens, Resumes, Takes, at, blank, moves_none, moves_one, moves_then, moves_to, opens_one, opens_then, takes_end, takes_left}
 use Rattle.ion_tokens.proofs.complete.TakesWords.{takes_before_slash}
 use Rattle.ion_tokens.proofs.texts.TextsComplete.{bool_cases, eq_or}
 
@@ -37,11 +37,9 @@ data OpTo (front : List ℕ) (e : Ending) (os r : List ℕ) : Type 0 where
 
 op_behind : (front xs ys r : List ℕ) (e e1 : Ending) → Moves Place.Sexp (Mode.Operator e) front xs (Mode.Operator e1) (front ++ xs)
     → OpTo (front ++ xs) e1 ys r → OpTo front e (xs ++ ys) r
-op_behind front xs ys r e e1 m (InRun e' h n) = InRun e' (subst (λ l. EndsAs e' l) (append_assoc front xs ys) h)
-    (moves_to Place.Sexp (Mode.Operator e) (Mode.Operator e') (xs ++ ys) front ((front ++ xs) ++ ys) (front ++ (xs ++ ys)) (append_assoc front xs ys)
-    (moves_then Place.Sexp (Mode.Operator e) (Mode.Operator e1) (Mode.Operator e') xs ys front (front ++ xs) ((front ++ xs) ++ ys) m n))
-op_behind front xs ys r e e1 m (InSlash kept h c n) = InSlash kept (sym (append_assoc front xs ys) ∙ h) c
-    (moves_then Place.Sexp (Mode.Operator e) (Mode.Operator e1) Mode.OperatorSlash xs ys front (front ++ xs) kept m n)
+op_behind front xs ys r e e1 m (InRun e' h n) = InRun e' (subst (λ l. EndsAs e' l) (append_assoc front xs ys) h) (moves_to (append_assoc front xs ys)
+    (moves_then m n))
+op_behind front xs ys r e e1 m (InSlash kept h c n) = InSlash kept (sym (append_assoc front xs ys) ∙ h) c (moves_then m n)
 
 op_one : (front : List ℕ) (e : Ending) (o : ℕ) → is_operator_octet o ≡ true → o ≢ 47
     → Moves Place.Sexp (Mode.Operator e) front (o ∷ []) (Mode.Operator (run_ending o)) (front ++ o ∷ [])
@@ -55,10 +53,7 @@ two_kept front a b = append_assoc front (a ∷ []) (b ∷ [])
 
 op_two : (front : List ℕ) (e : Ending) (c : ℕ) → is_operator_octet c ≡ true → c ≢ 47 → c ≢ 42
     → Moves Place.Sexp (Mode.Operator e) front (47 ∷ c ∷ []) (Mode.Operator (run_ending c)) (front ++ 47 ∷ c ∷ [])
-op_two front e c h n m = moves_to Place.Sexp (Mode.Operator e) (Mode.Operator (run_ending c)) (47 ∷ c ∷ []) front ((front ++ 47 ∷ []) ++ c ∷ [])
-    (front ++ 47 ∷ c ∷ []) (two_kept front 47 c)
-    (moves_then Place.Sexp (Mode.Operator e) Mode.OperatorSlash (Mode.Operator (run_ending c)) (47 ∷ []) (c ∷ []) front front ((front ++ 47 ∷ []) ++ c ∷ [])
-    (slash_one front e)
+op_two front e c h n m = moves_to (two_kept front 47 c) (moves_then (slash_one front e)
     (moves_one Place.Sexp Mode.OperatorSlash c front (Mode.Operator (run_ending c)) (Keep.Two 47 c) (λ s u. refl) (λ b. grind (arith, nat_tests))))
 
 -- behind a / within an operator no comment's second octet stands
@@ -66,19 +61,14 @@ no_comment : (c : ℕ) → ((c == 47) || (c == 42)) ≡ false → (c ≢ 47) × 
 no_comment c h = (grind (arith, nat_tests), grind (arith, nat_tests))
 
 op_moves : (os front r : List ℕ) (e : Ending) → EndsAs e front → Each is_operator_octet os → comment_within os r ≡ false → OpTo front e os r
-op_moves [] front r e h each apart = InRun e (subst (λ l. EndsAs e l) (sym (append-nil front)) h)
-    (moves_to Place.Sexp (Mode.Operator e) (Mode.Operator e) [] front front (front ++ []) (sym (append-nil front))
-    (moves_none Place.Sexp (Mode.Operator e) front))
-op_moves (o ∷ []) front r e h each apart = ⊎_elim
-    (λ (i : o ≡ 47). subst (λ (x : ℕ). OpTo front e (x ∷ []) r) (sym i)
+op_moves [] front r e h each apart = InRun e (subst (λ l. EndsAs e l) (sym (append-nil front)) h) (moves_to (sym (append-nil front)) (moves_none))
+op_moves (o ∷ []) front r e h each apart = ⊎_elim (λ (i : o ≡ 47). subst (λ (x : ℕ). OpTo front e (x ∷ []) r) (sym i)
     (InSlash front refl (or_parts (begins_comment (47 ∷ r)) false (subst (λ (x : ℕ). comment_within (x ∷ []) r ≡ false) i apart)).0 (slash_one front e)))
     (λ n. InRun (run_ending o) (run_ends front o) (op_one front e o each.0 n)) (eq_or o 47)
-op_moves (o ∷ c ∷ os) front r e h each apart = ⊎_elim
-    (λ i. slash i (op_moves os (front ++ 47 ∷ c ∷ []) r (run_ending c)))
+op_moves (o ∷ c ∷ os) front r e h each apart = ⊎_elim (λ i. slash i (op_moves os (front ++ 47 ∷ c ∷ []) r (run_ending c)))
     (λ n. op_behind front (o ∷ []) (c ∷ os) r e (run_ending o) (op_one front e o each.0 n)
     (op_moves (c ∷ os) (front ++ o ∷ []) r (run_ending o) (run_ends front o) each.1
-    (or_parts (begins_comment (o ∷ c ∷ os ++ r)) (comment_within (c ∷ os) r) apart).1))
-    (eq_or o 47)
+    (or_parts (begins_comment (o ∷ c ∷ os ++ r)) (comment_within (c ∷ os) r) apart).1)) (eq_or o 47)
   where
     slash : o ≡ 47 → (EndsAs (run_ending c) (front ++ 47 ∷ c ∷ []) → Each is_operator_octet os → comment_within os r ≡ false
         → OpTo (front ++ 47 ∷ c ∷ []) (run_ending c) os r) → OpTo front e (o ∷ c ∷ os) r
@@ -117,7 +107,7 @@ takes_split : (colon : Bool) (w ahead : List ℕ) (n x : ℕ) (rest : List ℕ) 
 takes_split colon w ahead n x rest f e size letters resumes = Later ahead x rest Mode.Word ahead refl resumes (λ start used.
     let longer : used + length (w ++ ahead) ≡ (used + length w) + length ahead = omega (arith, length-append w ahead) in
     let back : ((used + length w) + length ahead) - n ≡ used + length w = omega arith in
-    ap (λ os. run Place.Sexp os (blank colon start used)) (sym (append_assoc w ahead (x ∷ rest))) ∙ f start used (x ∷ rest)
+    ap (λ os. run Place.Sexp os (blank colon start used)) (sym (append_assoc w ahead (x ∷ rest))) ∙ f.on start used (x ∷ rest)
     ∙ ap (λ (i : ℕ). run Place.Sexp (x ∷ rest) (at (Mode.Infinity n) w colon used i)) longer
     ∙ ap (λ a. follow (acts Place.Sexp (at (Mode.Infinity n) w colon used ((used + length w) + length ahead)) x a) (λ t. run Place.Sexp rest t)) e
     ∙ (λ i. Left (record { start = used; end = back i; kind = TokenKind.Operator; octets = w })
@@ -151,16 +141,15 @@ takes_infinity : (colon : Bool) (w : List ℕ) (e : Ending) (rest : List ℕ) �
     → Read colon w (105 ∷ rest)
 takes_infinity colon w e rest f n h = one rest h where
   opens1 : Opens Place.Sexp colon (w ++ 105 ∷ []) (Mode.Infinity 1) w
-  opens1 = opens_then Place.Sexp colon w (105 ∷ []) (Mode.Operator e) (Mode.Infinity 1) w w f
-      (moves_one Place.Sexp (Mode.Operator e) 105 w (Mode.Infinity 1) Keep.Nothing (λ s u. refl) (λ c. i_opens e n))
+  opens1 = opens_then f (moves_one Place.Sexp (Mode.Operator e) 105 w (Mode.Infinity 1) Keep.Nothing (λ s u. refl) (λ c. i_opens e n))
 
   opens2 : Opens Place.Sexp colon (w ++ 105 ∷ 110 ∷ []) (Mode.Infinity 2) w
   opens2 = subst (λ l. Opens Place.Sexp colon l (Mode.Infinity 2) w) (append_assoc w (105 ∷ []) (110 ∷ []))
-      (opens_then Place.Sexp colon (w ++ 105 ∷ []) (110 ∷ []) (Mode.Infinity 1) (Mode.Infinity 2) w w opens1 (letter_on w 1 2 110 refl))
+      (opens_then opens1 (letter_on w 1 2 110 refl))
 
   opens3 : Opens Place.Sexp colon (w ++ 105 ∷ 110 ∷ 102 ∷ []) (Mode.Infinity 3) w
   opens3 = subst (λ l. Opens Place.Sexp colon l (Mode.Infinity 3) w) (append_assoc w (105 ∷ 110 ∷ []) (102 ∷ []))
-      (opens_then Place.Sexp colon (w ++ 105 ∷ 110 ∷ []) (102 ∷ []) (Mode.Infinity 2) (Mode.Infinity 3) w w opens2 (letter_on w 2 3 102 refl))
+      (opens_then opens2 (letter_on w 2 3 102 refl))
 
   three : (rest : List ℕ) → begins_infinity (105 ∷ 110 ∷ 102 ∷ rest) ≡ false → Read colon w (105 ∷ 110 ∷ 102 ∷ rest)
   three [] h = absurd (true≢false h)
@@ -171,7 +160,7 @@ takes_infinity colon w e rest f n h = one rest h where
   two [] h = Open refl refl resumes_in (λ start used. (
     at (Mode.Infinity 2) w colon used (used + length (w ++ 105 ∷ 110 ∷ [])),
     refl,
-    ap (λ l. run Place.Sexp l (blank colon start used)) (sym (append-nil (w ++ 105 ∷ 110 ∷ []))) ∙ opens2 start used [],
+    ap (λ l. run Place.Sexp l (blank colon start used)) (sym (append-nil (w ++ 105 ∷ 110 ∷ []))) ∙ opens2.on start used [],
     refl,
   ))
   two (x ∷ rest) h = ⊎_elim (λ (i : x ≡ 102). subst (λ (y : ℕ). Read colon w (105 ∷ 110 ∷ y ∷ rest)) (sym i)
@@ -182,7 +171,7 @@ takes_infinity colon w e rest f n h = one rest h where
   one [] h = Open refl refl resumes_i (λ start used. (
     at (Mode.Infinity 1) w colon used (used + length (w ++ 105 ∷ [])),
     refl,
-    ap (λ l. run Place.Sexp l (blank colon start used)) (sym (append-nil (w ++ 105 ∷ []))) ∙ opens1 start used [],
+    ap (λ l. run Place.Sexp l (blank colon start used)) (sym (append-nil (w ++ 105 ∷ []))) ∙ opens1.on start used [],
     refl,
   ))
   one (x ∷ rest) h = ⊎_elim (λ (i : x ≡ 110). subst (λ (y : ℕ). Read colon w (105 ∷ y ∷ rest)) (sym i)
@@ -193,7 +182,7 @@ takes_infinity colon w e rest f n h = one rest h where
 comment_ends : (colon : Bool) (w : List ℕ) (e : Ending) (rest : List ℕ) → Run colon w e → begins_comment (47 ∷ rest) ≡ true → Read colon w (47 ∷ rest)
 comment_ends colon w e [] f h = absurd (false≢true h)
 comment_ends colon w e (x ∷ rest) f h = takes_before_slash Place.Sexp colon w x rest TokenKind.Operator Mode.OperatorSlash w (λ s u. refl)
-    (opens_then Place.Sexp colon w (47 ∷ []) (Mode.Operator e) Mode.OperatorSlash w w f (slash_one w e)) (λ c. rw h)
+    (opens_then f (slash_one w e)) (λ c. rw h)
 
 comment_first : (x : ℕ) (rest : List ℕ) → begins_comment (x ∷ rest) ≡ true → x ≡ 47
 comment_first x rest h = eqb-true x 47 (and_parts (x == 47) (begins (λ p. (p == 47) || (p == 42)) rest) h).0
@@ -281,17 +270,17 @@ slash_first : (c : ℕ) → is_operator_octet c ≡ true → c ≢ 47 → c ≢ 
 slash_first c h n m = grind (arith, nat_tests)
 
 opens_slashed : (colon : Bool) (c : ℕ) → is_operator_octet c ≡ true → c ≢ 47 → c ≢ 42 → Run colon (47 ∷ c ∷ []) (run_ending c)
-opens_slashed colon c h n m = λ start used r.
-    let two : (used + 1) + 1 ≡ used + 2 = omega arith in
-    let one : (used + 1) - 1 ≡ used = omega arith in
-    ap (λ a. follow (acts Place.Sexp (at Mode.Slash [] colon used (used + 1)) c a) (λ t. run Place.Sexp r t)) (slash_first c h n m)
-    ∙ (λ i. run Place.Sexp r (at (Mode.Operator (run_ending c)) (47 ∷ c ∷ []) colon (one i) (two i)))
+opens_slashed colon c h n m = record {
+  on = λ start used r.
+      let two : (used + 1) + 1 ≡ used + 2 = omega arith in
+      let one : (used + 1) - 1 ≡ used = omega arith in
+      ap (λ a. follow (acts Place.Sexp (at Mode.Slash [] colon used (used + 1)) c a) (λ t. run Place.Sexp r t)) (slash_first c h n m)
+      ∙ (λ i. run Place.Sexp r (at (Mode.Operator (run_ending c)) (47 ∷ c ∷ []) colon (one i) (two i)));
+}
 
 run_on : (colon : Bool) (front os r : List ℕ) (e : Ending) → Run colon front e → OpTo front e os r → IsOperator (front ++ os) r → Read colon (front ++ os) r
-run_on colon front os r e f (InRun e' h m) o = run_read colon (front ++ os) e' r
-    (opens_then Place.Sexp colon front os (Mode.Operator e) (Mode.Operator e') front (front ++ os) f m) h o
-run_on colon front os r e f (InSlash kept h c m) o = slash_read colon (front ++ os) kept r h
-    (opens_then Place.Sexp colon front os (Mode.Operator e) Mode.OperatorSlash front kept f m) c o
+run_on colon front os r e f (InRun e' h m) o = run_read colon (front ++ os) e' r (opens_then f m) h o
+run_on colon front os r e f (InSlash kept h c m) o = slash_read colon (front ++ os) kept r h (opens_then f m) c o
 
 lone_slash : (colon : Bool) (r : List ℕ) → IsOperator (47 ∷ []) r → Read colon (47 ∷ []) r
 lone_slash colon [] o = AtEnd refl (λ start used. (
@@ -356,17 +345,13 @@ plain_moves : (os front : List ℕ) (e : Ending) → Each is_plain_operator os
     → (e' : Ending) × Moves Place.Sexp (Mode.Operator e) front os (Mode.Operator e') (front ++ os)
 plain_moves [] front e h = (
   e,
-  moves_to Place.Sexp (Mode.Operator e) (Mode.Operator e) [] front front (front ++ []) (sym (append-nil front))
-      (moves_none Place.Sexp (Mode.Operator e) front),
+  moves_to (sym (append-nil front)) (moves_none),
 )
 plain_moves (o ∷ os) front e h =
     let is = plain_is o h.0 in
     let m = plain_moves os (front ++ o ∷ []) (run_ending o) h.1 in (
       m.0,
-      moves_to Place.Sexp (Mode.Operator e) (Mode.Operator m.0) (o ∷ os) front ((front ++ o ∷ []) ++ os) (front ++ o ∷ os)
-          (append_assoc front (o ∷ []) os)
-          (moves_then Place.Sexp (Mode.Operator e) (Mode.Operator (run_ending o)) (Mode.Operator m.0) (o ∷ []) os front (front ++ o ∷ [])
-          ((front ++ o ∷ []) ++ os) (op_one front e o is.0 is.1) m.1),
+      moves_to (append_assoc front (o ∷ []) os) (moves_then (op_one front e o is.0 is.1) m.1),
     )
 
 -- such octets open an operator
@@ -377,6 +362,5 @@ plain_opens colon (o ∷ os) some h =
     let is = plain_is o h.0 in
     let m = plain_moves os (o ∷ []) (first_ending o) h.1 in (
       m.0,
-      opens_then Place.Sexp colon (o ∷ []) os (Mode.Operator (first_ending o)) (Mode.Operator m.0) (o ∷ []) (o ∷ os)
-          (opens_one Place.Sexp colon o (Mode.Operator (first_ending o)) (Keep.One o) (op_first colon o is.0 is.1)) m.1,
+      opens_then (opens_one Place.Sexp colon o (Mode.Operator (first_ending o)) (Keep.One o) (op_first colon o is.0 is.1)) m.1,
     )

@@ -24,10 +24,8 @@ pub takes_short : (p : Place) (colon : Bool) (content octets r : List ℕ) → I
     → Takes p colon ((34 ∷ content) ++ 34 ∷ []) r TokenKind.ShortString octets
 takes_short p colon content octets r q =
     let c = read_content p Style.ShortString content octets [] q in
-    takes_now p colon (34 ∷ content) 34 r TokenKind.ShortString (Mode.Text Style.ShortString c.0) octets Keep.Nothing (λ s u. refl)
-    (opens_then p colon (34 ∷ []) content (Mode.Text Style.ShortString Within.Plain) (Mode.Text Style.ShortString c.0) [] octets
-    (opens_one p colon 34 (Mode.Text Style.ShortString Within.Plain) Keep.Nothing refl) c.2)
-    (λ b. short_close c.0 c.1)
+    takes_now p colon (34 ∷ content) 34 r TokenKind.ShortString (Mode.Text Style.ShortString c.0) octets Keep.Nothing (λ s u. refl) (opens_then
+    (opens_one p colon 34 (Mode.Text Style.ShortString Within.Plain) Keep.Nothing refl) c.2) (λ b. short_close c.0 c.1)
 
 -- quoted symbols
 symbol_close : (v : Within) → Ended v → in_text Style.QuotedSymbol v 39 ≡ Action.Give TokenKind.QuotedSymbol Keep.Nothing
@@ -73,10 +71,12 @@ same_quote p colon start used o f _ = refl
 pub from_quote : (p : Place) (content octets : List ℕ) (v : Within) → content ≢ [] → BeginsOther content
     → GoesInText p Style.QuotedSymbol Within.Plain [] content v octets → Moves p Mode.Quote [] content (Mode.Text Style.QuotedSymbol v) octets
 from_quote p [] octets v some other f = absurd (some refl)
-from_quote p (o ∷ os) octets v some other f = λ colon start used r.
-    ap (λ b. follow (acts p (at Mode.Quote [] colon start used) o (cond b (go Mode.Quotes) (raw Style.QuotedSymbol o))) (λ t. run p (os ++ r) t))
-    (ne_eqb o 39 other)
-    ∙ same_quote p colon start used o (λ t. run p (os ++ r) t) (raw Style.QuotedSymbol o) ∙ f colon start used r
+from_quote p (o ∷ os) octets v some other f = record {
+  on = λ colon start used r.
+      ap (λ b. follow (acts p (at Mode.Quote [] colon start used) o (cond b (go Mode.Quotes) (raw Style.QuotedSymbol o))) (λ t. run p (os ++ r) t))
+      (ne_eqb o 39 other)
+      ∙ same_quote p colon start used o (λ t. run p (os ++ r) t) (raw Style.QuotedSymbol o) ∙ f.on colon start used r;
+}
 
 -- behind two single quotes an octet that is none ends the empty symbol
 pub quotes_end : (x : ℕ) → (x == 39) ≡ false → (c : Bool) (p : Place) → next p c Mode.Quotes x ≡ Action.Before TokenKind.QuotedSymbol Keep.Nothing Mode.Blank
@@ -84,8 +84,7 @@ quotes_end x h c p = rw h
 
 -- two single quotes open the empty symbol or a segment of a long string
 pub opens_quotes : (p : Place) (colon : Bool) → Opens p colon (39 ∷ 39 ∷ []) Mode.Quotes []
-opens_quotes p colon = opens_then p colon (39 ∷ []) (39 ∷ []) Mode.Quote Mode.Quotes [] [] (opens_quote p colon)
-    (moves_one p Mode.Quote 39 [] Mode.Quotes Keep.Nothing (λ s u. refl) (λ c. refl))
+opens_quotes p colon = opens_then (opens_quote p colon) (moves_one p Mode.Quote 39 [] Mode.Quotes Keep.Nothing (λ s u. refl) (λ c. refl))
 
 takes_empty : (p : Place) (colon : Bool) (r : List ℕ) → begins (λ o. o == 39) r ≡ false → Takes p colon (39 ∷ 39 ∷ []) r TokenKind.QuotedSymbol []
 takes_empty p colon [] h = takes_end p colon (39 ∷ 39 ∷ []) TokenKind.QuotedSymbol Mode.Quotes [] [] (opens_quotes p colon) (λ start used. refl)
@@ -114,9 +113,8 @@ takes_symbol p colon (x ∷ content) octets r q h =
     let c = read_content p Style.QuotedSymbol (x ∷ content) octets [] q in
     let P : List ℕ → Type 0 = BeginsOther in
     takes_now p colon (39 ∷ x ∷ content) 39 r TokenKind.QuotedSymbol (Mode.Text Style.QuotedSymbol c.0) octets Keep.Nothing (λ s u. refl)
-    (opens_then p colon (39 ∷ []) (x ∷ content) Mode.Quote (Mode.Text Style.QuotedSymbol c.0) [] octets (opens_quote p colon)
-    (from_quote p (x ∷ content) octets c.0 (λ f. cc) (subst P (sym q.spelled) (elements_other q.elements q.each)) c.2))
-    (λ b. symbol_close c.0 c.1)
+    (opens_then (opens_quote p colon)
+    (from_quote p (x ∷ content) octets c.0 (λ f. cc) (subst P (sym q.spelled) (elements_other q.elements q.each)) c.2)) (λ b. symbol_close c.0 c.1)
 
 -- long strings
 ended_quote : (s : Style) (v : Within) → is_long s ≡ true → Ended v → in_text s v 39 ≡ Action.Go (Mode.Text s Within.OneQuote) (Keep.One 39)
@@ -129,10 +127,7 @@ pub long_quotes : (p : Place) (s : Style) (v : Within) (content kept kept' : Lis
     → Moves p (Mode.Text s Within.Plain) kept content (Mode.Text s v) kept'
     → Moves p (Mode.Text s Within.Plain) kept (content ++ 39 ∷ 39 ∷ []) (Mode.Text s Within.TwoQuotes) ((kept' ++ 39 ∷ []) ++ 39 ∷ [])
 long_quotes p s v content kept kept' l ended moves =
-    moves_then p (Mode.Text s Within.Plain) (Mode.Text s v) (Mode.Text s Within.TwoQuotes) content (39 ∷ 39 ∷ []) kept kept'
-    ((kept' ++ 39 ∷ []) ++ 39 ∷ []) moves
-    (moves_then p (Mode.Text s v) (Mode.Text s Within.OneQuote) (Mode.Text s Within.TwoQuotes) (39 ∷ []) (39 ∷ []) kept'
-    (kept' ++ 39 ∷ []) ((kept' ++ 39 ∷ []) ++ 39 ∷ [])
+    moves_then moves (moves_then
     (moves_one p (Mode.Text s v) 39 kept' (Mode.Text s Within.OneQuote) (Keep.One 39) (λ a b. refl) (λ b. ended_quote s v l ended))
     (moves_one p (Mode.Text s Within.OneQuote) 39 (kept' ++ 39 ∷ []) (Mode.Text s Within.TwoQuotes) (Keep.One 39) (λ a b. refl) (λ b. refl)))
 
@@ -151,7 +146,7 @@ drops_two k a b =
 
 -- three quotes open a segment of a long string
 pub opens_long : (p : Place) (colon : Bool) → Opens p colon (39 ∷ 39 ∷ 39 ∷ []) (Mode.Text Style.LongString Within.Plain) []
-opens_long p colon = opens_then p colon (39 ∷ 39 ∷ []) (39 ∷ []) Mode.Quotes (Mode.Text Style.LongString Within.Plain) [] [] (opens_quotes p colon)
+opens_long p colon = opens_then (opens_quotes p colon)
     (moves_one p Mode.Quotes 39 [] (Mode.Text Style.LongString Within.Plain) Keep.Nothing (λ s u. refl) (λ c. refl))
 
 long_cut : (content : List ℕ) → (39 ∷ 39 ∷ 39 ∷ (content ++ 39 ∷ 39 ∷ [])) ++ 39 ∷ [] ≡ codes "'''" ++ content ++ codes "'''"
@@ -164,8 +159,5 @@ takes_long p colon content octets r q =
     subst (λ l. Takes p colon l r TokenKind.LongString octets) (long_cut content)
     (subst (λ l. Takes p colon ((39 ∷ 39 ∷ 39 ∷ (content ++ 39 ∷ 39 ∷ [])) ++ 39 ∷ []) r TokenKind.LongString l) (drops_two octets 39 39)
     (takes_now p colon (39 ∷ 39 ∷ 39 ∷ (content ++ 39 ∷ 39 ∷ [])) 39 r TokenKind.LongString (Mode.Text Style.LongString Within.TwoQuotes)
-    ((octets ++ 39 ∷ []) ++ 39 ∷ []) Keep.DropQuotes (λ s u. refl)
-    (opens_then p colon (39 ∷ 39 ∷ 39 ∷ []) (content ++ 39 ∷ 39 ∷ []) (Mode.Text Style.LongString Within.Plain)
-    (Mode.Text Style.LongString Within.TwoQuotes) [] ((octets ++ 39 ∷ []) ++ 39 ∷ []) (opens_long p colon)
-    (long_content p Style.LongString content octets [] refl q))
-    (λ b. refl)))
+    ((octets ++ 39 ∷ []) ++ 39 ∷ []) Keep.DropQuotes (λ s u. refl) (opens_then (opens_long p colon)
+    (long_content p Style.LongString content octets [] refl q)) (λ b. refl)))

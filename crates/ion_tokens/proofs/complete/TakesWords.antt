@@ -19,8 +19,7 @@ word_ends o h = ap (λ b. cond b (add Mode.Word o) Action.EndWord) h
 -- from a blank the octets of a word open it, and all of them are kept
 pub opens_word : (p : Place) (colon : Bool) (w : List ℕ) → IsWord w → Opens p colon w Mode.Word w
 opens_word p colon [] h = absurd (false≢true h.0)
-opens_word p colon (o ∷ os) h = opens_then p colon (o ∷ []) os Mode.Word Mode.Word (o ∷ []) (o ∷ os)
-    (opens_one p colon o Mode.Word (Keep.One o) (grind (arith, nat_tests, h.0)))
+opens_word p colon (o ∷ os) h = opens_then (opens_one p colon o Mode.Word (Keep.One o) (grind (arith, nat_tests, h.0)))
     (moves_each p Mode.Word is_word_octet os (o ∷ []) (λ s u. refl) (λ x g c. word_more x g) h.1.1)
 
 -- the octet behind isn't the dot of a typed null
@@ -37,7 +36,7 @@ takes_word p colon w [] h ends dot = takes_end p colon w TokenKind.Word Mode.Wor
 takes_word p colon w (x ∷ r) h ends dot = Later [] x r Mode.Blank [] refl resumes_none (λ start used.
     let none : used + length w ≡ (used + length w) + length {A = ℕ} [] = omega arith in
     let s : Known = at Mode.Word w colon used (used + length w) in
-    opens_word p colon w h start used (x ∷ r)
+    (opens_word p colon w h).on start used (x ∷ r)
     ∙ ap (λ a. follow (acts p s x a) (λ t. run p r t)) (word_ends x ends)
     ∙ ap (λ b. follow (cond b (Next (go_to s Mode.KindName []))
     (Left (cut s TokenKind.Word w (used + length w)) (past p TokenKind.Word Mode.Blank [] (used + length w) (used + length w)))) (λ t. run p r t)) (no_dot w x dot)
@@ -48,7 +47,7 @@ null_word : IsWord (codes "null")
 null_word = (refl, (refl, (refl, (refl, (refl, tt)))))
 
 dot_moves : (p : Place) → Moves p Mode.Word (codes "null") (46 ∷ []) Mode.KindName []
-dot_moves p colon start used r = refl
+dot_moves p = record { on = λ colon start used r. refl }
 
 kind_more : (o : ℕ) → is_word_octet o ≡ true → in_kind_name o ≡ Action.Go Mode.KindName (Keep.One o)
 kind_more o h = ap (λ b. cond b (add Mode.KindName o) (before TokenKind.KindName)) h
@@ -59,8 +58,7 @@ kind_ends o h = ap (λ b. cond b (add Mode.KindName o) (before TokenKind.KindNam
 
 -- from a blank `null.` and the octets of a name open a typed null, of which the name is kept
 pub opens_kind : (p : Place) (colon : Bool) (name : List ℕ) → Each is_word_octet name → Opens p colon (codes "null." ++ name) Mode.KindName name
-opens_kind p colon name h = opens_then p colon (codes "null.") name Mode.KindName Mode.KindName [] name
-    (opens_then p colon (codes "null") (46 ∷ []) Mode.Word Mode.KindName (codes "null") [] (opens_word p colon (codes "null") null_word) (dot_moves p))
+opens_kind p colon name h = opens_then (opens_then (opens_word p colon (codes "null") null_word) (dot_moves p))
     (moves_each p Mode.KindName is_word_octet name [] (λ s u. refl) (λ x g c. kind_more x g) h)
 
 -- `null.` and a name are read as that name, before no octet of a word
@@ -93,16 +91,13 @@ opens_number p colon (o ∷ os) n b h = by (is_digit o) refl where
   signed : (x : ℕ) (rest : List ℕ) → x ≡ 45 → begins is_digit rest ≡ true → Each (λ o. not (is_stop o || (o == 47))) rest
       → Opens p colon (x ∷ rest) Mode.Number (x ∷ rest)
   signed x [] e g k = absurd (false≢true g)
-  signed x (d ∷ rest) e g k = subst (λ (y : ℕ). Opens p colon (y ∷ d ∷ rest) Mode.Number (y ∷ d ∷ rest)) (sym e)
-      (opens_then p colon (45 ∷ d ∷ []) rest Mode.Number Mode.Number (45 ∷ d ∷ []) (45 ∷ d ∷ rest)
-      (opens_then p colon (45 ∷ []) (d ∷ []) (Mode.Operator Ending.LoneMinus) Mode.Number (45 ∷ []) (45 ∷ d ∷ [])
+  signed x (d ∷ rest) e g k = subst (λ (y : ℕ). Opens p colon (y ∷ d ∷ rest) Mode.Number (y ∷ d ∷ rest)) (sym e) (opens_then (opens_then
       (opens_one p colon 45 (Mode.Operator Ending.LoneMinus) (Keep.One 45) (grind (arith, nat_tests)))
       (moves_one p (Mode.Operator Ending.LoneMinus) d (45 ∷ []) Mode.Number (Keep.One d) (λ s u. refl) (λ c. rw g)))
       (digits_move p rest (45 ∷ d ∷ []) k.1))
 
   by : (c : Bool) → is_digit o ≡ c → Opens p colon (o ∷ os) Mode.Number (o ∷ os)
-  by true e = opens_then p colon (o ∷ []) os Mode.Number Mode.Number (o ∷ []) (o ∷ os)
-      (opens_one p colon o Mode.Number (Keep.One o) (digit_first p colon o n e)) (digits_move p os (o ∷ []) h.1)
+  by true e = opens_then (opens_one p colon o Mode.Number (Keep.One o) (digit_first p colon o n e)) (digits_move p os (o ∷ []) h.1)
   by false e =
       let both : ((o == 45) && begins is_digit os) ≡ true = sym (ap (λ c. c || ((o == 45) && begins is_digit os)) e) ∙ b in
       let parts = and_parts (o == 45) (begins is_digit os) both in
@@ -121,7 +116,7 @@ pub takes_before_slash : (p : Place) (colon : Bool) (w : List ℕ) (x : ℕ) (r 
 takes_before_slash p colon w x r kind m kept stays f e = Later (47 ∷ []) x r Mode.Slash [] refl resumes_slash (λ start used.
     let longer : used + length (w ++ 47 ∷ []) ≡ (used + length w) + 1 = omega (arith, length-append w (47 ∷ [])) in
     let one : ((used + length w) + 1) - 1 ≡ used + length w = omega arith in
-    ap (λ os. run p os (blank colon start used)) (sym (append_assoc w (47 ∷ []) (x ∷ r))) ∙ f start used (x ∷ r)
+    ap (λ os. run p os (blank colon start used)) (sym (append_assoc w (47 ∷ []) (x ∷ r))) ∙ f.on start used (x ∷ r)
     ∙ ap (λ (n : ℕ). run p (x ∷ r) (at m kept colon used n)) longer
     ∙ ap (λ a. follow (acts p (at m kept colon used ((used + length w) + 1)) x a) (λ t. run p r t)) (e colon)
     ∙ ap (λ (n : ℕ). Left (record { start = n; end = ((used + length w) + 1) - 1; kind = kind; octets = kept })
@@ -139,8 +134,7 @@ takes_number p colon w (x ∷ r) n h = ⊎_elim (λ e. cc) (λ e. ⊎_elim stop 
   comment x [] e = absurd (false≢true ((and_parts (x == 47) false e).1))
   comment x (y ∷ r) e = subst (λ (z : ℕ). Takes p colon w (z ∷ y ∷ r) TokenKind.Number w) (sym (eqb-true x 47 (and_parts (x == 47) _ e).0))
       (takes_before_slash p colon w y r TokenKind.Number Mode.NumberSlash w (λ s u. refl)
-      (opens_then p colon w (47 ∷ []) Mode.Number Mode.NumberSlash w w (opens_number p colon w n h.begun h.each) (slash_goes p w))
-      (λ c. rw (and_parts (x == 47) ((y == 47) || (y == 42)) e).1))
+      (opens_then (opens_number p colon w n h.begun h.each) (slash_goes p w)) (λ c. rw (and_parts (x == 47) ((y == 47) || (y == 42)) e).1))
 
 -- marks
 mark_one : (p : Place) (colon : Bool) (o : ℕ) (m : Mark) (r : List ℕ) → in_blank p colon o ≡ give m → Takes p colon (o ∷ []) r (TokenKind.Mark m) []

@@ -11,17 +11,17 @@ use lib.Utf8.{encode}
 use Rattle.ion_tokens.specs.Names.{AreKept, FoundToken, Hex, IsElement, IsFound, IsHexAfter, Keep, LeadsOn, Mode, Place, Rest, StandsWhole, Style, TokenKind, Within, hex_length, is_clob, is_high, is_low, is_word_octet}
 use Rattle.ion_tokens.specs.Octets.{escaped}
 use Rattle.ion_tokens.specs.machine.Table.{next}
-use Rattle.ion_tokens.proofs.complete.Moves.{Opens}
+use Rattle.ion_tokens.proofs.complete.Moves.{Opens, moves_then}
 use Rattle.ion_tokens.proofs.complete.TakesTexts.{opens_quotes, quotes_end}
 use Rattle.ion_tokens.proofs.complete.TakesWords.{kind_ends, opens_kind}
 use Rattle.ion_tokens.proofs.runs.WholeTokens.{front_each, front_stops, opened_left}
 use Rattle.ion_tokens.proofs.texts.Characters.{kept_goes}
-use Rattle.ion_tokens.proofs.texts.TextElements.{goes_one, goes_then, read_hex, read_pair}
+use Rattle.ion_tokens.proofs.texts.TextElements.{goes_one, read_hex, read_pair, led}
 use Rattle.ion_tokens.proofs.texts.TextSteps.{in_simple}
 
 -- octets that a text keeps as they are lead on, and are kept
 pub characters_lead : (s : Style) (w kept kept' : List ℕ) → AreKept s w → kept' ≡ kept ++ w → LeadsOn s w kept kept'
-characters_lead s w kept kept' h e = subst (LeadsOn s w kept) (sym e) (λ p. kept_goes p s w kept h)
+characters_lead s w kept kept' h e = subst (LeadsOn s w kept) (sym e) (λ p. (kept_goes p s w kept h).on)
 
 -- a backslash and a letter lead on, and what the letter means is kept
 pub escape_leads : (s : Style) (octets kept kept' : List ℕ) (o : ℕ) → 1 < length octets → slice_index octets 0 ≡ 92 → escaped (slice_index octets 1) ≡ Some o
@@ -29,11 +29,9 @@ pub escape_leads : (s : Style) (octets kept kept' : List ℕ) (o : ℕ) → 1 < 
 escape_leads s [] kept kept' o more slash means e = absurd (omega arith)
 escape_leads s (x ∷ []) kept kept' o more slash means e = absurd (omega arith)
 escape_leads s (x ∷ letter ∷ octets) kept kept' o more slash means e =
-    subst (LeadsOn s (x ∷ letter ∷ []) kept) (sym e)
-    (subst (λ (y : ℕ). LeadsOn s (y ∷ letter ∷ []) kept (kept ++ o ∷ [])) (sym slash)
-    (λ p. goes_then p s Within.Plain Within.Escape Within.Plain (92 ∷ []) (letter ∷ []) kept kept (kept ++ o ∷ [])
-    (goes_one p s Within.Plain 92 kept Within.Escape Keep.Nothing refl)
-    (goes_one p s Within.Escape letter kept Within.Plain (Keep.One o) (in_simple s letter o means))))
+    subst (LeadsOn s (x ∷ letter ∷ []) kept) (sym e) (subst (λ (y : ℕ). LeadsOn s (y ∷ letter ∷ []) kept (kept ++ o ∷ [])) (sym slash)
+    (λ p. (moves_then (goes_one p s Within.Plain 92 kept Within.Escape Keep.Nothing refl)
+    (goes_one p s Within.Escape letter kept Within.Plain (Keep.One o) (in_simple s letter o means))).on))
 
 -- a backslash, a letter and digits lead on, and what their number means is kept
 pub digits_lead : (s : Style) (octets digits kept kept' : List ℕ) (n c : ℕ) → slice_index octets 0 ≡ 92 → n + 2 ≤ length octets
@@ -49,9 +47,8 @@ digits_lead s (x ∷ letter ∷ octets) digits kept kept' n c slash fits are siz
     let element : IsElement s (Hex letter os c) =
     (size ∙ ap (λ (i : ℕ). Some i) (sym all), subst (λ ds. IsHexAfter 0 ds c) are number, scalar, clob) in
     subst (λ l. LeadsOn s (take (n + 2) (x ∷ letter ∷ octets)) kept l) (sym e)
-    (subst (λ (i : ℕ). LeadsOn s (take i (x ∷ letter ∷ octets)) kept end) two
-    (subst (λ (y : ℕ). LeadsOn s (y ∷ letter ∷ os) kept end) (sym slash)
-    (λ p. read_hex p s Within.Plain kept letter os c tt element)))
+    (subst (λ (i : ℕ). LeadsOn s (take i (x ∷ letter ∷ octets)) kept end) two (subst (λ (y : ℕ). LeadsOn s (y ∷ letter ∷ os) kept end) (sym slash)
+    (λ p. (read_hex p s Within.Plain kept letter os c tt element).on)))
 
 pair_leads_on : (s : Style) (first second kept : List ℕ) (h l : ℕ) → is_clob s ≡ false → length first ≡ 4 → length second ≡ 4
     → IsHexAfter 0 first h → IsHexAfter 0 second l → is_high h ≡ true → is_low l ≡ true
@@ -59,7 +56,7 @@ pair_leads_on : (s : Style) (first second kept : List ℕ) (h l : ℕ) → is_cl
 pair_leads_on s first second kept h l text four four' high low is_h is_l =
     let above : h ≡ 0xd800 + (h - 0xd800) = grind (arith, nat_tests) in
     let above' : l ≡ 0xdc00 + (l - 0xdc00) = grind (arith, nat_tests) in
-    λ p. read_pair p s Within.Plain kept first second (h - 0xd800) (l - 0xdc00) tt (
+    λ p. (read_pair p s Within.Plain kept first second (h - 0xd800) (l - 0xdc00) tt (
       text,
       four,
       four',
@@ -67,7 +64,7 @@ pair_leads_on s first second kept h l text four four' high low is_h is_l =
       grind (arith, nat_tests),
       subst (λ (n : ℕ). IsHexAfter 0 second n) above' low,
       grind (arith, nat_tests),
-    )
+    )).on
 
 -- two escapes of a surrogate pair lead on, and their character is kept
 pub pair_leads : (s : Style) (octets first second kept kept' : List ℕ) (h l : ℕ) → is_clob s ≡ false → take 6 octets ≡ 92 ∷ 117 ∷ first
@@ -89,7 +86,7 @@ pub leads_then : (s : Style) (octets rest kept kept' kept'' : List ℕ) (at n : 
     → LeadsOn s (take n rest) kept' kept'' → LeadsOn s (take (at + n) octets) kept kept''
 leads_then s octets rest kept kept' kept'' at n is f g =
     subst (λ w. LeadsOn s w kept kept'') (ap (λ w. take at octets ++ take n w) is ∙ sym (take-add at n octets))
-    (λ p. goes_then p s Within.Plain Within.Plain Within.Plain (take at octets) (take n rest) kept kept' kept'' (f p) (g p))
+    (λ p. (moves_then (led s (take at octets) kept kept' f p) (led s (take n rest) kept' kept'' g p)).on)
 
 -- a token that was found is known by what it has
 pub found_as : (p : Place) (r : Rest) (octets kept kept' : List ℕ) (found : FoundToken) (kind : TokenKind) (n : ℕ) (left : Bool)

@@ -92,7 +92,7 @@ run_over p s w some h = by s.mode s.kept s.colon s.start s.used h where
       ≡ Next (gone_on (record { mode = m; kept = kept; colon = colon; start = start; used = used }) w)
   by (Mode.Text style Within.Plain) kept colon start used h =
       ap (λ l. run p l (record { mode = Mode.Text style Within.Plain; kept = kept; colon = colon; start = start; used = used })) (sym (append-nil w))
-      ∙ kept_goes p style w kept h colon start used []
+      ∙ (kept_goes p style w kept h).on colon start used []
   by m kept colon start used h = run_on p (record { mode = m; kept = kept; colon = colon; start = start; used = used }) w some h
 
 -- where all octets are used, the first one is

@@ -6,7 +6,7 @@ use Rattle.std.proofs.lemmas.Bool.Decides.{nat_tests}
 use Rattle.std.proofs.Math.Seq.{take-add, take-append_seam}
 use Rattle.std.proofs.lemmas.List.{get_or-drop, length-take-le}
 use Rattle.std.proofs.lemmas.List.Elements.{filter-append}
-use Rattle.ion_tokens.specs.Names.{AddsBase64, AddsSegments, Each, IsFound, Keep, LeadsOn, Lob, Mode, Place, Rest, Style, TokenKind, Within, blob_of, is_base64, is_name, is_white}
+use Rattle.ion_tokens.specs.Names.{AddsBase64, AddsSegments, BeginsSegment, Each, IsFound, Keep, LeadsOn, Lob, Mode, Place, Rest, Style, TokenKind, Within, blob_of, is_base64, is_name, is_white}
 use Rattle.ion_tokens.specs.machine.Table.{next}
 use Rattle.ion_tokens.specs.laws.Each.{each_append}
 use Rattle.ion_tokens.proofs.complete.Moves.{Moves, Opens, moves_one, moves_then, opens_then}
@@ -14,6 +14,7 @@ use Rattle.ion_tokens.proofs.complete.TakesLobs.{opens_blob, opens_lob, segment_
 use Rattle.ion_tokens.proofs.runs.WholeTokens.{front_each, front_within, given_behind, opened_given}
 use Rattle.ion_tokens.proofs.sound.Opens.{AnyBlob, solid}
 use Rattle.ion_tokens.proofs.sound.TurnsLobs.{base_any, solid_none, white_any}
+use Rattle.ion_tokens.proofs.texts.TextElements.{led}
 
 base64_in : (os : List ℕ) → Each is_base64 os → Each AnyBlob os × (solid os ≡ os)
 base64_in [] h = (tt, refl)
@@ -91,8 +92,7 @@ clob_closes content us kept p name moves r =
     let whole : front ++ 125 ∷ us ≡ 123 ∷ 123 ∷ (content ++ 125 ∷ 125 ∷ us) = ap (λ l. 123 ∷ 123 ∷ l) (append_assoc content (125 ∷ []) (125 ∷ us)) in
     subst (λ (i : ℕ). IsFound p r (123 ∷ 123 ∷ (content ++ 125 ∷ 125 ∷ us)) TokenKind.Clob kept i false) size
     (subst (λ l. IsFound p r l TokenKind.Clob kept (length front + 1) false) whole
-    (given_behind p r front us 125 TokenKind.Clob (Mode.Lob Lob.ClobClose) kept Keep.Nothing
-    (opens_then p r.colon (123 ∷ 123 ∷ []) (content ++ 125 ∷ []) (Mode.Lob Lob.Start) (Mode.Lob Lob.ClobClose) [] kept (opens_lob p r.colon name) moves)
+    (given_behind p r front us 125 TokenKind.Clob (Mode.Lob Lob.ClobClose) kept Keep.Nothing (opens_then (opens_lob p r.colon name) moves)
     (λ s u. refl) refl))
 
 short_closes : (before text after us kept : List ℕ) → Each is_white before → LeadsOn Style.ShortClob text [] kept → Each is_white after
@@ -107,7 +107,7 @@ short_closes before text after us kept b leads a p name r =
     append_assoc (before ++ (34 ∷ text)) (34 ∷ after) (125 ∷ 125 ∷ us) ∙ append_assoc before (34 ∷ text) (34 ∷ (after ++ 125 ∷ 125 ∷ us)) in
     subst (λ (i : ℕ). IsFound p r (123 ∷ 123 ∷ (before ++ 34 ∷ (text ++ 34 ∷ (after ++ 125 ∷ 125 ∷ us)))) TokenKind.Clob kept i false) size
     (subst (λ l. IsFound p r (123 ∷ 123 ∷ l) TokenKind.Clob kept (length content + 4) false) whole
-    (clob_closes content us kept p name (short_leads p before text after kept Within.Plain b tt (leads p) a) r))
+    (clob_closes content us kept p name (short_leads p before text after kept Within.Plain b tt (led Style.ShortClob text [] kept leads p) a) r))
 
 -- a text that leads on up to its quote, with white space around, stands whole between two braces and two as a clob
 pub clob_stands : (content text rest us kept : List ℕ) (b n a : ℕ) → b ≡ length (take_while is_white content) → drop b content ≡ 34 ∷ text
@@ -134,6 +134,11 @@ clob_stands content text rest us kept b n a before opens more quote leads is aft
     (short_closes (take b content) (take n text) (take a rest) us kept (front_each is_white content b before) leads
     (front_each is_white rest a after) p name r))
 
+-- octets that add segments do so from each place
+added : (l : Lob) (octets kept kept' : List ℕ) → BeginsSegment l → AddsSegments octets kept kept' → (p : Place)
+    → Moves p (Mode.Lob l) kept octets (Mode.Lob Lob.AfterLong) kept'
+added l octets kept kept' b f p = record { on = f l b p }
+
 -- a segment, with white space behind it, adds what its text means
 pub segment_adds : (octets text rest kept kept' : List ℕ) (n w : ℕ) → octets ≡ 39 ∷ 39 ∷ 39 ∷ text → n < length text → drop n text ≡ 39 ∷ 39 ∷ 39 ∷ rest
     → w ≡ length (take_while is_white rest) → LeadsOn Style.LongClob (take n text) kept kept' → AddsSegments (take (n + 6 + w) octets) kept kept'
@@ -155,15 +160,14 @@ segment_adds octets text rest kept kept' n w opens more shuts white leads =
     let cut : spelled ≡ take (n + 6 + w) octets =
     sym (take-append_seam spelled (drop w rest)) ∙ ap (λ l. take (length spelled) l) whole ∙ ap (λ (i : ℕ). take i octets) size in
     subst (λ l. AddsSegments l kept kept') cut
-    (λ l b p. segment_leads p l Within.Plain (take n text) (take w rest) kept kept' b tt (leads p) (front_each is_white rest w white))
+    (λ l b p. (segment_leads p l Within.Plain (take n text) (take w rest) kept kept' b tt (led Style.LongClob (take n text) kept kept' leads p) (front_each is_white rest w white)).on)
 
 -- more segments behind some
 pub segments_then : (octets rest kept kept' kept'' : List ℕ) (at n : ℕ) → rest ≡ drop at octets → AddsSegments (take at octets) kept kept'
     → AddsSegments (take n rest) kept' kept'' → AddsSegments (take (at + n) octets) kept kept''
 segments_then octets rest kept kept' kept'' at n is f g =
     subst (λ w. AddsSegments w kept kept'') (ap (λ w. take at octets ++ take n w) is ∙ sym (take-add at n octets))
-    (λ l b p. moves_then p (Mode.Lob l) (Mode.Lob Lob.AfterLong) (Mode.Lob Lob.AfterLong) (take at octets) (take n rest) kept kept' kept'' (f l b p)
-    (g Lob.AfterLong tt p))
+    (λ l b p. (moves_then (added l (take at octets) kept kept' b f p) (added Lob.AfterLong (take n rest) kept' kept'' tt g p)).on)
 
 -- segments with white space before them stand whole between two braces and two as a clob
 pub long_clob_stands : (behind content us kept : List ℕ) (b n : ℕ) → b ≡ length (take_while is_white behind) → content ≡ drop b behind
@@ -182,9 +186,6 @@ long_clob_stands behind content us kept b n before is more shuts adds p name r =
     append_assoc (take b behind) (take n content) (125 ∷ 125 ∷ us) ∙ ap (λ l. take b behind ++ (take n content ++ l)) (sym shuts)
     ∙ ap (λ l. take b behind ++ l) (take-append-drop n content ∙ is) ∙ take-append-drop b behind in
     subst (λ (i : ℕ). IsFound p r (123 ∷ 123 ∷ behind) TokenKind.Clob kept i false) size
-    (subst (λ l. IsFound p r (123 ∷ 123 ∷ l) TokenKind.Clob kept (length front + 4) false) whole
-    (clob_closes front us kept p name
-    (moves_then p (Mode.Lob Lob.Start) (Mode.Lob Lob.AfterLong) (Mode.Lob Lob.ClobClose) front (125 ∷ []) [] kept kept
-    (moves_then p (Mode.Lob Lob.Start) (Mode.Lob Lob.Start) (Mode.Lob Lob.AfterLong) (take b behind) (take n content) [] [] kept
-    (white_moves p (take b behind) (front_each is_white behind b before)) (adds Lob.Start tt p))
+    (subst (λ l. IsFound p r (123 ∷ 123 ∷ l) TokenKind.Clob kept (length front + 4) false) whole (clob_closes front us kept p name (moves_then
+    (moves_then (white_moves p (take b behind) (front_each is_white behind b before)) (added Lob.Start (take n content) [] kept tt adds p))
     (moves_one p (Mode.Lob Lob.AfterLong) 125 kept (Mode.Lob Lob.ClobClose) Keep.Nothing (λ s u. refl) (λ c. refl))) r))

@@ -16,7 +16,7 @@ comment_rests : (octets w : List ℕ) (n : ℕ) → take n octets ≡ w → n �
 comment_rests octets w n is within opens r = record {
   ran =
       λ p.
-      ap (λ l. run p l (resting r)) (is ∙ sym (append-nil w)) ∙ opens p r.colon r.start r.used []
+      ap (λ l. run p l (resting r)) (is ∙ sym (append-nil w)) ∙ (opens p r.colon).on r.start r.used []
       ∙ ap (λ (i : ℕ). Next (at Mode.Blank [] r.colon r.used (r.used + i))) size;
   within = within;
   used = refl;

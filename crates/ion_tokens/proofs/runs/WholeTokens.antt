@@ -17,6 +17,7 @@ use Rattle.ion_tokens.proofs.complete.TakesTexts.{BeginsOther, drops_two, from_q
 use Rattle.ion_tokens.proofs.complete.TakesWords.{brace_ends, colon_ends, no_dot, number_stops, opens_brace, opens_colon, opens_number, opens_word, word_ends}
 use Rattle.ion_tokens.proofs.runs.GoesOn.{each_front, front_all, front_on, rest_is}
 use Rattle.ion_tokens.proofs.texts.Characters.{ascii_each, kept_goes}
+use Rattle.ion_tokens.proofs.texts.TextElements.{led}
 
 -- a blank
 
@@ -35,7 +36,7 @@ blank_passed octets n e p r = by n e where
 -- a token that is open behind these octets
 ran : (p : Place) (r : Rest) (w : List ℕ) (n : ℕ) (m : Mode) (kept : List ℕ) → Opens p r.colon w m kept → length w ≡ n
     → run p w (resting r) ≡ Next (at m kept r.colon r.used (r.used + n))
-ran p r w n m kept f e = ap (λ l. run p l (resting r)) (sym (append-nil w)) ∙ f r.start r.used []
+ran p r w n m kept f e = ap (λ l. run p l (resting r)) (sym (append-nil w)) ∙ f.on r.start r.used []
     ∙ ap (λ (i : ℕ). Next (at m kept r.colon r.used (r.used + i))) e
 
 -- the octet behind it ends it
@@ -229,7 +230,7 @@ string_stands content kept n more last leads p r =
     let size : suc n + 1 ≡ n + 2 = omega arith in
     subst (λ (i : ℕ). IsFound p r (34 ∷ content) TokenKind.ShortString kept i false) size
     (opened_given p r (34 ∷ content) (suc n) TokenKind.ShortString m kept Keep.Nothing
-    (opens_then p r.colon (34 ∷ []) (take n content) m m [] kept (opens_one p r.colon 34 m Keep.Nothing refl) (leads p))
+    (opens_then (opens_one p r.colon 34 m Keep.Nothing refl) (led Style.ShortString (take n content) [] kept leads p))
     (λ s u. refl) (omega arith) (ap (λ (x : ℕ). next p r.colon m x) last))
 
 -- so does what begins with no quote as a quoted symbol
@@ -240,9 +241,8 @@ symbol_closes content kept n more last full other leads p r =
     let m : Mode = Mode.Text Style.QuotedSymbol Within.Plain in
     let size : suc n + 1 ≡ n + 2 = omega arith in
     subst (λ (i : ℕ). IsFound p r (39 ∷ content) TokenKind.QuotedSymbol kept i false) size
-    (opened_given p r (39 ∷ content) (suc n) TokenKind.QuotedSymbol m kept Keep.Nothing
-    (opens_then p r.colon (39 ∷ []) (take n content) Mode.Quote m [] kept (opens_quote p r.colon)
-    (from_quote p (take n content) kept Within.Plain full other (leads p)))
+    (opened_given p r (39 ∷ content) (suc n) TokenKind.QuotedSymbol m kept Keep.Nothing (opens_then (opens_quote p r.colon)
+    (from_quote p (take n content) kept Within.Plain full other (led Style.QuotedSymbol (take n content) [] kept leads p)))
     (λ s u. refl) (omega arith) (ap (λ (x : ℕ). next p r.colon m x) last))
 
 full_front : (n : ℕ) (content : List ℕ) → n ≢ 0 → n < length content → take n content ≢ []
@@ -273,8 +273,7 @@ long_closes w us kept leads p r =
     (subst (λ l. IsFound p r l TokenKind.LongString kept (length front + 1) false) whole
     (subst (λ k. IsFound p r (front ++ 39 ∷ us) TokenKind.LongString k (length front + 1) false) (drops_two kept 39 39)
     (given_behind p r front us 39 TokenKind.LongString (Mode.Text Style.LongString Within.TwoQuotes) inside Keep.DropQuotes
-    (opens_then p r.colon (39 ∷ 39 ∷ 39 ∷ []) (w ++ 39 ∷ 39 ∷ []) (Mode.Text Style.LongString Within.Plain) (Mode.Text Style.LongString Within.TwoQuotes) []
-    inside (opens_long p r.colon) (long_quotes p Style.LongString Within.Plain w [] kept refl tt (leads p)))
+    (opens_then (opens_long p r.colon) (long_quotes p Style.LongString Within.Plain w [] kept refl tt (led Style.LongString w [] kept leads p)))
     (λ s u. refl) refl)))
 
 -- what leads on up to three quotes stands whole behind three as a segment of a long string
@@ -325,7 +324,7 @@ pub short_found : (octets : List ℕ) (n : ℕ) → 0 < length octets → slice_
 short_found octets n some first kept more last p r =
     let h = kept_behind Style.ShortString octets n kept more last in
     quoted_in octets 34 n TokenKind.ShortString p r some first
-    (string_stands (drop 1 octets) (take n (drop 1 octets)) n h.more h.last (λ q. kept_goes q Style.ShortString _ [] h.kept) p r)
+    (string_stands (drop 1 octets) (take n (drop 1 octets)) n h.more h.last (λ q. (kept_goes q Style.ShortString _ [] h.kept).on) p r)
 
 raw_begins : (w : List ℕ) → Each (is_raw false 39) w → BeginsOther w
 raw_begins [] h = tt
@@ -339,7 +338,7 @@ quoted_found octets n some first kept one more last p r =
     let h = kept_behind Style.QuotedSymbol octets n kept more last in
     quoted_in octets 39 n TokenKind.QuotedSymbol p r some first
     (symbol_closes (drop 1 octets) (take n (drop 1 octets)) n h.more h.last (full_front n _ one h.more) (raw_begins _ h.kept.0)
-    (λ q. kept_goes q Style.QuotedSymbol _ [] h.kept) p r)
+    (λ q. (kept_goes q Style.QuotedSymbol _ [] h.kept).on) p r)
 
 -- characters that are kept as they are, behind the first quote, are a text
 pub quoted_text : (s : Style) (octets : List ℕ) (n : ℕ) → AreKept s (take n (behind_first octets)) → IsUtf8 (take (n + 2 - 2) (drop 1 octets))
@@ -358,7 +357,7 @@ long_found octets content behind us n opens is kept within shuts p r =
     subst (λ o. IsFound p r o TokenKind.LongString (take (n + 6 - 6) (drop 3 octets)) (n + 6) false) all
     (subst (λ w. IsFound p r (39 ∷ 39 ∷ 39 ∷ content) TokenKind.LongString (take (n + 6 - 6) w) (n + 6) false) is
     (subst (λ (i : ℕ). IsFound p r (39 ∷ 39 ∷ 39 ∷ content) TokenKind.LongString (take i content) (n + 6) false) same
-    (segment_stands content (take n content) us n more shuts (λ q. kept_goes q Style.LongString _ [] kept) p r)))
+    (segment_stands content (take n content) us n more shuts (λ q. (kept_goes q Style.LongString _ [] kept).on) p r)))
 
 -- and says a text
 pub long_text : (octets content : List ℕ) (n : ℕ) → content ≡ drop 3 octets → AreKept Style.LongString (take n content)

@@ -10,8 +10,9 @@ use lib.Utf8.{encode, encodes, scalar, scalars, scalar_cases}
 use Rattle.ion_tokens.specs.Names.{Action, AreKept, Each, GoesOver, Keep, Mode, Place, Style, Within, goes_on, in_text, is_clob, is_long, is_plain, is_raw, quote_of, stands}
 use Rattle.ion_tokens.specs.laws.Each.{each_append, each_split}
 use Rattle.ion_tokens.proofs.texts.Encodings.{encoding, one, order}
-use Rattle.ion_tokens.proofs.texts.TextElements.{GoesInText, goes_none, goes_one, goes_then, goes_to, read_raw}
+use Rattle.ion_tokens.proofs.texts.TextElements.{GoesInText, goes_one, read_raw}
 use Rattle.ion_tokens.proofs.texts.TextSteps.{quote_small}
+use Rattle.ion_tokens.proofs.complete.Moves.{moves_none, moves_then, moves_to}
 
 -- octets of a class of ASCII
 pub ascii_each : (class : ℕ → Bool) (w : List ℕ) → ((o : ℕ) → class o ≡ true → o < 128) → Each class w → IsAscii w
@@ -109,20 +110,17 @@ one_kept p s c kept text u h = by (order c 128) where
 
 chars_kept : (p : Place) (s : Style) (cs kept : List ℕ) → is_clob s ≡ false → scalars cs ≡ true → Each (is_raw (is_long s) (quote_of s)) (encodes cs)
     → GoesInText p s Within.Plain kept (encodes cs) Within.Plain (kept ++ encodes cs)
-chars_kept p s [] kept text u h = goes_to p s Within.Plain Within.Plain [] kept kept (kept ++ []) (sym (append-nil kept)) (goes_none p s Within.Plain kept)
+chars_kept p s [] kept text u h = moves_to (sym (append-nil kept)) (moves_none)
 chars_kept p s (c ∷ cs) kept text u h =
     let parts = each_split (is_raw (is_long s) (quote_of s)) (encode c) (encodes cs) h in
     let each = and_parts (scalar c) (scalars cs) u in
-    goes_to p s Within.Plain Within.Plain (encode c ++ encodes cs) kept ((kept ++ encode c) ++ encodes cs) (kept ++ (encode c ++ encodes cs))
-    (append_assoc kept (encode c) (encodes cs))
-    (goes_then p s Within.Plain Within.Plain Within.Plain (encode c) (encodes cs) kept (kept ++ encode c) ((kept ++ encode c) ++ encodes cs)
+    moves_to (append_assoc kept (encode c) (encodes cs)) (moves_then
     (one_kept p s c kept text each.0 parts.0) (chars_kept p s cs (kept ++ encode c) text each.1 parts.1))
 
 each_kept : (p : Place) (s : Style) (w kept : List ℕ) → Each (is_plain s) w → GoesInText p s Within.Plain kept w Within.Plain (kept ++ w)
-each_kept p s [] kept h = goes_to p s Within.Plain Within.Plain [] kept kept (kept ++ []) (sym (append-nil kept)) (goes_none p s Within.Plain kept)
+each_kept p s [] kept h = moves_to (sym (append-nil kept)) (moves_none)
 each_kept p s (o ∷ os) kept h =
-    goes_to p s Within.Plain Within.Plain (o ∷ os) kept ((kept ++ o ∷ []) ++ os) (kept ++ o ∷ os) (append_assoc kept (o ∷ []) os)
-    (goes_then p s Within.Plain Within.Plain Within.Plain (o ∷ []) os kept (kept ++ o ∷ []) ((kept ++ o ∷ []) ++ os)
+    moves_to (append_assoc kept (o ∷ []) os) (moves_then
     (goes_one p s Within.Plain o kept Within.Plain (Keep.One o) (plain_stays s o h.0)) (each_kept p s os (kept ++ o ∷ []) h.1))
 
 -- octets that a text keeps as they are lead from between two characters to between two, and are kept

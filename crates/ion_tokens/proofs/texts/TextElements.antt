@@ -5,43 +5,25 @@ use Rattle.std.specs.Char.{IsScalar}
 use Rattle.std.proofs.lemmas.Bool.Decides.{nat_tests}
 use Rattle.std.proofs.lemmas.Bool.{false_from_ne_true}
 use lib.Utf8.{encode, scalar, scalar_cases}
-use Rattle.ion_tokens.specs.Names.{Action, Digits, Hex, IsElement, IsHexAfter, Keep, Known, Mode, Pair, Place, Style, Within, acts, after_digits, follow, grow, hex_length, hexadecimal_digit, in_escape, in_text, is_clob, kept_after, meaning, quote_of, raw, run}
+use Rattle.ion_tokens.specs.Names.{Action, LeadsOn, Digits, Hex, IsElement, IsHexAfter, Keep, Known, Mode, Pair, Place, Style, Within, acts, after_digits, follow, grow, hex_length, hexadecimal_digit, in_escape, in_text, is_clob, kept_after, meaning, quote_of, raw, run}
 use Rattle.ion_tokens.proofs.texts.Encodings as law
 use Rattle.ion_tokens.proofs.texts.Encodings.{Encoding, four_octets, one_octet, order, three_octets, two_octets}
 use Rattle.ion_tokens.proofs.texts.TextSteps.{Admits, Caps, StandsRaw, after_high, after_low, after_unit, as_raw, caps_grow, char_is, exact, in_digit, last_digit, least_four, least_three, more_digits, most_four, most_three, quote_small, raw_four, raw_one, raw_three, raw_two, utf8_last, utf8_more}
 use Rattle.ion_tokens.specs.laws.TokensKept.{hex_small}
+use Rattle.ion_tokens.proofs.complete.Moves.{Moves, moves_one, moves_then, moves_to}
 
--- what the scanner knows within a quoted text
-abbrev pub reading : Style → Bool → ℕ → Within → List ℕ → ℕ → Known
-reading s colon start w kept used = record { mode = Mode.Text s w; kept = kept; colon = colon; start = start; used = used }
-
--- over these octets it comes from the one state to the other, whatever follows
+-- over these octets a text comes from the one state to the other, whatever follows
 abbrev pub GoesInText : Place → Style → Within → List ℕ → List ℕ → Within → List ℕ → Type 0
-GoesInText p s w kept os v kept' = (colon : Bool) (start used : ℕ) (r : List ℕ) → run p (os ++ r) (reading s colon start w kept used)
-    ≡ run p r (reading s colon start v kept' (used + length os))
+GoesInText p s w kept os v kept' = Moves p (Mode.Text s w) kept os (Mode.Text s v) kept'
 
--- over no octets a text stays in its state
-pub goes_none : (p : Place) (s : Style) (w : Within) (kept : List ℕ) → GoesInText p s w kept [] w kept
-goes_none p s w kept colon start used r = let none : used ≡ used + length {A = ℕ} [] = omega arith in
-    ap (λ (n : ℕ). run p r (reading s colon start w kept n)) none
+-- octets that lead on do so from each place
+pub led : (s : Style) (w kept kept' : List ℕ) → LeadsOn s w kept kept' → (p : Place) → GoesInText p s Within.Plain kept w Within.Plain kept'
+led s w kept kept' f p = record { on = f p }
 
 -- one octet leads from state to state as the table says
 pub goes_one : (p : Place) (s : Style) (w : Within) (o : ℕ) (kept : List ℕ) (v : Within) (k : Keep) → in_text s w o ≡ Action.Go (Mode.Text s v) k
     → GoesInText p s w kept (o ∷ []) v (kept_after k kept)
-goes_one p s w o kept v k e colon start used r = ap (λ a. follow (acts p (reading s colon start w kept used) o a) (λ t. run p r t)) e
-
--- octets that lead to a state, and others on from there, lead to where the others do
-pub goes_then : (p : Place) (s : Style) (w v u : Within) (xs ys kept kept' kept'' : List ℕ) → GoesInText p s w kept xs v kept'
-    → GoesInText p s v kept' ys u kept'' → GoesInText p s w kept (xs ++ ys) u kept''
-goes_then p s w v u xs ys kept kept' kept'' f g colon start used r =
-    let longer : (used + length xs) + length ys ≡ used + length (xs ++ ys) = omega (arith, length-append xs ys) in
-    ap (λ l. run p l (reading s colon start w kept used)) (append_assoc xs ys r) ∙ f colon start used (ys ++ r) ∙ g colon start (used + length xs) r
-    ∙ ap (λ (n : ℕ). run p r (reading s colon start u kept'' n)) longer
-
--- what is kept behind octets of a text may be spelled otherwise
-pub goes_to : (p : Place) (s : Style) (w v : Within) (os kept kept' kept'' : List ℕ) → kept' ≡ kept'' → GoesInText p s w kept os v kept'
-    → GoesInText p s w kept os v kept''
-goes_to p s w v os kept kept' kept'' e f = subst (λ l. GoesInText p s w kept os v l) e f
+goes_one p s w o kept v k e = moves_one p (Mode.Text s w) o kept (Mode.Text s v) k (λ start used. refl) (λ c. e)
 
 raw_step : (p : Place) (s : Style) (w : Within) (o : ℕ) (kept : List ℕ) (v : Within) (k : Keep) → Admits w o → raw s o ≡ Action.Go (Mode.Text s v) k
     → GoesInText p s w kept (o ∷ []) v (kept_after k kept)
@@ -74,8 +56,7 @@ read_raw p s c w kept a scalar slash quote stands clob (one_octet low e) =
 read_raw p s c w kept a scalar slash quote stands clob (two_octets x y l u f t e) =
     let least : 128 ≤ c = at_least_128 c (omega (arith, ap length e)) in
     let text : is_clob s ≡ false = no_clob s c clob least in
-    rw e (goes_to p s w Within.Plain (x ∷ y ∷ []) kept ((kept ++ x ∷ []) ++ y ∷ []) (kept ++ x ∷ y ∷ []) (append_assoc kept (x ∷ []) (y ∷ []))
-    (goes_then p s w (Within.Utf8 1 128 191) Within.Plain (x ∷ []) (y ∷ []) kept (kept ++ x ∷ []) ((kept ++ x ∷ []) ++ y ∷ [])
+    rw e (moves_to (append_assoc kept (x ∷ []) (y ∷ [])) (moves_then
     (raw_step p s w x kept (Within.Utf8 1 128 191) (Keep.One x) (a x (inr (omega arith))) (raw_two s x text (quote_small s) (omega arith) u))
     (goes_one p s (Within.Utf8 1 128 191) y (kept ++ x ∷ []) Within.Plain (Keep.One y) (utf8_last s 128 191 y f.0 (omega arith)))))
 read_raw p s c w kept a scalar slash quote stands clob (three_octets x y z l u f g t e) =
@@ -84,13 +65,9 @@ read_raw p s c w kept a scalar slash quote stands clob (three_octets x y z l u f
     let k : (c < 55296) ⊎ ((57344 ≤ c) × (c < 1114112)) = scalar_cases c scalar in
     let second : (least_three x ≤ y) × (y ≤ most_three x) =
     between_three x y (λ h. omega arith) (λ h. ⊎_elim (λ i. omega arith) (λ i. omega arith) k) f.0 f.1 in
-    rw e (goes_to p s w Within.Plain (x ∷ y ∷ z ∷ []) kept (((kept ++ x ∷ []) ++ y ∷ []) ++ z ∷ []) (kept ++ x ∷ y ∷ z ∷ []) (simp append_assoc)
-    (goes_then p s w (Within.Utf8 2 (least_three x) (most_three x)) Within.Plain (x ∷ []) (y ∷ z ∷ []) kept (kept ++ x ∷ [])
-    (((kept ++ x ∷ []) ++ y ∷ []) ++ z ∷ [])
+    rw e (moves_to (simp append_assoc) (moves_then
     (raw_step p s w x kept (Within.Utf8 2 (least_three x) (most_three x)) (Keep.One x) (a x (inr (omega arith))) (raw_three s x text (quote_small s) l u))
-    (goes_then p s (Within.Utf8 2 (least_three x) (most_three x)) (Within.Utf8 1 128 191) Within.Plain (y ∷ []) (z ∷ []) (kept ++ x ∷ [])
-    ((kept ++ x ∷ []) ++ y ∷ []) (((kept ++ x ∷ []) ++ y ∷ []) ++ z ∷ [])
-    (goes_one p s (Within.Utf8 2 (least_three x) (most_three x)) y (kept ++ x ∷ []) (Within.Utf8 1 128 191) (Keep.One y)
+    (moves_then (goes_one p s (Within.Utf8 2 (least_three x) (most_three x)) y (kept ++ x ∷ []) (Within.Utf8 1 128 191) (Keep.One y)
     (utf8_more s 2 (least_three x) (most_three x) y (omega arith) second.0 second.1))
     (goes_one p s (Within.Utf8 1 128 191) z ((kept ++ x ∷ []) ++ y ∷ []) Within.Plain (Keep.One z) (utf8_last s 128 191 z g.0 (omega arith))))))
 read_raw p s c w kept a scalar slash quote stands clob (four_octets x y z v l u f g h t e) =
@@ -99,18 +76,11 @@ read_raw p s c w kept a scalar slash quote stands clob (four_octets x y z v l u 
     let k : (c < 55296) ⊎ ((57344 ≤ c) × (c < 1114112)) = scalar_cases c scalar in
     let most : c < 1114112 = ⊎_elim (λ i. omega arith) (λ i. i.1) k in
     let second : (least_four x ≤ y) × (y ≤ most_four x) = between_four x y (λ is_f0. omega arith) (λ is_f4. omega arith) f.0 f.1 in
-    rw e (goes_to p s w Within.Plain (x ∷ y ∷ z ∷ v ∷ []) kept ((((kept ++ x ∷ []) ++ y ∷ []) ++ z ∷ []) ++ v ∷ []) (kept ++ x ∷ y ∷ z ∷ v ∷ [])
-    (simp append_assoc)
-    (goes_then p s w (Within.Utf8 3 (least_four x) (most_four x)) Within.Plain (x ∷ []) (y ∷ z ∷ v ∷ []) kept (kept ++ x ∷ [])
-    ((((kept ++ x ∷ []) ++ y ∷ []) ++ z ∷ []) ++ v ∷ [])
+    rw e (moves_to (simp append_assoc) (moves_then
     (raw_step p s w x kept (Within.Utf8 3 (least_four x) (most_four x)) (Keep.One x) (a x (inr (omega arith)))
-    (raw_four s x text (quote_small s) l (omega arith)))
-    (goes_then p s (Within.Utf8 3 (least_four x) (most_four x)) (Within.Utf8 2 128 191) Within.Plain (y ∷ []) (z ∷ v ∷ []) (kept ++ x ∷ [])
-    ((kept ++ x ∷ []) ++ y ∷ []) ((((kept ++ x ∷ []) ++ y ∷ []) ++ z ∷ []) ++ v ∷ [])
+    (raw_four s x text (quote_small s) l (omega arith))) (moves_then
     (goes_one p s (Within.Utf8 3 (least_four x) (most_four x)) y (kept ++ x ∷ []) (Within.Utf8 2 128 191) (Keep.One y)
-    (utf8_more s 3 (least_four x) (most_four x) y (omega arith) second.0 second.1))
-    (goes_then p s (Within.Utf8 2 128 191) (Within.Utf8 1 128 191) Within.Plain (z ∷ []) (v ∷ []) ((kept ++ x ∷ []) ++ y ∷ [])
-    (((kept ++ x ∷ []) ++ y ∷ []) ++ z ∷ []) ((((kept ++ x ∷ []) ++ y ∷ []) ++ z ∷ []) ++ v ∷ [])
+    (utf8_more s 3 (least_four x) (most_four x) y (omega arith) second.0 second.1)) (moves_then
     (goes_one p s (Within.Utf8 2 128 191) z ((kept ++ x ∷ []) ++ y ∷ []) (Within.Utf8 1 128 191) (Keep.One z)
     (utf8_more s 2 128 191 z (omega arith) g.0 (omega arith)))
     (goes_one p s (Within.Utf8 1 128 191) v (((kept ++ x ∷ []) ++ y ∷ []) ++ z ∷ []) Within.Plain (Keep.One v) (utf8_last s 128 191 v h.0 (omega arith)))))))
@@ -125,8 +95,7 @@ read_digits p s (o ∷ []) d left m n c kept v k e some (x, digit, last) caps f 
     (goes_one p s (Within.Hexadecimal d 1 m) o kept v k (in_digit s d 1 m o x digit ∙ last_digit s d m x
     ∙ f (grow m x) (subst (Caps (grow m x)) last (caps_grow m n x caps))))
 read_digits p s (o ∷ o' ∷ os) d left m n c kept v k e some (x, digit, last) caps f =
-    goes_then p s (Within.Hexadecimal d left m) (Within.Hexadecimal d (left - 1) (grow m x)) v (o ∷ []) (o' ∷ os) kept kept (kept_after k kept)
-    (goes_one p s (Within.Hexadecimal d left m) o kept (Within.Hexadecimal d (left - 1) (grow m x)) Keep.Nothing
+    moves_then (goes_one p s (Within.Hexadecimal d left m) o kept (Within.Hexadecimal d (left - 1) (grow m x)) Keep.Nothing
     (in_digit s d left m o x digit ∙ more_digits s d left m x (omega arith)))
     (read_digits p s (o' ∷ os) d (left - 1) (grow m x) (n * 16 + x) c kept v k (omega arith) (omega arith) last (caps_grow m n x caps) f)
 
@@ -203,10 +172,9 @@ hex_kind s letter n h (inr (inr (l, e))) =
     }
 
 -- behind a backslash
-pub goes_slash : (p : Place) (s : Style) (w v : Within) (os kept kept' : List ℕ) → Admits w 92 → GoesInText p s Within.Escape kept os v kept'
+pub goes_slash : {p : Place} {s : Style} {w v : Within} {os kept kept' : List ℕ} → Admits w 92 → GoesInText p s Within.Escape kept os v kept'
     → GoesInText p s w kept (92 ∷ os) v kept'
-goes_slash p s w v os kept kept' a f = goes_then p s w Within.Escape v (92 ∷ []) os kept kept kept' (raw_step p s w 92 kept Within.Escape Keep.Nothing a refl)
-    f
+goes_slash {p = p} {s = s} {w = w} {kept = kept} a f = moves_then (raw_step p s w 92 kept Within.Escape Keep.Nothing a refl) f
 
 clob_small : (s : Style) (letter : ℕ) (os : List ℕ) (c : ℕ) → hex_length letter ≡ Some (length os) → (IsTrue (is_clob s) → letter ≡ 120) → IsHexAfter 0 os c
     → IsTrue (is_clob s) → c < 256
@@ -220,10 +188,7 @@ pub read_hex : (p : Place) (s : Style) (w : Within) (kept : List ℕ) (letter : 
 read_hex p s w kept letter os c a i =
     let k : HexKind s letter (length os) = hex_kind s letter (length os) i.3 (letters letter (length os) i.0) in
     let cases = scalar_cases c i.2 in
-    goes_slash p s w Within.Plain (letter ∷ os) kept (kept ++ meaning s (Hex letter os c)) a
-    (goes_then p s Within.Escape (Within.Hexadecimal k.kind (length os) 0) Within.Plain (letter ∷ []) os kept kept (kept ++ meaning s (Hex letter os c))
-    (goes_one p s Within.Escape letter kept (Within.Hexadecimal k.kind (length os) 0) Keep.Nothing k.opened)
-    (goes_to p s (Within.Hexadecimal k.kind (length os) 0) Within.Plain os kept (kept_after (keep_of s c) kept) (kept ++ meaning s (Hex letter os c))
+    goes_slash a (moves_then (goes_one p s Within.Escape letter kept (Within.Hexadecimal k.kind (length os) 0) Keep.Nothing k.opened) (moves_to
     (hex_keeps s letter c os kept (clob_small s letter os c i.0 i.3 i.1))
     (read_digits p s os k.kind (length os) 0 0 c kept Within.Plain (keep_of s c) refl k.some i.1 (inl refl)
     (λ c' caps. ap (after_digits s k.kind) (exact c' c caps (below_max c cases)) ∙ k.means c i.2 cases))))
@@ -237,16 +202,10 @@ read_pair p s w kept first second high low a (text, l, m, h, hs, k, ks) =
     let escape : Within = Within.HighSurrogateEscape (0xd800 + high) in
     let last : Within = Within.Hexadecimal (Digits.LowSurrogate (0xd800 + high)) 4 0 in
     let end : List ℕ = kept ++ encode (0x10000 + high * 1024 + low) in
-    goes_slash p s w Within.Plain (117 ∷ first ++ 92 ∷ 117 ∷ second) kept end a
-    (goes_then p s Within.Escape unit Within.Plain (117 ∷ []) (first ++ 92 ∷ 117 ∷ second) kept kept end
-    (goes_one p s Within.Escape 117 kept unit Keep.Nothing (opens_unit s text))
-    (goes_then p s unit is_high Within.Plain first (92 ∷ 117 ∷ second) kept kept end
+    goes_slash a (moves_then (goes_one p s Within.Escape 117 kept unit Keep.Nothing (opens_unit s text)) (moves_then
     (read_digits p s first Digits.Unit 4 0 0 (0xd800 + high) kept is_high Keep.Nothing l (omega arith) h (inl refl)
-    (λ c' caps. ap (after_digits s Digits.Unit) (exact c' (0xd800 + high) caps (omega arith)) ∙ after_high s high hs))
-    (goes_then p s is_high escape Within.Plain (92 ∷ []) (117 ∷ second) kept kept end
-    (goes_one p s is_high 92 kept escape Keep.Nothing refl)
-    (goes_then p s escape last Within.Plain (117 ∷ []) second kept kept end
-    (goes_one p s escape 117 kept last Keep.Nothing refl)
+    (λ c' caps. ap (after_digits s Digits.Unit) (exact c' (0xd800 + high) caps (omega arith)) ∙ after_high s high hs)) (moves_then
+    (goes_one p s is_high 92 kept escape Keep.Nothing refl) (moves_then (goes_one p s escape 117 kept last Keep.Nothing refl)
     (read_digits p s second (Digits.LowSurrogate (0xd800 + high)) 4 0 0 (0xdc00 + low) kept Within.Plain (Keep.Character (0x10000 + high * 1024 + low)) m
     (omega arith) k (inl refl)
     (λ c' caps. ap (after_digits s (Digits.LowSurrogate (0xd800 + high))) (exact c' (0xdc00 + low) caps (omega arith)) ∙ after_low s high low hs ks))))))

@@ -6,8 +6,9 @@ use Rattle.std.proofs.lemmas.Bool.{true≢false}
 use lib.Utf8.{encode, scalar_cases}
 use Rattle.ion_tokens.specs.Names.{ClosesFirst, Cr, CrLf, CrTakesLf, Element, Hex, Hidden, IsElement, IsQuoted, IsRaw, Keep, Lf, LineEnd, Pair, Place, Raw, RawLine, Simple, Style, Within, ends_in_cr, is_long, is_raw_lf, meaning, quote_of, quotes, spelling}
 use Rattle.ion_tokens.proofs.texts.Encodings.{encoding, order}
-use Rattle.ion_tokens.proofs.texts.TextElements.{GoesInText, goes_none, goes_one, goes_slash, goes_then, goes_to, read_hex, read_pair, read_raw}
+use Rattle.ion_tokens.proofs.texts.TextElements.{GoesInText, goes_one, goes_slash, read_hex, read_pair, read_raw}
 use Rattle.ion_tokens.proofs.texts.TextSteps.{Admits, as_raw, in_simple, raw_cr, raw_lf, raw_quote}
+use Rattle.ion_tokens.proofs.complete.Moves.{moves_none, moves_then, moves_to}
 
 -- the first is no raw LF
 abbrev pub NoLf : List Element → Type 0
@@ -133,10 +134,9 @@ read_line p s w kept Cr es h long crs = (
 read_line p s w kept CrLf es h long crs = (
   Within.Plain,
   tt,
-  goes_then p s w Within.AfterReturn Within.Plain (13 ∷ []) (10 ∷ []) kept (kept ++ 10 ∷ []) (kept ++ 10 ∷ [])
+  moves_then
       (goes_one p s w 13 kept Within.AfterReturn (Keep.One 10) (as_raw s w 13 (ready_line s w CrLf es 13 h (λ f e. omega arith) (λ e. omega arith))
-      ∙ raw_cr s long))
-      (goes_one p s Within.AfterReturn 10 (kept ++ 10 ∷ []) Within.Plain Keep.Nothing refl),
+      ∙ raw_cr s long)) (goes_one p s Within.AfterReturn 10 (kept ++ 10 ∷ []) Within.Plain Keep.Nothing refl),
 )
 
 read_hidden : (p : Place) (s : Style) (w : Within) (kept : List ℕ) (e : LineEnd) (es : List Element) → Ready s w (Hidden e ∷ es) → CrTakesLf (Hidden e ∷ es)
@@ -144,22 +144,17 @@ read_hidden : (p : Place) (s : Style) (w : Within) (kept : List ℕ) (e : LineEn
 read_hidden p s w kept Lf es h crs = (
   Within.Plain,
   tt,
-  goes_to p s w Within.Plain (92 ∷ 10 ∷ []) kept kept (kept ++ []) (sym (append-nil kept))
-      (goes_slash p s w Within.Plain (10 ∷ []) kept kept (ready_slash s w _ h) (goes_one p s Within.Escape 10 kept Within.Plain Keep.Nothing refl)),
+  moves_to (sym (append-nil kept)) (goes_slash (ready_slash s w _ h) (goes_one p s Within.Escape 10 kept Within.Plain Keep.Nothing refl)),
 )
 read_hidden p s w kept Cr es h crs = (
   Within.AfterReturn,
   behind_cr (Hidden Cr) es refl crs,
-  goes_to p s w Within.AfterReturn (92 ∷ 13 ∷ []) kept kept (kept ++ []) (sym (append-nil kept))
-      (goes_slash p s w Within.AfterReturn (13 ∷ []) kept kept (ready_slash s w _ h)
-      (goes_one p s Within.Escape 13 kept Within.AfterReturn Keep.Nothing refl)),
+  moves_to (sym (append-nil kept)) (goes_slash (ready_slash s w _ h) (goes_one p s Within.Escape 13 kept Within.AfterReturn Keep.Nothing refl)),
 )
 read_hidden p s w kept CrLf es h crs = (
   Within.Plain,
   tt,
-  goes_to p s w Within.Plain (92 ∷ 13 ∷ 10 ∷ []) kept kept (kept ++ []) (sym (append-nil kept))
-      (goes_slash p s w Within.Plain (13 ∷ 10 ∷ []) kept kept (ready_slash s w _ h)
-      (goes_then p s Within.Escape Within.AfterReturn Within.Plain (13 ∷ []) (10 ∷ []) kept kept kept
+  moves_to (sym (append-nil kept)) (goes_slash (ready_slash s w _ h) (moves_then
       (goes_one p s Within.Escape 13 kept Within.AfterReturn Keep.Nothing refl) (goes_one p s Within.AfterReturn 10 kept Within.Plain Keep.Nothing refl))),
 )
 
@@ -170,8 +165,7 @@ read_element p s w kept (RawLine e) es h i crs closes = read_line p s w kept e e
 read_element p s w kept (Simple letter o) es h i crs closes = (
   Within.Plain,
   tt,
-  goes_slash p s w Within.Plain (letter ∷ []) kept (kept ++ o ∷ []) (ready_slash s w _ h)
-      (goes_one p s Within.Escape letter kept Within.Plain (Keep.One o) (in_simple s letter o i)),
+  goes_slash (ready_slash s w _ h) (goes_one p s Within.Escape letter kept Within.Plain (Keep.One o) (in_simple s letter o i)),
 )
 read_element p s w kept (Hidden e) es h i crs closes = read_hidden p s w kept e es h crs
 read_element p s w kept (Hex letter os c) es h i crs closes = (Within.Plain, tt, read_hex p s w kept letter os c (ready_slash s w _ h) i)
@@ -197,15 +191,13 @@ more_crs e (f ∷ es) h = h.1
 read_elements : (p : Place) (s : Style) (es : List Element) (w : Within) (kept : List ℕ) → Ready s w es → AllByRecursion (IsElement s) es → CrTakesLf es
     → (IsTrue (is_long s) → ClosesFirst es)
     → (v : Within) × Ended v × GoesInText p s w kept (flat_map spelling es) v (kept ++ flat_map (meaning s) es)
-read_elements p s [] w kept h each crs closes = (w, ended s w h, goes_to p s w w [] kept kept (kept ++ []) (sym (append-nil kept)) (goes_none p s w kept))
+read_elements p s [] w kept h each crs closes = (w, ended s w h, moves_to (sym (append-nil kept)) (moves_none))
 read_elements p s (e ∷ es) w kept h each crs closes =
     let first = read_element p s w kept e es h each.0 crs closes in
     let rest = read_elements p s es first.0 (kept ++ meaning s e) first.1 each.1 (more_crs e es crs) (λ l. (closes l).1) in (
       rest.0,
       rest.1,
-      goes_to p s w rest.0 (spelling e ++ flat_map spelling es) kept ((kept ++ meaning s e) ++ flat_map (meaning s) es)
-          (kept ++ (meaning s e ++ flat_map (meaning s) es)) (append_assoc kept (meaning s e) (flat_map (meaning s) es))
-          (goes_then p s w first.0 rest.0 (spelling e) (flat_map spelling es) kept (kept ++ meaning s e) ((kept ++ meaning s e) ++ flat_map (meaning s) es)
+      moves_to (append_assoc kept (meaning s e) (flat_map (meaning s) es)) (moves_then
           first.2 rest.2),
     )
 
@@ -216,7 +208,5 @@ read_content p s content octets kept q =
     let r = read_elements p s q.elements Within.Plain kept tt q.each q.crs q.close in (
       r.0,
       r.1,
-      subst (λ l. GoesInText p s Within.Plain kept l r.0 (kept ++ octets)) (sym q.spelled)
-          (goes_to p s Within.Plain r.0 (flat_map spelling q.elements) kept (kept ++ flat_map (meaning s) q.elements) (kept ++ octets)
-          (ap (λ l. kept ++ l) (sym q.means)) r.2),
+      subst (λ l. GoesInText p s Within.Plain kept l r.0 (kept ++ octets)) (sym q.spelled) (moves_to (ap (λ l. kept ++ l) (sym q.means)) r.2),
     )
