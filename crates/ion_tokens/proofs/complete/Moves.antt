@@ -133,24 +133,26 @@ pub resumes_none : Resumes [] Mode.Blank []
 resumes_none p colon end = let none : end ≡ end + length {A = ℕ} [] = omega arith in ap (λ (n : ℕ). Next (at Mode.Blank [] colon end n)) none
 
 -- a token that its last octet ends
-pub takes_now : (p : Place) (colon : Bool) (w : List ℕ) (o : ℕ) (r : List ℕ) (kind : TokenKind) (m : Mode) (kept : List ℕ) (k : Keep) → Stays m
+pub takes_now : {p : Place} {colon : Bool} {w r : List ℕ} {kind : TokenKind} {m : Mode} {kept : List ℕ} (o : ℕ) (k : Keep) → Stays m
     → Opens p colon w m kept → ((c : Bool) → next p c m o ≡ Action.Give kind k) → Takes p colon (w ++ o ∷ []) r kind (kept_after k kept)
-takes_now p colon w o r kind m kept k stays f e = Now (λ start used.
+takes_now {p = p} {colon = colon} {w = w} {r = r} {kind = kind} {m = m} {kept = kept} o k stays f e = Now (λ start used.
     let longer : (used + length w) + 1 ≡ used + length (w ++ o ∷ []) = omega (arith, length-append w (o ∷ [])) in
     ap (λ os. run p os (blank colon start used)) (append_assoc w (o ∷ []) r) ∙ f.on start used (o ∷ r)
     ∙ gives p colon o m kept kind k used (used + length w) r stays (e colon)
     ∙ ap (λ (n : ℕ). Given (record { start = used; end = n; kind = kind; octets = kept_after k kept }) (past p kind Mode.Blank [] n n)) longer)
 
 -- a token that the octet behind it ends
-pub takes_left : (p : Place) (colon : Bool) (w : List ℕ) (x : ℕ) (r : List ℕ) (kind : TokenKind) (m : Mode) (kept : List ℕ) (k : Keep) → Stays m
+pub takes_left : {p : Place} {colon : Bool} {w : List ℕ} {x : ℕ} {r : List ℕ} {kind : TokenKind} {m : Mode} {kept : List ℕ} (k : Keep) → Stays m
     → Opens p colon w m kept → ((c : Bool) → next p c m x ≡ Action.Before kind k Mode.Blank) → Takes p colon w (x ∷ r) kind (kept_after k kept)
-takes_left p colon w x r kind m kept k stays f e = Later [] x r Mode.Blank [] refl resumes_none (λ start used.
+takes_left {p = p} {colon = colon} {w = w} {x = x} {r = r} {kind = kind} {m = m} {kept = kept} k stays f e =
+    Later [] x r Mode.Blank [] refl resumes_none (λ start used.
     let none : used + length w ≡ (used + length w) + length {A = ℕ} [] = omega arith in
     f.on start used (x ∷ r) ∙ leaves p colon x m kept kind k used (used + length w) r stays (e colon)
     ∙ ap (λ (n : ℕ). Left (lexeme w kind (kept_after k kept) used) (past p kind Mode.Blank [] (used + length w) n)) none)
 
 -- a token that the end of the input ends
-pub takes_end : (p : Place) (colon : Bool) (w : List ℕ) (kind : TokenKind) (m : Mode) (kept kept' : List ℕ) → Opens p colon w m kept
+pub takes_end : {p : Place} {colon : Bool} {w : List ℕ} {kind : TokenKind} {m : Mode} {kept kept' : List ℕ} → Opens p colon w m kept
     → ((start used : ℕ) → at_end p (at m kept colon start used) ≡ Ok (Some (record { start = start; end = used; kind = kind; octets = kept' })))
     → Takes p colon w [] kind kept'
-takes_end p colon w kind m kept kept' f e = AtEnd refl (λ start used. (at m kept colon used (used + length w), f.on start used [], e used (used + length w)))
+takes_end {colon = colon} {w = w} {m = m} {kept = kept} f e =
+    AtEnd refl (λ start used. (at m kept colon used (used + length w), f.on start used [], e used (used + length w)))

@@ -115,8 +115,7 @@ lob_cut content = ap (λ l. 123 ∷ 123 ∷ l) (append_assoc content (125 ∷ []
 pub takes_clob : (p : Place) (colon : Bool) (content octets r : List ℕ) → is_name p ≡ false → IsClobContent content octets
     → Takes p colon (codes "{{" ++ content ++ codes "}}") r TokenKind.Clob octets
 takes_clob p colon content octets r n h =
-    subst (λ l. Takes p colon l r TokenKind.Clob octets) (lob_cut content)
-    (takes_now p colon (123 ∷ 123 ∷ (content ++ 125 ∷ [])) 125 r TokenKind.Clob (lob Lob.ClobClose) octets Keep.Nothing (λ s u. refl)
+    subst (λ l. Takes p colon l r TokenKind.Clob octets) (lob_cut content) (takes_now 125 Keep.Nothing (λ s u. refl)
     (opens_then (opens_lob p colon n) (clob_moves p content octets h)) (λ c. refl))
 
 -- blobs
@@ -187,7 +186,5 @@ opens_blob p colon content octets n h e =
 pub takes_blob : (p : Place) (colon : Bool) (content octets r : List ℕ) → is_name p ≡ false → IsBlobContent content octets
     → Takes p colon (codes "{{" ++ content ++ codes "}}") r TokenKind.Blob octets
 takes_blob p colon content octets r n h =
-    subst (λ l. Takes p colon l r TokenKind.Blob octets) (lob_cut content)
-    (takes_now p colon (123 ∷ 123 ∷ (content ++ 125 ∷ [])) 125 r TokenKind.Blob (lob Lob.BlobClose) octets Keep.Nothing (λ s u. refl)
-    (opens_blob p colon content octets n h.0 (blob_known (filter (λ o. not (is_white o)) content) octets h.1))
-    (λ c. refl))
+    subst (λ l. Takes p colon l r TokenKind.Blob octets) (lob_cut content) (takes_now 125 Keep.Nothing (λ s u. refl)
+    (opens_blob p colon content octets n h.0 (blob_known (filter (λ o. not (is_white o)) content) octets h.1)) (λ c. refl))

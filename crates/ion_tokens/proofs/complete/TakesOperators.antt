@@ -113,13 +113,16 @@ takes_split colon w ahead n x rest f e size letters resumes = Later ahead x rest
     ∙ (λ i. Left (record { start = used; end = back i; kind = TokenKind.Operator; octets = w })
     (past Place.Sexp TokenKind.Operator Mode.Word (letters i) (back i) ((used + length w) + length ahead))))
 
-resumes_i : Resumes (105 ∷ []) Mode.Word (105 ∷ [])
+-- the first letters of `inf` lead into a word
+pub resumes_i : Resumes (105 ∷ []) Mode.Word (105 ∷ [])
 resumes_i p colon end = refl
 
-resumes_in : Resumes (105 ∷ 110 ∷ []) Mode.Word (105 ∷ 110 ∷ [])
+-- so do two
+pub resumes_in : Resumes (105 ∷ 110 ∷ []) Mode.Word (105 ∷ 110 ∷ [])
 resumes_in p colon end = let two : (end + 1) + 1 ≡ end + 2 = omega arith in ap (λ (n : ℕ). Next (at Mode.Word (105 ∷ 110 ∷ []) colon end n)) two
 
-resumes_inf : Resumes (105 ∷ 110 ∷ 102 ∷ []) Mode.Word (105 ∷ 110 ∷ 102 ∷ [])
+-- and all
+pub resumes_inf : Resumes (105 ∷ 110 ∷ 102 ∷ []) Mode.Word (105 ∷ 110 ∷ 102 ∷ [])
 resumes_inf p colon end = let three : ((end + 1) + 1) + 1 ≡ end + 3 = omega arith in
     ap (λ (n : ℕ). Next (at Mode.Word (105 ∷ 110 ∷ 102 ∷ []) colon end n)) three
 
@@ -189,17 +192,16 @@ comment_first x rest h = eqb-true x 47 (and_parts (x == 47) (begins (λ p. (p ==
 
 -- a run of which no / is pending
 run_read : (colon : Bool) (w : List ℕ) (e : Ending) (r : List ℕ) → Run colon w e → EndsAs e w → IsOperator w r → Read colon w r
-run_read colon w e [] f h o = takes_end Place.Sexp colon w TokenKind.Operator (Mode.Operator e) w w f (λ start used. refl)
+run_read colon w e [] f h o = takes_end f (λ start used. refl)
 run_read colon w e (x ∷ rest) f h o =
     ⊎_elim (λ d. digit e f h d) (λ d.
     ⊎_elim (λ (i : x ≡ 105). subst (λ (y : ℕ). Read colon w (y ∷ rest)) (sym i)
     (letter e f h (λ s. subst (λ (y : ℕ). begins_infinity (y ∷ rest) ≡ false) i (o.no_float s)))) (λ i.
     ⊎_elim (λ (s : x ≡ 47). subst (λ (y : ℕ). Read colon w (y ∷ rest)) (sym s) (comment_ends colon w e rest f (slash s o.longest))) (λ s.
-    left d i s o.longest)
-    (eq_or x 47)) (eq_or x 105)) (bool_cases (is_digit x))
+    left d i s o.longest) (eq_or x 47)) (eq_or x 105)) (bool_cases (is_digit x))
   where
     left_by : (e : Ending) → Run colon w e → in_operator Place.Sexp e x ≡ Action.Before TokenKind.Operator Keep.Nothing Mode.Blank → Read colon w (x ∷ rest)
-    left_by e f g = takes_left Place.Sexp colon w x rest TokenKind.Operator (Mode.Operator e) w Keep.Nothing (λ s u. refl) f (λ c. g)
+    left_by e f g = takes_left Keep.Nothing (λ s u. refl) f (λ c. g)
 
     digit : (e : Ending) → Run colon w e → EndsAs e w → is_digit x ≡ true → Read colon w (x ∷ rest)
     digit Ending.Plus f h d = left_by Ending.Plus f (digit_ends Ending.Plus x d (inl refl))
@@ -211,8 +213,7 @@ run_read colon w e (x ∷ rest) f h o =
     letter Ending.LoneMinus f h g = takes_infinity colon w Ending.LoneMinus rest f (λ i. cc) (g h.1)
     letter Ending.Minus f h g = takes_infinity colon w Ending.Minus rest f (λ i. cc) (g h.1)
     letter Ending.Plus f h g = takes_infinity colon w Ending.Plus rest f (λ i. cc) (g h)
-    letter Ending.Other f h g = takes_left Place.Sexp colon w 105 rest TokenKind.Operator (Mode.Operator Ending.Other) w Keep.Nothing (λ s u. refl) f
-        (λ c. refl)
+    letter Ending.Other f h g = takes_left Keep.Nothing (λ s u. refl) f (λ c. refl)
 
     slash : x ≡ 47 → (is_operator_octet x ≡ false) ⊎ (begins_comment (x ∷ rest) ≡ true) → begins_comment (47 ∷ rest) ≡ true
     slash s (inl n) = absurd (true≢false (subst (λ (y : ℕ). is_operator_octet y ≡ false) s n))
@@ -239,12 +240,11 @@ after_slash r x rest e c l =
 
 slash_read : (colon : Bool) (w kept r : List ℕ) → w ≡ kept ++ 47 ∷ [] → Opens Place.Sexp colon w Mode.OperatorSlash kept → begins_comment (47 ∷ r) ≡ false
     → IsOperator w r → Read colon w r
-slash_read colon w kept [] e f c o = subst (λ l. Takes Place.Sexp colon w [] TokenKind.Operator l) (sym e)
-    (takes_end Place.Sexp colon w TokenKind.Operator Mode.OperatorSlash kept (kept ++ 47 ∷ []) f (λ start used. refl))
+slash_read colon w kept [] e f c o = subst (λ l. Takes Place.Sexp colon w [] TokenKind.Operator l) (sym e) (takes_end f (λ start used. refl))
 slash_read colon w kept (x ∷ r) e f c o =
     let n = after_slash (x ∷ r) x r refl c o.longest in
     subst (λ l. Takes Place.Sexp colon w (x ∷ r) TokenKind.Operator l) (sym e)
-    (takes_left Place.Sexp colon w x r TokenKind.Operator Mode.OperatorSlash kept (Keep.One 47) (λ s u. refl) f (λ b. slash_left x n.0 n.1 n.2))
+    (takes_left (Keep.One 47) (λ s u. refl) f (λ b. slash_left x n.0 n.1 n.2))
 
 -- how a run begins
 first_ending : ℕ → Ending

@@ -24,7 +24,7 @@ pub takes_short : (p : Place) (colon : Bool) (content octets r : List ℕ) → I
     → Takes p colon ((34 ∷ content) ++ 34 ∷ []) r TokenKind.ShortString octets
 takes_short p colon content octets r q =
     let c = read_content p Style.ShortString content octets [] q in
-    takes_now p colon (34 ∷ content) 34 r TokenKind.ShortString (Mode.Text Style.ShortString c.0) octets Keep.Nothing (λ s u. refl) (opens_then
+    takes_now 34 Keep.Nothing (λ s u. refl) (opens_then
     (opens_one p colon 34 (Mode.Text Style.ShortString Within.Plain) Keep.Nothing refl) c.2) (λ b. short_close c.0 c.1)
 
 -- quoted symbols
@@ -87,9 +87,8 @@ pub opens_quotes : (p : Place) (colon : Bool) → Opens p colon (39 ∷ 39 ∷ [
 opens_quotes p colon = opens_then (opens_quote p colon) (moves_one p Mode.Quote 39 [] Mode.Quotes Keep.Nothing (λ s u. refl) (λ c. refl))
 
 takes_empty : (p : Place) (colon : Bool) (r : List ℕ) → begins (λ o. o == 39) r ≡ false → Takes p colon (39 ∷ 39 ∷ []) r TokenKind.QuotedSymbol []
-takes_empty p colon [] h = takes_end p colon (39 ∷ 39 ∷ []) TokenKind.QuotedSymbol Mode.Quotes [] [] (opens_quotes p colon) (λ start used. refl)
-takes_empty p colon (x ∷ r) h = takes_left p colon (39 ∷ 39 ∷ []) x r TokenKind.QuotedSymbol Mode.Quotes [] Keep.Nothing (λ s u. refl) (opens_quotes p colon)
-    (λ c. quotes_end x h c p)
+takes_empty p colon [] h = takes_end (opens_quotes p colon) (λ start used. refl)
+takes_empty p colon (x ∷ r) h = takes_left Keep.Nothing (λ s u. refl) (opens_quotes p colon) (λ c. quotes_end x h c p)
 
 no_octets : (octets : List ℕ) → IsQuoted Style.QuotedSymbol [] octets → octets ≡ []
 no_octets octets q = by q.elements q.each q.spelled q.means where
@@ -112,8 +111,7 @@ takes_symbol p colon [] octets r q h = subst (λ l. Takes p colon (39 ∷ 39 ∷
 takes_symbol p colon (x ∷ content) octets r q h =
     let c = read_content p Style.QuotedSymbol (x ∷ content) octets [] q in
     let P : List ℕ → Type 0 = BeginsOther in
-    takes_now p colon (39 ∷ x ∷ content) 39 r TokenKind.QuotedSymbol (Mode.Text Style.QuotedSymbol c.0) octets Keep.Nothing (λ s u. refl)
-    (opens_then (opens_quote p colon)
+    takes_now 39 Keep.Nothing (λ s u. refl) (opens_then (opens_quote p colon)
     (from_quote p (x ∷ content) octets c.0 (λ f. cc) (subst P (sym q.spelled) (elements_other q.elements q.each)) c.2)) (λ b. symbol_close c.0 c.1)
 
 -- long strings
@@ -158,6 +156,5 @@ pub takes_long : (p : Place) (colon : Bool) (content octets r : List ℕ) → Is
 takes_long p colon content octets r q =
     subst (λ l. Takes p colon l r TokenKind.LongString octets) (long_cut content)
     (subst (λ l. Takes p colon ((39 ∷ 39 ∷ 39 ∷ (content ++ 39 ∷ 39 ∷ [])) ++ 39 ∷ []) r TokenKind.LongString l) (drops_two octets 39 39)
-    (takes_now p colon (39 ∷ 39 ∷ 39 ∷ (content ++ 39 ∷ 39 ∷ [])) 39 r TokenKind.LongString (Mode.Text Style.LongString Within.TwoQuotes)
-    ((octets ++ 39 ∷ []) ++ 39 ∷ []) Keep.DropQuotes (λ s u. refl) (opens_then (opens_long p colon)
+    (takes_now 39 Keep.DropQuotes (λ s u. refl) (opens_then (opens_long p colon)
     (long_content p Style.LongString content octets [] refl q)) (λ b. refl)))

@@ -32,7 +32,7 @@ no_dot w x h = by (x == 46) (bytes_eq w (codes "null")) refl h where
 -- a word is read as it is spelled, before no octet of a word and, if it is `null`, no dot
 pub takes_word : (p : Place) (colon : Bool) (w r : List ℕ) → IsWord w → begins is_word_octet r ≡ false → (w ≡ codes "null" → begins (λ o. o == 46) r ≡ false)
     → Takes p colon w r TokenKind.Word w
-takes_word p colon w [] h ends dot = takes_end p colon w TokenKind.Word Mode.Word w w (opens_word p colon w h) (λ start used. refl)
+takes_word p colon w [] h ends dot = takes_end (opens_word p colon w h) (λ start used. refl)
 takes_word p colon w (x ∷ r) h ends dot = Later [] x r Mode.Blank [] refl resumes_none (λ start used.
     let none : used + length w ≡ (used + length w) + length {A = ℕ} [] = omega arith in
     let s : Known = at Mode.Word w colon used (used + length w) in
@@ -64,10 +64,8 @@ opens_kind p colon name h = opens_then (opens_then (opens_word p colon (codes "n
 -- `null.` and a name are read as that name, before no octet of a word
 pub takes_kind : (p : Place) (colon : Bool) (name r : List ℕ) → Each is_word_octet name → begins is_word_octet r ≡ false
     → Takes p colon (codes "null." ++ name) r TokenKind.KindName name
-takes_kind p colon name [] h ends = takes_end p colon (codes "null." ++ name) TokenKind.KindName Mode.KindName name name (opens_kind p colon name h)
-    (λ start used. refl)
-takes_kind p colon name (x ∷ r) h ends = takes_left p colon (codes "null." ++ name) x r TokenKind.KindName Mode.KindName name Keep.Nothing (λ s u. refl)
-    (opens_kind p colon name h) (λ c. kind_ends x ends)
+takes_kind p colon name [] h ends = takes_end (opens_kind p colon name h) (λ start used. refl)
+takes_kind p colon name (x ∷ r) h ends = takes_left Keep.Nothing (λ s u. refl) (opens_kind p colon name h) (λ c. kind_ends x ends)
 
 -- numbers
 number_more : (o : ℕ) → not (is_stop o || (o == 47)) ≡ true → in_number o ≡ Action.Go Mode.Number (Keep.One o)
@@ -125,10 +123,10 @@ takes_before_slash p colon w x r kind m kept stays f e = Later (47 ∷ []) x r M
 
 -- where no field's name stands, a number is read as it is spelled, before what ends it
 pub takes_number : (p : Place) (colon : Bool) (w r : List ℕ) → is_name p ≡ false → IsNumeric w r → Takes p colon w r TokenKind.Number w
-takes_number p colon w [] n h = takes_end p colon w TokenKind.Number Mode.Number w w (opens_number p colon w n h.begun h.each) (λ start used. refl)
+takes_number p colon w [] n h = takes_end (opens_number p colon w n h.begun h.each) (λ start used. refl)
 takes_number p colon w (x ∷ r) n h = ⊎_elim (λ e. cc) (λ e. ⊎_elim stop (λ c. comment x r c) e) h.longest where
   stop : is_stop x ≡ true → Takes p colon w (x ∷ r) TokenKind.Number w
-  stop e = takes_left p colon w x r TokenKind.Number Mode.Number w Keep.Nothing (λ s u. refl) (opens_number p colon w n h.begun h.each) (λ c. number_stops x e)
+  stop e = takes_left Keep.Nothing (λ s u. refl) (opens_number p colon w n h.begun h.each) (λ c. number_stops x e)
 
   comment : (x : ℕ) (r : List ℕ) → begins_comment (x ∷ r) ≡ true → Takes p colon w (x ∷ r) TokenKind.Number w
   comment x [] e = absurd (false≢true ((and_parts (x == 47) false e).1))
@@ -160,18 +158,14 @@ colon_ends x h c p = rw h
 
 -- a mark is read where it may stand, before what doesn't make it longer
 pub takes_mark : (p : Place) (colon : Bool) (m : Mark) (r : List ℕ) → MarkStands p colon m → MarkEnds m r → Takes p colon (mark_spelling m) r (TokenKind.Mark m) []
-takes_mark p colon Mark.FieldsOpen [] s e = takes_end p colon (123 ∷ []) (TokenKind.Mark Mark.FieldsOpen) Mode.Brace [] [] (opens_brace p colon s)
-    (λ start used. refl)
-takes_mark p colon Mark.FieldsOpen (x ∷ r) s e = takes_left p colon (123 ∷ []) x r (TokenKind.Mark Mark.FieldsOpen) Mode.Brace [] Keep.Nothing (λ s u. refl)
-    (opens_brace p colon s) (λ c. brace_ends x e c p)
+takes_mark p colon Mark.FieldsOpen [] s e = takes_end (opens_brace p colon s) (λ start used. refl)
+takes_mark p colon Mark.FieldsOpen (x ∷ r) s e = takes_left Keep.Nothing (λ s u. refl) (opens_brace p colon s) (λ c. brace_ends x e c p)
 takes_mark p colon Mark.FieldsClose r s e = mark_one p colon 125 Mark.FieldsClose r refl
 takes_mark p colon Mark.ListOpen r s e = mark_one p colon 91 Mark.ListOpen r (rw s)
 takes_mark p colon Mark.ListClose r s e = mark_one p colon 93 Mark.ListClose r (rw s)
 takes_mark p colon Mark.SexpOpen r s e = mark_one p colon 40 Mark.SexpOpen r (rw s)
 takes_mark p colon Mark.SexpClose r s e = mark_one p colon 41 Mark.SexpClose r (rw s)
 takes_mark p colon Mark.Comma r s e = mark_one p colon 44 Mark.Comma r refl
-takes_mark p colon Mark.Colon [] s e = takes_end p colon (58 ∷ []) (TokenKind.Mark Mark.Colon) Mode.Colon [] [] (opens_colon p colon s) (λ start used. refl)
-takes_mark p colon Mark.Colon (x ∷ r) s e = takes_left p colon (58 ∷ []) x r (TokenKind.Mark Mark.Colon) Mode.Colon [] Keep.Nothing (λ s u. refl)
-    (opens_colon p colon s) (λ c. colon_ends x e c p)
-takes_mark p colon Mark.Colons r s e = takes_now p colon (58 ∷ []) 58 r (TokenKind.Mark Mark.Colons) Mode.Colon [] Keep.Nothing (λ s u. refl)
-    (opens_colon p colon s) (λ c. refl)
+takes_mark p colon Mark.Colon [] s e = takes_end (opens_colon p colon s) (λ start used. refl)
+takes_mark p colon Mark.Colon (x ∷ r) s e = takes_left Keep.Nothing (λ s u. refl) (opens_colon p colon s) (λ c. colon_ends x e c p)
+takes_mark p colon Mark.Colons r s e = takes_now 58 Keep.Nothing (λ s u. refl) (opens_colon p colon s) (λ c. refl)

@@ -2,32 +2,38 @@
 use Rattle.std.proofs.Common.{◌≡◌, ℕ, ◌+◌, ◌-◌, inl, inr, Bool, true, false, List, [], ◌∷◌, ◌++◌, length, refl, sym, ap, ◌∙◌, subst, arith, append-nil}
 use Rattle.std.specs.Prelude.{◌==◌, ◌&&◌, bytes_eq, codes, Some, None, if◌then◌else◌}
 use Rattle.std.proofs.lemmas.Bool.{cond_both}
-use Rattle.ion_tokens.specs.Names.{Action, Begun, Continues, ForeseenSo, Foresight, Form, Given, IsBlank, Known, Left, Lexeme, Lexes, LexesTo, Mark, Mode, Next, NextIs, Outcome, Place, Placed, Refused, Scanned, ShowsBegun, TokenKind, acts, behind, blob_ends, blob_of, feed, follow, foresight, foresight_at, foresight_behind, foresight_by, form_of, is_idle, run}
+use Rattle.ion_tokens.specs.Names.{Action, Begun, Continues, ForeseenSo, Foresight, Form, Given, IsBlank, Known, Left, Lexeme, Lexes, LexesTo, Mark, Mode, Next, NextIs, Outcome, Place, Placed, Refused, Scanned, ShowsBegun, TokenKind, acts, behind, blob_of, feed, follow, foresight, foresight_at, foresight_behind, foresight_by, form_of, is_idle, run, start_of}
 use Rattle.ion_tokens.specs.machine.Table.{next}
 use Rattle.ion_tokens.proofs.foreseen.Begins.{begun_holds, begun_right}
 use Rattle.ion_tokens.proofs.foreseen.LeftSymbols.{leaves_quotes}
 use Rattle.ion_tokens.proofs.histories.Histories.{given_next, left_next}
 use Rattle.ion_tokens.proofs.histories.Stepped.{behind_since, from_left, goes_on, scanned_used, there}
 use Rattle.ion_tokens.proofs.sound.Holds.{InMode, IsBegun}
+use Rattle.ion_tokens.proofs.runs.Runs.{blob_both}
 
--- where a token ends that an octet ends
-Ends : ℕ → Outcome → Type 0
-Ends used (Given l s) = l.end ≡ used + 1
-Ends used _ = Unit {0}
+-- the open token, or the one that ended, begins there, and with its last octet it ends there
+unfoldable pub Spans : ℕ → ℕ → Outcome → Type 0
+Spans n used (Next t) = t.start ≡ n
+Spans n used (Given l t) = (l.start ≡ n) × (l.end ≡ used + 1)
+Spans n used (Left l t) = l.start ≡ n
+Spans n used (Refused k r) = Unit {0}
 
-acts_ends : (p : Place) (s : Known) (o : ℕ) (a : Action) → Ends s.used (acts p s o a)
-unfolding Ends
-acts_ends p s o (Action.Give kind k) = refl
-acts_ends p s o Action.EndWord = cond_both ((o == 46) && bytes_eq s.kept (codes "null")) _ _ (Ends s.used) (λ _. tt) (λ _. tt)
-acts_ends p s o Action.EndBlob = elim (blob_of s.kept) as (λ b. Ends s.used (blob_ends s b)) [ None ↦ tt | Some octets ↦ tt ]
-acts_ends p s o _ = tt
+acts_span : (p : Place) (s : Known) (o : ℕ) (a : Action) → Spans (start_of s.mode s.start s.used) s.used (acts p s o a)
+unfolding Spans
+acts_span p s o (Action.Give kind k) = (refl, refl)
+acts_span p s o Action.EndWord =
+    cond_both ((o == 46) && bytes_eq s.kept (codes "null")) _ _ (Spans (start_of s.mode s.start s.used) s.used) (λ _. refl) (λ _. refl)
+acts_span p s o Action.EndBlob = blob_both (Spans (start_of s.mode s.start s.used) s.used) s (blob_of s.kept) tt (λ _. refl)
+acts_span p s o (Action.Refuse e) = tt
+acts_span p s o _ = refl
 
-feed_ends : (p : Place) (s : Known) (o : ℕ) (x : Outcome) → feed p s o ≡ x → Ends s.used x
-feed_ends p s o x e = subst (λ y. Ends s.used y) e (acts_ends p s o (next p s.colon s.mode o))
+-- what comes of an octet spans what is open
+pub feed_span : (p : Place) (s : Known) (o : ℕ) → Spans (start_of s.mode s.start s.used) s.used (feed p s o)
+feed_span p s o = acts_span p s o (next p s.colon s.mode o)
 
 given_end : (p : Place) (s t : Known) (o : ℕ) (l : Lexeme) → feed p s o ≡ Given l t → l.end ≡ s.used + 1
-unfolding Ends
-given_end p s t o l e = feed_ends p s o (Given l t) e
+unfolding Spans
+given_end p s t o l e = (subst (Spans (start_of s.mode s.start s.used) s.used) e (feed_span p s o)).1
 
 module _ (p : Place) (s : Known) (u : List ℕ) (ts : List Placed) (h : Scanned p s u ts []) (o : ℕ) where
   -- a run over the one octet comes to what the octet does

@@ -1,28 +1,12 @@
 -- Where a token begins that is open behind the next octet.
 use Rattle.std.proofs.Common.{◌≡◌, ℕ, Bool, true, false, cond, List, [], ◌∷◌, ◌++◌, refl, sym, ap, ◌∙◌, subst}
 use Rattle.std.specs.Prelude.{◌==◌, ◌&&◌, bytes_eq, codes, Option, Some, None}
-use Rattle.std.proofs.lemmas.Bool.{cond_both}
 use Rattle.ion_tokens.specs.Names.{Action, Begun, Covers, Given, IsNext, Known, Left, Lexeme, Lexes, LooksIn, Next, Outcome, Place, Placed, Refused, Scanned, ShowsBegun, acts, blob_ends, blob_of, feed, is_idle, start_of}
-use Rattle.ion_tokens.specs.machine.Table.{next}
 use Rattle.ion_tokens.proofs.foreseen.Begins.{begun_right}
-use Rattle.ion_tokens.proofs.foreseen.Foresights.{from, next_given, next_left, ran}
+use Rattle.ion_tokens.proofs.foreseen.Foresights.{Spans, feed_span, from, next_given, next_left, ran}
 use Rattle.ion_tokens.proofs.foreseen.OneBegun.{one_begun}
 use Rattle.ion_tokens.proofs.histories.Histories.{refusal_right}
 use Rattle.ion_tokens.proofs.histories.Stepped.{behind_since, goes_on, there}
-
--- the open token, or the one that ended, begins there
-Starts : ℕ → Outcome → Type 0
-Starts n (Next t) = t.start ≡ n
-Starts n (Given l t) = l.start ≡ n
-Starts n (Left l t) = l.start ≡ n
-Starts n (Refused k r) = Unit {0}
-
-acts_start : (p : Place) (s : Known) (o : ℕ) (a : Action) → Starts (start_of s.mode s.start s.used) (acts p s o a)
-unfolding Starts
-acts_start p s o Action.EndWord = cond_both ((o == 46) && bytes_eq s.kept (codes "null")) _ _ (Starts (start_of s.mode s.start s.used)) (λ _. refl) (λ _. refl)
-acts_start p s o Action.EndBlob = elim (blob_of s.kept) as (λ b. Starts (start_of s.mode s.start s.used) (blob_ends s b)) [ None ↦ tt | Some octets ↦ refl ]
-acts_start p s o (Action.Refuse e) = tt
-acts_start p s o _ = refl
 
 begun_start : (idle : Bool) (a b : Begun) → cond idle None (Some a) ≡ Some b → b.start ≡ a.start
 begun_start true a b e = cc
@@ -40,17 +24,17 @@ covers_next start end l (t ∷ ts) c i = sym c.0 ∙ ap (λ (x : Lexeme). x.star
 pub begins_since : (p : Place) (s : Known) (u : List ℕ) (ts : List Placed) → Scanned p s u ts [] → (o : ℕ) (b : Begun) → ShowsBegun p (u ++ o ∷ []) ts (Some b)
     → (rest : List ℕ) (others : List Placed) → LooksIn p others → Lexes false 0 ((u ++ o ∷ []) ++ rest) (ts ++ others)
     → b.start ≡ start_of s.mode s.start s.used
-unfolding Starts
-begins_since p s u ts h o b (colon, end, octets, to, begun) rest others looks lexes = by (feed p s o) refl (acts_start p s o (next p s.colon s.mode o)) where
+unfolding Spans
+begins_since p s u ts h o b (colon, end, octets, to, begun) rest others looks lexes = by (feed p s o) refl (feed_span p s o) where
   next_is : (l : Lexeme) → IsNext l others → b.start ≡ l.start
   next_is l i = covers_next b.start b.end l others (begun.always rest others looks lexes) i
 
-  by : (x : Outcome) → feed p s o ≡ x → Starts (start_of s.mode s.start s.used) x → b.start ≡ start_of s.mode s.start s.used
+  by : (x : Outcome) → feed p s o ≡ x → Spans (start_of s.mode s.start s.used) s.used x → b.start ≡ start_of s.mode s.start s.used
   by (Next t) e from_there =
       let after : Scanned p t (u ++ o ∷ []) ts [] = goes_on p s u ts [] h (o ∷ []) t (o ∷ [], refl) (ran p s u ts h o (Next t) e) in
       let one = one_begun p (u ++ o ∷ []) ts _ (Some b) (begun_right p t (u ++ o ∷ []) ts after) (colon, end, octets, to, begun) rest others looks lexes in
       begun_start (is_idle t.mode) _ b one ∙ from_there
-  by (Given l t) e from_there = next_is l (next_given p s u ts h o t l e rest others looks lexes) ∙ from_there
+  by (Given l t) e from_there = next_is l (next_given p s u ts h o t l e rest others looks lexes) ∙ from_there.0
   by (Left l t) e from_there = next_is l (next_left p s u ts h o t l e rest others looks lexes) ∙ from_there
   by (Refused n r) e from_there =
       let c = from p s u ts h o in

@@ -82,7 +82,3 @@ module _ (q : ℕ → Bool) where
   -- the run is all there is
   pub is_all : (d : List ℕ) (i : ℕ) → GoesOnTo q d i → i ≡ length d → i ≡ length (take_while q d)
   is_all d i on e = omega (arith, length-prefix_len q d, prefix_len-le-length q d)
-
-  -- the octets behind the lanes, one by one
-  pub then_each : (d : List ℕ) (i rest : ℕ) → GoesOnTo q d i → rest ≡ length (take_while q (drop i d)) → i + rest ≡ length (take_while q d)
-  then_each d i rest on e = omega (arith, length-prefix_len q d, length-prefix_len q (drop i d))

@@ -3,7 +3,7 @@ use Rattle.std.proofs.Common.{◌≡◌, ◌≢◌, ℕ, ◌+◌, ◌-◌, ◌<�
 use Rattle.std.specs.Cow.{cow_str_bytes}
 use Rattle.std.proofs.lemmas.List.{take-append-drop}
 use Rattle.std.proofs.Math.Seq.{drop-append_seam, drop-append-add}
-use Rattle.ion_tokens.specs.Names.{BeginsLexed, Body, BorrowsAt, BorrowsFrom, Content, EndsSo, IsBody, IsLentBody, IsLexeme, IsOwnedBody, IsWordBody, Kind, Known, Lexeme, LexesBefore, Operator, Place, Placed, Scanned, StandIn, Stepped, Tells, Token, TokenKind, TypedNull, Word, id_of, kind_named, null_of}
+use Rattle.ion_tokens.specs.Names.{Blob, Clob, Id, Mark', Number', BeginsLexed, Body, BorrowsAt, BorrowsFrom, Content, EndsSo, IsBody, IsLentBody, IsLexeme, IsOwnedBody, IsWordBody, Kind, Known, Lexeme, LexesBefore, Operator, Place, Placed, Scanned, StandIn, Stepped, Tells, Token, TokenKind, TypedNull, Word, id_of, kind_named, null_of}
 use Rattle.ion_tokens.specs.Bodies.{content}
 use Rattle.ion_tokens.proofs.complete.Wholes.{some_octet}
 use Rattle.ion_tokens.proofs.histories.Stepped.{begins_told, front_is, scanned_used}
@@ -58,35 +58,29 @@ last_of End (x ∷ ts) t colon before octets (rest, b, l) =
       kept = h.kept;
     }
 
-no_null : (c : Content) (k : Option Kind) → ((kind : Kind) → c ≡ TypedNull kind → ⊥) → Ok c ≡ null_of k → ⊥
-no_null c None n e = cc
-no_null c (Some kind) n e = n kind cc
+-- what a word or an operator says
+abbrev named : Content → Option (List ℕ)
+named (Word w) = Some w
+named (Operator w) = Some w
+named _ = None
 
--- a word's octets, by what it says, and an operator's
-word_octets : (k : TokenKind) (octets w : List ℕ) → IsBody k octets (Ok (Word w)) → (w ≡ octets) × IsKept k
-word_octets TokenKind.Word octets w h = by (id_of octets) h where
-  by : (id : Option ℕ) → IsWordBody octets id (Ok (Word w)) → (w ≡ octets) × Unit {0}
-  by None h = (let e = h.0 in cc, tt)
-  by (Some id) h = cc
-word_octets TokenKind.KindName octets w h = absurd (no_null (Word w) (kind_named octets) (λ kind e. cc) h)
-word_octets TokenKind.Number octets w h = absurd h
-word_octets TokenKind.Clob octets w h = cc
-word_octets TokenKind.Blob octets w h = cc
-word_octets (TokenKind.Mark m) octets w h = cc
-word_octets _ octets w h = let e = h.0 in cc
-
-operator_octets : (k : TokenKind) (octets w : List ℕ) → IsBody k octets (Ok (Operator w)) → (w ≡ octets) × IsKept k
-operator_octets TokenKind.Word octets w h = by (id_of octets) h where
-  by : (id : Option ℕ) → IsWordBody octets id (Ok (Operator w)) → (w ≡ octets) × Unit {0}
-  by None h = let e = h.0 in cc
-  by (Some id) h = cc
-operator_octets TokenKind.KindName octets w h = absurd (no_null (Operator w) (kind_named octets) (λ kind e. cc) h)
-operator_octets TokenKind.Number octets w h = absurd h
-operator_octets TokenKind.Operator octets w h = (let e = h.0 in cc, tt)
-operator_octets TokenKind.Clob octets w h = cc
-operator_octets TokenKind.Blob octets w h = cc
-operator_octets (TokenKind.Mark m) octets w h = cc
-operator_octets _ octets w h = let e = h.0 in cc
+-- that is its octets
+kept_octets : (k : TokenKind) (octets w : List ℕ) (c : Content) → named c ≡ Some w → IsBody k octets (Ok c) → (w ≡ octets) × IsKept k
+kept_octets TokenKind.Word octets w c n h = by (id_of octets) h where
+  by : (id : Option ℕ) → IsWordBody octets id (Ok c) → (w ≡ octets) × Unit {0}
+  by None h = (let e : Some w ≡ Some octets = sym n ∙ ap named h.0 in cc, tt)
+  by (Some id) h = let e : c ≡ Id id = cc in let f : Some w ≡ None = sym n ∙ ap named e in cc
+kept_octets TokenKind.KindName octets w c n h = by (kind_named octets) h where
+  by : (kind : Option Kind) → Ok c ≡ null_of kind → (w ≡ octets) × ⊥
+  by None e = cc
+  by (Some kind) e = let f : c ≡ TypedNull kind = cc in let g : Some w ≡ None = sym n ∙ ap named f in cc
+kept_octets TokenKind.Number octets w (Number' x) n h = cc
+kept_octets TokenKind.Number octets w _ n h = absurd h
+kept_octets TokenKind.Operator octets w c n h = (let e : Some w ≡ Some octets = sym n ∙ ap named h.0 in cc, tt)
+kept_octets TokenKind.Clob octets w c n h = let e : c ≡ Clob octets = cc in let f : Some w ≡ None = sym n ∙ ap named e in cc
+kept_octets TokenKind.Blob octets w c n h = let e : c ≡ Blob octets = cc in let f : Some w ≡ None = sym n ∙ ap named e in cc
+kept_octets (TokenKind.Mark m) octets w c n h = let e : c ≡ Mark' m = cc in let f : Some w ≡ None = sym n ∙ ap named e in cc
+kept_octets _ octets w c n h = let f : Some w ≡ None = sym n ∙ ap named h.0 in cc
 
 module _ (before : ℕ) (u piece : List ℕ) (l : Lexeme) (start end : ℕ) (used : before ≡ length u) (h : LastOf 0 (u ++ piece) l) (first : start ≡ l.start)
     (last : end ≡ l.end) where
@@ -112,11 +106,11 @@ module _ (before : ℕ) (u piece : List ℕ) (l : Lexeme) (start end : ℕ) (use
 
   pub lends : (b : Body) → IsBody l.kind l.octets (Ok (content b)) → BorrowsAt before start end piece b → IsLentBody before start b
   lends (Body.Word w) says (lent, s, from) =
-      let is = word_octets l.kind l.octets (cow_str_bytes w) says in
+      let is = kept_octets l.kind l.octets (cow_str_bytes w) (Word (cow_str_bytes w)) refl says in
       let same : cow_str_bytes w ≡ h.token = is.0 ∙ h.kept is.1 in
       (λ le. from.0 (lent_is lent (cow_str_bytes w) s same le), λ lt. from.1 (lent_not lent (cow_str_bytes w) s same lt))
   lends (Body.Operator w) says (lent, s, from) =
-      let is = operator_octets l.kind l.octets (cow_str_bytes w) says in
+      let is = kept_octets l.kind l.octets (cow_str_bytes w) (Operator (cow_str_bytes w)) refl says in
       let same : cow_str_bytes w ≡ h.token = is.0 ∙ h.kept is.1 in
       (λ le. from.0 (lent_is lent (cow_str_bytes w) s same le), λ lt. from.1 (lent_not lent (cow_str_bytes w) s same lt))
   lends _ says b = tt

@@ -2,7 +2,7 @@
 -- whole.
 use Rattle.std.proofs.Common.{◌≡◌, ℕ, zero, suc, ◌+◌, ◌-◌, ◌≤◌, ◌<◌, Bool, true, false, List, [], ◌∷◌, ◌++◌, length, take, drop, slice_index, inl, inr, refl, sym, ap, ◌∙◌, subst, arith, append_assoc, append-nil}
 use Rattle.std.specs.Prelude.{Ok}
-use Rattle.std.proofs.lemmas.List.{length-take-le, take-append-drop}
+use Rattle.std.proofs.lemmas.List.{length-take-le, take-append-drop, take_more}
 use Rattle.ion_tokens.specs.Names.{Content, Continues, IsAhead, IsFound, IsPassed, IsTraced, Known, Leads, Lexeme, Next, Outcome, Passes, Place, Placed, Places, Rest, Scanned, TokenKind, Told, before_end, ended, feed, judged, left_after, lexeme_at, past_blank, past_token, resting, run, said, told_there}
 use Rattle.ion_tokens.proofs.histories.Stepped.{at_most_one, begins_front, goes_on}
 use Rattle.ion_tokens.proofs.runs.LastOctets.{LastOctet}
@@ -16,12 +16,6 @@ pub blank_moves : (p : Place) (r : Rest) (u octets : List ℕ) (ts : List Placed
     → Continues (take n octets) ahead → IsPassed octets n
     → Scanned p (resting (past_blank r n)) (u ++ take n octets) ts []
 blank_moves p r u octets ts ahead n h c passed = goes_on p (resting r) u ts ahead h (take n octets) (resting (past_blank r n)) c (passed p r)
-
-take_more : (m : ℕ) (octets : List ℕ) → m < length octets → take (m + 1) octets ≡ take m octets ++ slice_index octets m ∷ []
-take_more m [] h = absurd (omega arith)
-take_more zero (o ∷ os) h = refl
-take_more (suc m) (o ∷ os) h = ap (λ (k : ℕ). take k (o ∷ os)) (let k : suc m + 1 ≡ suc (m + 1) = omega arith in k)
-    ∙ ap (λ l. o ∷ l) (take_more m os (omega arith))
 
 abbrev known_in : Outcome → Known → Known
 known_in (Next s) t = s
@@ -45,7 +39,7 @@ module _ (p : Place) (r : Rest) (u octets : List ℕ) (ts : List Placed) (kind :
       (lexeme_at r kind kept n) e pass q
   last ahead false known h c some shown e =
       let one : take n octets ≡ take (n - 1) octets ++ slice_index octets (n - 1) ∷ [] =
-      ap (λ (k : ℕ). take k octets) (let k : n ≡ (n - 1) + 1 = omega arith in k) ∙ take_more (n - 1) octets shown in
+      ap (λ (k : ℕ). take k octets) (let k : n ≡ (n - 1) + 1 = omega arith in k) ∙ take_more octets (n - 1) 0 shown in
       subst (λ l. Scanned q (resting (past_token p r kind n)) l (ts ++ placed p (lexeme_at r kind kept n) ∷ []) [])
       (append_assoc u (take (n - 1) octets) (slice_index octets (n - 1) ∷ []) ∙ ap (λ l. u ++ l) (sym one))
       (scanned_given p known (u ++ take (n - 1) octets) ts ahead h (slice_index octets (n - 1)) c (resting (past_token p r kind n)) (lexeme_at r kind kept n) e
@@ -66,7 +60,7 @@ module _ (p : Place) (r : Rest) (u octets : List ℕ) (ts : List Placed) (kind :
         let here : u ≡ u ++ take (before_end left n) octets = sym (append-nil u) ∙ ap (λ (k : ℕ). u ++ take k octets) (sym e) in
         let next : Continues (slice_index octets (before_end left n) ∷ []) ahead =
         subst (λ (k : ℕ). Continues (slice_index octets k ∷ []) ahead) (sym e)
-        (subst (λ w. Continues w ahead) (take_more zero octets shown) (front zero shown)) in
+        (subst (λ w. Continues w ahead) (take_more octets zero 0 shown) (front zero shown)) in
         last ahead left f.known (subst (λ w. Scanned p f.known w ts ahead) here (subst (λ k. Scanned p k u ts ahead) same h)) next f.some f.shown f.ends
     by (suc m) e ran shown =
         let goes : Continues (take (before_end left n) octets) ahead =
@@ -98,7 +92,7 @@ module _ (places : Places) (r : Rest) (u octets : List ℕ) (told : List Told) (
         octet = slice_index octets m;
         rest = drop (m + 1) octets;
         known = f.known;
-        cut = sym (take-append-drop (m + 1) octets) ∙ ap (λ w. w ++ drop (m + 1) octets) (take_more m octets f.shown)
+        cut = sym (take-append-drop (m + 1) octets) ∙ ap (λ w. w ++ drop (m + 1) octets) (take_more octets m 0 f.shown)
             ∙ append_assoc (take m octets) (slice_index octets m ∷ []) (drop (m + 1) octets);
         ran = f.ran;
         fed = f.ends;
@@ -113,7 +107,7 @@ module _ (places : Places) (r : Rest) (u octets : List ℕ) (told : List Told) (
       (left_one p (slice_index octets n) f.known t l f.ends)
   trace_moves ahead false h goes f =
       let one : take n octets ≡ take (n - 1) octets ++ slice_index octets (n - 1) ∷ [] =
-      ap (λ (k : ℕ). take k octets) (let some = f.some in let k : n ≡ (n - 1) + 1 = omega arith in k) ∙ take_more (n - 1) octets f.shown in
+      ap (λ (k : ℕ). take k octets) (let some = f.some in let k : n ≡ (n - 1) + 1 = omega arith in k) ∙ take_more octets (n - 1) 0 f.shown in
       subst (λ w. IsTraced places t (u ++ w) (told ++ told_there r n c ∷ []) []) (sym one)
       (given_stands p (resting r) octets places u told ahead l t (told_there r n c) (shown_by false f) judged_so h goes refl
       (given_one p (slice_index octets (n - 1)) f.known t l f.ends))

@@ -10,7 +10,8 @@ use Rattle.base64.proofs.EngineFacts.{decode_of_strict}
 use Rattle.ion_tokens.specs.Names.{AreOctets, BlankPiece, Each, Given, HasNoClose, IsBlank, IsBlankPiece, IsBlobContent, IsOpenComment, IsWord, Known, Left, Lexeme, Mode, Next, Outcome, Place, Refused, base64_of, blank_spelling, blob_of, is_base64, is_white, run, takes_colon}
 use Rattle.ion_tokens.specs.Lexemes.{ends}
 use Rattle.ion_tokens.specs.laws.Blobs.{blob_octets, octet_at}
-use Rattle.ion_tokens.proofs.complete.Moves.{at}
+use Rattle.ion_tokens.proofs.complete.Moves.{Resumes, at}
+use Rattle.ion_tokens.proofs.complete.TakesOperators.{resumes_i, resumes_in, resumes_inf}
 use Rattle.ion_tokens.proofs.sound.Opens.{AnyBlob, IsOpen, IsUnjudgedToken, solid}
 use Rattle.ion_tokens.specs.laws.Each.{all_last, flat_last}
 
@@ -139,16 +140,11 @@ inf_word n a b = ⊎_elim (λ e. subst P (sym e) ((refl, (refl, tt)), refl))
 -- letters of `inf` behind a token lead into a word
 pub inf_again : (q : Place) (colon : Bool) (end n used : ℕ) → 1 ≤ n → n ≤ 3 → used ≡ end + n → run q (take n (codes "inf")) (at Mode.Blank [] colon end end)
     ≡ Next (at Mode.Word (take n (codes "inf")) colon end used)
-inf_again q colon end n used a b e = ⊎_elim (λ f. subst P (sym f) first) (λ m. ⊎_elim (λ f. subst P (sym f) second) (λ f. subst P (sym f) third) m)
-    (one_to_three n a b) ∙ ap (λ (u : ℕ). Next (at Mode.Word (take n (codes "inf")) colon end u)) (sym e) where
-      P : ℕ → Type 0
-      P n = run q (take n (codes "inf")) (at Mode.Blank [] colon end end) ≡ Next (at Mode.Word (take n (codes "inf")) colon end (end + n))
+inf_again q colon end n used a b e = resumes q colon end
+    ∙ ap (λ (u : ℕ). Next (at Mode.Word (take n (codes "inf")) colon end u)) (ap (λ (i : ℕ). end + i) (inf_word n a b).1 ∙ sym e)
+  where
+    P : ℕ → Type 0
+    P n = Resumes (take n (codes "inf")) Mode.Word (take n (codes "inf"))
 
-      first : P 1
-      first = refl
-
-      second : P 2
-      second = let i : end + 1 + 1 ≡ end + 2 = omega arith in ap (λ (u : ℕ). Next (at Mode.Word (take 2 (codes "inf")) colon end u)) i
-
-      third : P 3
-      third = let i : end + 1 + 1 + 1 ≡ end + 3 = omega arith in ap (λ (u : ℕ). Next (at Mode.Word (take 3 (codes "inf")) colon end u)) i
+    resumes : P n
+    resumes = ⊎_elim (λ f. subst P (sym f) resumes_i) (λ m. ⊎_elim (λ f. subst P (sym f) resumes_in) (λ f. subst P (sym f) resumes_inf) m) (one_to_three n a b)

@@ -1,7 +1,7 @@
 -- Octets that are tokens have a trace that tells them.
 use Rattle.std.proofs.Common.{◌≡◌, ℕ, ◌+◌, ◌-◌, ◌⊎◌, inl, inr, Bool, false, List, [], ◌∷◌, ◌++◌, length, drop, refl, sym, ap, ◌∙◌, subst, arith, append_assoc, append-nil, length-append}
 use Rattle.std.specs.Prelude.{Option, Some, None, Result, Ok, Err, option_to_list}
-use Rattle.ion_tokens.specs.Names.{AllSay, Content, Given, Incomplete, IsBody, Known, Leads, Left, Lexeme, Lexes, Next, Outcome, Place, Placed, Places, Reason, TokenKind, Told, Trace, at_end, end_judged, initial, judged, last_judged, over, run, said, says, takes, then_by, trace, traced}
+use Rattle.ion_tokens.specs.Names.{AllSay, Content, Given, Incomplete, IsBody, Known, Leads, Left, Lexeme, Lexes, Next, Outcome, Place, Placed, Places, Reason, TokenKind, Told, Trace, at_end, end_judged, initial, judged, last_judged, over, run, said, says, trace, traced}
 use Rattle.ion_tokens.specs.laws.Tokens.{AreTold, TellsLexeme}
 use Rattle.ion_tokens.specs.laws.TokensTraced.{AreSought, EndsInOperand}
 use Rattle.ion_tokens.proofs.complete.Found.{Finds, Gives, Last, Leaves, Nothing, Unclosed, in_word}
@@ -10,7 +10,7 @@ use Rattle.ion_tokens.proofs.runs.Cutting.{one_body}
 use Rattle.ion_tokens.proofs.runs.LastOctets.{cut_behind, last_octet, shown, size_shown}
 use Rattle.ion_tokens.proofs.runs.Runs.{next_used}
 use Rattle.ion_tokens.proofs.runs.Splits.{given_one, left_one}
-use Rattle.ion_tokens.proofs.traces.Traced.{debt_small, left_owes, over_end, over_next, settles}
+use Rattle.ion_tokens.proofs.traces.Traced.{over_given, over_left, over_next}
 
 -- a token says something
 abbrev Says : Placed → Type 0
@@ -112,24 +112,21 @@ module _ (places : Places) where
         let back : drop (s'.used - s.used) octets ≡ d.rest =
         ap (λ l. drop (s'.used - s.used) l) (cut_behind d) ∙ behind_front (shown d) d.rest s.used s'.used used in
         joined d.rest back (omega (arith, used, size, ap length (cut_behind d), length-append (shown d) d.rest))
-        (ap (λ l. over places l before s) d.cut ∙ over_end places before t.place octets d.rest s (Given t.lexeme s') (sym place) d
-        ∙ ap (λ y. then_by y (over places d.rest)) (judged_so s'.used)) more
+        (ap (λ l. over places l before s) d.cut
+        ∙ over_given places before (before ++ x ∷ []) t.place octets d.rest s s' t.lexeme (sym place) d (judged_so s'.used)) more
 
     -- and of one before which an octet is left
     left : run t.place octets s ≡ Left t.lexeme s' → TracedBehind → TellsOn places before (traced places (over places octets before s)) (t ∷ ts) all
     left e more =
         let d = last_octet t.place octets s (Left t.lexeme s') tt e in
         let one = left_one t.place d.octet d.known s' t.lexeme d.fed in
-        let owes = left_owes t.place d.known s' d.octet t.lexeme d.fed in
-        let small = debt_small d.known.mode in
         let counted = d.counted in
         let used : s'.used ≡ s.used + length d.before = omega (arith, one, counted) in
         let back : drop (s'.used - s.used) octets ≡ d.octet ∷ d.rest =
         ap (λ l. drop (s'.used - s.used) l) d.cut ∙ behind_front d.before (d.octet ∷ d.rest) s.used s'.used used in
         joined (d.octet ∷ d.rest) back (omega (arith, used, size, ap length d.cut, length-append d.before (d.octet ∷ d.rest)))
-        (ap (λ l. over places l before s) d.cut ∙ over_end places before t.place octets d.rest s (Left t.lexeme s') (sym place) d
-        ∙ ap (λ y. then_by (then_by y (takes 2 places d.octet)) (over places d.rest)) (judged_so (s'.used + 1))
-        ∙ ap (λ y. then_by y (over places d.rest)) (settles 2 places d.octet (before ++ x ∷ []) s' (omega (arith, owes, small)))) more
+        (ap (λ l. over places l before s) d.cut
+        ∙ over_left places before (before ++ x ∷ []) t.place octets d.rest s s' t.lexeme (sym place) d (judged_so (s'.used + 1))) more
 
   -- what is found is told
   found_told : (before : List Told) (s : Known) (octets : List ℕ) (ts : List Placed) (all : ℕ) → Finds s octets ts → AllSay ts → AreSought places before ts

@@ -72,6 +72,24 @@ over_end places ts p piece rest s x place d =
     ∙ ap (λ q. then_by (comes (takes 2 places d.octet) ts (feed q d.known d.octet)) (over places rest)) place
     ∙ ap (λ y. then_by (comes (takes 2 places d.octet) ts y) (over places rest)) d.fed
 
+-- up to a token that is given and told
+pub over_given : (places : Places) (ts us : List Told) (p : Place) (piece rest : List ℕ) (s t : Known) (l : Lexeme) → places ts ≡ p
+    → (d : LastOctet p piece s (Given l t)) → judged ts l t.used t (said l.kind l.octets) ≡ Leads us t
+    → over places (d.before ++ d.octet ∷ rest) ts s ≡ over places rest us t
+over_given places ts us p piece rest s t l place d is =
+    over_end places ts p piece rest s (Given l t) place d ∙ ap (λ y. then_by y (over places rest)) is
+
+-- and to one before an octet that is left
+pub over_left : (places : Places) (ts us : List Told) (p : Place) (piece rest : List ℕ) (s t : Known) (l : Lexeme) → places ts ≡ p
+    → (d : LastOctet p piece s (Left l t)) → judged ts l (t.used + 1) t (said l.kind l.octets) ≡ Leads us t
+    → over places (d.before ++ d.octet ∷ rest) ts s ≡ over places (d.octet ∷ rest) us t
+over_left places ts us p piece rest s t l place d is =
+    let owes = left_owes p d.known t d.octet l d.fed in
+    let small = debt_small d.known.mode in
+    over_end places ts p piece rest s (Left l t) place d
+    ∙ ap (λ y. then_by (then_by y (takes 2 places d.octet)) (over places rest)) is
+    ∙ ap (λ y. then_by y (over places rest)) (settles 2 places d.octet us t (omega (arith, owes, small)))
+
 -- what a token in memory says
 said_so : (l : Lexeme) (t : Token) → IsToken l t → said l.kind l.octets ≡ Ok (content t.body)
 said_so l t h = one_body l.kind l.octets (said l.kind l.octets) (Ok (content t.body)) (says l.kind l.octets) h.says
@@ -172,17 +190,8 @@ module _ (p : Place) (s : Known) (piece : List ℕ) where
       us : List Told
       us = ts ++ x ∷ []
 
-      once_more : takes 2 places d.octet us t ≡ takes 3 places d.octet us t
-      once_more =
-          let owes = left_owes p d.known t d.octet l d.fed in
-          let small = debt_small d.known.mode in
-          settles 2 places d.octet us t (omega (arith, owes, small))
-
       leads : (more : List ℕ) → over places (d.before ++ d.octet ∷ more) ts s ≡ over places (d.octet ∷ more) us t
-      leads more =
-          over_end places ts p piece more s (Left l t) place d
-          ∙ ap (λ y. then_by (then_by y (takes 2 places d.octet)) (over places more)) (is (t.used + 1))
-          ∙ ap (λ y. then_by y (over places more)) once_more
+      leads more = over_left places ts us p piece more s t l place d (is (t.used + 1))
 
   -- A step that answers `Ok` goes on in the trace.
   pub step_traced : (x : Outcome) (scan : Stepped) (now : Known) → run p piece s ≡ x → Answers s.used x (Ok scan) now → AnswersTrace p s piece (Ok scan) now

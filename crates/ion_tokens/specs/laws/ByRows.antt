@@ -221,16 +221,10 @@ module _ (f : Action → Bool) where
   walk p colon Mode.Blank o g = blank p colon o (g (taken o))
   walk p colon Mode.Slash o g =
       both (o == 47) (g (taken o) 0) (both (o == 42) (g (taken o) 1) (slash (is_sexp p) (is_operator_octet o) _ _ (g (taken o))))
-  walk p colon Mode.LineComment o g = comment (is_line_end o)
-    where
-      comment : (b : Bool) → f (go (cond b Mode.Blank Mode.LineComment)) ≡ true
-      comment true = g (taken o) 0
-      comment false = g (taken o) 1
-  walk p colon Mode.BlockComment o g = comment (o == 42)
-    where
-      comment : (b : Bool) → f (go (cond b Mode.BlockCommentStar Mode.BlockComment)) ≡ true
-      comment true = g (taken o) 0
-      comment false = g (taken o) 1
+  walk p colon Mode.LineComment o g =
+      elim (is_line_end o) as (λ b. f (go (cond b Mode.Blank Mode.LineComment)) ≡ true) [ true ↦ g (taken o) 0 | false ↦ g (taken o) 1 ]
+  walk p colon Mode.BlockComment o g =
+      elim (o == 42) as (λ b. f (go (cond b Mode.BlockCommentStar Mode.BlockComment)) ≡ true) [ true ↦ g (taken o) 0 | false ↦ g (taken o) 1 ]
   walk p colon Mode.BlockCommentStar o g = both (o == 47) (g (taken o) 0) (both (o == 42) (g (taken o) 1) (g (taken o) 2))
   walk p colon Mode.Colon o g = both (o == 58) (g (taken o) 0) (g (taken o) 1)
   walk p colon Mode.Number o g = both (is_stop o) (g (taken o) 0) (both (o == 47) (g (taken o) 1) (g (taken o) 2))
