@@ -11,7 +11,7 @@ pub use Rattle.ion_scalar.specs.binary.Reads.{BeginsWith, BeginsWithInt, GoesOn,
 pub use Rattle.ion_scalar.specs.binary.Shifted.{day_at, minute_at}
 unfoldable pub use Rattle.ion_scalar.specs.binary.Shifted.{moved}
 pub use Rattle.ion_scalar.specs.binary.Spellings.{AreBelow, decimal_octets, int_octets, is_zero, sign_bit, signed_digits, uint_octets, var_int_octets, var_uint_octets}
-pub use Rattle.ion_scalar.specs.binary.Timestamp.{AreFields, Begins, IsBehindDay, IsBehindHour, IsBehindMinute, IsBehindMonth, IsBehindSecond, IsBehindYear, IsFractionOf, IsSecondsFraction, IsTimestampBody, and_then, day_known, in_range, kept_offset, local_in, minute_of, near, offset_from, read_digits, read_no_digits, shown_at, time_known, with_offset, with_power}
+pub use Rattle.ion_scalar.specs.binary.Timestamp.{AreFields, Begins, EndsOr, IsBehindDay, IsBehindHour, IsBehindMinute, IsBehindMonth, IsBehindSecond, IsBehindYear, IsFractionOf, IsSecondsFraction, IsTimestampBody, and_then, day_known, ends_or, in_range, kept_offset, local_in, minute_of, near, offset_from, read_digits, read_no_digits, shown_at, time_known, with_offset, with_power}
 unfoldable pub use Rattle.ion_scalar.specs.binary.Timestamp.{read_behind_day, read_behind_hour, read_behind_minute, read_behind_month, read_behind_second, read_behind_year, read_field, read_fields, read_fraction, read_offset, shown, timestamp_of_body}
 pub use Rattle.ion_scalar.specs.binary.TimestampReasons.{AreLargeFields, IsLargeBehindDay, IsLargeBehindHour, IsLargeBehindMinute, IsLargeBehindMonth, IsLargeBehindSecond, IsLargeBehindYear, IsLargeBody, IsLargeFraction, IsLargePart, ReadsTimestampBody}
 pub use Rattle.ion_scalar.specs.binary.TimestampSpellings.{ahead_octets, fields_octets, octets_behind_day, octets_behind_minute, octets_behind_month, octets_behind_second, octets_behind_year, utc_of}

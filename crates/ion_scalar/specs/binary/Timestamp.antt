@@ -31,6 +31,11 @@ pub record Begins (least most : ℕ) (Behind : ℕ → List ℕ → Type 0) (oct
   pub range : (least ≤ number) × (number ≤ most)
   pub behind : Behind number rest
 
+-- behind a part stands nothing, by which so much is known, or the next part in its range
+abbrev pub EndsOr : Utc → ℕ → ℕ → (ℕ → List ℕ → Utc → Type 0) → List ℕ → Utc → Type 0
+EndsOr known least most Behind octets utc =
+    ((octets ≡ []) × (utc ≡ known)) ⊎ Begins least most (λ number rest. Behind number rest utc) octets
+
 -- with the exponent -d the coefficient, 0 or more, has d digits; with any other it is 0, and there is no fraction
 abbrev pub IsFractionOf : Bool → ℕ → List ℕ → Minute → ℕ → Utc → Type 0
 IsFractionOf below power coefficient minute second utc =
@@ -56,8 +61,7 @@ IsBehindSecond minute second octets utc =
 
 -- behind the minute nothing stands, or a second
 abbrev pub IsBehindMinute : Minute → List ℕ → Utc → Type 0
-IsBehindMinute minute octets utc =
-    ((octets ≡ []) × (utc ≡ time_known Precision.Minute minute 0 0)) ⊎ Begins 0 last_second (λ second rest. IsBehindSecond minute second rest utc) octets
+IsBehindMinute minute = EndsOr (time_known Precision.Minute minute 0 0) 0 last_second (IsBehindSecond minute)
 
 -- behind the hour a minute stands
 abbrev pub IsBehindHour : Date → ℕ → List ℕ → Utc → Type 0
@@ -65,19 +69,16 @@ IsBehindHour date hour octets utc = Begins 0 last_minute (λ minute rest. IsBehi
 
 -- behind the day nothing stands, or an hour
 abbrev pub IsBehindDay : Date → List ℕ → Utc → Type 0
-IsBehindDay date octets utc =
-    ((octets ≡ []) × (utc ≡ day_known Precision.Day date)) ⊎ Begins 0 last_hour (λ hour rest. IsBehindHour date hour rest utc) octets
+IsBehindDay date = EndsOr (day_known Precision.Day date) 0 last_hour (IsBehindHour date)
 
 -- behind the month nothing stands, or a day that the month has
 abbrev pub IsBehindMonth : ℕ → ℕ → List ℕ → Utc → Type 0
-IsBehindMonth year month octets utc =
-    ((octets ≡ []) × (utc ≡ day_known Precision.Month (day_of year month 1)))
-    ⊎ Begins 1 (month_length year month) (λ day rest. IsBehindDay (day_of year month day) rest utc) octets
+IsBehindMonth year month =
+    EndsOr (day_known Precision.Month (day_of year month 1)) 1 (month_length year month) (λ day. IsBehindDay (day_of year month day))
 
 -- behind the year nothing stands, or a month
 abbrev pub IsBehindYear : ℕ → List ℕ → Utc → Type 0
-IsBehindYear year octets utc =
-    ((octets ≡ []) × (utc ≡ day_known Precision.Year (day_of year 1 1))) ⊎ Begins 1 last_month (λ month rest. IsBehindMonth year month rest utc) octets
+IsBehindYear year = EndsOr (day_known Precision.Year (day_of year 1 1)) 1 last_month (IsBehindMonth year)
 
 -- these octets are the fields in UTC, from the year on
 abbrev pub AreFields : List ℕ → Utc → Type 0
@@ -126,6 +127,11 @@ abbrev pub and_then : {X : Type 0} → List ℕ → (ℕ → List ℕ → Result
 and_then octets judge (Ok read) = judge read.0 (drop read.1 octets)
 and_then octets judge (Err reason) = Err reason
 
+-- nothing behind a part, or the next one
+abbrev pub ends_or : Utc → ℕ → ℕ → (ℕ → List ℕ → Result Utc Reason) → List ℕ → Result Utc Reason
+ends_or known least most judge [] = Ok known
+ends_or known least most judge (octet ∷ rest) = and_then (octet ∷ rest) judge (read_field least most (octet ∷ rest))
+
 -- the coefficient behind the exponent -d, and behind one that isn't below 0
 abbrev pub read_digits : ℕ → Minute → ℕ → List ℕ → Result Utc Reason
 read_digits digits minute second octets =
@@ -157,24 +163,20 @@ read_behind_second minute second [] = Ok (time_known Precision.Second minute sec
 read_behind_second minute second (octet ∷ rest) = with_power minute second (octet ∷ rest) (var_int (octet ∷ rest))
 
 unfoldable pub read_behind_minute : Minute → List ℕ → Result Utc Reason
-read_behind_minute minute [] = Ok (time_known Precision.Minute minute 0 0)
-read_behind_minute minute (octet ∷ rest) = and_then (octet ∷ rest) (read_behind_second minute) (read_field 0 last_second (octet ∷ rest))
+read_behind_minute minute octets = ends_or (time_known Precision.Minute minute 0 0) 0 last_second (read_behind_second minute) octets
 
 unfoldable pub read_behind_hour : Date → ℕ → List ℕ → Result Utc Reason
 read_behind_hour date hour octets = and_then octets (λ minute. read_behind_minute (minute_of date hour minute)) (read_field 0 last_minute octets)
 
 unfoldable pub read_behind_day : Date → List ℕ → Result Utc Reason
-read_behind_day date [] = Ok (day_known Precision.Day date)
-read_behind_day date (octet ∷ rest) = and_then (octet ∷ rest) (read_behind_hour date) (read_field 0 last_hour (octet ∷ rest))
+read_behind_day date octets = ends_or (day_known Precision.Day date) 0 last_hour (read_behind_hour date) octets
 
 unfoldable pub read_behind_month : ℕ → ℕ → List ℕ → Result Utc Reason
-read_behind_month year month [] = Ok (day_known Precision.Month (day_of year month 1))
-read_behind_month year month (octet ∷ rest) =
-    and_then (octet ∷ rest) (λ day. read_behind_day (day_of year month day)) (read_field 1 (month_length year month) (octet ∷ rest))
+read_behind_month year month octets =
+    ends_or (day_known Precision.Month (day_of year month 1)) 1 (month_length year month) (λ day. read_behind_day (day_of year month day)) octets
 
 unfoldable pub read_behind_year : ℕ → List ℕ → Result Utc Reason
-read_behind_year year [] = Ok (day_known Precision.Year (day_of year 1 1))
-read_behind_year year (octet ∷ rest) = and_then (octet ∷ rest) (read_behind_month year) (read_field 1 last_month (octet ∷ rest))
+read_behind_year year octets = ends_or (day_known Precision.Year (day_of year 1 1)) 1 last_month (read_behind_month year) octets
 
 unfoldable pub read_fields : List ℕ → Result Utc Reason
 read_fields octets = and_then octets read_behind_year (read_field 1 last_year octets)

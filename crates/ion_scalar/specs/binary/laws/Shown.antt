@@ -5,13 +5,13 @@ use Rattle.std.proofs.lemmas.Bool.{lt-leb, le-leb, cases_lt}
 use Rattle.std.proofs.lemmas.Int.{ints, fits_signed_from_abs}
 use Rattle.std.proofs.lemmas.List.{take-append-drop}
 use Rattle.std.proofs.Math.Seq.{drop-append_seam}
-use Rattle.ion_scalar.specs.Names.{HasOffset, InYears, Incomplete, IsCut, IsMinute, IsOffset, IsTimestamp, IsTimestampBody, Local, Malformed, Minute, Precision, ReadsVarInt, Reason, Signed, TimestampParts, TooLarge, Utc, VarInt, farthest_offset, instant, kept_offset, last_year, local_in, local_minute, minute_number, minutes_ahead, moved, near, offset_from, read_fields, read_offset, shown, signed, timestamp_of_body, utc_minute, var_int, with_offset}
+use Rattle.ion_scalar.specs.Names.{AreFields, AreLargeFields, HasOffset, InYears, Incomplete, IsCut, IsLargeBody, IsMinute, IsOffset, IsTimestamp, IsTimestampBody, Local, Malformed, Minute, Precision, ReadsVarInt, Reason, Signed, TimestampParts, TooLarge, Utc, VarInt, farthest_offset, instant, kept_offset, last_year, local_in, local_minute, minute_number, minutes_ahead, moved, near, offset_from, read_fields, read_offset, shown, signed, timestamp_of_body, utc_minute, var_int, with_offset}
 use Rattle.ion_atoms.specs.laws.Calendar.{minute-in_years, minute_number-injective}
 use Rattle.ion_atoms.specs.laws.Timestamps.{local_minute-is}
 use Rattle.ion_scalar.specs.binary.Timestamp.{shown_by}
 use Rattle.ion_scalar.specs.binary.laws.Shifted.{moved_is, moved_minute, moved_number, moved_out, moved_years}
-use Rattle.ion_scalar.specs.binary.laws.Timestamp.{IsUtc, fields_are, fields_read, fields_told}
-use Rattle.ion_scalar.specs.binary.laws.VarInt.{var_int_answers, var_int_read}
+use Rattle.ion_scalar.specs.binary.laws.Timestamp.{Answers, IsUtc, fields_are, fields_judged, reads, told, too_large}
+use Rattle.ion_scalar.specs.binary.laws.VarInt.{var_int_answers, var_int_reaches, var_int_read}
 
 zero_near : IsOffset (pos 0)
 zero_near = (omega (arith, ints), omega (arith, ints))
@@ -120,15 +120,6 @@ module _ (utc : Utc) (h : IsUtc utc) (offset : Option ℤ) (o : IfSome offset Is
         years = rw back (minute-in_years utc.minute h.minute);
       }
 
-  shown_told : (t : TimestampParts) → shown offset utc ≡ Ok t → IsMinute (moved utc.minute by) × Lies (moved utc.minute by) × (parts (moved utc.minute by) ≡ t)
-  shown_told t e =
-      elim shown_cases [
-        | inl years ↦
-            let here = shown_within years.0 years.1 in
-            (moved_minute utc.minute by h.minute near_by years.0 years.1, moved_number utc.minute by h.minute near_by, cc)
-        | inr refused ↦ absurd cc
-      ]
-
 negative_near : (n : ℕ) (none : Bool) → n ≤ farthest_offset → IfSome (cond none None (Some (signed true n))) IsOffset
 negative_near n true h = tt
 negative_near n false h = (omega (arith, ints, h), omega (arith, ints))
@@ -137,50 +128,76 @@ pub near_from : (below : Bool) (n : ℕ) → n ≤ farthest_offset → IfSome (o
 near_from false n h = (omega (arith, ints), omega (arith, ints, h))
 near_from true n h = negative_near n (n == 0) h
 
-module _ (body : List ℕ) (t : TimestampParts) where
-  fields_on : (read : Signed × ℕ) → VarInt (take read.1 body) read.0.negative read.0.magnitude → read.0.magnitude ≤ farthest_offset
-      → (r : Result Utc Reason) → read_fields (drop read.1 body) ≡ r → shown_by (offset_from read.0.negative read.0.magnitude) r ≡ Ok t → IsTimestampBody body t
-  fields_on read is range (Ok utc) fields e =
-      let offset = offset_from read.0.negative read.0.magnitude in
-      let o : IfSome offset IsOffset = near_from read.0.negative read.0.magnitude range in
-      let are = fields_told utc (drop read.1 body) fields in
-      let u = fields_are (drop read.1 body) utc are in
-      let s = shown_told utc u offset o t e in
-      let m = moved utc.minute (minutes_ahead (kept_offset utc.precision offset)) in
-      let back : pos (minute_number m) -ℤ minutes_ahead (kept_offset utc.precision offset) ≡ pos (minute_number utc.minute) = omega (arith, ints, s.1) in
-      let at : instant (parts utc u offset o m) ≡ record { minute = pos (minute_number utc.minute); second = utc.second; fraction = utc.fraction } =
-      λ i. record { minute = back i; second = utc.second; fraction = utc.fraction } in
-      subst (IsTimestampBody body) s.2 (record {
-        ahead = take read.1 body;
-        fields = drop read.1 body;
-        below = read.0.negative;
-        minutes = read.0.magnitude;
-        utc = utc;
-        cut = sym (take-append-drop read.1 body);
-        is_ahead = is;
-        range = range;
-        are_fields = are;
-        precision = refl;
-        offset = refl;
-        at = at;
-        is = shown_is utc u offset o m s.0 s.1;
-      })
-  fields_on read is range (Err reason) fields e = absurd cc
+module _ (body : List ℕ) where
+  abbrev Body : Result TimestampParts Reason → Type 0
+  Body r = Answers (IsTimestampBody body) (IsLargeBody body) r
 
-  offset_on : (r : Result (Signed × ℕ) Reason) → ReadsVarInt body r → with_offset body (near r) ≡ Ok t → IsTimestampBody body t
-  offset_on (Ok read) a e =
+  module _ (read : Signed × ℕ) (is : VarInt (take read.1 body) read.0.negative read.0.magnitude) (range : read.0.magnitude ≤ farthest_offset) where
+    abbrev read_ahead : Option ℤ
+    read_ahead = offset_from read.0.negative read.0.magnitude
+
+    utc_shown : (utc : Utc) → AreFields (drop read.1 body) utc → Body (shown read_ahead utc)
+    utc_shown utc are =
+        let o : IfSome read_ahead IsOffset = near_from read.0.negative read.0.magnitude range in
+        let u = fields_are (drop read.1 body) utc are in
+        let offset = minutes_ahead (kept_offset utc.precision read_ahead) in
+        let m = moved utc.minute offset in
+        elim (shown_cases utc u read_ahead o) [
+          | inr refused ↦ inr refused
+          | inl years ↦
+              let number = moved_number utc.minute offset u.minute (near_by utc u read_ahead o) in
+              let there = moved_minute utc.minute offset u.minute (near_by utc u read_ahead o) years.0 years.1 in
+              let back : pos (minute_number m) -ℤ offset ≡ pos (minute_number utc.minute) = omega (arith, ints, number) in
+              subst Body (sym (shown_within utc u read_ahead o years.0 years.1)) (inl (reads _ (record {
+                ahead = take read.1 body;
+                fields = drop read.1 body;
+                below = read.0.negative;
+                minutes = read.0.magnitude;
+                utc = utc;
+                cut = sym (take-append-drop read.1 body);
+                is_ahead = is;
+                range = range;
+                are_fields = are;
+                precision = refl;
+                offset = refl;
+                at = λ i. record { minute = back i; second = utc.second; fraction = utc.fraction };
+                is = shown_is utc u read_ahead o m there number;
+              })))
+        ]
+
+    fields_on : (r : Result Utc Reason) → Answers (AreFields (drop read.1 body)) (AreLargeFields (drop read.1 body)) r → Body (shown_by read_ahead r)
+    fields_on _ (inl (reads utc are)) = utc_shown utc are
+    fields_on _ (inl (too_large l)) = inl (too_large (inr (record {
+      ahead = take read.1 body;
+      fields = drop read.1 body;
+      below = read.0.negative;
+      minutes = read.0.magnitude;
+      cut = sym (take-append-drop read.1 body);
+      is = is;
+      range = range;
+      large = l;
+    })))
+    fields_on r (inr e) = inr (ap (shown_by read_ahead) e)
+
+  offset_on : (r : Result (Signed × ℕ) Reason) → ReadsVarInt body r → Body (with_offset body (near r))
+  offset_on (Ok read) a =
       elim (cases_lt farthest_offset read.0.magnitude) [
-        | inl far ↦ absurd (let h = rw (lt-leb read.0.magnitude farthest_offset far) at e in cc)
-        | inr range ↦ fields_on read a.is range (read_fields (drop read.1 body)) refl (rw (le-leb read.0.magnitude farthest_offset range) at e)
+        | inl far ↦ rw (lt-leb read.0.magnitude farthest_offset far) (inr refl)
+        | inr range ↦ rw (le-leb read.0.magnitude farthest_offset range)
+            (fields_on read a.is range (read_fields (drop read.1 body)) (fields_judged.answers (drop read.1 body)))
       ]
-  offset_on (Err TooLarge) a e = absurd cc
-  offset_on (Err Incomplete) a e = absurd cc
-  offset_on (Err _) a e = absurd a
+  offset_on (Err TooLarge) a = inl (too_large (inl a))
+  offset_on (Err Incomplete) a = inr refl
+  offset_on (Err _) a = absurd a
 
-  -- a body that is read as a timestamp is its body
-  pub timestamp_told : timestamp_of_body body ≡ Ok t → IsTimestampBody body t
+  -- each answer of reading a timestamp's body says what the body is
+  pub body_answers : Answers (IsTimestampBody body) (IsLargeBody body) (timestamp_of_body body)
   unfolding timestamp_of_body read_offset
-  timestamp_told e = offset_on (var_int body) (var_int_answers body) e
+  body_answers = offset_on (var_int body) (var_int_answers body)
+
+-- a body that is read as a timestamp is its body
+pub timestamp_told : (body : List ℕ) (t : TimestampParts) → timestamp_of_body body ≡ Ok t → IsTimestampBody body t
+timestamp_told body t = told (IsTimestampBody body) (IsLargeBody body) (timestamp_of_body body) t (body_answers body)
 
 -- fields that are shown as a timestamp of that instant
 shown_so : (t : TimestampParts) (utc : Utc) (offset : Option ℤ) → IsUtc utc → IfSome offset IsOffset → IsTimestamp t → t.precision ≡ utc.precision
@@ -209,18 +226,27 @@ shown_so t utc offset u o is precision same at =
     } in
     shown_some utc u offset o m (local_minute-is t is) number ∙ ap Ok whole
 
+body_due : (body ahead fields : List ℕ) (below : Bool) (minutes : ℕ) (answer : Result TimestampParts Reason) → body ≡ ahead ++ fields
+    → VarInt ahead below minutes → minutes ≤ farthest_offset → shown_by (offset_from below minutes) (read_fields fields) ≡ answer
+    → timestamp_of_body body ≡ answer
+unfolding timestamp_of_body read_offset
+body_due body ahead fields below minutes answer cut is range h =
+    let P : List ℕ → Type 0 = λ os. with_offset os (near (var_int os)) ≡ answer in
+    let here : P (ahead ++ fields) =
+    rw (var_int_read ahead fields below minutes is, le-leb minutes farthest_offset range, drop-append_seam ahead fields) h in
+    subst P (sym cut) here
+
 -- a body of a timestamp is read as it
 pub timestamp_read : (body : List ℕ) (t : TimestampParts) → IsTimestampBody body t → timestamp_of_body body ≡ Ok t
-unfolding timestamp_of_body read_offset
 timestamp_read body t b =
-    let P : List ℕ → Type 0 = λ os. with_offset os (near (var_int os)) ≡ Ok t in
     let offset = offset_from b.below b.minutes in
     let so = shown_so t b.utc offset (fields_are b.fields b.utc b.are_fields) (near_from b.below b.minutes b.range) b.is b.precision b.offset b.at in
-    let here : P (b.ahead ++ b.fields) =
-    rw (
-      var_int_read b.ahead b.fields b.below b.minutes b.is_ahead,
-      le-leb b.minutes farthest_offset b.range,
-      drop-append_seam b.ahead b.fields,
-      fields_read b.utc b.fields b.are_fields,
-    ) so in
-    subst P (sym b.cut) here
+    body_due body b.ahead b.fields b.below b.minutes (Ok t) b.cut b.is_ahead b.range
+    (ap (shown_by offset) (fields_judged.due b.fields (Ok b.utc) (reads b.utc b.are_fields)) ∙ so)
+
+-- and one that is too large is refused as such
+pub body_large : (body : List ℕ) → IsLargeBody body → timestamp_of_body body ≡ Err TooLarge
+unfolding timestamp_of_body read_offset
+body_large body (inl r) = rw (var_int_reaches body r) refl
+body_large body (inr l) = body_due body l.ahead l.fields l.below l.minutes (Err TooLarge) l.cut l.is l.range
+    (ap (shown_by (offset_from l.below l.minutes)) (fields_judged.due l.fields (Err TooLarge) (too_large l.large)))

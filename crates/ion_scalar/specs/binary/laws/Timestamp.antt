@@ -1,14 +1,14 @@
 -- The fields of a timestamp's body are read as what they are.
 use Rattle.std.proofs.Common.{◌≡◌, ◌⊎◌, ℕ, cond, Bool, true, false, [], ◌∷◌, ◌++◌, ◌^◌, ◌<◌, ◌≤◌, List, length, take, drop, refl, sym, ap, subst, ◌+◌, arith, length-append, Ok, Err, Result, inl, inr}
 use Rattle.std.specs.Prelude.{nat_lt, ◌&&◌}
-use Rattle.std.proofs.lemmas.Bool.{and_right, cases_lt, le-leb, le-ltb, lt-leb, lt-ltb}
+use Rattle.std.proofs.lemmas.Bool.{and_right, cases_lt, le-leb, le-ltb, lt-leb, lt-ltb, cond_both}
 use Rattle.std.proofs.lemmas.List.{take-append-drop}
 use Rattle.std.proofs.Math.Nat.{pow-le-pow_right}
 use Rattle.std.proofs.Math.Seq.{drop-append_seam}
-use Rattle.ion_scalar.specs.Names.{AreFields, Begins, BeginsWith, Date, Incomplete, IsBehindDay, IsBehindHour, IsBehindMinute, IsBehindMonth, IsBehindSecond, IsBehindYear, IsCut, IsDate, IsFractionOf, IsMinute, IsSecondsFraction, Malformed, Minute, Precision, ReadsVarInt, ReadsVarUInt, Reason, Signed, TooLarge, Utc, VarInt, VarUInt, and_then, day_of, in_range, int_magnitude, int_negative, last_hour, last_minute, last_month, last_second, last_year, local_in, long, minute_of, month_length, most_digits, read_behind_day, read_behind_hour, read_behind_minute, read_behind_month, read_behind_second, read_behind_year, read_digits, read_field, read_fields, read_fraction, read_no_digits, short, signed_of, time_known, var_int, var_uint, with_power}
+use Rattle.ion_scalar.specs.Names.{AreFields, Begins, BeginsWith, Date, Incomplete, IsBehindDay, IsBehindHour, IsBehindMinute, IsBehindMonth, IsBehindSecond, IsBehindYear, IsCut, IsDate, IsFractionOf, IsMinute, Malformed, Minute, Precision, ReadsVarInt, ReadsVarUInt, Reason, Signed, TooLarge, Utc, VarInt, VarUInt, and_then, day_of, in_range, int_magnitude, int_negative, last_hour, last_minute, last_month, last_second, last_year, local_in, long, minute_of, month_length, most_digits, read_behind_day, read_behind_hour, read_behind_minute, read_behind_month, read_behind_second, read_behind_year, read_field, read_fields, read_fraction, read_no_digits, short, signed_of, time_known, var_int, var_uint, with_power, IsLargePart, EndsOr, IsLargeBehindSecond, IsLargeBehindMinute, IsLargeBehindHour, IsLargeBehindDay, IsLargeBehindMonth, IsLargeBehindYear, AreLargeFields, ends_or, day_known}
 use Rattle.ion_atoms.specs.laws.Neighbours.{month_least}
-use Rattle.ion_scalar.specs.binary.laws.VarInt.{var_int_answers, var_int_read}
-use Rattle.ion_scalar.specs.binary.laws.VarUInt.{var_uint_answers, var_uint_read}
+use Rattle.ion_scalar.specs.binary.laws.VarInt.{var_int_answers, var_int_read, var_int_reaches}
+use Rattle.ion_scalar.specs.binary.laws.VarUInt.{var_uint_answers, var_uint_read, var_uint_reaches}
 
 -- fields of a day and a time of day, those past the precision the least
 pub record IsUtc (utc : Utc) : Type 0 where
@@ -16,144 +16,177 @@ pub record IsUtc (utc : Utc) : Type 0 where
   pub second : utc.second ≤ last_second
   pub cut : IsCut utc.precision (local_in utc utc.minute)
 
--- a part that is read is one, and lies in its range
-pub record Told (least most : ℕ) (octets : List ℕ) (x : ℕ × ℕ) : Type 0 where
-  pub is : BeginsWith octets x.0 x.1
-  pub range : (least ≤ x.0) × (x.0 ≤ most)
+-- what octets are due to be read as: what they were asked for, or too large for it
+pub data Says {X : Type 0} (Is : X → Type 0) (Large : Type 0) : Result X Reason → Type 0 where
+  reads : (x : X) → Is x → Says Is Large (Ok x)
+  too_large : Large → Says Is Large (Err TooLarge)
 
-in_range_told : (least most : ℕ) (octets : List ℕ) (r : Result (ℕ × ℕ) Reason) (x : ℕ × ℕ) → ReadsVarUInt octets r → in_range least most r ≡ Ok x
-    → Told least most octets x
-in_range_told least most octets (Ok read) x a e =
-    elim (cases_lt read.0 least) [
-      | inl low ↦ absurd (let h = rw (lt-leb least read.0 low) at e in cc)
-      | inr high ↦ elim (cases_lt most read.0) [
-        | inl beyond ↦ absurd (let h = rw (le-leb least read.0 high, lt-leb read.0 most beyond) at e in cc)
-        | inr within ↦
-            let h = rw (le-leb least read.0 high, le-leb read.0 most within) at e in
-            let same : read ≡ x = cc in
-            subst (Told least most octets) same (record { is = a; range = (high, within) })
-      ]
-    ]
-in_range_told least most octets (Err TooLarge) x a e = absurd cc
-in_range_told least most octets (Err Incomplete) x a e = absurd cc
-in_range_told least most octets (Err _) x a e = absurd a
+-- an answer says so, or that they are malformed
+abbrev pub Answers : {X : Type 0} → (X → Type 0) → Type 0 → Result X Reason → Type 0
+Answers Is Large r = Says Is Large r ⊎ (r ≡ Err Malformed)
 
--- what is read as a part is a VarUInt at the front, and lies in its range
-pub field_told : (least most : ℕ) (octets : List ℕ) (x : ℕ × ℕ) → read_field least most octets ≡ Ok x → Told least most octets x
-unfolding read_field
-field_told least most octets x e = in_range_told least most octets (var_uint octets) x (var_uint_answers octets) e
+pub says_map : {X : Type 0} (P Q : X → Type 0) (L M : Type 0) (r : Result X Reason) → ((x : X) → P x → Q x) → (L → M) → Answers P L r
+    → Answers Q M r
+says_map P Q L M _ f g (inl (reads x h)) = inl (reads x (f x h))
+says_map P Q L M _ f g (inl (too_large h)) = inl (too_large (g h))
+says_map P Q L M r f g (inr e) = inr e
 
-module _ (least most : ℕ) (octets : List ℕ) (judge : ℕ → List ℕ → Result Utc Reason) (Behind : ℕ → List ℕ → Type 0) (utc : Utc) where
-  told_on : (r : Result (ℕ × ℕ) Reason) → ((x : ℕ × ℕ) → r ≡ Ok x → Told least most octets x)
-      → ((n : ℕ) (rest : List ℕ) → least ≤ n → n ≤ most → judge n rest ≡ Ok utc → Behind n rest)
-      → and_then octets judge r ≡ Ok utc → Begins least most Behind octets
-  told_on (Ok x) told behind e =
-      let t = told x refl in
-      record {
-        field = take x.1 octets;
-        rest = drop x.1 octets;
-        number = x.0;
-        cut = sym (take-append-drop x.1 octets);
-        is = t.is.is;
-        range = t.range;
-        behind = behind x.0 (drop x.1 octets) t.range.0 t.range.1 e;
-      }
-  told_on (Err reason) told behind e = absurd cc
+-- octets that are read as something are it
+pub told : {X : Type 0} (Is : X → Type 0) (Large : Type 0) (r : Result X Reason) (x : X) → Answers Is Large r → r ≡ Ok x → Is x
+told Is Large _ x (inl (reads y h)) e = let same : y ≡ x = cc in subst Is same h
+told Is Large _ x (inl (too_large h)) e = absurd cc
+told Is Large r x (inr f) e = absurd cc
 
-  part_told : ((n : ℕ) (rest : List ℕ) → least ≤ n → n ≤ most → judge n rest ≡ Ok utc → Behind n rest)
-      → and_then octets judge (read_field least most octets) ≡ Ok utc → Begins least most Behind octets
-  part_told behind e = told_on (read_field least most octets) (field_told least most octets) behind e
+-- octets are judged as what they are, and each answer says what they are
+pub record Judged (Is : List ℕ → Utc → Type 0) (Large : List ℕ → Type 0) (judge : List ℕ → Result Utc Reason) : Type 0 where
+  pub answers : (octets : List ℕ) → Answers (Is octets) (Large octets) (judge octets)
+  pub due : (octets : List ℕ) (answer : Result Utc Reason) → Says (Is octets) (Large octets) answer → judge octets ≡ answer
 
 field_read : (least most : ℕ) (w rest : List ℕ) (n : ℕ) → VarUInt w n → least ≤ n → n ≤ most → read_field least most (w ++ rest) ≡ Ok (n, length w)
 unfolding read_field
 field_read least most w rest n is low high = rw (var_uint_read w rest n is, le-leb least n low, le-leb n most high) refl
 
-module _ (least most : ℕ) (judge : ℕ → List ℕ → Result Utc Reason) (Behind : ℕ → List ℕ → Type 0) (answer : Result Utc Reason) where
-  -- octets that begin with a part in its range are judged by its number and what stands behind
-  pub part_read : (octets : List ℕ) → ((n : ℕ) (rest : List ℕ) → least ≤ n → n ≤ most → Behind n rest → judge n rest ≡ answer) → Begins least most Behind octets
-      → and_then octets judge (read_field least most octets) ≡ answer
-  part_read octets behind b =
-      let P : List ℕ → Type 0 = λ os. and_then os judge (read_field least most os) ≡ answer in
-      let here : P (b.field ++ b.rest) =
-      rw (field_read least most b.field b.rest b.number b.is b.range.0 b.range.1, drop-append_seam b.field b.rest)
-      (behind b.number b.rest b.range.0 b.range.1 b.behind) in
-      subst P (sym b.cut) here
-
 -- a part that begins has an octet
-pub begins_some : (least most : ℕ) (Behind : ℕ → List ℕ → Type 0) → Begins least most Behind [] → ⊥
+begins_some : (least most : ℕ) (Behind : ℕ → List ℕ → Type 0) → Begins least most Behind [] → ⊥
 begins_some least most Behind b =
     absurd (omega (arith, ap length b.cut, ap length b.is.octets, length-append b.field b.rest, length-append b.is.digits ((128 + b.is.last) ∷ [])))
 
--- a coefficient and its exponent
-module _ (minute : Minute) (second : ℕ) (octets : List ℕ) (utc : Utc) where
-  abbrev DigitsTold : ℕ → Type 0
-  DigitsTold digits = (int_magnitude octets < 10 ^ digits) × (utc ≡ time_known (Precision.Fraction digits) minute second (int_magnitude octets))
+module _ (least most : ℕ) (Is : ℕ → List ℕ → Utc → Type 0) (Large : ℕ → List ℕ → Type 0) (judge : ℕ → List ℕ → Result Utc Reason)
+    (behind : (n : ℕ) → Judged (Is n) (Large n) (judge n)) where
+  abbrev IsPart : List ℕ → Utc → Type 0
+  IsPart octets utc = Begins least most (λ n rest. Is n rest utc) octets
 
-  bounded : (digits : ℕ) → cond (nat_lt (int_magnitude octets) (10 ^ digits))
-      (Ok (time_known (Precision.Fraction digits) minute second (int_magnitude octets))) (Err Malformed) ≡ Ok utc → DigitsTold digits
-  bounded digits e =
-      elim (cases_lt (int_magnitude octets) (10 ^ digits)) [
-        | inl small ↦ (small, let h = rw (lt-ltb (int_magnitude octets) (10 ^ digits) small) at e in cc)
-        | inr large ↦ absurd (let h = rw (le-ltb (int_magnitude octets) (10 ^ digits) large) at e in cc)
+  begun : (P : ℕ → List ℕ → Type 0) (octets : List ℕ) (read : ℕ × ℕ) → BeginsWith octets read.0 read.1 → least ≤ read.0 → read.0 ≤ most
+      → P read.0 (drop read.1 octets) → Begins least most P octets
+  begun P octets read a low high h = record {
+    field = take read.1 octets;
+    rest = drop read.1 octets;
+    number = read.0;
+    cut = sym (take-append-drop read.1 octets);
+    is = a.is;
+    range = (low, high);
+    behind = h;
+  }
+
+  part_on : (octets : List ℕ) (r : Result (ℕ × ℕ) Reason) → ReadsVarUInt octets r
+      → Answers (IsPart octets) (IsLargePart least most Large octets) (and_then octets judge (in_range least most r))
+  part_on octets (Ok read) a =
+      let rest = drop read.1 octets in
+      elim (cases_lt read.0 least) [
+        | inl low ↦ rw (lt-leb least read.0 low) (inr refl)
+        | inr low ↦ elim (cases_lt most read.0) [
+          | inl beyond ↦ rw (le-leb least read.0 low, lt-leb read.0 most beyond) (inr refl)
+          | inr high ↦ rw (le-leb least read.0 low, le-leb read.0 most high)
+              (says_map (Is read.0 rest) (IsPart octets) (Large read.0 rest) (IsLargePart least most Large octets) (judge read.0 rest)
+              (λ utc h. begun (λ n os. Is n os utc) octets read a low high h) (λ h. inr (begun Large octets read a low high h))
+              ((behind read.0).answers rest))
+        ]
       ]
+  part_on octets (Err TooLarge) a = inl (too_large (inl a))
+  part_on octets (Err Incomplete) a = inr refl
+  part_on octets (Err _) a = absurd a
 
-  digits_case : (digits : ℕ) (negative : Bool) → int_negative octets ≡ negative → read_digits digits minute second octets ≡ Ok utc
-      → ((int_negative octets ≡ false) ⊎ (int_magnitude octets ≡ 0)) × DigitsTold digits
-  digits_case digits false sign e = (inl sign, bounded digits (rw sign at e))
-  digits_case digits true sign e =
+  part_read : (P : ℕ → List ℕ → Type 0) (answer : Result Utc Reason) (octets : List ℕ) → ((n : ℕ) (rest : List ℕ) → P n rest → judge n rest ≡ answer)
+      → Begins least most P octets → and_then octets judge (read_field least most octets) ≡ answer
+  part_read P answer octets is b =
+      let Q : List ℕ → Type 0 = λ os. and_then os judge (read_field least most os) ≡ answer in
+      let here : Q (b.field ++ b.rest) =
+      rw (field_read least most b.field b.rest b.number b.is b.range.0 b.range.1, drop-append_seam b.field b.rest) (is b.number b.rest b.behind) in
+      subst Q (sym b.cut) here
+
+  part_due : (octets : List ℕ) (answer : Result Utc Reason) → Says (IsPart octets) (IsLargePart least most Large octets) answer
+      → and_then octets judge (read_field least most octets) ≡ answer
+  unfolding read_field
+  part_due octets _ (reads utc b) = part_read (λ n rest. Is n rest utc) (Ok utc) octets (λ n rest h. (behind n).due rest (Ok utc) (reads utc h)) b
+  part_due octets _ (too_large (inl r)) = rw (var_uint_reaches octets r) refl
+  part_due octets _ (too_large (inr b)) = part_read Large (Err TooLarge) octets (λ n rest h. (behind n).due rest (Err TooLarge) (too_large h)) b
+
+  -- a part that has to stand there
+  part_judged : Judged IsPart (IsLargePart least most Large) (λ octets. and_then octets judge (read_field least most octets))
+  unfolding read_field
+  part_judged = record { answers = λ octets. part_on octets (var_uint octets) (var_uint_answers octets); due = part_due }
+
+  ends_answers : (known : Utc) (octets : List ℕ)
+      → Answers (EndsOr known least most Is octets) (IsLargePart least most Large octets) (ends_or known least most judge octets)
+  ends_answers known [] = inl (reads known (inl (refl, refl)))
+  ends_answers known (o ∷ os) = says_map (IsPart (o ∷ os)) (EndsOr known least most Is (o ∷ os)) (IsLargePart least most Large (o ∷ os)) _ _
+      (λ utc h. inr h) (λ h. h) (part_judged.answers (o ∷ os))
+
+  ends_due : (known : Utc) (octets : List ℕ) (answer : Result Utc Reason)
+      → Says (EndsOr known least most Is octets) (IsLargePart least most Large octets) answer → ends_or known least most judge octets ≡ answer
+  ends_due known octets _ (reads utc (inl none)) = rw (none.0, none.1) refl
+  ends_due known [] _ (reads utc (inr b)) = absurd (begins_some least most _ b)
+  ends_due known (o ∷ os) _ (reads utc (inr b)) = part_due (o ∷ os) (Ok utc) (reads utc b)
+  ends_due known [] _ (too_large (inl r)) = absurd (omega (arith, ap length r.cut, length-append r.digits (r.octet ∷ r.rest)))
+  ends_due known [] _ (too_large (inr b)) = absurd (begins_some least most _ b)
+  ends_due known (o ∷ os) _ (too_large l) = part_due (o ∷ os) (Err TooLarge) (too_large l)
+
+  -- a part that may be absent
+  ends_judged : (known : Utc) → Judged (EndsOr known least most Is) (IsLargePart least most Large) (ends_or known least most judge)
+  ends_judged known = record { answers = ends_answers known; due = ends_due known }
+
+-- a coefficient by its exponent
+abbrev LargeParts : Bool → ℕ → List ℕ → Type 0
+LargeParts below power octets = ((below ≡ true) × (most_digits < power)) ⊎ (2 ^ 127 ≤ int_magnitude octets)
+
+module _ (minute : Minute) (second : ℕ) (octets : List ℕ) where
+  abbrev Fraction : Bool → ℕ → Result Utc Reason → Type 0
+  Fraction below power = Answers (IsFractionOf below power octets minute second) (LargeParts below power octets)
+
+  abbrev within : ℕ → Result Utc Reason
+  within power = cond (nat_lt (int_magnitude octets) (10 ^ power))
+      (Ok (time_known (Precision.Fraction power) minute second (int_magnitude octets))) (Err Malformed)
+
+  module _ (power : ℕ) (some : 1 ≤ power) (few : power ≤ most_digits) where
+    bounded : (int_negative octets ≡ false) ⊎ (int_magnitude octets ≡ 0) → Fraction true power (within power)
+    bounded plus =
+        elim (cases_lt (int_magnitude octets) (10 ^ power)) [
+          | inl small ↦ rw (lt-ltb (int_magnitude octets) (10 ^ power) small) (inl (reads _ (inl (refl, some, few, plus, small, refl))))
+          | inr wide ↦ rw (le-ltb (int_magnitude octets) (10 ^ power) wide) (inr refl)
+        ]
+
+    digits_answers : (negative : Bool) → (negative ≡ false → int_negative octets ≡ false)
+        → Fraction true power (cond (negative && nat_lt 0 (int_magnitude octets)) (Err Malformed) (within power))
+    digits_answers false plus = bounded (inl (plus refl))
+    digits_answers true plus =
+        elim (cases_lt 0 (int_magnitude octets)) [
+          | inl minus ↦ rw (lt-ltb 0 (int_magnitude octets) minus) (inr refl)
+          | inr none ↦ rw (le-ltb 0 (int_magnitude octets) none) (bounded (inr (omega arith)))
+        ]
+
+  no_digits_answers : (below : Bool) (power : ℕ) → (below ≡ false) ⊎ (power ≡ 0) → Fraction below power (read_no_digits minute second octets)
+  no_digits_answers below power whole =
       elim (cases_lt 0 (int_magnitude octets)) [
-        | inl some ↦ absurd (let h = rw (sign, lt-ltb 0 (int_magnitude octets) some) at e in cc)
-        | inr none ↦ (inr (omega arith), bounded digits (rw (sign, le-ltb 0 (int_magnitude octets) none) at e))
+        | inl some ↦ rw (lt-ltb 0 (int_magnitude octets) some) (inr refl)
+        | inr none ↦ rw (le-ltb 0 (int_magnitude octets) none) (inl (reads _ (inr (whole, omega arith, refl))))
       ]
 
-  no_digits : read_no_digits minute second octets ≡ Ok utc → (int_magnitude octets ≡ 0) × (utc ≡ time_known Precision.Second minute second 0)
-  no_digits e =
-      elim (cases_lt 0 (int_magnitude octets)) [
-        | inl some ↦ absurd (let h = rw (lt-ltb 0 (int_magnitude octets) some) at e in cc)
-        | inr none ↦ (omega arith, let h = rw (le-ltb 0 (int_magnitude octets) none) at e in cc)
-      ]
-
-  fraction_case : (below : Bool) (power : ℕ) → read_fraction minute second (signed_of below power) octets ≡ Ok utc
-      → IsFractionOf below power octets minute second utc
+  fraction_answers : (below : Bool) (power : ℕ) → Fraction below power (read_fraction minute second (signed_of below power) octets)
   unfolding read_fraction
-  fraction_case below power e =
+  fraction_answers false power =
       elim (cases_lt (int_magnitude octets) (2 ^ 127)) [
-        | inl small ↦ fits below e small
-        | inr large ↦ absurd (too_large below e large)
+        | inl small ↦ rw (lt-ltb (int_magnitude octets) (2 ^ 127) small) (no_digits_answers false power (inl refl))
+        | inr high ↦ rw (le-ltb (int_magnitude octets) (2 ^ 127) high) (inl (too_large (inr high)))
       ]
-    where
-      too_large : (b : Bool) → read_fraction minute second (signed_of b power) octets ≡ Ok utc → 2 ^ 127 ≤ int_magnitude octets → ⊥
-      too_large false h large = let k = rw (le-ltb (int_magnitude octets) (2 ^ 127) large) at h in cc
-      too_large true h large =
-          elim (cases_lt most_digits power) [
-            | inl many ↦ let k = rw (lt-ltb most_digits power many) at h in cc
-            | inr few ↦ let k = rw (le-ltb most_digits power few, le-ltb (int_magnitude octets) (2 ^ 127) large) at h in cc
+  fraction_answers true power =
+      elim (cases_lt most_digits power) [
+        | inl many ↦ rw (lt-ltb most_digits power many) (inl (too_large (inl (refl, many))))
+        | inr few ↦ elim (cases_lt (int_magnitude octets) (2 ^ 127)) [
+          | inr high ↦ rw (le-ltb most_digits power few, le-ltb (int_magnitude octets) (2 ^ 127) high) (inl (too_large (inr high)))
+          | inl small ↦ elim (cases_lt 0 power) [
+            | inl some ↦ rw (le-ltb most_digits power few, lt-ltb (int_magnitude octets) (2 ^ 127) small, lt-ltb 0 power some)
+                (digits_answers power some few (int_negative octets) (λ e. e))
+            | inr zeroth ↦ rw (le-ltb most_digits power few, lt-ltb (int_magnitude octets) (2 ^ 127) small, le-ltb 0 power zeroth)
+                (no_digits_answers true power (inr (omega arith)))
           ]
-
-      fits : (b : Bool) → read_fraction minute second (signed_of b power) octets ≡ Ok utc → int_magnitude octets < 2 ^ 127
-          → IsFractionOf b power octets minute second utc
-      fits false h small =
-          let none = no_digits (rw (lt-ltb (int_magnitude octets) (2 ^ 127) small) at h) in
-          inr (inl refl, none.0, none.1)
-      fits true h small =
-          elim (cases_lt most_digits power) [
-            | inl many ↦ absurd (let k = rw (lt-ltb most_digits power many) at h in cc)
-            | inr few ↦ elim (cases_lt 0 power) [
-              | inl some ↦
-                  let d = digits_case power (int_negative octets) refl
-                  (rw (le-ltb most_digits power few, lt-ltb (int_magnitude octets) (2 ^ 127) small, lt-ltb 0 power some) at h) in
-                  inl (refl, some, few, d.0, d.1.0, d.1.1)
-              | inr zeroth ↦
-                  let none = no_digits (rw (le-ltb most_digits power few, lt-ltb (int_magnitude octets) (2 ^ 127) small, le-ltb 0 power zeroth) at h) in
-                  inr (inr (omega arith), none.0, none.1)
-            ]
-          ]
+        ]
+      ]
 
   -- a coefficient that is a fraction by its exponent is read as it
-  pub fraction_read : (below : Bool) (power : ℕ) → IsFractionOf below power octets minute second utc
+  pub fraction_read : (utc : Utc) (below : Bool) (power : ℕ) → IsFractionOf below power octets minute second utc
       → read_fraction minute second (signed_of below power) octets ≡ Ok utc
   unfolding read_fraction
-  fraction_read below power (inl (b, some, few, sign, bound, same)) =
+  fraction_read utc below power (inl (b, some, few, sign, bound, same)) =
       let most : 10 ^ power ≤ 10 ^ most_digits = pow-le-pow_right (omega arith) few in
       let small : int_magnitude octets < 2 ^ 127 = omega (arith, most) in
       let no_minus : (int_negative octets && nat_lt 0 (int_magnitude octets)) ≡ false = elim sign [
@@ -168,7 +201,7 @@ module _ (minute : Minute) (second : ℕ) (octets : List ℕ) (utc : Utc) where
         no_minus,
         lt-ltb (int_magnitude octets) (10 ^ power) bound,
       ) (ap Ok (sym same))
-  fraction_read below power (inr (whole, nothing, same)) =
+  fraction_read utc below power (inr (whole, nothing, same)) =
       let few : (below && nat_lt most_digits power) ≡ false = elim whole [
         | inl plus ↦ rw plus refl
         | inr zeroth ↦ rw zeroth (and_right below false refl)
@@ -179,115 +212,99 @@ module _ (minute : Minute) (second : ℕ) (octets : List ℕ) (utc : Utc) where
       ] in
       rw (few, nothing, no_power) (ap Ok (sym same))
 
-power_told : (minute : Minute) (second : ℕ) (octets : List ℕ) (utc : Utc) (r : Result (Signed × ℕ) Reason) → ReadsVarInt octets r
-    → with_power minute second octets r ≡ Ok utc → IsSecondsFraction minute second octets utc
-power_told minute second octets utc (Ok read) a e = record {
-  exponent = take read.1 octets;
-  coefficient = drop read.1 octets;
-  below = read.0.negative;
-  power = read.0.magnitude;
-  cut = sym (take-append-drop read.1 octets);
-  is = a.is;
-  fraction = fraction_case minute second (drop read.1 octets) utc read.0.negative read.0.magnitude e;
-}
-power_told minute second octets utc (Err TooLarge) a e = absurd cc
-power_told minute second octets utc (Err Incomplete) a e = absurd cc
-power_told minute second octets utc (Err _) a e = absurd a
+  fraction_due : (below : Bool) (power : ℕ) (answer : Result Utc Reason)
+      → Says (IsFractionOf below power octets minute second) (LargeParts below power octets) answer
+      → read_fraction minute second (signed_of below power) octets ≡ answer
+  unfolding read_fraction
+  fraction_due below power _ (reads utc f) = fraction_read utc below power f
+  fraction_due below power _ (too_large (inl h)) = rw (h.0, lt-ltb most_digits power h.1) refl
+  fraction_due below power _ (too_large (inr high)) =
+      rw (le-ltb (int_magnitude octets) (2 ^ 127) high)
+      (cond_both (below && nat_lt most_digits power) _ _ (λ (r : Result Utc Reason). r ≡ Err TooLarge) (λ _. refl) (λ _. refl))
 
-second_told : (minute : Minute) (second : ℕ) (utc : Utc) (octets : List ℕ) → read_behind_second minute second octets ≡ Ok utc
-    → IsBehindSecond minute second octets utc
-unfolding read_behind_second
-second_told minute second utc [] e = inl (refl, cc)
-second_told minute second utc (o ∷ os) e = inr (power_told minute second (o ∷ os) utc (var_int (o ∷ os)) (var_int_answers (o ∷ os)) e)
-
-minute_told : (minute : Minute) (utc : Utc) (octets : List ℕ) → read_behind_minute minute octets ≡ Ok utc → IsBehindMinute minute octets utc
-unfolding read_behind_minute
-minute_told minute utc [] e = inl (refl, cc)
-minute_told minute utc (o ∷ os) e =
-    inr (part_told 0 last_second (o ∷ os) (read_behind_second minute) _ utc (λ n rest low high. second_told minute n utc rest) e)
-
-hour_told : (date : Date) (hour : ℕ) (utc : Utc) (octets : List ℕ) → read_behind_hour date hour octets ≡ Ok utc → IsBehindHour date hour octets utc
-unfolding read_behind_hour
-hour_told date hour utc octets e = part_told 0 last_minute octets (λ n. read_behind_minute (minute_of date hour n)) _ utc
-    (λ n rest low high. minute_told (minute_of date hour n) utc rest) e
-
-day_told : (date : Date) (utc : Utc) (octets : List ℕ) → read_behind_day date octets ≡ Ok utc → IsBehindDay date octets utc
-unfolding read_behind_day
-day_told date utc [] e = inl (refl, cc)
-day_told date utc (o ∷ os) e = inr (part_told 0 last_hour (o ∷ os) (read_behind_hour date) _ utc (λ n rest low high. hour_told date n utc rest) e)
-
-month_told : (year month : ℕ) (utc : Utc) (octets : List ℕ) → read_behind_month year month octets ≡ Ok utc → IsBehindMonth year month octets utc
-unfolding read_behind_month
-month_told year month utc [] e = inl (refl, cc)
-month_told year month utc (o ∷ os) e = inr (part_told 1 (month_length year month) (o ∷ os) (λ n. read_behind_day (day_of year month n)) _ utc
-    (λ n rest low high. day_told (day_of year month n) utc rest) e)
-
-year_told : (year : ℕ) (utc : Utc) (octets : List ℕ) → read_behind_year year octets ≡ Ok utc → IsBehindYear year octets utc
-unfolding read_behind_year
-year_told year utc [] e = inl (refl, cc)
-year_told year utc (o ∷ os) e = inr (part_told 1 last_month (o ∷ os) (read_behind_month year) _ utc (λ n rest low high. month_told year n utc rest) e)
-
--- octets that are read as fields in UTC are those fields
-pub fields_told : (utc : Utc) (octets : List ℕ) → read_fields octets ≡ Ok utc → AreFields octets utc
-unfolding read_fields
-fields_told utc octets e = part_told 1 last_year octets read_behind_year _ utc (λ n rest low high. year_told n utc rest) e
-
--- and the other way
-pub int_some : (w rest : List ℕ) (below : Bool) (n : ℕ) → VarInt w below n → [] ≡ w ++ rest → ⊥
+-- a VarInt has an octet
+int_some : (w rest : List ℕ) (below : Bool) (n : ℕ) → VarInt w below n → [] ≡ w ++ rest → ⊥
 int_some _ rest _ _ (short octet high) e = cc
 int_some _ rest _ _ (long octet digits last low s bound) e = cc
 
-power_read : (minute : Minute) (second : ℕ) (utc : Utc) (octets : List ℕ) → IsSecondsFraction minute second octets utc
-    → with_power minute second octets (var_int octets) ≡ Ok utc
-power_read minute second utc octets f =
-    let P : List ℕ → Type 0 = λ os. with_power minute second os (var_int os) ≡ Ok utc in
-    let here : P (f.exponent ++ f.coefficient) =
-    rw (var_int_read f.exponent f.coefficient f.below f.power f.is, drop-append_seam f.exponent f.coefficient)
-    (fraction_read minute second f.coefficient utc f.below f.power f.fraction) in
-    subst P (sym f.cut) here
+-- what stands behind the second
+module _ (minute : Minute) (second : ℕ) where
+  power_answers : (octets : List ℕ) (r : Result (Signed × ℕ) Reason) → ReadsVarInt octets r
+      → Answers (IsBehindSecond minute second octets) (IsLargeBehindSecond octets) (with_power minute second octets r)
+  power_answers octets (Ok read) a =
+      let below = read.0.negative in
+      let power = read.0.magnitude in
+      let rest = drop read.1 octets in
+      let cut = sym (take-append-drop read.1 octets) in
+      says_map (IsFractionOf below power rest minute second) (IsBehindSecond minute second octets) (LargeParts below power rest) (IsLargeBehindSecond octets) _
+      (λ utc h. inr (record { exponent = take read.1 octets; coefficient = rest; below = below; power = power; cut = cut; is = a.is; fraction = h }))
+      (λ h. inr (record { exponent = take read.1 octets; coefficient = rest; below = below; power = power; cut = cut; is = a.is; large = h }))
+      (fraction_answers minute second rest below power)
+  power_answers octets (Err TooLarge) a = inl (too_large (inl a))
+  power_answers octets (Err Incomplete) a = inr refl
+  power_answers octets (Err _) a = absurd a
 
-second_read : (minute : Minute) (second : ℕ) (utc : Utc) (octets : List ℕ) → IsBehindSecond minute second octets utc → read_behind_second minute second octets
-    ≡ Ok utc
-unfolding read_behind_second
-second_read minute second utc octets (inl none) = rw (none.0, none.1) refl
-second_read minute second utc [] (inr f) = absurd (int_some f.exponent f.coefficient f.below f.power f.is f.cut)
-second_read minute second utc (o ∷ os) (inr f) = power_read minute second utc (o ∷ os) f
+  power_due : (octets exponent coefficient : List ℕ) (below : Bool) (power : ℕ) (answer : Result Utc Reason) → octets ≡ exponent ++ coefficient
+      → VarInt exponent below power → read_fraction minute second (signed_of below power) coefficient ≡ answer
+      → with_power minute second octets (var_int octets) ≡ answer
+  power_due octets exponent coefficient below power answer cut is h =
+      let P : List ℕ → Type 0 = λ os. with_power minute second os (var_int os) ≡ answer in
+      let here : P (exponent ++ coefficient) = rw (var_int_read exponent coefficient below power is, drop-append_seam exponent coefficient) h in
+      subst P (sym cut) here
 
-minute_read : (minute : Minute) (utc : Utc) (octets : List ℕ) → IsBehindMinute minute octets utc → read_behind_minute minute octets ≡ Ok utc
+  second_answers : (octets : List ℕ) → Answers (IsBehindSecond minute second octets) (IsLargeBehindSecond octets) (read_behind_second minute second octets)
+  unfolding read_behind_second
+  second_answers [] = inl (reads _ (inl (refl, refl)))
+  second_answers (o ∷ os) = power_answers (o ∷ os) (var_int (o ∷ os)) (var_int_answers (o ∷ os))
+
+  second_due : (octets : List ℕ) (answer : Result Utc Reason) → Says (IsBehindSecond minute second octets) (IsLargeBehindSecond octets) answer
+      → read_behind_second minute second octets ≡ answer
+  unfolding read_behind_second
+  second_due octets _ (reads utc (inl none)) = rw (none.0, none.1) refl
+  second_due [] _ (reads utc (inr f)) = absurd (int_some f.exponent f.coefficient f.below f.power f.is f.cut)
+  second_due (o ∷ os) _ (reads utc (inr f)) = power_due (o ∷ os) f.exponent f.coefficient f.below f.power (Ok utc) f.cut f.is
+      (fraction_due minute second f.coefficient f.below f.power (Ok utc) (reads utc f.fraction))
+  second_due [] _ (too_large (inl r)) = absurd r
+  second_due [] _ (too_large (inr f)) = absurd (int_some f.exponent f.coefficient f.below f.power f.is f.cut)
+  second_due (o ∷ os) _ (too_large (inl r)) = rw (var_int_reaches (o ∷ os) r) refl
+  second_due (o ∷ os) _ (too_large (inr f)) = power_due (o ∷ os) f.exponent f.coefficient f.below f.power (Err TooLarge) f.cut f.is
+      (fraction_due minute second f.coefficient f.below f.power (Err TooLarge) (too_large f.large))
+
+  second_judged : Judged (IsBehindSecond minute second) IsLargeBehindSecond (read_behind_second minute second)
+  second_judged = record { answers = second_answers; due = second_due }
+
+minute_judged : (minute : Minute) → Judged (IsBehindMinute minute) IsLargeBehindMinute (read_behind_minute minute)
 unfolding read_behind_minute
-minute_read minute utc octets (inl none) = rw (none.0, none.1) refl
-minute_read minute utc [] (inr b) = absurd (begins_some 0 last_second _ b)
-minute_read minute utc (o ∷ os) (inr b) =
-    part_read 0 last_second (read_behind_second minute) _ (Ok utc) (o ∷ os) (λ n rest low high. second_read minute n utc rest) b
+minute_judged minute = ends_judged 0 last_second (IsBehindSecond minute) (λ _. IsLargeBehindSecond) (read_behind_second minute) (second_judged minute)
+    (time_known Precision.Minute minute 0 0)
 
-hour_read : (date : Date) (hour : ℕ) (utc : Utc) (octets : List ℕ) → IsBehindHour date hour octets utc → read_behind_hour date hour octets ≡ Ok utc
+hour_judged : (date : Date) (hour : ℕ) → Judged (IsBehindHour date hour) IsLargeBehindHour (read_behind_hour date hour)
 unfolding read_behind_hour
-hour_read date hour utc octets b = part_read 0 last_minute (λ n. read_behind_minute (minute_of date hour n)) _ (Ok utc) octets
-    (λ n rest low high. minute_read (minute_of date hour n) utc rest) b
+hour_judged date hour = part_judged 0 last_minute (λ n. IsBehindMinute (minute_of date hour n)) (λ _. IsLargeBehindMinute)
+    (λ n. read_behind_minute (minute_of date hour n)) (λ n. minute_judged (minute_of date hour n))
 
-day_read : (date : Date) (utc : Utc) (octets : List ℕ) → IsBehindDay date octets utc → read_behind_day date octets ≡ Ok utc
+day_judged : (date : Date) → Judged (IsBehindDay date) IsLargeBehindDay (read_behind_day date)
 unfolding read_behind_day
-day_read date utc octets (inl none) = rw (none.0, none.1) refl
-day_read date utc [] (inr b) = absurd (begins_some 0 last_hour _ b)
-day_read date utc (o ∷ os) (inr b) = part_read 0 last_hour (read_behind_hour date) _ (Ok utc) (o ∷ os) (λ n rest low high. hour_read date n utc rest) b
+day_judged date = ends_judged 0 last_hour (IsBehindHour date) (λ _. IsLargeBehindHour) (read_behind_hour date) (hour_judged date)
+    (day_known Precision.Day date)
 
-month_read : (year month : ℕ) (utc : Utc) (octets : List ℕ) → IsBehindMonth year month octets utc → read_behind_month year month octets ≡ Ok utc
+month_judged : (year month : ℕ) → Judged (IsBehindMonth year month) (IsLargeBehindMonth year month) (read_behind_month year month)
 unfolding read_behind_month
-month_read year month utc octets (inl none) = rw (none.0, none.1) refl
-month_read year month utc [] (inr b) = absurd (begins_some 1 _ _ b)
-month_read year month utc (o ∷ os) (inr b) = part_read 1 (month_length year month) (λ n. read_behind_day (day_of year month n)) _ (Ok utc) (o ∷ os)
-    (λ n rest low high. day_read (day_of year month n) utc rest) b
+month_judged year month = ends_judged 1 (month_length year month) (λ n. IsBehindDay (day_of year month n)) (λ _. IsLargeBehindDay)
+    (λ n. read_behind_day (day_of year month n)) (λ n. day_judged (day_of year month n)) (day_known Precision.Month (day_of year month 1))
 
-year_read : (year : ℕ) (utc : Utc) (octets : List ℕ) → IsBehindYear year octets utc → read_behind_year year octets ≡ Ok utc
+year_judged : (year : ℕ) → Judged (IsBehindYear year) (IsLargeBehindYear year) (read_behind_year year)
 unfolding read_behind_year
-year_read year utc octets (inl none) = rw (none.0, none.1) refl
-year_read year utc [] (inr b) = absurd (begins_some 1 last_month _ b)
-year_read year utc (o ∷ os) (inr b) = part_read 1 last_month (read_behind_month year) _ (Ok utc) (o ∷ os) (λ n rest low high. month_read year n utc rest) b
+year_judged year = ends_judged 1 last_month (IsBehindMonth year) (IsLargeBehindMonth year) (read_behind_month year) (month_judged year)
+    (day_known Precision.Year (day_of year 1 1))
 
--- octets that are fields in UTC are read as them
-pub fields_read : (utc : Utc) (octets : List ℕ) → AreFields octets utc → read_fields octets ≡ Ok utc
+-- octets are judged as the fields that they are
+pub fields_judged : Judged AreFields AreLargeFields read_fields
 unfolding read_fields
-fields_read utc octets b = part_read 1 last_year read_behind_year _ (Ok utc) octets (λ n rest low high. year_read n utc rest) b
+fields_judged = part_judged 1 last_year IsBehindYear IsLargeBehindYear read_behind_year year_judged
+
+pub fields_told : (utc : Utc) (octets : List ℕ) → read_fields octets ≡ Ok utc → AreFields octets utc
+fields_told utc octets e = told (AreFields octets) (AreLargeFields octets) (read_fields octets) utc (fields_judged.answers octets) e
 
 -- fields that stand in a body are those of a day and a time of day
 second_is : (minute : Minute) (second : ℕ) (octets : List ℕ) (utc : Utc) → IsMinute minute → second ≤ last_second
@@ -306,37 +323,27 @@ minute_is minute octets utc h (inr b) = second_is minute b.number b.rest utc h b
 hour_is : (date : Date) (hour : ℕ) (octets : List ℕ) (utc : Utc) → IsDate date → hour ≤ last_hour → IsBehindHour date hour octets utc → IsUtc utc
 hour_is date hour octets utc h k b = minute_is (minute_of date hour b.number) b.rest utc (record { date = h; hour = k; minute = b.range.1 }) b.behind
 
+-- a day of which no time is known
+day_least : (precision : Precision) (date : Date) → IsDate date → IsCut precision (local_in (day_known precision date) (minute_of date 0 0))
+    → IsUtc (day_known precision date)
+day_least precision date h cut =
+    record { minute = record { date = h; hour = omega arith; minute = omega arith }; second = omega arith; cut = cut }
+
 day_is : (date : Date) (octets : List ℕ) (utc : Utc) → IsDate date → IsBehindDay date octets utc → IsUtc utc
-day_is date octets utc h (inl none) =
-    subst IsUtc (sym none.1) (record {
-      minute = record { date = h; hour = omega arith; minute = omega arith };
-      second =
-          omega arith;
-      cut = (refl, refl, refl, refl);
-    })
+day_is date octets utc h (inl none) = subst IsUtc (sym none.1) (day_least Precision.Day date h (refl, refl, refl, refl))
 day_is date octets utc h (inr b) = hour_is date b.number b.rest utc h b.range.1 b.behind
 
 month_is : (year month : ℕ) (octets : List ℕ) (utc : Utc) → (1 ≤ year) × (year ≤ last_year) → (1 ≤ month) × (month ≤ last_month)
     → IsBehindMonth year month octets utc → IsUtc utc
 month_is year month octets utc y m (inl none) =
     let date : IsDate (day_of year month 1) = record { year = y; month = m; day = (omega arith, omega (arith, month_least year month)) } in
-    subst IsUtc (sym none.1) (record {
-      minute = record { date = date; hour = omega arith; minute = omega arith };
-      second =
-          omega arith;
-      cut = (refl, refl, refl, refl, refl);
-    })
+    subst IsUtc (sym none.1) (day_least Precision.Month (day_of year month 1) date (refl, refl, refl, refl, refl))
 month_is year month octets utc y m (inr b) = day_is (day_of year month b.number) b.rest utc (record { year = y; month = m; day = b.range }) b.behind
 
 year_is : (year : ℕ) (octets : List ℕ) (utc : Utc) → (1 ≤ year) × (year ≤ last_year) → IsBehindYear year octets utc → IsUtc utc
 year_is year octets utc y (inl none) =
     let date : IsDate (day_of year 1 1) = record { year = y; month = (omega arith, omega arith); day = (omega arith, omega arith) } in
-    subst IsUtc (sym none.1) (record {
-      minute = record { date = date; hour = omega arith; minute = omega arith };
-      second =
-          omega arith;
-      cut = (refl, refl, refl, refl, refl, refl);
-    })
+    subst IsUtc (sym none.1) (day_least Precision.Year (day_of year 1 1) date (refl, refl, refl, refl, refl, refl))
 year_is year octets utc y (inr b) = month_is year b.number b.rest utc y b.range b.behind
 
 -- fields in a body are those of a day and a time of day, and the ones not known are the least
