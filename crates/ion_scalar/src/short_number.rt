@@ -1,6 +1,6 @@
 //! Ints and decimals of few digits, as most numbers in documents are, as whole tokens: their digits
 //! are added up in 64 bits. What is longer or has another form isn't told of here.
-ghost use Rattle.std.specs.Prelude.{◌≡◌, ◌<◌, ◌≤◌, ◌+◌, ◌*◌, ◌^◌, ◌-ℤ◌, pos, length, take, false, IfSome, Ok};
+ghost use Rattle.std.specs.Prelude.{◌≡◌, ◌<◌, ◌≤◌, ◌+◌, ◌*◌, ◌^◌, ◌-ℤ◌, pos, length, take, false, not, is_some, IfSome, Ok};
 ghost use Rattle.std.specs.Char.{digit_value};
 ghost use Rattle.ion_scalar.specs.Names.{Fits, HasParts, Number as AnyNumber, IsDigits, IsExponent, IsMagnitude, IsPlain, IsSigned, IsWholePart, ReadsBehind, ReadsNumber, decimal_read, number, signed};
 ghost use Rattle.ion_scalar.specs.declared.number.Number.TheVariants as numbers;
@@ -45,7 +45,8 @@ impl ShortNumber {
     /// The int that it is; `None` of a decimal. Takes no memory.
     #[inline(always)]
     pub fn int(self) -> Option<Number>
-        ensures { IfSome result (HasParts self) }
+        ensures parts { IfSome result (HasParts self) }
+        ensures kind { is_some result ≡ not self.is_decimal }
     {
         if self.is_decimal {
             return None;
@@ -60,7 +61,8 @@ impl ShortNumber {
     /// The decimal that it is; `None` of an int. Takes no memory.
     #[inline(always)]
     pub fn decimal(self) -> Option<Number>
-        ensures { IfSome result (HasParts self) }
+        ensures parts { IfSome result (HasParts self) }
+        ensures kind { is_some result ≡ self.is_decimal }
     {
         if !self.is_decimal {
             return None;

@@ -1,10 +1,10 @@
 -- No body of a decimal or a timestamp is shorter than the one that is written.
 use Rattle.std.proofs.Common.{◌≡◌, ℕ, zero, suc, ◌+◌, ◌≤◌, ◌⊎◌, ℤ, pos, neg_ℤ, ◌+ℤ◌, Bool, true, false, cond, List, [], ◌++◌, length, refl, sym, ap, subst, arith, inl, inr, Option, Some, None, length-append}
 use Rattle.std.specs.Prelude.{◌&&◌, ◌==◌, int_lt, unsigned_abs}
-use Rattle.std.proofs.lemmas.Bool.{le-ltb}
+use Rattle.std.proofs.lemmas.Bool.{le-ltb, cond_both}
 use Rattle.std.proofs.lemmas.Int.{ints}
 use Rattle.std.proofs.lemmas.List.{get_or_append_left, get_or-append-add}
-use Rattle.ion_scalar.specs.Names.{AreBelow, AreFields, Date, DecimalParts, IsBehindDay, IsBehindHour, IsBehindMinute, IsBehindMonth, IsBehindSecond, IsBehindYear, IsDecimalField, IsFractionOf, IsTimestampBody, Minute, Precision, TimestampParts, Utc, VarInt, VarUInt, ahead_octets, decimal_octets, fields_octets, int_magnitude, int_negative, int_octets, is_zero, kept_offset, local_minute, long, minute_number, minute_of, minutes_ahead, moved, octets_behind_day, octets_behind_minute, octets_behind_month, octets_behind_second, octets_behind_year, offset_from, short, signed, timestamp_octets, utc_minute, utc_of, var_int_octets, var_uint_octets}
+use Rattle.ion_scalar.specs.Names.{AreBelow, AreFields, Date, DecimalParts, IsBehindDay, IsBehindHour, IsBehindMinute, IsBehindMonth, IsBehindSecond, IsBehindYear, IsDecimalField, IsFractionOf, IsTimestampBody, Minute, Precision, TimestampParts, Utc, VarInt, ahead_octets, decimal_octets, fields_octets, int_magnitude, int_negative, int_octets, is_zero, kept_offset, local_minute, long, minute_number, minute_of, minutes_ahead, moved, octets_behind_day, octets_behind_minute, octets_behind_month, octets_behind_second, octets_behind_year, offset_from, short, signed, timestamp_octets, utc_minute, utc_of, var_int_octets, var_uint_octets, Begins, EndsOr, last_second, last_minute, last_hour, day_of, last_month, last_year, time_known, day_known, month_length}
 use Rattle.ion_atoms.specs.laws.Timestamps.{local_minute-is}
 use Rattle.ion_scalar.specs.binary.laws.Fewest.{int_fewest, var_int_fewest, var_uint_fewest}
 use Rattle.ion_scalar.specs.binary.laws.Shifted.{moved_found}
@@ -35,11 +35,6 @@ signed_size true (suc n) = refl
 parts_size : (xs ys front back whole : List ℕ) → whole ≡ front ++ back → length xs ≤ length front → length ys ≤ length back → length (xs ++ ys) ≤ length whole
 parts_size xs ys front back whole e h k = omega (arith, h, k, ap length e, length-append xs ys, length-append front back)
 
--- decimals
-nothing_if : (b : Bool) (xs : List ℕ) (n : ℕ) → length xs ≤ n → length (cond b [] xs) ≤ n
-nothing_if true xs n h = omega arith
-nothing_if false xs n h = h
-
 -- no body of a decimal is shorter than the one that is written
 pub decimal_fewest : (w : List ℕ) (d : DecimalParts) → AreBelow 256 w → IsDecimalField w d → length (decimal_octets d) ≤ length w
 decimal_fewest w d octets (inl (none, positive, zero_magnitude, zero_exponent)) = rw (positive, zero_magnitude, zero_exponent) (omega arith)
@@ -55,9 +50,9 @@ decimal_fewest w d octets (inr p) =
       ap (λ s. length (int_octets s d.magnitude)) p.sign,
       ap (λ (m : ℕ). length (int_octets (int_negative p.coefficient) m)) p.magnitude,
     ) in
-    nothing_if (is_zero d.negative d.magnitude d.exponent) _ (length w)
-    (parts_size (var_int_octets (int_lt d.exponent (pos 0)) (unsigned_abs d.exponent))
-    (int_octets d.negative d.magnitude) p.power p.coefficient w p.octets first second)
+    let power_octets = var_int_octets (int_lt d.exponent (pos 0)) (unsigned_abs d.exponent) in
+    cond_both (is_zero d.negative d.magnitude d.exponent) [] (power_octets ++ int_octets d.negative d.magnitude) (λ xs. length xs ≤ length w)
+    (λ _. omega arith) (λ _. parts_size power_octets (int_octets d.negative d.magnitude) p.power p.coefficient w p.octets first second)
 
 -- what stands behind the fields, part by part, at most
 minute_size : (p : Precision) (utc : Utc) → length (octets_behind_minute p utc) ≤ length (var_uint_octets utc.second) + length (octets_behind_second p utc)
@@ -84,115 +79,94 @@ year_size : (p : Precision) (utc : Utc) → length (octets_behind_year p utc) �
 year_size Precision.Year utc = omega arith
 year_size p utc = omega (arith, length-append (var_uint_octets utc.minute.date.month) (octets_behind_month p utc))
 
--- a field and what stands behind it
-field_size : (w field rest : List ℕ) (n m a : ℕ) → AreBelow 256 w → w ≡ field ++ rest → VarUInt field n → m ≡ n → a ≤ length rest
-    → length (var_uint_octets m) + a ≤ length w
-field_size w field rest n m a octets cut is same h =
-    let size = var_uint_fewest field n (front_below w field rest cut octets) is in
-    omega (arith, h, ap length cut, length-append field rest, size, ap (λ (k : ℕ). length (var_uint_octets k)) same)
-
 coefficient_size : (c : List ℕ) → AreBelow 256 c → (int_negative c ≡ false) ⊎ (int_magnitude c ≡ 0) → length (int_octets false (int_magnitude c)) ≤ length c
 coefficient_size c octets (inl positive) = let size = int_fewest c octets in omega (arith, size, ap (λ s. length (int_octets s (int_magnitude c))) positive)
 coefficient_size c octets (inr none) = omega (arith, ap (λ (n : ℕ). length (int_octets false n)) none)
 
--- the parts of fields are those that the octets say, and each is as long as it has to be
-record SecondSize (m : Minute) (n : ℕ) (octets : List ℕ) (utc : Utc) : Type 0 where
-  minute : utc.minute ≡ m
-  second : utc.second ≡ n
-  size : length (octets_behind_second utc.precision utc) ≤ length octets
+-- a part of the fields is the one that the octets say, and what is written of it and behind it is no longer than they are
+abbrev Sized : {X : Type 0} → (Utc → X) → X → (Utc → List ℕ) → List ℕ → Utc → Type 0
+Sized part x written octets utc = (part utc ≡ x) × (length (written utc) ≤ length octets)
 
-second_size : (minute : Minute) (second : ℕ) (octets : List ℕ) (utc : Utc) → AreBelow 256 octets → IsBehindSecond minute second octets utc
-    → SecondSize minute second octets utc
-second_size minute second octets utc all (inl (none, e)) = subst (SecondSize minute second octets) (sym e)
-    (record { minute = refl; second = refl; size = omega arith })
-second_size minute second octets utc all (inr f) = by f.fraction where
-  by : IsFractionOf f.below f.power f.coefficient minute second utc → SecondSize minute second octets utc
-  by (inl (below, one, most, sign, small, e)) =
-      let power = var_int_fewest f.exponent f.below f.power (front_below octets f.exponent f.coefficient f.cut all) f.is in
-      let first : length (var_int_octets true f.power) ≤ length f.exponent = omega (arith, power, ap (λ s. length (var_int_octets s f.power)) below) in
-      let last = coefficient_size f.coefficient (back_below octets f.exponent f.coefficient f.cut all) sign in
-      subst (SecondSize minute second octets) (sym e)
-      (record {
-        minute = refl;
-        second = refl;
-        size = parts_size (var_int_octets true f.power)
-            (int_octets false (int_magnitude f.coefficient)) f.exponent f.coefficient octets f.cut first last;
-      })
-  by (inr (low, zero_coefficient, e)) = subst (SecondSize minute second octets) (sym e) (record { minute = refl; second = refl; size = omega arith })
+module _ (minute : Minute) (second : ℕ) (octets : List ℕ) (all : AreBelow 256 octets) where
+  abbrev SecondSized : Utc → Type 0
+  SecondSized utc = (utc.second ≡ second) × Sized (λ u. u.minute) minute (λ u. octets_behind_second u.precision u) octets utc
 
-record MinuteSize (m : Minute) (octets : List ℕ) (utc : Utc) : Type 0 where
-  minute : utc.minute ≡ m
-  size : length (octets_behind_minute utc.precision utc) ≤ length octets
+  second_sized : (utc : Utc) → IsBehindSecond minute second octets utc → SecondSized utc
+  second_sized utc (inl (none, e)) = subst SecondSized (sym e) (refl, (refl, omega arith))
+  second_sized utc (inr f) = by f.fraction where
+    by : IsFractionOf f.below f.power f.coefficient minute second utc → SecondSized utc
+    by (inl (below, one, most, sign, small, e)) =
+        let power = var_int_fewest f.exponent f.below f.power (front_below octets f.exponent f.coefficient f.cut all) f.is in
+        let first : length (var_int_octets true f.power) ≤ length f.exponent = omega (arith, power, ap (λ s. length (var_int_octets s f.power)) below) in
+        let last = coefficient_size f.coefficient (back_below octets f.exponent f.coefficient f.cut all) sign in
+        let size = parts_size (var_int_octets true f.power) (int_octets false (int_magnitude f.coefficient)) f.exponent f.coefficient octets f.cut first last in
+        subst SecondSized (sym e) (refl, (refl, size))
+    by (inr (low, zero_coefficient, e)) = subst SecondSized (sym e) (refl, (refl, omega arith))
 
-behind_minute_size : (minute : Minute) (octets : List ℕ) (utc : Utc) → AreBelow 256 octets → IsBehindMinute minute octets utc → MinuteSize minute octets utc
-behind_minute_size minute octets utc all (inl (none, e)) = subst (MinuteSize minute octets) (sym e) (record { minute = refl; size = omega arith })
-behind_minute_size minute octets utc all (inr b) =
-    let s = second_size minute b.number b.rest utc (back_below octets b.field b.rest b.cut all) b.behind in
-    let size = field_size octets b.field b.rest b.number utc.second (length (octets_behind_second utc.precision utc)) all b.cut b.is s.second s.size in
-    let most = minute_size utc.precision utc in
-    record { minute = s.minute; size = omega (arith, size, most) }
+-- a field in front of what is written behind it
+module _ {X : Type 0} (part : Utc → X) (x : X) (field : Utc → ℕ) (here next : Utc → List ℕ) (Is : ℕ → List ℕ → Utc → Type 0)
+    (whole : (utc : Utc) → length (here utc) ≤ length (var_uint_octets (field utc)) + length (next utc))
+    (behind : (n : ℕ) (rest : List ℕ) (utc : Utc) → AreBelow 256 rest → Is n rest utc → (field utc ≡ n) × Sized part x next rest utc)
+    (least most : ℕ) (octets : List ℕ) (all : AreBelow 256 octets) where
+  part_sized : (utc : Utc) → Begins least most (λ n rest. Is n rest utc) octets → Sized part x here octets utc
+  part_sized utc b =
+      let s = behind b.number b.rest utc (back_below octets b.field b.rest b.cut all) b.behind in
+      let size = var_uint_fewest b.field b.number (front_below octets b.field b.rest b.cut all) b.is in
+      (s.1.0, omega (arith, whole utc, s.1.1, ap length b.cut, length-append b.field b.rest, size, ap (λ (k : ℕ). length (var_uint_octets k)) s.0))
 
-record HourSize (d : Date) (n : ℕ) (octets : List ℕ) (utc : Utc) : Type 0 where
-  date : utc.minute.date ≡ d
-  hour : utc.minute.hour ≡ n
-  size : length (clock_octets utc.precision utc) ≤ length octets
+  ends_sized : (known : Utc) → part known ≡ x → length (here known) ≡ 0 → (utc : Utc) → EndsOr known least most Is octets utc → Sized part x here octets utc
+  ends_sized known same none utc (inl e) = subst (Sized part x here octets) (sym e.1) (same, omega (arith, none))
+  ends_sized known same none utc (inr b) = part_sized utc b
 
-behind_hour_size : (date : Date) (hour : ℕ) (octets : List ℕ) (utc : Utc) → AreBelow 256 octets → IsBehindHour date hour octets utc
-    → HourSize date hour octets utc
-behind_hour_size date hour octets utc all b =
-    let m = behind_minute_size (minute_of date hour b.number) b.rest utc (back_below octets b.field b.rest b.cut all) b.behind in
-    let size = field_size octets b.field b.rest b.number utc.minute.minute
-    (length (octets_behind_minute utc.precision utc)) all b.cut b.is (ap (λ (x : Minute). x.minute) m.minute) m.size in
-    record {
-      date = ap (λ (x : Minute). x.date) m.minute;
-      hour = ap (λ (x : Minute). x.hour) m.minute;
-      size = omega (arith, size, length-append (var_uint_octets utc.minute.minute) (octets_behind_minute utc.precision utc));
-    }
+minute_sized : (minute : Minute) (octets : List ℕ) (utc : Utc) → AreBelow 256 octets → IsBehindMinute minute octets utc
+    → Sized (λ u. u.minute) minute (λ u. octets_behind_minute u.precision u) octets utc
+minute_sized minute octets utc all = ends_sized (λ u. u.minute) minute (λ u. u.second) _ (λ u. octets_behind_second u.precision u) (IsBehindSecond minute)
+    (λ u. minute_size u.precision u) (λ n rest u below is. second_sized minute n rest below u is) 0 last_second octets all
+    (time_known Precision.Minute minute 0 0) refl refl utc
 
-record DaySize (d : Date) (octets : List ℕ) (utc : Utc) : Type 0 where
-  date : utc.minute.date ≡ d
-  size : length (octets_behind_day utc.precision utc) ≤ length octets
+hour_sized : (date : Date) (hour : ℕ) (octets : List ℕ) (utc : Utc) → AreBelow 256 octets → IsBehindHour date hour octets utc
+    → Sized {X = Date × ℕ} (λ u. (u.minute.date, u.minute.hour)) (date, hour) (λ u. clock_octets u.precision u) octets utc
+hour_sized date hour octets utc all = part_sized {X = Date × ℕ} (λ u. (u.minute.date, u.minute.hour)) (date, hour) (λ u. u.minute.minute)
+    (λ u. clock_octets u.precision u) (λ u. octets_behind_minute u.precision u) (λ n. IsBehindMinute (minute_of date hour n))
+    (λ u. omega (arith, length-append (var_uint_octets u.minute.minute) (octets_behind_minute u.precision u)))
+    (λ n rest u below is.
+    let m = minute_sized (minute_of date hour n) rest u below is in
+    (ap (λ (x : Minute). x.minute) m.0, (ap (λ (x : Minute). (x.date, x.hour)) m.0, m.1)))
+    0 last_minute octets all utc
 
-behind_day_size : (date : Date) (octets : List ℕ) (utc : Utc) → AreBelow 256 octets → IsBehindDay date octets utc → DaySize date octets utc
-behind_day_size date octets utc all (inl (none, e)) = subst (DaySize date octets) (sym e) (record { date = refl; size = omega arith })
-behind_day_size date octets utc all (inr b) =
-    let h = behind_hour_size date b.number b.rest utc (back_below octets b.field b.rest b.cut all) b.behind in
-    let size = field_size octets b.field b.rest b.number utc.minute.hour (length (clock_octets utc.precision utc)) all b.cut b.is h.hour h.size in
-    let most = day_size utc.precision utc in
-    record { date = h.date; size = omega (arith, size, most) }
+day_sized : (date : Date) (octets : List ℕ) (utc : Utc) → AreBelow 256 octets → IsBehindDay date octets utc
+    → Sized (λ u. u.minute.date) date (λ u. octets_behind_day u.precision u) octets utc
+day_sized date octets utc all = ends_sized (λ u. u.minute.date) date (λ u. u.minute.hour) _ (λ u. clock_octets u.precision u) (IsBehindHour date)
+    (λ u. day_size u.precision u)
+    (λ n rest u below is.
+    let h = hour_sized date n rest u below is in
+    (ap (λ (x : Date × ℕ). x.1) h.0, (ap (λ (x : Date × ℕ). x.0) h.0, h.1)))
+    0 last_hour octets all (day_known Precision.Day date) refl refl utc
 
-record MonthSize (y m : ℕ) (octets : List ℕ) (utc : Utc) : Type 0 where
-  year : utc.minute.date.year ≡ y
-  month : utc.minute.date.month ≡ m
-  size : length (octets_behind_month utc.precision utc) ≤ length octets
+month_sized : (year month : ℕ) (octets : List ℕ) (utc : Utc) → AreBelow 256 octets → IsBehindMonth year month octets utc
+    → Sized {X = ℕ × ℕ} (λ u. (u.minute.date.year, u.minute.date.month)) (year, month) (λ u. octets_behind_month u.precision u) octets utc
+month_sized year month octets utc all = ends_sized {X = ℕ × ℕ} (λ u. (u.minute.date.year, u.minute.date.month)) (year, month) (λ u. u.minute.date.day) _
+    (λ u. octets_behind_day u.precision u) (λ n. IsBehindDay (day_of year month n)) (λ u. month_size u.precision u)
+    (λ n rest u below is.
+    let d = day_sized (day_of year month n) rest u below is in
+    (ap (λ (x : Date). x.day) d.0, (ap (λ (x : Date). (x.year, x.month)) d.0, d.1)))
+    1 (month_length year month) octets all (day_known Precision.Month (day_of year month 1)) refl refl utc
 
-behind_month_size : (year month : ℕ) (octets : List ℕ) (utc : Utc) → AreBelow 256 octets → IsBehindMonth year month octets utc → MonthSize year month octets utc
-behind_month_size year month octets utc all (inl (none, e)) = subst (MonthSize year month octets) (sym e)
-    (record { year = refl; month = refl; size = omega arith })
-behind_month_size year month octets utc all (inr b) =
-    let d = behind_day_size _ b.rest utc (back_below octets b.field b.rest b.cut all) b.behind in
-    let size = field_size octets b.field b.rest b.number utc.minute.date.day
-    (length (octets_behind_day utc.precision utc)) all b.cut b.is (ap (λ (x : Date). x.day) d.date) d.size in
-    let most = month_size utc.precision utc in
-    record { year = ap (λ (x : Date). x.year) d.date; month = ap (λ (x : Date). x.month) d.date; size = omega (arith, size, most) }
-
-record YearSize (y : ℕ) (octets : List ℕ) (utc : Utc) : Type 0 where
-  year : utc.minute.date.year ≡ y
-  size : length (octets_behind_year utc.precision utc) ≤ length octets
-
-behind_year_size : (year : ℕ) (octets : List ℕ) (utc : Utc) → AreBelow 256 octets → IsBehindYear year octets utc → YearSize year octets utc
-behind_year_size year octets utc all (inl (none, e)) = subst (YearSize year octets) (sym e) (record { year = refl; size = omega arith })
-behind_year_size year octets utc all (inr b) =
-    let m = behind_month_size year b.number b.rest utc (back_below octets b.field b.rest b.cut all) b.behind in
-    let size = field_size octets b.field b.rest b.number utc.minute.date.month (length (octets_behind_month utc.precision utc)) all b.cut b.is m.month m.size in
-    let most = year_size utc.precision utc in
-    record { year = m.year; size = omega (arith, size, most) }
+year_sized : (year : ℕ) (octets : List ℕ) (utc : Utc) → AreBelow 256 octets → IsBehindYear year octets utc
+    → Sized (λ u. u.minute.date.year) year (λ u. octets_behind_year u.precision u) octets utc
+year_sized year octets utc all = ends_sized (λ u. u.minute.date.year) year (λ u. u.minute.date.month) _ (λ u. octets_behind_month u.precision u)
+    (IsBehindMonth year) (λ u. year_size u.precision u)
+    (λ n rest u below is.
+    let m = month_sized year n rest u below is in
+    (ap (λ (x : ℕ × ℕ). x.1) m.0, (ap (λ (x : ℕ × ℕ). x.0) m.0, m.1)))
+    1 last_month octets all (day_known Precision.Year (day_of year 1 1)) refl refl utc
 
 fields_size : (octets : List ℕ) (utc : Utc) → AreBelow 256 octets → AreFields octets utc → length (fields_octets utc) ≤ length octets
 fields_size octets utc all b =
-    let y = behind_year_size b.number b.rest utc (back_below octets b.field b.rest b.cut all) b.behind in
-    let size = field_size octets b.field b.rest b.number utc.minute.date.year (length (octets_behind_year utc.precision utc)) all b.cut b.is y.year y.size in
-    omega (arith, size, length-append (var_uint_octets utc.minute.date.year) (octets_behind_year utc.precision utc))
+    let sized = part_sized {X = ℕ} (λ _. 0) 0 (λ u. u.minute.date.year) fields_octets (λ u. octets_behind_year u.precision u) IsBehindYear
+    (λ u. omega (arith, length-append (var_uint_octets u.minute.date.year) (octets_behind_year u.precision u)))
+    (λ n rest u below is. let y = year_sized n rest u below is in (y.0, (refl, y.1))) 1 last_year octets all utc b in
+    sized.1
 
 -- the offset
 some_octet : (w : List ℕ) (negative : Bool) (n : ℕ) → VarInt w negative n → 1 ≤ length w

@@ -8,7 +8,7 @@ use Rattle.std.proofs.lemmas.List.Sums.{passes_at_first, fails_before_first}
 use Rattle.std.proofs.lemmas.List.{take_more, take_all, map-append, take-append-drop}
 use Rattle.ion_scalar.specs.Names.{Digits128, GoesOn, Incomplete, Reason, TooLarge, groups, is_last, more, none, positional, positional_one, seven_bits, up_to_last, var_rest}
 use Rattle.ion_scalar.specs.binary.Reads.{Reaches}
-use Rattle.ion_scalar.specs.binary.VarEnds.{GoOn, ends_at, too_large_at}
+use Rattle.ion_scalar.specs.binary.VarEnds.{GoOn, ends_at, no_end, too_large_at}
 
 -- of digits of base 128 none ends a number
 pub digits_below : (ds : List ℕ) → Digits128 ds → GoOn ds (length ds)
@@ -67,15 +67,7 @@ rest_reaches front used os r =
 
 -- digits that stay below 2^63, and that no octet ends, are the beginning of a number
 pub rest_goes_on : (front used : ℕ) (os : List ℕ) → GoesOn front os → var_rest front used os ≡ Err Incomplete
-rest_goes_on front used os g =
-    let p = position_or_len is_last os in
-    let none_ends : length os ≤ p = elim (cases_lt p (length os)) [
-      | inl lt ↦ absurd (omega (arith, leb-true 128 _ (passes_at_first is_last os 0 lt), digits_below os g.small p lt))
-      | inr le ↦ le
-    ] in
-    let all : up_to_last os ≡ os = take_all (p + 1) os (omega arith) in
-    let small : groups front (up_to_last os) < 2 ^ 63 = rw (all, digits_seven os g.small) g.bound in
-    rw (lt-leb (2 ^ 63) (groups front (up_to_last os)) small, le-ltb p (length os) none_ends) refl
+rest_goes_on front used os g = no_end front used os (digits_below os g.small) (rw (digits_seven os g.small) g.bound)
 
 go_on : (os : List ℕ) → GoOn os (position_or_len is_last os)
 go_on os k h = leb-false 128 (get_or os k 0) (fails_before_first is_last os k 0 h)
