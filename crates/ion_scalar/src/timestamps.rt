@@ -1,9 +1,11 @@
 //! The parts of timestamp tokens (Ion 1.0, "Timestamps").
-ghost use Rattle.std.specs.Prelude.{ℕ, ◌≡◌, ◌<◌, ◌≤◌, ◌+◌, ◌-◌, ◌*◌, ◌^◌, ◌++◌, List, length, drop, min, slice_index, IfSome, IfNone, SomeIff, IsTrue, ◌↔◌, ◌⊎◌, ◌==◌, if◌then◌else◌, pos, neg_ℤ, Some, None};
+ghost use Rattle.std.specs.Prelude.{ℕ, ◌≡◌, ◌<◌, ◌≤◌, ◌+◌, ◌-◌, ◌*◌, ◌^◌, ◌++◌, List, length, drop, min, slice_index, IfSome, IfNone, SomeIff, IsTrue, ◌↔◌, ◌⊎◌, ◌==◌, if◌then◌else◌, pos, neg_ℤ, Some, None, false};
 ghost use Rattle.ion_scalar.specs.Names.{AreFourAt, AreTwoAt, BeginsWithDay, BeginsWithMinute, BeginsWithMonth, BeginsWithSecond, IsAt, IsDay, IsDigitAt, IsFractionEnd, IsMonth, IsOffsetToken, IsPlain, IsShort, IsTimestampToken, IsYear, TimestampParts, dated, farthest_offset, four, minute_read, most_digits, number, offset_read, stamp, two};
+ghost use Rattle.ion_scalar.specs.text.laws.TimestampForms.{ShownEnd};
 ghost use Rattle.ion_atoms.specs.declared.timestamp.Precision.TheVariants as precisions;
 
 use crate::digits::digits_at;
+use crate::short_number::{MOST_SHORT_OCTETS, plain_digits};
 use ion_atoms::bounds::{LAST_HOUR, LAST_MINUTE, MOST_DIGITS};
 use ion_atoms::{Local, Precision};
 
@@ -87,7 +89,7 @@ fn four_at(octets: &[u8], at: usize) -> Option<u16>
 }
 
 #[inline(always)]
-pub fn is_at(octets: &[u8], at: usize, octet: u8) -> bool
+fn is_at(octets: &[u8], at: usize, octet: u8) -> bool
     ensures { IsTrue result ↔ IsAt octets.now at octet }
 {
     at < octets.len() && octets[at] == octet
@@ -249,7 +251,7 @@ fn day_token(token: &[u8]) -> Option<Stamp>
 
 /// A minute or second, and an offset that all of the octets behind it are.
 #[inline(always)]
-pub fn with_offset(local: Local, precision: Precision, octets: &[u8]) -> Option<Stamp>
+fn with_offset(local: Local, precision: Precision, octets: &[u8]) -> Option<Stamp>
     ensures { SomeIff result (IsOffsetToken octets.now)
         (record { local = local; precision = precision; offset = offset_read octets.now }) }
 {
@@ -266,12 +268,7 @@ pub fn with_offset(local: Local, precision: Precision, octets: &[u8]) -> Option<
 /// What stands behind the point of a second: digits and an offset.
 #[inline(always)]
 fn with_fraction(local: Local, octets: &[u8]) -> Option<Stamp>
-    ensures some { IfSome result (λ s. (digits rest : List ℕ) × IsFractionEnd octets.now digits rest
-        × (s ≡ record {
-          local = record local { fraction = min (number 10 digits) (2 ^ 127) };
-          precision = precisions.Fraction (min (length digits) (most_digits + 1));
-          offset = offset_read rest;
-        })) }
+    ensures some { IfSome result (ShownEnd local octets.now) }
     ensures none { IfNone result ((digits rest : List ℕ) → IsFractionEnd octets.now digits rest
         → ⊥) }
 {
@@ -287,12 +284,34 @@ fn with_fraction(local: Local, octets: &[u8]) -> Option<Stamp>
     with_offset(local, precision, &octets[digits.used..])
 }
 
+/// What stands behind the point of a second: digits and an offset, at most 19 octets.
 #[inline(always)]
-fn time_token(token: &[u8]) -> Option<Stamp>
+fn with_short_fraction(local: Local, octets: &[u8]) -> Option<Stamp>
+    ensures { IfSome result (ShownEnd local octets.now) }
+{
+    if octets.len() > MOST_SHORT_OCTETS {
+        return None;
+    }
+    let digits = plain_digits(octets, 0);
+    if digits.used == 0 {
+        return None;
+    }
+    let local = Local {
+        fraction: u128::from(digits.value),
+        ..local
+    };
+    let precision = Precision::Fraction(digits.used as u8);
+    with_offset(local, precision, &octets[digits.used..])
+}
+
+/// What a whole token with a time spells; of a fraction that isn't short nothing is told if it is
+/// to be.
+#[inline(always)]
+pub fn time_token(token: &[u8], short: bool) -> Option<Stamp>
     ensures some { IfSome result (λ s. (t : TimestampParts) × IsTimestampToken token.now t
         × (s ≡ stamp t)) }
-    ensures none { IfNone result (BeginsWithMinute token.now → (t : TimestampParts)
-        → IsTimestampToken token.now t → ⊥) }
+    ensures none { short ≡ false → IfNone result (BeginsWithMinute token.now
+        → (t : TimestampParts) → IsTimestampToken token.now t → ⊥) }
 {
     let Some(minute) = minute_front(token) else {
         return None
@@ -306,6 +325,9 @@ fn time_token(token: &[u8]) -> Option<Stamp>
     let local = Local { second, ..minute };
     if !is_at(token, 19, b'.') {
         return with_offset(local, Precision::Second, &token[19..]);
+    }
+    if short {
+        return with_short_fraction(local, &token[20..]);
     }
     with_fraction(local, &token[20..])
 }
@@ -336,7 +358,7 @@ pub fn stamp_of(token: &[u8]) -> Option<Stamp>
     if token.len() <= 11 {
         date_token(token)
     } else {
-        time_token(token)
+        time_token(token, false)
     }
 }
 

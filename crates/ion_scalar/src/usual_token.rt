@@ -3,11 +3,9 @@
 //! of the years 1 to 9999. What has another form, or isn't there, isn't told of here.
 ghost use Rattle.std.specs.Prelude.{ℕ, List, ◌≡◌, ◌≤◌, ◌<◌, length, IsTrue, ◌↔◌, IfSome};
 ghost use Rattle.ion_scalar.specs.Names.{Date, IsDate, IsShort, IsTime, IsTimestamp, IsTimestampToken, TimestampParts, last_year, local_date, stamp};
-ghost use Rattle.ion_scalar.specs.text.laws.TimestampForms.{ShownEnd};
 
-use crate::short_number::{MOST_SHORT_OCTETS, plain_digits};
 use crate::timestamps::{
-    Stamp, date_token, day_front, ends_day, is_at, is_short, minute_front, two_at, with_offset,
+    Stamp, date_token, day_front, ends_day, is_short, minute_front, time_token, two_at,
 };
 use ion_atoms::bounds::{LAST_HOUR, LAST_MINUTE, LAST_MONTH, LAST_SECOND, LAST_YEAR};
 use ion_atoms::calendar::has_day;
@@ -72,32 +70,8 @@ fn usual_second(token: &[u8]) -> Option<Timestamp>
 }
 
 /// The timestamp of another form that a whole token spells, with few fraction digits or none.
-#[inline(always)]
+#[inline(never)]
 pub fn rare_timestamp(token: &[u8]) -> Option<Timestamp>
-    ensures { IfSome result (λ t. IsTimestampToken token.now t × IsTimestamp t) }
-{
-    if token.len() > 11 {
-        rare_time(token)
-    } else {
-        rare_date(token)
-    }
-}
-
-/// The timestamp of a year, a month or a day that a whole token of at most 11 octets spells.
-#[inline(never)]
-fn rare_date(token: &[u8]) -> Option<Timestamp>
-    requires { length token.now ≤ 11 }
-    ensures { IfSome result (λ t. IsTimestampToken token.now t × IsTimestamp t) }
-{
-    match date_token(token) {
-        Some(spelled) => usual_parts(spelled),
-        None => None,
-    }
-}
-
-/// The timestamp with a time that a whole token spells, with few fraction digits or none.
-#[inline(never)]
-fn rare_time(token: &[u8]) -> Option<Timestamp>
     ensures { IfSome result (λ t. IsTimestampToken token.now t × IsTimestamp t) }
 {
     match short_stamp(token) {
@@ -111,40 +85,11 @@ fn short_stamp(token: &[u8]) -> Option<Stamp>
     ensures { IfSome result (λ s. (t : TimestampParts) × IsTimestampToken token.now t
         × (s ≡ stamp t)) }
 {
-    let Some(minute) = minute_front(token) else {
-        return None
-    };
-    if !is_at(token, 16, b':') {
-        return with_offset(minute, Precision::Minute, &token[16..]);
+    if token.len() > 11 {
+        time_token(token, true)
+    } else {
+        date_token(token)
     }
-    let Some(second) = two_at(token, 17) else {
-        return None
-    };
-    let local = Local { second, ..minute };
-    if !is_at(token, 19, b'.') {
-        return with_offset(local, Precision::Second, &token[19..]);
-    }
-    with_short_fraction(local, &token[20..])
-}
-
-/// What stands behind the point of a second: digits and an offset, at most 19 octets.
-#[inline(always)]
-fn with_short_fraction(local: Local, octets: &[u8]) -> Option<Stamp>
-    ensures { IfSome result (ShownEnd local octets.now) }
-{
-    if octets.len() > MOST_SHORT_OCTETS {
-        return None;
-    }
-    let digits = plain_digits(octets, 0);
-    if digits.used == 0 {
-        return None;
-    }
-    let local = Local {
-        fraction: u128::from(digits.value),
-        ..local
-    };
-    let precision = Precision::Fraction(digits.used as u8);
-    with_offset(local, precision, &octets[digits.used..])
 }
 
 /// The timestamp of the parts that a token spells.

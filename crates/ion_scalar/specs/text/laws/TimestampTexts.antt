@@ -1,13 +1,11 @@
 -- What is written of a timestamp spells it.
 use Rattle.std.proofs.Common.{◌≡◌, ℕ, zero, suc, ◌+◌, ◌/◌, ◌%◌, ◌^◌, ◌<◌, ◌≤◌, inl, inr, List, [], ◌∷◌, ◌++◌, length, get_or, ℤ, pos, negsuc, refl, sym, ap, subst, ◌∙◌, arith, length-append, append_assoc, Option, Some, None, IfSome, Ok}
-use Rattle.std.specs.Char.{digit_value}
 use Rattle.std.proofs.Math.Nat.{pow-suc}
 use Rattle.std.proofs.lemmas.Nat.{div_below}
 use Rattle.std.proofs.lemmas.Int.{ints}
 use Rattle.std.proofs.lemmas.Bool.{ne_eqb}
-use Rattle.ion_scalar.specs.Names.{AreFourAt, AreTwoAt, BeginsWithDay, BeginsWithMinute, BeginsWithMonth, BeginsWithSecond, HasOffset, IsAt, IsCut, IsDigits, IsOffset, IsOffsetToken, IsTimestamp, IsTimestampToken, Local, Number, Precision, ReadsNumber, TimestampParts, clock_text, cut_text, dated, day, day_text, digits_in, farthest_offset, four, four_digits, fraction, last_hour, last_minute, minute, minute_read, minute_text, month, month_text, number, number_text, offset_minutes, offset_read, offset_text, padded, positional, positional_push, second, second_text, timed, timestamp_text, two, two_digits, year}
-use Rattle.ion_scalar.specs.text.laws.DigitRuns.{digits_in_one, digits_in_push, digits_push}
-use Rattle.ion_scalar.specs.text.laws.Texts.{digit_of}
+use Rattle.ion_scalar.specs.Names.{AreFourAt, AreTwoAt, BeginsWithDay, BeginsWithMinute, BeginsWithMonth, BeginsWithSecond, HasOffset, IsAt, IsCut, IsOffset, IsOffsetToken, IsTimestamp, IsTimestampToken, Local, Number, Precision, ReadsNumber, TimestampParts, clock_text, cut_text, dated, day, day_text, farthest_offset, four, four_digits, fraction, last_hour, last_minute, minute, minute_read, minute_text, month, month_text, number, number_text, offset_minutes, offset_read, offset_text, padded, second, second_text, timed, timestamp_text, two, two_digits, year}
+use Rattle.ion_scalar.specs.text.laws.Texts.{Writes, writes_more, writes_one}
 use Rattle.ion_scalar.specs.text.laws.TimestampForms.{there_short}
 use Rattle.ion_atoms.specs.laws.Neighbours.{month_most}
 
@@ -71,34 +69,17 @@ offset_is (Some (negsuc n)) h =
 
 -- so many digits of a number below ten to their number
 record Pads (width n : ℕ) (ds : List ℕ) : Type 0 where
-  pub digits : IsDigits 10 ds
-  pub plain : length (digits_in ds) ≡ length ds
-  pub value : number 10 ds ≡ n
+  pub writes : Writes n ds
   pub size : length ds ≡ width
 
 pads : (w n : ℕ) → n < 10 ^ suc w → Pads (suc w) n (padded (suc w) n)
 pads zero n h =
-    let v = digit_of (n % 10) (omega arith) in
-    let e : digits_in ((48 + n % 10) ∷ []) ≡ n % 10 ∷ [] = digits_in_one 10 (48 + n % 10) (omega arith) (omega (arith, v)) ∙ ap (λ x. x ∷ []) v in
-    record {
-      digits = omega (arith, v);
-      plain = ap length e;
-      value = ap (positional 10) e ∙ omega arith;
-      size = refl;
-    }
+    let last : n % 10 ≡ n = omega arith in
+    record { writes = rw last (writes_one n (omega arith)); size = refl }
 pads (suc w) n h =
     let s = pads w (n / 10) (div_below n 10 (10 ^ suc w) (omega arith) (rw (← pow-suc 10 (suc w)) h)) in
     let ds = padded (suc w) (n / 10) in
-    let v = digit_of (n % 10) (omega arith) in
-    let is : digit_value (48 + n % 10) < 10 = omega (arith, v) in
-    let e : digits_in (ds ++ (48 + n % 10) ∷ []) ≡ digits_in ds ++ n % 10 ∷ [] = digits_in_push 10 (48 + n % 10) ds (omega arith) is
-    ∙ ap (λ x. digits_in ds ++ x ∷ []) v in
-    record {
-      digits = digits_push 10 ds (48 + n % 10) s.digits is;
-      plain = ap length e ∙ omega (arith, length-append (digits_in ds) (n % 10 ∷ []), length-append ds ((48 + n % 10) ∷ []), s.plain);
-      value = ap (positional 10) e ∙ (positional_push 10 (digits_in ds) (n % 10) ∙ omega (arith, s.value));
-      size = omega (arith, length-append ds ((48 + n % 10) ∷ []), s.size);
-    }
+    record { writes = writes_more n ds s.writes; size = omega (arith, length-append ds ((48 + n % 10) ∷ []), s.size) }
 
 abbrev Small : Local → Type 0
 Small l = (l.year < 10000) × (l.month < 100) × (l.day < 100) × (l.hour < 100) × (l.minute < 100) × (l.second < 100)
@@ -142,66 +123,41 @@ read_back l rest s =
     let minute = minute_front l rest s in
     λ i. record { year = month.1 i; month = month.2 i; day = day.1 i; hour = minute.1 i; minute = minute.2 i; second = 0; fraction = 0 }
 
+-- a day of which no time is known, as it is read back
+dated_back : (p : Precision) (y m d : ℕ) (l : Local) (o : Option ℤ) → (y ≡ l.year) × (m ≡ l.month) × (d ≡ l.day)
+    → (l.hour ≡ 0) × (l.minute ≡ 0) × (l.second ≡ 0) × (l.fraction ≡ 0) → o ≡ None → dated p y m d ≡ record { local = l; precision = p; offset = o }
+dated_back p y m d l o date time none = λ i. record {
+  local = record {
+    year = date.0 i;
+    month = date.1 i;
+    day = date.2 i;
+    hour = sym (time.0) i;
+    minute = sym (time.1) i;
+    second = sym (time.2) i;
+    fraction = sym (time.3) i;
+  };
+  precision = p;
+  offset = sym none i;
+}
+
 cut_again : (l : Local) (p : Precision) (o : Option ℤ) → Small l → IsCut p l → HasOffset p o
     → IsTimestampToken (cut_text p l o) (record { local = l; precision = p; offset = o })
 cut_again l Precision.Year o s c h =
     let os = four_digits l.year ++ (84 ∷ []) in
     let y = four_at os l.year s.0 (omega arith) refl refl refl refl in
-    let e : Path TimestampParts (dated Precision.Year (four os 0) 1 1) (record { local = l; precision = Precision.Year; offset = o }) =
-    λ i. record {
-      local = record {
-        year = y.1 i;
-        month = sym (c.0) i;
-        day = sym (c.1) i;
-        hour = sym (c.2) i;
-        minute = sym (c.3) i;
-        second =
-            sym (c.4) i;
-        fraction = sym (c.5) i;
-      };
-      precision = Precision.Year;
-      offset = sym h i;
-    } in
-    subst (IsTimestampToken os) e (year (refl, y.0, (omega arith, refl)))
+    subst (IsTimestampToken os) (dated_back Precision.Year (four os 0) 1 1 l o (y.1, sym c.0, sym c.1) (c.2, c.3, c.4, c.5) h)
+    (year (refl, y.0, (omega arith, refl)))
 cut_again l Precision.Month o s c h =
     let os = month_text l ++ (84 ∷ []) in
     let m = month_front l (84 ∷ []) s in
-    let e : Path TimestampParts (dated Precision.Month (four os 0) (two os 5) 1) (record { local = l; precision = Precision.Month; offset = o }) =
-    λ i. record {
-      local = record {
-        year = m.1 i;
-        month = m.2 i;
-        day = sym (c.0) i;
-        hour = sym (c.1) i;
-        minute = sym (c.2) i;
-        second = sym (c.3) i;
-        fraction =
-            sym (c.4) i;
-      };
-      precision = Precision.Month;
-      offset = sym h i;
-    } in
-    subst (IsTimestampToken os) e (month (refl, m.0, (omega arith, refl)))
+    subst (IsTimestampToken os) (dated_back Precision.Month (four os 0) (two os 5) 1 l o (m.1, m.2, sym c.0) (c.1, c.2, c.3, c.4) h)
+    (month (refl, m.0, (omega arith, refl)))
 cut_again l Precision.Day o s c h =
     let os = day_text l in
     let m = month_front l (45 ∷ two_digits l.day) s in
     let d = day_front l [] s in
-    let e : Path TimestampParts (dated Precision.Day (four os 0) (two os 5) (two os 8)) (record { local = l; precision = Precision.Day; offset = o }) =
-    λ i. record {
-      local = record {
-        year = m.1 i;
-        month = m.2 i;
-        day = d.1 i;
-        hour = sym (c.0) i;
-        minute = sym (c.1) i;
-        second = sym (c.2) i;
-        fraction =
-            sym (c.3) i;
-      };
-      precision = Precision.Day;
-      offset = sym h i;
-    } in
-    subst (IsTimestampToken os) e (day (d.0, inl refl))
+    subst (IsTimestampToken os) (dated_back Precision.Day (four os 0) (two os 5) (two os 8) l o (m.1, m.2, d.1) (c.0, c.1, c.2, c.3) h)
+    (day (d.0, inl refl))
 cut_again l Precision.Minute o s c h =
     let os = minute_text l ++ offset_text o in
     let m = minute_front l (offset_text o) s in
@@ -229,8 +185,8 @@ cut_again l (Precision.Fraction (suc d)) o s c h =
     let q = pads d l.fraction (c.2) in
     let e : Path TimestampParts (timed os (Precision.Fraction (length digits)) (two os 17) (number 10 digits) rest)
     (record { local = l; precision = Precision.Fraction (suc d); offset = o }) =
-    λ i. record { local = record (b i) { second = m.1 i; fraction = q.value i }; precision = Precision.Fraction (q.size i); offset = k.1 i } in
-    subst (IsTimestampToken os) e (fraction m.0 (omega arith, refl) digits rest (record { cut = refl; plain = (q.digits, q.plain); offset = k.0 }))
+    λ i. record { local = record (b i) { second = m.1 i; fraction = q.writes.value i }; precision = Precision.Fraction (q.size i); offset = k.1 i } in
+    subst (IsTimestampToken os) e (fraction m.0 (omega arith, refl) digits rest (record { cut = refl; plain = (q.writes.digits, q.writes.plain); offset = k.0 }))
 
 pub timestamp_again : (t : TimestampParts) → IsTimestamp t → IsTimestampToken (timestamp_text t) t
 timestamp_again t h = cut_again t.local t.precision t.offset (small_fields t h) h.cut h.offset

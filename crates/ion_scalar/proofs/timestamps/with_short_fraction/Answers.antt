@@ -1,7 +1,7 @@
 use Rattle.std.proofs.Common.{arith}
 use Rattle.std.proofs.lemmas.List.{take_rest}
 use Rattle.ion_scalar.specs.text.laws.UsualTokens.{short_end}
-use Rattle.ion_scalar.proofs.usual_token.with_short_fraction.Goals as goal
+use Rattle.ion_scalar.proofs.timestamps.with_short_fraction.Goals as goal
 
 pub returns : goal.returns
 returns c =
