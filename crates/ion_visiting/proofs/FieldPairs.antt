@@ -21,11 +21,9 @@ left_all p (x ∷ xs) = omega (arith, count_by-cons p x xs, left_all p xs)
 
 left_pair : {X : Type 0} (p : X → Bool) (k : ℕ) (x : X) (xs : List X) (bs : List Bool) → slice_get xs k ≡ Some x → slice_get bs k ≡ Some false
     → left p xs bs ≡ one (p x) + left p xs (set bs k true)
-left_pair p k x [] bs h i = cc
-left_pair p k x (y ∷ ys) [] h i = cc
-left_pair p zero x (y ∷ ys) (true ∷ bs) h i = cc
 left_pair p zero x (y ∷ ys) (false ∷ bs) h i = let e : y ≡ x = cc in rw e (omega arith)
 left_pair p (suc k) x (y ∷ ys) (b ∷ bs) h i = omega (arith, left_pair p k x ys bs h i)
+left_pair p _ x _ _ h i = cc
 
 left_none : {X : Type 0} (p : X → Bool) (xs : List X) (bs : List Bool) → ((k : ℕ) → k < length xs → slice_get bs k ≡ Some true) → left p xs bs ≡ 0
 left_none p [] bs h = refl

@@ -1,6 +1,9 @@
 -- What is found on a tape is a value that is equivalent to the one that lies there.
-use Rattle.std.proofs.Common.{◌≡◌, ◌≢◌, ℕ, zero, suc, ◌+◌, ◌≤◌, ◌<◌, ◌⊎◌, ◌/◌, ◌%◌, ◌^◌, Bool, true, false, List, [], ◌∷◌, ◌++◌, length, drop, set, replicate, slice_get, map, append_assoc, append-nil, Option, Some, inl, inr, refl, ap, sym, subst, ◌∙◌, arith}
+use Rattle.std.proofs.Common.{below_more, eqb, ◌≡◌, ◌≢◌, ℕ, zero, suc, ◌+◌, ◌≤◌, ◌<◌, ◌⊎◌, ◌/◌, ◌%◌, ◌^◌, Bool, true, false, List, [], ◌∷◌, ◌++◌, length, drop, set, replicate, slice_get, map, append_assoc, append-nil, Option, Some, inl, inr, refl, ap, sym, subst, ◌∙◌, arith}
+use Rattle.std.proofs.lemmas.Bool.Decides.{eqb_tells}
 use Rattle.std.proofs.lemmas.Cmp.{lists_equiv}
+use Rattle.std.proofs.lemmas.List.{length-replicate, length-set}
+use Rattle.std.proofs.lemmas.Option.{same_Some}
 use lib.Pointwise.{pointwise}
 use Rattle.ion_visiting.specs.Names.{Bracket, Entry, Event, Field, Following, Form, Frame, Led, Payload, Role, Tape, Value, annotated, annotation, bare, closes, ended, events_of, field_of, fields_same, name, number_payload, opens, part, same, symbol_same}
 use Rattle.ion_atoms.specs.laws.Tests.{both}
@@ -9,24 +12,24 @@ use Rattle.ion_model.specs.laws.Equivalence.{same-equiv, symbol_same-equiv}
 use Rattle.ion_model.specs.laws.Same.{same-payload}
 use Rattle.ion_model.proofs.Replacing.{same-lists, same-sexps, structs}
 use Rattle.ion_visiting.specs.Following as following
-use Rattle.ion_visiting.specs.Following.{Behind, IsField, Seeks, Skips, StartsOn, Steps, behind_payload, follows, is_annotation, is_name, no_step, none_skipped, one_skipped, one_step, place_in}
+use Rattle.ion_visiting.specs.Following.{Behind, Finds, IsField, Seeks, Skips, StartsOn, Steps, behind_payload, follows, is_annotation, is_name, no_step, none_skipped, one_skipped, one_step, place_in}
 use Rattle.ion_visiting.specs.Tapes.{Enters, Holds, Leaves, Tells, Walk, text_at, text_event, told, walks}
 use Rattle.ion_visiting.proofs.FieldPairs.{Paired, bit, bit_other, bit_set, no_bit, paired_all, paired_more, paired_none}
-use Rattle.ion_visiting.proofs.Taped.{ends_alike, get_other, get_set, length_set, some_told, walk_tells}
+use Rattle.ion_visiting.proofs.Taped.{ends_alike, get_other, get_set, some_told, walk_tells}
 use Rattle.ion_visiting.proofs.Trees.{Told, ToldFields, ToldItems, ToldPayload, fields_from, in_one, in_sequence, in_struct, items_from, no_fields, no_items, sequence, sequence_bracket, told_by, value_told}
 
 -- 1. Of one place.
 
-some_one : {X : Type 0} (x y : X) → Some x ≡ Some y → x ≡ y
-some_one x y e = cc
-
 -- an entry tells one event
 tells_one : (t : Tape) (i : ℕ) (x y : Event) → Tells t i x → Tells t i y → x ≡ y
 tells_one t i x y h k =
-    some_one x y (sym h.is ∙ (ap (told t) (some_one h.entry k.entry (sym h.there ∙ k.there)) ∙ k.is))
+    same_Some x y (sym h.is ∙ (ap (told t) (same_Some h.entry k.entry (sym h.there ∙ k.there)) ∙ k.is))
 
 moved : (t : Tape) (i j : ℕ) (e : Event) → i ≡ j → Tells t i e → Tells t j e
 moved t i j e h k = subst (λ n. Tells t n e) h k
+
+meets : {t : Tape} {i j : ℕ} {x y : Event} → i ≡ j → Tells t i x → Tells t j y → x ≡ y
+meets {t = t} {i = i} {j = j} {x = x} {y = y} e h k = tells_one t j x y (moved t i j x e h) k
 
 -- what an annotation is, of events
 abbrev note_event : Event → Bool
@@ -35,42 +38,26 @@ note_event _ = false
 
 text_no_note : (x : Form) (w : List ℕ) → note_event (text_event x w) ≡ false
 text_no_note Form.Str w = refl
-text_no_note Form.Clob w = refl
-text_no_note Form.Blob w = refl
+text_no_note _ w = refl
 
 entry_note : (t : Tape) (e : Entry) (x : Event) → told t e ≡ Some x → is_annotation e ≡ note_event x
-entry_note t (Entry.Null k) x h = ap note_event (some_one _ x h)
-entry_note t (Entry.Truth b) x h = ap note_event (some_one _ x h)
-entry_note t (Entry.Int z) x h = ap note_event (some_one _ x h)
-entry_note t (Entry.Decimal b y m) x h = ap note_event (some_one _ x h)
+entry_note t (Entry.Unknown Role.Annotation) x h = ap note_event (same_Some _ x h)
 entry_note t (Entry.Number n) x h = let y = some_told (slice_get t.numbers.items n) (λ m. part (number_payload m)) x h in ap note_event y.2
-entry_note t (Entry.Unknown Role.Value) x h = ap note_event (some_one _ x h)
-entry_note t (Entry.Unknown Role.Annotation) x h = ap note_event (some_one _ x h)
-entry_note t (Entry.Unknown Role.Name) x h = ap note_event (some_one _ x h)
 entry_note t (Entry.Symbol Role.Value r) x h = let y = some_told (text_at t r) (λ w. part (payloads.Symbol (Some w))) x h in ap note_event y.2
 entry_note t (Entry.Symbol Role.Annotation r) x h = let y = some_told (text_at t r) (λ w. annotation (Some w)) x h in ap note_event y.2
 entry_note t (Entry.Symbol Role.Name r) x h = let y = some_told (text_at t r) (λ w. name (Some w)) x h in ap note_event y.2
 entry_note t (Entry.Text z r) x h = let y = some_told (text_at t r) (text_event z) x h in sym (text_no_note z y.0) ∙ ap note_event y.2
-entry_note t (Entry.Open z j) x h = ap note_event (some_one _ x h)
-entry_note t (Entry.Close z) x h = ap note_event (some_one _ x h)
+entry_note t _ x h = ap note_event (same_Some _ x h)
 
 -- an entry that tells a part is one alone
 part_alone : (t : Tape) (e : Entry) (p : Payload) (i : ℕ) → told t e ≡ Some (part p) → behind_payload e i ≡ i + 1
 part_alone t (Entry.Open x j) p i h = absurd cc
-part_alone t (Entry.Null k) p i h = refl
-part_alone t (Entry.Truth b) p i h = refl
-part_alone t (Entry.Int z) p i h = refl
-part_alone t (Entry.Decimal b y m) p i h = refl
-part_alone t (Entry.Number n) p i h = refl
-part_alone t (Entry.Unknown x) p i h = refl
-part_alone t (Entry.Symbol x r) p i h = refl
-part_alone t (Entry.Text x r) p i h = refl
-part_alone t (Entry.Close x) p i h = refl
+part_alone t _ p i h = refl
 
 -- no field begins where brackets close
 no_field : (t : Tape) (i : ℕ) (x : Bracket) → slice_get t.entries.items i ≡ Some (Entry.Close x) → IsField t i → ⊥
 no_field t i x h f =
-    let e : true ≡ false = sym f.is ∙ ap is_name (some_one f.entry (Entry.Close x) (sym f.there ∙ h)) in absurd cc
+    let e : true ≡ false = sym f.is ∙ ap is_name (same_Some f.entry (Entry.Close x) (sym f.there ∙ h)) in absurd cc
 
 -- 2. Of the tape: where values end, and which brackets are around them.
 
@@ -90,7 +77,7 @@ module _ (t : Tape) where
     level _ _ _ (value_told ss p a m b n h) = payload_level p m b h ∙ notes_level ss a m n
 
     payload_level : (p : Payload) (a b : Walk) → ToldPayload (walks t) p a b → b.ends ≡ a.ends
-    payload_level _ _ _ (in_one p a b h) = ap (λ (w : Walk). w.ends) h.is
+    payload_level _ _ _ (in_one p a b _ h) = ap (λ (w : Walk). w.ends) h.is
     payload_level _ _ _ (in_sequence l vs a m n b o h c) =
         (brackets_end (sequence_bracket l) a m n b o (items_level vs m n h) c).1
     payload_level _ _ _ (in_struct ms a m n b o h c) = (brackets_end Bracket.Fields a m n b o (fields_level ms m n h) c).1
@@ -107,7 +94,7 @@ module _ (t : Tape) where
   open_behind x a m b o e = subst (Behind t a.at) e (following.past_payload a.at (Entry.Open x o.end) o.there refl)
 
   payload_behind : (p : Payload) (a b : Walk) → ToldPayload (walks t) p a b → Behind t a.at b.at
-  payload_behind _ _ _ (in_one p a b h) =
+  payload_behind _ _ _ (in_one p a b _ h) =
       subst (Behind t a.at) (part_alone t h.tells.entry p a.at h.tells.is ∙ ap (λ (w : Walk). w.at) (sym h.is))
       (following.past_payload a.at h.tells.entry h.tells.there (entry_note t h.tells.entry (part p) h.tells.is))
   payload_behind _ _ _ (in_sequence l vs a m n b o h c) =
@@ -174,29 +161,23 @@ sits t a e b = SitsOn t a e b
 
 place_seat : (x : Bracket) (a : Following) → place_in x a ≡ place_of x (seat a)
 place_seat Bracket.List a = refl
-place_seat Bracket.Sexp a = refl
-place_seat Bracket.Fields a = refl
+place_seat _ a = refl
+
+seated_on : (t : Tape) (e : Event) (a b : Following) → a.tape.now ≡ t → Finds a e b → (b.tape.now ≡ t) × SitsOn t (seat a) e (seat b)
+seated_on t e a b k h = (
+  ap (λ (x : Following). x.tape.now) h.is ∙ k,
+  record {
+    tells = subst (λ (u : Tape). Tells u a.at e) k h.tells;
+    at = ap (λ (x : Following). x.at) h.is;
+    frame = ap (λ (x : Following). x.frame) h.is;
+    outer = ap (λ (x : Following). x.outer.items) h.is;
+  },
+)
 
 -- a step leaves the tape as it is, and is one on it
 seated : (t : Tape) (e : Event) (a b : Following) → a.tape.now ≡ t → follows a e b → (b.tape.now ≡ t) × sits t (seat a) e (seat b)
-seated t (part p) a b k h = (
-  ap (λ (x : Following). x.tape.now) h.is ∙ k,
-  record {
-    tells = subst (λ (u : Tape). Tells u a.at (part p)) k h.tells;
-    at = ap (λ (x : Following). x.at) h.is;
-    frame = ap (λ (x : Following). x.frame) h.is;
-    outer = ap (λ (x : Following). x.outer.items) h.is;
-  },
-)
-seated t (annotation s) a b k h = (
-  ap (λ (x : Following). x.tape.now) h.is ∙ k,
-  record {
-    tells = subst (λ (u : Tape). Tells u a.at (annotation s)) k h.tells;
-    at = ap (λ (x : Following). x.at) h.is;
-    frame = ap (λ (x : Following). x.frame) h.is;
-    outer = ap (λ (x : Following). x.outer.items) h.is;
-  },
-)
+seated t (part p) a b k h = seated_on t (part p) a b k h
+seated t (annotation s) a b k h = seated_on t (annotation s) a b k h
 seated t (name s) a b k h = (
   ap (λ (x : _). x.now) h.tape ∙ k,
   record {
@@ -238,41 +219,17 @@ all_seated t (e ∷ es) a b k h =
 close_there : (t : Tape) (i : ℕ) (x : Bracket) → slice_get t.entries.items i ≡ Some (Entry.Close x) → Tells t i (closes x)
 close_there t i x h = record { entry = Entry.Close x; there = h; is = refl }
 
-less_or : (k c : ℕ) → k < suc c → (k < c) ⊎ (k ≡ c)
-less_or zero zero h = inr refl
-less_or zero (suc c) h = inl (omega arith)
-less_or (suc k) zero h = absurd (omega (arith, h))
-less_or (suc k) (suc c) h = up (less_or k c (omega (arith, h)))
-  where
-    up : (k < c) ⊎ (k ≡ c) → (suc k < suc c) ⊎ (suc k ≡ suc c)
-    up (inl l) = inl (omega (arith, l))
-    up (inr e) = inr (ap suc e)
-
-same_or : (i k : ℕ) → (i ≡ k) ⊎ (i ≢ k)
-same_or zero zero = inl refl
-same_or zero (suc k) = inr (λ e. omega (arith, e))
-same_or (suc i) zero = inr (λ e. omega (arith, e))
-same_or (suc i) (suc k) = up (same_or i k)
-  where
-    up : (i ≡ k) ⊎ (i ≢ k) → (suc i ≡ suc k) ⊎ (suc i ≢ suc k)
-    up (inl e) = inl (ap suc e)
-    up (inr d) = inr (λ e. d (omega (arith, e)))
-
 drop_next : {X : Type 0} (xs : List X) (c : ℕ) (x : X) (rest : List X) → drop c xs ≡ x ∷ rest
     → (drop (suc c) xs ≡ rest) × (slice_get xs c ≡ Some x) × (c < length xs)
-drop_next [] zero x rest e = absurd cc
-drop_next [] (suc c) x rest e = absurd cc
 drop_next (y ∷ xs) zero x rest e = let f : xs ≡ rest = cc in let g : y ≡ x = cc in (f, ap Some g, omega arith)
 drop_next (y ∷ xs) (suc c) x rest e = let l = drop_next xs c x rest e in (l.0, l.1, omega (arith, l.2))
+drop_next [] zero x rest e = absurd cc
+drop_next [] (suc c) x rest e = absurd cc
 
 drop_none : {X : Type 0} (xs : List X) (c : ℕ) → drop c xs ≡ [] → length xs ≤ c
 drop_none [] c e = omega arith
 drop_none (y ∷ xs) zero e = absurd cc
 drop_none (y ∷ xs) (suc c) e = omega (arith, drop_none xs c e)
-
-length_replicate : (n : ℕ) → length (replicate n false) ≡ n
-length_replicate zero = refl
-length_replicate (suc n) = ap suc (length_replicate n)
 
 all_false : (n k : ℕ) → k < n → slice_get (replicate n false) k ≡ Some false
 all_false zero k h = absurd (omega (arith, h))
@@ -287,7 +244,7 @@ record Slots (fs : List Field) (taken : List Bool) (c n : ℕ) : Type 0 where
 
 slots_next : (fs : List Field) (taken : List Bool) (c n : ℕ) → Slots fs taken c n → slice_get taken c ≡ Some true → Slots fs taken (suc c) (n / 2)
 slots_next fs taken c n h here = record {
-  before = λ k l. below k (less_or k c l);
+  before = λ k l. below_more (λ i. slice_get taken i ≡ Some true) c h.before here k (omega (arith, l));
   on = λ k l x. subst (λ i. slice_get taken i ≡ Some true) (place k) (h.on (suc k) (omega (arith, l)) x);
   off = λ k l x. subst (λ i. slice_get taken i ≡ Some false) (place k) (h.off (suc k) (omega (arith, l)) x);
 }
@@ -295,27 +252,29 @@ slots_next fs taken c n h here = record {
     place : (k : ℕ) → c + suc k ≡ suc c + k
     place k = omega arith
 
-    below : (k : ℕ) → (k < c) ⊎ (k ≡ c) → slice_get taken k ≡ Some true
-    below k (inl l) = h.before k l
-    below k (inr e) = subst (λ i. slice_get taken i ≡ Some true) (sym e) here
+abbrev Same : ℕ → ℕ → Type 0
+Same i k = (eqb i k ≡ true) × (i ≡ k)
+
+abbrev Other : ℕ → ℕ → Type 0
+Other i k = (eqb i k ≡ false) × (i ≢ k)
 
 slots_taken : (fs : List Field) (taken : List Bool) (c n k : ℕ) → c + k < length taken → bit n k ≡ 0 → Slots fs taken c n
     → Slots fs (set taken (c + k) true) c (n + 2 ^ k)
 slots_taken fs taken c n k size clear h = record {
   before = λ i l. get_other taken (c + k) i true (λ e. omega (arith, e, l)) ∙ h.before i l;
-  on = λ i l x. on_by i l x (same_or i k);
-  off = λ i l x. off_by i l x (same_or i k);
+  on = λ i l x. on_by i l x (eqb_tells i k);
+  off = λ i l x. off_by i l x (eqb_tells i k);
 }
   where
-    on_by : (i : ℕ) → c + i < length fs → bit (n + 2 ^ k) i ≡ 1 → (i ≡ k) ⊎ (i ≢ k) → slice_get (set taken (c + k) true) (c + i) ≡ Some true
-    on_by i l x (inl e) = subst (λ j. slice_get (set taken (c + k) true) (c + j) ≡ Some true) (sym e) (get_set taken (c + k) true size)
-    on_by i l x (inr d) = get_other taken (c + k) (c + i) true (λ e. d (omega (arith, e))) ∙ h.on i l (sym (bit_other n k i clear d) ∙ x)
+    on_by : (i : ℕ) → c + i < length fs → bit (n + 2 ^ k) i ≡ 1 → Same i k ⊎ Other i k → slice_get (set taken (c + k) true) (c + i) ≡ Some true
+    on_by i l x (inl e) = subst (λ j. slice_get (set taken (c + k) true) (c + j) ≡ Some true) (sym e.1) (get_set taken (c + k) true size)
+    on_by i l x (inr d) = get_other taken (c + k) (c + i) true (λ e. d.1 (omega (arith, e))) ∙ h.on i l (sym (bit_other n k i clear d.1) ∙ x)
 
-    off_by : (i : ℕ) → c + i < length fs → bit (n + 2 ^ k) i ≡ 0 → (i ≡ k) ⊎ (i ≢ k) → slice_get (set taken (c + k) true) (c + i) ≡ Some false
+    off_by : (i : ℕ) → c + i < length fs → bit (n + 2 ^ k) i ≡ 0 → Same i k ⊎ Other i k → slice_get (set taken (c + k) true) (c + i) ≡ Some false
     off_by i l x (inl e) =
-        let y : bit (n + 2 ^ k) i ≡ 1 = subst (λ j. bit (n + 2 ^ k) j ≡ 1) (sym e) (bit_set n k clear) in
+        let y : bit (n + 2 ^ k) i ≡ 1 = subst (λ j. bit (n + 2 ^ k) j ≡ 1) (sym e.1) (bit_set n k clear) in
         absurd (omega (arith, x, y))
-    off_by i l x (inr d) = get_other taken (c + k) (c + i) true (λ e. d (omega (arith, e))) ∙ h.off i l (sym (bit_other n k i clear d) ∙ x)
+    off_by i l x (inr d) = get_other taken (c + k) (c + i) true (λ e. d.1 (omega (arith, e))) ∙ h.off i l (sym (bit_other n k i clear d.1) ∙ x)
 
 -- a number halved so many times
 abbrev halved : ℕ → ℕ → ℕ
@@ -412,7 +371,7 @@ module _ (t : Tape) (z : Walk) (closed : slice_get t.entries.items z.at ≡ Some
   begun : (fs : List Field) (i : ℕ) (a : Seat) → a.frame ≡ record { free = i; taken = 0 } → from fs i → FollowedFields fs [] a
   begun fs i a e h = record {
     taken = replicate (length fs) false;
-    size = length_replicate (length fs);
+    size = length-replicate (length fs) false;
     left = subst (λ (f : Frame). Left fs (replicate (length fs) false) f.free f.taken) (sym e) (record {
       c = 0;
       rest = h;
@@ -436,9 +395,7 @@ module _ (t : Tape) (z : Walk) (closed : slice_get t.entries.items z.at ≡ Some
           let short = drop_none fs f.left.c e in
           (i, paired_all fs ms f.taken (λ k l. f.left.slots.before k (omega (arith, l, short))) f.paired)
       by _ e _ i (fields_from g gs x n m b y v h) =
-          let apart : name g.name ≡ closes Bracket.Fields =
-          tells_one t a.frame.free (name g.name) (closes Bracket.Fields) (moved t x.at a.frame.free (name g.name) i y.tells)
-          (close_there t a.frame.free Bracket.Fields close) in
+          let apart : name g.name ≡ closes Bracket.Fields = meets i y.tells (close_there t a.frame.free Bracket.Fields close) in
           absurd cc
 
   -- a name was found: its value lies there, and behind an equivalent one the field is taken
@@ -479,7 +436,7 @@ module _ (t : Tape) (z : Walk) (closed : slice_get t.entries.items z.at ≡ Some
         lies = l.lies;
         next = λ w alike q e. record {
           taken = set f.taken (c + k) true;
-          size = length_set f.taken (c + k) true ∙ f.size;
+          size = length-set f.taken (c + k) true ∙ f.size;
           left = subst (λ (g : Frame). Left fs (set f.taken (c + k) true) g.free g.taken) (sym e) left;
           paired = paired_more fs ms f.taken (c + k) l.field (field_of s w) d.1 free
               (both (symbol_same l.field.name s) (same l.field.value w) (ap (λ q. symbol_same q s) is ∙ symbol_same-equiv.refl s) alike) f.paired;
@@ -520,10 +477,9 @@ place_sequence true a = refl
 place_sequence false a = refl
 
 sequence_one : (l r : Bool) → opens (sequence_bracket l) ≡ opens (sequence_bracket r) → l ≡ r
-sequence_one true true e = refl
-sequence_one false false e = refl
 sequence_one true false e = cc
 sequence_one false true e = cc
+sequence_one _ _ e = refl
 
 sequence_struct : (l : Bool) → opens (sequence_bracket l) ≡ opens Bracket.Fields → ⊥
 sequence_struct true e = cc
@@ -548,18 +504,18 @@ module _ (t : Tape) where
   -- no other event is there
   unlike : (is : Event → Bool) (i j : ℕ) (e : Event) → Begins is i → i ≡ j → Tells t j e → is e ≡ false → ⊥
   unlike is i j e b at h other =
-      let same_event : b.event ≡ e = tells_one t j b.event e (moved t i j b.event at b.tells) h in
+      let same_event : b.event ≡ e = meets at b.tells h in
       let f : true ≡ false = sym b.first ∙ (ap is same_event ∙ other) in
       absurd cc
 
   payload_there : (p : Payload) (a b : Walk) → ToldPayload (walks t) p a b → Begins front_event a.at
-  payload_there _ _ _ (in_one p a b h) = record { event = part p; tells = h.tells; first = refl }
+  payload_there _ _ _ (in_one p a b _ h) = record { event = part p; tells = h.tells; first = refl }
   payload_there _ _ _ (in_sequence l vs a m n b o i c) =
       record { event = opens (sequence_bracket l); tells = walk_tells t (opens (sequence_bracket l)) a m o; first = refl }
   payload_there _ _ _ (in_struct ms a m n b o i c) = record { event = opens Bracket.Fields; tells = walk_tells t (opens Bracket.Fields) a m o; first = refl }
 
   payload_found : (p : Payload) (a b : Seat) → ToldPayload (sits t) p a b → Begins front_event a.at
-  payload_found _ _ _ (in_one p a b h) = record { event = part p; tells = h.tells; first = refl }
+  payload_found _ _ _ (in_one p a b _ h) = record { event = part p; tells = h.tells; first = refl }
   payload_found _ _ _ (in_sequence l vs a m n b o i c) = record { event = opens (sequence_bracket l); tells = o.tells; first = refl }
   payload_found _ _ _ (in_struct ms a m n b o i c) = record { event = opens Bracket.Fields; tells = o.tells; first = refl }
 
@@ -568,11 +524,7 @@ module _ (t : Tape) where
     where
       by : (e : Event) → front_event e ≡ true → first_event e ≡ true
       by (annotation s) h = refl
-      by (part p) h = h
-      by (name s) h = h
-      by (opens x) h = h
-      by (closes x) h = h
-      by ended h = h
+      by _ h = h
 
   value_there : (v : Value) (a b : Walk) → Told (walks t) v a b → Begins first_event a.at
   value_there _ _ _ (value_told [] p a m b n h) = as_first m.at a.at (ap (λ (w : Walk). w.at) (sym n)) (payload_there p m b h)
@@ -602,27 +554,22 @@ module _ (t : Tape) where
   notes_followed (u ∷ us) [] a m x z h found k there e =
       absurd (unlike front_event z.at a.at (annotation u) there (ap (λ (w : Walk). w.at) (sym k) ∙ e) h.1.tells refl)
   notes_followed (u ∷ us) (s ∷ ss) a m x z h found k there e =
-      let one : s ≡ u = note_is s u (tells_one t a.at (annotation s) (annotation u) (moved t x.at a.at (annotation s) e k.1.tells) h.1.tells) in
+      let one : s ≡ u = note_is s u (meets e k.1.tells h.1.tells) in
       let next : k.0.at ≡ h.0.at = ap (λ (w : Walk). w.at) k.1.is ∙ (ap (λ n. n + 1) e ∙ sym h.1.at) in
       let r = notes_followed us ss h.0 m k.0 z h.2 found k.2 there next in
       let all : s ∷ ss ≡ u ∷ us = ap (λ y. y ∷ ss) one ∙ ap (λ ys. u ∷ ys) r.are in
       record { are = all; at = r.at; frame = r.frame ∙ h.1.frame; outer = r.outer ∙ h.1.outer }
 
   -- values are equivalent, and behind them the search is where the tape is
-  record Followed (v w : Value) (y : Walk) (a b : Seat) : Type 0 where
+  record Followed (are_same : Bool) (y : Walk) (a b : Seat) : Type 0 where
     at : y.at ≡ b.at
     frame : b.frame ≡ a.frame
     outer : b.outer ≡ a.outer
-    alike : same v w ≡ true
-
-  record FollowedItems (vs ws : List Value) (y : Walk) (a b : Seat) : Type 0 where
-    at : y.at ≡ b.at
-    frame : b.frame ≡ a.frame
-    outer : b.outer ≡ a.outer
-    alike : pointwise same vs ws ≡ true
+    alike : are_same ≡ true
 
   mutual
-    value_followed : (w : Value) (a b : Seat) → Told (sits t) w a b → (v : Value) (x y : Walk) → Told (walks t) v x y → x.at ≡ a.at → Followed v w y a b
+    value_followed : (w : Value) (a b : Seat) → Told (sits t) w a b → (v : Value) (x y : Walk) → Told (walks t) v x y → x.at ≡ a.at
+        → Followed (same v w) y a b
     value_followed _ _ _ (value_told us q a m b i h) _ _ _ (value_told ss p x z y k l) e =
         let n = notes_followed us ss a m x z i (payload_found q m b h) k (payload_there p z y l) e in
         let r = payload_followed q m b h p z y l n.at in
@@ -634,34 +581,29 @@ module _ (t : Tape) where
         }
 
     payload_followed : (q : Payload) (a b : Seat) → ToldPayload (sits t) q a b → (p : Payload) (x y : Walk) → ToldPayload (walks t) p x y → x.at ≡ a.at
-        → Followed (bare p) (bare q) y a b
-    payload_followed _ _ _ (in_one q a b h) _ _ _ (in_one p x y k) e =
-        let one : p ≡ q = part_is p q (tells_one t a.at (part p) (part q) (moved t x.at a.at (part p) e k.tells) h.tells) in
+        → Followed (same (bare p) (bare q)) y a b
+    payload_followed _ _ _ (in_one q a b _ h) _ _ _ (in_one p x y _ k) e =
+        let one : p ≡ q = part_is p q (meets e k.tells h.tells) in
         record {
           at = ap (λ (w : Walk). w.at) k.is ∙ (ap (λ n. n + 1) e ∙ sym h.at);
           frame = h.frame;
           outer = h.outer;
           alike = ap (λ p. same (bare p) (bare q)) one ∙ same-equiv.refl (bare q);
         }
-    payload_followed _ _ _ (in_one q a b h) _ _ _ (in_sequence l vs x z k y o i c) e =
-        absurd (part_open q (sequence_bracket l) (tells_one t a.at (part q) (opens (sequence_bracket l)) h.tells
-        (moved t x.at a.at (opens (sequence_bracket l)) e (walk_tells t (opens (sequence_bracket l)) x z o))))
-    payload_followed _ _ _ (in_one q a b h) _ _ _ (in_struct fs x z k y o i c) e =
-        absurd (part_open q Bracket.Fields (tells_one t a.at (part q) (opens Bracket.Fields) h.tells
-        (moved t x.at a.at (opens Bracket.Fields) e (walk_tells t (opens Bracket.Fields) x z o))))
-    payload_followed _ _ _ (in_sequence r ws a m n b o i c) _ _ _ (in_one p x y k) e =
-        absurd (part_open p (sequence_bracket r) (tells_one t a.at (part p) (opens (sequence_bracket r)) (moved t x.at a.at (part p) e k.tells) o.tells))
+    payload_followed _ _ _ (in_one q a b _ h) _ _ _ (in_sequence l vs x z k y o i c) e =
+        absurd (part_open q (sequence_bracket l) (meets (sym e) h.tells (walk_tells t (opens (sequence_bracket l)) x z o)))
+    payload_followed _ _ _ (in_one q a b _ h) _ _ _ (in_struct fs x z k y o i c) e =
+        absurd (part_open q Bracket.Fields (meets (sym e) h.tells (walk_tells t (opens Bracket.Fields) x z o)))
+    payload_followed _ _ _ (in_sequence r ws a m n b o i c) _ _ _ (in_one p x y _ k) e =
+        absurd (part_open p (sequence_bracket r) (meets e k.tells o.tells))
     payload_followed _ _ _ (in_sequence r ws a m n b o i c) _ _ _ (in_struct fs x z k y u j d) e =
-        absurd (sequence_struct r (tells_one t a.at (opens (sequence_bracket r)) (opens Bracket.Fields) o.tells
-        (moved t x.at a.at (opens Bracket.Fields) e (walk_tells t (opens Bracket.Fields) x z u))))
-    payload_followed _ _ _ (in_struct ms a m n b o i c) _ _ _ (in_one p x y k) e =
-        absurd (part_open p Bracket.Fields (tells_one t a.at (part p) (opens Bracket.Fields) (moved t x.at a.at (part p) e k.tells) o.tells))
+        absurd (sequence_struct r (meets (sym e) o.tells (walk_tells t (opens Bracket.Fields) x z u)))
+    payload_followed _ _ _ (in_struct ms a m n b o i c) _ _ _ (in_one p x y _ k) e =
+        absurd (part_open p Bracket.Fields (meets e k.tells o.tells))
     payload_followed _ _ _ (in_struct ms a m n b o i c) _ _ _ (in_sequence l vs x z k y u j d) e =
-        absurd (sequence_struct l (tells_one t a.at (opens (sequence_bracket l)) (opens Bracket.Fields)
-        (moved t x.at a.at (opens (sequence_bracket l)) e (walk_tells t (opens (sequence_bracket l)) x z u)) o.tells))
+        absurd (sequence_struct l (meets e (walk_tells t (opens (sequence_bracket l)) x z u) o.tells))
     payload_followed _ _ _ (in_sequence r ws a m n b o i c) _ _ _ (in_sequence l vs x z k y u j d) e =
-        let one : l ≡ r = sequence_one l r (tells_one t a.at (opens (sequence_bracket l)) (opens (sequence_bracket r))
-        (moved t x.at a.at (opens (sequence_bracket l)) e (walk_tells t (opens (sequence_bracket l)) x z u)) o.tells) in
+        let one : l ≡ r = sequence_one l r (meets e (walk_tells t (opens (sequence_bracket l)) x z u) o.tells) in
         let begin : z.at ≡ m.at = ap (λ (w : Walk). w.at) u.is ∙ (ap (λ n. n + 1) e ∙ sym o.at) in
         let place : place_of (sequence_bracket r) n ≡ n.at = place_sequence r n in
         let found = moved t (place_of (sequence_bracket r) n) n.at (closes (sequence_bracket r)) place
@@ -691,7 +633,8 @@ module _ (t : Tape) where
         }
 
     items_followed : (ws : List Value) (a n : Seat) → ToldItems (sits t) ws a n → (r : Bracket) → Tells t n.at (closes r)
-        → (vs : List Value) (x k : Walk) → ToldItems (walks t) vs x k → (l : Bracket) → Tells t k.at (closes l) → x.at ≡ a.at → FollowedItems vs ws k a n
+        → (vs : List Value) (x k : Walk) → ToldItems (walks t) vs x k → (l : Bracket) → Tells t k.at (closes l) → x.at ≡ a.at
+        → Followed (pointwise same vs ws) k a n
     items_followed _ _ _ (no_items a) r stop _ _ _ (no_items x) l end e = record { at = e; frame = refl; outer = refl; alike = refl }
     items_followed _ _ _ (no_items a) r stop _ _ _ (items_from v vs x z k h i) l end e =
         absurd (unlike first_event x.at a.at (closes r) (value_there v x z h) e stop refl)

@@ -1,4 +1,3 @@
-pub mod Balanced
 pub mod FieldPairs
 pub mod Followed
 pub mod Sought

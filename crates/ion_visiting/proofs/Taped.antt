@@ -1,14 +1,15 @@
 -- What a tape was told lies there from front to end.
-use Rattle.std.proofs.Common.{◌≡◌, ◌≢◌, ℕ, zero, suc, ◌+◌, ◌≤◌, ◌<◌, Bool, true, false, cond, List, [], ◌∷◌, ◌++◌, length, length-append, take, drop, set, slice_get, append_assoc, append-nil, add-one, Option, Some, None, option_map, nat_le, leb-true, refl, ap, sym, subst, ◌∙◌, arith}
+use Rattle.std.proofs.Common.{◌≡◌, ◌≢◌, ℕ, zero, suc, ◌+◌, ◌≤◌, ◌<◌, true, cond, List, [], ◌∷◌, ◌++◌, length, length-append, map, take, drop, set, slice_get, append_assoc, append-nil, add-one, Option, Some, None, option_map, nat_le, leb-true, refl, ap, sym, subst, ◌∙◌, arith}
 use Rattle.std.specs.List.{flat_map}
 use Rattle.std.specs.Option.{option_to_list}
 use Rattle.std.proofs.lemmas.Bool.{le-leb}
-use Rattle.std.proofs.lemmas.List.{drop_all}
+use Rattle.std.proofs.lemmas.List.{drop_all, get_or-set_same, length-set}
+use Rattle.std.proofs.lemmas.Option.{cond_some, slice_get-get_or}
 use Rattle.std.proofs.lemmas.Grind.{common_steps}
-use Rattle.ion_visiting.specs.Names.{Bracket, Entry, Event, Led, Number, Range, Tape, Value, annotation, closes, ended, events_of, name, number_payload, opens, part, within}
+use Rattle.ion_visiting.specs.Names.{Bracket, Entry, Event, Field, Led, Number, Payload, Range, Tape, Value, annotated, annotation, closes, ended, events_of, field_events, layer_events, name, number_payload, opens, out-Payload, outs-Fields, part, within}
 use Rattle.ion_visiting.specs.Tapes.{Closes, Grows, Holds, IsBlank, Opens, Passes, Rests, Tells, Walk, Writes, events_in, symbol_event, tapes, text_at, text_event, told, walks}
-use Rattle.ion_visiting.specs.laws.Led.{led_both, led_split}
-use Rattle.ion_visiting.proofs.Balanced.{Balanced, a_name, a_part, an_annotation, balanced, in_brackets, none}
+use Rattle.ion_visiting.specs.laws.Led.{events_out, led_both}
+use Rattle.ion_visiting.proofs.Trees.{Told, ToldFields, ToldItems, ToldPayload, fields_from, in_one, in_sequence, in_struct, items_from, no_fields, no_items, sequence_bracket, sequence_events, told_by, value_told}
 
 -- 1. Lists.
 
@@ -28,21 +29,12 @@ get_last [] x = refl
 get_last (y ∷ xs) x = get_last xs x
 
 pub get_set : {X : Type 0} (xs : List X) (i : ℕ) (x : X) → i < length xs → slice_get (set xs i x) i ≡ Some x
-get_set [] i x h = absurd (omega arith)
-get_set (y ∷ xs) zero x h = refl
-get_set (y ∷ xs) (suc i) x h = get_set xs i x (omega arith)
+get_set {X = X} xs i x h = slice_get-get_or (set xs i x) i x (omega (arith, length-set {A = X}, h)) ∙ ap Some (get_or-set_same xs i x x h)
 
 pub get_other : {X : Type 0} (xs : List X) (i k : ℕ) (x : X) → i ≢ k → slice_get (set xs i x) k ≡ slice_get xs k
-get_other [] i k x h = refl
 get_other (y ∷ xs) zero zero x h = absurd (h refl)
-get_other (y ∷ xs) zero (suc k) x h = refl
-get_other (y ∷ xs) (suc i) zero x h = refl
 get_other (y ∷ xs) (suc i) (suc k) x h = get_other xs i k x (λ e. h (ap suc e))
-
-pub length_set : {X : Type 0} (xs : List X) (i : ℕ) (x : X) → length (set xs i x) ≡ length xs
-length_set [] i x = refl
-length_set (y ∷ xs) zero x = refl
-length_set (y ∷ xs) (suc i) x = ap suc (length_set xs i x)
+get_other _ _ _ x h = refl
 
 -- lists that end alike
 pub ends_alike : {X : Type 0} (xs ys : List X) (x y : X) → xs ++ x ∷ [] ≡ ys ++ y ∷ [] → (xs ≡ ys) × (x ≡ y)
@@ -91,18 +83,14 @@ longer_by : (a b : Tape) → Grows a b → Longer a b
 longer_by a b g = record { text = g.text; octets = g.octets; number = g.number; numbers = g.numbers }
 
 text_kept : (t u : Tape) (r : Range) (s : List ℕ) → Longer t u → text_at t r ≡ Some s → text_at u r ≡ Some s
-text_kept t u r s g h = by (nat_le (r.from + r.count) (length t.octets.items)) refl h
-  where
-    by : (b : Bool) → nat_le (r.from + r.count) (length t.octets.items) ≡ b
-        → cond b (Some (take r.count (drop r.from t.octets.items))) None ≡ Some s → text_at u r ≡ Some s
-    by true fits is =
-        let w = t.octets.items in
-        let small : r.from + r.count ≤ length w = leb-true (r.from + r.count) (length w) fits in
-        let long : length (w ++ g.text) ≡ length w + length g.text = length-append w g.text in
-        let fit : nat_le (r.from + r.count) (length (w ++ g.text)) ≡ true = le-leb (r.from + r.count) (length (w ++ g.text)) (omega (arith, small, long)) in
-        subst (λ os. cond (nat_le (r.from + r.count) (length os)) (Some (take r.count (drop r.from os))) None ≡ Some s) (sym g.octets)
-        (ap (λ b. cond b (Some (take r.count (drop r.from (w ++ g.text)))) None) fit ∙ (ap Some (text_front w g.text r.from r.count small) ∙ is))
-    by false fits is = cc
+text_kept t u r s g h =
+    let w = t.octets.items in
+    let there = cond_some (nat_le (r.from + r.count) (length w)) (take r.count (drop r.from w)) s h in
+    let small : r.from + r.count ≤ length w = leb-true (r.from + r.count) (length w) there.0 in
+    let long : length (w ++ g.text) ≡ length w + length g.text = length-append w g.text in
+    let fit : nat_le (r.from + r.count) (length (w ++ g.text)) ≡ true = le-leb (r.from + r.count) (length (w ++ g.text)) (omega (arith, small, long)) in
+    subst (λ os. cond (nat_le (r.from + r.count) (length os)) (Some (take r.count (drop r.from os))) None ≡ Some s) (sym g.octets)
+    (ap (λ b. cond b (Some (take r.count (drop r.from (w ++ g.text)))) None) fit ∙ ap Some (text_front w g.text r.from r.count small ∙ there.1))
 
 -- of what was there some is there
 pub some_told : {X : Type 0} (o : Option X) (f : X → Event) (x : Event) → option_map f o ≡ Some x → (y : X) × (o ≡ Some y) × (f y ≡ x)
@@ -110,23 +98,17 @@ some_told (Some y) f x h = let e : f y ≡ x = cc in (y, refl, e)
 some_told None f x h = absurd cc
 
 told_kept : (t u : Tape) (e : Entry) (x : Event) → Longer t u → told t e ≡ Some x → told u e ≡ Some x
-told_kept t u (Entry.Null k) x g h = h
-told_kept t u (Entry.Truth b) x g h = h
-told_kept t u (Entry.Int z) x g h = h
-told_kept t u (Entry.Decimal b y m) x g h = h
 told_kept t u (Entry.Number i) x g h =
     let y = some_told (slice_get t.numbers.items i) (λ n. part (number_payload n)) x h in
     ap (option_map (λ n. part (number_payload n)))
     (ap (λ ns. slice_get ns i) g.numbers ∙ get_front t.numbers.items g.number i y.0 y.1) ∙ ap Some y.2
-told_kept t u (Entry.Unknown r) x g h = h
 told_kept t u (Entry.Symbol z r) x g h =
     let y = some_told (text_at t r) (λ w. symbol_event z (Some w)) x h in
     ap (option_map (λ w. symbol_event z (Some w))) (text_kept t u r y.0 g y.1) ∙ ap Some y.2
 told_kept t u (Entry.Text z r) x g h =
     let y = some_told (text_at t r) (text_event z) x h in
     ap (option_map (text_event z)) (text_kept t u r y.0 g y.1) ∙ ap Some y.2
-told_kept t u (Entry.Open y j) x g h = h
-told_kept t u (Entry.Close y) x g h = h
+told_kept t u _ x g h = h
 
 -- a number and its entry
 pub number_writes : (a b : Tape) (n : Number) (i : ℕ) → i ≡ length a.numbers.items → b.entries.items ≡ a.entries.items ++ Entry.Number i ∷ []
@@ -156,12 +138,8 @@ record Keeps (t u : Tape) (i j : ℕ) : Type 0 where
   longer : Longer t u
 
 step_at : (t : Tape) (e : Event) (a b : Walk) → walks t a e b → b.at ≡ a.at + 1
-step_at t (part p) a b h = ap (λ (x : Walk). x.at) h.is
-step_at t (annotation s) a b h = ap (λ (x : Walk). x.at) h.is
-step_at t (name s) a b h = ap (λ (x : Walk). x.at) h.is
-step_at t (opens x) a b h = ap (λ (x : Walk). x.at) h.is
 step_at t (closes x) a b h = h.at
-step_at t ended a b h = ap (λ (x : Walk). x.at) h.is
+step_at t _ a b h = ap (λ (x : Walk). x.at) h.is
 
 -- an event is one entry
 far : (t : Tape) (es : List Event) (a b : Walk) → Led (walks t) es a b → b.at ≡ a.at + length es
@@ -256,7 +234,7 @@ wrote_within x es a m n d o w c =
     subst (λ k. d.entries.items ≡ set n.entries.items k head ++ Entry.Close x ∷ []) last.1 c.entries in
     let long : size m ≡ size a + 1 = ap length o.entries ∙ size_more a.entries.items (Entry.Open x 0) in
     let more = w.0.more in
-    let front_long : length front ≡ size n = length_set n.entries.items (size a) head in
+    let front_long : length front ≡ size n = length-set n.entries.items (size a) head in
     let end : size d ≡ size n + 1 = ap length all ∙ (size_more front (Entry.Close x) ∙ ap (λ k. k + 1) front_long) in
     let closed : Longer n d = longer_none n d c.rests in
     let kept : (k : ℕ) → k < size n → size a ≢ k → slice_get d.entries.items k ≡ slice_get n.entries.items k = λ k h e.
@@ -292,31 +270,43 @@ wrote_both es fs a d b v w = (
       (walk_kept d b es (at a s) (at d s) 0 (size d) (omega arith) (omega arith) (record { same = λ k h l. w.0.same k l; longer = w.0.longer }) (v.1 s)) (w.1 s),
 )
 
-wrote : (es : List Event) → Balanced es → (a b : Tape) → Led tapes es a b → Written es a b
-wrote _ none a b h = subst (Written [] a) h (wrote_none a)
-wrote _ (a_part p es k) a b h = wrote_one (part p) es a h.0 b (λ x y z. z) h.1 (wrote es k h.0 b h.2)
-wrote _ (an_annotation s es k) a b h = wrote_one (annotation s) es a h.0 b (λ x y z. z) h.1 (wrote es k h.0 b h.2)
-wrote _ (a_name s es k) a b h = wrote_one (name s) es a h.0 b (λ x y z. z) h.1 (wrote es k h.0 b h.2)
-wrote _ (in_brackets x es fs k l) a b h =
-    let r = led_split tapes (es ++ closes x ∷ []) fs h.0 b h.2 in
-    let i = led_split tapes es (closes x ∷ []) h.0 r.0 r.1 in
-    let close : Closes i.0 r.0 x = subst (λ d. Closes i.0 d x) i.2.2 i.2.1 in
-    wrote_both (within x es) fs a r.0 b (wrote_within x es a h.0 i.0 r.0 h.1 (wrote es k h.0 i.0 i.1) close) (wrote fs l r.0 b r.2)
+notes_wrote : (ss : List (Option (List ℕ))) (a b : Tape) → Led tapes (map annotation ss) a b → Written (map annotation ss) a b
+notes_wrote [] a b h = subst (Written [] a) h (wrote_none a)
+notes_wrote (s ∷ ss) a b h = wrote_one (annotation s) (map annotation ss) a h.0 b (λ x y z. z) h.1 (notes_wrote ss h.0 b h.2)
+
+mutual
+  value_written : (v : Value) (a b : Tape) → Told tapes v a b → Written (events_of v) a b
+  value_written _ _ _ (value_told ss p a m b n h) = subst (λ es. Written es a b) (sym (events_out (annotated ss p)))
+      (wrote_both (map annotation ss) (layer_events (out-Payload p)) a m b (notes_wrote ss a m n) (payload_written p m b h))
+
+  payload_written : (p : Payload) (a b : Tape) → ToldPayload tapes p a b → Written (layer_events (out-Payload p)) a b
+  payload_written _ _ _ (in_one p a b i h) = subst (λ es. Written es a b) (sym i) (wrote_one (part p) [] a b b (λ x y z. z) h (wrote_none b))
+  payload_written _ _ _ (in_sequence l vs a m n b o i c) = subst (λ es. Written es a b) (sym (sequence_events l vs))
+      (wrote_within (sequence_bracket l) (flat_map events_of vs) a m n b o (items_written vs m n i) c)
+  payload_written _ _ _ (in_struct ms a m n b o i c) = subst (λ es. Written es a b) (sym (ap layer_events (outs-Fields ms)))
+      (wrote_within Bracket.Fields (flat_map field_events ms) a m n b o (fields_written ms m n i) c)
+
+  items_written : (vs : List Value) (a b : Tape) → ToldItems tapes vs a b → Written (flat_map events_of vs) a b
+  items_written _ _ _ (no_items a) = wrote_none a
+  items_written _ _ _ (items_from v vs a m b x h) = wrote_both (events_of v) (flat_map events_of vs) a m b (value_written v a m x) (items_written vs m b h)
+
+  fields_written : (ms : List Field) (a b : Tape) → ToldFields tapes ms a b → Written (flat_map field_events ms) a b
+  fields_written _ _ _ (no_fields a) = wrote_none a
+  fields_written _ _ _ (fields_from f fs a n m b i x h) =
+      wrote_one (name f.name) (events_of f.value ++ flat_map field_events fs) a n b (λ x y z. z) i
+      (wrote_both (events_of f.value) (flat_map field_events fs) n m b (value_written f.value n m x) (fields_written fs m b h))
 
 -- a tape that was told a value's events from nothing holds the value
 pub value_wrote : (v : Value) (a t : Tape) → IsBlank a → Led tapes (events_of v) a t → Holds t v
 value_wrote v a t blank h =
-    subst (λ n. Led (walks t) (events_of v) (record { at = n; ends = [] }) (at t [])) (ap length blank.entries) ((wrote (events_of v) (balanced v) a t h).1 [])
+    subst (λ n. Led (walks t) (events_of v) (record { at = n; ends = [] }) (at t [])) (ap length blank.entries) ((value_written v a t (told_by tapes v a t h)).1 [])
 
 -- 5. What a tape tells.
 
 pub walk_tells : (t : Tape) (e : Event) (a b : Walk) → walks t a e b → Tells t a.at e
-walk_tells t (part p) a b h = h.tells
-walk_tells t (annotation s) a b h = h.tells
-walk_tells t (name s) a b h = h.tells
 walk_tells t (opens x) a b h = record { entry = Entry.Open x h.end; there = h.there; is = refl }
 walk_tells t (closes x) a b h = record { entry = Entry.Close x; there = h.there; is = refl }
-walk_tells t ended a b h = h.tells
+walk_tells t _ a b h = h.tells
 
 drop_get : {X : Type 0} (xs : List X) (i : ℕ) (x : X) → slice_get xs i ≡ Some x → drop i xs ≡ x ∷ drop (suc i) xs
 drop_get [] i x h = absurd cc
@@ -342,23 +332,3 @@ value_tells v t h =
     let all = events_walked t (events_of v) (record { at = 0; ends = [] }) (at t []) h in
     let none : drop (size t) t.entries.items ≡ [] = drop_all (size t) t.entries.items (omega arith) in
     all ∙ (ap (λ xs. events_of v ++ flat_map (λ e. option_to_list (told t e)) xs) none ∙ append-nil (events_of v))
-
--- 6. Two tapes that have the same written down.
-
-text_same : (t u : Tape) (r : Range) → t.octets.items ≡ u.octets.items → text_at t r ≡ text_at u r
-text_same t u r o = ap (λ w. cond (nat_le (r.from + r.count) (length w)) (Some (take r.count (drop r.from w))) None) o
-
-told_same : (t u : Tape) (e : Entry) → t.octets.items ≡ u.octets.items → t.numbers.items ≡ u.numbers.items → told t e ≡ told u e
-told_same t u (Entry.Number i) o n = ap (λ ns. option_map (λ m. part (number_payload m)) (slice_get ns i)) n
-told_same t u (Entry.Symbol x r) o n = ap (option_map (λ w. symbol_event x (Some w))) (text_same t u r o)
-told_same t u (Entry.Text x r) o n = ap (option_map (text_event x)) (text_same t u r o)
-told_same t u _ o n = refl
-
--- they tell the same events
-pub same_events : (t u : Tape) → t.entries.items ≡ u.entries.items → t.octets.items ≡ u.octets.items → t.numbers.items ≡ u.numbers.items
-    → events_in t ≡ events_in u
-same_events t u e o n = ap (flat_map (λ e. option_to_list (told t e))) e ∙ all u.entries.items
-  where
-    all : (es : List Entry) → flat_map (λ e. option_to_list (told t e)) es ≡ flat_map (λ e. option_to_list (told u e)) es
-    all [] = refl
-    all (e ∷ es) = rw (told_same t u e o n, all es)

@@ -1,9 +1,9 @@
 -- Events that lead from one state to another, as the tree that their value is.
-use Rattle.std.proofs.Common.{ℕ, ◌<◌, zero, suc, List, [], ◌∷◌, map, Bool, true, false, Option, subst, arith}
+use Rattle.std.proofs.Common.{◌≡◌, ap, ℕ, ◌<◌, zero, suc, List, [], ◌∷◌, map, Bool, true, false, Option, subst, arith}
 use Rattle.std.specs.List.{flat_map}
-use Rattle.ion_visiting.specs.Names.{Bracket, Event, Field, Layer, Led, Payload, Payload-F, Value, annotated, annotation, closes, depth, events_of, field_events, greatest, layer_depth, layer_events, name, opens, out-Payload, part, roll-out-Payload}
+use Rattle.ion_visiting.specs.Names.{Bracket, Event, Field, Layer, Led, Payload, Payload-F, Value, annotated, annotation, closes, depth, events_of, field_events, greatest, layer_depth, layer_events, name, opens, out-Payload, outs-List, outs-Sexp, part, roll-out-Payload, within}
 use Rattle.ion_model.specs.declared.value.Payload.TheVariants as payloads
-use Rattle.ion_model.specs.declared.value.Payload.TheViews.{roll-Payload}
+use Rattle.ion_model.specs.declared.value.Payload.TheViews.{out-roll-Payload, roll-Payload}
 use Rattle.ion_model.specs.laws.Measures.{depth-out}
 use Rattle.ion_visiting.specs.laws.Led.{events_out, led_split}
 
@@ -16,6 +16,10 @@ abbrev pub sequence_bracket : Bool → Bracket
 sequence_bracket true = Bracket.List
 sequence_bracket false = Bracket.Sexp
 
+pub sequence_events : (l : Bool) (vs : List Value) → layer_events (out-Payload (sequence l vs)) ≡ within (sequence_bracket l) (flat_map events_of vs)
+sequence_events true vs = ap layer_events (outs-List vs)
+sequence_events false vs = ap layer_events (outs-Sexp vs)
+
 mutual
   -- annotations, then a payload
   pub data Told {S : Type 0} (takes : S → Event → S → Type 0) : Value → S → S → Type 0 where
@@ -23,7 +27,7 @@ mutual
         → Told takes (annotated ss p) a b
 
   pub data ToldPayload {S : Type 0} (takes : S → Event → S → Type 0) : Payload → S → S → Type 0 where
-    in_one : (p : Payload) (a b : S) → takes a (part p) b → ToldPayload takes p a b
+    in_one : (p : Payload) (a b : S) → layer_events (out-Payload p) ≡ part p ∷ [] → takes a (part p) b → ToldPayload takes p a b
     in_sequence : (l : Bool) (vs : List Value) (a m n b : S) → takes a (opens (sequence_bracket l)) m → ToldItems takes vs m n
         → takes n (closes (sequence_bracket l)) b → ToldPayload takes (sequence l vs) a b
     in_struct : (ms : List Field) (a m n b : S) → takes a (opens Bracket.Fields) m → ToldFields takes ms m n → takes n (closes Bracket.Fields) b
@@ -56,20 +60,11 @@ module _ {S : Type 0} (takes : S → Event → S → Type 0) where
       let s = led_split takes (events_of m.value) (flat_map field_events ms) l.0 b l.2 in
       fields_from m ms a l.0 s.0 b l.1 (h.at_value m.value (omega (arith, small)) l.0 s.0 s.1) (of_fields n h ms (omega (arith, small)) s.0 b s.2)
 
-  of_one : (p : Payload) (a b : S) → Led takes (part p ∷ []) a b → ToldPayload takes p a b
-  of_one p a b l = subst (ToldPayload takes p a) l.2 (in_one p a l.0 l.1)
+  of_one : (p : Payload) (a b : S) → layer_events (out-Payload p) ≡ part p ∷ [] → Led takes (part p ∷ []) a b → ToldPayload takes p a b
+  of_one p a b is l = subst (ToldPayload takes p a) l.2 (in_one p a l.0 is l.1)
 
   of_layer : (n : ℕ) → Trees n → (d : Layer) → layer_depth d < suc n → (a b : S) → Led takes (layer_events d) a b → ToldPayload takes (roll-Payload d) a b
   unfolding roll-Payload denote.Hole.Carrier.roll
-  of_layer n h (Payload-F.Null k) small a b l = of_one _ a b l
-  of_layer n h (Payload-F.Truth t) small a b l = of_one _ a b l
-  of_layer n h (Payload-F.Int z) small a b l = of_one _ a b l
-  of_layer n h (Payload-F.Decimal d) small a b l = of_one _ a b l
-  of_layer n h (Payload-F.Timestamp t) small a b l = of_one _ a b l
-  of_layer n h (Payload-F.Symbol s) small a b l = of_one _ a b l
-  of_layer n h (Payload-F.Str w) small a b l = of_one _ a b l
-  of_layer n h (Payload-F.Clob w) small a b l = of_one _ a b l
-  of_layer n h (Payload-F.Blob w) small a b l = of_one _ a b l
   of_layer n h (Payload-F.List vs) small a b l =
       let s = led_split takes (flat_map events_of vs) (closes Bracket.List ∷ []) l.0 b l.2 in
       subst (ToldPayload takes (payloads.List vs) a) s.2.2
@@ -82,6 +77,7 @@ module _ {S : Type 0} (takes : S → Event → S → Type 0) where
       let s = led_split takes (flat_map field_events ms) (closes Bracket.Fields ∷ []) l.0 b l.2 in
       subst (ToldPayload takes (payloads.Fields ms) a) s.2.2
       (in_struct ms a l.0 s.0 s.2.0 l.1 (of_fields n h ms (omega (arith, small)) l.0 s.0 s.1) s.2.1)
+  of_layer n h d small a b l = of_one (roll-Payload d) a b (ap layer_events (out-roll-Payload d)) l
 
   trees : (n : ℕ) → Trees n
   trees zero = record { at_value = λ v small a b l. absurd (omega (arith, small)) }

@@ -66,8 +66,7 @@ told_on a m e second h one = record {
 -- what a symbol writes, whatever it is
 pub symbol_taped : (a b : Tape) (x : Role) (s : Option (List ℕ)) → Writes a b (symbol_event x s) → tapes a (symbol_event x s) b
 symbol_taped a b Role.Value s h = h
-symbol_taped a b Role.Annotation s h = h
-symbol_taped a b Role.Name s h = h
+symbol_taped a b _ s h = h
 
 -- 3. All events of a value.
 

@@ -34,9 +34,8 @@ with_name place s = place
 
 -- a list, an s-expression or a struct of nothing yet
 abbrev pub opened : Bracket → Open
-opened Bracket.List = Open.Items []
-opened Bracket.Sexp = Open.Items []
 opened Bracket.Fields = Open.Fields [] None
+opened _ = Open.Items []
 
 -- the list, s-expression or struct of what came
 abbrev pub closed : Bracket → Open → Option Payload

@@ -12,7 +12,7 @@ pub use Rattle.ion_model.specs.declared.value.Field.{Field}
 pub use Rattle.ion_model.specs.declared.value.Payload.{Payload}
 pub use Rattle.ion_model.specs.declared.value.Payload.TheFolds.{fold-Field, fold-Payload, fold_out-Field, fold_out-Payload, fold_out-Value, map-Payload}
 pub use Rattle.ion_model.specs.declared.value.Payload.TheOpen.{Payload-F}
-pub use Rattle.ion_model.specs.declared.value.Payload.TheViews.{out-Payload, outs-Blob, outs-Clob, outs-Decimal, outs-Int, outs-Null, outs-Str, outs-Symbol, outs-Timestamp, outs-Truth, roll-out-Payload}
+pub use Rattle.ion_model.specs.declared.value.Payload.TheViews.{out-Payload, outs-Blob, outs-Clob, outs-Decimal, outs-Fields, outs-Int, outs-List, outs-Null, outs-Sexp, outs-Str, outs-Symbol, outs-Timestamp, outs-Truth, roll-out-Payload}
 pub use Rattle.ion_model.specs.declared.value.Value.{Value}
 pub use Rattle.ion_scalar.specs.declared.number.Number.{Number}
 pub use Rattle.ion_visiting.specs.Building.{Built, builds, built, closed, fresh, opened, value_in, with_closed, with_value, without_value}

@@ -1,6 +1,6 @@
 -- The visitor that takes the outline of a value.
 use Rattle.std.specs.Prelude.{◌≡◌, ◌+◌, ◌-◌, ◌^◌, ℕ, min, max, ◌==◌, if◌then◌else◌}
-use Rattle.ion_visiting.specs.Names.{Bracket, Event, Kind, Outlining, annotation, closes, ended, layer_kind, name, opens, out-Payload, part}
+use Rattle.ion_visiting.specs.Names.{Bracket, Event, Kind, Outlining, closes, ended, layer_kind, opens, out-Payload, part}
 use Rattle.ion_model.specs.declared.outline.Outline.{Outline}
 
 -- the kind of what stands between brackets
@@ -32,11 +32,10 @@ deeper a n = min (max a.depth n) (2 ^ 64 - 1)
 -- each event but what closes and what ends is one node more
 abbrev pub outlined : Outlining → Event → Outlining
 outlined a (part p) = record { kind = kind_at a (layer_kind (out-Payload p)); level = a.level; depth = a.depth; nodes = more_nodes a 1 }
-outlined a (annotation s) = record { kind = a.kind; level = a.level; depth = a.depth; nodes = more_nodes a 1 }
-outlined a (name s) = record { kind = a.kind; level = a.level; depth = a.depth; nodes = more_nodes a 1 }
 outlined a (opens x) = record { kind = kind_at a (bracket_kind x); level = a.level + 1; depth = deeper a (a.level + 1); nodes = more_nodes a 1 }
 outlined a (closes x) = record { kind = a.kind; level = a.level - 1; depth = a.depth; nodes = a.nodes }
 outlined a ended = a
+outlined a _ = record { kind = a.kind; level = a.level; depth = a.depth; nodes = more_nodes a 1 }
 
 abbrev pub outlines : Outlining → Event → Outlining → Type 0
 outlines a e b = b ≡ outlined a e

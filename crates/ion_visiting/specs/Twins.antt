@@ -1,5 +1,5 @@
 -- A second value that is compared with a first one as it is told.
-use Rattle.std.specs.Prelude.{◌≡◌, List, [], ◌∷◌, ◌++◌, Bool, true, false}
+use Rattle.std.specs.Prelude.{◌≡◌, ◌&&◌, List, [], ◌∷◌, ◌++◌, Bool, true, false, length, nat_eq, not}
 use Rattle.ion_visiting.specs.Names.{Event, Led, Tape, Twin}
 use Rattle.ion_visiting.specs.Tapes.{IsBlank, events_before, tapes}
 
@@ -10,6 +10,10 @@ ToldBy true t es = (a : Tape) × IsBlank a × Led tapes es a t.second
 
 abbrev pub WasTold : Twin → List Event → Type 0
 WasTold t es = ToldBy t.parted t es
+
+-- the second went along the whole first tape
+abbrev pub is_twin : Twin → Bool
+is_twin t = not t.parted && nat_eq t.at (length t.first.entries.items)
 
 -- nothing was told of the second
 pub record IsBegun (t : Twin) : Type 0 where

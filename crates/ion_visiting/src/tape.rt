@@ -276,19 +276,6 @@ impl Tape {
         }
     }
 
-    /// Whether both have the same written down: it takes one comparison for each entry, and another
-    /// of all texts. Equivalent values needn't be the same.
-    #[inline(always)]
-    #[tactic(auto, using(crate::proofs::Taped::same_events))]
-    pub fn is_same(&self, other: &Tape) -> bool
-        ensures same { result ≡ true → events_in self.now ≡ events_in other.now }
-        ensures found { self.now ≡ other.now → result ≡ true }
-    {
-        same_entries(&self.entries, &other.entries)
-            && self.octets == other.octets
-            && same_numbers(&self.numbers, &other.numbers)
-    }
-
     /// Tells a visitor what was written down; `false` where the visitor answered so, of which the
     /// rest isn't told. Takes no memory by itself.
     #[inline(always)]
@@ -364,38 +351,6 @@ impl Tape {
             Entry::Close(bracket) => visitor.close(bracket),
         }
     }
-}
-
-#[inline(always)]
-fn same_entries(entries: &[Entry], others: &[Entry]) -> bool
-    ensures same { result ≡ true → entries.now ≡ others.now }
-    ensures found { entries.now ≡ others.now → result ≡ true }
-{
-    if entries.len() != others.len() {
-        return false;
-    }
-    for place in 0..entries.len() {
-        if entries[place] != others[place] {
-            return false;
-        }
-    }
-    true
-}
-
-#[inline(never)]
-fn same_numbers(numbers: &[Number], others: &[Number]) -> bool
-    ensures same { result ≡ true → numbers.now ≡ others.now }
-    ensures found { numbers.now ≡ others.now → result ≡ true }
-{
-    if numbers.len() != others.len() {
-        return false;
-    }
-    for place in 0..numbers.len() {
-        if numbers[place] != others[place] {
-            return false;
-        }
-    }
-    true
 }
 
 // A number that fits an entry, as that entry.

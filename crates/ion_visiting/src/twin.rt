@@ -2,7 +2,7 @@
 ghost use Rattle.std.specs.Prelude.{◌≡◌, ◌+◌, ◌<◌, ◌^◌, List, IfSome, Some, true, false, option_map, slice_get};
 ghost use Rattle.ion_visiting.specs.Names.{Event, annotation, closes, name, number_payload, opens, part, payload_of};
 ghost use Rattle.ion_visiting.specs.Tapes.{IsBlank, events_in, symbol_event};
-ghost use Rattle.ion_visiting.specs.Twins.{IsApart, IsBegun, TellsSecond, WasTold};
+ghost use Rattle.ion_visiting.specs.Twins.{IsApart, IsBegun, TellsSecond, WasTold, is_twin};
 
 use crate::bracket::Bracket;
 use crate::part::Part;
@@ -57,7 +57,8 @@ impl Twin {
     #[inline(always)]
     #[tactic(auto, using(crate::proofs::Twins::same_told))]
     pub fn are_same(&self) -> bool
-        ensures { result ≡ true → (es : List Event) → WasTold self.now es →
+        ensures exact { result ≡ is_twin self.now }
+        ensures told { result ≡ true → (es : List Event) → WasTold self.now es →
             events_in self.now.first ≡ es }
     {
         !self.parted && self.at == self.first.entries.len()

@@ -72,15 +72,6 @@ within_built x es full p ss place outer free free_inside is inside =
 layer_built : (n : ℕ) → Puts n → (d : Layer) → layer_depth d < suc n → (ss : List (Option (List ℕ))) (place : Open) (outer : List Outer)
     → value_in place ≡ None → Led Awaits (layer_events d) (at ss place outer) (at [] (with_value place (annotated ss (roll-Payload d))) outer)
 unfolding roll-Payload denote.Hole.Carrier.roll
-layer_built n h (Payload-F.Null k) small ss place outer free = then _ [] _ _ refl free refl
-layer_built n h (Payload-F.Truth b) small ss place outer free = then _ [] _ _ refl free refl
-layer_built n h (Payload-F.Int z) small ss place outer free = then _ [] _ _ refl free refl
-layer_built n h (Payload-F.Decimal d) small ss place outer free = then _ [] _ _ refl free refl
-layer_built n h (Payload-F.Timestamp t) small ss place outer free = then _ [] _ _ refl free refl
-layer_built n h (Payload-F.Symbol s) small ss place outer free = then _ [] _ _ refl free refl
-layer_built n h (Payload-F.Str w) small ss place outer free = then _ [] _ _ refl free refl
-layer_built n h (Payload-F.Clob w) small ss place outer free = then _ [] _ _ refl free refl
-layer_built n h (Payload-F.Blob w) small ss place outer free = then _ [] _ _ refl free refl
 layer_built n h (Payload-F.List vs) small ss place outer free =
     within_built Bracket.List (flat_map events_of vs) (Open.Items vs) (payloads.List vs) ss place outer free refl refl
     (items_built n h vs [] _ (omega (arith, small)))
@@ -90,6 +81,7 @@ layer_built n h (Payload-F.Sexp vs) small ss place outer free =
 layer_built n h (Payload-F.Fields ms) small ss place outer free =
     within_built Bracket.Fields (flat_map field_events ms) (Open.Fields ms None) (payloads.Fields ms) ss place outer free refl refl
     (fields_built n h ms [] _ (omega (arith, small)))
+layer_built n h _ small ss place outer free = then _ [] _ _ refl free refl
 
 each_built : (n : ℕ) → Puts n
 each_built zero = record { at_value = λ v small place outer free. absurd (omega (arith, small)) }

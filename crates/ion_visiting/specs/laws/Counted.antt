@@ -1,16 +1,12 @@
 -- The visitor that counts values counts those that ended, and nothing inside of them.
 use Rattle.std.proofs.Common.{◌≡◌, ◌+◌, ◌-◌, ◌^◌, ◌≤◌, min, List, [], ◌∷◌, ◌++◌, length, None, true≢false, false, refl, sym, ap, ◌∙◌, arith}
-use Rattle.ion_visiting.specs.Names.{Built, Count, Event, Led, Open, Value, annotation, closes, counted, counts, ended, events_of, name, opens, part, stream_events}
+use Rattle.ion_visiting.specs.Names.{Built, Count, Event, Led, Open, Value, counted, counts, ended, events_of, stream_events}
 use Rattle.ion_visiting.specs.laws.Built.{Awaits, is_end, value_awaited}
 use Rattle.ion_visiting.specs.laws.Led.{led_split}
 
 not_counted : (a : Count) (e : Event) → is_end e ≡ false → counted a e ≡ a
-not_counted a (part p) h = refl
-not_counted a (annotation s) h = refl
-not_counted a (name s) h = refl
-not_counted a (opens x) h = refl
-not_counted a (closes x) h = refl
 not_counted a ended h = absurd (true≢false h)
+not_counted a _ h = refl
 
 none_counted : (es : List Event) (x y : Built) (a b : Count) → Led Awaits es x y → Led counts es a b → b ≡ a
 none_counted [] x y a b h k = sym k

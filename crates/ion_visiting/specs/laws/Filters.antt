@@ -3,7 +3,7 @@ use Rattle.std.proofs.Common.{◌≡◌, ℕ, ◌+◌, ◌<◌, length, take, ge
 use Rattle.std.specs.Prelude.{◌&&◌, if◌then◌else◌}
 use Rattle.std.specs.List.{flat_map}
 use Rattle.std.proofs.lemmas.List.{append-nil, append_assoc, map-append, take_more}
-use Rattle.ion_visiting.specs.Names.{Bracket, Built, Event, Kind, Layer, Led, Number, Payload-F, Table, TableFilter, Value, annotation, builds, closes, ended, events_of, field_events, fresh, is_fields, is_table, is_table_of, layer_events, layer_kind, name, names_table, number_payload, opens, out-Payload, part, value_in, without_value}
+use Rattle.ion_visiting.specs.Names.{Bracket, Built, Event, Kind, Layer, Led, Number, Payload-F, Table, TableFilter, Value, annotation, builds, closes, events_of, field_events, fresh, is_fields, is_table, is_table_of, layer_events, layer_kind, names_table, number_payload, out-Payload, part, value_in, without_value}
 use Rattle.ion_model.specs.declared.value.Payload.TheVariants as payloads
 use Rattle.ion_visiting.specs.Tables.{AreKept, Hears, IsTable, LetsPass, Symbols, WasTold, begins_struct, heard, heard_by, is_null_struct, is_of_table, table_after, table_behind, table_by, table_of}
 use Rattle.ion_visiting.specs.laws.Built.{value_built}
@@ -20,19 +20,11 @@ by_more es e = after_append Table.Unknown es (e ∷ [])
 
 behind_no : (e : Event) → table_behind Table.No e ≡ Table.No
 behind_no (part p) = refl
-behind_no (annotation s) = refl
-behind_no (name s) = refl
-behind_no (opens x) = refl
-behind_no (closes x) = refl
-behind_no ended = refl
+behind_no _ = refl
 
 behind_yes : (e : Event) → table_behind Table.Yes e ≡ Table.Yes
 behind_yes (part p) = refl
-behind_yes (annotation s) = refl
-behind_yes (name s) = refl
-behind_yes (opens x) = refl
-behind_yes (closes x) = refl
-behind_yes ended = refl
+behind_yes _ = refl
 
 after_no : (es : List Event) → table_after Table.No es ≡ Table.No
 after_no [] = refl
@@ -49,46 +41,20 @@ after_notes (s ∷ ss) = after_notes ss
 -- behind one event of a payload
 if_fields : (k : Kind) → table_behind Table.Noted (part (payloads.Null k)) ≡ (if is_fields k then Table.Yes else Table.No)
 if_fields Kind.Null = refl
-if_fields Kind.Bool = refl
-if_fields Kind.Int = refl
-if_fields Kind.Float = refl
-if_fields Kind.Decimal = refl
-if_fields Kind.Timestamp = refl
-if_fields Kind.Symbol = refl
-if_fields Kind.Str = refl
-if_fields Kind.Clob = refl
-if_fields Kind.Blob = refl
-if_fields Kind.List = refl
-if_fields Kind.Sexp = refl
-if_fields Kind.Fields = refl
+if_fields _ = refl
 
 noted_layer : (d : Layer) → table_after Table.Noted (layer_events d) ≡ (if is_fields (layer_kind d) then Table.Yes else Table.No)
 noted_layer (Payload-F.Null k) = if_fields k
-noted_layer (Payload-F.Truth b) = refl
-noted_layer (Payload-F.Int z) = refl
-noted_layer (Payload-F.Decimal d) = refl
-noted_layer (Payload-F.Timestamp t) = refl
-noted_layer (Payload-F.Symbol s) = refl
-noted_layer (Payload-F.Str w) = refl
-noted_layer (Payload-F.Clob w) = refl
-noted_layer (Payload-F.Blob w) = refl
 noted_layer (Payload-F.List vs) = after_no (flat_map events_of vs ++ closes Bracket.List ∷ [])
 noted_layer (Payload-F.Sexp vs) = after_no (flat_map events_of vs ++ closes Bracket.Sexp ∷ [])
 noted_layer (Payload-F.Fields fs) = after_yes (flat_map field_events fs ++ closes Bracket.Fields ∷ [])
+noted_layer _ = refl
 
 unknown_layer : (d : Layer) → table_after Table.Unknown (layer_events d) ≡ Table.No
-unknown_layer (Payload-F.Null k) = refl
-unknown_layer (Payload-F.Truth b) = refl
-unknown_layer (Payload-F.Int z) = refl
-unknown_layer (Payload-F.Decimal d) = refl
-unknown_layer (Payload-F.Timestamp t) = refl
-unknown_layer (Payload-F.Symbol s) = refl
-unknown_layer (Payload-F.Str w) = refl
-unknown_layer (Payload-F.Clob w) = refl
-unknown_layer (Payload-F.Blob w) = refl
 unknown_layer (Payload-F.List vs) = after_no (flat_map events_of vs ++ closes Bracket.List ∷ [])
 unknown_layer (Payload-F.Sexp vs) = after_no (flat_map events_of vs ++ closes Bracket.Sexp ∷ [])
 unknown_layer (Payload-F.Fields fs) = after_no (flat_map field_events fs ++ closes Bracket.Fields ∷ [])
+unknown_layer _ = refl
 
 -- a table, or none, by the first annotation
 abbrev by_first : Bool → Bool → Table
@@ -128,8 +94,7 @@ noted_nowhere false e = absurd cc
 -- a number is no null
 pub number_null : (n : Number) → is_null_struct (number_payload n) ≡ false
 number_null (Number.Int z) = refl
-number_null (Number.Decimal d) = refl
-number_null (Number.Timestamp t) = refl
+number_null _ = refl
 
 -- an event that is no annotation
 abbrev pub IsOther : Event → Type 0
@@ -137,12 +102,8 @@ IsOther (annotation s) = ⊥
 IsOther _ = Unit {0}
 
 behind_other : (t : Table) (e : Event) → IsOther e → table_behind t e ≡ (if is_of_table t (begins_struct e) then Table.Yes else Table.No)
-behind_other t (part p) h = refl
 behind_other t (annotation s) h = absurd h
-behind_other t (name s) h = refl
-behind_other t (opens x) h = refl
-behind_other t (closes x) h = refl
-behind_other t ended h = refl
+behind_other t _ h = refl
 
 -- 2. What a visitor heard.
 

@@ -40,21 +40,13 @@ fields_kept n h (m ∷ ms) small k =
 
 layer_kept : (n : ℕ) → Kept n → (d : Layer) → layer_depth d < suc n → AreKeptEvents (layer_events d) → KeptPayload (views.roll-Payload d)
 unfolding views.roll-Payload denote.Hole.Carrier.roll
-layer_kept n h (Payload-F.Null k) small t = t.0
-layer_kept n h (Payload-F.Truth b) small t = t.0
-layer_kept n h (Payload-F.Int z) small t = t.0
-layer_kept n h (Payload-F.Decimal d) small t = t.0
-layer_kept n h (Payload-F.Timestamp s) small t = t.0
-layer_kept n h (Payload-F.Symbol s) small t = t.0
-layer_kept n h (Payload-F.Str w) small t = t.0
-layer_kept n h (Payload-F.Clob w) small t = t.0
-layer_kept n h (Payload-F.Blob w) small t = t.0
 layer_kept n h (Payload-F.List vs) small t =
     kepts.kept_list vs (items_kept n h vs (omega (arith, small)) (kept_split (flat_map events_of vs) (closes Bracket.List ∷ []) t.1).0)
 layer_kept n h (Payload-F.Sexp vs) small t =
     kepts.kept_sexp vs (items_kept n h vs (omega (arith, small)) (kept_split (flat_map events_of vs) (closes Bracket.Sexp ∷ []) t.1).0)
 layer_kept n h (Payload-F.Fields ms) small t =
     kepts.kept_fields ms (fields_kept n h ms (omega (arith, small)) (kept_split (flat_map field_events ms) (closes Bracket.Fields ∷ []) t.1).0)
+layer_kept n h _ small t = t.0
 
 each_kept : (n : ℕ) → Kept n
 each_kept zero = record { value = λ v small k. absurd (omega (arith, small)) }

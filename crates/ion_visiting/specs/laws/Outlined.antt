@@ -148,21 +148,14 @@ part_outlined p d a b is s k =
 
 layer_outlined : (n : ℕ) → Outlines n → (d : Layer) → layer_depth d < suc n → (a b : Outlining) → Sound a → Led outlines (layer_events d) a b
     → Whole a b (layer_kind d) (layer_depth d) (layer_nodes d)
-layer_outlined n h (Payload-F.Null k) small a b s x = part_outlined _ _ a b (views.outs-Null k) s x
-layer_outlined n h (Payload-F.Truth t) small a b s x = part_outlined _ _ a b (views.outs-Truth t) s x
-layer_outlined n h (Payload-F.Int z) small a b s x = part_outlined _ _ a b (views.outs-Int z) s x
-layer_outlined n h (Payload-F.Decimal d) small a b s x = part_outlined _ _ a b (views.outs-Decimal d) s x
-layer_outlined n h (Payload-F.Timestamp t) small a b s x = part_outlined _ _ a b (views.outs-Timestamp t) s x
-layer_outlined n h (Payload-F.Symbol t) small a b s x = part_outlined _ _ a b (views.outs-Symbol t) s x
-layer_outlined n h (Payload-F.Str w) small a b s x = part_outlined _ _ a b (views.outs-Str w) s x
-layer_outlined n h (Payload-F.Clob w) small a b s x = part_outlined _ _ a b (views.outs-Clob w) s x
-layer_outlined n h (Payload-F.Blob w) small a b s x = part_outlined _ _ a b (views.outs-Blob w) s x
+unfolding views.roll-Payload denote.Hole.Carrier.roll
 layer_outlined n h (Payload-F.List vs) small a b s x =
     within_outlined Bracket.List _ _ _ a b s (λ m o some sound y. items_outlined n h vs m o (omega (arith, small)) some sound y) x
 layer_outlined n h (Payload-F.Sexp vs) small a b s x =
     within_outlined Bracket.Sexp _ _ _ a b s (λ m o some sound y. items_outlined n h vs m o (omega (arith, small)) some sound y) x
 layer_outlined n h (Payload-F.Fields ms) small a b s x =
     within_outlined Bracket.Fields _ _ _ a b s (λ m o some sound y. fields_outlined n h ms m o (omega (arith, small)) some sound y) x
+layer_outlined n h d small a b s x = part_outlined (views.roll-Payload d) d a b (views.out-roll-Payload d) s x
 
 each_outlined : (n : ℕ) → Outlines n
 each_outlined zero = record { at = λ v small a b s k. absurd (omega (arith, small)) }
