@@ -25,6 +25,26 @@ pub struct FrailReader<'a> {
     pub kind: ErrorKind,
 }
 
+impl<'a> FrailReader<'a> {
+    /// Octets of which the first call gives so many, and each other so many; none fails.
+    pub fn new(octets: &'a [u8], first: usize, then: usize) -> FrailReader<'a> {
+        FrailReader {
+            octets,
+            first,
+            then,
+            calls: 0,
+            fails_at: NEVER,
+            kind: ErrorKind::Interrupted,
+        }
+    }
+
+    /// The same, where the call with this index fails.
+    pub fn failing(mut self, fails_at: u64) -> FrailReader<'a> {
+        self.fails_at = fails_at;
+        self
+    }
+}
+
 impl Read for FrailReader<'_> {
     fn read(&mut self, buf: &mut [u8]) -> io::Result<usize> {
         let now = self.calls;
@@ -51,7 +71,17 @@ pub struct FrailWriter<'v> {
     pub fails_at: u64,
 }
 
-impl FrailWriter<'_> {
+impl<'v> FrailWriter<'v> {
+    /// A writer that takes so many octets a call, of which the one with this index fails.
+    pub fn new(taken: &'v mut Vec<u8>, takes: usize, fails_at: u64) -> FrailWriter<'v> {
+        FrailWriter {
+            taken,
+            takes,
+            calls: 0,
+            fails_at,
+        }
+    }
+
     /// Counts a call, and fails where it is the one.
     fn called(&mut self) -> io::Result<()> {
         let now = self.calls;
