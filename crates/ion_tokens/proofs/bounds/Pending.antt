@@ -66,14 +66,10 @@ pub few_owed : (x : Outcome) (r : Result Scan Refusal) (left : Bool) (owed befor
     → Answers before x (answered r left) now
     → IfOk r (λ scan. debt now.mode ≤ owed + scan.used)
 unfolding Owes
-few_owed (Next s) (Ok scan) left owed before now h a = let e = ap (λ (t : Known). debt t.mode) a.0.known in let u = ap (λ (t : Known). t.used) a.0.known in
-    let k = a.0.counted in omega arith
-few_owed (Given l s) (Ok scan) left owed before now h a = let e = ap (λ (t : Known). debt t.mode) a.0.known in let u = ap (λ (t : Known). t.used) a.0.known in
-    let k = a.0.counted in omega arith
-few_owed (Left l s) (Ok scan) left owed before now h a = let e = ap (λ (t : Known). debt t.mode) a.0.known in let u = ap (λ (t : Known). t.used) a.0.known in
-    let k = a.0.counted in omega arith
-few_owed (Refused at reason) (Ok scan) left owed before now h a = absurd a
+few_owed (Refused at r) (Ok scan) left owed before now h a = absurd a
 few_owed x (Err r) left owed before now h a = tt
+few_owed _ (Ok scan) left owed before now h a = let e = ap (λ (t : Known). debt t.mode) a.0.known in let u = ap (λ (t : Known). t.used) a.0.known in
+    let k = a.0.counted in omega arith
 
 some_fewer : (t : Option Token) (a b : ℕ) → a < b → IfSome t (λ _. a < b)
 some_fewer None a b h = tt
@@ -89,11 +85,8 @@ pub fewer_owed : (x : Outcome) (r : Result Scan Refusal) (left : Bool) (owed bef
     → IfOk r (λ scan. IfSome scan.token (λ _. debt now.mode < owed + scan.used))
 unfolding Owes
 fewer_owed (Next s) (Ok scan) left owed before now h a = none_fewer scan.token _ _ a.1
-fewer_owed (Given l s) (Ok scan) left owed before now h a =
-    let e = ap (λ (t : Known). debt t.mode) a.0.known in let u = ap (λ (t : Known). t.used) a.0.known in let k = a.0.counted in
-    some_fewer scan.token _ _ (omega arith)
-fewer_owed (Left l s) (Ok scan) left owed before now h a =
-    let e = ap (λ (t : Known). debt t.mode) a.0.known in let u = ap (λ (t : Known). t.used) a.0.known in let k = a.0.counted in
-    some_fewer scan.token _ _ (omega arith)
-fewer_owed (Refused at reason) (Ok scan) left owed before now h a = absurd a
+fewer_owed (Refused at r) (Ok scan) left owed before now h a = absurd a
 fewer_owed x (Err r) left owed before now h a = tt
+fewer_owed _ (Ok scan) left owed before now h a =
+    let e = ap (λ (t : Known). debt t.mode) a.0.known in let u = ap (λ (t : Known). t.used) a.0.known in let k = a.0.counted in
+    some_fewer scan.token _ _ (omega arith)

@@ -45,19 +45,13 @@ module _ (colon : Bool) (start used : ℕ) (kept : List ℕ) where
   in_operator_slash _ = record { octets = 43 ∷ 43 ∷ []; are = two 43 43 refl refl; escapes = Refuses _ _ refl }
 
   in_infinity : (p : Place) (n : ℕ) → 1 ≤ n → n ≤ 3 → Escape p (at (Mode.Infinity n) kept colon start used)
-  in_infinity p n a b = ⊎_elim (λ e. subst P (sym e) first) (λ m. ⊎_elim (λ e. subst P (sym e) second) (λ e. subst P (sym e) third) m)
-      (one_to_three n a b) where
-        P : ℕ → Type 0
-        P n = Escape p (at (Mode.Infinity n) kept colon start used)
-
-        first : P 1
-        first = record { octets = 110 ∷ 102 ∷ 32 ∷ []; are = three 110 102 32 refl refl refl; escapes = Refuses _ _ refl }
-
-        second : P 2
-        second = record { octets = 102 ∷ 32 ∷ []; are = two 102 32 refl refl; escapes = Refuses _ _ refl }
-
-        third : P 3
-        third = record { octets = 32 ∷ []; are = one 32 refl; escapes = Refuses _ _ refl }
+  in_infinity p n a b = ⊎_elim
+      (λ e. subst P (sym e) (record { octets = 110 ∷ 102 ∷ 32 ∷ []; are = three 110 102 32 refl refl refl; escapes = Refuses _ _ refl }))
+      (λ m. ⊎_elim (λ e. subst P (sym e) (record { octets = 102 ∷ 32 ∷ []; are = two 102 32 refl refl; escapes = Refuses _ _ refl }))
+      (λ e. subst P (sym e) (record { octets = 32 ∷ []; are = one 32 refl; escapes = Refuses _ _ refl })) m) (one_to_three n a b)
+    where
+      P : ℕ → Type 0
+      P n = Escape p (at (Mode.Infinity n) kept colon start used)
 
   -- the second of two NUL is refused, if the first one isn't
   in_utf8 : (p : Place) (s : Style) (left least most : ℕ) → Escapes p (at (Mode.Text s (Within.Utf8 left least most)) kept colon start used) (0 ∷ 0 ∷ [])

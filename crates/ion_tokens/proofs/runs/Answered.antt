@@ -22,10 +22,9 @@ pub used_whole : (x : Outcome) (r : Result Scan Refusal) (left : Bool) (before n
     → IfOk r (λ scan. scan.token ≡ None → scan.used ≡ n)
 unfolding Between
 used_whole (Next s) (Ok scan) left before n now h a = let e = ap (λ (t : Known). t.used) a.0.known in let k = a.0.counted in λ _. omega arith
-used_whole (Given l s) (Ok scan) left before n now h a = λ none. absurd (gives_some l scan.token a.1 none)
-used_whole (Left l s) (Ok scan) left before n now h a = λ none. absurd (gives_some l scan.token a.1 none)
 used_whole (Refused at reason) (Ok scan) left before n now h a = absurd a
 used_whole x (Err r) left before n now h a = tt
+used_whole _ (Ok scan) left before n now h a = λ none. absurd (gives_some _ scan.token a.1 none)
 
 -- a refusal is at one of the octets of the piece
 pub refused_within : (x : Outcome) (r : Result Scan Refusal) (left : Bool) (before n : ℕ) (now : Known) → Between x before n

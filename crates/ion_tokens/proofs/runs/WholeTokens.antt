@@ -221,29 +221,34 @@ operator_text octets n e = front_text is_plain_operator octets n operator_ascii 
 
 -- What stands between quotes.
 
+-- a text of one quote that is open up to its quote stands whole
+quote_closes : (s : Style) (kind : TokenKind) (content kept : List ℕ) (n : ℕ) → n < length content → slice_index content n ≡ quote_of s
+    → ((p : Place) (colon : Bool) → next p colon (Mode.Text s Within.Plain) (quote_of s) ≡ Action.Give kind Keep.Nothing)
+    → (p : Place) (r : Rest) → Opens p r.colon (quote_of s ∷ take n content) (Mode.Text s Within.Plain) kept
+    → IsFound p r (quote_of s ∷ content) kind kept (n + 2) false
+quote_closes s kind content kept n more last gives p r opens =
+    let size : suc n + 1 ≡ n + 2 = omega arith in
+    subst (λ (i : ℕ). IsFound p r (quote_of s ∷ content) kind kept i false) size
+    (opened_given p r (quote_of s ∷ content) (suc n) kind (Mode.Text s Within.Plain) kept Keep.Nothing opens (λ s u. refl) (omega arith)
+    (ap (λ (x : ℕ). next p r.colon (Mode.Text s Within.Plain) x) last ∙ gives p r.colon))
+
 -- what leads on up to a quote stands whole behind another as a short string
 pub string_stands : (content kept : List ℕ) (n : ℕ) → n < length content → slice_index content n ≡ 34
     → LeadsOn Style.ShortString (take n content) [] kept
     → (p : Place) (r : Rest) → IsFound p r (34 ∷ content) TokenKind.ShortString kept (n + 2) false
 string_stands content kept n more last leads p r =
-    let m : Mode = Mode.Text Style.ShortString Within.Plain in
-    let size : suc n + 1 ≡ n + 2 = omega arith in
-    subst (λ (i : ℕ). IsFound p r (34 ∷ content) TokenKind.ShortString kept i false) size
-    (opened_given p r (34 ∷ content) (suc n) TokenKind.ShortString m kept Keep.Nothing
-    (opens_then (opens_one p r.colon 34 m Keep.Nothing refl) (led Style.ShortString (take n content) [] kept leads p))
-    (λ s u. refl) (omega arith) (ap (λ (x : ℕ). next p r.colon m x) last))
+    quote_closes Style.ShortString TokenKind.ShortString content kept n more last (λ p colon. refl) p r
+    (opens_then (opens_one p r.colon 34 (Mode.Text Style.ShortString Within.Plain) Keep.Nothing refl)
+    (led Style.ShortString (take n content) [] kept leads p))
 
 -- so does what begins with no quote as a quoted symbol
 symbol_closes : (content kept : List ℕ) (n : ℕ) → n < length content → slice_index content n ≡ 39 → take n content ≢ [] → BeginsOther (take n content)
     → LeadsOn Style.QuotedSymbol (take n content) [] kept
     → (p : Place) (r : Rest) → IsFound p r (39 ∷ content) TokenKind.QuotedSymbol kept (n + 2) false
 symbol_closes content kept n more last full other leads p r =
-    let m : Mode = Mode.Text Style.QuotedSymbol Within.Plain in
-    let size : suc n + 1 ≡ n + 2 = omega arith in
-    subst (λ (i : ℕ). IsFound p r (39 ∷ content) TokenKind.QuotedSymbol kept i false) size
-    (opened_given p r (39 ∷ content) (suc n) TokenKind.QuotedSymbol m kept Keep.Nothing (opens_then (opens_quote p r.colon)
+    quote_closes Style.QuotedSymbol TokenKind.QuotedSymbol content kept n more last (λ p colon. refl) p r
+    (opens_then (opens_quote p r.colon)
     (from_quote p (take n content) kept Within.Plain full other (led Style.QuotedSymbol (take n content) [] kept leads p)))
-    (λ s u. refl) (omega arith) (ap (λ (x : ℕ). next p r.colon m x) last))
 
 full_front : (n : ℕ) (content : List ℕ) → n ≢ 0 → n < length content → take n content ≢ []
 full_front n content some more e = let none = ap (λ (l : List ℕ). length l) e in let l = length-take n content in some (omega arith)

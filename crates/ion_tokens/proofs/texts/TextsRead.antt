@@ -13,7 +13,7 @@ use Rattle.ion_tokens.proofs.texts.TextElements.{below_max}
 use Rattle.ion_tokens.proofs.texts.TextOrders.{Base, base_more, base_none, base_quote, base_quotes, last_is, last_is_last, quoted}
 use Rattle.ion_tokens.proofs.texts.TextSteps.{Caps, after_high, after_low, as_raw, caps_grow, exact, letter_only, more_digits, quote_low, utf8_last, utf8_more, utf8_wrong}
 use Rattle.ion_tokens.proofs.texts.TextsComplete.{eq_or}
-use Rattle.ion_tokens.proofs.texts.TextsSound.{After, Closes, EndsAfter, FitsBehind, HexPart, IsHigh, Leads, LeadsBehind, Part, Reads, SoFar, TextOnly, Whole, by_action, fits_raw, leads_over, one_element, part_only, raw_leads, rebase}
+use Rattle.ion_tokens.proofs.texts.TextsSound.{After, closed, EndsAfter, FitsBehind, HexPart, IsHigh, Leads, LeadsBehind, Part, Reads, SoFar, TextOnly, Whole, by_action, fits_raw, leads_over, one_element, part_only, raw_leads, rebase}
 use Rattle.ion_tokens.specs.laws.TokensKept.{hex_small}
 
 -- inside a character
@@ -261,18 +261,10 @@ quote_pending s es o p q b h (l, e, f) = subst (λ x. Leads s es (in_text s With
     (tt, part_only s es Within.TwoQuotes (39 ∷ 39 ∷ []) (39 ∷ 39 ∷ []) b h (l, refl, refl)))
     (λ n. by_action s es (39 ∷ o ∷ []) (39 ∷ []) (as_raw s Within.OneQuote o n) (one_quote_over s es o b l h n)) (eq_or o 39)))
 
-closed_long : (s : Style) (es : List Element) → Base s es → is_long s ≡ true → last_is is_raw_quote es ≡ false
-    → Closes s (flat_map spelling es ++ 39 ∷ 39 ∷ 39 ∷ []) (flat_map (meaning s) es ++ [])
-closed_long s es b l h = record {
-  content = flat_map spelling es;
-  is = subst (λ k. IsQuoted s (flat_map spelling es) k) (sym (append-nil (flat_map (meaning s) es))) (quoted s es b (λ t. h));
-  spelled = ap (λ c. flat_map spelling es ++ cond c (39 ∷ 39 ∷ 39 ∷ []) (quote_of s ∷ [])) (sym l);
-}
-
 long_closes : (s : Style) (es : List Element) → Base s es → is_long s ≡ true → last_is is_raw_quote es ≡ false
     → Leads s es (close_long s) (39 ∷ 39 ∷ 39 ∷ []) (39 ∷ 39 ∷ [])
-long_closes Style.LongString es b l h = (([], refl), tt, closed_long Style.LongString es b refl h)
-long_closes Style.LongClob es b l h = (([], refl), (tt, closed_long Style.LongClob es b refl h))
+long_closes Style.LongString es b l h = (([], refl), tt, closed Style.LongString es (39 ∷ 39 ∷ 39 ∷ []) b (λ t. h) refl)
+long_closes Style.LongClob es b l h = (([], refl), (tt, closed Style.LongClob es (39 ∷ 39 ∷ 39 ∷ []) b (λ t. h) refl))
 long_closes _ es b l h = absurd (false≢true l)
 
 quotes_pending : (s : Style) (es : List Element) (o : ℕ) (p q : List ℕ) → Base s es → last_is is_raw_quote es ≡ false → Part s Within.TwoQuotes p q

@@ -260,19 +260,19 @@ low_leads s es o b l n =
     by_action s es (o ∷ []) [] (raw_white s o l a e c d f) tt)
     (eq_or o 13)) (eq_or o 10)) (eq_or o 12)) (eq_or o 11)) (eq_or o 9)
 
--- the quote of a style with one quote closes the text
-closed_short : (s : Style) (es : List Element) → Base s es → is_long s ≡ false
-    → Closes s (flat_map spelling es ++ quote_of s ∷ []) (flat_map (meaning s) es ++ [])
-closed_short s es b l = record {
+-- the quotes of a style close the text
+pub closed : (s : Style) (es : List Element) (quotes : List ℕ) → Base s es → (is_long s ≡ true → last_is is_raw_quote es ≡ false) → quotes ≡ closing s
+    → Closes s (flat_map spelling es ++ quotes) (flat_map (meaning s) es ++ [])
+closed s es quotes b h e = record {
   content = flat_map spelling es;
-  is = subst (λ k. IsQuoted s (flat_map spelling es) k) (sym (append-nil (flat_map (meaning s) es))) (quoted s es b (λ t. absurd (true≢false (sym t ∙ l))));
-  spelled = ap (λ c. flat_map spelling es ++ cond c (39 ∷ 39 ∷ 39 ∷ []) (quote_of s ∷ [])) (sym l);
+  is = subst (λ k. IsQuoted s (flat_map spelling es) k) (sym (append-nil (flat_map (meaning s) es))) (quoted s es b h);
+  spelled = ap (λ c. flat_map spelling es ++ c) e;
 }
 
 short_closes : (s : Style) (es : List Element) → Base s es → is_long s ≡ false → Leads s es (raw s (quote_of s)) (quote_of s ∷ []) []
-short_closes Style.ShortString es b l = (tt, tt, closed_short Style.ShortString es b refl)
-short_closes Style.QuotedSymbol es b l = (tt, tt, closed_short Style.QuotedSymbol es b refl)
-short_closes Style.ShortClob es b l = (tt, (tt, closed_short Style.ShortClob es b refl))
+short_closes Style.ShortString es b l = (tt, tt, closed Style.ShortString es (quote_of Style.ShortString ∷ []) b (λ t. absurd (true≢false (sym t))) refl)
+short_closes Style.QuotedSymbol es b l = (tt, tt, closed Style.QuotedSymbol es (quote_of Style.QuotedSymbol ∷ []) b (λ t. absurd (true≢false (sym t))) refl)
+short_closes Style.ShortClob es b l = (tt, (tt, closed Style.ShortClob es (quote_of Style.ShortClob ∷ []) b (λ t. absurd (true≢false (sym t))) refl))
 short_closes _ es b l = cc
 
 quote_leads : (s : Style) (es : List Element) (o : ℕ) → Behind s es o → o ≡ quote_of s → Leads s es (raw s o) (o ∷ []) []
