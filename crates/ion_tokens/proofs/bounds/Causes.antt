@@ -2,7 +2,7 @@
 use Rattle.std.proofs.Common.{◌≡◌, ◌≢◌, ℕ, Bool, true, refl, sym, ap, subst, ◌∙◌, List, [], ◌∷◌, Option, Some, None, Result, Ok, Err, IfErr}
 use Rattle.std.specs.Prelude.{◌==◌, ◌&&◌, bytes_eq, codes}
 use Rattle.std.proofs.lemmas.Bool.{cond_both}
-use Rattle.ion_tokens.specs.Names.{Action, Answers, Given, IsBody, IsWordBody, Kind, Known, Left, Next, Outcome, Place, ReadsNumber, Reason, Refusal, Refused, Scan, TokenKind, acts, answered, blob_ends, blob_of, debt, feed, follow, id_of, is_idle, is_step_reason, kind_named, null_of, run, unkept}
+use Rattle.ion_tokens.specs.Names.{Action, Answers, Given, IsBody, IsWordBody, Kind, Known, Left, Next, Outcome, Place, ReadsNumber, Reason, Refusal, Refused, Scan, TokenKind, acts, answered, blob_of, debt, feed, follow, id_of, is_idle, is_step_reason, kind_named, null_of, run, unkept}
 use Rattle.ion_tokens.specs.machine.Table.{next}
 use Rattle.ion_tokens.proofs.bounds.Fits.{Fits, is_octet_reason, table_fits}
 use Rattle.ion_tokens.proofs.runs.Runs.{blob_both}

@@ -2,7 +2,7 @@
 use Rattle.std.proofs.Common.{◌≡◌, ℕ, ◌+◌, ◌-◌, ◌≤◌, ◌<◌, Bool, List, [], ◌∷◌, length, ap, arith, IfOk, IfSome, Result, Ok, Err, Option, Some, None}
 use Rattle.std.specs.Prelude.{◌==◌, ◌&&◌, ◌||◌, not, bytes_eq, codes}
 use Rattle.std.proofs.lemmas.Bool.{cond_both}
-use Rattle.ion_tokens.specs.Names.{Action, Answers, Given, Known, Left, Next, Outcome, Place, Refusal, Refused, Scan, Token, acts, answered, blob_ends, blob_of, debt, feed, follow, is_idle, run, taken_up, unkept}
+use Rattle.ion_tokens.specs.Names.{Action, Answers, Given, Known, Left, Next, Outcome, Place, Refusal, Refused, Scan, Token, acts, answered, blob_of, debt, feed, follow, is_idle, run, taken_up, unkept}
 use Rattle.ion_tokens.specs.machine.Table.{next}
 use Rattle.ion_tokens.proofs.bounds.Fits.{Fits, added, is_fresh, is_nothing, table_fits}
 use Rattle.ion_tokens.proofs.bounds.Steady.{ended_well, le_of, les_of, went_well}

@@ -1,7 +1,6 @@
 -- Each token is read as it is spelled.
-use Rattle.std.proofs.Common.{◌≡◌, ℕ, Bool, List, [], ◌∷◌, ◌++◌, sym, subst}
-use Rattle.std.specs.Prelude.{codes}
-use Rattle.ion_tokens.specs.Names.{IsLexeme, Place, TokenKind, mark_spelling}
+use Rattle.std.proofs.Common.{◌≡◌, ℕ, Bool, List, sym, subst}
+use Rattle.ion_tokens.specs.Names.{IsLexeme, Place, TokenKind}
 use Rattle.ion_tokens.proofs.complete.Moves.{Takes}
 use Rattle.ion_tokens.proofs.complete.TakesLobs.{takes_blob, takes_clob}
 use Rattle.ion_tokens.proofs.complete.TakesOperators.{takes_operator}

@@ -7,7 +7,7 @@ use Rattle.base64.specs.Engines.{standard}
 use Rattle.base64.specs.GeneralPurpose.{decode_of, decoded_of}
 use Rattle.std.specs.Result.{result_ok}
 use Rattle.base64.proofs.EngineFacts.{decode_of-encode_of}
-use Rattle.ion_tokens.specs.Names.{Action, BeginsSegment, Each, IsBase64, IsBlobContent, IsClobContent, IsQuoted, IsSegment, Keep, Lob, LongTexts, Mode, Place, Segment, ShortText, Style, TokenKind, Within, blob_ends, blob_of, follow, in_text, is_base64, is_name, is_white, kept_after, lob_start, run, segment_spelling}
+use Rattle.ion_tokens.specs.Names.{Action, BeginsSegment, Each, IsBase64, IsBlobContent, IsClobContent, IsQuoted, IsSegment, Keep, Lob, LongTexts, Mode, Place, Segment, ShortText, Style, TokenKind, Within, blob_ends, blob_of, follow, in_text, is_base64, is_name, is_white, lob_start, run, segment_spelling}
 use Rattle.ion_tokens.specs.laws.Blobs.{octet_at}
 use Rattle.ion_tokens.proofs.complete.Moves.{Moves, Opens, Takes, at, moves_none, moves_one, moves_past, moves_then, moves_to, opens_then, takes_now}
 use Rattle.ion_tokens.proofs.complete.TakesTexts.{drops_two, long_quotes}

@@ -5,7 +5,7 @@ use Rattle.std.proofs.lemmas.Bool.{and_parts, eqb-false, eqb-true, false≢true,
 use Rattle.std.proofs.lemmas.Bool.Decides.{nat_tests}
 use Rattle.ion_tokens.specs.Names.{Action, Each, Ending, IsOperator, Keep, Left, Mode, Next, Place, TokenKind, acts, begins, begins_comment, begins_infinity, comment_within, follow, in_blank, in_infinity, in_operator, in_operator_slash, in_slash, is_digit, is_operator_octet, is_plain_operator, is_sexp, is_word_octet, past, run, run_ending}
 use Rattle.ion_tokens.specs.Lexemes.{ends}
-use Rattle.ion_tokens.proofs.complete.Moves.{AtEnd, Later, Moves, Now, Open, Opens, Resumes, Takes, at, blank, moves_none, moves_one, moves_then, moves_to, opens_one, opens_then, takes_end, takes_left}
+use Rattle.ion_tokens.proofs.complete.Moves.{AtEnd, Later, Moves, Open, Opens, Resumes, Takes, at, blank, moves_none, moves_one, moves_then, moves_to, opens_one, opens_then, takes_end, takes_left}
 use Rattle.ion_tokens.proofs.complete.TakesWords.{takes_before_slash}
 use Rattle.ion_tokens.proofs.texts.TextsComplete.{bool_cases, eq_or}
 

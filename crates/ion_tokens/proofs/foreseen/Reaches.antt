@@ -1,9 +1,9 @@
 -- A token that has begun goes on from where it began, at least over the octets that are part of a token.
-use Rattle.std.proofs.Common.{◌≡◌, ℕ, ◌+◌, ◌≤◌, ◌⊎◌, inl, inr, Bool, true, false, List, [], ◌∷◌, refl, ap, ◌∙◌, arith, Option, Some, None}
+use Rattle.std.proofs.Common.{◌≡◌, ℕ, ◌+◌, ◌≤◌, ◌⊎◌, inl, inr, Bool, true, false, List, [], ◌∷◌, refl, ap, ◌∙◌, arith}
 use Rattle.std.specs.Prelude.{◌==◌, ◌&&◌, not, nat_le, bytes_eq, codes}
 use Rattle.std.proofs.lemmas.Bool.Decides.{nat_tests}
 use Rattle.std.proofs.lemmas.Bool.{cond_both, leb-true}
-use Rattle.ion_tokens.specs.Names.{Action, Given, Known, Left, Mode, Next, Outcome, Place, Refused, TokenKind, acts, behind, blob_ends, blob_of, feed, follow, is_idle, left_of, run, start_of}
+use Rattle.ion_tokens.specs.Names.{Action, Given, Known, Left, Mode, Next, Outcome, Place, Refused, TokenKind, acts, behind, blob_of, feed, follow, is_idle, left_of, run, start_of}
 use Rattle.ion_tokens.specs.machine.Table.{next}
 use Rattle.ion_tokens.specs.laws.ByRows.{by_rows_where}
 use Rattle.ion_tokens.proofs.runs.Runs.{blob_both}

@@ -1,7 +1,7 @@
 -- Where a token begins that is open behind the next octet.
 use Rattle.std.proofs.Common.{◌≡◌, ℕ, Bool, true, false, cond, List, [], ◌∷◌, ◌++◌, refl, sym, ap, ◌∙◌, subst}
-use Rattle.std.specs.Prelude.{◌==◌, ◌&&◌, bytes_eq, codes, Option, Some, None}
-use Rattle.ion_tokens.specs.Names.{Action, Begun, Covers, Given, IsNext, Known, Left, Lexeme, Lexes, LooksIn, Next, Outcome, Place, Placed, Refused, Scanned, ShowsBegun, acts, blob_ends, blob_of, feed, is_idle, start_of}
+use Rattle.std.specs.Prelude.{Option, Some, None}
+use Rattle.ion_tokens.specs.Names.{Begun, Covers, Given, IsNext, Known, Left, Lexeme, Lexes, LooksIn, Next, Outcome, Place, Placed, Refused, Scanned, ShowsBegun, feed, is_idle, start_of}
 use Rattle.ion_tokens.proofs.foreseen.Begins.{begun_right}
 use Rattle.ion_tokens.proofs.foreseen.Foresights.{Spans, feed_span, from, next_given, next_left, ran}
 use Rattle.ion_tokens.proofs.foreseen.OneBegun.{one_begun}

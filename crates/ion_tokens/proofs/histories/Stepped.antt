@@ -1,7 +1,6 @@
 -- What the calls of the scanner say of the octets so far and the tokens told.
 use Rattle.std.proofs.Common.{◌≡◌, ◌≢◌, ℕ, ◌+◌, ◌≤◌, inl, inr, Bool, true, false, List, [], ◌∷◌, ◌++◌, length, take, drop, refl, sym, ap, ◌∙◌, subst, arith, append_assoc, append-nil, length-append}
 use Rattle.std.specs.Prelude.{Option, Some, None, Result, Ok, Err}
-use Rattle.std.specs.List.{AllByRecursion}
 use Rattle.std.proofs.Math.Seq.{drop-append_seam, take-append_seam}
 use Rattle.ion_tokens.specs.Names.{AllPass, AllSay, Answers, AreOctets, BeginsLexed, Continues, EndsSo, Gave, Given, GivesToken, GoesWith, IsAhead, IsBody, IsNext, IsToken, Known, Leaved, Left, Lexeme, Lexes, LexesTo, Next, NoDocument, NoEnd, Outcome, Passes, Place, Placed, Reason, Refusal, Refused, Scanned, Stands, Stepped, Tells, Token, at_end, deciding, initial, run}
 use Rattle.ion_tokens.specs.machine.Steps.{Ends}

@@ -1,6 +1,6 @@
 -- How much of its piece a step used, and where it refused.
 use Rattle.std.proofs.Common.{◌≡◌, ℕ, Bool, ◌≤◌, ◌≢◌, ap, arith, IfOk, IfErr, None, Result, Ok, Err, Option, Some}
-use Rattle.ion_tokens.specs.Names.{Answers, Given, GivesToken, IsWithin, Known, Left, Lexeme, Memory, Next, Outcome, Refusal, Refused, Scan, Token, answered}
+use Rattle.ion_tokens.specs.Names.{Answers, GivesToken, IsWithin, Known, Lexeme, Memory, Next, Outcome, Refusal, Refused, Scan, Token, answered}
 use Rattle.ion_tokens.proofs.runs.Runs.{Between}
 
 -- a step that answers `Ok` uses no more octets than its piece has

@@ -6,7 +6,7 @@ use Rattle.std.proofs.lemmas.Bool.{cases_order}
 use Rattle.std.proofs.lemmas.Bool.Decides.{nat_tests}
 use Rattle.std.proofs.lemmas.List.{get_or-drop}
 use Rattle.std.proofs.lemmas.List.Folds.{length-prefix_len}
-use Rattle.std.proofs.lemmas.List.Sums.{prefix_len_passes, prefix_len_is, prefix_len-le-length}
+use Rattle.std.proofs.lemmas.List.Sums.{prefix_len_passes, prefix_len_is}
 use Rattle.ion_tokens.specs.Names.{BeginsWithMinus, IsFound, Number, Place, ReadsNumber, Rest, TokenKind, is_digit, is_name, is_numeric, is_stop, minus, slash}
 use Rattle.ion_scalar.specs.text.laws.PlainNumerals.{IsPlainDigit, PlainNumeral, numeral_reads}
 use Rattle.ion_tokens.proofs.runs.WholeTokens.{front_length, front_within, number_found}

@@ -1,8 +1,8 @@
 -- What one octet does to a run.
-use Rattle.std.proofs.Common.{◌≡◌, ℕ, ◌+◌, ◌<◌, ◌≤◌, refl, subst, arith, Bool, true, false, cond, List, [], ◌∷◌, length, drop, get_or, sym, ap, suc, drop-cons, add-one, Option}
+use Rattle.std.proofs.Common.{◌≡◌, ℕ, ◌+◌, ◌<◌, ◌≤◌, refl, subst, arith, List, [], ◌∷◌, length, drop, get_or, sym, ap, suc, drop-cons, add-one, Option}
 use Rattle.std.specs.Prelude.{◌==◌, ◌&&◌, bytes_eq, codes, Some, None}
 use Rattle.std.proofs.lemmas.Bool.{cond_both}
-use Rattle.ion_tokens.specs.Names.{Action, Given, Known, Left, Lexeme, Lob, Mode, Next, Outcome, Place, Reason, Refused, TokenKind, acts, blob_ends, blob_of, cut, feed, follow, go_to, past, run}
+use Rattle.ion_tokens.specs.Names.{Action, Given, Known, Left, Lexeme, Lob, Mode, Next, Outcome, Place, Reason, Refused, acts, blob_ends, blob_of, feed, follow, go_to, run}
 use Rattle.ion_tokens.specs.machine.Table.{next}
 
 -- one more octet of the piece

@@ -1,9 +1,7 @@
 -- What one octet makes of what a scanner stands for. Crates above cite these names.
-use Rattle.std.proofs.Common.{◌≡◌, ℕ, ◌+◌, List, [], ◌∷◌, ◌++◌, length, refl, sym, ap, ◌∙◌, subst, arith, append_assoc, append-nil, length-append, inl, inr}
-use Rattle.ion_tokens.specs.Names.{Continues, Gave, Given, IsAhead, Known, Leaved, Left, Lexeme, Next, Outcome, Passes, Place, Placed, Scanned, Stands, feed, follow, run}
-use Rattle.ion_tokens.proofs.complete.Wholes.{run_behind}
+use Rattle.std.proofs.Common.{◌≡◌, ℕ, ◌+◌, List, [], ◌∷◌, ◌++◌, length, sym, ap, subst, arith, append-nil, length-append}
+use Rattle.ion_tokens.specs.Names.{Continues, Gave, Given, Known, Leaved, Left, Lexeme, Next, Outcome, Passes, Place, Placed, Scanned, Stands, feed, follow, run}
 use Rattle.ion_tokens.proofs.histories.Stepped.{behind_since, from_left, goes_on, since_used, told_more}
-use Rattle.ion_tokens.proofs.runs.Runs.{next_used}
 use Rattle.ion_tokens.proofs.runs.Splits.{given_one, left_one}
 
 -- a token, and the place that it was looked for in

@@ -9,7 +9,7 @@ use Rattle.ion_tokens.proofs.sound.Holds.{Holds, IsTold, blank_behind}
 use Rattle.ion_tokens.proofs.sound.Sounds.{RunSound, run_sound}
 
 -- one token more
-lexes_more : (ts : List Placed) (colon : Bool) (before : ℕ) (octets : List ℕ) (after : Bool) (end : ℕ) (rest : List ℕ) (t : Placed) (r : List ℕ)
+pub lexes_more : (ts : List Placed) (colon : Bool) (before : ℕ) (octets : List ℕ) (after : Bool) (end : ℕ) (rest : List ℕ) (t : Placed) (r : List ℕ)
     → LexesTo colon before octets ts after end rest → BeginsWith after end rest t r
     → LexesTo colon before octets (ts ++ t ∷ []) (colon_behind t) t.lexeme.end r
 lexes_more [] colon before octets after end rest t r (c, b, o) h = (

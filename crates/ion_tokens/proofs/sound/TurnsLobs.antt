@@ -1,7 +1,7 @@
 -- What an octet says of an open lob.
-use Rattle.std.proofs.Common.{◌≡◌, ◌≢◌, ℕ, Bool, true, false, List, [], ◌∷◌, ◌++◌, refl, sym, ap, ◌∙◌, subst, arith, append_assoc, append-nil, cond}
+use Rattle.std.proofs.Common.{◌≡◌, ℕ, Bool, true, false, List, [], ◌∷◌, ◌++◌, refl, sym, ap, ◌∙◌, subst, arith, append_assoc, append-nil, cond}
 use Rattle.std.specs.Prelude.{◌==◌, ◌||◌, not, codes}
-use Rattle.std.specs.List.{flat_map, AllByRecursion}
+use Rattle.std.specs.List.{flat_map}
 use Rattle.std.proofs.lemmas.Bool.Decides.{nat_tests}
 use Rattle.std.proofs.lemmas.Bool.{cond_both, eqb-true, or_right}
 use Rattle.ion_tokens.specs.Names.{Action, Each, IsSegment, Lob, LongTexts, Mode, Place, Segment, ShortText, Style, Within, in_blob, in_lob, is_base64, is_name, is_white, segment_spelling}

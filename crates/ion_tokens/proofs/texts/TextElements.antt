@@ -1,11 +1,11 @@
 -- Each element of a quoted text is read as what it means, in each style.
-use Rattle.std.proofs.Common.{◌≡◌, ◌≢◌, ℕ, ◌+◌, ◌-◌, ◌*◌, ◌%◌, ◌<◌, ◌≤◌, ◌⊎◌, inl, inr, ⊎_elim, Bool, true, false, List, [], ◌∷◌, ◌++◌, length, refl, sym, ap, ◌∙◌, subst, arith, append_assoc, length-append, IsTrue, cond}
+use Rattle.std.proofs.Common.{◌≡◌, ◌≢◌, ℕ, ◌+◌, ◌-◌, ◌*◌, ◌%◌, ◌<◌, ◌≤◌, ◌⊎◌, inl, inr, ⊎_elim, Bool, true, false, List, [], ◌∷◌, ◌++◌, length, refl, sym, ap, ◌∙◌, subst, arith, append_assoc, IsTrue, cond}
 use Rattle.std.specs.Prelude.{Some}
 use Rattle.std.specs.Char.{IsScalar}
 use Rattle.std.proofs.lemmas.Bool.Decides.{nat_tests}
 use Rattle.std.proofs.lemmas.Bool.{false_from_ne_true}
 use lib.Utf8.{encode, scalar, scalar_cases}
-use Rattle.ion_tokens.specs.Names.{Action, LeadsOn, Digits, Hex, IsElement, IsHexAfter, Keep, Known, Mode, Pair, Place, Style, Within, acts, after_digits, follow, grow, hex_length, hexadecimal_digit, in_escape, in_text, is_clob, kept_after, meaning, quote_of, raw, run}
+use Rattle.ion_tokens.specs.Names.{Action, LeadsOn, Digits, Hex, IsElement, IsHexAfter, Keep, Mode, Pair, Place, Style, Within, after_digits, grow, hex_length, in_escape, in_text, is_clob, kept_after, meaning, quote_of, raw}
 use Rattle.ion_tokens.proofs.texts.Encodings as law
 use Rattle.ion_tokens.proofs.texts.Encodings.{Encoding, four_octets, one_octet, order, three_octets, two_octets}
 use Rattle.ion_tokens.proofs.texts.TextSteps.{Admits, Caps, StandsRaw, after_high, after_low, after_unit, as_raw, caps_grow, char_is, exact, in_digit, last_digit, least_four, least_three, more_digits, most_four, most_three, quote_small, raw_four, raw_one, raw_three, raw_two, utf8_last, utf8_more}

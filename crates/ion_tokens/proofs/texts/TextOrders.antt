@@ -1,5 +1,5 @@
 -- Elements one behind the other: where a CR or raw quotes stand last.
-use Rattle.std.proofs.Common.{◌≡◌, ℕ, ◌+◌, ◌<◌, Bool, true, false, List, [], ◌∷◌, ◌++◌, refl, sym, ap, ◌∙◌, subst, arith, append_assoc, append-nil, cond}
+use Rattle.std.proofs.Common.{◌≡◌, ℕ, ◌+◌, ◌<◌, Bool, true, false, List, [], ◌∷◌, ◌++◌, refl, sym, ap, ◌∙◌, subst, arith, append_assoc, cond}
 use Rattle.std.specs.List.{flat_map, AllByRecursion}
 use Rattle.ion_tokens.specs.Names.{ClosesFirst, CrTakesLf, Element, IsElement, IsQuoted, Style, ends_in_cr, is_long, is_raw_lf, is_raw_quote, meaning, quotes, spelling}
 use Rattle.ion_tokens.specs.laws.Each.{all_last}

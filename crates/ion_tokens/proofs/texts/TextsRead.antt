@@ -1,16 +1,15 @@
 -- One octet more of a quoted text, in each state.
-use Rattle.std.proofs.Common.{◌≡◌, ◌≢◌, ℕ, zero, suc, ◌+◌, ◌-◌, ◌*◌, ◌%◌, ◌<◌, ◌≤◌, ◌⊎◌, inl, inr, ⊎_elim, Bool, true, false, List, [], ◌∷◌, ◌++◌, length, refl, sym, ap, ◌∙◌, subst, arith, append_assoc, append-nil, cond, length-append}
-use Rattle.std.specs.Prelude.{Option, Some, None, ◌==◌}
-use Rattle.std.specs.List.{flat_map, AllByRecursion}
-use Rattle.std.specs.Char.{IsScalar}
+use Rattle.std.proofs.Common.{◌≡◌, ◌≢◌, ℕ, zero, suc, ◌+◌, ◌-◌, ◌*◌, ◌%◌, ◌<◌, ◌≤◌, ◌⊎◌, inl, inr, ⊎_elim, Bool, true, false, List, [], ◌∷◌, ◌++◌, length, refl, sym, ap, ◌∙◌, subst, arith, append_assoc, cond, length-append}
+use Rattle.std.specs.Prelude.{Option, Some, None}
+use Rattle.std.specs.List.{flat_map}
 use Rattle.std.proofs.lemmas.Bool.{cond_both, false≢true, ne_eqb, not-true, true≢false}
 use Rattle.std.proofs.lemmas.Bool.Decides.{nat_tests}
 use lib.Utf8.{encode, scalar, scalar_cases}
-use Rattle.ion_tokens.specs.Names.{Action, Cr, CrLf, Digits, Element, Hex, Hidden, IsElement, IsHexAfter, IsQuoted, Keep, Lf, Mode, Pair, Raw, RawLine, Reason, Simple, Style, Within, after_digits, character, close_long, ends_in_cr, grow, hex_length, hexadecimal_digit, in_escape, in_text, in_utf8, is_clob, is_long, is_raw_lf, is_raw_quote, meaning, meant, quote_of, raw, spelling, with_digit}
+use Rattle.ion_tokens.specs.Names.{Action, Cr, CrLf, Digits, Element, Hex, Hidden, IsElement, IsHexAfter, Keep, Lf, Mode, Pair, Raw, RawLine, Reason, Simple, Style, Within, after_digits, character, close_long, ends_in_cr, grow, hex_length, hexadecimal_digit, in_escape, in_text, in_utf8, is_clob, is_long, is_raw_lf, is_raw_quote, meaning, meant, quote_of, raw, spelling, with_digit}
 use Rattle.ion_tokens.specs.Octets.{escaped}
 use Rattle.ion_tokens.proofs.texts.Encodings.{order}
 use Rattle.ion_tokens.proofs.texts.TextElements.{below_max}
-use Rattle.ion_tokens.proofs.texts.TextOrders.{Base, base_more, base_none, base_quote, base_quotes, last_is, last_is_last, quoted}
+use Rattle.ion_tokens.proofs.texts.TextOrders.{Base, base_more, base_none, base_quote, base_quotes, last_is, last_is_last}
 use Rattle.ion_tokens.proofs.texts.TextSteps.{Caps, after_high, after_low, as_raw, caps_grow, exact, letter_only, more_digits, quote_low, utf8_last, utf8_more, utf8_wrong}
 use Rattle.ion_tokens.proofs.texts.TextsComplete.{eq_or}
 use Rattle.ion_tokens.proofs.texts.TextsSound.{After, closed, EndsAfter, FitsBehind, HexPart, IsHigh, Leads, LeadsBehind, Part, Reads, SoFar, TextOnly, Whole, by_action, fits_raw, leads_over, one_element, part_only, raw_leads, rebase}

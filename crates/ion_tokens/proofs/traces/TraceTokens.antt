@@ -1,11 +1,10 @@
 -- A trace that ends well tells the tokens that the octets are.
-use Rattle.std.proofs.Common.{◌≡◌, ℕ, zero, suc, ◌+◌, ◌<◌, false, List, [], ◌∷◌, ◌++◌, refl, sym, ap, ◌∙◌, subst, arith, append_assoc, append-nil, length-append}
+use Rattle.std.proofs.Common.{◌≡◌, ℕ, zero, suc, ◌+◌, ◌<◌, false, List, [], ◌∷◌, ◌++◌, refl, sym, ap, ◌∙◌, subst, arith, append_assoc, append-nil}
 use Rattle.std.specs.Prelude.{Option, Some, None, Result, Ok, Err, option_to_list}
-use Rattle.ion_tokens.specs.Names.{Content, Continues, Gave, Given, IsBody, Known, Leads, Leaved, Left, Lexeme, Lexes, Next, Outcome, Passes, Place, Placed, Places, Reason, Refusal, Refused, Scanned, Stands, Stops, Told, Trail, at_end, comes, debt, end_judged, feed, follow, initial, judged, last_judged, over, run, said, says, takes, then_by, trace, traced}
+use Rattle.ion_tokens.specs.Names.{Content, Continues, Given, IsBody, Known, Leads, Left, Lexeme, Lexes, Next, Outcome, Passes, Place, Placed, Places, Reason, Refusal, Refused, Scanned, Stops, Told, Trail, at_end, comes, debt, end_judged, feed, initial, judged, last_judged, over, said, says, takes, then_by, trace, traced}
 use Rattle.ion_tokens.specs.laws.Judged.{body_passes}
 use Rattle.ion_tokens.specs.laws.Tokens.{AreTold, TellsLexeme}
-use Rattle.ion_tokens.proofs.histories.Stepped.{all_since, begun_scanned, behind_since, end_goes, from_left, goes_on, since_used, told_more}
-use Rattle.ion_tokens.proofs.runs.Splits.{given_one, left_one}
+use Rattle.ion_tokens.proofs.histories.Stepped.{all_since, begun_scanned, end_goes}
 use Rattle.ion_tokens.proofs.sound.Told.{ends_in_token}
 use Rattle.ion_tokens.proofs.traces.Traced.{debt_small, left_owes}
 use Rattle.ion_tokens.proofs.runs.Scans.{scanned_given, scanned_left, scanned_next}

@@ -1,11 +1,9 @@
 -- The calls of a scanner answer what the trace says.
-use Rattle.std.proofs.Common.{◌≡◌, ℕ, zero, suc, ◌+◌, ◌<◌, ◌≤◌, Bool, true, false, List, [], ◌∷◌, ◌++◌, length, take, drop, refl, sym, ap, ◌∙◌, subst, arith, append_assoc, append-nil, length-append}
-use Rattle.std.specs.Prelude.{◌==◌, ◌&&◌, bytes_eq, codes, nat_lt, nat_le, Option, Some, None, Result, Ok, Err}
+use Rattle.std.proofs.Common.{◌≡◌, ℕ, zero, suc, ◌+◌, ◌<◌, ◌≤◌, List, [], ◌∷◌, ◌++◌, length, take, drop, refl, sym, ap, ◌∙◌, subst, arith, append_assoc, append-nil, length-append}
+use Rattle.std.specs.Prelude.{Option, Some, None, Result, Ok, Err}
 use Rattle.std.specs.List.{flat_map}
-use Rattle.std.proofs.lemmas.Bool.Decides.{nat_tests}
 use Rattle.std.proofs.Math.Seq.{drop-append_seam}
-use Rattle.std.proofs.lemmas.Bool.{cond_both}
-use Rattle.ion_tokens.specs.Names.{Action, Answers, AnswersTrace, Content, Continues, EndsTrace, Given, GivesToken, IsToken, IsTraced, Known, Leads, Left, Lexeme, Mode, Next, Outcome, Place, Places, Reason, Refusal, Refused, RefusesToken, Stepped, Stops, Token, Told, Trail, acts, at_end, blob_ends, blob_of, comes, debt, deciding, end_judged, feed, follow, initial, is_idle, judged, last_judged, last_of, left_by, over, over_pieces, run, said, says, takes, then_by, told_as, told_by, trace, traced, unkept}
+use Rattle.ion_tokens.specs.Names.{Answers, AnswersTrace, Content, Continues, EndsTrace, Given, GivesToken, IsToken, IsTraced, Known, Leads, Left, Lexeme, Mode, Next, Outcome, Place, Places, Reason, Refusal, Refused, RefusesToken, Stepped, Stops, Token, Told, Trail, at_end, comes, debt, deciding, end_judged, feed, follow, initial, judged, last_judged, last_of, left_by, over, over_pieces, run, said, says, takes, then_by, told_as, told_by, trace, traced}
 use Rattle.ion_tokens.specs.Bodies.{content}
 use Rattle.ion_tokens.specs.machine.Steps.{Ends}
 use Rattle.ion_tokens.specs.machine.Table.{next}
