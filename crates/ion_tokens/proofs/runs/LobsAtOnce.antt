@@ -159,7 +159,8 @@ segment_adds octets text rest kept kept' n w opens more shuts white leads =
     let cut : spelled ≡ take (n + 6 + w) octets =
     sym (take-append_seam spelled (drop w rest)) ∙ ap (λ l. take (length spelled) l) whole ∙ ap (λ (i : ℕ). take i octets) size in
     subst (λ l. AddsSegments l kept kept') cut
-    (λ l b p. (segment_leads p l Within.Plain (take n text) (take w rest) kept kept' b tt (led Style.LongClob (take n text) kept kept' leads p) (front_each is_white rest w white)).on)
+    (λ l b p. (segment_leads p l Within.Plain (take n text) (take w rest) kept kept' b tt (led Style.LongClob (take n text) kept kept' leads p)
+    (front_each is_white rest w white)).on)
 
 -- more segments behind some
 pub segments_then : (octets rest kept kept' kept'' : List ℕ) (at n : ℕ) → rest ≡ drop at octets → AddsSegments (take at octets) kept kept'

@@ -71,7 +71,8 @@ base_none s = record { each = tt; crs = tt; few = λ l. tt }
 -- one more element, which splits no CR LF and is no long text's quote, leaves a text that may go on
 pub base_more : (s : Style) (es : List Element) (e : Element) → Base s es → IsElement s e → (last_is ends_in_cr es ≡ true → is_raw_lf e ≡ false)
     → (is_long s ≡ true → is_raw_quote e ≡ false) → Base s (es ++ e ∷ [])
-base_more s es e b i lf quote = record { each = all_last (IsElement s) es e b.each i; crs = crs_more es e lf b.crs; few = λ l. few_more es e (quote l) (b.few l) }
+base_more s es e b i lf quote =
+    record { each = all_last (IsElement s) es e b.each i; crs = crs_more es e lf b.crs; few = λ l. few_more es e (quote l) (b.few l) }
 
 -- a raw quote of a long text, behind at most one
 pub base_quote : (s : Style) (es : List Element) → Base s es → is_long s ≡ true → IsElement s (Element.Raw 39) → last_is is_raw_quote es ≡ false
