@@ -4,7 +4,9 @@ use Rattle.std.proofs.Math.Bool.{and-true}
 use lib.Pointwise.{pointwise}
 use Rattle.ion_model.specs.Names.{Layer, Payload-F, Value, layer_same, out-Payload, same, symbol_same}
 use Rattle.ion_model.specs.ByKind.{payload_same}
+use Rattle.ion_model.specs.laws.Measures.{depths}
 use Rattle.ion_model.specs.laws.Same.{same-is}
+use Rattle.ion_model.specs.laws.Views.{views}
 
 -- one part alone can differ
 one_part : (b : Bool) → ((b && true) && true) ≡ b
@@ -15,7 +17,8 @@ one_null : (b c : Bool) → ((b && false) && c) ≡ false
 one_null true c = refl
 one_null false c = refl
 
-layer_is : (E : Value → Value → Bool) (a b : Layer) → layer_same E a b ≡ payload_same E a b
+-- one level of equivalence is that of the kinds
+pub layer_is : (E : Value → Value → Bool) (a b : Layer) → layer_same E a b ≡ payload_same E a b
 layer_is E (Payload-F.Null j) (Payload-F.Null k) = one_part _
 layer_is E (Payload-F.Null j) _ = one_null _ _
 layer_is E (Payload-F.Truth a) (Payload-F.Truth b) = one_part _
@@ -40,6 +43,9 @@ layer_is E (Payload-F.Sexp vs) (Payload-F.Sexp ws) = and-true _
 layer_is E (Payload-F.Sexp vs) (Payload-F.Null k) = one_null _ _
 layer_is E (Payload-F.Fields fs) (Payload-F.Null k) = one_null _ _
 layer_is E _ _ = refl
+
+-- one level of equivalence where kinds are known, and how deep it goes
+pub ruleset kinds = (views, layer_is, depths)
 
 -- Two values are equivalent where annotations agree, and payloads do by their kinds.
 pub same_by_kind : (v w : Value) → same v w

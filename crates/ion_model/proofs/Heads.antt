@@ -3,7 +3,16 @@ use Rattle.std.proofs.Common.{◌≡◌, Bool, true, false, ◌&&◌, Ordering, 
 use Rattle.std.specs.Cmp.Lexicographic.{slice_cmp}
 use Rattle.std.specs.Ordering.{ordering_then, on, then_cmp, nat_cmp, int_cmp, bool_cmp}
 use Rattle.ion_model.specs.Names.{Kind, Layer, Payload-F, Scalar, Value, decimal_cmp, field_cmp, fields, heads_cmp, items, layer_cmp, scalar, symbol_cmp, text_cmp, timestamp_cmp}
+use Rattle.ion_model.specs.laws.Views.{views}
 use Rattle.ion_atoms.specs.laws.Ties.{bool_is, nat_back, then_first, then_second}
+
+-- behind a tie nothing counts
+pub then_equal : (x : Ordering) → ordering_then x Equal ≡ x
+then_equal Equal = refl
+then_equal _ = refl
+
+-- one level of the order where kinds are known
+pub ruleset kinds = (views, then_equal)
 
 -- whether two payloads are of one kind, and neither is null
 abbrev pub alike : Layer → Layer → Bool

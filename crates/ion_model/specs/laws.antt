@@ -11,3 +11,4 @@ pub mod Same
 pub mod Equivalence
 pub mod PartingSteps
 pub mod PathsSame
+pub mod Views

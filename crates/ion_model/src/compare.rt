@@ -47,6 +47,7 @@ fn order_heads(a: &Payload, b: &Payload) -> Ordering
         .then(is_full(a).cmp(&is_full(b)))
 }
 
+#[tactic(auto, using(crate::proofs::Heads::kinds))]
 #[cycle(order)]
 pub(crate) fn order_payload(a: &Payload, b: &Payload) -> Ordering
     ensures { result ≡ layer_cmp order (out-Payload a.now) (out-Payload b.now) }

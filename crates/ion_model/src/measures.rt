@@ -24,6 +24,7 @@ impl Value {
     }
 }
 
+#[tactic(auto, using(crate::specs::laws::Measures::depths))]
 #[cycle(depth)]
 fn value_depth(value: &Value) -> u64
     ensures { result ≡ min (depth value.now) (2 ^ 64 - 1) }
@@ -59,6 +60,7 @@ fn fields_depth(fields: &[Field]) -> u64
     deepest
 }
 
+#[tactic(auto, using(crate::specs::laws::Measures::node_counts))]
 #[cycle(nodes)]
 fn value_nodes(value: &Value) -> u64
     ensures { result ≡ min (nodes value.now) (2 ^ 64 - 1) }

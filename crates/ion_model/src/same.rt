@@ -38,6 +38,7 @@ fn same_value(a: &Value, b: &Value) -> bool
     same_symbols(a.annotations.as_slice(), b.annotations.as_slice()) && same_payload(a, b)
 }
 
+#[tactic(auto, using(crate::proofs::ByKind::kinds))]
 #[cycle(same)]
 pub(crate) fn same_payload(a: &Value, b: &Value) -> bool
     ensures { result ≡ layer_same same (out-Payload a.now.payload) (out-Payload b.now.payload) }

@@ -44,6 +44,9 @@ depth-at-Sexp v vs e = depth-at v _ e ∙ ap layer_depth (views.outs-Sexp vs)
 pub depth-at-Fields : (v : Value) (fs : List Field) → v.payload ≡ payloads.Fields fs → depth v ≡ suc (greatest (map (λ f. depth f.value) fs))
 depth-at-Fields v fs e = depth-at v _ e ∙ ap layer_depth (views.outs-Fields fs)
 
+-- how deep values go that hold others
+pub ruleset depths = (depth-at-List, depth-at-Sexp, depth-at-Fields)
+
 -- a null without annotations is 0 deep
 pub depth-Null : (k : Kind) → depth (bare (payloads.Null k)) ≡ 0
 depth-Null k = depth-out (bare (payloads.Null k)) ∙ ap layer_depth (views.outs-Null k)
@@ -110,6 +113,9 @@ nodes-at-Sexp v vs e = nodes-at v _ _ e (views.outs-Sexp vs)
 pub nodes-at-Fields : (v : Value) (fs : List Field) → v.payload ≡ payloads.Fields fs
     → nodes v ≡ length v.annotations + suc (sum (map (λ f. suc (nodes f.value)) fs))
 nodes-at-Fields v fs e = nodes-at v _ _ e (views.outs-Fields fs)
+
+-- the nodes of values that hold others
+pub ruleset node_counts = (nodes-at-List, nodes-at-Sexp, nodes-at-Fields)
 
 -- the nodes of a value without annotations
 pub nodes-bare : (p : Payload) (d : Layer) → views.out-Payload p ≡ d → nodes (bare p) ≡ layer_nodes d
