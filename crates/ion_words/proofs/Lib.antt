@@ -2,4 +2,3 @@ mod Commands
 mod Found
 mod Names
 mod Numbers
-mod Rows

@@ -1,11 +1,9 @@
 -- What command lines over any names and numbers ask for.
-use Rattle.std.proofs.Common.{Bool, ◌≡◌, ◌≢◌, ◌∙◌, ◌++◌, ℕ, List, [], ◌∷◌, Option, Some, None, codes, refl, true, false, sym, ap, ap₂, is_some, ne_eqb}
+use Rattle.std.proofs.Common.{Bool, ◌≡◌, ◌≢◌, ℕ, List, [], ◌∷◌, Option, Some, None, codes, refl, true, false, sym, ap, ap₂, is_some, ne_eqb}
 use Rattle.std.specs.Prelude.{◌==◌, ◌&&◌, ◌||◌, ◌^◌, not, if◌then◌else◌, option_map, option_and_then, find, fold, unwrap_or}
 use Rattle.std.specs.Str.{bytes_eq}
 use Rattle.clap.specs.Lexer.{long_of, long_of_rest, short_of, short_of_rest, strip_byte}
-use Rattle.std.specs.Str.Parse.{digits_value, without_leading_plus}
 use Rattle.clap.specs.Kinds.{Kinds, or_else}
-use Rattle.clap.specs.ValueTests.{is_unsigned_in}
 use Rattle.clap.specs.declared.error.ErrorKind.TheVariants as kind
 use Rattle.clap.specs.Walk.{Held, Rule, Step, Waiting, Walk, after_step, answers_to, finished, idle, is_empty, nothing_held, option, plain_word, positional, settled, subcommand_met, walk_from, walked, word_met}
 use Rattle.clap.specs.Faults.{check_fault, defaults_fault, entered_fault, settle_fault, step_fault, walk_fault, word_fault}
@@ -14,14 +12,13 @@ use Rattle.clap.specs.Words.{Text}
 use Rattle.clap.proofs.OnLiterals.{clap_on_literals}
 use Rattle.clap.proofs.FaultLemmas.{stopped_fault}
 use Rattle.clap.proofs.WalkLemmas.{walk_stopped}
-use Rattle.ion_symtab.specs.declared.target.Target.{Target}
-use Rattle.ion_words.specs.Asked.{Asked, IsPlain, asked, asked_by, check, compare, convert, input_once, is_input, number_in, show, usual}
+use Rattle.ion_words.specs.Asked.{Asked, IsPlain, asked, asked_by, check, compare, input_once, is_input, usual}
 use Rattle.ion_words.specs.Program.{program}
 
 plain_octet : (x : ℕ) → x ≢ 45 → (x == 45) ≡ false
 plain_octet x plain = ne_eqb _ _ plain
 
-no_hyphen : (rest name : Text) → IsPlain name → bytes_eq name (45 ∷ rest) ≡ false
+pub no_hyphen : (rest name : Text) → IsPlain name → bytes_eq name (45 ∷ rest) ≡ false
 no_hyphen rest [] plain = refl
 no_hyphen rest (x ∷ name) plain = ap (λ b. b && bytes_eq name rest) (plain_octet x plain)
 
@@ -61,7 +58,7 @@ abbrev place : Held → Waiting → ℕ → Walk
 place held waiting position = record { held = held; waiting = waiting; position = position; is_trailing = false; stopped = None }
 
 -- a plain name is no flag, so it goes to what waits for it
-plain_step : (command : Text) (s : Shape) (held : Held) (waiting : Waiting) (position : ℕ) (name : Text) (words : List Text) → IsPlain name
+pub plain_step : (command : Text) (s : Shape) (held : Held) (waiting : Waiting) (position : ℕ) (name : Text) (words : List Text) → IsPlain name
     → asked_at command s [] (place held waiting position) (name ∷ words)
     ≡ (let met = plain_word s.rules waiting name held in asked_at command s (step_fault s position met.0 met.1)
     (after_step s.rules name (place held waiting position) met.0 met.1) words)
@@ -74,7 +71,7 @@ plain_step command s held waiting position name words plain =
 -- ---- the walk over the words of a command
 
 -- the command of this name, as the program holds it once it is built
-abbrev command_of : Text → Shape
+abbrev pub command_of : Text → Shape
 command_of name = unwrap_or (find (λ s. answers_to name (label_of s)) (built program).subs) program.top
 
 abbrev asked_in : Text → List Text → Option Asked
@@ -101,89 +98,37 @@ left_to command words =
     ap₂ asked_above (stopped_fault (built program).top (names_of (built program)) (walk_from nothing_held) (command, []) words)
     (sym (walk_stopped (built program).top.rules (names_of (built program)) (walk_from nothing_held) command [] words))
 
-in_check : (words : List Text) → asked (codes "check" ∷ words) ≡ asked_in (codes "check") words
+pub in_check : (words : List Text) → asked (codes "check" ∷ words) ≡ asked_in (codes "check") words
 unfolding clap_on_literals
 in_check words = left_to (codes "check") words
 
-in_show : (words : List Text) → asked (codes "show" ∷ words) ≡ asked_in (codes "show") words
+pub in_show : (words : List Text) → asked (codes "show" ∷ words) ≡ asked_in (codes "show") words
 unfolding clap_on_literals
 in_show words = left_to (codes "show") words
 
-in_convert : (words : List Text) → asked (codes "convert" ∷ words) ≡ asked_in (codes "convert") words
+pub in_convert : (words : List Text) → asked (codes "convert" ∷ words) ≡ asked_in (codes "convert") words
 unfolding clap_on_literals
 in_convert words = left_to (codes "convert") words
 
-in_compare : (words : List Text) → asked (codes "compare" ∷ words) ≡ asked_in (codes "compare") words
+pub in_compare : (words : List Text) → asked (codes "compare" ∷ words) ≡ asked_in (codes "compare") words
 unfolding clap_on_literals
 in_compare words = left_to (codes "compare") words
 
--- ---- the command lines
-
--- `check` and a plain name ask to check that document
-pub check_plain : (name : Text) → IsPlain name → asked (codes "check" ∷ name ∷ []) ≡ Some (usual (check name))
-unfolding clap_on_literals
-check_plain name plain = in_check (name ∷ []) ∙ plain_step (codes "check") (command_of (codes "check")) nothing_held idle 1 name [] plain
-
--- `show` and a plain name ask to show that document
-pub show_plain : (name : Text) → IsPlain name → asked (codes "show" ∷ name ∷ []) ≡ Some (usual (show name))
-unfolding clap_on_literals
-show_plain name plain = in_show (name ∷ []) ∙ plain_step (codes "show") (command_of (codes "show")) nothing_held idle 1 name [] plain
-
--- `convert`, a plain name and `--to text` ask to convert that document to text
-pub to_text_plain : (name : Text) → IsPlain name → asked (codes "convert" ∷ name ∷ codes "--to" ∷ codes "text" ∷ []) ≡ Some (usual (convert name Target.Text))
-unfolding clap_on_literals
-to_text_plain name plain = in_convert (name ∷ codes "--to" ∷ codes "text" ∷ [])
-    ∙ plain_step (codes "convert") (command_of (codes "convert")) nothing_held idle 1 name (codes "--to" ∷ codes "text" ∷ []) plain
-
--- `convert`, a plain name and `--to binary` ask to convert that document to binary
-pub to_binary_plain : (name : Text) → IsPlain name → asked (codes "convert" ∷ name ∷ codes "--to" ∷ codes "binary" ∷ [])
-    ≡ Some (usual (convert name Target.Binary))
-unfolding clap_on_literals
-to_binary_plain name plain = in_convert (name ∷ codes "--to" ∷ codes "binary" ∷ [])
-    ∙ plain_step (codes "convert") (command_of (codes "convert")) nothing_held idle 1 name (codes "--to" ∷ codes "binary" ∷ []) plain
+-- ---- what command lines come to
 
 -- what is held where a name was read for a place
-abbrev placed : Text → Text → Held
+abbrev pub placed : Text → Text → Held
 placed id name = record nothing_held { pending = Some (id, name ∷ []) }
 
 -- a name that isn't the standard input's leaves the other free
-compare_once : (left right : Text) → is_input right ≡ false → input_once (usual (compare left right)) ≡ Some (usual (compare left right))
+pub compare_once : (left right : Text) → is_input right ≡ false → input_once (usual (compare left right)) ≡ Some (usual (compare left right))
 compare_once left right e = ap (λ b. if (not ((b || false) && is_input left) && true) then Some (usual (compare left right)) else None) e
 
--- `compare` and two plain names ask to compare those documents
-pub compare_plain : (left right : Text) → IsPlain left → IsPlain right → asked (codes "compare" ∷ left ∷ right ∷ []) ≡ Some (usual (compare left right))
-unfolding clap_on_literals
-compare_plain left right plain right_plain = in_compare (left ∷ right ∷ []) ∙ plain_step (codes "compare") (command_of (codes "compare")) nothing_held idle 1
-    left (right ∷ []) plain
-    ∙ plain_step (codes "compare") (command_of (codes "compare")) (placed (codes "LEFT") left) idle 2 right [] right_plain
-    ∙ compare_once left right (no_hyphen [] right right_plain)
-
-abbrev with_catalog : Text → Text → Asked
+abbrev pub with_catalog : Text → Text → Asked
 with_catalog name catalog = record (usual (check name)) { catalog = Some catalog }
 
-catalog_once : (name catalog : Text) → is_input name ≡ false → input_once (with_catalog name catalog) ≡ Some (with_catalog name catalog)
+pub catalog_once : (name catalog : Text) → is_input name ≡ false → input_once (with_catalog name catalog) ≡ Some (with_catalog name catalog)
 catalog_once name catalog e = ap (λ b. if (not ((b || false) && is_input catalog) && true) then Some (with_catalog name catalog) else None) e
-
--- `check`, a plain name, `--catalog` and another ask to check the one with the other as catalog
-pub catalog_plain : (name catalog : Text) → IsPlain name → IsPlain catalog → asked (codes "check" ∷ name ∷ codes "--catalog" ∷ catalog ∷ [])
-    ≡ Some (with_catalog name catalog)
-unfolding clap_on_literals
-catalog_plain name catalog plain other_plain = in_check (name ∷ codes "--catalog" ∷ catalog ∷ [])
-    ∙ plain_step (codes "check") (command_of (codes "check")) nothing_held idle 1 name (codes "--catalog" ∷ catalog ∷ []) plain
-    ∙ plain_step (codes "check") (command_of (codes "check"))
-    (record (settled (command_of (codes "check")).rules (placed (codes "FILE") name)) { pending = Some (codes "catalog", []) }) (option (codes "catalog")) 2
-    catalog [] other_plain
-    ∙ catalog_once name catalog (no_hyphen [] name plain)
-
--- behind `--` any word is a name
-pub check_behind : (name : Text) → asked (codes "check" ∷ codes "--" ∷ name ∷ []) ≡ Some (usual (check name))
-unfolding clap_on_literals
-check_behind name = refl
-
--- `compare --` and any two words ask to compare those, unless both are the standard input
-pub compare_behind : (left right : Text) → asked (codes "compare" ∷ codes "--" ∷ left ∷ right ∷ []) ≡ input_once (usual (compare left right))
-unfolding clap_on_literals
-compare_behind left right = refl
 
 -- the limits that were given for `check a`
 abbrev within : Option (ℕ × ℕ) → Option Asked
@@ -198,24 +143,14 @@ abbrev judged : Bool → Option (ℕ × ℕ) → Option Asked
 judged fits limits =
     if is_empty (alone (alone (alone (alone (alone (if fits then [] else kind.ValueValidation ∷ [])))))) then within limits else None
 
-depth_given : (fits : Bool) (n : ℕ) → judged fits (option_and_then (λ depth. Some (depth, 2 ^ 24)) (if fits then Some n else None))
+-- a depth that is given
+pub depth_given : (fits : Bool) (n : ℕ) → judged fits (option_and_then (λ depth. Some (depth, 2 ^ 24)) (if fits then Some n else None))
     ≡ option_map (λ depth. record (usual (check (codes "a"))) { depth = depth }) (if fits then Some n else None)
 depth_given true n = refl
 depth_given false n = refl
 
-item_given : (fits : Bool) (n : ℕ) → judged fits (option_map (λ item. (64, item)) (if fits then Some n else None))
+-- and items of so many octets
+pub item_given : (fits : Bool) (n : ℕ) → judged fits (option_map (λ item. (64, item)) (if fits then Some n else None))
     ≡ option_map (λ item. record (usual (check (codes "a"))) { item = item }) (if fits then Some n else None)
 item_given true n = refl
 item_given false n = refl
-
--- `check a --depth=` and a text ask for that depth, if it is a number from 1 to 128
-pub depth_is : (text : Text) → asked (codes "check" ∷ codes "a" ∷ (codes "--depth=" ++ text) ∷ [])
-    ≡ option_map (λ depth. record (usual (check (codes "a"))) { depth = depth }) (number_in 128 text)
-unfolding clap_on_literals
-depth_is text = depth_given (is_unsigned_in 1 128 text) (digits_value 10 (without_leading_plus text))
-
--- `check a --item=` and a text ask for items of so many octets, if it is a number from 1 to 2^30
-pub item_is : (text : Text) → asked (codes "check" ∷ codes "a" ∷ (codes "--item=" ++ text) ∷ [])
-    ≡ option_map (λ item. record (usual (check (codes "a"))) { item = item }) (number_in (2 ^ 30) text)
-unfolding clap_on_literals
-item_is text = item_given (is_unsigned_in 1 (2 ^ 30) text) (digits_value 10 (without_leading_plus text))

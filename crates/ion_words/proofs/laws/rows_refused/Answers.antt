@@ -1,27 +1,30 @@
-use Rattle.ion_words.proofs.Rows.{no_command, no_name, one_name, names, no_target, other_target, target_of_check, unknown_option, option_twice, option_before, depth_0, depth_129, depth_below_0, no_depth, no_number, item_0, item_beyond, input_twice, input_and_catalog, help, help_of_check}
+use Rattle.std.proofs.Common.{refl}
+use Rattle.clap.proofs.OnLiterals.{clap_on_literals}
 use Rattle.ion_words.proofs.laws.rows_refused.Goals as goal
 
+-- by computation
 pub returns : goal.returns
+unfolding clap_on_literals
 returns c = record {
-  no_command = no_command;
-  no_name = no_name;
-  one_name = one_name;
-  names = names;
-  no_target = no_target;
-  other_target = other_target;
-  target_of_check = target_of_check;
-  unknown_option = unknown_option;
-  option_twice = option_twice;
-  option_before = option_before;
-  depth_0 = depth_0;
-  depth_129 = depth_129;
-  depth_below_0 = depth_below_0;
-  no_depth = no_depth;
-  no_number = no_number;
-  item_0 = item_0;
-  item_beyond = item_beyond;
-  input_twice = input_twice;
-  input_and_catalog = input_and_catalog;
-  help = help;
-  help_of_check = help_of_check;
+  no_command = refl;
+  no_name = refl;
+  one_name = refl;
+  names = refl;
+  no_target = refl;
+  other_target = refl;
+  target_of_check = refl;
+  unknown_option = refl;
+  option_twice = refl;
+  option_before = refl;
+  depth_0 = refl;
+  depth_129 = refl;
+  depth_below_0 = refl;
+  no_depth = refl;
+  no_number = refl;
+  item_0 = refl;
+  item_beyond = refl;
+  input_twice = refl;
+  input_and_catalog = refl;
+  help = refl;
+  help_of_check = refl;
 }
