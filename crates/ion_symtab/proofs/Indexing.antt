@@ -7,7 +7,8 @@ use Rattle.std.proofs.lemmas.Slice.Eq.{bytes_eq-Decides}
 use Rattle.std.proofs.lemmas.Option.{slice_get_within}
 use Rattle.ion_symtab.specs.Names.{Indexes, IsPlaceOf, Places, Table, find, newer, newest, newest_of, newest_place, otherwise, place_of}
 use Rattle.ion_symtab.specs.laws.Tables.{find_more}
-use Rattle.ion_symtab.proofs.Systems.{slice_get-append_left, slice_get-append_right}
+use Rattle.ion_symtab.specs.laws.Contexts.{slice_get-append_left}
+use Rattle.ion_symtab.proofs.Systems.{slice_get-append_right}
 
 newer_associates : (t : Table) (o : Option Table) (u : Table) → newer (Some t) (newer o (Some u)) ≡ newer (newer (Some t) o) (Some u)
 newer_associates t None u = refl

@@ -7,12 +7,7 @@ use Rattle.std.proofs.lemmas.Option.{slice_get-map, slice_get_read}
 use Rattle.std.proofs.lemmas.Bool.{cond-false, ne_eqb}
 use Rattle.ion_symtab.specs.Names.{Slot, local_slot, nine_system_slots, resolve, slot_symbol, symbol_at, system_slots}
 use Rattle.ion_symtab.specs.kept.Segments.{Indexes}
-
--- a place within the first of two lists has its item
-pub slice_get-append_left : {X : Type 0} (xs ys : List X) (i : ℕ) → i < length xs → slice_get (xs ++ ys) i ≡ slice_get xs i
-slice_get-append_left [] ys i h = absurd (omega arith)
-slice_get-append_left (x ∷ xs) ys zero h = refl
-slice_get-append_left (x ∷ xs) ys (suc i) h = slice_get-append_left xs ys i (omega arith)
+use Rattle.ion_symtab.specs.laws.Contexts.{slice_get-append_left}
 
 -- a place behind the first of two lists has an item of the second
 pub slice_get-append_right : {X : Type 0} (xs ys : List X) (i j : ℕ) → i ≡ length xs + j → slice_get (xs ++ ys) i ≡ slice_get ys j

@@ -1,7 +1,7 @@
 -- The texts of a context are UTF-8 behind a local symbol table where they were before it, where those of the catalog's tables are, and where the table is a
 -- value that is kept.
 use Rattle.std.proofs.Common.{◌≡◌, ℕ, zero, suc, ◌+◌, ◌-◌, ◌==◌, List, [], ◌∷◌, ◌++◌, length, map, take, replicate, Option, None, Some, Result, Ok, Err, codes, slice_get, refl, sym, subst}
-use Rattle.std.specs.Prelude.{nat_le}
+use Rattle.std.specs.Prelude.{IfOk, IfSome, nat_le}
 use Rattle.std.specs.Str.{IsUtf8, bytes_eq}
 use Rattle.ion_symtab.specs.Names.Below.{AreTexts, Field, IsKept, IsText, KeptFields, KeptItems, KeptPayload, Layer, Payload, Payload-F, Reason, Value, a_field, an_item, has_text, kept, kept_blob, kept_clob, kept_decimal, kept_fields, kept_int, kept_list, kept_null, kept_sexp, kept_string, kept_symbol, kept_timestamp, kept_truth, no_fields, no_items, values_of}
 use Rattle.ion_model.specs.declared.value.Payload.TheVariants as payloads
@@ -16,8 +16,7 @@ use Rattle.ion_symtab.specs.laws.Reasons.{either}
 abbrev pub AreTextSlots : List Slot → Type 0
 AreTextSlots [] = Unit {0}
 AreTextSlots (text t ∷ c) = IsUtf8 t × AreTextSlots c
-AreTextSlots (unknown ∷ c) = AreTextSlots c
-AreTextSlots (gap ∷ c) = AreTextSlots c
+AreTextSlots (_ ∷ c) = AreTextSlots c
 
 -- the texts of a catalog's tables are UTF-8
 abbrev pub AreTextTables : List Table → Type 0
@@ -26,8 +25,7 @@ AreTextTables (t ∷ ts) = AreTexts t.symbols × AreTextTables ts
 
 -- the texts of the context are UTF-8, if one is answered
 abbrev pub TextAnswer : Result (List Slot) Reason → Type 0
-TextAnswer (Ok c) = AreTextSlots c
-TextAnswer (Err reason) = Unit {0}
+TextAnswer r = IfOk r AreTextSlots
 
 -- 1. The parts of a value that is kept.
 
@@ -70,8 +68,7 @@ elements_layer (Payload-F.List vs) h = h
 elements_layer _ h = no_items
 
 abbrev KeptOption : Option Value → Type 0
-KeptOption None = Unit {0}
-KeptOption (Some v) = IsKept v
+KeptOption o = IfSome o IsKept
 
 elements_kept : (o : Option Value) → KeptOption o → KeptItems (elements o)
 elements_kept None h = no_items
@@ -83,8 +80,7 @@ values_kept name _ (a_field s v ms t h hs) =
     either KeptItems (has_text name s) _ _ (an_item v (values_of name ms) h (values_kept name ms hs)) (values_kept name ms hs)
 
 abbrev KeptAnswer : Result (Option Value) Reason → Type 0
-KeptAnswer (Ok o) = KeptOption o
-KeptAnswer (Err reason) = Unit {0}
+KeptAnswer r = IfOk r KeptOption
 
 one_kept : (vs : List Value) → KeptItems vs → KeptAnswer (at_most_one vs)
 one_kept _ (an_item v _ h no_items) = h
@@ -116,8 +112,7 @@ resolved_text c id s h e = either (λ r. r ≡ Ok s → IsText s) (id == 0) _ _ 
 slots_both : (c d : List Slot) → AreTextSlots c → AreTextSlots d → AreTextSlots (c ++ d)
 slots_both [] d h k = k
 slots_both (text t ∷ c) d h k = (h.0, slots_both c d h.1 k)
-slots_both (unknown ∷ c) d h k = slots_both c d h k
-slots_both (gap ∷ c) d h k = slots_both c d h k
+slots_both (_ ∷ c) d h k = slots_both c d h k
 
 slots_taken : (n : ℕ) (c : List Slot) → AreTextSlots c → AreTextSlots (take n c)
 slots_taken (suc n) (text t ∷ c) h = (h.0, slots_taken n c h.1)
@@ -171,8 +166,7 @@ joined_texts c more h k = either TextAnswer (nat_le (length c + length more) gre
 -- 4. Imports.
 
 abbrev FoundTexts : Option Table → Type 0
-FoundTexts None = Unit {0}
-FoundTexts (Some t) = AreTexts t.symbols
+FoundTexts o = IfSome o (λ t. AreTexts t.symbols)
 
 find_texts : (ts : List Table) (name : List ℕ) (version : ℕ) → AreTextTables ts → FoundTexts (find ts name version)
 find_texts [] name version h = tt
@@ -188,20 +182,14 @@ newest_texts (t ∷ ts) name h =
     let rest = newest_texts ts name h.1 in
     either FoundTexts (bytes_eq t.name name) _ _ (newer_texts t (newest ts name) h.0 rest) rest
 
-abbrev ImportTexts : Option Import → Type 0
-ImportTexts None = Unit {0}
-ImportTexts (Some i) = AreTexts i.table.symbols
-
 abbrev ImportAnswer : Result (Option Import) Reason → Type 0
-ImportAnswer (Ok o) = ImportTexts o
-ImportAnswer (Err reason) = Unit {0}
+ImportAnswer r = IfOk r (λ o. IfSome o (λ i. AreTexts i.table.symbols))
 
 chosen_texts : (o p : Option Table) (most : Option ℕ) → FoundTexts o → FoundTexts p → ImportAnswer (chosen o p most)
 chosen_texts (Some t) p None h k = h
 chosen_texts (Some t) p (Some count) h k = h
 chosen_texts None (Some t) (Some count) h k = k
-chosen_texts None (Some t) None h k = tt
-chosen_texts None None most h k = tt
+chosen_texts None _ _ h k = tt
 
 named_texts : (ts : List Table) (name : Option (List ℕ)) (version : ℕ) (most : Option ℕ) → AreTextTables ts → ImportAnswer (import_named ts name version most)
 named_texts ts None version most h = tt
@@ -228,15 +216,16 @@ added_texts c (Ok (Some i)) h k =
     (slots_taken i.count slots (shared_texts i.table.symbols k)) (gaps_texts (i.count - length slots)))
 added_texts c (Err reason) h k = tt
 
-then_slots : (r : Result (List Slot) Reason) (f : List Slot → Result (List Slot) Reason) → TextAnswer r → ((c : List Slot) → AreTextSlots c → TextAnswer (f c))
+-- what follows an answer of which so much is known
+then_so : {A : Type 0} (P : A → Type 0) (r : Result A Reason) (f : A → Result (List Slot) Reason) → IfOk r P → ((x : A) → P x → TextAnswer (f x))
     → TextAnswer (and_then r f)
-then_slots (Ok c) f h k = k c h
-then_slots (Err reason) f h k = tt
+then_so P (Ok x) f h k = k x h
+then_so P (Err reason) f h k = tt
 
 imported_texts : (ts : List Table) (vs : List Value) (c : List Slot) → AreTextTables ts → AreTextSlots c → TextAnswer (imported ts c vs)
 imported_texts ts [] c h k = k
 imported_texts ts (v ∷ vs) c h k =
-    then_slots (element_added ts c v) _ (added_texts c (element_import ts (views.out-Payload v.payload)) k (element_texts ts (views.out-Payload v.payload) h))
+    then_so AreTextSlots (element_added ts c v) _ (added_texts c (element_import ts (views.out-Payload v.payload)) k (element_texts ts (views.out-Payload v.payload) h))
     (λ d m. imported_texts ts vs d h m)
 
 -- 5. The context behind a table.
@@ -244,19 +233,14 @@ imported_texts ts (v ∷ vs) c h k =
 extended_texts : (ts : List Table) (c : List Slot) (imports symbols : Option Value) → AreTextTables ts → AreTextSlots c → KeptOption symbols
     → TextAnswer (extended ts c imports symbols)
 extended_texts ts c imports symbols h k m =
-    then_slots (imported ts c (elements imports)) _ (imported_texts ts (elements imports) c h k)
+    then_so AreTextSlots (imported ts c (elements imports)) _ (imported_texts ts (elements imports) c h k)
     (λ d n. joined_texts d (local_slots symbols) n (local_texts (map symbol_of (elements symbols))
     (symbols_texts (elements symbols) (elements_kept symbols m))))
 
-then_value : (r : Result (Option Value) Reason) (f : Option Value → Result (List Slot) Reason) → KeptAnswer r
-    → ((o : Option Value) → KeptOption o → TextAnswer (f o)) → TextAnswer (and_then r f)
-then_value (Ok o) f h k = k o h
-then_value (Err reason) f h k = tt
-
 fields_texts : (c : List Slot) (ms : List Field) (ts : List Table) → AreTextTables ts → AreTextSlots c → KeptFields ms → TextAnswer (next_fields c ms ts)
 fields_texts c ms ts h k m =
-    then_value (only (codes "imports") ms) _ (only_kept (codes "imports") ms m)
-    (λ imports i. then_value (only (codes "symbols") ms) _ (only_kept (codes "symbols") ms m) (λ symbols n.
+    then_so KeptOption (only (codes "imports") ms) _ (only_kept (codes "imports") ms m)
+    (λ imports i. then_so KeptOption (only (codes "symbols") ms) _ (only_kept (codes "symbols") ms m) (λ symbols n.
     extended_texts ts (base c imports) imports symbols h (either AreTextSlots (appends imports) _ _ k system_are_texts) n))
 
 layer_texts : (c : List Slot) (d : Layer) (ts : List Table) → AreTextTables ts → AreTextSlots c → KeptLayer d → TextAnswer (next_layer c d ts)

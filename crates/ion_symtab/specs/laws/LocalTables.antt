@@ -3,27 +3,30 @@ use Rattle.std.proofs.Common.{if◌then◌else◌, ◌≡◌, ◌↔◌, ◌⊎�
 use Rattle.std.specs.Prelude.{nat_le, replicate}
 use Rattle.std.specs.List.{flat_map}
 use Rattle.std.proofs.lemmas.List.{take_all}
-use Rattle.std.proofs.lemmas.Bool.{leb-true, leb-false, le-leb}
+use Rattle.std.proofs.lemmas.Bool.{cases_lt, cond_both, leb-true, le-leb}
 use Rattle.std.proofs.lemmas.List.Concat.{flat_map-cons}
 use Rattle.std.proofs.lemmas.Slice.Eq.{bytes_eq-Decides}
 use Rattle.ion_symtab.specs.Names.{Field, Import, Layer, Payload-F, Reason, Slot, Table, Value, and_then, appends, appends_in, at_most_one, base, chosen, count_of, cut_or_filled, element_added, element_import, elements, elements_in, extended, find, gap, greatest_id, import_added, import_named, import_of, import_slots, imported, joined, layer_symbol, local_slot, local_slots, newest, next, next_fields, next_layer, only, otherwise, out-Payload, shared_slot, symbol_of, system_slots, table_name, text, unknown, values_of, version_of}
 use Rattle.ion_symtab.specs.LocalTables.{EachGives, EachHasSlot, EachShared, HasElements, HasSlots, IsBase, MakesContext, NamedGives, StandsOnce, StructGives}
-use Rattle.ion_symtab.specs.laws.Contexts.{and_then_ok}
 
 -- answers that are the same answer the same
 ok_is : {A : Type 0} {x y : A} → ◌≡◌ {A = Result A Reason} (Ok x) (Ok y) → x ≡ y
 ok_is e = cc
 
+-- where one step behind another answers, the first had answered, too
+and_then_ok : {A B : Type 0} (r : Result A Reason) (f : A → Result B Reason) (y : B) → and_then r f ≡ Ok y → (x : A) × (r ≡ Ok x) × (f x ≡ Ok y)
+and_then_ok (Ok x) f y e = (x, refl, e)
+and_then_ok (Err reason) f y e = absurd cc
+
 -- fields that stand once
 
-stands : (name : List ℕ) (fields : List Field) (vs : List Value) (o : Option Value) → values_of name fields ≡ vs → at_most_one vs ≡ Ok o
-    → StandsOnce name fields o
-stands name fields [] o is e = subst (StandsOnce name fields) (ok_is e) is
-stands name fields (v ∷ []) o is e = subst (StandsOnce name fields) (ok_is e) is
-stands name fields (v ∷ w ∷ vs) o is e = absurd cc
-
 stands_once : (name : List ℕ) (fields : List Field) (o : Option Value) → only name fields ≡ Ok o → StandsOnce name fields o
-stands_once name fields o e = stands name fields (values_of name fields) o refl e
+stands_once name fields o = stands (values_of name fields) refl
+  where
+    stands : (vs : List Value) → values_of name fields ≡ vs → at_most_one vs ≡ Ok o → StandsOnce name fields o
+    stands (v ∷ w ∷ vs) is e = absurd cc
+    stands [] is e = subst (StandsOnce name fields) (ok_is e) is
+    stands (v ∷ []) is e = subst (StandsOnce name fields) (ok_is e) is
 
 only_once : (name : List ℕ) (fields : List Field) (o : Option Value) → StandsOnce name fields o → only name fields ≡ Ok o
 only_once name fields None h = ap at_most_one h
@@ -43,19 +46,17 @@ when_appends w e = ap (λ x. appends_in (Some x)) e ∙ (bytes_eq-Decides (codes
 
 base_is : (old : List Slot) (imports : Option Value) → IsBase old imports (base old imports)
 base_is old None = inr (λ h. h, refl)
-base_is old (Some v) = by (appends (Some v)) refl where
-  by : (b : Bool) → appends (Some v) ≡ b → IsBase old (Some v) (if appends (Some v) then old else system_slots)
-  by true e = inl (appends_when (out-Payload v.payload) e, ap (λ (b : Bool). if b then old else system_slots) e)
-  by false e = inr (λ h. (let t = when_appends (out-Payload v.payload) h in cc), ap (λ (b : Bool). if b then old else system_slots) e)
+base_is old (Some v) = cond_both (appends (Some v)) old system_slots (IsBase old (Some v))
+    (λ e. inl (appends_when (out-Payload v.payload) e, refl))
+    (λ e. inr (λ h. (let t = when_appends (out-Payload v.payload) h in cc), refl))
 
 is_base : (old : List Slot) (imports : Option Value) (b : List Slot) → IsBase old imports b → base old imports ≡ b
 is_base old None b (inl h) = absurd h.0
 is_base old None b (inr h) = sym h.1
-is_base old (Some v) b (inl h) = ap (λ (x : Bool). if x then old else system_slots) (when_appends (out-Payload v.payload) h.0) ∙ sym h.1
-is_base old (Some v) b (inr h) = by (appends (Some v)) refl where
-  by : (x : Bool) → appends (Some v) ≡ x → base old (Some v) ≡ b
-  by true e = absurd (h.0 (appends_when (out-Payload v.payload) e))
-  by false e = ap (λ (x : Bool). if x then old else system_slots) e ∙ sym h.1
+is_base old (Some v) b h = elim h [
+  | inl p ↦ ap (λ (x : Bool). if x then old else system_slots) (when_appends (out-Payload v.payload) p.0) ∙ sym p.1
+  | inr p ↦ cond_both (appends (Some v)) old system_slots (λ x. x ≡ b) (λ e. absurd (p.0 (appends_when (out-Payload v.payload) e))) (λ e. sym p.1)
+]
 
 -- elements
 
@@ -110,11 +111,12 @@ slots_are t count = record {
 }
 
 slots_only : (t : Table) (count : ℕ) (slots : List Slot) → HasSlots t count slots → import_slots (record { table = t; count = count }) ≡ slots
-slots_only t count slots h = ap (λ w. cut_or_filled count w) (shared_each t.symbols h.own h.each) ∙ by (nat_le count (length h.own)) refl where
-  by : (b : Bool) → nat_le count (length h.own) ≡ b → cut_or_filled count h.own ≡ slots
-  by true e = let few = leb-true count (length h.own) e in cut_off count h.own few ∙ sym (h.cut few)
-  by false e = let many : length h.own ≤ count = (let n = leb-false count (length h.own) e in omega (arith, n)) in
-      filled_up count h.own many ∙ sym (h.filled many)
+slots_only t count slots h =
+    let own = ap (λ w. cut_or_filled count w) (shared_each t.symbols h.own h.each) in
+    elim (cases_lt count (length h.own)) [
+      | inl few ↦ (let less : count ≤ length h.own = omega arith in own ∙ cut_off count h.own less ∙ sym (h.cut less))
+      | inr many ↦ own ∙ filled_up count h.own many ∙ sym (h.filled many)
+    ]
 
 -- what an import gives
 
@@ -213,14 +215,12 @@ gives_layer tables _ slots (inr (other, none)) = (None, refl, sym none)
 -- the slots with more behind them
 
 joined_from : (c more d : List Slot) → joined c more ≡ Ok d → (d ≡ c ++ more) × (length d ≤ greatest_id)
-joined_from c more d e = by (nat_le (length c + length more) greatest_id) refl e where
-  by : (b : Bool) → nat_le (length c + length more) greatest_id ≡ b → (if b then Ok (c ++ more) else Err Reason.TableTooLarge) ≡ Ok d → (d ≡ c ++ more)
-      × (length d ≤ greatest_id)
-  by true n f =
-      let s : c ++ more ≡ d = ok_is f in
-      let few = leb-true (length c + length more) greatest_id n in
-      (sym s, omega (arith, ap length s, length-append c more, few))
-  by false n f = absurd cc
+joined_from c more d = cond_both (nat_le (length c + length more) greatest_id) _ _ (λ (r : Result (List Slot) Reason). r ≡ Ok d
+    → (d ≡ c ++ more) × (length d ≤ greatest_id))
+    (λ n e.
+    let s : c ++ more ≡ d = ok_is e in
+    (sym s, omega (arith, ap length s, length-append c more, leb-true (length c + length more) greatest_id n)))
+    (λ n e. absurd cc)
 
 joined_of : (c more : List Slot) → length (c ++ more) ≤ greatest_id → joined c more ≡ Ok (c ++ more)
 joined_of c more few = ap (λ (b : Bool). if b then Ok (c ++ more) else Err Reason.TableTooLarge)

@@ -3,9 +3,10 @@ use Rattle.std.proofs.Common.{if◌then◌else◌, ◌≡◌, ℕ, zero, suc, �
 use Rattle.std.specs.List.{Contains}
 use Rattle.std.specs.Str.{bytes_eq}
 use Rattle.std.specs.Prelude.{nat_le}
-use Rattle.std.proofs.lemmas.Bool.{and_parts, and_from, eqb-true, eq-eqb}
+use Rattle.std.proofs.lemmas.Bool.{and_parts, and_from, cond_both, eqb-true, eq-eqb}
 use Rattle.std.proofs.lemmas.Slice.Eq.{bytes_eq-Decides}
 use Rattle.std.proofs.lemmas.List.Elements.{Contains-append_right, Contains-append_cases}
+use Rattle.ion_symtab.specs.laws.Reasons.{either}
 use Rattle.ion_symtab.specs.Names.{AreApart, Table, find, find_best, is_named, newer, newest, otherwise}
 
 contains_first : (t : Table) (ts : List Table) → Contains (t ∷ ts) t
@@ -27,29 +28,17 @@ is_named_by name version t n v = and_from _ _ ((bytes_eq-Decides t.name name).1 
 abbrev pub IsFound : List Table → List ℕ → ℕ → Table → Type 0
 IsFound ts name version t = Contains ts t × (t.name ≡ name) × (t.version ≡ version)
 
-found_first : (u : Table) (ts : List Table) (name : List ℕ) (version : ℕ) (t : Table) (b : Bool) → is_named name version u ≡ b →
-    (find ts name version ≡ Some t → IsFound ts name version t) → (if b then Some u else find ts name version) ≡ Some t → IsFound (u ∷ ts) name version t
-found_first u ts name version t true n rest e =
-    let s : u ≡ t = cc in
-    let m = named name version u n in
-    subst (IsFound (u ∷ ts) name version) s (contains_first u ts, m.0, m.1)
-found_first u ts name version t false n rest e =
-    let f = rest e in
-    (contains_later t u ts f.0, f.1, f.2)
-
 -- what is found is there, under the name and version asked for
 pub find_is : (ts : List Table) (name : List ℕ) (version : ℕ) (t : Table) → find ts name version ≡ Some t → IsFound ts name version t
-find_is [] name version t e = absurd (cc)
-find_is (u ∷ ts) name version t e = found_first u ts name version t (is_named name version u) refl (find_is ts name version t) e
-
-some_either : (b : Bool) (u : Table) (o : Option Table) → IsSome o → IsSome (if b then Some u else o)
-some_either true u o h = refl
-some_either false u o h = h
+find_is [] name version t = λ e. absurd cc
+find_is (u ∷ ts) name version t = cond_both (is_named name version u) _ _ (λ (o : Option Table). o ≡ Some t → IsFound (u ∷ ts) name version t)
+    (λ n e. let s : u ≡ t = cc in let m = named name version u n in subst (IsFound (u ∷ ts) name version) s (contains_first u ts, m.0, m.1))
+    (λ n e. let f = find_is ts name version t e in (contains_later t u ts f.0, f.1, f.2))
 
 find_at : (ts : List Table) (t : Table) (k : ℕ) → k < length ts → get_or ts k t ≡ t → IsSome (find ts t.name t.version)
 find_at [] t k h e = absurd (omega arith)
 find_at (u ∷ ts) t zero h e = rw (is_named_by t.name t.version u (ap (λ (x : Table). x.name) e) (ap (λ (x : Table). x.version) e))
-find_at (u ∷ ts) t (suc k) h e = some_either (is_named t.name t.version u) u (find ts t.name t.version) (find_at ts t k (omega arith) e)
+find_at (u ∷ ts) t (suc k) h e = either (λ (o : Option Table). IsSome o) (is_named t.name t.version u) _ _ refl (find_at ts t k (omega arith) e)
 
 -- what is there is found
 pub find_some : (ts : List Table) (t : Table) → Contains ts t → IsSome (find ts t.name t.version)
@@ -67,50 +56,37 @@ newer_right : (version : ℕ) (t : Table) (o : Option Table) → IsAtLeast versi
 newer_right version t None h = absurd h
 newer_right version t (Some u) h = grind arith
 
-newer_either : (version : ℕ) (b : Bool) (t : Table) (o : Option Table) → IsAtLeast version o → IsAtLeast version (if b then newer (Some t) o else o)
-newer_either version true t o h = newer_right version t o h
-newer_either version false t o h = h
-
 newest_at : (ts : List Table) (t : Table) (k : ℕ) → k < length ts → get_or ts k t ≡ t → IsAtLeast t.version (newest ts t.name)
 newest_at [] t k h e = absurd (omega arith)
 newest_at (u ∷ ts) t zero h e =
     let v : t.version ≡ u.version = ap (λ (x : Table). x.version) (sym e) in
     rw ((bytes_eq-Decides u.name t.name).1 (ap (λ (x : Table). x.name) e), v) (newer_left u (newest ts t.name))
-newest_at (u ∷ ts) t (suc k) h e = newer_either t.version (bytes_eq u.name t.name) u (newest ts t.name) (newest_at ts t k (omega arith) e)
+newest_at (u ∷ ts) t (suc k) h e =
+    let rest = newest_at ts t k (omega arith) e in
+    either (IsAtLeast t.version) (bytes_eq u.name t.name) _ _ (newer_right t.version u (newest ts t.name) rest) rest
 
 -- the newest table of a name has the greatest version
 pub newest_greatest : (ts : List Table) (t : Table) → Contains ts t → IsAtLeast t.version (newest ts t.name)
 newest_greatest ts t c = newest_at ts t c.0 c.1 c.2
 
-newer_if : (b : Bool) (t u x : Table) → (if b then Some t else Some u) ≡ Some x → (t ≡ x) ⊎ (Some u ≡ Some x)
-newer_if true t u x e = inl (cc)
-newer_if false t u x e = inr e
-
 newer_is : (t : Table) (o : Option Table) (x : Table) → newer (Some t) o ≡ Some x → (t ≡ x) ⊎ (o ≡ Some x)
-newer_is t None x e = inl (cc)
-newer_is t (Some u) x e = newer_if (nat_le u.version t.version) t u x e
+newer_is t None x = λ e. inl cc
+newer_is t (Some u) x = either (λ (o : Option Table). o ≡ Some x → (t ≡ x) ⊎ (Some u ≡ Some x)) (nat_le u.version t.version) _ _ (λ e. inl cc) (λ e. inr e)
 
 -- a table of a catalog that has the name asked for
 abbrev pub IsOfName : List Table → List ℕ → Table → Type 0
 IsOfName ts name t = Contains ts t × (t.name ≡ name)
 
-of_name_later : (u : Table) (ts : List Table) (name : List ℕ) (t : Table) → IsOfName ts name t → IsOfName (u ∷ ts) name t
-of_name_later u ts name t h = (contains_later t u ts h.0, h.1)
-
-newest_either : (u : Table) (ts : List Table) (name : List ℕ) (t : Table) → u.name ≡ name → (newest ts name ≡ Some t → IsOfName ts name t) →
-    (u ≡ t) ⊎ (newest ts name ≡ Some t) → IsOfName (u ∷ ts) name t
-newest_either u ts name t n rest (inl s) = subst (IsOfName (u ∷ ts) name) s (contains_first u ts, n)
-newest_either u ts name t n rest (inr e) = of_name_later u ts name t (rest e)
-
-newest_first : (u : Table) (ts : List Table) (name : List ℕ) (t : Table) (b : Bool) → bytes_eq u.name name ≡ b →
-    (newest ts name ≡ Some t → IsOfName ts name t) → (if b then newer (Some u) (newest ts name) else newest ts name) ≡ Some t → IsOfName (u ∷ ts) name t
-newest_first u ts name t true n rest e = newest_either u ts name t ((bytes_eq-Decides u.name name).0 n) rest (newer_is u _ t e)
-newest_first u ts name t false n rest e = of_name_later u ts name t (rest e)
-
 -- the newest table of a name is there, under that name
 pub newest_is : (ts : List Table) (name : List ℕ) (t : Table) → newest ts name ≡ Some t → IsOfName ts name t
-newest_is [] name t e = absurd (cc)
-newest_is (u ∷ ts) name t e = newest_first u ts name t (bytes_eq u.name name) refl (newest_is ts name t) e
+newest_is [] name t = λ e. absurd cc
+newest_is (u ∷ ts) name t =
+    let later : newest ts name ≡ Some t → IsOfName (u ∷ ts) name t = λ e. let h = newest_is ts name t e in (contains_later t u ts h.0, h.1) in
+    cond_both (bytes_eq u.name name) _ _ (λ (o : Option Table). o ≡ Some t → IsOfName (u ∷ ts) name t)
+    (λ n e. elim (newer_is u (newest ts name) t e) [
+      | inl s ↦ subst (IsOfName (u ∷ ts) name) s (contains_first u ts, (bytes_eq-Decides u.name name).0 n)
+      | inr f ↦ later f
+    ]) (λ n e. later e)
 
 -- ---- one table more
 
@@ -137,15 +113,12 @@ none_else : (o : Option Table) → otherwise o None ≡ o
 none_else None = refl
 none_else (Some t) = refl
 
-not_named : (b : Bool) (name : List ℕ) (version : ℕ) (t : Table) → is_named name version t ≡ b → ((t.name ≡ name) × (t.version ≡ version) → ⊥) → b ≡ false
-not_named true name version t is other = absurd (other (named name version t is))
-not_named false name version t is other = refl
-
 -- under another name or version nothing more is found
 pub find_others : (ts : List Table) (t : Table) (name : List ℕ) (version : ℕ) → ((t.name ≡ name) × (t.version ≡ version) → ⊥) → find (ts ++ t ∷ []) name version
     ≡ find ts name version
 find_others ts t name version other =
-    find_more ts t name version ∙ rw (not_named (is_named name version t) name version t refl other) (none_else (find ts name version))
+    find_more ts t name version ∙ cond_both (is_named name version t) _ _ (λ (o : Option Table). otherwise (find ts name version) o ≡ find ts name version)
+    (λ n. absurd (other (named name version t n))) (λ n. none_else (find ts name version))
 
 -- a table that is added, and wasn't there, is the one found best for its name and version
 pub best_added : (ts : List Table) (t : Table) → find ts t.name t.version ≡ None → find_best (ts ++ t ∷ []) t.name t.version ≡ Some t

@@ -38,8 +38,7 @@ module _ {S : Type 0} (took : S → Option (List ℕ)) (written : S → List ℕ
   pub Front-all : (old mid new : S) (octets : List ℕ) → Took took written old mid octets → Took took written mid new [] → TookFront took written old new octets
   Front-all old mid new octets all kept = record {
     count = length octets;
-    front =
-        subst (λ (x : List ℕ). Took took written old new x) (sym (take-length octets)) (Took-kept old mid new octets all kept);
+    front = subst (λ (x : List ℕ). Took took written old new x) (sym (take-length octets)) (Took-kept old mid new octets all kept);
   }
 
   -- a front is one of more octets too
