@@ -3,7 +3,7 @@ use Rattle.std.proofs.Common.{◌≡◌, ℕ, List, [], ◌∷◌, ◌++◌, Boo
 use Rattle.std.specs.Prelude.{if◌then◌else◌}
 use Rattle.std.proofs.lemmas.List.{append-nil}
 use Rattle.std.proofs.lemmas.Bool.{false≢true}
-use Rattle.ion_binary.specs.Names.{AreAround, AreOpen, BinaryWalk, Bracket, Container, Does, DoesAlone, Effect, Event, Fourth, Frame, Goes, Hears, Holds, HoldsNoWrapper, IsBehind, IsInside, IsNamedBy, IsPart, IsTop, Malformed, Mark, Outcome, Payload, Ready, Reason, Scalar, Slot, TableFilter, Value, Version, WasTold, anew, at, bare, container_of, deliver, events_of, goes, heard, is_named, judge, judged, machine_of, name, name_of, on_marker, open_containers, part, proceed, refuses, setting_of, spot_of, system_slots, told}
+use Rattle.ion_binary.specs.Names.{AreAround, AreOpen, BinaryWalk, Bracket, Container, Does, DoesAlone, Effect, Event, Fourth, Frame, Goes, Hears, Holds, HoldsNoWrapper, IsBehind, IsInside, IsNamedBy, IsPart, IsTop, Malformed, Mark, Outcome, Payload, Ready, Reason, Scalar, Slot, TableFilter, Tells, TellsAs, Value, Version, WasTold, anew, at, bare, container_of, deliver, events_of, goes, heard, is_named, judge, judged, machine_of, name, name_of, on_marker, open_containers, part, proceed, refuses, setting_of, spot_of, system_slots, told}
 use Rattle.ion_visiting.specs.Events.{opens}
 use Rattle.ion_visiting.specs.laws.Filters.{hears_both}
 use Rattle.ion_binary.specs.machine.Frames as frames
@@ -35,12 +35,8 @@ symbol_in t (Err e) = t
 
 module _ {V : Type 0} (takes : V → Event → V → Type 0) where
   pub value_named : (r : BinaryWalk) (g : TableFilter) (s : Option (List ℕ)) (a b : V) → is_named (open_containers r) ≡ true → name_of r ≡ Ok s
-      → ((es : List Event) → WasTold r.filter es → WasTold g (es ++ name s ∷ []) × Hears takes (heard es) (heard (es ++ name s ∷ [])) a b)
+      → Tells takes (name s) r.filter g a b
       → (fs : List Frame) → Holds r fs → AreAround fs → WasTold g (told_in fs) × Hears takes (heard (told fs)) (heard (told_in fs)) a b
-  value_named r g s a b some is tells [] h around = absurd (false≢true (sym (ap is_named h.containers) ∙ some))
-  value_named r g s a b some is tells (frames.Items end x vs ∷ fs) h around = absurd (false≢true (sym (ap is_named h.containers) ∙ some))
-  value_named r g s a b some is tells (frames.Fields end ms ∷ fs) h around = absurd (false≢true (sym (ap is_named h.containers) ∙ some))
-  value_named r g s a b some is tells (frames.Annotated end ss ∷ fs) h around = absurd (false≢true (sym (ap is_named h.containers) ∙ some))
   value_named r g s a b some is tells (frames.Named end ms (Err e) ∷ fs) h around = absurd around
   value_named r g s a b some is tells (frames.Named end ms (Ok t) ∷ fs) h around =
       let same : s ≡ t = ap (symbol_in t) (sym is ∙ sym h.named) in
@@ -49,6 +45,7 @@ module _ {V : Type 0} (takes : V → Event → V → Type 0) where
         subst (λ es. WasTold g es) all i.0,
         subst (λ es. Hears takes (heard (told (frames.Named end ms (Ok t) ∷ fs))) (heard es) a b) all i.1,
       )
+  value_named r g s a b some is tells _ h around = absurd (false≢true (sym (ap is_named h.containers) ∙ some))
 
 -- 3. Values and containers whose front was told.
 
@@ -56,7 +53,7 @@ module _ {V : Type 0} (takes : V → Event → V → Type 0) (r : BinaryWalk) (g
     (begun : WasTold g (told_in fs) × Hears takes (heard (told fs)) (heard (told_in fs)) a m) where
   -- a value with no value in it
   pub part_does : (mid new : BinaryWalk) (p : Payload) (o : Outcome) (result : Result Effect Reason) (n b : V) → IsPart p
-      → ((es : List Event) → WasTold g es → WasTold mid.filter (es ++ part p ∷ []) × Hears takes (heard es) (heard (es ++ part p ∷ [])) m n)
+      → Tells takes (part p) g mid.filter m n
       → open_containers mid ≡ open_containers r → o ≡ deliver (setting_of mid) (spot_of mid) fs (bare p)
       → ((fs : List Frame) (v : Value) → IsBehind mid fs v → Does takes (told_in fs ++ events_of v) (deliver (setting_of mid) (spot_of mid) fs v) result new n b)
       → Does takes (told fs) o result new a b
@@ -76,7 +73,7 @@ module _ {V : Type 0} (takes : V → Event → V → Type 0) (r : BinaryWalk) (g
 
   -- a container
   pub front_does : (mid new : BinaryWalk) (f : Frame) (x : Bracket) (o : Outcome) (result : Result Effect Reason) (n b : V)
-      → ((es : List Event) → WasTold g es → WasTold mid.filter (es ++ opens x ∷ []) × Hears takes (heard es) (heard (es ++ opens x ∷ [])) m n)
+      → Tells takes (opens x) g mid.filter m n
       → told (f ∷ fs) ≡ told_in fs ++ opens x ∷ [] → AreAround (f ∷ fs) → AreOpen (f ∷ fs) → IsNamedBy (name_of mid) (f ∷ fs) → IsInside mid.phase (f ∷ fs)
       → open_containers mid ≡ container_of f ∷ open_containers r
       → o ≡ proceed (setting_of mid) (spot_of mid) (f ∷ fs)
@@ -124,7 +121,7 @@ module _ {V : Type 0} (takes : V → Event → V → Type 0) (r s : BinaryWalk) 
     (ends : (fs : List Frame) (v : Value) → IsBehind (record s { filter = g }) fs v
     → Does takes (told_in fs ++ events_of v) (deliver (setting_of s) (spot_of s) fs v) result new n b) where
   pub whole_does : (p : Payload) → IsPart p
-      → ((es : List Event) → WasTold s.filter es → WasTold g (es ++ part p ∷ []) × Hears takes (heard es) (heard (es ++ part p ∷ [])) m n)
+      → Tells takes (part p) s.filter g m n
       → (fs : List Frame) → Holds r fs → AreAround fs → Does takes (told fs) (deliver (setting_of r) (spot_of r) fs (bare p)) result new a b
   whole_does p leaf tells fs h around =
       part_does takes r s.filter fs h around a m (begun fs h around) (record s { filter = g }) new p (deliver (setting_of r) (spot_of r) fs (bare p)) result n b leaf tells
@@ -132,9 +129,7 @@ module _ {V : Type 0} (takes : V → Event → V → Type 0) (r s : BinaryWalk) 
 
   -- a scalar
   pub scalar_does : (t : Scalar) (body : List ℕ)
-      → (p : Payload) × (judge s.context t body ≡ Ok p) × IsPart p
-      × ((es : List Event) → WasTold s.filter es → WasTold g (es ++ part p ∷ []) × Hears takes (heard es) (heard (es ++ part p ∷ [])) m n)
-      → (fs : List Frame) → Holds r fs → AreAround fs
+      → TellsAs takes (judge s.context t body) s.filter g m n → (fs : List Frame) → Holds r fs → AreAround fs
       → Does takes (told fs) (judged (setting_of r) (spot_of r) fs (judge r.context t body)) result new a b
   scalar_does t body said fs h around =
       does_same takes (told fs) (judged (setting_of r) (spot_of r) fs (judge r.context t body)) (deliver (setting_of r) (spot_of r) fs (bare said.0)) result new a b

@@ -7,6 +7,4 @@ use Rattle.ion_binary.specs.machine.Frames as frames
 pub levels_few : (fs : List Frame) → levels fs ≤ length fs
 levels_few [] = omega arith
 levels_few (frames.Items end x vs ∷ fs) = let h = levels_few fs in omega arith
-levels_few (frames.Fields end ms ∷ fs) = let h = levels_few fs in omega arith
-levels_few (frames.Named end ms name ∷ fs) = let h = levels_few fs in omega arith
-levels_few (frames.Annotated end ss ∷ fs) = let h = levels_few fs in omega arith
+levels_few (_ ∷ fs) = let h = levels_few fs in omega arith

@@ -17,10 +17,8 @@ shells_of r fs h = ap (map (shell (name_of r))) h.containers
 
 pub levels_same : (n : Name) (fs : List Frame) → levels (emptied n fs) ≡ levels fs
 levels_same n [] = refl
-levels_same n (frames.Items end x vs ∷ fs) = ap suc (levels_same n fs)
-levels_same n (frames.Fields end ms ∷ fs) = ap suc (levels_same n fs)
-levels_same n (frames.Named end ms m ∷ fs) = ap suc (levels_same n fs)
 levels_same n (frames.Annotated end ss ∷ fs) = levels_same n fs
+levels_same n (_ ∷ fs) = ap suc (levels_same n fs)
 
 -- the same of readers
 
@@ -34,19 +32,13 @@ deepens r fs may h is = ap (λ k. nat_lt k r.limits.depth) (sym (levels_of r fs 
 -- where a form may not stand: their shells tell
 
 stray_same : (n : Name) (fs : List Frame) (form : Form) → stray (emptied n fs) form ≡ stray fs form
-stray_same n [] form = refl
 stray_same n (frames.Items end x vs ∷ fs) form = refl
-stray_same n (frames.Fields end ms ∷ fs) form = refl
-stray_same n (frames.Named end ms m ∷ fs) form = refl
-stray_same n (frames.Annotated end ss ∷ fs) form = refl
+stray_same n _ form = refl
 
 misfits_same : (item start : ℕ) (n : Name) (fs : List Frame) (form : Form) (to : ℕ)
     → misfits item start (emptied n fs) form to ≡ misfits item start fs form to
-misfits_same item start n [] form to = refl
 misfits_same item start n (frames.Items end x vs ∷ fs) form to = refl
-misfits_same item start n (frames.Fields end ms ∷ fs) form to = refl
-misfits_same item start n (frames.Named end ms m ∷ fs) form to = refl
-misfits_same item start n (frames.Annotated end ss ∷ fs) form to = refl
+misfits_same item start n _ form to = refl
 
 nameless_by : (m : Name) (form : Form) (end : ℕ) (ms : List Field) (fs gs : List Frame)
     → nameless (frames.Named end [] m ∷ fs) form ≡ nameless (frames.Named end ms m ∷ gs) form
@@ -54,12 +46,9 @@ nameless_by (Ok s) form end ms fs gs = refl
 nameless_by (Err e) form end ms fs gs = refl
 
 nameless_same : (n : Name) (fs : List Frame) (form : Form) → IsNamedBy n fs → nameless (emptied n fs) form ≡ nameless fs form
-nameless_same n [] form h = refl
-nameless_same n (frames.Items end x vs ∷ fs) form h = refl
-nameless_same n (frames.Fields end ms ∷ fs) form h = refl
 nameless_same n (frames.Named end ms m ∷ fs) form h =
     ap (λ x. nameless (frames.Named end [] x ∷ emptied n fs) form) (sym h) ∙ nameless_by m form end ms (emptied n fs) fs
-nameless_same n (frames.Annotated end ss ∷ fs) form h = refl
+nameless_same n _ form h = refl
 
 unfit_same : (item start : ℕ) (n : Name) (fs : List Frame) (form : Form) (to : ℕ) → IsNamedBy n fs
     → unfit item start (emptied n fs) form to ≡ unfit item start fs form to
@@ -79,19 +68,13 @@ second_none (Some e) b h = absurd cc
 -- a value may begin where its form isn't refused
 around_open : (fs : List Frame) (form : Form) → AreOpen fs → is_pad form ≡ false → nameless fs form ≡ None → AreAround fs
 around_open [] form h plain named = tt
-around_open (frames.Items end x vs ∷ fs) form h plain named = h
-around_open (frames.Fields end ms ∷ fs) form h plain named = h
-around_open (frames.Named end ms (Ok s) ∷ fs) form h plain named = h
 around_open (frames.Named end ms (Err e) ∷ fs) form h plain named =
     let refused : Some e ≡ None = ap (λ b. if b then None else Some e) (sym plain) ∙ named in absurd cc
-around_open (frames.Annotated end ss ∷ fs) form h plain named = h
+around_open (_ ∷ fs) form h plain named = h
 
 unwrapped_open : (fs : List Frame) → stray fs Form.Wrapper ≡ None → HoldsNoWrapper fs
-unwrapped_open [] h = tt
-unwrapped_open (frames.Items end x vs ∷ fs) h = tt
-unwrapped_open (frames.Fields end ms ∷ fs) h = tt
-unwrapped_open (frames.Named end ms n ∷ fs) h = tt
 unwrapped_open (frames.Annotated end ss ∷ fs) h = absurd cc
+unwrapped_open _ h = tt
 
 begins_open : (fs : List Frame) (form : Form) → AreOpen fs → stray fs form ≡ None → nameless fs form ≡ None → MayBegin form fs
 begins_open fs Form.Pad h fits named = tt

@@ -22,10 +22,6 @@ module _ (r : BinaryWalk) (end : ℕ) (test : (r.used == end) ≡ false) where
   -- a list or an s-expression goes on
   pub items_stay : Some end ≡ items_end (open_containers r) → (fs : List Frame) (v : Value) → IsBehind r fs v
       → DoesAlone (told_in fs ++ events_of v) (deliver (setting_of r) (spot_of r) fs v) (Ok Goes) (record r { phase = Ready })
-  items_stay is [] v h = let e : Some end ≡ None = is ∙ ap items_end h.containers in absurd cc
-  items_stay is (frames.Fields to ms ∷ fs) v h = let e : Some end ≡ None = is ∙ ap items_end h.containers in absurd cc
-  items_stay is (frames.Named to ms n ∷ fs) v h = let e : Some end ≡ None = is ∙ ap items_end h.containers in absurd cc
-  items_stay is (frames.Annotated to ss ∷ fs) v h = let e : Some end ≡ None = is ∙ ap items_end h.containers in absurd cc
   items_stay is (frames.Items to x vs ∷ fs) v h =
       let e : Some end ≡ Some to = is ∙ ap items_end h.containers in
       let same : end ≡ to = cc in
@@ -44,6 +40,7 @@ module _ (r : BinaryWalk) (end : ℕ) (test : (r.used == end) ≡ false) where
         },
         ap heard (sym more),
       )
+  items_stay is _ v h = let e : Some end ≡ None = is ∙ ap items_end h.containers in absurd cc
 
   -- a struct goes on with the name of the next field
   module _ (mid : BinaryWalk) (kept : mid ≡ record r { frames = mid.frames })
@@ -51,10 +48,6 @@ module _ (r : BinaryWalk) (end : ℕ) (test : (r.used == end) ≡ false) where
     pub named_stay : Some end ≡ named_end (open_containers r) → (fs : List Frame) (v : Value) → IsBehind r fs v
         → DoesAlone (told_in fs ++ events_of v) (deliver (setting_of r) (spot_of r) fs v) (Ok Goes)
         (record mid { phase = InNumber Purpose.FieldName 0 })
-    named_stay is [] v h = let e : Some end ≡ None = is ∙ ap named_end h.containers in absurd cc
-    named_stay is (frames.Items to x vs ∷ fs) v h = let e : Some end ≡ None = is ∙ ap named_end h.containers in absurd cc
-    named_stay is (frames.Fields to ms ∷ fs) v h = let e : Some end ≡ None = is ∙ ap named_end h.containers in absurd cc
-    named_stay is (frames.Annotated to ss ∷ fs) v h = let e : Some end ≡ None = is ∙ ap named_end h.containers in absurd cc
     named_stay is (frames.Named to ms (Err n) ∷ fs) v h = absurd h.around
     named_stay is (frames.Named to ms (Ok n) ∷ fs) v h =
         let e : Some end ≡ Some to = is ∙ ap named_end h.containers in
@@ -75,14 +68,11 @@ module _ (r : BinaryWalk) (end : ℕ) (test : (r.used == end) ≡ false) where
           },
           ap heard (sym more),
         )
+    named_stay is _ v h = let e : Some end ≡ None = is ∙ ap named_end h.containers in absurd cc
 
   -- a list or an s-expression that began goes on, or one behind a pad
   pub items_proceed : Some end ≡ items_end (open_containers r) → (fs : List Frame) → Holds r fs
       → DoesAlone (told fs) (proceed (setting_of r) (spot_of r) fs) (Ok Goes) (record r { phase = Ready })
-  items_proceed is [] h = let e : Some end ≡ None = is ∙ ap items_end h.containers in absurd cc
-  items_proceed is (frames.Fields to ms ∷ fs) h = let e : Some end ≡ None = is ∙ ap items_end h.containers in absurd cc
-  items_proceed is (frames.Named to ms n ∷ fs) h = let e : Some end ≡ None = is ∙ ap items_end h.containers in absurd cc
-  items_proceed is (frames.Annotated to ss ∷ fs) h = let e : Some end ≡ None = is ∙ ap items_end h.containers in absurd cc
   items_proceed is (frames.Items to x vs ∷ fs) h =
       let e : Some end ≡ Some to = is ∙ ap items_end h.containers in
       let same : end ≡ to = cc in (
@@ -92,14 +82,11 @@ module _ (r : BinaryWalk) (end : ℕ) (test : (r.used == end) ≡ false) where
         record { containers = h.containers; named = tt; open_there = h.open_there; inside = tt; was_told = h.was_told },
         refl,
       )
+  items_proceed is _ h = let e : Some end ≡ None = is ∙ ap items_end h.containers in absurd cc
 
   -- a struct does
   pub fields_proceed : Some end ≡ fields_end (open_containers r) → (fs : List Frame) → Holds r fs
       → DoesAlone (told fs) (proceed (setting_of r) (spot_of r) fs) (Ok Goes) (record r { phase = InNumber Purpose.FieldName 0 })
-  fields_proceed is [] h = let e : Some end ≡ None = is ∙ ap fields_end h.containers in absurd cc
-  fields_proceed is (frames.Items to x vs ∷ fs) h = let e : Some end ≡ None = is ∙ ap fields_end h.containers in absurd cc
-  fields_proceed is (frames.Named to ms n ∷ fs) h = let e : Some end ≡ None = is ∙ ap fields_end h.containers in absurd cc
-  fields_proceed is (frames.Annotated to ss ∷ fs) h = let e : Some end ≡ None = is ∙ ap fields_end h.containers in absurd cc
   fields_proceed is (frames.Fields to ms ∷ fs) h =
       let e : Some end ≡ Some to = is ∙ ap fields_end h.containers in
       let same : end ≡ to = cc in (
@@ -109,3 +96,4 @@ module _ (r : BinaryWalk) (end : ℕ) (test : (r.used == end) ≡ false) where
         record { containers = h.containers; named = tt; open_there = h.open_there; inside = tt; was_told = h.was_told },
         refl,
       )
+  fields_proceed is _ h = let e : Some end ≡ None = is ∙ ap fields_end h.containers in absurd cc

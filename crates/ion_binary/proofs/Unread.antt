@@ -14,7 +14,7 @@ use Rattle.ion_binary.specs.Names.{DecimalParts, Event, IsPart, IsScalar, LetsPa
 use Rattle.ion_model.specs.declared.value.Payload.TheVariants as payloads
 use Rattle.ion_visiting.specs.declared.table_filter.Table.{Table}
 use Rattle.ion_visiting.specs.laws.Filters.{hears_none, visitor_tells}
-use Rattle.ion_binary.specs.laws.reading.Judged.{judge_scalar, judge_sound}
+use Rattle.ion_binary.specs.laws.reading.Judged.{scalar_leaf, judge_scalar, judge_sound}
 
 -- 1. Bodies that aren't refused, form by form.
 
@@ -103,22 +103,10 @@ as_form c t x body e h = subst (λ t. is_ok (judge c t body) ≡ true) (sym e) h
 
 -- 2. What is told of them.
 
--- a scalar has no value in it
-scalar_leaf : (c : List Slot) (body : List ℕ) (t : Scalar) (p : Payload) → IsScalar c body t p → IsPart p
-scalar_leaf c body _ _ (is_int h) = ap layer_events (outs-Int _)
-scalar_leaf c body _ _ (is_negative h k) = ap layer_events (outs-Int _)
-scalar_leaf c body _ _ (is_decimal d h k) = ap layer_events (outs-Decimal d)
-scalar_leaf c body _ _ (is_timestamp t h) = ap layer_events (outs-Timestamp t)
-scalar_leaf c body _ _ (is_symbol s h k) = ap layer_events (outs-Symbol s)
-scalar_leaf c body _ _ (is_string h) = ap layer_events (outs-Str body)
-scalar_leaf c body _ _ is_clob = ap layer_events (outs-Clob body)
-scalar_leaf c body _ _ is_blob = ap layer_events (outs-Blob body)
-
 plain_of : (t : Table) (b : Bool) → is_of_table t true ≡ false → is_of_table t b ≡ false
-plain_of Table.Unknown b h = refl
-plain_of Table.No b h = refl
 plain_of Table.Noted b h = absurd (false≢true (sym h))
 plain_of Table.Yes b h = absurd (false≢true (sym h))
+plain_of _ b h = refl
 
 module _ {V : Type 0} (takes : V → Event → V → Type 0) (c : List Slot) (t : Scalar) (body : List ℕ) (f g : TableFilter) (a b : V)
     (plain : is_of_table f.table true ≡ false) (passes : (es : List Event) → WasTold f es → LetsPass g × (heard es ≡ es))
@@ -127,7 +115,7 @@ module _ {V : Type 0} (takes : V → Event → V → Type 0) (c : List Slot) (t 
   unread_by (Ok p) e h = (
     p,
     e,
-    scalar_leaf c body t p (judge_sound c t body p e),
+    (scalar_leaf c body t p (judge_sound c t body p e)).event,
     visitor_tells takes (part p) f g a a b tt (plain_of f.table (begins_struct (part p)) plain)
         (λ es h. let i = passes es h in (i.0, hears_none takes (heard es) es a (sym i.1))) (went p),
   )

@@ -13,13 +13,6 @@ pub name_does : (r new : BinaryWalk) (id end : ℕ) → Some end ≡ fields_end 
     → ((k : Container) (ks : List Container) → open_containers r ≡ k ∷ ks → open_containers new ≡ Container.Named end ∷ ks)
     → name_of new ≡ resolve r.context id → spot_of new ≡ spot_of r
     → new.filter ≡ r.filter → new.phase ≡ Ready → (fs : List Frame) → Holds r fs → DoesAlone (told fs) (name_came (spot_of r) fs id) (Ok Goes) new
-name_does r new id end some left there named spot kept phase [] h = let e : Some end ≡ None = some ∙ ap fields_end h.containers in absurd cc
-name_does r new id end some left there named spot kept phase (frames.Items to x vs ∷ fs) h =
-    let e : Some end ≡ None = some ∙ ap fields_end h.containers in absurd cc
-name_does r new id end some left there named spot kept phase (frames.Named to ms n ∷ fs) h =
-    let e : Some end ≡ None = some ∙ ap fields_end h.containers in absurd cc
-name_does r new id end some left there named spot kept phase (frames.Annotated to ss ∷ fs) h =
-    let e : Some end ≡ None = some ∙ ap fields_end h.containers in absurd cc
 name_does r new id end some left there named spot kept phase (frames.Fields to ms ∷ fs) h =
     let e : Some end ≡ Some to = some ∙ ap fields_end h.containers in
     let is : end ≡ to = cc in
@@ -38,6 +31,8 @@ name_does r new id end some left there named spot kept phase (frames.Fields to m
       },
       refl,
     )
+name_does r new id end some left there named spot kept phase _ h =
+    let e : Some end ≡ None = some ∙ ap fields_end h.containers in absurd cc
 
 -- 2. The id of an annotation.
 
@@ -53,10 +48,6 @@ module _ {V : Type 0} (takes : V → Event → V → Type 0) (r new : BinaryWalk
     (some : Some end ≡ wrapper_end (open_containers r)) (is : name ≡ Ok s) (same : open_containers new ≡ open_containers r) (spot : spot_of new ≡ spot_of r)
     (phase : new.phase ≡ behind_annotation r.used stop) (tells : Tells takes (annotation s) r.filter new.filter a b) where
   pub note_does : (fs : List Frame) → Holds r fs → Does takes (told fs) (annotation_came (spot_of r) fs stop name) (Ok Goes) new a b
-  note_does [] h = let n : Some end ≡ None = some ∙ ap wrapper_end h.containers in absurd cc
-  note_does (frames.Items to x vs ∷ fs) h = let n : Some end ≡ None = some ∙ ap wrapper_end h.containers in absurd cc
-  note_does (frames.Fields to ms ∷ fs) h = let n : Some end ≡ None = some ∙ ap wrapper_end h.containers in absurd cc
-  note_does (frames.Named to ms n ∷ fs) h = let m : Some end ≡ None = some ∙ ap wrapper_end h.containers in absurd cc
   note_does (frames.Annotated to ss ∷ fs) h =
       let more = note_told to fs ss s in
       let i = tells (told (frames.Annotated to ss ∷ fs)) h.was_told in
@@ -78,6 +69,7 @@ module _ {V : Type 0} (takes : V → Event → V → Type 0) (r new : BinaryWalk
           hears = subst (λ es. Hears takes (heard (told (frames.Annotated to ss ∷ fs))) (heard es) a b) more i.1;
         },
       )
+  note_does _ h = let n : Some end ≡ None = some ∙ ap wrapper_end h.containers in absurd cc
 
 -- 3. An octet of a VarUInt.
 

@@ -211,8 +211,7 @@ walk_answers takes old new u s fs h piece refusal a b w = λ other.
 
 whole_same : (p : Phase) (n : Name) (fs : List Frame) → whole p (emptied n fs) ≡ whole p fs
 whole_same Ready n [] = refl
-whole_same Ready n (f ∷ fs) = refl
-whole_same _ n fs = refl
+whole_same _ n _ = refl
 
 -- whole pieces are open in no container
 none_open : (p : Phase) (fs : List Frame) → whole p fs ≡ true → fs ≡ []

@@ -96,10 +96,6 @@ module _ {V : Type 0} (takes : V → Event → V → Type 0) (r : BinaryWalk) (p
       → Does takes (told_in (frames.Named end ms (Ok x) ∷ fs)) (ends_field r (r.used + to) t body end ms x fs) result new m b)
       → (fs : List Frame) → Holds r fs
       → (o : Outcome) × (run_of r fs (take to piece) ≡ run_after (r.used + to) o) × Does takes (told fs) o result new a b
-  field_does does [] h = absurd (subst (λ cs. IsWithin cs (r.used + to)) h.containers v.inside)
-  field_does does (frames.Items end x vs ∷ fs) h = absurd (subst (λ cs. IsWithin cs (r.used + to)) h.containers v.inside)
-  field_does does (frames.Named end ms x ∷ fs) h = absurd (subst (λ cs. IsWithin cs (r.used + to)) h.containers v.inside)
-  field_does does (frames.Annotated end ss ∷ fs) h = absurd (subst (λ cs. IsWithin cs (r.used + to)) h.containers v.inside)
   field_does does (frames.Fields end ms ∷ fs) h =
       let before = told (frames.Fields end ms ∷ fs) in
       let o = ends_field r (r.used + to) t body end ms s fs in
@@ -115,3 +111,4 @@ module _ {V : Type 0} (takes : V → Event → V → Type 0) (r : BinaryWalk) (p
               was_told = subst (λ es. WasTold g es) e i.0;
             })),
       )
+  field_does does _ h = absurd (subst (λ cs. IsWithin cs (r.used + to)) h.containers v.inside)

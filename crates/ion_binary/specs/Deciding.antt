@@ -32,9 +32,7 @@ container_end (Noted end) = end
 abbrev pub container_levels : List Container → ℕ
 container_levels [] = 0
 container_levels (Noted end ∷ ks) = container_levels ks
-container_levels (Items end ∷ ks) = suc (container_levels ks)
-container_levels (Names end ∷ ks) = suc (container_levels ks)
-container_levels (Named end id ∷ ks) = suc (container_levels ks)
+container_levels (_ ∷ ks) = suc (container_levels ks)
 
 -- a descriptor comes next, and not a field's name
 abbrev pub TakesValue : List Container → Type 0

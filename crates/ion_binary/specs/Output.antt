@@ -103,20 +103,24 @@ wrapped names (s ∷ ss) w = framed 14 (with_count (ids_octets names (s ∷ ss))
 abbrev pub named_octets : Names → Option (List ℕ) → List ℕ → List ℕ
 named_octets names s w = var_uint_octets (id_of names s) ++ w
 
+-- of one level, by the octets of the values and of the fields inside
+abbrev pub octets_by : {P F V : Type 0} → Names → (V → List ℕ) → (F → List ℕ) → Payload-F P F V → List ℕ
+octets_by names value field (Payload-F.Null k) = null_octet k ∷ []
+octets_by names value field (Payload-F.Truth b) = truth_octet b ∷ []
+octets_by names value field (Payload-F.Int z) = whole_octets z
+octets_by names value field (Payload-F.Decimal d) = framed 5 (decimal_octets d)
+octets_by names value field (Payload-F.Timestamp t) = framed 6 (timestamp_octets t)
+octets_by names value field (Payload-F.Symbol s) = framed 7 (uint_octets (id_of names s))
+octets_by names value field (Payload-F.Str text) = framed 8 text
+octets_by names value field (Payload-F.Clob body) = framed 9 body
+octets_by names value field (Payload-F.Blob body) = framed 10 body
+octets_by names value field (Payload-F.List vs) = framed 11 (flat_map value vs)
+octets_by names value field (Payload-F.Sexp vs) = framed 12 (flat_map value vs)
+octets_by names value field (Payload-F.Fields fs) = framed 13 (flat_map field fs)
+
 -- of one level, in which each value inside is its octets already
 abbrev pub octets_step : Names → Payload-F (List ℕ) (List ℕ) (List ℕ) → List ℕ
-octets_step names (Payload-F.Null k) = null_octet k ∷ []
-octets_step names (Payload-F.Truth b) = truth_octet b ∷ []
-octets_step names (Payload-F.Int z) = whole_octets z
-octets_step names (Payload-F.Decimal d) = framed 5 (decimal_octets d)
-octets_step names (Payload-F.Timestamp t) = framed 6 (timestamp_octets t)
-octets_step names (Payload-F.Symbol s) = framed 7 (uint_octets (id_of names s))
-octets_step names (Payload-F.Str text) = framed 8 text
-octets_step names (Payload-F.Clob body) = framed 9 body
-octets_step names (Payload-F.Blob body) = framed 10 body
-octets_step names (Payload-F.List vs) = framed 11 (flat_map (λ w. w) vs)
-octets_step names (Payload-F.Sexp vs) = framed 12 (flat_map (λ w. w) vs)
-octets_step names (Payload-F.Fields fs) = framed 13 (flat_map (λ w. w) fs)
+octets_step names d = octets_by names (λ w. w) (λ w. w) d
 
 -- the octets of a value whose symbols have these ids
 unfoldable pub value_octets : Names → Value → List ℕ
@@ -129,18 +133,7 @@ field_octets names f = named_octets names f.name (value_octets names f.value)
 
 -- the octets of one level
 abbrev pub layer_octets : Names → Layer → List ℕ
-layer_octets names (Payload-F.Null k) = null_octet k ∷ []
-layer_octets names (Payload-F.Truth b) = truth_octet b ∷ []
-layer_octets names (Payload-F.Int z) = whole_octets z
-layer_octets names (Payload-F.Decimal d) = framed 5 (decimal_octets d)
-layer_octets names (Payload-F.Timestamp t) = framed 6 (timestamp_octets t)
-layer_octets names (Payload-F.Symbol s) = framed 7 (uint_octets (id_of names s))
-layer_octets names (Payload-F.Str text) = framed 8 text
-layer_octets names (Payload-F.Clob body) = framed 9 body
-layer_octets names (Payload-F.Blob body) = framed 10 body
-layer_octets names (Payload-F.List vs) = framed 11 (flat_map (value_octets names) vs)
-layer_octets names (Payload-F.Sexp vs) = framed 12 (flat_map (value_octets names) vs)
-layer_octets names (Payload-F.Fields fs) = framed 13 (flat_map (field_octets names) fs)
+layer_octets names d = octets_by names (value_octets names) (field_octets names) d
 
 -- 3. Tables ("Local Symbol Tables").
 

@@ -72,9 +72,7 @@ end_of (frames.Annotated end ss) = end
 abbrev pub levels : List Frame → ℕ
 levels [] = 0
 levels (frames.Annotated end ss ∷ fs) = levels fs
-levels (frames.Items end x vs ∷ fs) = suc (levels fs)
-levels (frames.Fields end ms ∷ fs) = suc (levels fs)
-levels (frames.Named end ms name ∷ fs) = suc (levels fs)
+levels (_ ∷ fs) = suc (levels fs)
 
 -- behind a local symbol table
 abbrev pub turned : ℕ → Result (List Slot) Reason → Outcome
@@ -155,9 +153,8 @@ outside (f ∷ fs) used = if nat_lt used (end_of f) then None else Some Malforme
 -- why a VarUInt may not go on behind `used` octets
 abbrev pub past : ℕ → ℕ → List Frame → Purpose → ℕ → Option Reason
 past item start fs (Purpose.Length form) used = unending item start fs form used
-past item start fs Purpose.FieldName used = outside fs used
-past item start fs Purpose.AnnotationsLength used = outside fs used
 past item start fs (Purpose.Annotation stop) used = if nat_lt used stop then None else Some Malformed
+past item start fs _ used = outside fs used
 
 -- why a form whose body ends at `to` may not stand here
 abbrev pub unfit : ℕ → ℕ → List Frame → Form → ℕ → Option Reason
@@ -184,21 +181,17 @@ begin setting spot fs (Form.Scalar t) n =
     if n == 0 then judged setting spot fs (judge spot.context t []) else goes (in_body spot fs t (n - 1) [])
 begin setting spot fs (Form.Listing x) n =
     deeper setting.limits.depth fs (proceed setting spot (frames.Items (spot.used + n) x [] ∷ fs))
-begin setting spot fs Form.Struct n = open_struct setting spot fs n
-begin setting spot fs Form.OrderedStruct n = open_struct setting spot fs n
 begin setting spot fs Form.Wrapper n =
     goes (at spot (frames.Annotated (spot.used + n) [] ∷ fs) (InNumber Purpose.AnnotationsLength 0))
+begin setting spot fs _ n = open_struct setting spot fs n
 
 -- why a form has no body of so many octets: a negative int, a timestamp, a struct that announces the order of its fields, and a wrapper have some
 abbrev pub hollow : Form → ℕ → Option Reason
 hollow (Form.Scalar Scalar.NegativeInt) n = if n == 0 then Some Malformed else None
 hollow (Form.Scalar Scalar.Timestamp) n = if n == 0 then Some Malformed else None
-hollow (Form.Scalar _) n = None
 hollow Form.OrderedStruct n = if n == 0 then Some Malformed else None
 hollow Form.Wrapper n = if n == 0 then Some Malformed else None
-hollow Form.Pad n = None
-hollow (Form.Listing x) n = None
-hollow Form.Struct n = None
+hollow _ n = None
 
 -- the same, if the body fits
 abbrev pub sized : Setting → Spot → List Frame → Form → ℕ → Outcome

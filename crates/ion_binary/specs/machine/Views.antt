@@ -5,10 +5,7 @@ use Rattle.ion_binary.specs.Names.Below.{InBody, InMarker, InNumber, InPad, Malf
 -- the octets of a body count only inside it
 abbrev pub body_so_far : Phase → List ℕ → List ℕ
 body_so_far (InBody _ _) body = body
-body_so_far (InMarker _ _) body = []
-body_so_far Ready body = []
-body_so_far (InNumber _ _) body = []
-body_so_far (InPad _) body = []
+body_so_far _ body = []
 
 -- no reason where it holds
 abbrev pub malformed_unless : Bool → Option Reason

@@ -35,36 +35,26 @@ shell n (Container.Annotated end) = frames.Annotated end []
 
 -- the innermost is no wrapper
 abbrev pub HoldsNoWrapper : List Frame → Type 0
-HoldsNoWrapper [] = Unit {0}
-HoldsNoWrapper (frames.Items end x vs ∷ fs) = Unit {0}
-HoldsNoWrapper (frames.Fields end ms ∷ fs) = Unit {0}
-HoldsNoWrapper (frames.Named end ms n ∷ fs) = Unit {0}
 HoldsNoWrapper (frames.Annotated end ss ∷ fs) = ⊥
+HoldsNoWrapper _ = Unit {0}
 
 -- each of these is open around a value: a field's name has a symbol, and no wrapper holds a wrapper
 abbrev pub AreAround : List Frame → Type 0
 AreAround [] = Unit {0}
-AreAround (frames.Items end x vs ∷ fs) = AreAround fs
-AreAround (frames.Fields end ms ∷ fs) = AreAround fs
-AreAround (frames.Named end ms (Ok s) ∷ fs) = AreAround fs
 AreAround (frames.Named end ms (Err e) ∷ fs) = ⊥
 AreAround (frames.Annotated end ss ∷ fs) = HoldsNoWrapper fs × AreAround fs
+AreAround (_ ∷ fs) = AreAround fs
 
 -- the same, but that the name of the innermost may have no symbol: a pad may come
 abbrev pub AreOpen : List Frame → Type 0
 AreOpen [] = Unit {0}
-AreOpen (frames.Items end x vs ∷ fs) = AreAround fs
-AreOpen (frames.Fields end ms ∷ fs) = AreAround fs
-AreOpen (frames.Named end ms n ∷ fs) = AreAround fs
 AreOpen (frames.Annotated end ss ∷ fs) = HoldsNoWrapper fs × AreAround fs
+AreOpen (_ ∷ fs) = AreAround fs
 
 -- the name of the next field is this one, if it came
 abbrev pub IsNamedBy : Name → List Frame → Type 0
-IsNamedBy n [] = Unit {0}
-IsNamedBy n (frames.Items end x vs ∷ fs) = Unit {0}
-IsNamedBy n (frames.Fields end ms ∷ fs) = Unit {0}
 IsNamedBy n (frames.Named end ms m ∷ fs) = m ≡ n
-IsNamedBy n (frames.Annotated end ss ∷ fs) = Unit {0}
+IsNamedBy n _ = Unit {0}
 
 -- no container is open
 abbrev pub IsTop : List Frame → Type 0
@@ -75,18 +65,13 @@ IsTop (f ∷ fs) = ⊥
 abbrev pub IsInside : Phase → List Frame → Type 0
 IsInside (InBody t missing) fs = AreAround fs
 IsInside (InMarker mark good) fs = IsTop fs
-IsInside Ready fs = Unit {0}
-IsInside (InNumber p a) fs = Unit {0}
-IsInside (InPad missing) fs = Unit {0}
+IsInside _ fs = Unit {0}
 
 -- a value of this form, or a pad, may begin in them
 abbrev pub MayBegin : Form → List Frame → Type 0
 MayBegin Form.Pad fs = Unit {0}
-MayBegin (Form.Scalar t) fs = AreAround fs
-MayBegin (Form.Listing x) fs = AreAround fs
-MayBegin Form.Struct fs = AreAround fs
-MayBegin Form.OrderedStruct fs = AreAround fs
 MayBegin Form.Wrapper fs = HoldsNoWrapper fs × AreAround fs
+MayBegin _ fs = AreAround fs
 
 -- a payload with no value in it
 abbrev pub IsPart : Payload → Type 0
@@ -102,21 +87,17 @@ IsNumber Scalar.Int = Unit {0}
 IsNumber Scalar.NegativeInt = Unit {0}
 IsNumber Scalar.Decimal = Unit {0}
 IsNumber Scalar.Timestamp = Unit {0}
-IsNumber Scalar.Symbol = ⊥
-IsNumber Scalar.Str = ⊥
-IsNumber Scalar.Clob = ⊥
-IsNumber Scalar.Blob = ⊥
+IsNumber _ = ⊥
 
 -- 2. What was told.
 
 -- of containers around a value, the outermost first
 abbrev pub told_in : List Frame → List Event
-told_in [] = []
 told_in (frames.Items end x vs ∷ fs) = told_in fs ++ opens (bracket_of x) ∷ flat_map events_of vs
 told_in (frames.Fields end ms ∷ fs) = told_in fs ++ opens Bracket.Fields ∷ flat_map field_events ms
 told_in (frames.Named end ms (Ok s) ∷ fs) = told_in fs ++ opens Bracket.Fields ∷ (flat_map field_events ms ++ name s ∷ [])
-told_in (frames.Named end ms (Err e) ∷ fs) = []
 told_in (frames.Annotated end ss ∷ fs) = told_in fs ++ map annotation ss
+told_in _ = []
 
 -- before a value: the field's name isn't told until its value begins
 abbrev pub told : List Frame → List Event
@@ -186,11 +167,8 @@ pub record Holds (r : BinaryWalk) (fs : List Frame) : Type 0 where
 
 -- the containers around a value that was told and ended
 abbrev pub IsBareIn : List Frame → Value → Type 0
-IsBareIn [] v = Unit {0}
-IsBareIn (frames.Items end x vs ∷ fs) v = Unit {0}
-IsBareIn (frames.Fields end ms ∷ fs) v = Unit {0}
-IsBareIn (frames.Named end ms n ∷ fs) v = Unit {0}
 IsBareIn (frames.Annotated end ss ∷ fs) v = v.annotations ≡ []
+IsBareIn _ v = Unit {0}
 
 pub record IsBehind (r : BinaryWalk) (fs : List Frame) (v : Value) : Type 0 where
   pub containers : open_containers r ≡ containers_of fs

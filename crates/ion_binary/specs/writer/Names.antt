@@ -58,9 +58,8 @@ slots_system = refl
 
 -- the first name is the symbol of unknown text
 abbrev pub Starts : Names → Type 0
-Starts [] = ⊥
 Starts (None ∷ names) = Unit {0}
-Starts (Some t ∷ names) = ⊥
+Starts _ = ⊥
 
 place_either : (s x : Option (List ℕ)) (rest : Names) (b : Bool) → symbol_same s x ≡ b → (b || list_any (symbol_same s) rest) ≡ true
     → (IsAmong rest s → slice_get (map local_slot rest) (position_or_len (symbol_same s) rest) ≡ Some (local_slot s))

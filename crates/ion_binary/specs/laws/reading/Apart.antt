@@ -14,10 +14,9 @@ use Rattle.ion_binary.specs.laws.reading.Small.{binary_nodes}
 abbrev pub IsSizedBy : Opening → List ℕ → Type 0
 IsSizedBy (Refused reason) rest = ⊥
 IsSizedBy Marker rest = length rest ≡ 3
-IsSizedBy (Null kind) rest = length rest ≡ 0
-IsSizedBy (Truth truth) rest = length rest ≡ 0
 IsSizedBy (Sized form (Known n)) rest = length rest ≡ n
 IsSizedBy (Sized form Follows) rest = (number body : List ℕ) × (rest ≡ number ++ body) × VarUInt number (length body)
+IsSizedBy _ rest = length rest ≡ 0
 
 -- a descriptor, and as many octets as it says
 pub record IsPiece (w : List ℕ) : Type 0 where
@@ -56,8 +55,7 @@ marker_piece = record {
   descriptor = 0xE0;
   rest = 1 ∷ 0 ∷ 0xEA ∷ [];
   whole = refl;
-  sized =
-      subst (λ o. IsSizedBy o (1 ∷ 0 ∷ 0xEA ∷ [])) (sym marker_opens) refl;
+  sized = subst (λ o. IsSizedBy o (1 ∷ 0 ∷ 0xEA ∷ [])) (sym marker_opens) refl;
 }
 
 headed : (form : Form) (n : ℕ) (h body : List ℕ) → n ≡ length body → Header form n h → IsPiece (h ++ body)
@@ -66,8 +64,7 @@ headed form n _ body e (long b w o v) = record {
   descriptor = b;
   rest = w ++ body;
   whole = refl;
-  sized =
-      subst (λ x. IsSizedBy x (w ++ body)) (sym o) (w, body, refl, subst (VarUInt w) e v);
+  sized = subst (λ x. IsSizedBy x (w ++ body)) (sym o) (w, body, refl, subst (VarUInt w) e v);
 }
 
 plain_piece : (c : List Slot) (w : List ℕ) (p : Payload) → Plain c w p → IsPiece w

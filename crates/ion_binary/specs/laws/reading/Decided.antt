@@ -1,11 +1,13 @@
--- A body of a binary document is refused only for reasons that octets decide.
-use Rattle.std.proofs.Common.{ℕ, ◌^◌, List, Result, Ok, Err, Option, Bool, true, false, nat_lt, ◌==◌}
+-- A body of a binary document is refused only for reasons that octets decide, and so is each row of the format's table.
+use Rattle.std.proofs.Common.{ℕ, ◌^◌, List, Result, Ok, Err, Option, Bool, true, false, nat_lt, ◌==◌, inl, inr, subst, sym}
 use Rattle.std.specs.Str.{is_utf8}
-use Rattle.ion_binary.specs.Names.{DecimalParts, Malformed, Payload, Reason, Scalar, Slot, TimestampParts, TooLarge, as_decimal, as_symbol, as_timestamp, decimal_of_body, int_of, judge, positional, resolve, symbol_of, timestamp_of_body, uint_field}
+use Rattle.ion_binary.specs.Names.{Catalog, DecimalParts, Limits, Malformed, Payload, Reason, Scalar, Slot, TimestampParts, TooLarge, as_decimal, as_symbol, as_timestamp, decimal_of_body, int_of, judge, positional, resolve, symbol_of, timestamp_of_body, uint_field}
 use Rattle.ion_scalar.specs.binary.laws.BodyReasons.{IsBodyReason, JudgesBody, decimal_judges, timestamp_judges}
 use Rattle.ion_symtab.specs.Decided.{Decides, IsDecided}
-use Rattle.ion_symtab.specs.laws.Decided.{resolve_decides}
+use Rattle.ion_symtab.specs.laws.Decided.{next_decides, resolve_decides}
 use Rattle.ion_symtab.specs.laws.Reasons.{either}
+use Rattle.ion_binary.specs.Deciding as deciding
+use Rattle.ion_binary.specs.laws.reading.OnlyReasons.{IsPlainReason, PlainOpening, opening_plain}
 
 body_decides : (e : Reason) → IsBodyReason e → IsDecided e
 body_decides TooLarge h = tt
@@ -50,3 +52,17 @@ judge_decides c Scalar.Timestamp body = as_timestamp_decides (timestamp_of_body 
 judge_decides c Scalar.Symbol body = symbol_decides c (uint_field body) (uint_decides body)
 judge_decides c Scalar.Str body = either (Decides {A = Payload}) (is_utf8 body) _ _ tt tt
 judge_decides c _ body = tt
+
+plain_decides : (e : Reason) → IsPlainReason e → IsDecided e
+plain_decides e (inl h) = subst IsDecided (sym h) tt
+plain_decides e (inr h) = subst IsDecided (sym h) tt
+
+-- each row of the table is for a reason that octets decide
+pub row_decides : (g : Catalog) (l : Limits) (u : List ℕ) (e : Reason) → deciding.Decides g l u e → IsDecided e
+row_decides g l _ _ (deciding.no_descriptor c start ks u b e o t i) = plain_decides e (subst PlainOpening i (opening_plain b))
+row_decides g l _ _ (deciding.no_name c start end id ks u b e o h n) = subst (Decides {A = Option (List ℕ)}) h (resolve_decides c id)
+row_decides g l _ _ (deciding.no_annotation c start stop id ks u e o h) = subst (Decides {A = Option (List ℕ)}) h (resolve_decides c id)
+row_decides g l _ _ (deciding.bad_body c start end ks t front body e o i s h) = subst (Decides {A = Payload}) h (judge_decides c t body)
+row_decides g l _ _ (deciding.bad_empty_body c start ks t u e o h) = subst (Decides {A = Payload}) h (judge_decides c t _)
+row_decides g l _ _ (deciding.bad_table u w s c v e d b t n p q) = subst (Decides {A = List Slot}) q (next_decides c v g)
+row_decides g l _ _ _ = tt

@@ -233,8 +233,6 @@ module _ (g : Catalog) (l : Limits) where
             → Least e (on_descriptor (under g l) (spot_at (length u + 1) start c) fs d)
         by fs m (Refused x) i p = let s = plain_small x p in (x, refl, omega (arith, big))
         by fs m Marker i p = (Malformed, marks_inside (length u + 1) (Named end id) ks fs m, omega (arith, big))
-        by fs m (Null k) i p = unless_given e _ _ (unfit_given fs m Form.Struct (length u + 1) refl)
-        by fs m (Truth t) i p = unless_given e _ _ (unfit_given fs m Form.Struct (length u + 1) refl)
         by fs m (Sized form (Known k)) i p = sized_given (length u + 1) fs form k e (omega (arith, big))
             (unfit_given fs m form (length u + 1 + k) (no_pad form (Known k) i))
         by fs m (Sized form Follows) i p =
@@ -242,6 +240,7 @@ module _ (g : Catalog) (l : Limits) where
             (unless_then e (unending l.item start fs form (length u + 1)) _
             (only_within e _ (omega (arith, big)) (unending_only (Named end id) ks fs form (length u + 1) m))
             (unless_given e (nameless fs form) _ (e, no_symbol end id ks fs form e m h (no_pad form Follows i), omega arith)))
+        by fs m _ i p = unless_given e _ _ (unfit_given fs m Form.Struct (length u + 1) refl)
 
     -- depth
 

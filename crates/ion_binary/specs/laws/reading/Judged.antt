@@ -1,11 +1,12 @@
 -- A scalar's body is judged to be what the grammar says, and nothing else.
-use Rattle.std.proofs.Common.{◌≡◌, ℕ, pos, neg_ℤ, ◌^◌, ◌<◌, List, Option, Result, Ok, Err, refl, ap, sym, subst, ◌∙◌, arith, Bool, true, false, cond, lt-ltb, ne_eqb, ltb-true, nat_lt, ◌==◌}
+use Rattle.std.proofs.Common.{◌≡◌, ℕ, pos, neg_ℤ, ◌^◌, ◌<◌, List, [], ◌∷◌, Option, Result, Ok, Err, refl, ap, sym, subst, ◌∙◌, arith, Bool, true, false, cond, lt-ltb, ne_eqb, ltb-true, nat_lt, ◌==◌}
 use Rattle.std.proofs.lemmas.Bool.{cond-true, cond-false, eqb-false}
 use Rattle.std.proofs.lemmas.Str.{IsUtf8-from_is_utf8, is_utf8-from_IsUtf8}
 use Rattle.std.specs.Str.{is_utf8}
-use Rattle.ion_binary.specs.Names.{BadUtf8, DecimalParts, IsScalar, Malformed, Payload, Reason, Scalar, Slot, TimestampParts, TooLarge, as_decimal, as_symbol, as_timestamp, bare, decimal_of_body, depth, int_of, is_blob, is_clob, is_decimal, is_int, is_negative, is_string, is_symbol, is_timestamp, judge, layer_depth, positional, resolve, symbol_of, timestamp_of_body, uint_field}
+use Rattle.ion_binary.specs.Names.{BadUtf8, DecimalParts, IsScalar, Malformed, Payload, Reason, Scalar, Slot, TimestampParts, TooLarge, as_decimal, as_symbol, as_timestamp, bare, decimal_of_body, depth, int_of, is_blob, is_clob, is_decimal, is_int, is_negative, is_string, is_symbol, is_timestamp, judge, layer_depth, layer_events, part, positional, resolve, symbol_of, timestamp_of_body, uint_field}
 use Rattle.ion_model.specs.declared.value.Payload.TheVariants as payloads
 use Rattle.ion_model.specs.declared.value.Payload.TheViews as views
+use Rattle.ion_model.specs.Measures.{Layer, layer_nodes}
 use Rattle.ion_model.specs.laws.Measures.{depth-out}
 use Rattle.ion_scalar.specs.binary.Reads.{ReadsDecimalBody}
 use Rattle.ion_scalar.specs.binary.laws.Decimal.{decimal_answers, decimal_body_read}
@@ -82,13 +83,23 @@ judge_sound c Scalar.Str body p h =
 judge_sound c Scalar.Clob body p h = let e : payloads.Clob body ≡ p = cc in subst (IsScalar c body Scalar.Clob) e is_clob
 judge_sound c Scalar.Blob body p h = let e : payloads.Blob body ≡ p = cc in subst (IsScalar c body Scalar.Blob) e is_blob
 
+-- a payload of no depth, which is one node and is told by one event
+pub record IsLeaf (p : Payload) (d : Layer) : Type 0 where
+  pub flat : layer_depth d ≡ 0
+  pub node : layer_nodes d ≡ 1
+  pub event : layer_events d ≡ part p ∷ []
+
+-- a scalar is one
+pub scalar_leaf : (c : List Slot) (body : List ℕ) (t : Scalar) (p : Payload) → IsScalar c body t p → IsLeaf p (views.out-Payload p)
+scalar_leaf c body _ _ (is_int h) = subst (IsLeaf _) (sym (views.outs-Int _)) (record { flat = refl; node = refl; event = refl })
+scalar_leaf c body _ _ (is_negative h k) = subst (IsLeaf _) (sym (views.outs-Int _)) (record { flat = refl; node = refl; event = refl })
+scalar_leaf c body _ _ (is_decimal d h k) = subst (IsLeaf _) (sym (views.outs-Decimal d)) (record { flat = refl; node = refl; event = refl })
+scalar_leaf c body _ _ (is_timestamp t h) = subst (IsLeaf _) (sym (views.outs-Timestamp t)) (record { flat = refl; node = refl; event = refl })
+scalar_leaf c body _ _ (is_symbol s h k) = subst (IsLeaf _) (sym (views.outs-Symbol s)) (record { flat = refl; node = refl; event = refl })
+scalar_leaf c body _ _ (is_string h) = subst (IsLeaf _) (sym (views.outs-Str body)) (record { flat = refl; node = refl; event = refl })
+scalar_leaf c body _ _ is_clob = subst (IsLeaf _) (sym (views.outs-Clob body)) (record { flat = refl; node = refl; event = refl })
+scalar_leaf c body _ _ is_blob = subst (IsLeaf _) (sym (views.outs-Blob body)) (record { flat = refl; node = refl; event = refl })
+
 -- a scalar has no depth
 pub scalar_flat : (c : List Slot) (body : List ℕ) (t : Scalar) (p : Payload) → IsScalar c body t p → depth (bare p) ≡ 0
-scalar_flat c body _ _ (is_int h) = depth-out (bare (payloads.Int (pos (positional 256 body)))) ∙ ap layer_depth (views.outs-Int (pos (positional 256 body)))
-scalar_flat c body _ _ (is_negative h k) = depth-out _ ∙ ap layer_depth (views.outs-Int (neg_ℤ (pos (positional 256 body))))
-scalar_flat c body _ _ (is_decimal d h k) = depth-out (bare (payloads.Decimal d)) ∙ ap layer_depth (views.outs-Decimal d)
-scalar_flat c body _ _ (is_timestamp t h) = depth-out (bare (payloads.Timestamp t)) ∙ ap layer_depth (views.outs-Timestamp t)
-scalar_flat c body _ _ (is_symbol s h k) = depth-out (bare (payloads.Symbol s)) ∙ ap layer_depth (views.outs-Symbol s)
-scalar_flat c body _ _ (is_string h) = depth-out (bare (payloads.Str body)) ∙ ap layer_depth (views.outs-Str body)
-scalar_flat c body _ _ is_clob = depth-out (bare (payloads.Clob body)) ∙ ap layer_depth (views.outs-Clob body)
-scalar_flat c body _ _ is_blob = depth-out (bare (payloads.Blob body)) ∙ ap layer_depth (views.outs-Blob body)
+scalar_flat c body t p i = depth-out (bare p) ∙ (scalar_leaf c body t p i).flat

@@ -162,8 +162,7 @@ module _ (g : Catalog) (l : Limits) (c : List Slot) (start : ℕ) where
         given = r.given;
         fs = [];
         match = nothing_open;
-        ran =
-            r.ran ∙ ap (λ n. record { given = r.given; now = Ok (at (spot_at (length u) n c) [] Ready) }) o.2;
+        ran = r.ran ∙ ap (λ n. record { given = r.given; now = Ok (at (spot_at (length u) n c) [] Ready) }) o.2;
       }
   open_run (Items end ∷ ks) u o =
       let d = open_run ks o.headed.before o.headed.outer in

@@ -1,5 +1,5 @@
 -- What stands for octets is what stands open behind them.
-use Rattle.std.proofs.Common.{◌≡◌, ℕ, ◌^◌, ◌<◌, ◌||◌, List, [], ◌∷◌, ◌++◌, length, Result, Ok, Err, Option, Some, None, Bool, true, false, cond, refl, ap, sym, ◌∙◌, subst, arith, length-append, append_assoc}
+use Rattle.std.proofs.Common.{◌≡◌, ℕ, ◌<◌, ◌≤◌, ◌||◌, List, [], ◌∷◌, ◌++◌, length, Result, Ok, Err, Option, Some, None, Bool, true, false, cond, refl, ap, sym, ◌∙◌, subst, subst₂, arith, length-append}
 use Rattle.std.proofs.lemmas.Bool.{cond-false}
 use Rattle.ion_binary.specs.Names.{Catalog, Count, Field, Form, Frame, Headed, Id, Items, LastOctet, Length, Limits, Malformed, MayGoOn, MayReach, Name, Named, Noted, Number, Open, Purpose, Reason, Slot, TakesValue, Value, a_count, a_length, a_name, an_id, is_pad, is_wrapper, nameless, of_annotations, of_container, of_struct, of_wrapper, resolve}
 use Rattle.ion_binary.specs.Deciding as deciding
@@ -8,7 +8,7 @@ use Rattle.ion_binary.specs.machine.Frames as frames
 use Rattle.ion_binary.specs.laws.reading.Complete.{header_some}
 use Rattle.ion_binary.specs.laws.reading.NumberRuns.{InFrames, count_in, id_in, length_in, name_in, purpose_of}
 use Rattle.ion_binary.specs.laws.reading.OpenRuns.{Match, items, named, names, noted, nothing_open, same_levels}
-use Rattle.ion_binary.specs.laws.reading.Stands.{BodyMayEnd, Box, Fitting, Going, InFields, Inside, IsStructOf, NumberStands, Opened, Receives}
+use Rattle.ion_binary.specs.laws.reading.Stands.{BodyMayEnd, Box, Fitting, InFields, Inside, IsStructOf, NumberBegins, NumberGoing, NumberStands, Opened, Receives}
 
 -- where the frames let a descriptor come, one comes next in the containers
 pub takes : (c : List Slot) (fs : List Frame) (ks : List Container) → Match c fs ks → Receives fs → TakesValue ks
@@ -153,8 +153,7 @@ module _ (g : Catalog) (l : Limits) (start : ℕ) (c : List Slot) (s : List Valu
           ids = o.ids;
           symbols = ss;
           parts = o.whole;
-          headed =
-              headed fs Form.Wrapper end o.front o.box p;
+          headed = headed fs Form.Wrapper end o.front o.box p;
           number = o.number;
           some = o.some;
           come = o.symbols;
@@ -170,116 +169,99 @@ module _ (g : Catalog) (l : Limits) (start : ℕ) (c : List Slot) (s : List Valu
     pub frames' : InFrames c ks q fs
     pub inside : deciding.InNumber g l c start ks q a u
 
-  -- where a number in a container may go on
-  before_end : (k : Container) (ks : List Container) (form : Form) (used : ℕ) → used < deciding.container_end k → (last : ℕ)
-      → LastOctet g l c start (k ∷ ks) (Length form) last → used < last
-  before_end k ks form used h last (of_container _ _ _) = h
+  -- the octet with which a number must have ended, if there is one
+  abbrev last_of : Number → List Container → ℕ
+  last_of (Length form) (k ∷ ks) = deciding.container_end k
+  last_of Name (k ∷ ks) = deciding.container_end k
+  last_of (Count end) ks = end
+  last_of (Id stop) ks = stop
+  last_of _ [] = 0
 
-  in_container : (fs : List Frame) (ks : List Container) (form : Form) (used : ℕ) → Match c fs ks → Going l start fs form used
-      → MayGoOn g l c start ks (Length form) used
-  in_container _ _ form used nothing_open h = h
-  in_container _ _ form used _ h = before_end _ _ form used h
+  is_last : (ks : List Container) (q : Number) (last : ℕ) → LastOctet g l c start ks q last → last ≡ last_of q ks
+  is_last _ _ _ (of_container _ _ _) = refl
+  is_last _ _ _ _ = refl
 
-  name_goes : (ks : List Container) (end used : ℕ) → used < end → (last : ℕ) → LastOctet g l c start (Names end ∷ ks) Name last → used < last
-  name_goes ks end used h last (of_struct _ _) = h
+  -- where a number may go on
+  may_go : (ks : List Container) (q : Number) (fs : List Frame) (used : ℕ) → InFrames c ks q fs → NumberGoing l start fs (purpose_of q) used
+      → MayGoOn g l c start ks q used
+  may_go _ _ _ used (length_in _ form _ nothing_open) h = h
+  may_go _ _ _ used (name_in _ _ _ (names _ _ _ _ _)) h = λ last r. subst (λ n. used < n) (sym (is_last _ _ last r)) h
+  may_go _ _ _ used (count_in [] _ _ _) h = λ last r. subst (λ n. used < n) (sym (is_last _ _ last r)) h
+  may_go _ _ _ used (id_in [] _ _ _ _ _) h = λ last r. subst (λ n. used < n) (sym (is_last _ _ last r)) h
+  may_go _ _ _ used _ h = λ last r. subst (λ n. used < n) (sym (is_last _ _ last r)) h
 
-  before_ids : (ks : List Container) (end used : ℕ) → used < end → (last : ℕ) → LastOctet g l c start ks (Count end) last → used < last
-  before_ids ks end used h last (of_wrapper _ _) = h
+  -- before a number
+  record Begun (fs : List Frame) (p : Purpose) (u : List ℕ) : Type 0 where
+    ks : List Container
+    q : Number
+    same : purpose_of q ≡ p
+    frames' : InFrames c ks q fs
+    comes : deciding.Before g l c start ks q u
 
-  count_goes : (ks : List Container) (end used : ℕ) → used < end → MayGoOn g l c start ks (Count end) used
-  count_goes [] end used h = before_ids [] end used h
-  count_goes (k ∷ ks) end used h = before_ids (k ∷ ks) end used h
-
-  before_stop : (ks : List Container) (stop used : ℕ) → used < stop → (last : ℕ) → LastOctet g l c start ks (Id stop) last → used < last
-  before_stop ks stop used h last (of_annotations _ _) = h
-
-  id_goes : (ks : List Container) (stop used : ℕ) → used < stop → MayGoOn g l c start ks (Id stop) used
-  id_goes [] stop used h = before_stop [] stop used h
-  id_goes (k ∷ ks) stop used h = before_stop (k ∷ ks) stop used h
-
-  -- where the machine stands in a VarUInt, the octets end inside of one
-  pub numbered : (fs : List Frame) (p : Purpose) (a : ℕ) (u : List ℕ) → a < 2 ^ 63 → NumberStands g l start c s fs p a u → Numbered fs p a u
-  numbered fs (Purpose.Length form) a u small o =
+  begun : (fs : List Frame) (p : Purpose) (u : List ℕ) (used : ℕ) → length u ≤ used → NumberBegins g l start c s fs p u → NumberGoing l start fs p used
+      → Begun fs p u
+  begun fs (Purpose.Length form) u used few o h =
       let p = opened_open fs o.before o.outer o.more in
       record {
         ks = p.ks;
         q = Length form;
         same = refl;
         frames' = length_in p.ks form fs p.match;
-        inside = record {
-          before = o.before ++ o.b ∷ [];
-          digits = o.digits;
-          parts = o.whole ∙ sym (append_assoc o.before (o.b ∷ []) o.digits);
-          comes = a_length p.ks o.before o.b form p.open' o.head (may_begin c fs p.ks form p.match o.admits);
-          small = o.small;
-          value = o.value;
-          bound = small;
-          goes_on = in_container fs p.ks form (length u) p.match o.going;
-        };
+        comes = subst (deciding.Before g l c start p.ks (Length form)) (sym o.whole)
+            (a_length p.ks o.before o.b form p.open' o.head (may_begin c fs p.ks form p.match o.admits));
       }
-  numbered (frames.Fields end ms ∷ fs) Purpose.FieldName a u small o =
-      let k = ap length o.whole in
-      let j = length-append o.front o.digits in
-      let w = o.going in
-      let p = opened_open (frames.Fields end ms ∷ fs) o.front o.inside (omega arith) in
+  begun (frames.Fields end ms ∷ fs) Purpose.FieldName u used few o h =
+      let left : used < end = h in
+      let p = opened_open (frames.Fields end ms ∷ fs) u o (omega (arith, few, left)) in
       by p.ks p.match p.open'
     where
-      by : (ks : List Container) → Match c (frames.Fields end ms ∷ fs) ks → Open g l c start ks o.front
-          → Numbered (frames.Fields end ms ∷ fs) Purpose.FieldName a u
+      by : (ks : List Container) → Match c (frames.Fields end ms ∷ fs) ks → Open g l c start ks u → Begun (frames.Fields end ms ∷ fs) Purpose.FieldName u
       by _ (names _ _ _ ks m) x = record {
         ks = Names end ∷ ks;
         q = Name;
         same = refl;
         frames' = name_in end ks (frames.Fields end ms ∷ fs) (names end ms fs ks m);
-        inside = record {
-          before = o.front;
-          digits = o.digits;
-          parts = o.whole;
-          comes = a_name end ks o.front x;
-          small = o.small;
-          value = o.value;
-          bound =
-              small;
-          goes_on = name_goes ks end (length u) o.going;
-        };
+        comes = a_name end ks u x;
       }
-  numbered (frames.Annotated end ss ∷ fs) Purpose.AnnotationsLength a u small o =
-      let p = opened_open fs o.box.before o.box.outer (box_inside fs Form.Wrapper end o.front o.box) in
+  begun (frames.Annotated end ss ∷ fs) Purpose.AnnotationsLength u used few o h =
+      let p = opened_open fs o.box.before o.box.outer (box_inside fs Form.Wrapper end u o.box) in
       record {
         ks = p.ks;
         q = Count end;
         same = refl;
         frames' = subst (λ x. InFrames c p.ks (Count end) (frames.Annotated end x ∷ fs)) (sym o.none_yet) (count_in p.ks end fs p.match);
-        inside = record {
-          before = o.front;
-          digits = o.digits;
-          parts = o.whole;
-          comes = a_count p.ks end o.front (headed fs Form.Wrapper end o.front o.box p);
-          small = o.small;
-          value = o.value;
-          bound = small;
-          goes_on = count_goes p.ks end (length u) o.going;
-        };
+        comes = a_count p.ks end u (headed fs Form.Wrapper end u o.box p);
       }
-  numbered (frames.Annotated end ss ∷ fs) (Purpose.Annotation stop) a u small o =
+  begun (frames.Annotated end ss ∷ fs) (Purpose.Annotation stop) u used few o h =
       let p = opened_open fs o.box.before o.box.outer (box_inside fs Form.Wrapper end o.front o.box) in
-      let e = o.stops in
-      let r = o.room in
       record {
         ks = p.ks;
         q = Id stop;
         same = refl;
         frames' = id_in p.ks end stop ss fs p.match;
+        comes = subst₂ (λ x w. deciding.Before g l c start p.ks (Id x) w) (sym o.stops) (sym o.whole)
+            (an_id p.ks end o.n o.front o.count o.ids ss (headed fs Form.Wrapper end o.front o.box p) o.number o.some o.symbols
+            (omega (arith, o.stops, o.room)));
+      }
+  begun _ _ u used few o h = absurd o
+
+  -- where the machine stands in a VarUInt, the octets end inside of one
+  pub numbered : (fs : List Frame) (p : Purpose) (a : ℕ) (u : List ℕ) → NumberStands g l start c s fs p a u → Numbered fs p a u
+  numbered fs p a u o =
+      let n = begun fs p o.front (length u) (omega (arith, ap length o.whole, length-append o.front o.digits)) o.begins o.going in
+      record {
+        ks = n.ks;
+        q = n.q;
+        same = n.same;
+        frames' = n.frames';
         inside = record {
-          before = o.front ++ (o.count ++ o.ids);
+          before = o.front;
           digits = o.digits;
-          parts = o.whole ∙ (ap (λ x. o.front ++ x) (sym (append_assoc o.count o.ids o.digits)) ∙ sym (append_assoc o.front (o.count ++ o.ids) o.digits));
-          comes = subst (λ x. deciding.Before g l c start p.ks (Id x) (o.front ++ (o.count ++ o.ids))) (sym e)
-              (an_id p.ks end o.n o.front o.count o.ids ss (headed fs Form.Wrapper end o.front o.box p) o.number o.some o.symbols (omega arith));
+          parts = o.whole;
+          comes = n.comes;
           small = o.small;
           value = o.value;
-          bound = small;
-          goes_on = id_goes p.ks stop (length u) o.going;
+          bound = o.bound;
+          goes_on = may_go n.ks n.q fs (length u) n.frames' (subst (λ p. NumberGoing l start fs p (length u)) (sym n.same) o.going);
         };
       }
-  numbered _ _ a u small o = absurd o

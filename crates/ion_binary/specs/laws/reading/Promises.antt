@@ -2,16 +2,17 @@
 use Rattle.std.proofs.Common.{◌≡◌, ◌↔◌, ℕ, ◌+◌, ◌≤◌, ◌<◌, List, [], ◌∷◌, ◌++◌, length, take, Result, Ok, Err, Option, Some, None, false, refl, ap, sym, ◌∙◌, subst, arith, append_assoc, append-nil, length-append, Bool, cond, option_to_list, inl, inr}
 use Rattle.std.proofs.lemmas.Bool.{cases_lt}
 use Rattle.std.proofs.Math.Seq.{take-append-add}
-use Rattle.ion_binary.specs.Names.{BeginsNone, Catalog, Document, EndsValues, Frame, GivesNoTable, Grows, HasPieces, HasReasons, Incomplete, IsFirst, IsReadersReason, IsSmall, Limits, Machine, NoTables, OpenRest, Phase, Pieces, Ready, Reason, Refusal, Refuses, Run, Shown, Shows, Slot, Spaced, Streams, Value, Whole, anew, at, begins, document, ends_of, holds, initial, is_table, marked, no_piece, of_marker, on_now, plain, refused_of, run, run-append, skips, the_marker, then_run, trace, trace_of, turns, under, whole}
+use Rattle.ion_binary.specs.Names.{BeginsNone, Catalog, Decides, Document, EndsValues, Frame, GivesNoTable, Grows, HasPieces, HasReasons, Incomplete, IsFirst, IsReadersReason, IsSmall, Limits, Machine, NoTables, OpenRest, Phase, Pieces, Ready, Reason, Refusal, Refuses, Run, Shown, Shows, Slot, Spaced, Streams, Value, Whole, anew, at, begins, document, ends_of, holds, initial, is_table, marked, no_piece, of_marker, on_now, plain, refused_of, run, run-append, skips, the_marker, then_run, trace, trace_of, turns, under, whole}
 use Rattle.ion_symtab.specs.Decided.{IsDecided}
 use Rattle.ion_symtab.specs.laws.Promises.{first_refused, shown_once}
+use Rattle.ion_symtab.specs.laws.Reasons.{either}
+use Rattle.ion_binary.specs.laws.reading.Decided.{row_decides}
 use Rattle.ion_binary.specs.laws.reading.Documents.{pieces_run}
-use Rattle.ion_binary.specs.laws.reading.OpenRests.{OpenCut, rest_long, standing_fine, standing_open}
+use Rattle.ion_binary.specs.laws.reading.OpenRests.{OpenCut, standing_open}
 use Rattle.ion_binary.specs.laws.reading.Small.{spaced_on}
-use Rattle.ion_binary.specs.laws.reading.Stands.{MachineStands, Standing}
-use Rattle.ion_binary.specs.laws.reading.Steady.{FineFrames, Steady, feed_steady}
-use Rattle.ion_binary.specs.laws.reading.Stops.{Stop, begins_none, stop_of, stopped, whole_within}
-use Rattle.ion_binary.specs.laws.reading.sound.Sound.{Ended, initial_stands, run_stands}
+use Rattle.ion_binary.specs.laws.reading.Stands.{Leaves, MachineStands, Standing}
+use Rattle.ion_binary.specs.laws.reading.Stops.{Stop, begins_none, stop_of, stop_taken, stopped, whole_within}
+use Rattle.ion_binary.specs.laws.reading.sound.Sound.{Ended, feed_stands, initial_stands, run_stands}
 
 -- a document where the end is reached with no open piece
 finished : (g : Catalog) (l : Limits) (c : List Slot) (fs : List Frame) (phase : Phase) (start : ℕ) (s : List Value) (body u : List ℕ) (r : Refusal)
@@ -117,7 +118,7 @@ pub shown : (g : Catalog) (l : Limits) (u : List ℕ) → (trace g l u).refused 
     → Shows (λ front following s. Whole g l front s) (λ front rest. OpenRest l rest) u (plain (trace g l u).given)
 shown g l u h = shows_now g l u (run g l 0 initial u).given (run g l 0 initial u).now refl h
 
-refused_is : (now : Result Machine Refusal) (r : Refusal) → refused_of now ≡ Some r → now ≡ Err r
+pub refused_is : (now : Result Machine Refusal) (r : Refusal) → refused_of now ≡ Some r → now ≡ Err r
 refused_is (Ok m) r h = absurd cc
 refused_is (Err e) r h = cc
 
@@ -157,14 +158,15 @@ stop_shown g l u r p =
           | inr le ↦ inside v rest t e le w
         ]
 
-stop_decides : (g : Catalog) (l : Limits) (u : List ℕ) (r : Refusal) (p : Stop g l 0 initial u r) → IsDecided r.reason
-stop_decides g l u r p =
+-- each refusal has a row (specs/laws/reading/sound/Sound.antt, where `Leaves` of a refusal is `Decides`)
+pub stopped_decides : (g : Catalog) (l : Limits) (u : List ℕ) (r : Refusal) → (p : Stop g l 0 initial u r) → Decides g l (p.before ++ p.b ∷ []) r.reason
+stopped_decides g l u r p =
     let s = ran_stands g l p.before (run g l 0 initial u).given p.n p.ran in
-    let c = cut_of g l p.before (run g l 0 initial u).given p.n p.ran in
-    let e = s.used in
-    let k = rest_long g l p.n.spot.start _ p.before c.cut in
-    subst (Steady p.n.spot.start (FineFrames p.n.frames)) p.refused (feed_steady (under g l) p.n p.b (omega arith))
-    (standing_fine g l p.n.spot.start p.n.spot.context _ p.n.frames p.n.body p.n.phase p.before s.standing)
+    subst (Leaves g l (p.before ++ p.b ∷ []) (plain (run g l 0 initial u).given)) p.refused
+    (feed_stands g l p.n p.before (plain (run g l 0 initial u).given) p.b s)
+
+stop_decides : (g : Catalog) (l : Limits) (u : List ℕ) (r : Refusal) (p : Stop g l 0 initial u r) → IsDecided r.reason
+stop_decides g l u r p = row_decides g l (p.before ++ p.b ∷ []) r.reason (stopped_decides g l u r p)
 
 -- a refusal at n means that no document begins with the first n octets
 pub refused : (g : Catalog) (l : Limits) (u : List ℕ) (r : Refusal) → (trace g l u).refused ≡ Some r
@@ -172,16 +174,12 @@ pub refused : (g : Catalog) (l : Limits) (u : List ℕ) (r : Refusal) → (trace
 refused g l u r h =
     let e = refused_is (run g l 0 initial u).now r h in
     let p = stop_of g l 0 initial u r e in
-    let o = p.offset in
-    let n : length u ≡ length (p.before ++ p.b ∷ p.rest) = ap length p.parts in
-    let k = length-append p.before (p.b ∷ p.rest) in
-    let taken : take r.offset u ≡ p.before ++ p.b ∷ [] = ap (λ (x : ℕ). take x u) (let i : r.offset ≡ length p.before + 1 = omega arith in i)
-    ∙ (ap (take (length p.before + 1)) p.parts ∙ take-append-add p.before (p.b ∷ p.rest) 1) in
+    let t = stop_taken g l u r p in
     let d = stop_decides g l u r p in
     record {
-      within = omega arith;
-      none = subst (BeginsNone (Document g l)) (sym taken) (begins_none g l (p.before ++ p.b ∷ []) _ (stopped g l u r p));
-      shown = subst (λ w. Shown (λ front following s. Whole g l front s) w (plain (run g l 0 initial u).given)) (sym taken) (stop_shown g l u r p);
+      within = t.0;
+      none = subst (BeginsNone (Document g l)) (sym t.1) (begins_none g l (p.before ++ p.b ∷ []) _ (stopped g l u r p));
+      shown = subst (λ w. Shown (λ front following s. Whole g l front s) w (plain (run g l 0 initial u).given)) (sym t.1) (stop_shown g l u r p);
       ends = ap ends_of e;
       whole_memory = λ i. subst IsDecided i d;
       before_end = λ i. subst IsDecided i d;
@@ -191,17 +189,22 @@ cond_offset : (b : Bool) (last : Option Value) (q r : Refusal) → cond b (Ok la
 cond_offset Bool.true last q r h = absurd cc
 cond_offset Bool.false last q r h = cc
 
-unfinished_now : (g : Catalog) (l : Limits) (u : List ℕ) (given : List (Value × ℕ)) (now : Result Machine Refusal) (r : Refusal)
-    → run g l 0 initial u ≡ record { given = given; now = now } → refused_of now ≡ None → ends_of now ≡ Err r → r.offset ≡ length u
-unfinished_now g l u given (Err e) r ran h k = absurd cc
-unfinished_now g l u given (Ok m) r ran h k =
+ends_now : (g : Catalog) (l : Limits) (u : List ℕ) (given : List (Value × ℕ)) (now : Result Machine Refusal) (r : Refusal)
+    → run g l 0 initial u ≡ record { given = given; now = now } → refused_of now ≡ None → ends_of now ≡ Err r
+    → r ≡ record { offset = length u; reason = Incomplete }
+ends_now g l u given (Err e) r ran h k = absurd cc
+ends_now g l u given (Ok m) r ran h k =
     let s = ran_stands g l u given m ran in
-    let e = ap (λ (q : Refusal). q.offset) (cond_offset (whole m.phase m.frames) None _ r k) in
-    sym e ∙ s.used
+    sym (cond_offset (whole m.phase m.frames) None _ r k) ∙ ap (λ n. record { offset = n; reason = Incomplete }) s.used
+
+-- where no octet is refused, the end refuses for `Incomplete` alone, behind all octets
+pub ends : (g : Catalog) (l : Limits) (u : List ℕ) (r : Refusal) → (trace g l u).refused ≡ None → (trace g l u).ends ≡ Err r
+    → r ≡ record { offset = length u; reason = Incomplete }
+ends g l u r h k = ends_now g l u (run g l 0 initial u).given (run g l 0 initial u).now r refl h k
 
 -- a refusal at the end counts all octets
 pub unfinished : (g : Catalog) (l : Limits) (u : List ℕ) (r : Refusal) → (trace g l u).refused ≡ None → (trace g l u).ends ≡ Err r → r.offset ≡ length u
-unfinished g l u r h k = unfinished_now g l u (run g l 0 initial u).given (run g l 0 initial u).now r refl h k
+unfinished g l u r h k = ap (λ (q : Refusal). q.offset) (ends g l u r h k)
 
 readers_reason : (reason : Reason) → IsDecided reason → IsReadersReason reason
 readers_reason reason d = record { whole_memory = λ i. subst IsDecided i d; no_duplicate = λ i. subst IsDecided i d; no_bad_table = λ i. subst IsDecided i d }
@@ -213,8 +216,8 @@ end_reason : (g : Catalog) (l : Limits) (u : List ℕ) (now : Result Machine Ref
     → IsReadersReason r.reason
 end_reason g l u (Err q) r ran h = let same : q ≡ r = cc in subst (λ (x : Refusal). IsReadersReason x.reason) same (step_reason g l u q ran)
 end_reason g l u (Ok m) r ran h =
-    let reason : Incomplete ≡ r.reason = ap (λ (q : Refusal). q.reason) (cond_offset (whole m.phase m.frames) None _ r h) in
-    subst IsReadersReason reason (record { whole_memory = λ i. cc; no_duplicate = λ i. cc; no_bad_table = λ i. cc })
+    subst (λ (q : Refusal). IsReadersReason q.reason) (sym (ends g l u r (ap refused_of ran) (ap ends_of ran ∙ h)))
+    (record { whole_memory = λ i. cc; no_duplicate = λ i. cc; no_bad_table = λ i. cc })
 
 -- neither a step nor the end refuses for want of memory, or for what only a catalog is refused
 pub reasons : (g : Catalog) (l : Limits) (u : List ℕ) → HasReasons (trace g l u)
@@ -269,13 +272,9 @@ spaced_now g l u (Err r) e =
     let k = length-append p.before (p.b ∷ p.rest) in
     spaced_on l.item 0 (run g l 0 initial u).given (length p.before) (length u) (spaced_ok g l p.before (run g l 0 initial u).given p.n p.ran) (omega arith)
 
-cond_last : (b : Bool) (r : Refusal) (v : Value) → cond b (Ok None) (Err r) ≡ Ok (Some v) → ⊥
-cond_last Bool.true r v h = cc
-cond_last Bool.false r v h = cc
-
 no_last : (now : Result Machine Refusal) (v : Value) → ends_of now ≡ Ok (Some v) → ⊥
-no_last (Ok m) v h = cond_last (whole m.phase m.frames) _ v h
-no_last (Err e) v h = cc
+no_last (Ok m) v = either (λ (x : Result (Option Value) Refusal). x ≡ Ok (Some v) → ⊥) (whole m.phase m.frames) _ _ (λ h. cc) (λ h. cc)
+no_last (Err e) v = λ h. cc
 
 -- a value has at most as many nodes as octets were used since the value before it, and as an item may have
 pub small : (g : Catalog) (l : Limits) (u : List ℕ) → IsSmall l.item u (trace g l u)
@@ -309,8 +308,7 @@ documents_are_pieces g l u s d = record {
   front = u;
   open_rest = [];
   parts = sym (append-nil u);
-  whole =
-      document u s d.0 d.1;
+  whole = document u s d.0 d.1;
   rest = of_marker [] (omega arith);
 }
 

@@ -185,12 +185,9 @@ module _ (g : Catalog) (l : Limits) (c : List Slot) (start : ℕ) where
   header_here _ _ _ form n u (length_in ks f fs m) e o = record {
     ks = ks;
     match = m;
-    ends =
-        deciding.by_length u (subst (λ x. EndsNumber g l c start ks (Length x) n u) (let k : f ≡ form = cc in k) o);
+    ends = deciding.by_length u (subst (λ x. EndsNumber g l c start ks (Length x) n u) (let k : f ≡ form = cc in k) o);
   }
-  header_here _ _ _ form n u (name_in end ks fs m) e o = absurd cc
-  header_here _ _ _ form n u (count_in ks end fs m) e o = absurd cc
-  header_here _ _ _ form n u (id_in ks end stop ss fs m) e o = absurd cc
+  header_here _ _ _ form n u _ e o = absurd cc
 
   -- the name of a field that ends with its struct has a row
   pub value_row : (ks : List Container) (q : Number) (all fs : List Frame) (end n : ℕ) (ms : List _) (u : List ℕ) → InFrames c ks q all

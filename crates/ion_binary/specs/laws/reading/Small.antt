@@ -1,5 +1,5 @@
 -- A value has at most as many nodes as its item has octets.
-use Rattle.std.proofs.Common.{◌≡◌, ℕ, suc, ◌+◌, ◌≤◌, List, [], ◌∷◌, ◌++◌, length, map, sum, Option, pos, neg_ℤ, refl, arith, length-append}
+use Rattle.std.proofs.Common.{◌≡◌, ℕ, suc, ◌+◌, ◌≤◌, List, [], ◌∷◌, ◌++◌, length, map, sum, Option, refl, ◌∙◌, arith, length-append}
 use Rattle.std.specs.List.{sum_by}
 use Rattle.std.proofs.lemmas.List.Sums.{sum-map, sum_by-append, sum_by-cons}
 use Rattle.ion_binary.specs.Names.{Binary, Field, Fields, HasSpan, Ids, IsScalar, Listing, Payload, Plain, Scalar, Sequence, Slot, Spaced, Value, annotated, bare, field_of, is_blob, is_clob, is_decimal, is_int, is_listing, is_negative, is_null, is_ordered, is_scalar, is_string, is_struct, is_symbol, is_timestamp, is_truth, listed, no_fields, no_ids, nodes, nothing, one_field, one_id, one_more, padded, padded_field, positional, unannotated, wrapped}
@@ -7,17 +7,7 @@ use Rattle.ion_model.specs.declared.value.Payload.TheVariants as payloads
 use Rattle.ion_model.specs.declared.value.Payload.TheViews as views
 use Rattle.ion_model.specs.laws.Measures.{nodes-Null, nodes-Truth, nodes-bare, nodes-more, nodes-out}
 use Rattle.ion_binary.specs.laws.reading.Complete.{header_some, length_VarUInt}
-
--- a scalar is one node
-pub scalar_nodes : (c : List Slot) (body : List ℕ) (t : Scalar) (p : Payload) → IsScalar c body t p → nodes (bare p) ≡ 1
-scalar_nodes c body _ _ (is_int h) = nodes-bare (payloads.Int (pos (positional 256 body))) _ (views.outs-Int (pos (positional 256 body)))
-scalar_nodes c body _ _ (is_negative h k) = nodes-bare (payloads.Int (neg_ℤ (pos (positional 256 body)))) _ (views.outs-Int (neg_ℤ (pos (positional 256 body))))
-scalar_nodes c body _ _ (is_decimal d h k) = nodes-bare (payloads.Decimal d) _ (views.outs-Decimal d)
-scalar_nodes c body _ _ (is_timestamp t h) = nodes-bare (payloads.Timestamp t) _ (views.outs-Timestamp t)
-scalar_nodes c body _ _ (is_symbol s h k) = nodes-bare (payloads.Symbol s) _ (views.outs-Symbol s)
-scalar_nodes c body _ _ (is_string h) = nodes-bare (payloads.Str body) _ (views.outs-Str body)
-scalar_nodes c body _ _ is_clob = nodes-bare (payloads.Clob body) _ (views.outs-Clob body)
-scalar_nodes c body _ _ is_blob = nodes-bare (payloads.Blob body) _ (views.outs-Blob body)
+use Rattle.ion_binary.specs.laws.reading.Judged.{scalar_leaf}
 
 -- a list or an s-expression is a node beside those of its items
 pub nodes-listed : (x : Listing) (vs : List Value) → nodes (bare (listed x vs)) ≡ suc (sum (map nodes vs))
@@ -58,7 +48,7 @@ mutual
   plain_nodes : (c : List Slot) (w : List ℕ) (p : Payload) → Plain c w p → nodes (bare p) ≤ length w
   plain_nodes c _ _ (is_null b k d) = let n = nodes-Null k in omega arith
   plain_nodes c _ _ (is_truth b t d) = let n = nodes-Truth t in omega arith
-  plain_nodes c _ _ (is_scalar h body t p d i) = let n = scalar_nodes c body t p i in let a = header_some _ _ h d in let e = length-append h body in omega arith
+  plain_nodes c _ _ (is_scalar h body t p d i) = let n = nodes-bare p _ refl ∙ (scalar_leaf c body t p i).node in let a = header_some _ _ h d in let e = length-append h body in omega arith
   plain_nodes c _ _ (is_listing h body x vs d q) = let n = nodes-listed x vs in let a = header_some _ _ h d in let e = length-append h body in let i =
       sequence_nodes c body vs q in omega arith
   plain_nodes c _ _ (is_struct h body ms d q) = let n = nodes-fields ms in let a = header_some _ _ h d in let e = length-append h body in let i =

@@ -28,9 +28,8 @@ InRoom (f ∷ fs) to = to ≤ end_of f
 -- a VarUInt may reach up to `to`
 abbrev pub NumberRoom : Limits → ℕ → List Frame → Purpose → ℕ → Type 0
 NumberRoom l start fs (Purpose.Length form) to = HasRoom l start fs form to
-NumberRoom l start fs Purpose.FieldName to = InRoom fs to
-NumberRoom l start fs Purpose.AnnotationsLength to = InRoom fs to
 NumberRoom l start fs (Purpose.Annotation stop) to = to ≤ stop
+NumberRoom l start fs _ to = InRoom fs to
 
 -- a descriptor may come
 abbrev pub Receives : List Frame → Type 0
@@ -134,23 +133,9 @@ pub record AwaitsDescriptor (g : Catalog) (l : Limits) (start : ℕ) (c : List S
   pub receives : Receives fs
   pub more : Inside fs (length u)
 
--- the octets of a good marker before this one
-abbrev pub marker_front : Mark → List ℕ
-marker_front First = []
-marker_front Second = 224 ∷ []
-marker_front Third = 224 ∷ 1 ∷ []
-marker_front Fourth = 224 ∷ 1 ∷ 0 ∷ []
-
 -- the octets of pieces, or none at all
 abbrev pub Front : Catalog → Limits → ℕ → List Slot → List Value → List ℕ → Type 0
 Front g l start c s u = ((u ≡ []) × (s ≡ []) × (start ≡ 0)) ⊎ (Pieces g l u s c × (length u ≡ start))
-
--- so many octets of a marker stand before this one
-abbrev pub marker_place : Mark → ℕ
-marker_place First = 0
-marker_place Second = 1
-marker_place Third = 2
-marker_place Fourth = 3
 
 -- the octets of a marker that came, and whether they are good
 abbrev pub MarkCame : Mark → Bool → List ℕ → Type 0
@@ -164,19 +149,12 @@ abbrev pub AtFirst : Mark → List ℕ → Type 0
 AtFirst First before = before ≡ []
 AtFirst _ before = Unit {0}
 
--- nothing is known of a marker that is bad already
-abbrev pub IfGood : Bool → Type 0 → Type 0
-IfGood true P = P
-IfGood false P = Unit {0}
-
 -- in a version marker, behind pieces or none yet
 pub record MarkerStands (g : Catalog) (l : Limits) (start : ℕ) (c : List Slot) (s : List Value) (fs : List Frame) (m : Mark) (good : Bool) (u : List ℕ) : Type
     0 where
   pub before : List ℕ
   pub came : List ℕ
   pub whole : u ≡ before ++ came
-  pub long : length came ≡ marker_place m
-  pub fits : IfGood good (came ≡ marker_front m)
   pub front : Front g l start c s before
   pub top : fs ≡ []
   pub octets : MarkCame m good came
@@ -187,77 +165,56 @@ abbrev pub Going : Limits → ℕ → List Frame → Form → ℕ → Type 0
 Going l start (f ∷ fs) form used = used < end_of f
 Going l start [] form used = TopRoom l.item start form used
 
--- in the length of a form
-pub record LengthStands (g : Catalog) (l : Limits) (start : ℕ) (c : List Slot) (s : List Value) (fs : List Frame) (form : Form) (a : ℕ) (u : List ℕ) : Type
+-- a VarUInt may
+abbrev pub NumberGoing : Limits → ℕ → List Frame → Purpose → ℕ → Type 0
+NumberGoing l start fs (Purpose.Length form) used = Going l start fs form used
+NumberGoing l start fs (Purpose.Annotation stop) used = used < stop
+NumberGoing l start fs _ used = Inside fs used
+
+-- the octets that end before a VarUInt, by what it stands for
+abbrev pub NumberBegins : Catalog → Limits → ℕ → List Slot → List Value → List Frame → Purpose → List ℕ → Type 0
+NumberBegins g l start c s fs (Purpose.Length form) u =
+    record {
+      before : List ℕ;
+      b : ℕ;
+      whole : u ≡ before ++ b ∷ [];
+      outer : Opened g l start c s fs before;
+      accepts : Accepts form fs;
+      admits : Fitting fs form;
+      more : Inside fs (length before);
+      head : opening_of b ≡ Sized form Follows;
+    }
+NumberBegins g l start c s (frames.Fields end ms ∷ fs) Purpose.FieldName u = InFields l start c (Opened g l start c s fs) fs end ms u
+NumberBegins g l start c s (frames.Annotated end ss ∷ fs) Purpose.AnnotationsLength u =
+    record { box : Box l start (Opened g l start c s fs) fs Form.Wrapper end u; bare : IsBare fs; none_yet : ss ≡ [] }
+NumberBegins g l start c s (frames.Annotated end ss ∷ fs) (Purpose.Annotation stop) u =
+    record {
+      front : List ℕ;
+      count : List ℕ;
+      ids : List ℕ;
+      n : ℕ;
+      whole : u ≡ front ++ (count ++ ids);
+      box : Box l start (Opened g l start c s fs) fs Form.Wrapper end front;
+      bare : IsBare fs;
+      number : VarUInt count n;
+      some : 0 < n;
+      stops : stop ≡ length front + length count + n;
+      symbols : Ids c ids ss;
+      room : stop < end;
+    }
+NumberBegins g l start c s _ _ u = ⊥
+
+-- in a VarUInt, whose octets so far make a
+pub record NumberStands (g : Catalog) (l : Limits) (start : ℕ) (c : List Slot) (s : List Value) (fs : List Frame) (p : Purpose) (a : ℕ) (u : List ℕ) : Type
     0 where
-  pub before : List ℕ
-  pub b : ℕ
-  pub digits : List ℕ
-  pub whole : u ≡ before ++ (b ∷ digits)
-  pub outer : Opened g l start c s fs before
-  pub accepts : Accepts form fs
-  pub admits : Fitting fs form
-  pub more : Inside fs (length before)
-  pub head : opening_of b ≡ Sized form Follows
-  pub small : Digits128 digits
-  pub value : a ≡ positional 128 digits
-  pub bound : a < 2 ^ 63
-  pub going : Going l start fs form (length u)
-
--- in the id of a field name
-pub record NameStands (g : Catalog) (l : Limits) (start : ℕ) (c : List Slot) (s : List Value) (fs : List Frame) (end : ℕ) (ms : List Field) (a : ℕ)
-    (u : List ℕ) : Type 0 where
   pub front : List ℕ
   pub digits : List ℕ
   pub whole : u ≡ front ++ digits
-  pub inside : InFields l start c (Opened g l start c s fs) fs end ms front
+  pub begins : NumberBegins g l start c s fs p front
   pub small : Digits128 digits
   pub value : a ≡ positional 128 digits
   pub bound : a < 2 ^ 63
-  pub going : length u < end
-
--- in the number of the octets of annotations
-pub record CountStands (g : Catalog) (l : Limits) (start : ℕ) (c : List Slot) (s : List Value) (fs : List Frame) (end : ℕ) (ss : List (Option (List ℕ))) (a : ℕ)
-    (u : List ℕ) : Type 0 where
-  pub front : List ℕ
-  pub digits : List ℕ
-  pub whole : u ≡ front ++ digits
-  pub box : Box l start (Opened g l start c s fs) fs Form.Wrapper end front
-  pub bare : IsBare fs
-  pub none_yet : ss ≡ []
-  pub small : Digits128 digits
-  pub value : a ≡ positional 128 digits
-  pub bound : a < 2 ^ 63
-  pub going : length u < end
-
--- in the id of an annotation
-pub record AnnotationStands (g : Catalog) (l : Limits) (start : ℕ) (c : List Slot) (s : List Value) (fs : List Frame) (end : ℕ) (ss : List (Option (List ℕ)))
-    (stop : ℕ) (a : ℕ) (u : List ℕ) : Type 0 where
-  pub front : List ℕ
-  pub count : List ℕ
-  pub ids : List ℕ
-  pub digits : List ℕ
-  pub n : ℕ
-  pub whole : u ≡ front ++ (count ++ (ids ++ digits))
-  pub box : Box l start (Opened g l start c s fs) fs Form.Wrapper end front
-  pub bare : IsBare fs
-  pub number : VarUInt count n
-  pub some : 0 < n
-  pub stops : stop ≡ length front + length count + n
-  pub symbols : Ids c ids ss
-  pub small : Digits128 digits
-  pub value : a ≡ positional 128 digits
-  pub bound : a < 2 ^ 63
-  pub room : stop < end
-  pub going : length u < stop
-
--- in a VarUInt, by what it stands for
-abbrev pub NumberStands : Catalog → Limits → ℕ → List Slot → List Value → List Frame → Purpose → ℕ → List ℕ → Type 0
-NumberStands g l start c s fs (Purpose.Length form) a u = LengthStands g l start c s fs form a u
-NumberStands g l start c s (frames.Fields end ms ∷ fs) Purpose.FieldName a u = NameStands g l start c s fs end ms a u
-NumberStands g l start c s (frames.Annotated end ss ∷ fs) Purpose.AnnotationsLength a u = CountStands g l start c s fs end ss a u
-NumberStands g l start c s (frames.Annotated end ss ∷ fs) (Purpose.Annotation stop) a u = AnnotationStands g l start c s fs end ss stop a u
-NumberStands g l start c s _ _ a u = ⊥
+  pub going : NumberGoing l start fs p (length u)
 
 -- in a body of which `came` has come
 pub record BodyStands (g : Catalog) (l : Limits) (start : ℕ) (c : List Slot) (s : List Value) (fs : List Frame) (form : Form) (n : ℕ) (came : List ℕ)

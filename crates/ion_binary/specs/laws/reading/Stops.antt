@@ -1,8 +1,9 @@
 -- Where a run goes on, and where it is refused.
-use Rattle.std.proofs.Common.{◌≡◌, ℕ, ◌+◌, ◌≤◌, List, [], ◌∷◌, ◌++◌, length, Ok, Err, refl, ap, sym, ◌∙◌, subst, arith}
-use Rattle.ion_binary.specs.Names.{BeginsNone, Catalog, Document, Limits, Machine, Outcome, Ready, Refusal, Run, Value, Whole, anew, at, document, feed, gives, goes, initial, no_piece, on_now, refuses, run, run-append, run_on, then_run, under, with_value}
+use Rattle.std.proofs.Common.{◌≡◌, ℕ, ◌+◌, ◌≤◌, List, [], ◌∷◌, ◌++◌, length, take, Ok, Err, refl, ap, sym, ◌∙◌, subst, arith, length-append}
+use Rattle.std.proofs.Math.Seq.{take-append-add}
+use Rattle.ion_binary.specs.Names.{BeginsNone, Catalog, Document, Limits, Machine, Outcome, Ready, Refusal, Run, Value, Whole, anew, at, document, feed, gives, goes, initial, no_piece, on_now, refuses, run, run-append, run_on, then_run, under}
 use Rattle.ion_binary.specs.laws.reading.Documents.{pieces_run}
-use Rattle.ion_binary.specs.laws.reading.Steady.{FineFrames, Steady, feed_steady}
+use Rattle.ion_binary.specs.laws.reading.Steady.{Steady, feed_steady}
 
 -- the start of the open piece never moves back
 pub run_onward : (g : Catalog) (l : Limits) (to : ℕ) (m : Machine) (w : List ℕ) (n : Machine) → m.spot.start ≤ m.spot.used → (run g l to m w).now ≡ Ok n
@@ -10,8 +11,7 @@ pub run_onward : (g : Catalog) (l : Limits) (to : ℕ) (m : Machine) (w : List �
 run_onward g l to m [] n h e = let k : m ≡ n = cc in subst (λ (x : Machine). m.spot.start ≤ x.spot.start) k (omega arith)
 run_onward g l to m (b ∷ bs) n h e = go (feed (under g l) m b) (feed_steady (under g l) m b h) (λ k i. run_onward g l (to + 1) k bs n i) e
   where
-    go : (o : Outcome) → Steady m.spot.start (FineFrames m.frames) o
-        → ((k : Machine) → k.spot.start ≤ k.spot.used → (run g l (to + 1) k bs).now ≡ Ok n → k.spot.start ≤ n.spot.start)
+    go : (o : Outcome) → Steady m.spot.start o → ((k : Machine) → k.spot.start ≤ k.spot.used → (run g l (to + 1) k bs).now ≡ Ok n → k.spot.start ≤ n.spot.start)
         → (run_on (to + 1) (λ k. run g l (to + 1) k bs) o).now ≡ Ok n → m.spot.start ≤ n.spot.start
     go (goes k) s f e = let a = s.from in let b = f k s.to e in omega arith
     go (gives v k) s f e = let a = s.from in let b = f k s.to e in omega arith
@@ -36,36 +36,25 @@ stop_of g l to m (b ∷ bs) r h = go (feed (under g l) m b) refl (λ n. stop_of 
     on : List ℕ → Outcome → Run
     on ys o = run_on (to + 1) (λ n. run g l (to + 1) n ys) o
 
+    later : (o : Outcome) (front : List (Value × ℕ)) (n : Machine) → feed (under g l) m b ≡ o
+        → ((ys : List ℕ) → on ys o ≡ on_now front (Ok n) (λ n. run g l (to + 1) n ys)) → Stop g l (to + 1) n bs r → Stop g l to m (b ∷ bs) r
+    later o front n e same p = record {
+      before = b ∷ p.before;
+      b = p.b;
+      rest = p.rest;
+      n = p.n;
+      parts = ap (λ xs. b ∷ xs) p.parts;
+      ran = ap (on p.before) e
+          ∙ (same p.before ∙ (ap (λ (x : Run). record { given = front ++ x.given; now = x.now }) p.ran
+          ∙ ap (λ (x : Run). record { given = x.given; now = Ok p.n }) (sym (ap (on bs) e ∙ same bs))));
+      offset = omega (arith, p.offset);
+      refused = p.refused;
+    }
+
     go : (o : Outcome) → feed (under g l) m b ≡ o → ((n : Machine) → (run g l (to + 1) n bs).now ≡ Err r → Stop g l (to + 1) n bs r)
         → (run_on (to + 1) (λ n. run g l (to + 1) n bs) o).now ≡ Err r → Stop g l to m (b ∷ bs) r
-    go (goes n) e rest h =
-        let p = rest n h in
-        let o = p.offset in
-        record {
-          before = b ∷ p.before;
-          b = p.b;
-          rest = p.rest;
-          n = p.n;
-          parts = ap (λ xs. b ∷ xs) p.parts;
-          ran = ap (run_on (to + 1) (λ n. run g l (to + 1) n p.before)) e
-              ∙ (p.ran ∙ ap (λ o. record { given = (run_on (to + 1) (λ n. run g l (to + 1) n bs) o).given; now = Ok p.n }) (sym e));
-          offset = omega arith;
-          refused = p.refused;
-        }
-    go (gives v n) e rest h =
-        let p = rest n h in
-        let o = p.offset in
-        record {
-          before = b ∷ p.before;
-          b = p.b;
-          rest = p.rest;
-          n = p.n;
-          parts = ap (λ xs. b ∷ xs) p.parts;
-          ran = ap (run_on (to + 1) (λ n. run g l (to + 1) n p.before)) e
-              ∙ (ap (with_value v (to + 1)) p.ran ∙ ap (λ o. record { given = (run_on (to + 1) (λ n. run g l (to + 1) n bs) o).given; now = Ok p.n }) (sym e));
-          offset = omega arith;
-          refused = p.refused;
-        }
+    go (goes n) e rest h = later (goes n) [] n e (λ ys. refl) (rest n h)
+    go (gives v n) e rest h = later (gives v n) ((v, to + 1) ∷ []) n e (λ ys. refl) (rest n h)
     go (refuses x) e rest h =
         let is : record { offset = to + 1; reason = x } ≡ r = cc in
         let o = ap (λ (q : Refusal). q.offset) is in
@@ -79,6 +68,16 @@ stop_of g l to m (b ∷ bs) r h = go (feed (under g l) m b) refl (λ n. stop_of 
           offset = omega arith;
           refused = e ∙ ap (λ (q : Refusal). refuses q.reason) is;
         }
+
+-- that is the last of the octets that it counts
+pub stop_taken : (g : Catalog) (l : Limits) (u : List ℕ) (r : Refusal) (p : Stop g l 0 initial u r) → (r.offset ≤ length u)
+    × (take r.offset u ≡ p.before ++ p.b ∷ [])
+stop_taken g l u r p =
+    let o = p.offset in
+    let at : r.offset ≡ length p.before + 1 = omega arith in (
+      omega (arith, at, ap length p.parts, length-append p.before (p.b ∷ p.rest)),
+      ap (λ (x : ℕ). take x u) at ∙ (ap (take (length p.before + 1)) p.parts ∙ take-append-add p.before (p.b ∷ p.rest) 1),
+    )
 
 -- the octets up to the refused one are refused
 pub stopped : (g : Catalog) (l : Limits) (u : List ℕ) (r : Refusal) (p : Stop g l 0 initial u r) → (run g l 0 initial (p.before ++ p.b ∷ [])).now

@@ -1,6 +1,6 @@
-use Rattle.std.proofs.Common.{List, [], ◌∷◌, ◌++◌, refl, ap, sym, subst, ◌∙◌}
+use Rattle.std.proofs.Common.{[], ◌∷◌, refl, ap, sym, subst, ◌∙◌}
 use Rattle.std.specs.Prelude.{◌+◌, if◌then◌else◌}
-use Rattle.ion_binary.specs.Names.{BinaryWalk, Bracket, Container, Depth, Event, Hears, Ready, WasTold, bracket_of, heard, open_containers, proceed, refuses, setting_of, spot_of}
+use Rattle.ion_binary.specs.Names.{BinaryWalk, Bracket, Container, Depth, Ready, Tells, bracket_of, open_containers, proceed, refuses, setting_of, spot_of}
 use Rattle.ion_visiting.specs.Events.{opens}
 use Rattle.ion_binary.specs.machine.Frames as frames
 use Rattle.ion_binary.proofs.Beginning.{front_does}
@@ -21,9 +21,8 @@ returns-clause-does g c = λ fs h around.
     let e = c.begin_value.ensures.same in
     front_does g.V.Visitor.takes r s.filter fs h around c.args.visitor.now c.begin_value.new.visitor (c.in_ok-begin_value.ensures.told fs h around)
     (record s { filter = c.open.new.self; frames = c.push.new.self; phase = Ready }) c.proceed.new.self (frames.Items (s.used + c.args.size) c.args.listing []) (bracket_of c.args.listing) _
-    c.proceed.result c.open.new.visitor c.proceed.new.visitor (subst (λ (x : Bracket). (es : List Event) → WasTold s.filter es → WasTold c.open.new.self (es ++ opens x ∷ [])
-    × Hears g.V.Visitor.takes (heard es) (heard (es ++ opens x ∷ [])) c.begin_value.new.visitor c.open.new.visitor) c.bracket_of-bracket.ensures
-    (c.open.ensures c.in_ok-heard.ensures.ok)) refl around around tt tt
+    c.proceed.result c.open.new.visitor c.proceed.new.visitor (subst (λ (x : Bracket). Tells g.V.Visitor.takes (opens x) s.filter c.open.new.self c.begin_value.new.visitor c.open.new.visitor)
+    c.bracket_of-bracket.ensures (c.open.ensures c.in_ok-heard.ensures.ok)) refl around around tt tt
     (pushed s.frames.items c.push.new.self.items (Container.Items (s.used + c.args.size) c.args.listing) c.in_ok-push.ensures.items
     ∙ ap (λ (w : BinaryWalk). Container.Items (s.used + c.args.size) c.args.listing ∷ open_containers w) e)
     (ap (λ b. if b then proceed (setting_of r) (spot_of r) (frames.Items (r.used + c.args.size) c.args.listing [] ∷ fs) else refuses Depth)

@@ -1,10 +1,10 @@
 -- Octets that pass a test of the machine fit, in the grammar's words; for those that don't, a row of the table decides.
 use Rattle.std.proofs.Common.{◌≡◌, ℕ, ◌+◌, ◌≤◌, List, [], ◌∷◌, Result, Ok, Err, Option, Some, None, refl, sym, ◌∙◌, Bool, true, false, ◌||◌, cond, leb-true, ltb-true, eqb-true, nat_le}
 use Rattle.std.proofs.lemmas.Bool.{cond-false}
-use Rattle.ion_binary.specs.Names.{Catalog, Decides, Form, Frame, ItemTooLong, Limits, Malformed, Outcome, Payload, Reason, Spot, Value, bare, deliver, end_of, is_pad, is_wrapper, judged, misfits, nameless, or_else, stray, under, unending, unless}
+use Rattle.ion_binary.specs.Names.{Catalog, Decides, Form, Frame, ItemTooLong, Limits, Malformed, Outcome, Payload, Purpose, Reason, Spot, Value, bare, deliver, end_of, is_pad, is_wrapper, judged, misfits, nameless, or_else, past, stray, under, unending, unless}
 use Rattle.ion_binary.specs.machine.Frames as frames
 use Rattle.ion_binary.specs.laws.reading.Openings.{some_none}
-use Rattle.ion_binary.specs.laws.reading.Stands.{Accepts, BodyMayEnd, Going, IsBare, IsStructOf, Leaves, Receives}
+use Rattle.ion_binary.specs.laws.reading.Stands.{Accepts, BodyMayEnd, Going, IsBare, IsStructOf, Leaves, NumberGoing, Receives}
 
 -- all forms but a pad may end at the same places
 pub ends_back : (l : Limits) (start : ℕ) (fs : List Frame) (form : Form) (to : ℕ) → is_pad form ≡ false → BodyMayEnd l start fs form to
@@ -38,6 +38,13 @@ pub unending_going : (l : Limits) (start : ℕ) (fs : List Frame) (form : Form) 
     → Going l start fs form used
 unending_going l start [] form used h = top_room (is_pad form) l.item start used h
 unending_going l start (f ∷ fs) form used h = ltb-true used (end_of f) (cond_none _ _ h)
+
+-- and so where a VarUInt may
+pub past_going : (l : Limits) (start : ℕ) (fs : List Frame) (p : Purpose) (used : ℕ) → past l.item start fs p used ≡ None → NumberGoing l start fs p used
+past_going l start fs (Purpose.Length form) used h = unending_going l start fs form used h
+past_going l start fs (Purpose.Annotation stop) used h = ltb-true used stop (cond_none _ _ h)
+past_going l start [] _ used h = tt
+past_going l start (f ∷ fs) _ used h = ltb-true used (end_of f) (cond_none _ _ h)
 
 -- where of two reasons none is given, neither is
 pub or_none : (a b : Option Reason) → or_else a b ≡ None → (a ≡ None) × (b ≡ None)

@@ -105,7 +105,7 @@ module _ (g : Catalog) (l : Limits) where
       (λ h. let apart = eqb-false spot.used end h in record {
         used = e;
         standing =
-            record { front = u; digits = []; whole = sym (append-nil u); inside = o; small = none; value = refl; bound = omega arith; going = omega arith };
+            record { front = u; digits = []; whole = sym (append-nil u); begins = o; small = none; value = refl; bound = omega arith; going = omega arith };
       })
 
   -- a value ends here

@@ -60,8 +60,7 @@ module _ (g : Catalog) (l : Limits) where
             whole = ap (λ x. u ++ x) (sym (append-nil h));
             outer = o;
             accepts = a;
-            admits =
-                ad;
+            admits = ad;
             size = suc n;
             sizes = omega arith;
             end = spot.used + suc n;
@@ -92,8 +91,7 @@ module _ (g : Catalog) (l : Limits) where
           outer = o;
           accepts = a;
           admits = ad;
-          size =
-              suc n;
+          size = suc n;
           sizes = omega arith;
           end = spot.used + suc n;
           ends = omega arith;
@@ -126,12 +124,12 @@ module _ (g : Catalog) (l : Limits) where
           front = u ++ h;
           digits = [];
           whole = sym (append-nil (u ++ h));
-          box =
-              boxed spot.start spot.context s fs u h Form.Wrapper (suc n) (spot.used + suc n) o d (omega arith) r ad;
-          bare = a;
-          none_yet = refl;
-          small =
-              none;
+          begins = record {
+            box = boxed spot.start spot.context s fs u h Form.Wrapper (suc n) (spot.used + suc n) o d (omega arith) r ad;
+            bare = a;
+            none_yet = refl;
+          };
+          small = none;
           value = refl;
           bound = omega arith;
           going = omega arith;
@@ -184,10 +182,7 @@ module _ (g : Catalog) (l : Limits) where
           before = u;
           came = b ∷ [];
           whole = refl;
-          long = refl;
-          fits = ap (λ x. x ∷ []) (marker_is b i);
-          front =
-              inr o.opened;
+          front = inr o.opened;
           top = refl;
           octets = (ap (λ x. x ∷ []) (marker_is b i), refl);
           first = tt;
@@ -216,15 +211,19 @@ module _ (g : Catalog) (l : Limits) where
       record {
         used = e;
         standing = record {
-          before = u;
-          b = b;
+          front = u ++ b ∷ [];
           digits = [];
-          whole = refl;
-          outer = o.opened;
-          accepts = stray_accepts fs form o.receives j1;
-          admits = record { receives = o.receives; fitting = j1; named = j3 };
-          more = o.more;
-          head = i;
+          whole = sym (append-nil (u ++ b ∷ []));
+          begins = record {
+            before = u;
+            b = b;
+            whole = refl;
+            outer = o.opened;
+            accepts = stray_accepts fs form o.receives j1;
+            admits = record { receives = o.receives; fitting = j1; named = j3 };
+            more = o.more;
+            head = i;
+          };
           small = none;
           value = refl;
           bound = omega arith;

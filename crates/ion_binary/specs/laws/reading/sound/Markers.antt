@@ -1,11 +1,11 @@
 -- What an octet of a version marker leaves stands for the octets.
 use Rattle.std.proofs.Common.{◌≡◌, ℕ, ◌+◌, ◌/◌, ◌%◌, List, [], ◌∷◌, ◌++◌, length, Result, Ok, Err, refl, ap, sym, ◌∙◌, subst, subst₂, inl, inr, arith, Bool, true, false, ◌&&◌, ◌||◌, cond, append_assoc, eqb-true, eq-eqb, ◌==◌}
-use Rattle.std.proofs.lemmas.Bool.{cond_both, eqb-false}
+use Rattle.std.proofs.lemmas.Bool.{and_parts, cond_both, eqb-false}
 use Rattle.ion_binary.specs.Names.{Catalog, Decides, Descriptor, First, Float, Fourth, Frame, Limits, Malformed, Mark, Marker, Opening, Pieces, Ready, Reason, Second, Slot, Spot, Third, Value, Version, anew, at, begins, descriptor_of, goes, kind, length-one, marked, no_marker, on_marker, opening_of, opens, other_marker, other_version, refuses, size, system_slots, the_marker, typed}
 use Rattle.ion_symtab.specs.laws.Reasons.{either}
 use Rattle.ion_binary.specs.Deciding as deciding
 use Rattle.ion_binary.specs.laws.reading.OnlyReasons.{body_all}
-use Rattle.ion_binary.specs.laws.reading.Stands.{AtFirst, Front, IfGood, Leaves, MachineStands, MarkCame, MarkerStands, marker_front, marker_place}
+use Rattle.ion_binary.specs.laws.reading.Stands.{AtFirst, Front, Leaves, MachineStands, MarkCame, MarkerStands}
 
 -- no descriptor but E0 is the marker
 
@@ -42,35 +42,20 @@ marker_is b h =
     let low = parts.1 in
     omega arith
 
-good_and : (g h : Bool) (P Q : Type 0) → (h ≡ true → P → Q) → IfGood g P → IfGood (g && h) Q
-good_and true true P Q f p = f refl p
-good_and _ _ P Q f p = tt
-
-good_map : (g : Bool) (P Q : Type 0) → (P → Q) → IfGood g P → IfGood g Q
-good_map true P Q f p = f p
-good_map false P Q f p = tt
-
 module _ (g : Catalog) (l : Limits) where
   -- on an octet of a marker
   goes_on : (start : ℕ) (c : List Slot) (s : List Value) (fs : List Frame) (u : List ℕ) (b : ℕ) (m k : Mark) (good better : Bool)
-      → (o : MarkerStands g l start c s fs m good u) → marker_place m + 1 ≡ marker_place k
-      → (IfGood good (o.came ≡ marker_front m) → IfGood better (o.came ++ b ∷ [] ≡ marker_front k)) → MarkCame k better (o.came ++ b ∷ []) → AtFirst k o.before
+      → (o : MarkerStands g l start c s fs m good u) → MarkCame k better (o.came ++ b ∷ []) → AtFirst k o.before
       → MarkerStands g l start c s fs k better (u ++ b ∷ [])
-  goes_on start c s fs u b m k good better o i fit mc af =
-      let n = length-one o.came b in
-      let j = o.long in
-      record {
-        before = o.before;
-        came = o.came ++ b ∷ [];
-        whole = ap (λ x. x ++ b ∷ []) o.whole ∙ append_assoc o.before o.came (b ∷ []);
-        long =
-            omega arith;
-        fits = fit o.fits;
-        front = o.front;
-        top = o.top;
-        octets = mc;
-        first = af;
-      }
+  goes_on start c s fs u b m k good better o came first = record {
+    before = o.before;
+    came = o.came ++ b ∷ [];
+    whole = ap (λ x. x ++ b ∷ []) o.whole ∙ append_assoc o.before o.came (b ∷ []);
+    front = o.front;
+    top = o.top;
+    octets = came;
+    first = first;
+  }
 
   marked_stands : (to : ℕ) (c : List Slot) (s : List Value) (fs : List Frame) (u v : List ℕ) (start : ℕ) → fs ≡ [] → Front g l start c s u → v ≡ u ++ the_marker
       → to ≡ length v → MachineStands g l v s (at (anew to system_slots) fs Ready)
@@ -85,6 +70,19 @@ module _ (g : Catalog) (l : Limits) where
   front_is start c s u (inl h) = inl h.0
   front_is start c s u (inr h) = inr (s, c, h.0)
 
+  -- a marker ends with the octet EA
+  ended_marker : (spot : Spot) (s : List Value) (fs : List Frame) (u front : List ℕ) (x y b : ℕ) (good : Bool) → u ≡ front ++ (224 ∷ x ∷ y ∷ b ∷ [])
+      → Front g l spot.start spot.context s front → fs ≡ [] → good ≡ ((true && (x == 1)) && (y == 0)) → b ≡ 234 → spot.used ≡ length u
+      → Leaves g l u s (cond good (goes (at (anew spot.used system_slots) fs Ready)) (refuses Version))
+  ended_marker spot s fs u front x y b true whole f top is last e =
+      let p = and_parts (x == 1) (y == 0) (sym is) in
+      let octets : 224 ∷ x ∷ y ∷ b ∷ [] ≡ the_marker = λ i. 224 ∷ eqb-true x 1 p.0 i ∷ eqb-true y 0 p.1 i ∷ last i ∷ [] in
+      marked_stands spot.used spot.context s fs front u spot.start top f (whole ∙ ap (λ w. front ++ w) octets) e
+  ended_marker spot s fs u front x y b false whole f top is last e =
+      subst (λ w. Decides g l w Version) (sym (whole ∙ ap (λ o. front ++ (224 ∷ x ∷ y ∷ o ∷ [])) last))
+      (other_version front x y (front_is spot.start spot.context s front f) (λ q.
+      let z : false ≡ true = is ∙ (ap (λ t. (true && t) && (y == 0)) (eq-eqb x 1 q.0) ∙ eq-eqb y 0 q.1) in cc))
+
   -- what an octet of a version marker leads to stands for the octets
   pub marker_stands : (spot : Spot) (s : List Value) (fs : List Frame) (u : List ℕ) (b : ℕ) (m : Mark) (good : Bool)
       → MarkerStands g l spot.start spot.context s fs m good u → spot.used ≡ length (u ++ b ∷ [])
@@ -92,52 +90,28 @@ module _ (g : Catalog) (l : Limits) where
   marker_stands spot s fs u b First good o e = cond_both (b == 224) _ _ (Leaves g l (u ++ b ∷ []) s)
       (λ h. record {
         used = e;
-        standing = goes_on spot.start spot.context s fs u b First Second good good o refl (good_map good _ _
-            (λ p. ap (λ x. x ++ b ∷ []) p ∙ ap (λ x. x ∷ []) (eqb-true b 224 h))) (
-              ap (λ x. x ++ b ∷ []) o.octets.0 ∙ ap (λ x. x ∷ []) (eqb-true b 224 h),
-              o.octets.1,
-            ) tt;
+        standing = goes_on spot.start spot.context s fs u b First Second good good o
+            (ap (λ x. x ++ b ∷ []) o.octets.0 ∙ ap (λ x. x ∷ []) (eqb-true b 224 h), o.octets.1) tt;
       })
       (λ h.
       let nothing : u ≡ [] = o.whole ∙ (ap (λ x. x ++ o.came) o.first ∙ o.octets.0) in
       subst (λ x. Decides g l (x ++ b ∷ []) Malformed) (sym nothing) (no_marker b (λ q. let z = eqb-false b 224 h in absurd (z q))))
-  marker_stands spot s fs u b Second good o e =
-      record {
-        used = e;
-        standing = goes_on spot.start spot.context s fs u b Second Third good _ o refl (good_and good _ _ _
-            (λ h p. ap (λ x. x ++ b ∷ []) p ∙ ap (λ x. 224 ∷ x ∷ []) (eqb-true b 1 h)))
-            (b, ap (λ x. x ++ b ∷ []) o.octets.0, ap (λ x. x && (b == 1)) o.octets.1) tt;
-      }
-  marker_stands spot s fs u b Third good o e =
-      record {
-        used = e;
-        standing = goes_on spot.start spot.context s fs u b Third Fourth good _ o refl (good_and good _ _ _
-            (λ h p. ap (λ x. x ++ b ∷ []) p ∙ ap (λ x. 224 ∷ 1 ∷ x ∷ []) (eqb-true b 0 h)))
-            (o.octets.0, b, ap (λ x. x ++ b ∷ []) o.octets.1, ap (λ x. x && (b == 0)) o.octets.2) tt;
-      }
+  marker_stands spot s fs u b Second good o e = record {
+    used = e;
+    standing = goes_on spot.start spot.context s fs u b Second Third good _ o
+        (b, ap (λ x. x ++ b ∷ []) o.octets.0, ap (λ x. x && (b == 1)) o.octets.1) tt;
+  }
+  marker_stands spot s fs u b Third good o e = record {
+    used = e;
+    standing = goes_on spot.start spot.context s fs u b Third Fourth good _ o
+        (o.octets.0, b, ap (λ x. x ++ b ∷ []) o.octets.1, ap (λ x. x && (b == 0)) o.octets.2) tt;
+  }
   marker_stands spot s fs u b Fourth good o e =
-      cond_both (b == 234) _ _ (Leaves g l (u ++ b ∷ []) s) (λ h. ended_marker good o h)
-      (λ h. subst (λ y. Decides g l y Malformed) (sym whole)
-      (other_marker o.before o.octets.0 o.octets.1 b (front_is spot.start spot.context s o.before o.front) (λ q. let z = eqb-false b 234 h in
-      absurd (z q))))
-    where
-      whole : u ++ b ∷ [] ≡ o.before ++ (224 ∷ o.octets.0 ∷ o.octets.1 ∷ b ∷ [])
-      whole = ap (λ x. x ++ b ∷ []) o.whole ∙ (append_assoc o.before o.came (b ∷ []) ∙ ap (λ x. o.before ++ (x ++ b ∷ [])) o.octets.2)
-
-      ended_marker : (good : Bool) → (o : MarkerStands g l spot.start spot.context s fs Fourth good u) → b == 234 ≡ true
-          → Leaves g l (u ++ b ∷ []) s (cond good (goes (at (anew spot.used system_slots) fs Ready)) (refuses Version))
-      ended_marker true o h = marked_stands spot.used spot.context s fs o.before (u ++ b ∷ []) spot.start o.top o.front
-          (ap (λ x. x ++ b ∷ []) o.whole ∙ append_assoc o.before o.came (b ∷ [])
-          ∙ ap (λ x. o.before ++ x) (ap (λ x. x ++ b ∷ []) o.fits ∙ ap (λ x. 224 ∷ 1 ∷ 0 ∷ x ∷ []) (eqb-true b 234 h))) e
-      ended_marker false o h =
-          let last : o.before ++ (224 ∷ o.octets.0 ∷ o.octets.1 ∷ b ∷ []) ≡ o.before ++ (224 ∷ o.octets.0 ∷ o.octets.1 ∷ 234 ∷ []) =
-          ap (λ x. o.before ++ (224 ∷ o.octets.0 ∷ o.octets.1 ∷ x ∷ [])) (eqb-true b 234 h) in
-          let all : u ++ b ∷ [] ≡ o.before ++ (224 ∷ o.octets.0 ∷ o.octets.1 ∷ b ∷ []) =
-          ap (λ x. x ++ b ∷ []) o.whole ∙ (append_assoc o.before o.came (b ∷ []) ∙ ap (λ x. o.before ++ (x ++ b ∷ [])) o.octets.2) in
-          subst (λ y. Decides g l y Version) (sym (all ∙ last))
-          (other_version o.before o.octets.0 o.octets.1 (front_is spot.start spot.context s o.before o.front)
-          (λ q.
-          let x1 : o.octets.0 == 1 ≡ true = eq-eqb o.octets.0 1 q.0 in
-          let y1 : o.octets.1 == 0 ≡ true = eq-eqb o.octets.1 0 q.1 in
-          let z : false ≡ true = o.octets.3 ∙ (ap (λ t. (true && t) && (o.octets.1 == 0)) x1 ∙ y1) in
-          cc))
+      let x = o.octets.0 in
+      let y = o.octets.1 in
+      let whole : u ++ b ∷ [] ≡ o.before ++ (224 ∷ x ∷ y ∷ b ∷ []) =
+      ap (λ w. w ++ b ∷ []) o.whole ∙ (append_assoc o.before o.came (b ∷ []) ∙ ap (λ w. o.before ++ (w ++ b ∷ [])) o.octets.2) in
+      cond_both (b == 234) _ _ (Leaves g l (u ++ b ∷ []) s)
+      (λ h. ended_marker spot s fs (u ++ b ∷ []) o.before x y b good whole o.front o.top o.octets.3 (eqb-true b 234 h) e)
+      (λ h. subst (λ w. Decides g l w Malformed) (sym whole) (other_marker o.before x y b (front_is spot.start spot.context s o.before o.front)
+      (λ q. let z = eqb-false b 234 h in absurd (z q))))

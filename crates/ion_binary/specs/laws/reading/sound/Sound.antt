@@ -5,7 +5,7 @@ use Rattle.ion_binary.specs.laws.reading.Stands.{Leaves, MachineStands, Standing
 use Rattle.ion_binary.specs.laws.reading.sound.Bodies.{body_stands, pad_stands}
 use Rattle.ion_binary.specs.laws.reading.sound.Headers.{descriptor_stands}
 use Rattle.ion_binary.specs.laws.reading.sound.Markers.{marker_stands}
-use Rattle.ion_binary.specs.laws.reading.sound.Numbers.{number_bound, number_stands}
+use Rattle.ion_binary.specs.laws.reading.sound.Numbers.{number_stands}
 
 module _ (g : Catalog) (l : Limits) where
   -- on any octet
@@ -14,10 +14,9 @@ module _ (g : Catalog) (l : Limits) where
       → Leaves g l (u ++ b ∷ []) s (on_phase (under g l) (counted m) phase b)
   step_stands m s (InMarker k good) u b e o = let i = length-one u b in marker_stands g l (counted m).spot s m.frames u b k good o (omega arith)
   step_stands m s Ready u b e o = let i = length-one u b in descriptor_stands g l (counted m).spot s m.frames u b (opening_of b) refl o (omega arith)
-  step_stands m s (InNumber p a) u b e o = let i = length-one u b in
-      number_stands g l (counted m).spot s m.frames u p a b (number_bound g l m.spot.start m.spot.context s m.frames p a u o) o (omega arith)
-  step_stands m s (InBody t n) u b e o = let i = length-one u b in body_stands g l (counted m).spot s m.frames u b t n m.body o (omega arith)
-  step_stands m s (InPad n) u b e o = let i = length-one u b in pad_stands g l (counted m).spot s m.frames u b n o.0 o.1 (omega arith)
+  step_stands m s (InNumber p a) u b e o = let i = length-one u b in number_stands g l (counted m).spot s u b (omega arith) m.frames p a o
+  step_stands m s (InBody t n) u b e o = let i = length-one u b in body_stands g l (counted m).spot s m.frames u b (omega arith) t n m.body o
+  step_stands m s (InPad n) u b e o = let i = length-one u b in pad_stands g l (counted m).spot s m.frames u b (omega arith) n o.0 o.1
 
   -- what comes of an octet stands for the octets up to it, if the machine stood for those before
   pub feed_stands : (m : Machine) (u : List ℕ) (s : List Value) (b : ℕ) → MachineStands g l u s m → Leaves g l (u ++ b ∷ []) s (feed (under g l) m b)
@@ -55,10 +54,7 @@ module _ (g : Catalog) (l : Limits) where
       before = [];
       came = [];
       whole = refl;
-      long = refl;
-      fits = refl;
-      front =
-          inl (refl, refl, refl);
+      front = inl (refl, refl, refl);
       top = refl;
       octets = (refl, refl);
       first = refl;
