@@ -1,43 +1,37 @@
 #!/usr/bin/env python3
-"""Tries the sums of crates/tests_parts/src/sums.rt by Python's decimal: tests/sums.py.
+"""Tries the sums of crates/tests_rows/data/sums.txt by Python's decimal: tests/sums.py.
 
-A row is two decimals, each whether it has a minus, its magnitude and its exponent, and their sum, or None where that isn't exact in a
-magnitude below 2^127 at the smaller exponent. The status is 1 where Python answers otherwise.
+A row is two decimals and their sum, or none where that isn't exact in a magnitude below 2^127 at the smaller exponent. The status is 1
+where Python answers otherwise.
 """
-import ast
 import decimal
 import pathlib
-import re
 import sys
 
-ROWS = pathlib.Path(__file__).resolve().parent.parent / "crates" / "tests_parts" / "src" / "sums.rt"
+ROWS = pathlib.Path(__file__).resolve().parent.parent / "crates" / "tests_rows" / "data" / "sums.txt"
 # With more digits than are kept; a sum that needs still more is an error.
 EXACT = decimal.Context(prec=60, Emin=decimal.MIN_EMIN, Emax=decimal.MAX_EMAX, traps=[decimal.Rounded])
 
 
 def rows():
-    """The rows of the table, as Python has them."""
-    table = re.search(r"^static SUMS: .*? = \[\n(.*?)^\];", ROWS.read_text(encoding="utf-8"), re.MULTILINE | re.DOTALL).group(1)
-    table = re.sub(r"//.*", "", table)
-    for word, other in (("true", "True"), ("false", "False"), ("Some", "")):
-        table = re.sub(rf"\b{word}\b", other, table)
-    return ast.literal_eval(f"[{table}]")
+    """The fields of each row behind its first."""
+    lines = ROWS.read_text(encoding="utf-8").splitlines()
+    return [[field.strip() for field in line.split("|")[1:]] for line in lines if line.startswith("sum ")]
 
 
-def number(parts):
-    """A decimal of these parts."""
-    negative, magnitude, exponent = parts
-    return decimal.Decimal((int(negative), [int(digit) for digit in str(magnitude)], exponent))
+def number(text):
+    """The decimal of a token of Ion, each digit of it kept."""
+    return decimal.Context(prec=60, Emin=decimal.MIN_EMIN, Emax=decimal.MAX_EMAX).create_decimal(text.replace("d", "e"))
 
 
 def added(left, right):
-    """The parts of the sum, or None."""
+    """The sum as a token, or none."""
     try:
-        total = EXACT.add(number(left), number(right)).as_tuple()
+        sign, digits, exponent = EXACT.add(number(left), number(right)).as_tuple()
     except decimal.Rounded:
-        return None
-    magnitude = int("".join(str(digit) for digit in total.digits))
-    return (bool(total.sign), magnitude, total.exponent) if magnitude < 2**127 else None
+        return "none"
+    magnitude = int("".join(str(digit) for digit in digits))
+    return f"{'-' * sign}{magnitude}d{exponent}" if magnitude < 2**127 else "none"
 
 
 def main():

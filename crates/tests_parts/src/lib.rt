@@ -15,13 +15,9 @@ mod model;
 #[cfg(test)]
 mod scanner;
 #[cfg(test)]
-mod sums;
-#[cfg(test)]
 mod tables;
 #[cfg(test)]
 mod tapes;
-#[cfg(test)]
-mod tokens;
 #[cfg(test)]
 mod values;
 #[cfg(test)]

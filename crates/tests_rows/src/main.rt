@@ -13,6 +13,7 @@ mod symbols;
 mod values;
 mod writing;
 
+use documents::{Asked, catalog, limits};
 use row::Row;
 use std::alloc::Global;
 use std::process::{ExitCode, Termination};
@@ -21,71 +22,73 @@ use std::{env, fs};
 
 /// Tries a row by its first field.
 fn try_row(alloc: Global, row: Row<'_>) -> Result<(), Fail> {
-    let mut octets = Vec::new(alloc);
-    let mut out = Vec::new(alloc);
-    let mut told = String::new(alloc);
-    let tried = try_field(alloc, row, &mut octets, &mut out, &mut told);
-    drop(told);
-    drop(out);
-    drop(octets);
-    tried
-}
-
-/// Tries a row, with room for the octets that its field 1 spells, for those that are written and
-/// for what is answered.
-fn try_field(
-    alloc: Global,
-    row: Row<'_>,
-    octets: &mut Vec<u8>,
-    out: &mut Vec<u8>,
-    told: &mut String,
-) -> Result<(), Fail> {
     match row.field(0) {
-        "put" => scalars::puts(alloc, row, out),
-        "context" => symbols::resolves(alloc, row, told),
-        "symbol" => values::is_spelled(alloc, row, octets),
+        "put" => scalars::puts(alloc, row),
+        "sum" => scalars::adds(alloc, row),
+        "context" => symbols::resolves(alloc, row),
+        "symbol" => values::is_spelled(alloc, row),
+        "command" => commands::ends(alloc, row),
         _ => {
-            row.put_octets(1, octets)?;
-            try_octets(alloc, row, octets.as_slice(), out, told)
+            let octets = row.octets(alloc, 1)?;
+            try_octets(alloc, row, octets.as_slice())
         }
     }
 }
 
 /// Tries a row whose field 1 spells these octets.
-fn try_octets(
-    alloc: Global,
-    row: Row<'_>,
-    octets: &[u8],
-    out: &mut Vec<u8>,
-    told: &mut String,
-) -> Result<(), Fail> {
+fn try_octets(alloc: Global, row: Row<'_>, octets: &[u8]) -> Result<(), Fail> {
     match row.field(0) {
-        "number" | "timestamp" | "decimal" => scalars::spells(row, octets, out),
-        "body" => scalars::has_body(alloc, row, octets, out),
-        "var_uint" | "var_int" | "uint" | "int" => scalars::is_field(row, octets, told),
-        "descriptor" => scalars::is_descriptor(row, octets, told),
-        _ => try_text(alloc, row, octets, told),
+        "number" | "timestamp" | "decimal" => scalars::spells(alloc, row, octets),
+        "body" => scalars::has_body(alloc, row, octets),
+        "var_uint" | "var_int" | "uint" | "int" => scalars::is_field(alloc, row, octets),
+        "descriptor" => scalars::is_descriptor(alloc, row, octets),
+        _ => try_text(alloc, row, octets),
     }
 }
 
-/// Tries a row of tokens, symbols or readers.
-fn try_text(alloc: Global, row: Row<'_>, octets: &[u8], told: &mut String) -> Result<(), Fail> {
+/// Tries a row of tokens or symbols.
+fn try_text(alloc: Global, row: Row<'_>, octets: &[u8]) -> Result<(), Fail> {
     match row.field(0) {
-        "top" | "sexp" | "in sexp" | "struct" => scanning::scans(alloc, row, octets, told),
-        "shared" => symbols::are_found(alloc, row, octets, told),
-        "binary" | "text" => reading::reads(alloc, row, octets, told),
-        "binary steps" | "text steps" => reading::steps(alloc, row, octets, told),
-        _ => try_document(alloc, row, octets, told),
+        "top" | "sexp" | "in sexp" | "struct" => scanning::scans(alloc, row, octets),
+        "found" => scanning::is_found(alloc, row, octets),
+        "shared" => symbols::are_found(alloc, row, octets),
+        "loaded" => documents::loads(alloc, row, octets),
+        _ => try_document(alloc, row, octets),
     }
 }
 
-/// Tries a row of a call over whole documents, or of values.
-fn try_document(alloc: Global, row: Row<'_>, octets: &[u8], told: &mut String) -> Result<(), Fail> {
-    match row.field(0) {
-        "compare" => documents::compares(alloc, row, octets, told),
-        "show" => writing::shows(alloc, row, octets, told),
-        "convert" => writing::converts(alloc, row, octets, told),
-        _ => values::try_row(alloc, row, octets, told),
+/// Tries a row of a document that is read within limits and under shared tables.
+fn try_document(alloc: Global, row: Row<'_>, document: &[u8]) -> Result<(), Fail> {
+    let options = match row.field(0) {
+        "convert" => 5,
+        _ => 4,
+    };
+    let limits = limits(row, options)?;
+    let catalog = catalog(alloc, row, options)?;
+    let tried = try_asked(Asked {
+        alloc,
+        row,
+        options,
+        document,
+        catalog: &catalog,
+        limits,
+    });
+    drop(catalog);
+    tried
+}
+
+/// Tries a row of readers, of a call over whole documents, or of values.
+fn try_asked(asked: Asked<'_>) -> Result<(), Fail> {
+    match asked.row.field(0) {
+        "binary" | "text" => reading::reads(asked),
+        "binary steps" | "text steps" => reading::steps(asked),
+        "values" => reading::gives(asked),
+        "compare" => documents::compares(asked),
+        "encodings" => documents::compares_encodings(asked),
+        "show" => writing::shows(asked),
+        "convert" => writing::converts(asked),
+        "cut" => writing::is_cut(asked),
+        _ => values::try_row(asked),
     }
 }
 

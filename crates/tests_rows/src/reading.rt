@@ -2,14 +2,13 @@
 //! prefix.
 ghost use Rattle.std.specs.Prelude.{◌≡◌, ℕ, ◌+◌, ◌≤◌, ◌<◌, ◌^◌, ◌∷◌, List, true, length, IfOk, IfSome, None};
 
-use crate::commands::Asked;
-use crate::documents::{catalog, checks, limits, refuses};
+use crate::documents::{Asked, Pieces, WHOLE, is_so, refuses};
 use crate::row::Row;
 use crate::values::wants_text;
 use ion_binary::BinaryReader;
-use ion_docs::DocReader;
+use ion_docs::{DocReader, Target, read_all, read_document};
 use ion_model::{Reason, Refusal, Value};
-use ion_symtab::{Catalog, Items, Limits, Step};
+use ion_symtab::{Items, Step};
 use ion_text::TextReader;
 use std::alloc::{AllocError, Global};
 use std::test::Fail;
@@ -48,18 +47,12 @@ impl Answers {
         Ok(self.totals.push(total)?)
     }
 
-    /// Notes a step that gave a value.
-    fn give(&mut self, value: Value, used: usize, total: u64) -> Result<(), Fail> {
-        self.push(value, total)?;
-        Ok(self.steps.push((used, true))?)
-    }
-
-    /// Notes a step that gave none, unless it was one over no octets.
-    fn go_on(&mut self, used: usize) -> Result<(), Fail> {
-        if used == 0 {
-            return Ok(());
+    /// Notes a step, unless it was one over no octets that gave no value.
+    fn step(&mut self, used: usize, gives: bool) -> Result<(), Fail> {
+        if used > 0 || gives {
+            self.steps.push((used, gives))?;
         }
-        Ok(self.steps.push((used, false))?)
+        Ok(())
     }
 }
 
@@ -84,9 +77,12 @@ fn take_up<I: Items>(
             Ok(Step { used, value }) => {
                 at += used;
                 match value {
-                    Some(value) => answers.give(value, used, before + at as u64)?,
+                    Some(value) => {
+                        answers.push(value, before + at as u64)?;
+                        answers.step(used, true)?;
+                    }
                     None => {
-                        answers.go_on(used)?;
+                        answers.step(used, false)?;
                         return Ok(true);
                     }
                 }
@@ -173,67 +169,53 @@ fn read<I: Items + Drop>(
     }
 }
 
-/// A row's document, and with what it is read.
-#[derive(Clone, Copy)]
-struct Reading<'a> {
-    alloc: Global,
-    row: Row<'a>,
-    catalog: &'a Catalog,
-    limits: Limits,
-    document: &'a [u8],
-}
-
-/// Reads a document in these pieces by the reader of an encoding.
+/// Reads octets by a new reader of an encoding, in pieces of `size` behind a first one of `cut`.
 fn read_as(
-    reading: &Reading<'_>,
+    asked: Asked<'_>,
     encoding: &str,
     document: &[u8],
     cut: usize,
     size: usize,
     answers: &mut Answers,
-) -> Result<(), Fail>
-    requires cut { cut ≤ length document.now }
-    requires size { 0 < size }
-    requires small { size < 2 ^ 32 }
-    requires room { length document.now < 2 ^ 63 }
-{
+) -> Result<(), Fail> {
+    if cut > document.len() || size == 0 || size > WHOLE {
+        return Err("octets of a piece".into());
+    }
     answers.clear();
+    let (alloc, catalog, limits) = (asked.alloc, asked.catalog, asked.limits);
     match encoding {
         "binary" => {
-            let reader = BinaryReader::new(reading.alloc, reading.catalog, reading.limits)?;
+            let reader = BinaryReader::new(alloc, catalog, limits)?;
             read(reader, document, cut, size, answers)
         }
         "text" => {
-            let reader = TextReader::new(reading.alloc, reading.catalog, reading.limits)?;
+            let reader = TextReader::new(alloc, catalog, limits)?;
             read(reader, document, cut, size, answers)
         }
         _ => {
-            let reader = DocReader::new(reading.alloc, reading.catalog, reading.limits)?;
+            let reader = DocReader::new(alloc, catalog, limits)?;
             read(reader, document, cut, size, answers)
         }
     }
 }
 
 /// Tells the octets used up to where each value comes; of more than a hundred values, their number.
-fn tell_totals(totals: &[u64], told: &mut String) -> Result<(), AllocError> {
-    told.clear();
+fn totals_told(alloc: Global, totals: &[u64]) -> Result<String, AllocError> {
     if totals.len() > 100 {
-        return write!(told, "{} values", totals.len());
+        return format!(in alloc; "{} values", totals.len());
     }
+    let mut told = String::new(alloc);
     for total in totals {
         write!(told, "{total} ")?;
     }
-    Ok(())
+    Ok(told)
 }
 
 /// Fails, where the row has other answers.
-fn meets(row: Row<'_>, answers: &Answers, told: &mut String) -> Result<(), Fail> {
-    tell_totals(answers.totals.as_slice(), told)?;
-    row.wants(2, told.as_str().trim())?;
-    match answers.refusal {
-        None => row.wants(3, ""),
-        Some(refusal) => refuses(row, 3, refusal, told),
-    }
+fn meets(asked: Asked<'_>, answers: &Answers) -> Result<(), Fail> {
+    let told = totals_told(asked.alloc, answers.totals.as_slice())?;
+    asked.row.wants(2, told.as_str().trim())?;
+    refuses(asked.row.field(3), answers.refusal)
 }
 
 /// Whether the row is refused at an octet up to `size`.
@@ -247,110 +229,54 @@ fn is_refused_by(row: Row<'_>, size: u64) -> Result<bool, Fail> {
 /// Fails, where the octets up to `size` are answered as they can't be. They are refused as the row
 /// is, from the octet on that decided; fewer are a document, or are refused at their end, in binary
 /// always as incomplete.
-fn meets_as_prefix(
-    row: Row<'_>,
-    answers: &Answers,
-    size: u64,
-    told: &mut String,
-) -> Result<(), Fail> {
-    if is_refused_by(row, size)? {
-        return meets(row, answers, told);
+fn meets_as_prefix(asked: Asked<'_>, answers: &Answers, size: u64) -> Result<(), Fail> {
+    if is_refused_by(asked.row, size)? {
+        return meets(asked, answers);
     }
     match answers.refusal {
-        Some(refusal) => is_at_end(row, refusal, size),
+        Some(refusal) => {
+            let fits = asked.row.field(0) != "binary" || refusal.reason == Reason::Incomplete;
+            is_so(refusal.offset == size && fits, (size, refusal))
+        }
         None => Ok(()),
     }
-}
-
-/// Fails, where this is no refusal of the end of `size` octets.
-fn is_at_end(row: Row<'_>, refusal: Refusal, size: u64) -> Result<(), Fail> {
-    let is_fitting = row.field(0) != "binary" || refusal.reason == Reason::Incomplete;
-    if refusal.offset == size && is_fitting {
-        return Ok(());
-    }
-    Err(Fail::new(format_args!("the first {size} octets: {refusal:?}")))
 }
 
 /// Fails, where a reader of this encoding answers otherwise, in pieces of `size` octets behind a
 /// first one of `cut`.
 fn reads_as(
-    reading: &Reading<'_>,
+    asked: Asked<'_>,
     encoding: &str,
     cut: usize,
     size: usize,
     answers: &mut Answers,
-    told: &mut String,
-) -> Result<(), Fail>
-    requires cut { cut ≤ length reading.now.document.now }
-    requires size { 0 < size }
-    requires small { size < 2 ^ 32 }
-    requires room { length reading.now.document.now < 2 ^ 63 }
-{
-    let row = reading.row;
-    read_as(reading, encoding, reading.document, cut, size, answers)?;
-    meets(row, answers, told)?;
-    if row.field(5).is_empty() {
+) -> Result<(), Fail> {
+    read_as(asked, encoding, asked.document, cut, size, answers)?;
+    meets(asked, answers)?;
+    if asked.row.field(5).is_empty() {
         return Ok(());
     }
-    wants_text(reading.alloc, row, 5, answers.values.as_slice())
-}
-
-/// Fails, where the first `cut` octets in pieces of `size` are answered as they can't be.
-fn reads_prefix(
-    reading: &Reading<'_>,
-    cut: usize,
-    size: usize,
-    answers: &mut Answers,
-    told: &mut String,
-) -> Result<(), Fail>
-    requires cut { cut ≤ length reading.now.document.now }
-    requires size { 0 < size }
-    requires small { size < 2 ^ 32 }
-    requires room { length reading.now.document.now < 2 ^ 63 }
-{
-    let row = reading.row;
-    read_as(
-        reading,
-        row.field(0),
-        &reading.document[..cut],
-        0,
-        size,
-        answers,
-    )?;
-    meets_as_prefix(row, answers, cut as u64, told)
+    wants_text(asked.alloc, asked.row, 5, answers.values.as_slice())
 }
 
 /// Tries the reader of the encoding and the one that chooses it, and the first `cut` octets.
-fn reads_cut(
-    reading: &Reading<'_>,
-    cut: usize,
-    size: usize,
-    answers: &mut Answers,
-    told: &mut String,
-) -> Result<(), Fail>
-    requires cut { cut ≤ length reading.now.document.now }
-    requires size { 0 < size }
-    requires small { size < 2 ^ 32 }
-    requires room { length reading.now.document.now < 2 ^ 63 }
-{
-    reads_as(reading, reading.row.field(0), cut, size, answers, told)?;
-    reads_as(reading, "either", cut, size, answers, told)?;
-    reads_prefix(reading, cut, size, answers, told)
+fn reads_cut(asked: Asked<'_>, cut: usize, size: usize, answers: &mut Answers) -> Result<(), Fail> {
+    let encoding = asked.row.field(0);
+    reads_as(asked, encoding, cut, size, answers)?;
+    reads_as(asked, "either", cut, size, answers)?;
+    let front = asked.document.get(..cut).unwrap_or(&[]);
+    read_as(asked, encoding, front, 0, size, answers)?;
+    meets_as_prefix(asked, answers, cut as u64)
 }
 
-fn reads_each_cut(
-    reading: &Reading<'_>,
-    answers: &mut Answers,
-    told: &mut String,
-) -> Result<(), Fail> {
-    let document = reading.document;
-    if document.len() > 1000 {
-        return reads_cut(reading, 0, 4096, answers, told);
+fn reads_each_cut(asked: Asked<'_>, answers: &mut Answers) -> Result<(), Fail> {
+    if asked.document.len() > 1000 {
+        return reads_cut(asked, 0, WHOLE, answers);
     }
-    for cut in 0..=document.len() {
-        reads_cut(reading, cut, 4096, answers, told)?;
-        reads_cut(reading, cut, 2, answers, told)?;
-        reads_cut(reading, cut, 1, answers, told)?;
+    for cut in 0..=asked.document.len() {
+        for size in [WHOLE, 2, 1] {
+            reads_cut(asked, cut, size, answers)?;
+        }
     }
     Ok(())
 }
@@ -362,135 +288,117 @@ fn reads_each_cut(
 /// The reader of the encoding and the one that chooses it are asked, with each cut in two pieces
 /// and in short ones behind it, and each prefix in one and in short ones; then `check`, and the
 /// command for what the row says. A long document comes in great pieces alone.
-pub fn reads(alloc: Global, row: Row<'_>, document: &[u8], told: &mut String) -> Result<(), Fail> {
-    let limits = limits(row, 4)?;
-    let catalog = catalog(alloc, row, 4)?;
-    let mut answers = Answers::new(alloc);
-    let reading = Reading {
-        alloc,
-        row,
-        catalog: &catalog,
-        limits,
-        document,
-    };
-    let tried = match reads_each_cut(&reading, &mut answers, told) {
-        Ok(()) => answers_so(&reading, told),
-        Err(fail) => Err(fail),
-    };
+pub fn reads(asked: Asked<'_>) -> Result<(), Fail> {
+    let mut answers = Answers::new(asked.alloc);
+    let tried = reads_each_cut(asked, &mut answers);
     drop(answers);
-    drop(catalog);
-    tried
+    tried?;
+    let answer = answer_told(asked.alloc, asked.row)?;
+    answers_so(asked, answer.as_str())
 }
 
-/// Fails, where a call over the whole document or the command answers otherwise.
-fn answers_so(reading: &Reading<'_>, told: &mut String) -> Result<(), Fail> {
-    let mut answer = String::new(reading.alloc);
-    let tried = match tell_answer(reading.row, &mut answer) {
-        Ok(()) => answers_this(reading, answer.as_str(), told),
-        Err(error) => Err(Fail::from(error)),
-    };
-    drop(answer);
-    tried
-}
-
-/// Tells the refusal of a row, or how many values it has.
-fn tell_answer(row: Row<'_>, told: &mut String) -> Result<(), AllocError> {
+/// The refusal of a row, or how many values it has.
+fn answer_told(alloc: Global, row: Row<'_>) -> Result<String, AllocError> {
     if !row.field(3).is_empty() {
-        return told.push_str(row.field(3));
+        return String::from_str(alloc, row.field(3));
     }
     match row.field(2).strip_suffix(" values") {
-        Some(values) => told.push_str(values),
-        None => write!(told, "{}", row.field(2).split_whitespace().count()),
+        Some(values) => String::from_str(alloc, values),
+        None => format!(in alloc; "{}", row.field(2).split_whitespace().count()),
     }
 }
 
 /// Fails, where this isn't the answer of `check` and of the command.
-fn answers_this(reading: &Reading<'_>, answer: &str, told: &mut String) -> Result<(), Fail> {
-    let Reading {
-        alloc,
-        row,
-        catalog,
-        limits,
-        document,
-    } = *reading;
-    checks(alloc, document, catalog, limits, answer, told)?;
-    let asked = Asked {
-        alloc,
-        row,
-        options: 4,
-        document,
-    };
+fn answers_so(asked: Asked<'_>, answer: &str) -> Result<(), Fail> {
     asked.checks(answer)?;
-    if row.field(2).is_empty() {
+    asked.is_checked(answer)?;
+    if asked.row.field(2).is_empty() {
         asked.writes_nothing(answer)?;
     }
-    if row.field(5).is_empty() {
+    if asked.row.field(5).is_empty() {
         return Ok(());
     }
-    asked.converts_to_text(5, answer)
+    let written = asked.row.octets(asked.alloc, 5)?;
+    asked.is_converted(Target::Text, written.as_slice(), answer)
 }
 
 /// Tells the octets that each step used, with `!` behind them where it gave a value, and then
 /// `end`, with `!` where that gave one.
-fn tell_steps(answers: &Answers, told: &mut String) -> Result<(), AllocError> {
-    told.clear();
+fn steps_told(alloc: Global, answers: &Answers) -> Result<String, AllocError> {
+    let mut told = String::new(alloc);
     let mut given: usize = 0;
     for (used, gives) in &answers.steps {
-        write!(told, "{used}")?;
-        if *gives {
-            told.push_str("!")?;
-            given = given.saturating_add(1);
-        }
-        told.push_str(" ")?;
+        let mark = if *gives { "! " } else { " " };
+        write!(told, "{used}{mark}")?;
+        given = given.saturating_add(usize::from(*gives));
     }
-    told.push_str("end")?;
-    if answers.values.len() > given {
-        told.push_str("!")?;
-    }
-    Ok(())
-}
-
-/// Fails, where the steps of a reader of this encoding over pieces of `size` octets are others.
-fn steps_so(
-    reading: &Reading<'_>,
-    encoding: &str,
-    size: usize,
-    answers: &mut Answers,
-    told: &mut String,
-) -> Result<(), Fail>
-    requires size { 0 < size }
-    requires small { size < 2 ^ 32 }
-{
-    let document = reading.document;
-    let first = size.min(document.len());
-    read_as(reading, encoding, document, first, size, answers)?;
-    tell_steps(answers, told)?;
-    reading.row.wants(3, told.as_str())
+    told.push_str(if answers.values.len() > given {
+        "end!"
+    } else {
+        "end"
+    })?;
+    Ok(told)
 }
 
 /// `binary steps` or `text steps` | a document | the octets of a piece | the octets that each step
 /// uses, with `!` behind them where it gives a value, and then `end`, with `!` where that gives
 /// one.
-pub fn steps(alloc: Global, row: Row<'_>, document: &[u8], told: &mut String) -> Result<(), Fail> {
-    let size = row.field(2).parse::<usize>()?;
-    if size == 0 || size > 4096 {
-        return Err("octets of a piece".into());
-    }
-    let encoding = match row.field(0) {
+pub fn steps(asked: Asked<'_>) -> Result<(), Fail> {
+    let size = asked.row.field(2).parse::<usize>()?;
+    let mut answers = Answers::new(asked.alloc);
+    let tried = steps_so(asked, size, &mut answers);
+    drop(answers);
+    tried
+}
+
+fn steps_so(asked: Asked<'_>, size: usize, answers: &mut Answers) -> Result<(), Fail> {
+    let encoding = match asked.row.field(0) {
         "text steps" => "text",
         _ => "binary",
     };
-    let catalog = Catalog::new(alloc);
-    let mut answers = Answers::new(alloc);
-    let reading = Reading {
-        alloc,
-        row,
-        catalog: &catalog,
-        limits: Limits::usual(),
+    let document = asked.document;
+    read_as(
+        asked,
+        encoding,
         document,
-    };
-    let tried = steps_so(&reading, encoding, size, &mut answers, told);
-    drop(answers);
-    drop(catalog);
-    tried
+        size.min(document.len()),
+        size,
+        answers,
+    )?;
+    let told = steps_told(asked.alloc, answers)?;
+    asked.row.wants(3, told.as_str())
+}
+
+/// `values` | a document | the kinds of its values, or the offset and the reason of the refusal.
+/// It is read in memory, and at each cut.
+pub fn gives(asked: Asked<'_>) -> Result<(), Fail> {
+    let (alloc, document, limits) = (asked.alloc, asked.document, asked.limits);
+    has_kinds(asked, read_all(alloc, document, asked.catalog, limits))?;
+    for first in 1..=document.len() + 1 {
+        let mut reader = Pieces::cut(document, first).reader();
+        let answer = read_document(alloc, &mut reader, asked.catalog, limits);
+        drop(reader);
+        has_kinds(asked, answer?)?;
+    }
+    Ok(())
+}
+
+fn has_kinds(asked: Asked<'_>, answer: Result<Vec<Value>, Refusal>) -> Result<(), Fail> {
+    match answer {
+        Ok(values) => {
+            let told = kinds_told(asked.alloc, values.as_slice());
+            drop(values);
+            let told = told?;
+            asked.row.wants(2, told.as_str().trim())
+        }
+        Err(refusal) => refuses(asked.row.field(2), Some(refusal)),
+    }
+}
+
+fn kinds_told(alloc: Global, values: &[Value]) -> Result<String, AllocError> {
+    let mut told = String::new(alloc);
+    for value in values {
+        write!(told, "{} ", value.kind().name())?;
+    }
+    Ok(told)
 }

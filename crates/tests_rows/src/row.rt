@@ -27,19 +27,13 @@ impl<'a> Row<'a> {
         }
     }
 
-    /// Puts the octets that a field spells: `M`, a version marker; two hexadecimal digits, an
-    /// octet; a text between backquotes, in which `␊` stands for a line feed and so on; and `1000*`
-    /// before a text, the text so many times.
-    pub fn put_octets(self, number: usize, octets: &mut Vec<u8>) -> Result<(), Fail> {
-        let mut times: u32 = 1;
-        for (index, piece) in self.field(number).split('`').enumerate() {
-            if index % 2 == 0 {
-                times = put_words(piece, octets)?;
-            } else {
-                put_text(piece, times, octets)?;
-            }
-        }
-        Ok(())
+    /// The octets that a field spells: `M`, a version marker; two hexadecimal digits, an octet; a
+    /// text between backquotes, in which `␊` stands for a line feed and so on; and `1000*` before a
+    /// text, the text so many times.
+    pub fn octets(self, alloc: Global, number: usize) -> Result<Vec<u8>, Fail> {
+        let mut octets = Vec::new(alloc);
+        put_field(self.field(number), &mut octets)?;
+        Ok(octets)
     }
 
     /// The word of a field that follows this one there.
@@ -64,26 +58,14 @@ impl<'a> Row<'a> {
 
     /// Fails, where the field is another answer.
     pub fn wants(self, number: usize, answer: &str) -> Result<(), Fail> {
-        is_told(self.field(number), answer)
+        are_so(self.field(number) == answer, answer.as_bytes())
     }
 
     /// Fails, where the field spells other octets.
     pub fn wants_octets(self, alloc: Global, number: usize, answer: &[u8]) -> Result<(), Fail> {
-        let mut wanted = Vec::new(alloc);
-        let put = self.put_octets(number, &mut wanted);
-        let is_so = wanted.as_slice() == answer;
-        drop(wanted);
-        put?;
-        are_so(is_so, answer)
+        let wanted = self.octets(alloc, number)?;
+        are_so(wanted.as_slice() == answer, answer)
     }
-}
-
-/// Fails, where this answer is not the one wanted.
-pub fn is_told(wanted: &str, answer: &str) -> Result<(), Fail> {
-    if wanted == answer {
-        return Ok(());
-    }
-    Err(Fail::new(format_args!("not so, but: {answer}")))
 }
 
 /// Fails, where octets are not what is wanted.
@@ -93,6 +75,19 @@ pub fn are_so(is_so: bool, answer: &[u8]) -> Result<(), Fail> {
     }
     let text = str::from_utf8(answer).unwrap_or("no text");
     Err(Fail::new(format_args!("not so, but: {text} {answer:?}")))
+}
+
+/// Puts the octets that a field spells.
+fn put_field(field: &str, octets: &mut Vec<u8>) -> Result<(), Fail> {
+    let mut times: u32 = 1;
+    for (index, piece) in field.split('`').enumerate() {
+        if index % 2 == 0 {
+            times = put_words(piece, octets)?;
+        } else {
+            put_text(piece, times, octets)?;
+        }
+    }
+    Ok(())
 }
 
 /// Puts the octets of the words outside backquotes; how many times the text behind them is meant.
@@ -117,19 +112,13 @@ fn put_word(word: &str, octets: &mut Vec<u8>) -> Result<(), Fail> {
     Ok(())
 }
 
-/// Puts a text so many times.
+/// Puts a text so many times, with the control characters that its pictures stand for.
 fn put_text(pictures: &str, times: u32, octets: &mut Vec<u8>) -> Result<(), Fail> {
     for _ in 0..times {
-        put_characters(pictures, octets)?;
-    }
-    Ok(())
-}
-
-/// Puts the text with the control characters that its pictures stand for.
-fn put_characters(pictures: &str, octets: &mut Vec<u8>) -> Result<(), Fail> {
-    for picture in pictures.chars() {
-        let character = meant_by(picture);
-        octets.extend_from_slice(character.encode_utf8(&mut [0; 4]).as_bytes())?;
+        for picture in pictures.chars() {
+            let character = meant_by(picture);
+            octets.extend_from_slice(character.encode_utf8(&mut [0; 4]).as_bytes())?;
+        }
     }
     Ok(())
 }

@@ -1,9 +1,8 @@
 //! What the scanner answers on worked rows: whole, in single octets and at every cut.
-use crate::documents::tell_refusal;
 use crate::row::Row;
 use ion_model::Refusal;
 use ion_scalar::Number;
-use ion_tokens::{Body, Mark, Place, Scan, Scanner, Token};
+use ion_tokens::{Body, Mark, Place, Rest, Scan, Scanner, Token, TokenReader};
 use std::alloc::{AllocError, Global};
 use std::test::Fail;
 
@@ -43,8 +42,8 @@ fn tell_body(body: &Body<'_>, told: &mut String) -> Result<(), AllocError> {
         Body::Mark(mark) => tell_word("mark", mark_text(*mark), told),
         Body::Id(id) => write!(told, "id {id}"),
         Body::Number(number) => tell_number(number, told),
-        Body::Clob(octets) => tell_octets("clob", octets.as_slice(), told),
-        Body::Blob(octets) => tell_octets("blob", octets.as_slice(), told),
+        Body::Clob(octets) => write!(told, "clob {:?}", octets.as_slice()),
+        Body::Blob(octets) => write!(told, "blob {:?}", octets.as_slice()),
     }
 }
 
@@ -52,20 +51,12 @@ fn tell_word(sort: &str, text: &str, told: &mut String) -> Result<(), AllocError
     write!(told, "{sort} {text}")
 }
 
-fn tell_octets(sort: &str, octets: &[u8], told: &mut String) -> Result<(), AllocError> {
-    write!(told, "{sort} {octets:?}")
-}
-
 fn tell_number(number: &Number, told: &mut String) -> Result<(), AllocError> {
     match number {
         Number::Int(whole) => write!(told, "int {}", whole.get()),
         Number::Decimal(decimal) => {
-            write!(
-                told,
-                "decimal {} {}",
-                decimal.magnitude(),
-                decimal.exponent()
-            )
+            let (magnitude, exponent) = (decimal.magnitude(), decimal.exponent());
+            write!(told, "decimal {magnitude} {exponent}")
         }
         Number::Timestamp(_) => told.push_str("timestamp"),
     }
@@ -81,7 +72,7 @@ fn tell_token(token: &Token<'_>, told: &mut String) -> Result<(), AllocError> {
 impl Seen<'_> {
     fn refusal(&mut self, refusal: Refusal) -> Result<(), AllocError> {
         self.refused = true;
-        tell_refusal(refusal, self.told)
+        write!(self.told, "{} {}", refusal.offset, refusal.reason.name())
     }
 
     /// Tells a token, and lets it go.
@@ -136,14 +127,17 @@ impl Seen<'_> {
         Err("no end".into())
     }
 
-    /// Takes up two pieces.
-    fn in_two(&mut self, scanner: &mut Scanner, octets: &[u8], cut: usize) -> Result<(), Fail> {
-        self.take_up(scanner, octets.get(..cut).unwrap_or(&[]))?;
-        self.take_up(scanner, octets.get(cut..).unwrap_or(&[]))
-    }
-
-    /// Takes up octets one by one.
-    fn in_singles(&mut self, scanner: &mut Scanner, octets: &[u8]) -> Result<(), Fail> {
+    /// Takes up two pieces, or octets one by one.
+    fn take_cut(
+        &mut self,
+        scanner: &mut Scanner,
+        octets: &[u8],
+        cut: Option<usize>,
+    ) -> Result<(), Fail> {
+        if let Some(cut) = cut {
+            self.take_up(scanner, octets.get(..cut).unwrap_or(&[]))?;
+            return self.take_up(scanner, octets.get(cut..).unwrap_or(&[]));
+        }
         for octet in octets {
             self.take_up(scanner, &[*octet])?;
         }
@@ -183,36 +177,26 @@ const FEW_CUTS: &[usize] = &[0, 1, 2, 3, 5, 800, 999, 1002, 2000];
 /// Where they stand: `top`; `in sexp`, in an s-expression; `sexp`, the first at the top and the
 /// others in an s-expression; `struct`, the first at the top, the name and the value of a field |
 /// octets | each token with its span, then `end` or the refusal.
-pub fn scans(alloc: Global, row: Row<'_>, octets: &[u8], told: &mut String) -> Result<(), Fail> {
+pub fn scans(alloc: Global, row: Row<'_>, octets: &[u8]) -> Result<(), Fail> {
     for cut in 0..=octets.len() {
         if octets.len() < 1000 || FEW_CUTS.contains(&cut) {
-            shows(alloc, row, octets, Some(cut), told)?;
+            shows(alloc, row, octets, Some(cut))?;
         }
     }
-    shows(alloc, row, octets, None, told)
+    shows(alloc, row, octets, None)
 }
 
 /// Fails, where a scanner shows anything else of the octets in two pieces, or one by one.
-fn shows(
-    alloc: Global,
-    row: Row<'_>,
-    octets: &[u8],
-    cut: Option<usize>,
-    told: &mut String,
-) -> Result<(), Fail> {
-    told.clear();
+fn shows(alloc: Global, row: Row<'_>, octets: &[u8], cut: Option<usize>) -> Result<(), Fail> {
+    let mut told = String::new(alloc);
     let mut scanner = Scanner::new(alloc);
     let mut seen = Seen {
         places: places(row.field(0)),
         tokens: 0,
-        told: &mut *told,
+        told: &mut told,
         refused: false,
     };
-    let taken = match cut {
-        Some(cut) => seen.in_two(&mut scanner, octets, cut),
-        None => seen.in_singles(&mut scanner, octets),
-    };
-    match taken {
+    match seen.take_cut(&mut scanner, octets, cut) {
         Ok(()) => seen.end(scanner)?,
         Err(fail) => {
             drop(scanner);
@@ -220,4 +204,40 @@ fn shows(
         }
     }
     row.wants_octets(alloc, 2, told.as_bytes())
+}
+
+/// `found` | octets | how many of them the token at their front has, `before` where it is the octet
+/// behind it that shows its end, and the token; or `none`. It is looked for twice by one reader.
+pub fn is_found(alloc: Global, row: Row<'_>, octets: &[u8]) -> Result<(), Fail> {
+    let mut told = String::new(alloc);
+    let mut tokens = TokenReader::new(alloc);
+    let found = match tell_found(&mut tokens, octets, &mut told) {
+        Ok(()) => tell_found(&mut tokens, octets, &mut told),
+        Err(fail) => Err(fail),
+    };
+    drop(tokens);
+    found?;
+    row.wants_octets(alloc, 2, told.as_bytes())
+}
+
+/// Tells the token at the front.
+fn tell_found(tokens: &mut TokenReader, octets: &[u8], told: &mut String) -> Result<(), Fail> {
+    told.clear();
+    let rest = Rest {
+        start: 0,
+        used: 0,
+        colon: false,
+    };
+    if octets.len() > 1 << 40 {
+        return Err("long".into());
+    }
+    let Some(token) = tokens.token(Place::List, rest, octets) else {
+        return Ok(told.push_str("none")?);
+    };
+    let before = if token.left { " before" } else { "" };
+    write!(told, "{}{before} ", token.count)?;
+    let body = tokens.body(token.kind)?;
+    let tried = tell_body(&body, told);
+    drop(body);
+    Ok(tried?)
 }

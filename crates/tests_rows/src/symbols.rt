@@ -1,7 +1,7 @@
 //! Contexts of symbols behind local symbol tables.
 use crate::row::Row;
-use crate::values::{values, values_in};
-use ion_model::{Payload, Reason, Symbol, Value};
+use crate::values::values;
+use ion_model::{Reason, Symbol, Value};
 use ion_symtab::{Catalog, Context, SharedTable};
 use std::alloc::{AllocError, Global};
 use std::test::Fail;
@@ -25,29 +25,10 @@ fn add_tables(
 fn add_table(alloc: Global, name: &str, rest: &str, catalog: &mut Catalog) -> Result<(), Fail> {
     let (version, texts) = rest.split_once(' ').unwrap_or((rest, ""));
     let version = version.parse::<u32>()?;
-    match catalog.add(table(alloc, name, version, texts)?) {
-        Ok(()) => Ok(()),
-        Err(refused) => {
-            drop(refused);
-            Err("not added".into())
-        }
-    }
-}
-
-/// The shared table of these texts.
-fn table(alloc: Global, name: &str, version: u32, texts: &str) -> Result<SharedTable, Fail> {
     let mut symbols = Vec::new(alloc);
-    if let Err(fail) = put_symbols(alloc, texts, &mut symbols) {
-        drop(symbols);
-        return Err(fail);
-    }
-    match String::from_str(alloc, name) {
-        Ok(name) => Ok(SharedTable::new(alloc, name, version, symbols)?),
-        Err(error) => {
-            drop(symbols);
-            Err(error.into())
-        }
-    }
+    put_symbols(alloc, texts, &mut symbols)?;
+    let name = String::from_str(alloc, name)?;
+    Ok(add(catalog, SharedTable::new(alloc, name, version, symbols))?)
 }
 
 fn put_symbols(alloc: Global, texts: &str, symbols: &mut Vec<Option<String>>) -> Result<(), Fail> {
@@ -55,6 +36,27 @@ fn put_symbols(alloc: Global, texts: &str, symbols: &mut Vec<Option<String>>) ->
         symbols.push(Some(String::from_str(alloc, text)?))?;
     }
     Ok(())
+}
+
+/// Adds a table, if there is one; why not.
+fn add(catalog: &mut Catalog, table: Result<SharedTable, Reason>) -> Result<(), Reason> {
+    match catalog.add(table?) {
+        Ok(()) => Ok(()),
+        Err((table, reason)) => {
+            drop(table);
+            Err(reason)
+        }
+    }
+}
+
+/// Tells the reason for which a table was refused.
+fn refused(reason: Reason, told: &mut String) -> Result<(), AllocError> {
+    write!(told, "refused {} ", reason.name())
+}
+
+/// The items of the list that a field spells, if it spells one.
+fn items(lists: &[Value]) -> &[Value] {
+    lists.first().and_then(Value::items).unwrap_or(&[])
 }
 
 /// Applies tables in turn; tells those that are refused.
@@ -70,21 +72,6 @@ fn apply(
         }
         if let Err(reason) = context.apply(table, catalog) {
             refused(reason, told)?;
-        }
-    }
-    Ok(())
-}
-
-/// Applies the tables of lists.
-fn apply_lists(
-    context: &mut Context,
-    lists: &[Value],
-    catalog: &Catalog,
-    told: &mut String,
-) -> Result<(), Fail> {
-    for list in lists {
-        if let Payload::List(tables) = &list.payload {
-            apply(context, tables.as_slice(), catalog, told)?;
         }
     }
     Ok(())
@@ -126,60 +113,47 @@ fn tell_each(context: &mut Context, words: &str, told: &mut String) -> Result<()
 /// `context` | the shared tables | a list of the tables that a context is given | ids, `max` and
 /// `reset` in turn | the reasons for which tables were refused, and the symbol of each id or the
 /// reason for which it has none.
-pub fn resolves(alloc: Global, row: Row<'_>, told: &mut String) -> Result<(), Fail> {
+pub fn resolves(alloc: Global, row: Row<'_>) -> Result<(), Fail> {
+    let octets = row.octets(alloc, 2)?;
+    let lists = values(alloc, octets.as_slice())?;
     let mut catalog = Catalog::new(alloc);
-    let tried = match add_tables(alloc, row, 1, &mut catalog) {
-        Ok(()) => resolves_with(alloc, row, &catalog, told),
+    let told = match add_tables(alloc, row, 1, &mut catalog) {
+        Ok(()) => resolved(alloc, row, items(lists.as_slice()), &catalog),
         Err(fail) => Err(fail),
     };
     drop(catalog);
-    tried?;
+    drop(lists);
+    let told = told?;
     row.wants(4, told.as_str().trim())
 }
 
-/// Tells what a new context answers under a catalog.
-fn resolves_with(
+/// What a new context answers behind these tables.
+fn resolved(
     alloc: Global,
     row: Row<'_>,
+    tables: &[Value],
     catalog: &Catalog,
-    told: &mut String,
-) -> Result<(), Fail> {
-    let lists = values_in(alloc, row, 2)?;
-    let tried = resolves_behind(alloc, row, lists.as_slice(), catalog, told);
-    drop(lists);
-    tried
-}
-
-/// Tells what a new context answers behind the tables of these lists.
-fn resolves_behind(
-    alloc: Global,
-    row: Row<'_>,
-    lists: &[Value],
-    catalog: &Catalog,
-    told: &mut String,
-) -> Result<(), Fail> {
+) -> Result<String, Fail> {
+    let mut told = String::new(alloc);
     let mut context = Context::system(alloc)?;
-    let tried = match apply_lists(&mut context, lists, catalog, told) {
-        Ok(()) => tell_each(&mut context, row.field(3), told),
+    let tried = match apply(&mut context, tables, catalog, &mut told) {
+        Ok(()) => tell_each(&mut context, row.field(3), &mut told),
         Err(fail) => Err(fail),
     };
     drop(context);
-    tried
+    tried?;
+    Ok(told)
 }
 
 /// `shared` | a list of shared tables that a catalog is given | names and versions with commas
 /// between them | the reasons for which tables were refused, and of each name and version whether
 /// it is there, and whether the name is.
-pub fn are_found(
-    alloc: Global,
-    row: Row<'_>,
-    octets: &[u8],
-    told: &mut String,
-) -> Result<(), Fail> {
+pub fn are_found(alloc: Global, row: Row<'_>, octets: &[u8]) -> Result<(), Fail> {
+    let mut told = String::new(alloc);
     let lists = values(alloc, octets)?;
     let mut catalog = Catalog::new(alloc);
-    let tried = match take_in_lists(alloc, &mut catalog, lists.as_slice(), told) {
-        Ok(()) => tell_found(&catalog, row.field(2), told),
+    let tried = match take_in(alloc, &mut catalog, items(lists.as_slice()), &mut told) {
+        Ok(()) => tell_found(&catalog, row.field(2), &mut told),
         Err(fail) => Err(fail),
     };
     drop(catalog);
@@ -192,39 +166,16 @@ pub fn are_found(
 fn tell_found(catalog: &Catalog, names: &str, told: &mut String) -> Result<(), Fail> {
     for asked in names.split(',') {
         if let Some((name, version)) = asked.trim().split_once(' ') {
-            tell_one(catalog, name, version.parse::<u32>()?, told)?;
+            let version = version.parse::<u32>()?;
+            told.push_str(yes_or_no(catalog.find(name, version).is_some()))?;
+            told.push_str(yes_or_no(catalog.find_best(name, version).is_some()))?;
         }
     }
     Ok(())
-}
-
-fn tell_one(
-    catalog: &Catalog,
-    name: &str,
-    version: u32,
-    told: &mut String,
-) -> Result<(), AllocError> {
-    told.push_str(yes_or_no(catalog.find(name, version).is_some()))?;
-    told.push_str(yes_or_no(catalog.find_best(name, version).is_some()))
 }
 
 fn yes_or_no(answer: bool) -> &'static str {
     if answer { "yes " } else { "no " }
-}
-
-/// Adds the shared tables that the values of lists describe.
-fn take_in_lists(
-    alloc: Global,
-    catalog: &mut Catalog,
-    lists: &[Value],
-    told: &mut String,
-) -> Result<(), Fail> {
-    for list in lists {
-        if let Payload::List(tables) = &list.payload {
-            take_in(alloc, catalog, tables.as_slice(), told)?;
-        }
-    }
-    Ok(())
 }
 
 /// Adds the shared tables that values describe; tells those that are refused.
@@ -235,24 +186,9 @@ fn take_in(
     told: &mut String,
 ) -> Result<(), Fail> {
     for value in values {
-        if let Err(reason) = take_in_one(alloc, catalog, value) {
+        if let Err(reason) = add(catalog, SharedTable::from_value(alloc, value)) {
             refused(reason, told)?;
         }
     }
     Ok(())
-}
-
-fn take_in_one(alloc: Global, catalog: &mut Catalog, value: &Value) -> Result<(), Reason> {
-    match catalog.add(SharedTable::from_value(alloc, value)?) {
-        Ok(()) => Ok(()),
-        Err((table, reason)) => {
-            drop(table);
-            Err(reason)
-        }
-    }
-}
-
-/// Tells the reason for which a table was refused.
-fn refused(reason: Reason, told: &mut String) -> Result<(), AllocError> {
-    write!(told, "refused {} ", reason.name())
 }

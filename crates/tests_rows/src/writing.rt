@@ -1,23 +1,18 @@
 //! What is written of documents, a line for each value or a conversion, however the octets come and
 //! go.
-use crate::commands::Asked;
-use crate::documents::{Pieces, WHOLE, answers, catalog, is_failed_read, limits};
-use crate::row::{Row, are_so};
+use crate::documents::{Asked, Pieces, WHOLE, answers, is_failed_read, is_so};
+use crate::row::are_so;
 use ion_devices::{FrailReader, FrailWriter, NEVER};
 use ion_docs::{Target, convert, show};
 use ion_model::Refusal;
-use ion_symtab::{Catalog, Fault, FromRead, Inlet, Limits, ToWrite};
-use std::alloc::Global;
+use ion_symtab::{Fault, FromRead, Inlet, Limits, ToWrite};
 use std::test::Fail;
 
-/// A document under a catalog and limits, of which its lines are written or its conversion.
+/// A row's document, of which the lines are written or a conversion.
 #[derive(Clone, Copy)]
 struct Writing<'a> {
-    alloc: Global,
+    asked: Asked<'a>,
     target: Option<Target>,
-    document: &'a [u8],
-    catalog: &'a Catalog,
-    limits: Limits,
 }
 
 /// What has to be written, and what has to be answered.
@@ -30,319 +25,206 @@ struct Wanted<'a> {
 /// What the lines or the conversion answer, and how many reads are made of the document.
 type Written = (Result<Result<u64, Refusal>, Fault>, u64);
 
-/// Puts what is written of a document, where a call takes so many octets at most and one call
-/// fails.
-fn put_written(
-    writing: Writing<'_>,
-    pieces: Pieces<'_>,
-    takes: usize,
-    fails_at: u64,
-    taken: &mut Vec<u8>,
-) -> Written {
-    taken.clear();
-    let mut reader = pieces.reader();
-    let mut writer = ToWrite::new(FrailWriter {
-        taken,
-        calls: 0,
-        fails_at,
-        takes,
-    });
-    let answer = write(writing, &mut reader, &mut writer);
-    let reads = reader.calls();
-    drop(writer);
-    drop(reader);
-    (answer, reads)
-}
-
-fn write(
-    writing: Writing<'_>,
-    reader: &mut FromRead<FrailReader<'_>>,
-    writer: &mut ToWrite<FrailWriter<'_>>,
-) -> Result<Result<u64, Refusal>, Fault> {
-    let (alloc, catalog, limits) = (writing.alloc, writing.catalog, writing.limits);
-    match writing.target {
-        None => show(alloc, reader, writer, catalog, limits),
-        Some(target) => convert(alloc, reader, writer, target, catalog, limits),
+impl<'a> Writing<'a> {
+    /// Puts what is written of a document, where a call takes so many octets at most and one call
+    /// fails.
+    fn put(self, pieces: Pieces<'_>, takes: usize, fails_at: u64, taken: &mut Vec<u8>) -> Written {
+        taken.clear();
+        let mut reader = pieces.reader();
+        let mut writer = ToWrite::new(FrailWriter::new(taken, takes, fails_at));
+        let answer = self.write(&mut reader, &mut writer);
+        (answer, reader.calls())
     }
-}
 
-/// Fails, where anything else is written or answered: however the octets come, and however few a
-/// call takes, none too. Each read and each write fails once, the flush behind the last too: then
-/// what was written before stands.
-fn writes(writing: Writing<'_>, wanted: Wanted<'_>, told: &mut String) -> Result<(), Fail> {
-    let mut taken = Vec::new(writing.alloc);
-    let tried = match writes_each_cut(writing, wanted, &mut taken, told) {
-        Ok(()) => fails_by_device(writing, wanted, &mut taken),
-        Err(fail) => Err(fail),
-    };
-    drop(taken);
-    tried
-}
-
-fn writes_each_cut(
-    writing: Writing<'_>,
-    wanted: Wanted<'_>,
-    taken: &mut Vec<u8>,
-    told: &mut String,
-) -> Result<(), Fail> {
-    for first in 1..=writing.document.len() + 1 {
-        writes_cut(writing, wanted, first, first, taken, told)?;
-        writes_cut(writing, wanted, first, WHOLE, taken, told)?;
+    fn write(
+        self,
+        reader: &mut FromRead<FrailReader<'_>>,
+        writer: &mut ToWrite<FrailWriter<'_>>,
+    ) -> Result<Result<u64, Refusal>, Fault> {
+        let Asked {
+            alloc,
+            catalog,
+            limits,
+            ..
+        } = self.asked;
+        match self.target {
+            None => show(alloc, reader, writer, catalog, limits),
+            Some(target) => convert(alloc, reader, writer, target, catalog, limits),
+        }
     }
-    Ok(())
-}
 
-/// Fails, where anything else is written of a document that is cut behind its first `first` octets.
-fn writes_cut(
-    writing: Writing<'_>,
-    wanted: Wanted<'_>,
-    first: usize,
-    takes: usize,
-    taken: &mut Vec<u8>,
-    told: &mut String,
-) -> Result<(), Fail> {
-    let pieces = Pieces::cut(writing.document, first);
-    let (answer, _) = put_written(writing, pieces, takes, NEVER, taken);
-    answers(wanted.answer, answer?, told)?;
-    are_so(taken.as_slice() == wanted.written, taken.as_slice())
-}
-
-/// Fails, where the failing of a device is not the answer.
-fn fails_by_device(
-    writing: Writing<'_>,
-    wanted: Wanted<'_>,
-    taken: &mut Vec<u8>,
-) -> Result<(), Fail> {
-    fails_at_each_read(writing, wanted, taken)?;
-    fails_at_each_call(writing, wanted, taken)?;
-    takes_nothing(writing, wanted, taken)
-}
-
-/// Fails, where one of the reads fails and that is not the answer, or what was written before is no
-/// front.
-fn fails_at_each_read(
-    writing: Writing<'_>,
-    wanted: Wanted<'_>,
-    taken: &mut Vec<u8>,
-) -> Result<(), Fail> {
-    let pieces = Pieces::singles(writing.document);
-    let (_, reads) = put_written(writing, pieces, WHOLE, NEVER, taken);
-    for fails_at in 0..reads {
-        let failing = pieces.failing(fails_at);
-        let (answer, _) = put_written(writing, failing, WHOLE, NEVER, taken);
-        is_failed_read(fails_at, answer.err())?;
-        are_so(
-            wanted.written.starts_with(taken.as_slice()),
-            taken.as_slice(),
-        )?;
+    /// Fails, where anything else is written or answered: however the octets come, and however few
+    /// a call takes, none too. Each read and each write fails once, the flush behind the last too:
+    /// then what was written before stands.
+    fn writes(self, wanted: Wanted<'_>) -> Result<(), Fail> {
+        let mut taken = Vec::new(self.asked.alloc);
+        self.writes_each_cut(wanted, &mut taken)?;
+        self.fails_at_each_read(wanted, &mut taken)?;
+        self.fails_at_each_call(wanted, &mut taken)?;
+        self.takes_nothing(wanted, &mut taken)
     }
-    Ok(())
-}
 
-/// Fails, where a writer takes no octet of some and that is not the answer.
-fn takes_nothing(
-    writing: Writing<'_>,
-    wanted: Wanted<'_>,
-    taken: &mut Vec<u8>,
-) -> Result<(), Fail> {
-    if wanted.written.is_empty() {
-        return Ok(());
+    fn writes_each_cut(self, wanted: Wanted<'_>, taken: &mut Vec<u8>) -> Result<(), Fail> {
+        let document = self.asked.document;
+        for first in 1..=document.len() + 1 {
+            for takes in [first, WHOLE] {
+                let (answer, _) = self.put(Pieces::cut(document, first), takes, NEVER, taken);
+                answers(wanted.answer, answer?)?;
+                are_so(taken.as_slice() == wanted.written, taken.as_slice())?;
+            }
+        }
+        Ok(())
     }
-    let pieces = Pieces::whole(writing.document);
-    let (answer, _) = put_written(writing, pieces, 0, NEVER, taken);
-    let is_so = answer == Err(Fault::Write) && taken.is_empty();
-    are_so(is_so, taken.as_slice())
-}
 
-fn fails_at_each_call(
-    writing: Writing<'_>,
-    wanted: Wanted<'_>,
-    taken: &mut Vec<u8>,
-) -> Result<(), Fail> {
-    for calls in 0..=wanted.written.len() {
-        fails_at(writing, wanted, calls, 4, taken)?;
-        fails_at(writing, wanted, calls, WHOLE, taken)?;
+    /// Fails, where one of the reads fails and that is not the answer, or what was written before
+    /// is no front.
+    fn fails_at_each_read(self, wanted: Wanted<'_>, taken: &mut Vec<u8>) -> Result<(), Fail> {
+        let pieces = Pieces::each(self.asked.document, 1);
+        let (_, reads) = self.put(pieces, WHOLE, NEVER, taken);
+        for fails_at in 0..reads {
+            let (answer, _) = self.put(pieces.failing(fails_at), WHOLE, NEVER, taken);
+            is_failed_read(fails_at, answer.err())?;
+            let is_front = wanted.written.starts_with(taken.as_slice());
+            are_so(is_front, taken.as_slice())?;
+        }
+        Ok(())
     }
-    Ok(())
-}
 
-/// Fails, where the failing of the call behind so many is not the answer, or not so many octets
-/// were written.
-fn fails_at(
-    writing: Writing<'_>,
-    wanted: Wanted<'_>,
-    calls: usize,
-    first: usize,
-    taken: &mut Vec<u8>,
-) -> Result<(), Fail> {
-    let pieces = Pieces::cut(writing.document, first);
-    match put_written(writing, pieces, 1, calls as u64, taken) {
-        (Err(Fault::Write), _) => {
+    /// Fails, where a writer takes no octet of some and that is not the answer.
+    fn takes_nothing(self, wanted: Wanted<'_>, taken: &mut Vec<u8>) -> Result<(), Fail> {
+        if wanted.written.is_empty() {
+            return Ok(());
+        }
+        let (answer, _) = self.put(Pieces::each(self.asked.document, WHOLE), 0, NEVER, taken);
+        is_so(answer == Err(Fault::Write) && taken.is_empty(), answer)
+    }
+
+    /// Fails, where a call of the writer fails and that is not the answer, or not what was written
+    /// before stands.
+    fn fails_at_each_call(self, wanted: Wanted<'_>, taken: &mut Vec<u8>) -> Result<(), Fail> {
+        for calls in 0..=wanted.written.len() {
             let front = wanted.written.get(..calls).unwrap_or(&[]);
-            are_so(taken.as_slice() == front, taken.as_slice())
+            for first in [4, WHOLE] {
+                let pieces = Pieces::cut(self.asked.document, first);
+                let (answer, _) = self.put(pieces, 1, calls as u64, taken);
+                is_so(answer == Err(Fault::Write), (calls, answer))?;
+                are_so(taken.as_slice() == front, taken.as_slice())?;
+            }
         }
-        _ => Err(Fail::new(format_args!("call {calls} fails, and is not answered"))),
+        Ok(())
     }
-}
 
-/// Fails, where anything else is written of a row's document than field `number` spells, by the
-/// call or by the command.
-fn is_written(
-    asked: Asked<'_>,
-    writing: Writing<'_>,
-    number: usize,
-    answer: &str,
-    told: &mut String,
-) -> Result<(), Fail> {
-    let mut octets = Vec::new(writing.alloc);
-    let tried = match asked.row.put_octets(number, &mut octets) {
-        Ok(()) => {
-            let written = octets.as_slice();
-            both_write(asked, writing, Wanted { written, answer }, told)
+    /// Fails, where anything else is written of a row's document than field `number` spells, by the
+    /// call or by the command.
+    fn is_written(self, number: usize, answer: &str) -> Result<(), Fail> {
+        let octets = self.asked.row.octets(self.asked.alloc, number)?;
+        let written = octets.as_slice();
+        self.writes(Wanted { written, answer })?;
+        match self.target {
+            None => self.asked.is_shown(written, answer),
+            Some(target) => self.asked.is_converted(target, written, answer),
         }
-        Err(fail) => Err(fail),
-    };
-    drop(octets);
-    tried
-}
-
-fn both_write(
-    asked: Asked<'_>,
-    writing: Writing<'_>,
-    wanted: Wanted<'_>,
-    told: &mut String,
-) -> Result<(), Fail> {
-    writes(writing, wanted, told)?;
-    match writing.target {
-        None => asked.shows(wanted.written, wanted.answer),
-        Some(target) => asked.converts(target, wanted.written, wanted.answer),
     }
 }
 
 /// `show` | a document | the lines | how many values, or the offset and the reason of the refusal |
 /// limits and the shared table.
-pub fn shows(alloc: Global, row: Row<'_>, document: &[u8], told: &mut String) -> Result<(), Fail> {
-    let limits = limits(row, 4)?;
-    let catalog = catalog(alloc, row, 4)?;
-    let asked = Asked {
-        alloc,
-        row,
-        options: 4,
-        document,
-    };
-    let writing = Writing {
-        alloc,
-        target: None,
-        document,
-        catalog: &catalog,
-        limits,
-    };
-    let tried = is_written(asked, writing, 2, row.field(3), told);
-    drop(catalog);
-    tried
+pub fn shows(asked: Asked<'_>) -> Result<(), Fail> {
+    let target = None;
+    Writing { asked, target }.is_written(2, asked.row.field(3))
 }
+
+/// The encodings, and the field of a row that has what is written in each.
+const TARGETS: [(Target, usize); 2] = [(Target::Binary, 2), (Target::Text, 3)];
 
 /// `convert` | a document | its conversion to binary | and to text | how many values, or the offset
 /// and the reason of the refusal | limits and the shared table.
 ///
 /// What was written is read as the same stream, and converted once more is as it was.
-pub fn converts(
-    alloc: Global,
-    row: Row<'_>,
-    document: &[u8],
-    told: &mut String,
-) -> Result<(), Fail> {
-    let limits = limits(row, 5)?;
-    let catalog = catalog(alloc, row, 5)?;
-    let asked = Asked {
-        alloc,
-        row,
-        options: 5,
-        document,
-    };
-    let tried = converts_under(asked, &catalog, limits, told);
-    drop(catalog);
-    tried?;
-    are_converted_again(alloc, row)
-}
-
-/// Fails, where a row's document is converted otherwise under this catalog and limits.
-fn converts_under(
-    asked: Asked<'_>,
-    catalog: &Catalog,
-    limits: Limits,
-    told: &mut String,
-) -> Result<(), Fail> {
-    let answer = asked.row.field(4);
-    for (target, number) in &[(Target::Binary, 2), (Target::Text, 3)] {
-        let writing = Writing {
-            alloc: asked.alloc,
-            target: Some(*target),
-            document: asked.document,
-            catalog,
-            limits,
-        };
-        is_written(asked, writing, *number, answer, told)?;
+pub fn converts(asked: Asked<'_>) -> Result<(), Fail> {
+    for (target, number) in TARGETS {
+        let target = Some(target);
+        Writing { asked, target }.is_written(number, asked.row.field(4))?;
     }
-    Ok(())
-}
-
-/// Fails, where what has to be written in either encoding is converted otherwise to either.
-fn are_converted_again(alloc: Global, row: Row<'_>) -> Result<(), Fail> {
     let usual = Limits::usual();
     let limits = Limits::new(128, usual.item(), usual.reads()).ok_or("limits")?;
-    let catalog = Catalog::new(alloc);
-    let tried = match is_converted_again(alloc, row, &catalog, limits, 2) {
-        Ok(()) => is_converted_again(alloc, row, &catalog, limits, 3),
-        Err(fail) => Err(fail),
-    };
-    drop(catalog);
-    tried
+    for (_, number) in TARGETS {
+        is_converted_again(asked, limits, number)?;
+    }
+    Ok(())
 }
 
 /// Fails, where what a field spells is converted otherwise to either encoding.
-fn is_converted_again(
-    alloc: Global,
-    row: Row<'_>,
-    catalog: &Catalog,
-    limits: Limits,
-    number: usize,
-) -> Result<(), Fail> {
-    let mut written = Vec::new(alloc);
-    let tried = match row.put_octets(number, &mut written) {
-        Ok(()) => converts_to_both(alloc, row, catalog, limits, written.as_slice()),
-        Err(fail) => Err(fail),
-    };
-    drop(written);
-    tried
+fn is_converted_again(asked: Asked<'_>, limits: Limits, number: usize) -> Result<(), Fail> {
+    let document = asked.row.octets(asked.alloc, number)?;
+    let mut again = asked;
+    again.document = document.as_slice();
+    again.limits = limits;
+    converts_to_both(again)
 }
 
-fn converts_to_both(
-    alloc: Global,
-    row: Row<'_>,
-    catalog: &Catalog,
-    limits: Limits,
-    document: &[u8],
-) -> Result<(), Fail> {
-    for (target, number) in &[(Target::Binary, 2), (Target::Text, 3)] {
-        let writing = Writing {
-            alloc,
-            target: Some(*target),
-            document,
-            catalog,
-            limits,
-        };
-        converts_to(row, writing, *number)?;
+fn converts_to_both(asked: Asked<'_>) -> Result<(), Fail> {
+    let pieces = Pieces::each(asked.document, WHOLE);
+    let mut taken = Vec::new(asked.alloc);
+    for (target, number) in TARGETS {
+        let target = Some(target);
+        let _ = Writing { asked, target }.put(pieces, WHOLE, NEVER, &mut taken);
+        asked
+            .row
+            .wants_octets(asked.alloc, number, taken.as_slice())?;
     }
     Ok(())
 }
 
-/// Fails, where a document is converted to other octets than a field spells.
-fn converts_to(row: Row<'_>, writing: Writing<'_>, number: usize) -> Result<(), Fail> {
-    let mut taken = Vec::new(writing.alloc);
-    let pieces = Pieces::whole(writing.document);
-    let _ = put_written(writing, pieces, WHOLE, NEVER, &mut taken);
-    let tried = row.wants_octets(writing.alloc, number, taken.as_slice());
-    drop(taken);
-    tried
+/// The number that stands at this place between blanks.
+fn nth(field: &str, place: usize) -> Result<usize, Fail> {
+    let word = field.split_whitespace().nth(place).ok_or("a number")?;
+    Ok(word.parse::<usize>()?)
+}
+
+/// `cut` | a document | where its values end | what is written of all | behind how many octets of
+/// that a value ends, at first those of a document of none | `binary` or `text`, which it is
+/// converted to.
+///
+/// Where it is cut the values that are whole are written, and nothing of one that was half told.
+pub fn is_cut(asked: Asked<'_>) -> Result<(), Fail> {
+    let written = asked.row.octets(asked.alloc, 3)?;
+    let document = asked.document;
+    for cut in 0..=document.len() {
+        let count = ended_in(asked.row.field(2), cut)?;
+        let length = nth(asked.row.field(4), count)?;
+        let mut front = asked;
+        front.document = document.get(..cut).unwrap_or(&[]);
+        writes_front(front, count as u64, written.get(..length).unwrap_or(&[]))?;
+    }
+    Ok(())
+}
+
+/// How many of these places are no further than this one.
+fn ended_in(ends: &str, cut: usize) -> Result<usize, Fail> {
+    let mut count: usize = 0;
+    for end in ends.split_whitespace() {
+        if end.parse::<usize>()? <= cut {
+            count = count.saturating_add(1);
+        }
+    }
+    Ok(count)
+}
+
+/// Fails, where anything else is written of a document with each length of its first piece, or it
+/// is answered otherwise than by so many values or a refusal.
+fn writes_front(asked: Asked<'_>, count: u64, wanted: &[u8]) -> Result<(), Fail> {
+    let target = match asked.row.field(5) {
+        "binary" => Some(Target::Binary),
+        _ => Some(Target::Text),
+    };
+    let mut taken = Vec::new(asked.alloc);
+    for first in 1..=asked.document.len() + 1 {
+        let pieces = Pieces::cut(asked.document, first);
+        let (answer, _) = Writing { asked, target }.put(pieces, WHOLE, NEVER, &mut taken);
+        let answer = answer?;
+        is_so(answer.is_err() || answer == Ok(count), answer)?;
+        are_so(taken.as_slice() == wanted, taken.as_slice())?;
+    }
+    Ok(())
 }
