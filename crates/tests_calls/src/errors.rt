@@ -8,20 +8,12 @@ use ion_model::{Reason, Value};
 use ion_symtab::{Catalog, FromRead, Inlet, Limits};
 use ion_words::parse;
 use std::alloc::Global;
-use std::io::ErrorKind;
 use std::process::Abort;
 use std::test::Fail;
 
 /// A device whose first call fails.
 fn failing() -> FromRead<FrailReader<'static>> {
-    FromRead::new(FrailReader {
-        octets: b"1",
-        first: 1,
-        then: 1,
-        calls: 0,
-        fails_at: 0,
-        kind: ErrorKind::Other,
-    })
+    FromRead::new(FrailReader::new(b"1", 1, 1).failing(0))
 }
 
 /// `WordsError`.
@@ -33,11 +25,7 @@ fn of_words(alloc: Global) -> Result<()> {
 
 /// `Failed`.
 fn of_a_device() -> Result<()> {
-    let mut reader = failing();
-    let mut octets = [0u8; 4];
-    let read = reader.read(&mut octets);
-    drop(reader);
-    let _count = read?;
+    let _count = failing().read(&mut [0u8; 4])?;
     Ok(())
 }
 
@@ -88,12 +76,8 @@ fn errors_go_to_anyhow(rt: HostRuntime) -> Result<(), Fail> {
     says(&rt, alloc, of_words(alloc), "Usage")?;
     says(&rt, alloc, of_a_device(), "Failed")?;
     says(&rt, alloc, of_a_document(alloc, failing()), "Read")?;
-    says(
-        &rt,
-        alloc,
-        of_a_document(alloc, FromRead::new(&b"1 ]"[..])),
-        "3 Unexpected",
-    )?;
+    let closed = FromRead::new(&b"1 ]"[..]);
+    says(&rt, alloc, of_a_document(alloc, closed), "3 Unexpected")?;
     says(&rt, alloc, of_a_value(alloc), "1 Unexpected")?;
     says(&rt, alloc, of_a_growth(), "Memory")
 }

@@ -9,10 +9,6 @@ mod answers;
 #[cfg(test)]
 mod binary_out;
 #[cfg(test)]
-mod comparisons;
-#[cfg(test)]
-mod conversions;
-#[cfg(test)]
 mod errors;
 #[cfg(test)]
 mod faults;
@@ -23,8 +19,6 @@ mod lines;
 mod memory;
 #[cfg(test)]
 mod readers;
-#[cfg(test)]
-mod shelves;
 #[cfg(test)]
 mod starved;
 #[cfg(test)]

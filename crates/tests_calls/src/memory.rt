@@ -51,13 +51,8 @@ fn documents_in_memory(rt: HostRuntime) {
     let two = check(alloc, b"1 2", &catalog, limits);
     let closed = check(alloc, b"1 ]", &catalog, limits);
     let lines = show(alloc, b"1", &catalog, limits);
-    let text = convert(
-        alloc,
-        b"\xE0\x01\x00\xEA\xB2\x21\x05",
-        Target::Text,
-        &catalog,
-        limits,
-    );
+    let list = b"\xE0\x01\x00\xEA\xB2\x21\x05";
+    let text = convert(alloc, list, Target::Text, &catalog, limits);
     let parted = compare(alloc, b"1 2", b"1 3", &catalog, limits);
     drop(catalog);
     same(&rt, "check", two, Ok(Ok(2)));
@@ -68,33 +63,51 @@ fn documents_in_memory(rt: HostRuntime) {
     same(&rt, "compare", index_of(parted), Some(2));
 }
 
-/// Whether the octets are refused as a catalog, and where; `None` at a fault.
-fn catalog_refusal(alloc: Global, octets: &[u8]) -> Option<Option<Refusal>> {
-    match load_catalog(alloc, octets, Limits::usual()) {
-        Ok(Ok(catalog)) => {
+/// Whether a document is equivalent to `[1,2] a`, and so many values are in each.
+fn agrees(alloc: Global, other: &[u8], values: u64) -> Result<bool, Fault> {
+    let catalog = Catalog::new(alloc);
+    let verdict = compare(alloc, b"[1,2] a", other, &catalog, Limits::usual());
+    drop(catalog);
+    let verdict = verdict?;
+    let agrees = verdict == Verdict::Equivalent { values };
+    drop(verdict);
+    Ok(agrees)
+}
+
+static VERDICTS: [(&[u8], u64, bool); 4] = [
+    (b"[ 1, 2 ] 'a'", 2, true),
+    (b"[1,2] a", 1, false),
+    (b"[1,3] a", 2, false),
+    (b"[1,2] ]", 2, false),
+];
+
+#[test]
+fn verdicts_are_compared(rt: HostRuntime) {
+    for (other, values, wanted) in &VERDICTS {
+        let found = agrees(rt.alloc(), other, *values);
+        same(&rt, *other, found, Ok(*wanted));
+    }
+}
+
+/// Whether the octets are refused as a catalog, and where.
+fn catalog_refusal(alloc: Global, octets: &[u8]) -> Result<Option<Refusal>, Fault> {
+    match load_catalog(alloc, octets, Limits::usual())? {
+        Ok(catalog) => {
             drop(catalog);
-            Some(None)
+            Ok(None)
         }
-        Ok(Err(refusal)) => Some(Some(refusal)),
-        Err(_) => None,
+        Err(refusal) => Ok(Some(refusal)),
     }
 }
 
 #[test]
 fn catalogs_in_memory(rt: HostRuntime) {
-    same(&rt, "none", catalog_refusal(rt.alloc(), b""), Some(None));
+    same(&rt, "none", catalog_refusal(rt.alloc(), b""), Ok(None));
     let table = b"$ion_shared_symbol_table::{name:\"t\",version:1,symbols:[\"x\"]}";
-    same(&rt, "one", catalog_refusal(rt.alloc(), table), Some(None));
-    let bad = Refusal {
-        offset: 1,
-        reason: Reason::BadTable,
-    };
-    same(
-        &rt,
-        "1",
-        catalog_refusal(rt.alloc(), b"1 "),
-        Some(Some(bad)),
-    );
+    same(&rt, "one", catalog_refusal(rt.alloc(), table), Ok(None));
+    let (offset, reason) = (1, Reason::BadTable);
+    let bad = catalog_refusal(rt.alloc(), b"1 ");
+    same(&rt, "1", bad, Ok(Some(Refusal { offset, reason })));
 }
 
 /// An outcome has this ending and this text.

@@ -1,36 +1,19 @@
 //! A writer of text over devices that fail once and then would go on, or take nothing.
 use crate::answers::same;
 use ion_devices::{FrailWriter, NEVER};
-use ion_model::{Kind, Payload, Value, Whole};
+use ion_model::Value;
 use ion_symtab::{Fault, ToWrite};
 use ion_text::TextWriter;
 use std::alloc::Global;
 
-/// A writer into `taken` that takes so many octets a call, of which the one with this index fails.
-fn frail(taken: &mut Vec<u8>, takes: usize, fails_at: u64) -> ToWrite<FrailWriter<'_>> {
-    ToWrite::new(FrailWriter {
-        taken,
-        calls: 0,
-        fails_at,
-        takes,
-    })
-}
-
-/// An int.
-fn int(alloc: Global, value: i128) -> Value {
-    let payload = match Whole::new(value) {
-        Some(whole) => Payload::Int(whole),
-        None => Payload::Null(Kind::Int),
-    };
-    Value::bare(alloc, payload)
-}
-
 /// What a put of 1, one of 2 and the end of a writer of text answer.
 type Puts = [Result<(), Fault>; 3];
 
-/// Puts 1 and 2 as text.
-fn put_two(alloc: Global, out: &mut ToWrite<FrailWriter<'_>>) -> Puts {
-    let (one, two) = (int(alloc, 1), int(alloc, 2));
+/// Puts 1 and 2 as text into a device that takes so many octets a call, of which the one with this
+/// index fails.
+fn put_two(alloc: Global, taken: &mut Vec<u8>, takes: usize, fails_at: u64) -> Puts {
+    let out = &mut ToWrite::new(FrailWriter::new(taken, takes, fails_at));
+    let (one, two) = (Value::int(alloc, 1), Value::int(alloc, 2));
     let mut writer = TextWriter::new(alloc);
     let puts = [writer.put(out, &one), writer.put(out, &two)];
     drop(one);
@@ -54,7 +37,7 @@ static PUTS: [(u64, &[u8], Puts); 6] = [
 fn a_write_fails(rt: HostRuntime) {
     for (fails_at, front, wanted) in &PUTS {
         let mut taken = Vec::new(rt.alloc());
-        let found = put_two(rt.alloc(), &mut frail(&mut taken, 1, *fails_at));
+        let found = put_two(rt.alloc(), &mut taken, 1, *fails_at);
         same(&rt, *fails_at, found, *wanted);
         same(&rt, *fails_at, taken.as_slice(), *front);
         drop(taken);
@@ -65,7 +48,7 @@ fn a_write_fails(rt: HostRuntime) {
 #[test]
 fn a_writer_of_text_is_taken_nothing(rt: HostRuntime) {
     let mut taken = Vec::new(rt.alloc());
-    let found = put_two(rt.alloc(), &mut frail(&mut taken, 0, NEVER));
+    let found = put_two(rt.alloc(), &mut taken, 0, NEVER);
     drop(taken);
     same(&rt, "puts", found, [Err(Fault::Write); 3]);
 }

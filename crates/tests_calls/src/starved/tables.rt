@@ -1,5 +1,5 @@
 //! Values and symbol tables, read here from text.
-use ion_model::{Reason, Symbol, Value};
+use ion_model::{Reason, Value};
 use ion_symtab::{Catalog, Items, Limits, SharedTable};
 use ion_text::TextReader;
 use std::alloc::Global;
@@ -23,23 +23,9 @@ pub(crate) fn value(alloc: Global, text: &[u8]) -> Result<Value, Reason> {
     value
 }
 
-/// Makes a struct a local symbol table.
-fn annotate(alloc: Global, table: &mut Value) -> Result<(), Reason> {
-    let note = Symbol::known(alloc, "$ion_symbol_table")?;
-    table.annotations.push(note)?;
-    Ok(())
-}
-
 /// `$ion_symbol_table::{..}` of this struct.
 pub(crate) fn local(alloc: Global, fields: &[u8]) -> Result<Value, Reason> {
-    let mut table = value(alloc, fields)?;
-    match annotate(alloc, &mut table) {
-        Ok(()) => Ok(table),
-        Err(reason) => {
-            drop(table);
-            Err(reason)
-        }
-    }
+    value(alloc, fields)?.annotated(alloc, &["$ion_symbol_table"])
 }
 
 /// The shared table that a text describes.

@@ -79,20 +79,6 @@ fn apply_at_last(
     Ok(())
 }
 
-/// A context takes up the table of this text.
-fn apply_text(
-    rt: &impl Abort,
-    alloc: Global,
-    context: &mut Context,
-    text: &[u8],
-    tables: &Catalog,
-) -> Result<(), Reason> {
-    let table = local(alloc, text)?;
-    let applied = apply_at_last(rt, context, &table, tables);
-    drop(table);
-    applied
-}
-
 /// An id stands for this text.
 fn resolves(rt: &impl Abort, context: &Context, id: u64, text: &str) -> Result<(), Reason> {
     let symbol = context.resolve(id)?;
@@ -109,7 +95,10 @@ fn apply_each(
     tables: &Catalog,
 ) -> Result<(), Reason> {
     for text in &LOCAL {
-        apply_text(rt, alloc, context, *text, tables)?;
+        let table = local(alloc, *text)?;
+        let applied = apply_at_last(rt, context, &table, tables);
+        drop(table);
+        applied?;
     }
     same(rt, "greatest id", context.max_id(), 12);
     resolves(rt, context, 10, "x")?;
@@ -132,25 +121,11 @@ fn applies(rt: &impl Abort, alloc: Global) -> Result<(), Reason> {
     applied
 }
 
-/// Puts y behind symbols.
-fn push_y(alloc: Global, symbols: &mut Vec<Option<String>>) -> Result<(), Reason> {
-    let text = String::from_str(alloc, "y")?;
-    symbols.push(Some(text))?;
-    Ok(())
-}
-
 /// The shared table u 1 of y.
 fn table_of_y(alloc: Global) -> Result<SharedTable, Reason> {
     let name = String::from_str(alloc, "u")?;
-    let mut symbols = Vec::new(alloc);
-    match push_y(alloc, &mut symbols) {
-        Ok(()) => SharedTable::new(alloc, name, 1, symbols),
-        Err(reason) => {
-            drop(symbols);
-            drop(name);
-            Err(reason)
-        }
-    }
+    let symbols = vec![in alloc; Some(String::from_str(alloc, "y")?)]?;
+    SharedTable::new(alloc, name, 1, symbols)
 }
 
 /// A catalog takes a table; or it hands it back and is as it was, and takes it then.
