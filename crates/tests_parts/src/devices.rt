@@ -1,7 +1,7 @@
-//! Devices over readers and writers that fail, limits, and the messages of faults.
+//! Devices over readers and writers that fail, and the messages of faults.
 use crate::answers::same;
-use ion_devices::{FrailReader, FrailWriter};
-use ion_symtab::{Failed, Fault, FromRead, Inlet, Limits, Outlet, ToWrite, flushed, write_whole};
+use ion_devices::{FrailReader, FrailWriter, NEVER};
+use ion_symtab::{Failed, Fault, FromRead, Inlet, Outlet, ToWrite, flushed, write_whole};
 use std::alloc::{AllocError, Global};
 use std::io;
 use std::process::Abort;
@@ -20,14 +20,9 @@ fn two_reads(reader: &mut FromRead<FrailReader<'_>>) -> Reads {
 /// Two reads of a reader that fails at the call behind them with this kind, two more, and how many
 /// calls that were.
 fn fails_once(kind: io::ErrorKind) -> (Reads, Reads, u64) {
-    let mut reader = FromRead::new(FrailReader {
-        octets: b"abc",
-        first: 1,
-        then: 1,
-        calls: 0,
-        fails_at: 2,
-        kind,
-    });
+    let mut failing = FrailReader::new(b"abc", 1, 1).failing(2);
+    failing.kind = kind;
+    let mut reader = FromRead::new(failing);
     let going = two_reads(&mut reader);
     let ended = two_reads(&mut reader);
     (going, ended, reader.calls())
@@ -71,12 +66,7 @@ type Written = (Result<(), Fault>, Result<(), Fault>, bool);
 /// Writes `abcde` two octets a call and flushes, where the call with this index fails; `taken` gets
 /// the octets.
 fn write_and_flush(fails_at: u64, taken: &mut Vec<u8>) -> Written {
-    let mut writer = ToWrite::new(FrailWriter {
-        taken,
-        calls: 0,
-        fails_at,
-        takes: 2,
-    });
+    let mut writer = ToWrite::new(FrailWriter::new(taken, 2, fails_at));
     let written = write_whole(&mut writer, b"abcde");
     let passed_on = flushed(&mut writer);
     (written, passed_on, writer.failed())
@@ -112,12 +102,7 @@ type Takes = (
 
 /// Writes to a writer that takes no octet.
 fn write_nothing(taken: &mut Vec<u8>) -> Takes {
-    let mut writer = ToWrite::new(FrailWriter {
-        taken,
-        calls: 0,
-        fails_at: 99,
-        takes: 0,
-    });
+    let mut writer = ToWrite::new(FrailWriter::new(taken, 0, NEVER));
     let nothing = (writer.write(b""), writer.failed());
     let refused = (writer.write(b"a"), writer.flush(), writer.failed());
     (nothing, refused)
@@ -140,58 +125,6 @@ fn writer_comes_back(rt: HostRuntime) {
     same(&rt, "written", written, Ok(()));
     same(&rt, "inner", inner.as_slice(), b"abc");
     drop(inner);
-}
-
-/// The usual limits, and changed ones.
-fn changed_limits() -> [Option<Limits>; 5] {
-    let usual = Limits::usual();
-    [
-        Some(usual),
-        usual.with_depth(128),
-        usual.with_item(7),
-        usual.with_reads(2),
-        usual.with_depth(129),
-    ]
-}
-
-/// The same, each made from its parts.
-fn made_limits() -> [Option<Limits>; 5] {
-    [
-        Limits::new(64, 16777216, 4294967296),
-        Limits::new(128, 16777216, 4294967296),
-        Limits::new(64, 7, 4294967296),
-        Limits::new(64, 16777216, 2),
-        None,
-    ]
-}
-
-#[test]
-fn limits(rt: HostRuntime) {
-    let usual = Limits::usual();
-    let parts = (usual.depth(), usual.item(), usual.reads());
-    same(&rt, "usual", parts, (64, 16777216, 4294967296));
-    same(&rt, "changed", changed_limits(), made_limits());
-}
-
-/// A depth, the octets of an item, a number of reads, and whether there are such limits.
-static LIMITS: [(u32, u64, u64, bool); 8] = [
-    (64, 16777216, 4294967296, true),
-    (128, 1073741824, 1, true),
-    (0, 1, 1, false),
-    (129, 1, 1, false),
-    (1, 0, 1, false),
-    (1, 1073741825, 1, false),
-    (1, 1, 0, false),
-    (1, 1, 4294967297, false),
-];
-
-/// The greatest that there may be, and what is beyond it.
-#[test]
-fn limits_of_limits(rt: HostRuntime) {
-    for row in &LIMITS {
-        let some = Limits::new(row.0, row.1, row.2).is_some();
-        same(&rt, *row, some, row.3);
-    }
 }
 
 static MESSAGES: [(Fault, &str); 6] = [

@@ -131,68 +131,62 @@ fn refusal_stays(rt: HostRuntime) {
     same(&rt, "the end", ended, Some(refusal));
 }
 
-/// A piece, how many of its octets are used, and what each of some octets would show behind them.
-type Foreseen = (&'static [u8], usize, &'static [(u8, Foresight)]);
+/// A piece, how many of its octets are used, and what each of some octets would show behind it.
+type Foreseen = (&'static [u8], usize, &'static [u8], Foresight);
 
-static FORESEEN: [Foreseen; 5] = [
-    (
-        b"a ",
-        1,
-        &[
-            (b' ', Foresight::Blank),
-            (b'/', Foresight::Blank),
-            (b':', Foresight::Blank),
-            (b'\'', Foresight::Long),
-            (b'b', Foresight::Other),
-            (b'"', Foresight::Other),
-            (b'}', Foresight::Other),
-            (b'!', Foresight::Other),
-        ],
-    ),
-    (
-        b" :",
-        2,
-        &[(b':', Foresight::Colons), (b' ', Foresight::Other)],
-    ),
-    (b":''", 1, &[]),
-    (
-        b"''",
-        2,
-        &[
-            (b'\'', Foresight::Long),
-            (b' ', Foresight::Empty),
-            (b'b', Foresight::Empty),
-        ],
-    ),
-    (
-        b"'a''",
-        4,
-        &[(b'\'', Foresight::Long), (b'b', Foresight::Long)],
-    ),
+static FORESEEN: [Foreseen; 9] = [
+    (b"a ", 1, b" /:", Foresight::Blank),
+    (b"", 0, b"'", Foresight::Long),
+    (b"", 0, b"b\"}!", Foresight::Other),
+    (b" :", 2, b":", Foresight::Colons),
+    (b"", 0, b" ", Foresight::Other),
+    (b":''", 1, b"", Foresight::Other),
+    (b"''", 2, b"'", Foresight::Long),
+    (b"", 0, b" b", Foresight::Empty),
+    (b"'a''", 4, b"'b", Foresight::Long),
 ];
 
 /// What an octet would show behind a symbol, a colon, quotes and a segment of a long string.
 #[test]
 fn foresights(rt: HostRuntime) {
     let mut scanner = Scanner::new(rt.alloc());
-    for (piece, count, shown) in &FORESEEN {
+    for (piece, count, octets, wanted) in &FORESEEN {
         let found = used(&mut scanner, *piece);
         same(&rt, *piece, found, Some(Ok(*count)));
-        foresees(&rt, &scanner, *shown);
+        for octet in *octets {
+            let found = scanner.foresee(Place::Top, *octet);
+            same(&rt, *octet, found, *wanted);
+        }
     }
     drop(scanner);
 }
 
-/// Each octet would show what stands beside it.
-fn foresees(rt: &impl Abort, scanner: &Scanner, shown: &[(u8, Foresight)]) {
-    for (octet, wanted) in shown {
-        let found = scanner.foresee(Place::Top, *octet);
-        same(rt, *octet, found, *wanted);
-    }
-}
+/// Three pieces, and what the step of each gives.
+type Three = [(&'static [u8], Stepped); 3];
+
+/// Where an octet ended a token and isn't part of it, the step says so.
+static LEFT: Three = [
+    (b"ab,", (2, Given::LentWord, true)),
+    (b",c", (1, Given::Other, false)),
+    (b"c", (1, Given::Nothing, false)),
+];
+
+/// A word whole in its piece is lent, and one that two pieces gave is owned.
+static LENT: Three = [
+    (b"ab cd", (2, Given::LentWord, true)),
+    (b" cd", (3, Given::Nothing, false)),
+    (b"e ", (1, Given::OwnedWord, true)),
+];
+
+/// An operator whole in its piece is lent too, and one that began in an earlier piece is owned.
+static LENT_OPERATORS: Three = [
+    (b"+ ", (1, Given::LentOperator, true)),
+    (b" -", (2, Given::Nothing, false)),
+    (b" ", (0, Given::OwnedOperator, true)),
+];
 
 /// Each piece in turn gives in that place what stands beside it.
-fn gives(rt: &impl Abort, alloc: Global, place: Place, rows: &[(&[u8], Stepped)]) {
+fn gives(rt: &impl Abort, alloc: Global, place: Place, rows: &Three) {
     let mut scanner = Scanner::new(alloc);
     for (piece, wanted) in rows {
         let found = step(&mut scanner, *piece, place);
@@ -201,39 +195,10 @@ fn gives(rt: &impl Abort, alloc: Global, place: Place, rows: &[(&[u8], Stepped)]
     drop(scanner);
 }
 
-static LEFT: [(&[u8], Stepped); 3] = [
-    (b"ab,", (2, Given::LentWord, true)),
-    (b",c", (1, Given::Other, false)),
-    (b"c", (1, Given::Nothing, false)),
-];
-
-/// Where an octet ended a token and isn't part of it, the step says so.
 #[test]
-fn left_octets(rt: HostRuntime) {
+fn tokens_are_left_and_lent(rt: HostRuntime) {
     gives(&rt, rt.alloc(), Place::Top, &LEFT);
-}
-
-static LENT: [(&[u8], Stepped); 3] = [
-    (b"ab cd", (2, Given::LentWord, true)),
-    (b" cd", (3, Given::Nothing, false)),
-    (b"e ", (1, Given::OwnedWord, true)),
-];
-
-/// A word whole in its piece is lent, and one that two pieces gave is owned.
-#[test]
-fn lent_words(rt: HostRuntime) {
     gives(&rt, rt.alloc(), Place::Top, &LENT);
-}
-
-static LENT_OPERATORS: [(&[u8], Stepped); 3] = [
-    (b"+ ", (1, Given::LentOperator, true)),
-    (b" -", (2, Given::Nothing, false)),
-    (b" ", (0, Given::OwnedOperator, true)),
-];
-
-/// An operator whole in its piece is lent too, and one that began in an earlier piece is owned.
-#[test]
-fn lent_operators(rt: HostRuntime) {
     gives(&rt, rt.alloc(), Place::Sexp, &LENT_OPERATORS);
 }
 

@@ -7,97 +7,68 @@ use ion_visiting::{Bracket, Building, Count, Outlining, Part, TableFilter, Visit
 use std::alloc::Global;
 use std::test::Fail;
 
-/// An event.
-#[derive(Clone, Copy)]
-enum Told {
-    Note(&'static str),
-    Open(Bracket),
-    Name(&'static str),
-    Part(Part<'static>),
-    Symbol(&'static str),
-    Number(i128),
-    Close(Bracket),
-}
+// Events are words with blanks between them: an annotation, as `a::`, a field's name, as `a:`, a
+// bracket, the string `"a"`, the null `null.struct`, an int below 10, and else a symbol.
 
-/// `$ion_symbol_table::{symbols:["a"],max_id:7}`.
-const TABLE: &[Told] = &[
-    Told::Note("$ion_symbol_table"),
-    Told::Open(Bracket::Fields),
-    Told::Name("symbols"),
-    Told::Open(Bracket::List),
-    Told::Part(Part::Str("a")),
-    Told::Close(Bracket::List),
-    Told::Name("max_id"),
-    Told::Number(7),
-    Told::Close(Bracket::Fields),
-];
+const TABLE: &str = "$ion_symbol_table:: { symbols: [ \"a\" ] max_id: 7 }";
 
-/// `$ion_symbol_table::note::null.struct`.
-const NULL_TABLE: &[Told] = &[
-    Told::Note("$ion_symbol_table"),
-    Told::Note("note"),
-    Told::Part(Part::Null(Kind::Fields)),
-];
+const NULL_TABLE: &str = "$ion_symbol_table:: note:: null.struct";
 
-/// `$ion_symbol_table::note::[word,8]`.
-const NOTED_LIST: &[Told] = &[
-    Told::Note("$ion_symbol_table"),
-    Told::Note("note"),
-    Told::Open(Bracket::List),
-    Told::Symbol("word"),
-    Told::Number(8),
-    Told::Close(Bracket::List),
-];
+const NOTED_LIST: &str = "$ion_symbol_table:: note:: [ word 8 ]";
 
-/// `note::$ion_symbol_table::{a:$ion_symbol_table::{}}`.
-const NOTED_STRUCT: &[Told] = &[
-    Told::Note("note"),
-    Told::Note("$ion_symbol_table"),
-    Told::Open(Bracket::Fields),
-    Told::Name("a"),
-    Told::Note("$ion_symbol_table"),
-    Told::Open(Bracket::Fields),
-    Told::Close(Bracket::Fields),
-    Told::Close(Bracket::Fields),
-];
+const NOTED_STRUCT: &str = "note:: $ion_symbol_table:: { a: $ion_symbol_table:: { } }";
 
 fn tell_event<V: Visitor>(
     alloc: Global,
-    event: Told,
+    event: &str,
     filter: &mut TableFilter,
     visitor: &mut V,
 ) -> Result<bool, Reason> {
     match event {
-        Told::Note(text) => {
-            let note = Symbol::known(alloc, text)?;
-            Ok(filter.annotation(note, visitor))
-        }
-        Told::Name(text) => Ok(filter.text_name(text, visitor)),
-        Told::Open(bracket) => Ok(filter.open(bracket, visitor)),
-        Told::Close(bracket) => Ok(filter.close(bracket, visitor)),
-        Told::Part(said) => Ok(filter.part(&said, visitor)),
-        Told::Symbol(text) => {
-            let symbol = Symbol::known(alloc, text)?;
-            let told = filter.symbol(&symbol, visitor);
-            drop(symbol);
-            Ok(told)
-        }
-        Told::Number(int) => match Whole::new(int) {
-            Some(whole) => Ok(filter.number(Number::Int(whole), visitor)),
-            None => Ok(false),
-        },
+        "{" => Ok(filter.open(Bracket::Fields, visitor)),
+        "[" => Ok(filter.open(Bracket::List, visitor)),
+        "]" => Ok(filter.close(Bracket::List, visitor)),
+        "}" => Ok(filter.close(Bracket::Fields, visitor)),
+        "\"a\"" => Ok(filter.part(&Part::Str("a"), visitor)),
+        "null.struct" => Ok(filter.part(&Part::Null(Kind::Fields), visitor)),
+        _ => tell_word(alloc, event, filter, visitor),
     }
+}
+
+fn tell_word<V: Visitor>(
+    alloc: Global,
+    word: &str,
+    filter: &mut TableFilter,
+    visitor: &mut V,
+) -> Result<bool, Reason> {
+    if let Some(text) = word.strip_suffix("::") {
+        return Ok(filter.annotation(Symbol::known(alloc, text)?, visitor));
+    }
+    if let Some(text) = word.strip_suffix(':') {
+        return Ok(filter.text_name(text, visitor));
+    }
+    if let Some(whole) = word
+        .parse::<u8>()
+        .ok()
+        .and_then(|int| Whole::new(i128::from(int)))
+    {
+        return Ok(filter.number(Number::Int(whole), visitor));
+    }
+    let symbol = Symbol::known(alloc, word)?;
+    let told = filter.symbol(&symbol, visitor);
+    drop(symbol);
+    Ok(told)
 }
 
 /// Tells events, and answers whether all were taken.
 fn tell_events<V: Visitor>(
     alloc: Global,
-    events: &[Told],
+    events: &str,
     filter: &mut TableFilter,
     visitor: &mut V,
 ) -> Result<bool, Reason> {
-    for event in events {
-        if !tell_event(alloc, *event, filter, visitor)? {
+    for event in events.split_whitespace() {
+        if !tell_event(alloc, event, filter, visitor)? {
             return Ok(false);
         }
     }
@@ -105,7 +76,7 @@ fn tell_events<V: Visitor>(
 }
 
 /// Whether what was told is a table, and the outline of what the visitor heard.
-fn heard(alloc: Global, filter: &mut TableFilter, events: &[Told]) -> Option<(bool, Outline)> {
+fn heard(alloc: Global, filter: &mut TableFilter, events: &str) -> Option<(bool, Outline)> {
     let mut outlining = Outlining::new();
     let told = tell_events(alloc, events, filter, &mut outlining);
     let table = filter.end();
@@ -119,7 +90,7 @@ fn heard(alloc: Global, filter: &mut TableFilter, events: &[Told]) -> Option<(bo
 
 /// The events of a value, whether it is a table, and the kind, the depth and the nodes of what a
 /// visitor hears of it. (`null` is what nothing is outlined as.)
-static OUTLINES: [(&[Told], bool, Kind, u64, u64); 6] = [
+static OUTLINES: [(&str, bool, Kind, u64, u64); 6] = [
     (TABLE, true, Kind::Null, 0, 0),
     (NOTED_LIST, false, Kind::List, 1, 5),
     (NULL_TABLE, true, Kind::Null, 0, 0),
@@ -144,19 +115,12 @@ fn tables_are_kept_from_a_visitor(rt: HostRuntime) {
 }
 
 /// A front of events, and whether they may be those of a table.
-static FRONTS: [(&[Told], bool); 5] = [
-    (&[], false),
-    (&[Told::Note("$ion_symbol_table")], true),
-    (&[Told::Note("note")], false),
-    (&[Told::Note("$ion_symbol_table"), Told::Number(7)], false),
-    (
-        &[
-            Told::Note("$ion_symbol_table"),
-            Told::Open(Bracket::Fields),
-            Told::Name("imports"),
-        ],
-        true,
-    ),
+static FRONTS: [(&str, bool); 5] = [
+    ("", false),
+    ("$ion_symbol_table::", true),
+    ("note::", false),
+    ("$ion_symbol_table:: 7", false),
+    ("$ion_symbol_table:: { imports:", true),
 ];
 
 #[test]
