@@ -21,9 +21,8 @@ map_more n (Some k) = ap Some (omega arith)
 
 at_length : (s later : List Value) (v : Value) (n : ℕ) → length s ≡ n → slice_get (s ++ v ∷ later) n ≡ Some v
 at_length [] later v zero h = refl
-at_length [] later v (suc n) h = absurd (omega arith)
-at_length (x ∷ s) later v zero h = absurd (omega arith)
 at_length (x ∷ s) later v (suc n) h = at_length s later v n (omega arith)
+at_length _ later v _ h = absurd (omega arith)
 
 past_length : (s : List Value) (n : ℕ) → length s ≡ n → slice_get s n ≡ None
 past_length s n h = slice_get_past s n (omega arith)
@@ -71,13 +70,12 @@ met_onward : (course after : Course) (v w : Option Value) (s t later_s later_t :
     (v ≡ None → later_s ≡ []) → (w ≡ None → later_t ≡ []) →
     Onward course (s ++ (option_to_list v ++ later_s)) (t ++ (option_to_list w ++ later_t)) (option_to_list v ++ later_s) (option_to_list w ++ later_t) →
     Onward after (s ++ (option_to_list v ++ later_s)) (t ++ (option_to_list w ++ later_t)) later_s later_t
-met_onward (Parted index path) after v w s t later_s later_t counted met h k onward = rw met onward
-met_onward (Alike n) after None None s t later_s later_t counted met h k onward = rw met onward
 met_onward (Alike n) after (Some v) (Some w) s t later_s later_t counted met h k onward =
     met_both n v w after s t later_s later_t counted.0 counted.1 met onward
 met_onward (Alike n) after None (Some w) s t later_s later_t counted met h k onward = rw met (met_right n w s t later_s later_t counted.0 (h refl) onward)
 met_onward (Alike n) after (Some v) None s t later_s later_t counted met h k onward =
     rw met (met_left n v s t later_s later_t counted.0 counted.1 (k refl) onward)
+met_onward _ after _ _ s t later_s later_t counted met h k onward = rw met onward
 
 counted_both : (n : ℕ) (v w : Value) (after : Course) (s t : List Value) → length s ≡ n → length t ≡ n → MetBoth n v w after
     → IfAlike after (λ values. (length (s ++ v ∷ []) ≡ values) × (length (t ++ w ∷ []) ≡ values))
@@ -87,25 +85,20 @@ counted_both n v w (Parted index path) s t a b met = tt
 counted_more : (course after : Course) (v w : Option Value) (s t : List Value) → IfAlike course (λ values. (length s ≡ values) × (length t ≡ values))
     → IsMet course v w after →
     IfAlike after (λ values. (length (s ++ option_to_list v) ≡ values) × (length (t ++ option_to_list w) ≡ values))
-counted_more (Parted index path) after v w s t h met = rw met tt
 counted_more (Alike n) after None None s t h met = rw (met, append-nil s, append-nil t) h
 counted_more (Alike n) after (Some v) (Some w) s t h met = counted_both n v w after s t h.0 h.1 met
-counted_more (Alike n) after None (Some w) s t h met = rw met tt
-counted_more (Alike n) after (Some v) None s t h met = rw met tt
+counted_more _ after _ _ s t h met = rw met tt
 
 -- nothing followed behind a document that is closed, and without a value it is closed
 closed_before : {X : Type 0} (before after : Standing X) (v : Option Value) (s : List Value) → IfClosed before ((after ≡ before) × (v ≡ None))
     → IfClosed after (s ≡ []) → IfClosed before (option_to_list v ++ s ≡ [])
 closed_before (Standing.Open source) after v s h k = tt
-closed_before Standing.Ended after v s h k = ap (λ (x : Option Value). option_to_list x ++ s) h.1 ∙ subst (λ (x : Standing _). IfClosed x (s ≡ [])) h.0 k
-closed_before (Standing.Refused refusal) after v s h k = ap (λ (x : Option Value). option_to_list x ++ s) h.1
-    ∙ subst (λ (x : Standing _). IfClosed x (s ≡ [])) h.0 k
+closed_before _ after v s h k = ap (λ (x : Option Value). option_to_list x ++ s) h.1 ∙ subst (λ (x : Standing _). IfClosed x (s ≡ [])) h.0 k
 
 closed_after : {X : Type 0} (after : Standing X) (v : Option Value) (s : List Value) → (v ≡ None → IfOpen after (λ source. ⊥)) → IfClosed after (s ≡ [])
     → v ≡ None → s ≡ []
 closed_after (Standing.Open source) v s h k none = absurd (h none)
-closed_after Standing.Ended v s h k none = k
-closed_after (Standing.Refused refusal) v s h k none = k
+closed_after _ v s h k none = k
 
 -- with the next value of each, or its end, two streams compare as the course behind it says
 pub meets_more : {X Y : Type 0} (course after : Course) (left left' : Standing X) (right right' : Standing Y) (s t : List Value) (v w : Option Value)
@@ -125,14 +118,12 @@ meets_more course after left left' right right' s t v w met h was_left was_right
 
 none_same : (b : Bool) (p : Option ℕ) (r : Bool) → cond b (option_map (λ k. k + 1) p) (Some 1) ≡ None → (p ≡ None → r ≡ true) → b && r ≡ true
 none_same true None r e h = h refl
-none_same true (Some k) r e h = absurd cc
-none_same false p r e h = absurd cc
+none_same _ _ r e h = absurd cc
 
 pub parts_none : (s t : List Value) → parts s t ≡ None → pointwise same s t ≡ true
 parts_none [] [] e = refl
-parts_none [] (w ∷ t) e = absurd cc
-parts_none (v ∷ s) [] e = absurd cc
 parts_none (v ∷ s) (w ∷ t) e = none_same (same v w) (parts s t) (pointwise same s t) e (parts_none s t)
+parts_none _ _ e = absurd cc
 
 both_ended : (F G : Format) (course : Course) (s t : List Value) (l r : List ℕ) → F.denotes l s → G.denotes r t → Onward course s t [] []
     → IfAlike course (λ values. (length s ≡ values) × (length t ≡ values)) →
@@ -207,14 +198,12 @@ module _ {S X T Y : Type 0} (L : Inlet S) (I : Items X) (R : Inlet T) (J : Items
 work_kept : {X : Type 0} (I : Items X) (before after : Standing X) (P : Type 0) → IfOpen before (λ source. work_of I after < work_of I before)
     → IfClosed before ((after ≡ before) × P) → work_of I after ≤ work_of I before
 work_kept I (Standing.Open source) after P h k = omega (arith, h)
-work_kept I Standing.Ended after P h k = let e = ap (λ (x : Standing _). work_of I x) k.0 in omega (arith, e)
-work_kept I (Standing.Refused refusal) after P h k = let e = ap (λ (x : Standing _). work_of I x) k.0 in omega (arith, e)
+work_kept I _ after P h k = let e = ap (λ (x : Standing _). work_of I x) k.0 in omega (arith, e)
 
 work_open : {X : Type 0} (I : Items X) (before after : Standing X) → IsOpen before → IfOpen before (λ source. work_of I after < work_of I before)
     → work_of I after < work_of I before
 work_open I (Standing.Open source) after opened h = h
-work_open I Standing.Ended after opened h = absurd opened
-work_open I (Standing.Refused refusal) after opened h = absurd opened
+work_open I _ after opened h = absurd opened
 
 -- where one document at least is still being read, a step of both leaves less work
 pub works_less : {X Y : Type 0} (I : Items X) (J : Items Y) (left left' : Standing X) (right right' : Standing Y) (P Q : Type 0) → IsOpen left ⊎ IsOpen right →

@@ -15,9 +15,8 @@ module _ {S X : Type 0} (R : Inlet S) (I : Items X) (g : Catalog) (l : Limits) w
       → StoodEach R I g l first now place (given ++ option_to_list last) →
       GaveNext R I g l first now place given last
   gave_last first now place given None none h = subst (λ (x : List (Value × ℕ)). StoodEach R I g l first now place x) (append-nil given) h
-  gave_last first now (Open source) given (Some next) none h = (h, tt)
-  gave_last first now Ended given (Some next) none h = (h, tt)
   gave_last first now (Refused refusal) given (Some next) none h = absurd cc
+  gave_last first now _ given (Some next) none h = (h, tt)
 
   -- no more was found
   pub gave_none : (first now : S) (place : Standing X) (given : List (Value × ℕ)) (found : Option (Value × ℕ)) → found ≡ None
@@ -57,8 +56,7 @@ module _ {S X : Type 0} (R : Inlet S) (I : Items X) (g : Catalog) (l : Limits) w
       ((given : List (Value × ℕ)) → StoodEach R I g l first old place given → GaveNext R I g l first now after given (Some found))
       → Stood R I g l first old place s → IfRefused after ⊥
   not_refused first old now (Open source) after s found closed gives h = (gives h.given h.each).1
-  not_refused first old now Ended after s found closed gives h = let e = closed.0 in absurd cc
-  not_refused first old now (Refused refusal) after s found closed gives h = let e = closed.0 in absurd cc
+  not_refused first old now _ after s found closed gives h = let e = closed.0 in absurd cc
 
 -- what follows for an answer that isn't known
 

@@ -58,8 +58,6 @@ module _ {S X T : Type 0} (R : Inlet S) (I : Items X) (W : Outlet T) (g : Catalo
   pub shown_err : (place : Standing X) (given : List (Value × ℕ)) (values : ℕ) (refusal : Refusal) → answered place values ≡ Err refusal
       → StoodEach R (telling I []) g l first now place given →
       Took W.took W.written old new (lines_of (plain given)) → IsShown R W (format_of I g l) first now old new (Err refusal)
-  shown_err (Open source) given values refusal is h took = absurd cc
-  shown_err Ended given values refusal is h took = absurd cc
   shown_err (Refused why) given values refusal is h took =
       let same : why ≡ refusal = cc in
       subst (λ (x : Refusal). IsShown R W (format_of I g l) first now old new (Err x)) same (
@@ -67,3 +65,4 @@ module _ {S X T : Type 0} (R : Inlet S) (I : Items X) (W : Outlet T) (g : Catalo
         stood_plain R (telling I []) g l first now (Refused why) given h,
         took,
       )
+  shown_err _ given values refusal is h took = absurd cc

@@ -1,9 +1,9 @@
 -- Two documents that are read in turn, and the values that are written down of both.
 use Rattle.std.proofs.Common.{◌≡◌, ◌⊎◌, ℕ, ◌+◌, ◌*◌, ◌<◌, ◌≤◌, ◌^◌, List, [], ◌∷◌, ◌++◌, length, refl, sym, subst, ◌∙◌, append-nil, Bool, true, false, Result, Ok, Option, Some, None, IfSome, IsNone, is_some, option_to_list}
-use Rattle.ion_streams.specs.Names.{AreHeld, Catalog, Course, Ended, Fault, Grows, HandedOn, HasTold, HeldNext, IfAlike, IfClosed, IfOpen, Inlet, IsFront, IsMet, IsOpen, IsReady, IsWithin, Items, Limits, Open, Refused, Sought, Standing, Stood, StoodEach, Value, count_of, format_of, reads_of, telling, work_of}
+use Rattle.ion_streams.specs.Names.{AreHeld, AtOneEnd, Catalog, Course, Ended, Fault, Grows, HandedOn, HasTold, HeldNext, IfAlike, IfClosed, IfOpen, Inlet, IsFront, IsInTurn, IsMet, IsOpen, IsReady, IsWithin, Items, Limits, Open, Refused, Sought, Standing, Stood, StoodEach, Value, count_of, format_of, reads_of, telling, work_of}
 use Rattle.ion_streams.proofs.Courses.{Meets, meets_more}
 use Rattle.ion_streams.proofs.Steps.{plain_next, stood_plain}
-use Rattle.ion_streams.proofs.Turns.{Turn, WasAsked, ahead, left_on, level_on, right_on}
+use Rattle.ion_streams.proofs.Turns.{Turn, WasAsked, ahead, in_turn, left_on, level_on, right_on, stood_end}
 use Rattle.ion_streams.proofs.Unfailed.{StandsHeard, StandsHeardSince}
 
 -- what is answered of a document that is closed: no more, and all is as it was
@@ -13,47 +13,40 @@ Closed old now place after found = IfClosed place ((◌≡◌ {A = Result (Optio
 -- where no value was told, none was found
 pub none_of : (found : Option ℕ) (v : Option Value) → is_some v ≡ is_some found → v ≡ None → found ≡ None
 none_of None v is none = refl
-none_of (Some n) None is none = absurd cc
-none_of (Some n) (Some v) is none = absurd cc
+none_of (Some n) _ is none = absurd cc
 
 none_told : (found : Option ℕ) (v : Option Value) → is_some v ≡ is_some found → found ≡ None → v ≡ None
 none_told None None is none = refl
-none_told None (Some v) is none = absurd cc
-none_told (Some n) v is none = absurd cc
+none_told _ _ is none = absurd cc
 
 -- a document that is closed stays as it is, and tells nothing
 pub closed_same : {S X : Type 0} (old now : S) (place after : Standing X) (found : Option ℕ) (v : Option Value) → is_some v ≡ is_some found
     → Closed old now place after found → IfClosed place ((after ≡ place) × (v ≡ None))
 closed_same old now (Open source) after found v is h = tt
-closed_same old now Ended after found v is h = let none : found ≡ None = let e = h.0 in cc in (h.2, none_told found v is none)
-closed_same old now (Refused refusal) after found v is h = let none : found ≡ None = let e = h.0 in cc in (h.2, none_told found v is none)
+closed_same old now _ after found v is h = let none : found ≡ None = let e = h.0 in cc in (h.2, none_told found v is none)
 
 pub closed_kept : {S X : Type 0} (old now : S) (place after : Standing X) (found : Option ℕ) → Closed old now place after found
     → IfClosed place ((after ≡ place) × (now ≡ old))
 closed_kept old now (Open source) after found h = tt
-closed_kept old now Ended after found h = (h.2, h.1)
-closed_kept old now (Refused refusal) after found h = (h.2, h.1)
+closed_kept old now _ after found h = (h.2, h.1)
 
 -- where two values are told of streams that didn't part, they were to be compared, and the tapes hold them
 pub are_held : {X Y : Type 0} (course : Course) (left left' : Standing X) (right right' : Standing Y) (compared : Bool) (P Q : Value → Type 0) (v w : Option Value)
     → (compared ≡ false → IfAlike course (λ n. IfOpen left (λ source. IfOpen right (λ source. ⊥)))) → IfClosed left ((left' ≡ left) × (v ≡ None))
     → IfClosed right ((right' ≡ right) × (w ≡ None)) → IfSome v (λ x. compared ≡ true → P x) → IfSome w (λ x. compared ≡ true → Q x)
     → IfAlike course (λ n. AreHeld P Q v w)
-are_held (Course.Parted index path) left left' right right' compared P Q v w not a b h k = tt
-are_held (Course.Alike n) left left' right right' compared P Q None w not a b h k = tt
-are_held (Course.Alike n) left left' right right' compared P Q (Some v) None not a b h k = tt
 are_held (Course.Alike n) left left' right right' true P Q (Some v) (Some w) not a b h k = (h refl, k refl)
 are_held (Course.Alike n) (Open source) left' (Open other) right' false P Q (Some v) (Some w) not a b h k = absurd (not refl)
 are_held (Course.Alike n) (Open source) left' Ended right' false P Q (Some v) (Some w) not a b h k = absurd (let e = b.1 in cc)
 are_held (Course.Alike n) (Open source) left' (Refused r) right' false P Q (Some v) (Some w) not a b h k = absurd (let e = b.1 in cc)
 are_held (Course.Alike n) Ended left' right right' false P Q (Some v) (Some w) not a b h k = absurd (let e = a.1 in cc)
 are_held (Course.Alike n) (Refused r) left' right right' false P Q (Some v) (Some w) not a b h k = absurd (let e = a.1 in cc)
+are_held _ left left' right right' compared P Q _ _ not a b h k = tt
 
 -- a document that can be read on can be walked on
 pub ready_told : {X : Type 0} (I : Items X) (place : Standing X) → IfOpen place (IsReady I) → IfOpen place (IsReady (telling I []))
 ready_told I (Open source) h = record { within = h.within; fits = h.fits; piece = h.piece; room = h.room; begins = h.begins; counted = h.counted }
-ready_told I Ended h = tt
-ready_told I (Refused r) h = tt
+ready_told I _ h = tt
 
 module _ {S X : Type 0} (R : Inlet S) (I : Items X) (g : Catalog) (l : Limits) (first : S) where
   -- Behind s one more was told or none, as was found, and this is so of it.
@@ -85,15 +78,9 @@ module _ {S X : Type 0} (R : Inlet S) (I : Items X) (g : Catalog) (l : Limits) (
             (plain_next h.given (Some (told.0, used)) (Some told.0) s h.values refl)
             (stood_plain R (telling I []) g l first now after (h.given ++ (told.0, used) ∷ []) told.2);
       }
-  taped old now Ended after s P found closed tells h = still closed.0 closed.1 closed.2
+  taped old now place after s P found closed tells h = still closed.0 closed.1 closed.2
     where
-      still : ◌≡◌ {A = Result (Option ℕ) Fault} (Ok found) (Ok None) → now ≡ old → after ≡ Ended → NextHeld P found now after s
-      still e same kept =
-          let none : found ≡ None = cc in
-          rw none (record { value = None; is = refl; there = tt; stood = rw (same, kept, append-nil s) h })
-  taped old now (Refused r) after s P found closed tells h = still closed.0 closed.1 closed.2
-    where
-      still : ◌≡◌ {A = Result (Option ℕ) Fault} (Ok found) (Ok None) → now ≡ old → after ≡ Refused r → NextHeld P found now after s
+      still : ◌≡◌ {A = Result (Option ℕ) Fault} (Ok found) (Ok None) → now ≡ old → after ≡ place → NextHeld P found now after s
       still e same kept =
           let none : found ≡ None = cc in
           rw none (record { value = None; is = refl; there = tt; stood = rw (same, kept, append-nil s) h })
@@ -137,6 +124,33 @@ module _ {S T X Y : Type 0} (L : Inlet S) (R : Inlet T) (I : Items X) (J : Items
       (found : Option ℕ) (s t : List Value) : Type 0 where
     pub next : NextHeld R J h l first_right P found right right_after t
     pub turn : Turn L R (telling I []) (telling J []) g h k l first_left first_right left_after left right s (t ++ option_to_list next.value)
+
+  module _ {g h : Catalog} {k l : Limits} {course : Course} {left_now : S} {right : T} {left_place left_after : Standing X} {right_place : Standing Y}
+      {P : Value → Type 0} {found : Option ℕ} where
+    -- they were asked in turn, and each answered one end at most
+    pub left_in_turn : LeftOn g h k l course left_now right left_place left_after right_place P found
+        → IsInTurn L R (format_of I g k) (format_of J h l) first_left left_now first_right right
+        × (AtOneEnd L first_left left_now × AtOneEnd R first_right right)
+    left_in_turn on = (
+      in_turn L R (telling I []) (telling J []) g h k l first_left first_right left_after left_now right _ on.next.stood on.asked,
+      (
+        stood_end L (telling I []) g k first_left left_now left_after _ on.next.stood,
+        stood_end R (telling J []) h l first_right right right_place on.t on.right_stood,
+      ),
+    )
+
+    pub both_in_turn : {right_now : T} {right_after : Standing Y} {Q : Value → Type 0} {other : Option ℕ}
+        → (on : LeftOn g h k l course left_now right left_place left_after right_place P found)
+        → BothOn g h k l left_now right_now left_after right_after Q other (on.s ++ option_to_list on.next.value) on.t
+        → IsInTurn L R (format_of I g k) (format_of J h l) first_left left_now first_right right_now
+        × (AtOneEnd L first_left left_now × AtOneEnd R first_right right_now)
+    both_in_turn {right_now = right_now} {right_after = right_after} on both = (
+      in_turn L R (telling I []) (telling J []) g h k l first_left first_right left_after left_now right_now _ on.next.stood both.turn.asked,
+      (
+        stood_end L (telling I []) g k first_left left_now left_after _ on.next.stood,
+        stood_end R (telling J []) h l first_right right_now right_after _ both.next.stood,
+      ),
+    )
 
   module _ (settled : (g : Catalog) (k : Limits) (u w : List ℕ) → Grows (I.trace g k u) (I.trace g k (u ++ w))) where
     pub left_goes : (course : Course) (left left_now : S) (right : T) (left_place left_after : Standing X) (right_place : Standing Y)

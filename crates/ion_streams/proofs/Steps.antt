@@ -143,9 +143,8 @@ module _ {S X : Type 0} (R : Inlet S) (I : Items X) (g : Catalog) (l : Limits) w
   pub last_refused : (u : List ℕ) (source : Source X) (given : List (Value × ℕ)) (place : Standing X) (last : Option (Value × ℕ)) →
       MatchClosed place (EndsWell (format_of I (I.catalog source.items) (I.limits source.items)) u (given ++ option_to_list last))
       (λ r. (last ≡ None) × EndsRefused (format_of I (I.catalog source.items) (I.limits source.items)) u given r) → IfRefused place (last ≡ None)
-  last_refused u source given (Standing.Open after) last ends = tt
-  last_refused u source given Standing.Ended last ends = tt
   last_refused u source given (Standing.Refused r) last ends = ends.0
+  last_refused u source given _ last ends = tt
 
   -- the values alone, wherever the document stands
   pub stood_plain : (first now : S) (place : Standing X) (given : List (Value × ℕ)) → StoodEach R I g l first now place given

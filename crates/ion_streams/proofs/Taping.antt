@@ -36,12 +36,10 @@ parted_on a b path apart parts v w h k = parts v w (subst (λ t. Holds t v) (sym
 pub on_tapes : (course : Course) (blank : Tape) (a b : Twin) (v w : Option Value) → IsBlank blank → IsBegun a
     → IfAlike course (λ n. AreHeld (λ v. Led tapes (events_of v) blank a.first) (λ w. Led TellsSecond (events_of w) a b) v w)
     → IfAlike course (λ n. AreOnTapes b v w)
-on_tapes (Parted index path) blank a b v w none new held = tt
-on_tapes (Alike n) blank a b None w none new held = tt
-on_tapes (Alike n) blank a b (Some v) None none new held = tt
 on_tapes (Alike n) blank a b (Some v) (Some w) none new held =
     let second = second_told w a b new held.1 in
     (subst (λ t. Holds t v) (sym second.0) (value_wrote v blank a.first none held.0), second.1)
+on_tapes _ blank a b _ _ none new held = tt
 
 -- what is so of a value that a visitor was told
 pub held_next : {S X V : Type 0} (takes : V → Event → V → Type 0) (P : Value → Type 0) (R : Inlet S) (I : Items X) (g : Catalog) (l : Limits)
@@ -55,9 +53,8 @@ module _ (n : ℕ) (t : Twin) where
   both_some : (P : Value → Value → Type 0) (after : Course) → ((v w : Value) → P v w → MetBoth n v w after)
       → ((v w : Value) → Holds t.first v → WasTold t (events_of w) → P v w) → (v w : Option Value) → is_some v ≡ true → is_some w ≡ true
       → AreOnTapes t v w → IsMet (Alike n) v w after
-  both_some P after go parts None w a b held = absurd cc
-  both_some P after go parts (Some v) None a b held = absurd cc
   both_some P after go parts (Some v) (Some w) a b held = go v w (parts v w held.0 held.1)
+  both_some P after go parts _ _ a b held = absurd cc
 
   pub met_alike : ((v w : Value) → Holds t.first v → WasTold t (events_of w) → same v w ≡ true) → (v w : Option Value) → is_some v ≡ true
       → is_some w ≡ true → AreOnTapes t v w → IsMet (Alike n) v w (Alike (n + 1))

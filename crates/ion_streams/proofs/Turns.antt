@@ -81,31 +81,27 @@ module _ {X : Type 0} (I : Items X) (g : Catalog) (l : Limits) (settled : (u w :
 -- where nothing is open, anything is so of what is
 none_open : {X : Type 0} (place : Standing X) (P : Source X → Type 0) → IfOpen place (λ source. ⊥) → IfOpen place P
 none_open (Open source) P h = absurd h
-none_open Ended P h = tt
-none_open (Refused refusal) P h = tt
+none_open _ P h = tt
 
 -- a document that is read on and stays open gave a value more
 one_more : {X : Type 0} (after : Standing X) (s t : List Value) (v : Option Value) → length t ≤ length s → (v ≡ None → IfOpen after (λ source. ⊥))
     → IfOpen after (λ source. length t < length (s ++ option_to_list v))
 one_more after s t None level ends = none_open after (λ source. length t < length (s ++ option_to_list None)) (ends refl)
 one_more (Open source) s t (Some v) level ends = omega (arith, level, length-append s (v ∷ []))
-one_more Ended s t (Some v) level ends = tt
-one_more (Refused refusal) s t (Some v) level ends = tt
+one_more _ s t (Some v) level ends = tt
 
 -- the left stays ahead, as long as it is open
 pub ahead : {X : Type 0} (place after : Standing X) (s t : List Value) (v : Option Value) → IfOpen place (λ source. length t ≤ length s)
     → IfClosed place ((after ≡ place) × (v ≡ None)) → (v ≡ None → IfOpen after (λ source. ⊥)) → IfOpen after (λ source. length t < length (s ++ option_to_list v))
 ahead (Open source) after s t v level closed ends = one_more after s t v level ends
-ahead Ended after s t v level closed ends = subst (λ x. IfOpen x (λ source. length t < length (s ++ option_to_list v))) (sym closed.0) tt
-ahead (Refused refusal) after s t v level closed ends = subst (λ x. IfOpen x (λ source. length t < length (s ++ option_to_list v))) (sym closed.0) tt
+ahead _ after s t v level closed ends = subst (λ x. IfOpen x (λ source. length t < length (s ++ option_to_list v))) (sym closed.0) tt
 
 -- behind the next value of the right, if there was one, it is as far at least
 pub level_on : {X : Type 0} (place : Standing X) (s t : List Value) (w : Option Value) → IfOpen place (λ source. length t < length s)
     → IfOpen place (λ source. length (t ++ option_to_list w) ≤ length s)
 level_on (Open source) s t None level = let same = ap length (append-nil t) in omega (arith, level, same)
 level_on (Open source) s t (Some w) level = omega (arith, level, length-append t (w ∷ []))
-level_on Ended s t w level = tt
-level_on (Refused refusal) s t w level = tt
+level_on _ s t w level = tt
 
 module _ {S T X Y : Type 0} (L : Inlet S) (R : Inlet T) (I : Items X) (J : Items Y) (g h : Catalog) (k l : Limits) (first_left : S) (first_right : T) where
   -- the right was asked last for a value that the left had given
@@ -139,21 +135,19 @@ module _ {S T X Y : Type 0} (L : Inlet S) (R : Inlet T) (I : Items X) (J : Items
     pub left_on : (place after : Standing X) (left left_now : S) (right : T) (P : Type 0) → IfClosed place (P × (left_now ≡ left) × (after ≡ place))
         → HandedOn L left left_now → WasAsked place left right → WasAsked after left_now right
     left_on place after left left_now right P closed on (inl same) = inl same
-    left_on (Open source) after left left_now right P closed on (inr (inl ended)) = absurd cc
     left_on Ended after left left_now right P closed on (inr (inl ended)) = inr (inl closed.2)
-    left_on (Refused refusal) after left left_now right P closed on (inr (inl ended)) = absurd cc
     left_on place after left left_now right P closed on (inr (inr by)) = inr (inr (by_more left left_now right on by))
+    left_on _ after left left_now right P closed on (inr (inl ended)) = absurd cc
 
     -- the left was read on, which ended at a fault
     pub left_failed : (place after : Standing X) (left left_now : S) (right : T) (P : Type 0) → (P → ⊥) → IfClosed place (P × (left_now ≡ left) × (after ≡ place))
         → HandedOn L left left_now → WasAsked place left right → IsInTurn L R (format_of I g k) (format_of J h l) first_left left_now first_right right
     left_failed place after left left_now right P none closed on (inl same) = unasked same
-    left_failed (Open source) after left left_now right P none closed on (inr (inl ended)) = absurd cc
     left_failed Ended after left left_now right P none closed on (inr (inl ended)) = absurd (none closed.0)
-    left_failed (Refused refusal) after left left_now right P none closed on (inr (inl ended)) = absurd cc
     left_failed place after left left_now right P none closed on (inr (inr by)) =
         let more = by_more left left_now right on by in
         behind_values more.octets more.handed more.asked
+    left_failed _ after left left_now right P none closed on (inr (inl ended)) = absurd cc
 
     -- the right was read on behind the left
     pub right_on : ((r : X) (u : List ℕ) (given : List (Value × ℕ)) → I.stands r u given → IsNone (I.awaits r)
@@ -178,7 +172,6 @@ module _ {S T X Y : Type 0} (L : Inlet S) (R : Inlet T) (I : Items X) (J : Items
   pub in_turn : (place : Standing X) (left : S) (right : T) (s : List Value) → Stood L I g k first_left left place s → WasAsked place left right
       → IsInTurn L R (format_of I g k) (format_of J h l) first_left left first_right right
   in_turn place left right s stood (inl same) = unasked same
-  in_turn (Open source) left right s stood (inr (inl ended)) = absurd cc
   in_turn Ended left right s stood (inr (inl ended)) = behind_end s stood
-  in_turn (Refused refusal) left right s stood (inr (inl ended)) = absurd cc
   in_turn place left right s stood (inr (inr by)) = behind_values by.octets by.handed by.asked
+  in_turn _ left right s stood (inr (inl ended)) = absurd cc

@@ -1,6 +1,6 @@
 -- Reads of a device that were all answered.
 use Rattle.std.proofs.Common.{◌≡◌, ◌⊎◌, inl, inr, ap, sym, ◌∙◌, false, Option, Some, None, IsNone, IsSome, refl}
-use Rattle.ion_streams.specs.Names.{Ended, HasToAsk, IfOpen, Inlet, Items, NoReadFailed, NoneFailed, Open, Refused, Source, Standing, StandsUnread}
+use Rattle.ion_streams.specs.Names.{HasToAsk, IfOpen, Inlet, Items, NoReadFailed, NoneFailed, Open, Source, Standing, StandsUnread}
 
 -- what can't be there is none
 pub none_there : {A : Type 0} (found : Option A) → (IsSome found → ⊥) → found ≡ None
@@ -51,8 +51,7 @@ module _ {X : Type 0} (I : Items X) where
       go place h (inr fine) answered = fine
       go place (inr fine) (inl same) answered = ap (λ x. R.has_failed x) same ∙ fine
       go (Open source) (inl asks) (inl same) answered = answered (record { either = inr asks })
-      go Ended (inl asks) (inl same) answered = absurd asks
-      go (Refused r) (inl asks) (inl same) answered = absurd asks
+      go _ (inl asks) (inl same) answered = absurd asks
 
   -- the same of a device that wasn't asked at all
   pub heard_alone : {S : Type 0} (R : Inlet S) (place : Standing X) (first now : S) → StandsHeardSince R place first now → StandsHeard R place now

@@ -3,7 +3,7 @@ use Rattle.std.specs.Prelude.{◌≡◌, ℕ, ◌+◌, codes, List, [], ◌++◌
 use Rattle.std.specs.Fmt.{decimal}
 use Rattle.ion_streams.specs.Names.Below.{Catalog, Fault, Inlet, Items, Limits, Outlet, Outline, Refusal, Took, TookFront, Value, outline_of}
 use Rattle.ion_atoms.specs.Kinds.{kind_name}
-use Rattle.ion_symtab.specs.declared.fault.Fault.TheVariants.{Memory, Open, Read, TooLarge, TooManyReads, Write}
+use Rattle.ion_symtab.specs.declared.fault.Fault.TheVariants.{Memory, Write}
 use Rattle.ion_streams.specs.Formats.{Format, format_of}
 use Rattle.ion_streams.specs.Outcomes.{ToldDocument, ToldRefused}
 use Rattle.ion_streams.specs.reading.Read.{GaveSoFar}
@@ -37,11 +37,8 @@ IsShown R W F first now old new (Err refusal) = (s : List Value) × ToldRefused 
 -- what a fault of writing says of its writer
 abbrev pub IsWriteCause : {T : Type 0} → Outlet T → T → Fault → Type 0
 IsWriteCause W new Memory = ⊤
-IsWriteCause W new Read = ⊥
 IsWriteCause W new Write = W.has_failed new ≡ true
-IsWriteCause W new TooManyReads = ⊥
-IsWriteCause W new TooLarge = ⊥
-IsWriteCause W new Open = ⊥
+IsWriteCause W new _ = ⊥
 
 -- At a fault nothing was begun; or the document gave s so far, and it was being read, was refused or had ended. Of what is written of it then, some first
 -- octets were written.

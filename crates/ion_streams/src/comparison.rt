@@ -298,15 +298,12 @@ fn compare_places<I: Items + Drop, J: Items + Drop, L: Inlet, R: Inlet>(
         Stood R.Inlet (telling J.Items []) h l right.old right.old right_place.old [] →
         IsCompared L.Inlet R.Inlet (format_of I.Items g k) (format_of J.Items h l)
         left.old left.new right.old right.new verdict) }
-    ensures in_turn { (g h : Catalog) (k l : Limits) →
+    ensures asked { (g h : Catalog) (k l : Limits) →
         Stood L.Inlet (telling I.Items []) g k left.old left.old left_place.old [] →
         Stood R.Inlet (telling J.Items []) h l right.old right.old right_place.old [] →
         IsInTurn L.Inlet R.Inlet (format_of I.Items g k) (format_of J.Items h l)
-        left.old left.new right.old right.new }
-    ensures one_end { (g h : Catalog) (k l : Limits) →
-        Stood L.Inlet (telling I.Items []) g k left.old left.old left_place.old [] →
-        Stood R.Inlet (telling J.Items []) h l right.old right.old right_place.old [] →
-        AtOneEnd L.Inlet left.old left.new × AtOneEnd R.Inlet right.old right.new }
+        left.old left.new right.old right.new
+        × (AtOneEnd L.Inlet left.old left.new × AtOneEnd R.Inlet right.old right.new) }
     ensures few_calls { (L.calls_made left.new ≤ L.calls_made left.old + reads_of left_place.old)
         × (R.calls_made right.new ≤ R.calls_made right.old + reads_of right_place.old) }
     ensures few_octets { (length (L.handed left.new)

@@ -27,8 +27,7 @@ abbrev pub IsMet : Course → Option Value → Option Value → Course → Type 
 IsMet (Parted index path) v w after = after ≡ Parted index path
 IsMet (Alike n) None None after = after ≡ Alike n
 IsMet (Alike n) (Some v) (Some w) after = MetBoth n v w after
-IsMet (Alike n) None (Some w) after = after ≡ Parted (n + 1) []
-IsMet (Alike n) (Some v) None after = after ≡ Parted (n + 1) []
+IsMet (Alike n) _ _ after = after ≡ Parted (n + 1) []
 
 -- how many values were counted
 abbrev pub count_of : Course → ℕ
@@ -43,5 +42,4 @@ verdict_on (Parted index path) = Different index path
 -- the verdict where the left is a document
 abbrev pub verdict_of : {Y : Type 0} → Standing Y → Course → Verdict
 verdict_of (Standing.Refused refusal) course = Refused Right refusal
-verdict_of (Standing.Open source) course = verdict_on course
-verdict_of Standing.Ended course = verdict_on course
+verdict_of _ course = verdict_on course

@@ -6,14 +6,12 @@ use Rattle.ion_streams.specs.declared.source.Reached.TheVariants.{Refused}
 -- so where a value is reached
 abbrev pub IfValue : {A : Type 0} → Reached A → Type 0 → Type 0
 IfValue (AValue found) P = P
-IfValue End P = Unit {0}
-IfValue (Refused refusal) P = Unit {0}
+IfValue _ P = Unit {0}
 
 -- so where the end is reached
 abbrev pub IfEnd : {A : Type 0} → Reached A → Type 0 → Type 0
-IfEnd (AValue found) P = Unit {0}
 IfEnd End P = P
-IfEnd (Refused refusal) P = Unit {0}
+IfEnd _ P = Unit {0}
 
 -- all octets were used, and none is awaited
 pub record IsSpent {X : Type 0} (I : Items X) (source : Source X) : Type 0 where

@@ -8,26 +8,22 @@ use Rattle.ion_streams.specs.reading.Read.{HasToAsk, Reads, ReadsEach, work}
 -- so of what is read, where the document is still being read
 abbrev pub IfOpen : {X : Type 0} → Standing X → (Source X → Type 0) → Type 0
 IfOpen (Open source) P = P source
-IfOpen Ended P = Unit {0}
-IfOpen (Refused refusal) P = Unit {0}
+IfOpen _ P = Unit {0}
 
 -- the document is still being read
 abbrev pub IsOpen : {X : Type 0} → Standing X → Type 0
 IsOpen (Open source) = Unit {0}
-IsOpen Ended = ⊥
-IsOpen (Refused refusal) = ⊥
+IsOpen _ = ⊥
 
 -- it is open, and its device has to be asked first
 abbrev pub StandsUnread : {X : Type 0} → Items X → Standing X → Type 0
 StandsUnread I (Open source) = HasToAsk I source
-StandsUnread I Ended = ⊥
-StandsUnread I (Refused refusal) = ⊥
+StandsUnread I _ = ⊥
 
 -- so where the document has ended, or was refused
 abbrev pub IfClosed : {X : Type 0} → Standing X → Type 0 → Type 0
 IfClosed (Open source) P = Unit {0}
-IfClosed Ended P = P
-IfClosed (Refused refusal) P = P
+IfClosed _ P = P
 
 -- the document has ended, and this is so; or it was refused, and this is so of the refusal
 abbrev pub MatchClosed : {X : Type 0} → Standing X → Type 0 → (Refusal → Type 0) → Type 0
@@ -38,14 +34,12 @@ MatchClosed (Refused refusal) P Q = Q refusal
 -- more than the values that may still come, and the end
 abbrev pub work_of : {X : Type 0} → Items X → Standing X → ℕ
 work_of I (Open source) = work I source + 1
-work_of I Ended = 0
-work_of I (Refused refusal) = 0
+work_of I _ = 0
 
 -- how often the device may still be asked
 abbrev pub reads_of : {X : Type 0} → Standing X → ℕ
 reads_of (Open source) = source.reads
-reads_of Ended = 0
-reads_of (Refused refusal) = 0
+reads_of _ = 0
 
 -- From first to now the document gave s: it is read so far, it was one, or it is none.
 abbrev pub Stood : {S X : Type 0} → Inlet S → Items X → Catalog → Limits → S → S → Standing X → List Value → Type 0
@@ -61,15 +55,13 @@ StoodEach R I g l first now (Refused refusal) given = ToldRefusedEach R (format_
 
 -- so where the document has ended
 abbrev pub IfEnded : {X : Type 0} → Standing X → Type 0 → Type 0
-IfEnded (Open source) P = Unit {0}
 IfEnded Ended P = P
-IfEnded (Refused refusal) P = Unit {0}
+IfEnded _ P = Unit {0}
 
 -- so where the document was refused
 abbrev pub IfRefused : {X : Type 0} → Standing X → Type 0 → Type 0
-IfRefused (Open source) P = Unit {0}
-IfRefused Ended P = Unit {0}
 IfRefused (Refused refusal) P = P
+IfRefused _ P = Unit {0}
 
 -- Behind these values no more was found; or one more was, with the total of octets when it came, and nothing was refused.
 abbrev pub GaveNext : {S X : Type 0} → Inlet S → Items X → Catalog → Limits → S → S → Standing X → List (Value × ℕ) → Option (Value × ℕ) → Type 0
@@ -78,6 +70,5 @@ GaveNext R I g l first now place given (Some found) = StoodEach R I g l first no
 
 -- this answer, or the refusal of what is no document
 abbrev pub answered : {X A : Type 0} → Standing X → A → Result A Refusal
-answered (Open source) a = Ok a
-answered Ended a = Ok a
 answered (Refused refusal) a = Err refusal
+answered _ a = Ok a

@@ -14,16 +14,14 @@ pub loop-catalog-preserved : goal.loop-catalog-preserved
 loop-catalog-preserved g c =
     let i = c.loop-catalog.invariant in
     let r = i.reads in
-    let asked = i.asked in
-    let handed = i.handed in
     let next = c.in_ok-value.ensures in
     let found : List (Value × ℕ) = (c.in-Some.value, c.in-Some.offset) ∷ [] in
     let more : catalog_of c.loop-catalog.catalog found ≡ Ok c.add_value.new.catalog = rw c.in_default-2.is at c.in_ok-refusal.ensures in
     record {
       driven = driven_on g.R.Inlet g.I.Items c.args.reads c.args.reader.now c.loop-catalog.reader c.advance.new.reader c.loop-catalog.place c.advance.new.self
           i.driven next.ready next.unasked next.no_read_failed next.within;
-      asked = omega (arith, asked, next.few_calls);
-      handed = omega (arith, handed, next.few_octets);
+      asked = omega (arith, i.asked, next.few_calls);
+      handed = omega (arith, i.handed, next.few_octets);
       reads = (
         r.0 ++ found,
         (rw c.in-Some.is at (next.gives _ _ _ r.0 r.1)).0,

@@ -15,9 +15,6 @@ pub loop-place-preserved : goal.loop-place-preserved
 loop-place-preserved g c =
     let i = c.loop-place.invariant in
     let r = i.reads in
-    let bound = i.bound in
-    let asked = i.asked in
-    let handed = i.handed in
     let next = c.in_ok-advance_by.ensures in
     let less = rw c.in-Some.is at next.less in
     let spent = less refl in
@@ -26,9 +23,9 @@ loop-place-preserved g c =
     record {
       driven = driven_on g.R.Inlet g.I.Items c.args.reads c.args.reader.now c.loop-place.reader c.advance_by.new.reader c.loop-place.place
           c.advance_by.new.self i.driven next.ready next.unasked next.no_read_failed next.within;
-      bound = omega (arith, bound, spent);
-      asked = omega (arith, asked, next.few_calls);
-      handed = omega (arith, handed, next.few_octets);
+      bound = omega (arith, i.bound, spent);
+      asked = omega (arith, i.asked, next.few_calls);
+      handed = omega (arith, i.handed, next.few_octets);
       reads = (
         r.0 ++ (on.0, c.in-Some.field-0) ∷ [],
         on.2,

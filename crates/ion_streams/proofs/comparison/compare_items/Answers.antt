@@ -57,12 +57,12 @@ returns-clause-verdict g c =
 pub returns-clause-in_turn : goal.returns-clause-in_turn
 returns-clause-in_turn g c =
     let at = (goal.at.returns-clause-in_turn g c).In_ok-right_source in
-    c.compare_places-verdict.ensures.in_turn _ _ _ _ (left_begun g at) (right_begun g at)
+    (c.compare_places-verdict.ensures.asked _ _ _ _ (left_begun g at) (right_begun g at)).0
 
 pub returns-clause-one_end : goal.returns-clause-one_end
 returns-clause-one_end g c =
     let at = (goal.at.returns-clause-one_end g c).In_ok-right_source in
-    c.compare_places-verdict.ensures.one_end _ _ _ _ (left_begun g at) (right_begun g at)
+    (c.compare_places-verdict.ensures.asked _ _ _ _ (left_begun g at) (right_begun g at)).1
 
 pub returns-clause-cause : goal.returns-clause-cause
 returns-clause-cause g c =
@@ -73,17 +73,9 @@ returns-clause-cause g c =
 pub returns-clause-few_calls : goal.returns-clause-few_calls
 returns-clause-few_calls g c =
     let few = c.compare_places-verdict.ensures.few_calls in
-    let l = c.in_ok-left_source.ensures.reads in
-    let r = c.in_ok-right_source.ensures.reads in
-    let left = few.0 in
-    let right = few.1 in
-    (omega (arith, left, l), omega (arith, right, r))
+    (omega (arith, few.0, c.in_ok-left_source.ensures.reads), omega (arith, few.1, c.in_ok-right_source.ensures.reads))
 
 pub returns-clause-few_octets : goal.returns-clause-few_octets
 returns-clause-few_octets g c =
     let few = c.compare_places-verdict.ensures.few_octets in
-    let l = c.in_ok-left_source.ensures.reads in
-    let r = c.in_ok-right_source.ensures.reads in
-    let left = few.0 in
-    let right = few.1 in
-    (omega (arith, left, l), omega (arith, right, r))
+    (omega (arith, few.0, c.in_ok-left_source.ensures.reads), omega (arith, few.1, c.in_ok-right_source.ensures.reads))

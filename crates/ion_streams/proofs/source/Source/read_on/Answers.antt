@@ -1,11 +1,23 @@
-use Rattle.std.proofs.Common.{inl, inr, rules, ◌≢◌, arith, Some}
+use Rattle.std.proofs.Common.{ℕ, List, inl, inr, rules, ◌≢◌, arith, Some}
 use Rattle.std.proofs.lemmas.Result.{err_from_is_err_and}
-use Rattle.ion_streams.specs.Names.{Reason, left_of}
+use Rattle.ion_streams.specs.Names.{Catalog, Limits, ReadsEach, Reason, Value, left_of}
 use Rattle.ion_streams.proofs.Passes.{none_went}
 use Rattle.ion_streams.proofs.Refilled.{ended_heard, ended_unasked}
 use Rattle.ion_streams.proofs.Steps.{gave_so_far, kept_so_far, on_err, reads_failed, reads_none, reads_refilled, reads_went, within_kept}
 use Rattle.ion_streams.proofs.Unfailed.{gave_some, was_asked}
+use Rattle.ion_streams.proofs.source.Source.read_on.Given.{Over}
+use Rattle.ion_streams.proofs.source.Source.read_on.Goals.{In-Ok-None}
 use Rattle.ion_streams.proofs.source.Source.read_on.Goals as goal
+
+-- octets were used and gave no value
+none_given : (g : Over) (c : In-Ok-None g) (catalog : Catalog) (limits : Limits) (first : g.row.R.Denot) (given : List (Value × ℕ))
+    → ReadsEach g.R.Inlet g.I.Items catalog limits first c.args.reader.now c.args.self.now given
+    → ReadsEach g.R.Inlet g.I.Items catalog limits first c.loop-refusal.reader c.take.new.self given
+none_given g c catalog limits first given h =
+    let t = c.in-Ok-None.ensures in
+    reads_none g.R.Inlet g.I.Items catalog limits first c.loop-refusal.reader c.loop-refusal.self c.take.new.self given
+    (c.loop-refusal.invariant.reads catalog limits first given h)
+    (none_went g.I.Items c.loop-refusal.self c.take.new.self _ c.in-Ok-None.field-0-is t.gives) t.catalog t.limits t.ended
 
 pub returns-in-Err-Memory-clause-kept : goal.returns-in-Err-Memory-clause-kept
 returns-in-Err-Memory-clause-kept g c = λ catalog limits first s h.
@@ -42,19 +54,10 @@ returns-in_err-refill-clause-cause g c =
 
 pub returns-in_err-refill-clause-kept : goal.returns-in_err-refill-clause-kept
 returns-in_err-refill-clause-kept g c =
-    let i = c.loop-refusal.invariant in
-    let from = c.loop-refusal.self in
-    let mid = c.take.new.self in
-    let t = c.in-Ok-None.ensures in
-    let gives = none_went g.I.Items from mid _ c.in-Ok-None.field-0-is t.gives in
+    let at = (goal.at.returns-in_err-refill-clause-kept g c).In-Ok-None in
     on_err c.from_residual.result _ (λ catalog limits first s h.
-    kept_so_far g.R.Inlet g.I.Items catalog limits first c.loop-refusal.reader c.refill.new.reader mid s
-    (record {
-      given = h.given;
-      each = reads_none g.R.Inlet g.I.Items catalog limits first c.loop-refusal.reader from mid h.given
-          (i.reads catalog limits first h.given h.each) gives t.catalog t.limits t.ended;
-      values = h.values;
-    })
+    kept_so_far g.R.Inlet g.I.Items catalog limits first c.loop-refusal.reader c.refill.new.reader c.take.new.self s
+    (record { given = h.given; each = none_given g at catalog limits first h.given h.each; values = h.values })
     c.in_err-refill.ensures.kept.0 c.in_err-refill.ensures.kept.1)
 
 pub loop-refusal-preserved : goal.loop-refusal-preserved
@@ -64,38 +67,27 @@ loop-refusal-preserved g c =
     let mid = c.take.new.self in
     let t = c.in-Ok-None.ensures in
     let f = c.in_ok-refill.ensures in
-    let gives = none_went g.I.Items from mid _ c.in-Ok-None.field-0-is t.gives in
-    let less = i.less in
-    let asked = i.asked in
-    let handed = i.handed in
     record {
       ready = f.ready (search rules);
-      less = omega (arith, less, t.pending, f.less (search rules));
-      asked = omega (arith, asked, t.reads, f.few_calls);
-      handed = omega (arith, handed, t.reads, f.few_octets);
+      less = omega (arith, i.less, t.pending, f.less (search rules));
+      asked = omega (arith, i.asked, t.reads, f.few_calls);
+      handed = omega (arith, i.handed, t.reads, f.few_octets);
       unasked = record { either = inr (f.heard (search rules)) };
       heard = λ h. record { either = inl (f.heard (search rules)) };
       within = λ first reads h. f.within (search rules) first reads
           (within_kept g.R.Inlet reads first c.loop-refusal.reader from mid t.reads t.ended (i.within first reads h));
       reads = λ catalog limits first given h.
           reads_refilled g.R.Inlet g.I.Items catalog limits first c.loop-refusal.reader c.refill.new.reader mid c.refill.new.self given f.refills
-          (reads_none g.R.Inlet g.I.Items catalog limits first c.loop-refusal.reader from mid given
-          (i.reads catalog limits first given h) gives t.catalog t.limits t.ended);
+          (none_given g (goal.at.loop-refusal-preserved g c).In-Ok-None catalog limits first given h);
     }
 
 pub returns-then-not-branch-clause-gives : goal.returns-then-not-branch-clause-gives
 returns-then-not-branch-clause-gives g c =
-    let i = c.loop-refusal.invariant in
-    let from = c.loop-refusal.self in
-    let mid = c.take.new.self in
-    let t = c.in-Ok-None.ensures in
-    let gives = none_went g.I.Items from mid _ c.in-Ok-None.field-0-is t.gives in
     λ catalog limits first given h.
     let f = c.in_ok-refill.ensures in
     rw (f.ended (search rules)) at
-    (reads_refilled g.R.Inlet g.I.Items catalog limits first c.loop-refusal.reader c.refill.new.reader mid c.refill.new.self given f.refills
-    (reads_none g.R.Inlet g.I.Items catalog limits first c.loop-refusal.reader from mid given (i.reads catalog limits first given h) gives t.catalog
-    t.limits t.ended))
+    (reads_refilled g.R.Inlet g.I.Items catalog limits first c.loop-refusal.reader c.refill.new.reader c.take.new.self c.refill.new.self given f.refills
+    (none_given g (goal.at.returns-then-not-branch-clause-gives g c).In-Ok-None catalog limits first given h))
 
 pub returns-in-Ok-Some-clause-no_read_failed : goal.returns-in-Ok-Some-clause-no_read_failed
 returns-in-Ok-Some-clause-no_read_failed g c = λ h.
