@@ -1,7 +1,7 @@
 -- Octets that are handed to the scanner at once: what comes of them is what a run over them does.
 use Rattle.std.proofs.Common.{◌≡◌, ℕ, suc, ◌+◌, ◌-◌, ◌<◌, ◌≤◌, Bool, true, false, cond, List, [], ◌∷◌, ◌++◌, length, take, get_or, Option, Some, None, Ok, Err, refl, ap, sym, ◌∙◌, subst, arith, length-append, inl}
+use Rattle.std.proofs.lemmas.Bool.{le-leb}
 use Rattle.std.specs.Prelude.{◌==◌, ◌&&◌, not, nat_le, bytes_eq, codes, if◌then◌else◌}
-use Rattle.std.proofs.lemmas.Bool.Decides.{nat_tests}
 use Rattle.std.proofs.Math.Seq.{take-append-add, take-append_seam}
 use Rattle.std.proofs.lemmas.List.{get_or-append-add, take_all}
 use Rattle.ion_text.specs.Names.{Action, Begun, Catalog, Effect, Frame, Given, GivesOver, IsBehind, IsCalm, Known, LeadsOver, LeavesBehind, Left, Limits, Mode, Next, Now, OnNext, Outcome, Place, Quiet, Reading, Reason, Refusal, Refused, Setting, Slot, State, Symbols, TokenKind, Value, acts, at, base, begun_in, behind, blob_ends, blob_of, cut, decided, drive, eats, failed_at, fails, feed, floor, follow, form_of, go_to, goes, is_idle, is_left, is_long_begun, leaves, led, longest_top, noticed, on_scan, on_settled, or_worse, past, place, reaches, run, run-append, run_on, settle, settled, shut, start_of, takes, tells, then_run, under, unsettled, uses, with_scan}
@@ -9,7 +9,7 @@ use Rattle.ion_tokens.specs.machine.Scanning as scanning
 use Rattle.ion_tokens.specs.machine.Table.{next}
 use Rattle.ion_tokens.proofs.runs.LastOctets.{IsLast, last_octet, refused_here}
 use Rattle.ion_tokens.proofs.runs.Runs.{feed_used, next_used}
-use Rattle.ion_text.proofs.Octets.{given_here, left_here}
+use Rattle.ion_tokens.proofs.runs.Splits.{given_one, left_one}
 
 start_in : Outcome → ℕ → ℕ
 start_in (Next s) n = s.start
@@ -139,10 +139,7 @@ module _ (g : Catalog) (l : Limits) (r : Reading) (lo : ℕ) (calm : IsCalm r.no
   fits_noticed s h =
       ap (λ b. if b && not (is_idle s.mode) then fails Reason.Unexpected else
       (if nat_le (reaches r.frames r s) l.item then uses (with_scan s r) else fails Reason.ItemTooLong)) (calm_open r.now calm)
-      ∙ ap (λ b. if b then uses (with_scan s r) else fails Reason.ItemTooLong) (le_true (reaches r.frames r s) l.item h)
-    where
-      le_true : (x y : ℕ) → x ≤ y → nat_le x y ≡ true
-      le_true x y h = grind (arith, nat_tests)
+      ∙ ap (λ b. if b then uses (with_scan s r) else fails Reason.ItemTooLong) (le-leb (reaches r.frames r s) l.item h)
 
   -- octets with which the item stays within the limit give no reason to refuse
   pub quiet_within : (p : Place) (os : List ℕ) (s : Known) → lo ≤ floor s → floor s ≤ s.used → s.used + length os ≤ l.item + base r.frames r.notes r.start lo
@@ -301,7 +298,7 @@ module _ (g : Catalog) (l : Limits) (r : Reading) (calm : IsCalm r.now) (s : Kno
     uses_front (Given y t) now count n e b f u d =
         let a = at_last (Given y t) tt e in
         let m = ap (λ (k : Known). k.used) b in
-        let k : count ≡ a.count + 1 = omega (arith, given_here (place r) a.octet a.known t y a.fed, a.counted) in
+        let k : count ≡ a.count + 1 = omega (arith, given_one (place r) a.octet a.known t y a.fed, a.counted) in
         let i = a.inside in (
           omega arith,
           omega arith,
@@ -318,7 +315,7 @@ module _ (g : Catalog) (l : Limits) (r : Reading) (calm : IsCalm r.now) (s : Kno
     tells_front (Given y t) now count v n e b f u d =
         let a = at_last (Given y t) tt e in
         let m = ap (λ (k : Known). k.used) b in
-        let k : count ≡ a.count + 1 = omega (arith, given_here (place r) a.octet a.known t y a.fed, a.counted) in
+        let k : count ≡ a.count + 1 = omega (arith, given_one (place r) a.octet a.known t y a.fed, a.counted) in
         let i = a.inside in
         let place : s.used + a.count + 1 ≡ s.used + count = omega arith in (
           omega arith,
@@ -342,7 +339,7 @@ module _ (g : Catalog) (l : Limits) (r : Reading) (calm : IsCalm r.now) (s : Kno
     left_at (Left z t) now count e b f u =
         let a = at_last (Left z t) tt e in
         let m = ap (λ (k : Known). k.used) b in
-        record { at = a; same = omega (arith, left_here (place r) a.octet a.known t z a.fed, a.counted) }
+        record { at = a; same = omega (arith, left_one (place r) a.octet a.known t z a.fed, a.counted) }
     left_at (Refused n z) now count e b f u = absurd b
 
     -- what the octet does that comes again is what these octets do
@@ -384,11 +381,11 @@ module _ (g : Catalog) (l : Limits) (r : Reading) (calm : IsCalm r.now) (s : Kno
     refused_front (Next t) refusal e offset d = absurd (no_failing refusal.reason (with_scan t r) (sym (all_noticed t some e) ∙ d (λ m. fails Reason.Memory)))
     refused_front (Given y t) refusal e offset d =
         let a = at_last (Given y t) tt e in
-        let n : refusal.offset ≡ s.used + a.count + 1 = omega (arith, offset, given_here (place r) a.octet a.known t y a.fed, a.counted) in
+        let n : refusal.offset ≡ s.used + a.count + 1 = omega (arith, offset, given_one (place r) a.octet a.known t y a.fed, a.counted) in
         at_refused (Given y t) a refusal.reason refusal (refusal_same refusal (s.used + a.count + 1) n) (d (λ m. takes g l 2 m a.octet))
     refused_front (Left y t) refusal e offset d =
         let a = at_last (Left y t) tt e in
-        let n : refusal.offset ≡ s.used + a.count + 1 = omega (arith, offset, left_here (place r) a.octet a.known t y a.fed, a.counted) in
+        let n : refusal.offset ≡ s.used + a.count + 1 = omega (arith, offset, left_one (place r) a.octet a.known t y a.fed, a.counted) in
         at_refused (Left y t) a refusal.reason refusal (refusal_same refusal (s.used + a.count + 1) n) (d (λ m. takes g l 2 m a.octet))
     refused_front (Refused k y) refusal e offset d =
         let a = at_last (Refused k y) tt e in

@@ -1,7 +1,7 @@
 -- Octets over which what waits goes on to wait.
 use Rattle.std.proofs.Common.{◌≡◌, ℕ, ◌+◌, ◌-◌, ◌≤◌, Bool, true, false, List, [], ◌∷◌, length, Option, Some, None, refl, ap, sym, ◌∙◌, subst, arith, ◌⊎◌, inl, inr}
+use Rattle.std.proofs.lemmas.Bool.{le-leb}
 use Rattle.std.specs.Prelude.{◌==◌, ◌&&◌, ◌||◌, not, nat_le, if◌then◌else◌}
-use Rattle.std.proofs.lemmas.Bool.Decides.{nat_tests}
 use Rattle.ion_text.specs.Names.{AtEach, Begun, Catalog, Each, Frame, GoesOver, IsLull, Known, Limits, Mode, Next, Now, OnNext, Place, Quiet, Reading, Reason, Slot, Stays, Style, Symbols, Waiting, Within, at, begun_in, behind, drive, ended_so_far, fails, feed, form_of, goes, goes_on, gone_on, is_idle, is_long_begun, is_long_form, is_quoting, is_top, led, longest_top, lulls, noticed, place, reaches, run, settle, settled, shut, under, uses, waits, waits_now, with_scan}
 use Rattle.ion_tokens.specs.machine.Scanning as scanning
 use Rattle.ion_tokens.proofs.runs.GoesOn.{one_on, through}
@@ -59,10 +59,7 @@ pub lull_noticed : (l : Limits) (r : Reading) (s : Known) → lulls r.now s.mode
 lull_noticed l r s w e u =
     ap (λ b. if b then fails Reason.Unexpected else (if nat_le (reaches r.frames r s) l.item then uses (with_scan s r) else fails Reason.ItemTooLong))
     (open_mode r.now s.mode w)
-    ∙ ap (λ b. if b then uses (with_scan s r) else fails Reason.ItemTooLong) (le_true (reaches r.frames r s) l.item (reach_within l r s r.frames w e u))
-  where
-    le_true : (x y : ℕ) → x ≤ y → nat_le x y ≡ true
-    le_true x y h = grind (arith, nat_tests)
+    ∙ ap (λ b. if b then uses (with_scan s r) else fails Reason.ItemTooLong) (le-leb (reaches r.frames r s) l.item (reach_within l r s r.frames w e u))
 
 -- a further segment of a long string goes on to be one
 quoting_text : (m : Mode) → is_long_text m ≡ true → (is_idle m || is_quoting m) ≡ true

@@ -1,8 +1,9 @@
 -- One octet, as often as it comes.
 use Rattle.std.proofs.Common.{◌≡◌, ℕ, zero, suc, ◌+◌, ◌-◌, ◌<◌, true, false, [], ◌∷◌, refl, sym, ap, ◌∙◌, subst, arith}
+use Rattle.ion_tokens.proofs.runs.Splits.{given_one, left_one}
 use Rattle.std.specs.Prelude.{if◌then◌else◌}
-use Rattle.ion_text.specs.Names.{Catalog, Effect, Given, IsBehind, Known, Left, Lexeme, Limits, Met, Next, Outcome, Place, Reading, Reason, Refused, State, Turn, comes_again, feed, follow, is_left, lesser, on_octet, on_scan, on_settled, place, scan as run, settle, takes, unsettled}
-use Rattle.ion_tokens.proofs.runs.Runs.{feed_used, given_used, left_used}
+use Rattle.ion_text.specs.Names.{Catalog, Effect, Given, IsBehind, Known, Left, Limits, Met, Next, Outcome, Place, Reading, Reason, Refused, State, Turn, comes_again, feed, follow, is_left, lesser, on_octet, on_scan, on_settled, place, scan as run, settle, takes, unsettled}
+use Rattle.ion_tokens.proofs.runs.Runs.{feed_used}
 
 -- memory that runs out answers for every other reason
 pub least : (e : Reason) → lesser e Reason.Memory ≡ Reason.Memory
@@ -38,17 +39,9 @@ one_octet p s o = by (feed p s o) where
   by (Left l t) = refl
   by (Refused n e) = refl
 
--- the octet that ends a token as its last is used
-pub given_here : (p : Place) (o : ℕ) (s t : Known) (y : Lexeme) → feed p s o ≡ Given y t → t.used ≡ s.used + 1
-given_here p o s t y f = let h = given_used p (o ∷ []) s t y (sym (one_octet p s o ∙ f)) in omega (arith, h.0, h.1)
-
--- the octet that shows the end of the token before it isn't used
-pub left_here : (p : Place) (o : ℕ) (s t : Known) (y : Lexeme) → feed p s o ≡ Left y t → t.used ≡ s.used
-left_here p o s t y f = let h = left_used p (o ∷ []) s t y (sym (one_octet p s o ∙ f)) in omega (arith, h.0, h.1)
-
 used_by : (p : Place) (s : Known) (o : ℕ) (x : Outcome) (now : Known) → feed p s o ≡ x → IsBehind x now → is_left x ≡ false → now.used ≡ s.used + 1
 used_by p s o (Next t) now f b l = ap (λ (k : Known). k.used) b ∙ feed_used p s t o f
-used_by p s o (Given y t) now f b l = ap (λ (k : Known). k.used) b ∙ given_here p o s t y f
+used_by p s o (Given y t) now f b l = ap (λ (k : Known). k.used) b ∙ given_one p o s t y f
 used_by p s o (Left y t) now f b l = absurd cc
 used_by p s o (Refused n e) now f b l = absurd b
 
@@ -62,7 +55,7 @@ one_used p s o m now b l f =
 left_by : (p : Place) (s : Known) (o : ℕ) (x : Outcome) (now : Known) → feed p s o ≡ x → IsBehind x now → is_left x ≡ true → now.used ≡ s.used
 left_by p s o (Next t) now f b l = absurd cc
 left_by p s o (Given y t) now f b l = absurd cc
-left_by p s o (Left y t) now f b l = ap (λ (k : Known). k.used) b ∙ left_here p o s t y f
+left_by p s o (Left y t) now f b l = ap (λ (k : Known). k.used) b ∙ left_one p o s t y f
 left_by p s o (Refused n e) now f b l = absurd b
 
 -- an octet that comes again wasn't used

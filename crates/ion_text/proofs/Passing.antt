@@ -1,7 +1,7 @@
 -- Octets that are taken up at once where a container is open.
 use Rattle.std.proofs.Common.{◌≡◌, ℕ, zero, suc, ◌+◌, ◌-◌, ◌<◌, ◌≤◌, Bool, true, false, List, [], ◌∷◌, ◌++◌, length, take, drop, get_or, Ok, refl, ap, sym, ◌∙◌, subst, arith, length-drop, inl, inr}
+use Rattle.std.proofs.lemmas.Bool.{le-leb}
 use Rattle.std.specs.Prelude.{◌&&◌, ◌||◌, not, nat_le, if◌then◌else◌}
-use Rattle.std.proofs.lemmas.Bool.Decides.{nat_tests}
 use Rattle.std.proofs.lemmas.Grind.{common_steps}
 use Rattle.std.proofs.lemmas.List.{length-take-le, take-append-drop, drop-take}
 use Rattle.ion_text.specs.Names.{Catalog, Content, Effect, Frame, Given, Held, IsCalm, IsUsed, Known, LeadsTo, Left, Lexeme, Limits, Mode, Next, Now, OnNext, Outcome, Passes, Place, Quiet, Reading, Reason, Refused, State, Stays, Symbols, Waiting, base, behind_given, behind_left, drive, eats, fails, feed, floor, followed, go_on, goes, in_segment, is_colons, is_idle, is_sane, is_top, led, noticed, on_said, on_scan, on_settled, place, reaches, run, run-append, run_on, said, settle, shut, symbol_waits, takes, then_run, token_of, turn, unsettled, uses, waits, waits_now, with_scan}
@@ -137,14 +137,11 @@ module _ (l : Limits) where
       ∙ (ap (λ b. if b then fails Reason.Unexpected else (if nat_le (reaches r.frames r s) l.item then uses (with_scan s r) else fails Reason.ItemTooLong))
       (never (shut r.now))
       ∙ ap (λ b. if b then uses (with_scan s r) else fails Reason.ItemTooLong)
-      (fits (reaches r.frames r s) l.item (let e = reaches_open r.frames r s inner in omega arith)))
+      (le-leb (reaches r.frames r s) l.item (let e = reaches_open r.frames r s inner in omega arith)))
     where
       never : (b : Bool) → (b && not true) ≡ false
       never true = refl
       never false = refl
-
-      fits : (x y : ℕ) → x ≤ y → nat_le x y ≡ true
-      fits x y h = grind (arith, nat_tests)
 
 -- a token that has begun isn't forgotten
 stays_begun : (p : Place) (os : List ℕ) (s t : Known) → is_sane s.mode ≡ true → is_idle s.mode ≡ false → scanning.run p os s ≡ Next t → is_idle t.mode ≡ false

@@ -1,9 +1,8 @@
 -- Items of the top level, and annotations, with the octets behind them.
-use Rattle.std.proofs.Common.{◌≡◌, ℕ, ◌+◌, ◌-◌, ◌<◌, ◌≤◌, true, false, List, [], ◌∷◌, ◌++◌, length, take, drop, get_or, Option, None, Ok, refl, ap, sym, ◌∙◌, subst, arith, inl, inr}
-use Rattle.std.specs.Prelude.{if◌then◌else◌, nat_le}
-use Rattle.std.proofs.lemmas.Bool.Decides.{nat_tests}
+use Rattle.std.proofs.Common.{◌≡◌, ℕ, ◌+◌, ◌-◌, ◌<◌, ◌≤◌, false, List, [], ◌∷◌, ◌++◌, length, take, drop, get_or, Option, None, Ok, refl, ap, sym, ◌∙◌, subst, arith, inl, inr}
+use Rattle.std.specs.Prelude.{if◌then◌else◌}
 use Rattle.std.proofs.lemmas.Grind.{common_steps}
-use Rattle.std.proofs.lemmas.Bool.{cond-true}
+use Rattle.std.proofs.lemmas.Bool.{cond-true, le-leb}
 use Rattle.std.proofs.lemmas.List.{length-take-le, drop-take}
 use Rattle.ion_text.specs.Names.{Bracket, Catalog, Content, FoundNote, FoundToken, Frame, Held, IsFound, IsPassed, Known, Limits, Mark', Now, OpensAt, Passes, Place, Quiet, Reading, Reason, Rest, RestsBehind, Slot, State, Symbols, TokenKind, Value, at, base, begun_at, begun_in, behind_given, behind_note, drive, eats, ended, fails, feed, first_now, fresh, gives, go_on, goes, held_of, is_long_begun, is_table, led, lexeme_at, longest_top, next, on_said, on_scan, open_mark, opened, past_token, place, place_in, reaches, refuses, rested, resting, run, run_on, said, settle, spot_at, takes, tells, token_of, turn, turned, under, unsettled, uses, with_scan, within}
 use Rattle.ion_tokens.proofs.runs.Runs.{next_used}
@@ -42,9 +41,6 @@ passes_then g l m n octets a b some h = h (take (a + b) octets) (front (a + 1) (
 
     known_behind : drop a (take (a + b) octets) ≡ take b (drop a octets)
     known_behind = drop-take a b octets
-
-le_true : (x y : ℕ) → x ≤ y → nat_le x y ≡ true
-le_true x y h = grind (arith, nat_tests)
 
 -- a token whose last octet gives a value
 module _ (g : Catalog) (l : Limits) (r : Reading) (still : settle g l r ≡ goes r) (rest : Rest) (octets : List ℕ) (kind : TokenKind) (kept : List ℕ) (n : ℕ)
@@ -85,7 +81,7 @@ pub top_ended : (g : Catalog) (l : Limits) (end start : ℕ) (c : List Slot) (v 
     → ended (under g l) (spot_at end start c) [] v ≡ gives v (fresh c)
 top_ended g l end start c v free room =
     ap (λ b. if b then turned l.item start end (next c v g) else within l.item start end (gives v (fresh c))) free
-    ∙ ap (λ b. if b then gives v (fresh c) else refuses Reason.ItemTooLong) (le_true end (start + l.item) room)
+    ∙ ap (λ b. if b then gives v (fresh c) else refuses Reason.ItemTooLong) (le-leb end (start + l.item) room)
 
 -- where an item begins behind these annotations of it
 base_begun : (start begin : ℕ) (ss : Symbols) → base [] ss start begin ≡ begun_at start begin [] ss
@@ -136,13 +132,13 @@ module _ (g : Catalog) (l : Limits) (start : ℕ) (c : List Slot) (ss : Symbols)
 pub waits_notices : (l : Limits) (start : ℕ) (c : List Slot) (ss : Symbols) (h : Held) (end most : ℕ) → end ≤ start + l.item
     → NoticesNothing l (at start c [] ss (Now.Pending h end)) most
 waits_notices l start c ss h end most room s idle few = ap
-    (λ b. if b then uses (with_scan s (at start c [] ss (Now.Pending h end))) else fails Reason.ItemTooLong) (le_true (end - start) l.item (omega arith))
+    (λ b. if b then uses (with_scan s (at start c [] ss (Now.Pending h end))) else fails Reason.ItemTooLong) (le-leb (end - start) l.item (omega arith))
 
 noted_notices : (l : Limits) (start : ℕ) (c : List Slot) (ss : Symbols) (x : Option (List ℕ))
     → NoticesNothing l (at start c [] (ss ++ x ∷ []) Now.Ready) (l.item + start)
 noted_notices l start c ss x s idle few =
     ap (λ b. if b then uses (with_scan s (at start c [] (ss ++ x ∷ []) Now.Ready)) else fails Reason.ItemTooLong)
-    (le_true (reaches [] (at start c [] (ss ++ x ∷ []) Now.Ready) s) l.item (let e = reach ss in omega arith))
+    (le-leb (reaches [] (at start c [] (ss ++ x ∷ []) Now.Ready) s) l.item (let e = reach ss in omega arith))
   where
     none : begun_in s ≡ None
     none = cond-true _ _ _ idle

@@ -12,3 +12,4 @@ pub mod Walked
 pub mod FrontTokens
 pub mod LongStrings
 pub mod Places
+pub mod Ways

@@ -6,10 +6,11 @@ use Rattle.ion_tokens.proofs.complete.Found.{Gives, Last, Leaves, Nothing, Unclo
 use Rattle.ion_tokens.proofs.histories.Histories.{begins_completes, given_front, left_front}
 use Rattle.ion_tokens.proofs.runs.Runs.{given_used, left_used, next_used}
 use Rattle.ion_text.specs.machine.TokenLists.{walked}
+use Rattle.ion_text.specs.laws.reading.complete.Going.{added}
 use Rattle.ion_text.specs.laws.deciding.Fronts.{Any, Came, Either, HasEnded, found_open, last_behind, last_of, origin}
 use Rattle.ion_text.specs.laws.reading.complete.Pieces.{walked_now}
 use Rattle.ion_text.specs.laws.showing.tokens.Compare.{Found', IsThis, placed_same}
-use Rattle.ion_text.specs.laws.showing.tokens.Walks.{adds_is, walking_said}
+use Rattle.ion_text.specs.laws.showing.tokens.Walks.{walking_said}
 
 module _ (g : Catalog) (l : Limits) where
   -- 1. Tokens that the reader looks for.
@@ -30,7 +31,7 @@ module _ (g : Catalog) (l : Limits) where
       go : (w : Walk) → reads g l r (x ∷ []) ≡ w → ((k : Reading) (ws : List Value) → reads g l k before ≡ walked ws n → Along k (before ++ t ∷ []))
           → Along r (x ∷ (before ++ t ∷ []))
       go (walked xs k) f more =
-          let a = adds_is g l xs vs n (reads g l k before) (cut (walked xs k) f) in
+          let a = added g l xs vs n (reads g l k before) (cut (walked xs k) f) in
           ((walking_said g l r x [] (record { vs = xs; n = k; read = f })).0, inr (xs, k, f, more k a.0 a.1))
       go stopped f more = absurd (let h : stopped ≡ walked vs n = cut stopped f in cc)
 

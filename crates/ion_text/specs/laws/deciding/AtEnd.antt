@@ -6,9 +6,9 @@ use Rattle.ion_tokens.proofs.histories.Stepped.{all_since}
 use Rattle.ion_tokens.proofs.runs.Scans.{placed}
 use Rattle.ion_tokens.proofs.sound.Holds.{blank_none}
 use Rattle.ion_tokens.proofs.sound.Told.{ends_in_token}
-use Rattle.ion_text.specs.laws.deciding.Lates.{said_rowless}
 use Rattle.ion_text.specs.laws.deciding.Shows.{Shown, awaits_colons, flag, neither, shown_by}
 use Rattle.ion_text.specs.laws.deciding.Turns.{Decided, TurnDecided, settled_decided, token_decided}
+use Rattle.ion_text.specs.laws.reading.Reasons.{said_lexical}
 use Rattle.ion_text.specs.laws.reading.Stops.{stood_used}
 use Rattle.ion_text.specs.laws.reading.complete.Found.{no_more}
 use Rattle.ion_text.specs.laws.reading.complete.Going.{mark_kind, top_place}
@@ -48,16 +48,12 @@ all_are u ts t h e =
 
 -- what the scanner's end refuses for
 end_rowless : (e : Reason) → is_end_reason e ≡ true → HasRow e → ⊥
-end_rowless Reason.SymbolRange h i = absurd cc
-end_rowless Reason.ImportGap h i = absurd cc
-end_rowless Reason.MissingImport h i = absurd cc
-end_rowless Reason.RepeatedField h i = absurd cc
-end_rowless Reason.TableTooLarge h i = absurd cc
-end_rowless Reason.NullTable h i = absurd cc
-end_rowless Reason.Depth h i = absurd cc
-end_rowless Reason.Version h i = absurd cc
-end_rowless Reason.KeywordAsName h i = absurd cc
-end_rowless _ h i = i
+end_rowless Reason.Memory h i = i
+end_rowless Reason.Incomplete h i = i
+end_rowless Reason.TooLarge h i = i
+end_rowless Reason.Malformed h i = i
+end_rowless Reason.Float h i = i
+end_rowless _ h i = absurd cc
 
 -- an open brace
 abbrev opens_struct : Content → Bool
@@ -209,7 +205,7 @@ module _ (g : Catalog) (l : Limits) (u : List ℕ) where
     said_rows : (used : ℕ) (x : Lexeme) → at_end (place r) s ≡ Ok (Some x) → (c : Result Content Reason) → said x.kind x.octets ≡ c
         → EndRows (end_said g l used r x c)
     said_rows used x e (Ok c) k = token_rows x e c k used
-    said_rows used x e (Err y) k = λ i. absurd (said_rowless x.kind x.octets y k i)
+    said_rows used x e (Err y) k = λ i. absurd ((said_lexical x.kind x.octets y k).1 i)
 
     ready_rows : (used : ℕ) (x : Result (Option Lexeme) Reason) → at_end (place r) s ≡ x → EndRows (end_ready g l used r x)
     ready_rows used (Ok None) e = fresh_rows used (is_fresh r)

@@ -1,5 +1,6 @@
 -- The tokens of a row lead the reader to where its last token stands, and with that one it goes on as it does there.
 use Rattle.std.proofs.Common.{◌≡◌, ℕ, suc, ◌+◌, ◌≤◌, true, false, ◌&&◌, List, [], ◌∷◌, ◌++◌, length, refl, sym, ap, ◌∙◌, subst, arith, append_assoc, append-nil, Option}
+use Rattle.std.proofs.lemmas.Bool.{and_right}
 use Rattle.ion_text.specs.Names.{Annotations, Bracket, Catalog, Comes, Container, Content, Field, Frame, InField, InList, InSexp, InStruct, IsName, Limits, Listing, Long, Mark, Mark', Members, Now, Open, Place, Placed, Quoted, Says, Slot, Symbols, TakesValue, adds_values, at, begins_as_long, bracket_in, ends_long, fresh, list_open, none_open, open_mark, place_of, reads, sexp_open, struct_open}
 use Rattle.ion_text.specs.Deciding.{named}
 use Rattle.ion_text.specs.laws.deciding.Fronts.{Came, SettlesTo, origin, ready_settles, stands_read, struct_settles}
@@ -9,7 +10,6 @@ use Rattle.ion_text.specs.laws.reading.complete.Complete.{Begins, notes_begin, s
 use Rattle.ion_text.specs.laws.reading.complete.Pieces.{more_read, pieces_read}
 use Rattle.ion_text.specs.laws.reading.complete.Tokens.{neither}
 use Rattle.ion_text.specs.laws.reading.sound.Depths.{Deep}
-use Rattle.ion_text.specs.laws.reading.sound.MarkerWords.{both_not}
 use Rattle.ion_text.specs.laws.reading.sound.StandsOpen.{Around, Items, Opened, ReadyFor, Receives, value_place}
 use Rattle.ion_text.specs.laws.showing.tokens.Stays.{name_there, ready_outer, token_behind}
 
@@ -146,7 +146,7 @@ module _ (g : Catalog) (l : Limits) where
   -- behind a long string none that isn't open stands
   stays_apart : (front item : List Placed) (t : Placed) (d : Content) (more : List Placed) (p : Place) → (ends_long front && begins_as_long item) ≡ false
       → Says p t d → JoinsNothing d → (ends_long front && begins_as_long (item ++ t ∷ more)) ≡ false
-  stays_apart front [] t d more p h says a = both_not (ends_long front) (begins_as_long (t ∷ more))
+  stays_apart front [] t d more p h says a = and_right (ends_long front) (begins_as_long (t ∷ more))
       (neither true t.lexeme.start t.lexeme.end t.lexeme.kind t.lexeme.octets d a.long a.quoted says.body)
   stays_apart front (x ∷ item) t d more p h says a = h
 

@@ -5,9 +5,9 @@ use Rattle.ion_text.specs.machine.TokenLists.{walked}
 use Rattle.ion_text.specs.laws.deciding.Comings.{JoinsNothing}
 use Rattle.ion_text.specs.laws.deciding.Fronts.{Came, origin}
 use Rattle.ion_text.specs.laws.deciding.Tokens.{Refusing, Why, as_colons, by_itself}
-use Rattle.ion_text.specs.laws.reading.complete.Going.{Direct, says_so}
+use Rattle.ion_text.specs.laws.reading.complete.Going.{Direct, added, says_so, settled_reads}
 use Rattle.ion_text.specs.laws.reading.complete.Pieces.{walked_now}
-use Rattle.ion_text.specs.laws.showing.tokens.Walks.{adds_is, settled_reads, walking_said}
+use Rattle.ion_text.specs.laws.showing.tokens.Walks.{walking_said}
 
 -- what says nothing that goes on joins nothing that waits
 pub joins_none : (top : Bool) (now : Now) (x : Lexeme) (c : Content) → JoinsNothing c → continues_now top now (token_of x c) ≡ false
@@ -80,7 +80,7 @@ module _ (g : Catalog) (l : Limits) (e : Reason) (Done : Reading → Type 0) (Re
       turned : ((m : Reading) (ws : List Value) → reads g l m front ≡ walked ws n → Heads m (front ++ rest)) → (x : Turn) (ws : List Value)
           → on_turn x (λ k. reads g l k front) ≡ walked ws n → Turned x (front ++ rest)
       turned more (goes m) ws j = more m ws j
-      turned more (gives v m) ws j = let a = adds_is g l (v ∷ []) ws n (reads g l m front) j in more m a.0 a.1
+      turned more (gives v m) ws j = let a = added g l (v ∷ []) ws n (reads g l m front) j in more m a.0 a.1
       turned more _ ws j = absurd cc
 
       from : ((m : Reading) (ws : List Value) → reads g l m front ≡ walked ws n → Heads m (front ++ rest)) → (k : Reading) → place k ≡ place r
@@ -102,7 +102,7 @@ module _ (g : Catalog) (l : Limits) (e : Reason) (Done : Reading → Type 0) (Re
           by : (x : Turn) → on_turn x (λ k. reads g l k (t ∷ front)) ≡ walked vs n → Leading g l (λ k. (place k ≡ place r) × (is_top k.frames ≡ is_top r.frames)) x
               → Leading g l (λ k. settle g l k ≡ goes k) x → TurnsTo (λ k. Turned (turn g l k (token_of t.lexeme p.1)) (front ++ rest)) ⊥ x
           by (goes k) j a b = from more k a.0 (inr b) vs j
-          by (gives v k) j a b = let x = adds_is g l (v ∷ []) vs n (reads g l k (t ∷ front)) j in from more k a.0 (inr b) x.0 x.1
+          by (gives v k) j a b = let x = added g l (v ∷ []) vs n (reads g l k (t ∷ front)) j in from more k a.0 (inr b) x.0 x.1
           by _ j a b = absurd cc
 
 module _ (g : Catalog) (l : Limits) (e : Reason) where

@@ -1,73 +1,17 @@
 -- An octet for which a reason is late is read on, and refused there for no reason that rows have.
-use Rattle.std.proofs.Common.{◌≡◌, ℕ, zero, suc, ◌+◌, ◌≤◌, nat_le, nat_lt, List, [], ◌∷◌, ◌++◌, length, Bool, true, false, ◌&&◌, not, Result, Ok, Err, Option, Some, None, refl, sym, ap, ◌∙◌, subst, arith, if◌then◌else◌, inl, inr}
-use Rattle.std.proofs.lemmas.Bool.{cond_both}
-use Rattle.std.proofs.lemmas.Bool.Decides.{nat_tests}
-use Rattle.ion_text.specs.Names.{Bracket, Catalog, Content, Effect, Frame, Given, HasRow, Held, Id, IsBody, IsUsed, IsWordBody, Kind, Known, Left, Lexeme, Limits, Listing, Long, Mark, Mark', Next, Now, Outcome, Payload, Place, Quoted, Reading, ReadsNumber, Reason, Refused, Setting, Short, Slot, Spot, State, Symbols, Token, TokenKind, Turn, TypedNull, Value, Word, annotated, at, bare_close, begun_at, behind_given, behind_left, beyond_depth, closed, deeper, ended, fails, feed, field_of, first_now, follow, fresh, gives, goes, held_symbol, id_of, is_idle, is_keyword, is_table, keyed, kind_named, late, named, next, noted, noticed, null_of, on_after, on_comma, on_keyed, on_long, on_long_name, on_name, on_pending, on_ready, on_said, on_scan, on_settled, opened, opening, place, reaches, refuses, resolve, resolved, said, said_body, says, settle, shut, spot_at, spot_in, takes, token_of, turn, turn_now, turned, under, unsettled, with_scan, within}
+use Rattle.std.proofs.Common.{◌≡◌, ℕ, zero, suc, ◌+◌, ◌≤◌, nat_le, nat_lt, List, [], ◌∷◌, ◌++◌, true, false, ◌&&◌, Ok, Option, Some, refl, sym, ◌∙◌, subst, if◌then◌else◌, inl, inr}
+use Rattle.std.proofs.lemmas.Bool.{cond_both, lt-ltb}
+use Rattle.ion_text.specs.Names.{Bracket, Catalog, Content, Effect, Frame, Given, HasRow, Held, Id, IsKeyword, IsUsed, Known, Left, Lexeme, Limits, Listing, Long, Mark, Mark', Next, Now, Outcome, Payload, Place, Quoted, Reading, Refused, Setting, Short, Slot, Spot, State, Symbols, Token, TokenKind, Turn, TypedNull, Value, Word, annotated, at, behind_given, behind_left, beyond_depth, ended, fails, feed, field_of, first_now, fresh, goes, is_idle, keyed, late, named, noticed, on_keyed, on_name, on_ready, on_said, on_scan, on_settled, opened, opening, place, said, said_body, settle, spot_at, takes, token_of, turn, under, unsettled, with_scan}
+use Rattle.ion_text.specs.machine.Ways.{TokenWay, ValueWay, now_way, token_deep, token_list, token_sexp, token_struct, token_unnamed, token_unnoted, token_value, value_refused}
 use Rattle.ion_model.specs.declared.value.Payload.TheVariants as payloads
-use Rattle.ion_tokens.proofs.bounds.Causes.{IsFair, run_fair}
-use Rattle.ion_tokens.proofs.bounds.Fits.{is_octet_reason}
 use Rattle.ion_text.specs.laws.deciding.Shows.{BareSaid}
-use Rattle.ion_text.specs.laws.reading.Brackets.{Closes, closes_or_not, ends_list, ends_none, ends_sexp, ends_struct}
+use Rattle.ion_text.specs.laws.reading.Effects.{noticed_each, said_each}
+use Rattle.ion_text.specs.laws.reading.Reasons.{feed_lexical, said_lexical}
 use Rattle.ion_text.specs.laws.reading.complete.Accepts.{mark_said}
 use Rattle.ion_text.specs.laws.reading.complete.Fuel.{UsedHere}
 use Rattle.ion_text.specs.laws.reading.complete.Meets.{IdleLeft, idle_left}
 
--- 1. Reasons of octets and tokens.
-
-octet_rowless : (e : Reason) → is_octet_reason e ≡ true → HasRow e → ⊥
-octet_rowless Reason.SymbolRange h i = absurd cc
-octet_rowless Reason.ImportGap h i = absurd cc
-octet_rowless Reason.MissingImport h i = absurd cc
-octet_rowless Reason.RepeatedField h i = absurd cc
-octet_rowless Reason.TableTooLarge h i = absurd cc
-octet_rowless Reason.NullTable h i = absurd cc
-octet_rowless Reason.Depth h i = absurd cc
-octet_rowless Reason.Version h i = absurd cc
-octet_rowless Reason.KeywordAsName h i = absurd cc
-octet_rowless _ h i = i
-
-fair_reason : (n : ℕ) (e : Reason) → IsFair (Refused n e) → is_octet_reason e ≡ true
-unfolding IsFair
-fair_reason n e h = h
-
--- what the scanner refuses an octet for
-pub feed_rowless : (p : Place) (s : Known) (o n : ℕ) (e : Reason) → feed p s o ≡ Refused n e → HasRow e → ⊥
-feed_rowless p s o n e h = octet_rowless e (fair_reason n e (subst IsFair (ap (λ y. follow y (λ t. Next t)) h) (run_fair p (o ∷ []) s)))
-
-number_rowless : (octets : List ℕ) (e : Reason) → ReadsNumber octets (Err e) → HasRow e → ⊥
-number_rowless octets Reason.SymbolRange h i = h
-number_rowless octets Reason.ImportGap h i = h
-number_rowless octets Reason.MissingImport h i = h
-number_rowless octets Reason.RepeatedField h i = h
-number_rowless octets Reason.TableTooLarge h i = h
-number_rowless octets Reason.NullTable h i = h
-number_rowless octets Reason.Depth h i = h
-number_rowless octets Reason.Version h i = h
-number_rowless octets Reason.KeywordAsName h i = h
-number_rowless octets _ h i = i
-
-word_rowless : (octets : List ℕ) (id : Option ℕ) (e : Reason) → IsWordBody octets id (Err e) → HasRow e → ⊥
-word_rowless octets None e h i = subst HasRow h.0 i
-word_rowless octets (Some id) e h i = absurd cc
-
-null_rowless : (kind : Option Kind) (e : Reason) → Err e ≡ null_of kind → HasRow e → ⊥
-null_rowless None e h i = let k : e ≡ Reason.Malformed = cc in subst HasRow k i
-null_rowless (Some kind) e h i = absurd cc
-
-body_rowless : (k : TokenKind) (octets : List ℕ) (e : Reason) → IsBody k octets (Err e) → HasRow e → ⊥
-body_rowless TokenKind.Word octets e h = word_rowless octets (id_of octets) e h
-body_rowless TokenKind.KindName octets e h = null_rowless (kind_named octets) e h
-body_rowless TokenKind.Number octets e h = number_rowless octets e h
-body_rowless TokenKind.Clob octets e h = absurd cc
-body_rowless TokenKind.Blob octets e h = absurd cc
-body_rowless (TokenKind.Mark m) octets e h = absurd cc
-body_rowless _ octets e h = λ i. subst HasRow h.0 i
-
--- what a token that says nothing is refused for
-pub said_rowless : (k : TokenKind) (octets : List ℕ) (e : Reason) → said k octets ≡ Err e → HasRow e → ⊥
-said_rowless k octets e h = body_rowless k octets e (subst (IsBody k octets) h (says k octets))
-
--- 2. Effects.
+-- 1. Effects.
 
 -- a refusal is for no such reason
 abbrev pub NotLate : Effect → Type 0
@@ -76,18 +20,13 @@ NotLate _ = Unit {0}
 
 -- an octet that ends no token is refused for no reason that rows have
 pub noticed_quiet : (l : Limits) (r : Reading) (s : Known) → NotLate (noticed l r s)
-noticed_quiet l r s = cond_both (shut r.now && not (is_idle s.mode)) _ _ NotLate (λ e i. i)
-    (λ e. cond_both (nat_le (reaches r.frames r s) l.item) _ _ NotLate (λ k. tt) (λ k i. i))
+noticed_quiet l r s = noticed_each NotLate l r s tt (λ i. i) (λ i. i)
 
 pub said_quiet : (k : TokenKind) (octets : List ℕ) (f : Content → Effect) → ((c : Content) → said k octets ≡ Ok c → NotLate (f c))
     → NotLate (on_said (said k octets) f)
-said_quiet k octets f h = go (said k octets) refl
-  where
-    go : (c : Result Content Reason) → said k octets ≡ c → NotLate (on_said c f)
-    go (Ok c) e = h c e
-    go (Err y) e = said_rowless k octets y e
+said_quiet k octets f h = said_each NotLate (said k octets) f h (λ e i. (said_lexical k octets e i).1)
 
--- 3. Where reasons are late.
+-- 2. Where reasons are late.
 
 -- behind a name, in a struct that a container holds, and behind the colons of an annotation
 pub data LateAs (said : Content) : Reading → Type 0 where
@@ -102,128 +41,36 @@ abbrev pub TurnLate : (Reading → Type 0) → Turn → Type 0
 TurnLate P (late e n) = P n
 TurnLate P _ = Unit {0}
 
--- the limit on items doesn't change what a late reason goes on with
-pub within_late : (P : Reading → Type 0) (item start end : ℕ) (t : Turn) → TurnLate P t → TurnLate P (within item start end t)
-within_late P item start end t h = cond_both (nat_le end (start + item)) t (refuses Reason.ItemTooLong) (TurnLate P) (λ e. h) (λ e. tt)
-
-top_late : (P : Reading → Type 0) (item start end : ℕ) (c : List Slot) (v : Value) (d : Result (List Slot) Reason) (b : Bool)
-    → TurnLate P (if b then turned item start end d else within item start end (gives v (fresh c)))
-top_late P item start end c v (Ok d) true = within_late P item start end (goes (fresh d)) tt
-top_late P item start end c v (Err e) true = tt
-top_late P item start end c v d false = within_late P item start end (gives v (fresh c)) tt
-
 -- where a value ends, no reason is late
-pub ended_late : (P : Reading → Type 0) (setting : Setting) (spot : Spot) (fs : List Frame) (v : Value) → TurnLate P (ended setting spot fs v)
-ended_late P setting spot [] v = top_late P setting.limits.item spot.start spot.end spot.context v (next spot.context v setting.catalog) (is_table v)
-ended_late P setting spot (Frame.Fields ss ms ∷ fs) v = tt
-ended_late P setting spot _ v = tt
+pub value_late : (P : Reading → Type 0) (setting : Setting) (spot : Spot) (v : Value) (fs : List Frame) (t : Turn) → ValueWay setting spot v fs t → TurnLate P t
+value_late P setting spot v _ _ (value_refused fs e d) = tt
+value_late P setting spot v _ _ _ = tt
 
-resolved_late : (P : Reading → Type 0) (r : Result (Option (List ℕ)) Reason) (f : Option (List ℕ) → Turn) → ((s : Option (List ℕ)) → TurnLate P (f s))
-    → TurnLate P (resolved r f)
-resolved_late P (Ok s) f h = h s
-resolved_late P (Err e) f h = tt
-
-closed_late : (P : Reading → Type 0) (setting : Setting) (spot : Spot) (bracket : Bracket) (fs : List Frame) → TurnLate P (closed bracket setting spot fs)
-closed_late P setting spot bracket fs = by bracket fs (closes_or_not bracket fs)
-  where
-    by : (bracket : Bracket) (fs : List Frame) → Closes bracket fs → TurnLate P (closed bracket setting spot fs)
-    by _ _ (ends_list ss vs fs) = ended_late P setting spot fs _
-    by _ _ (ends_sexp ss vs fs) = ended_late P setting spot fs _
-    by _ _ (ends_struct ss ms fs) = ended_late P setting spot fs _
-    by _ _ (ends_none bracket fs e) = subst (TurnLate P) (sym (e setting spot)) tt
-
-deeper_late : (P : Reading → Type 0) (depth : ℕ) (fs : List Frame) (t deep : Turn) → TurnLate P t → TurnLate P deep → TurnLate P (deeper depth fs t deep)
-deeper_late P depth fs t deep h k = cond_both (nat_lt (length fs) depth) t deep (TurnLate P) (λ e. h) (λ e. k)
-
-bare_late : (P : Reading → Type 0) (ss : Symbols) (t : Turn) → TurnLate P t → TurnLate P (bare_close ss t)
-bare_late P [] t h = h
-bare_late P (s ∷ ss) t h = tt
+keyword_bare : (x : Content) → IsKeyword x → BareSaid x
+keyword_bare (Word w) h = tt
+keyword_bare (TypedNull k) h = tt
+keyword_bare _ h = absurd h
 
 module _ (g : Catalog) (l : Limits) where
   some_level : nat_lt 0 l.depth ≡ true
-  some_level = go l.depth l.deep.0
-    where
-      go : (n : ℕ) → 1 ≤ n → nat_lt 0 n ≡ true
-      go n h = grind (arith, nat_tests)
-
-  ready_late : (spot : Spot) (fs : List Frame) (ss : Symbols) (x : Content) → TurnLate (LateAs x) (on_ready (under g l) spot fs ss x)
-  ready_late spot fs ss (Word w) = tt
-  ready_late spot fs ss (Id id) = resolved_late (LateAs (Id id)) (resolve spot.context id) _ (λ s. tt)
-  ready_late spot fs ss (Quoted w) = tt
-  ready_late spot fs ss (TypedNull k) = tt
-  ready_late spot fs ss (Long w) = tt
-  ready_late spot fs ss (Mark' Mark.ListOpen) = deeper_late (LateAs (Mark' Mark.ListOpen)) l.depth fs _ _ tt tt
-  ready_late spot fs ss (Mark' Mark.SexpOpen) = deeper_late (LateAs (Mark' Mark.SexpOpen)) l.depth fs _ _ tt tt
-  ready_late spot fs ss (Mark' Mark.FieldsOpen) =
-      cond_both (nat_lt (length fs) l.depth) _ _ (TurnLate (LateAs (Mark' Mark.FieldsOpen))) (λ e. tt) (λ e. inside fs e)
-    where
-      inside : (fs : List Frame) → nat_lt (length fs) l.depth ≡ false
-          → LateAs (Mark' Mark.FieldsOpen) (at spot.start spot.context (Frame.Fields ss [] ∷ fs) [] Now.Name)
-      inside [] e = absurd (let n : true ≡ false = sym some_level ∙ e in cc)
-      inside (f ∷ fs) e = in_struct tt spot.start spot.context ss f fs
-  ready_late spot fs ss (Mark' Mark.ListClose) = bare_late (LateAs (Mark' Mark.ListClose)) ss _
-      (closed_late (LateAs (Mark' Mark.ListClose)) (under g l) spot Bracket.List fs)
-  ready_late spot fs ss (Mark' Mark.SexpClose) = bare_late (LateAs (Mark' Mark.SexpClose)) ss _
-      (closed_late (LateAs (Mark' Mark.SexpClose)) (under g l) spot Bracket.Sexp fs)
-  ready_late spot fs ss (Mark' _) = tt
-  ready_late spot fs ss x = ended_late (LateAs x) (under g l) spot fs _
-
-  noted_late : (start : ℕ) (c : List Slot) (fs : List Frame) (ss : Symbols) (r : Result (Option (List ℕ)) Reason)
-      → TurnLate (LateAs (Mark' Mark.Colons)) (noted start c fs ss r)
-  noted_late start c fs ss (Ok s) = tt
-  noted_late start c fs ss (Err e) = behind_colons (at start c fs (ss ++ None ∷ []) Now.Ready) refl
-
-  comma_late : (x : Content) (start : ℕ) (c : List Slot) (fs : List Frame) → TurnLate (LateAs x) (on_comma start c fs)
-  comma_late x start c (Frame.Items Listing.List ss vs ∷ fs) = tt
-  comma_late x start c _ = tt
-
-  after_late : (spot : Spot) (fs : List Frame) (x : Content) → TurnLate (LateAs x) (on_after (under g l) spot fs x)
-  after_late spot fs (Mark' Mark.Comma) = comma_late (Mark' Mark.Comma) spot.start spot.context fs
-  after_late spot fs (Mark' Mark.ListClose) = closed_late (LateAs (Mark' Mark.ListClose)) (under g l) spot Bracket.List fs
-  after_late spot fs (Mark' Mark.FieldsClose) = closed_late (LateAs (Mark' Mark.FieldsClose)) (under g l) spot Bracket.Fields fs
-  after_late spot fs _ = tt
-
-  name_late : (spot : Spot) (fs : List Frame) (x : Content) → TurnLate (LateAs x) (on_name (under g l) spot fs x)
-  name_late spot fs (Word w) = cond_both (is_keyword w) _ _ (TurnLate (LateAs (Word w))) (λ e. behind_name tt spot.start spot.context fs [] (Some w)) (λ e. tt)
-  name_late spot fs (TypedNull k) = behind_name tt spot.start spot.context fs [] None
-  name_late spot fs (Id id) = resolved_late (LateAs (Id id)) (resolve spot.context id) _ (λ s. tt)
-  name_late spot fs (Mark' Mark.FieldsClose) = closed_late (LateAs (Mark' Mark.FieldsClose)) (under g l) spot Bracket.Fields fs
-  name_late spot fs _ = tt
-
-  named_late : (x : Content) (start : ℕ) (c : List Slot) (fs : List Frame) (s : Option (List ℕ)) → TurnLate (LateAs x) (named start c fs s)
-  named_late x start c (Frame.Fields ss ms ∷ fs) s = tt
-  named_late x start c _ s = tt
-
-  pending_late : (start : ℕ) (c : List Slot) (fs : List Frame) (ss : Symbols) (h : Held) (x : Content) → TurnLate (LateAs x) (on_pending start c fs ss h x)
-  pending_late start c fs ss h (Mark' Mark.Colons) = noted_late start c fs ss (held_symbol h)
-  pending_late start c fs ss h _ = tt
-
-  long_late : (spot : Spot) (fs : List Frame) (ss : Symbols) (v : List ℕ) (x : Content) → TurnLate (LateAs x) (on_long spot fs ss v x)
-  long_late spot fs ss v (Long w) = tt
-  long_late spot fs ss v _ = tt
-
-  long_name_late : (start : ℕ) (c : List Slot) (fs : List Frame) (v : List ℕ) (x : Content) → TurnLate (LateAs x) (on_long_name start c fs v x)
-  long_name_late start c fs v (Long w) = tt
-  long_name_late start c fs v _ = tt
-
-  keyed_late : (start : ℕ) (c : List Slot) (fs : List Frame) (s : Option (List ℕ)) (x : Content) → TurnLate (LateAs x) (on_keyed start c fs s x)
-  keyed_late start c fs s (Mark' Mark.Colon) = named_late (Mark' Mark.Colon) start c fs s
-  keyed_late start c fs s _ = tt
+  some_level = lt-ltb 0 l.depth l.deep.0
 
   -- what a token's reason is late for
   pub turn_late : (r : Reading) (t : Token) → TurnLate (LateAs t.said) (turn g l r t)
-  turn_late r t = go r.now
+  turn_late r t = by r.frames r.now _ (now_way g l t.start t.end r.start r.context r.frames r.notes t.said r.now)
     where
-      go : (n : Now) → TurnLate (LateAs t.said) (turn_now (under g l) r t n)
-      go Now.Ready = ready_late (spot_at t.end (begun_at r.start t.start r.frames r.notes) r.context) r.frames r.notes t.said
-      go (Now.Pending h e) = pending_late r.start r.context r.frames r.notes h t.said
-      go (Now.Long w e) = long_late (spot_in r t.end) r.frames r.notes w t.said
-      go Now.After = after_late (spot_in r t.end) r.frames t.said
-      go Now.Name = name_late (spot_in r t.end) r.frames t.said
-      go (Now.LongName w) = long_name_late r.start r.context r.frames w t.said
-      go (Now.Keyed s) = keyed_late r.start r.context r.frames s t.said
+      by : (fs : List Frame) (now : Now) (x : Turn) → TokenWay g l t.start t.end r.start r.context t.said r.notes fs now x → TurnLate (LateAs t.said) x
+      by _ _ _ (token_value fs q x none flat way) = value_late (LateAs t.said) (under g l) _ _ fs x way
+      by _ _ _ (token_list rs vs fs now x e way) = value_late (LateAs t.said) (under g l) _ _ fs x way
+      by _ _ _ (token_sexp rs vs fs now x e way) = value_late (LateAs t.said) (under g l) _ _ fs x way
+      by _ _ _ (token_struct rs ms fs now x e way) = value_late (LateAs t.said) (under g l) _ _ fs x way
+      by _ _ _ (token_deep [] e i) = absurd (let n : true ≡ false = sym some_level ∙ i in cc)
+      by _ _ _ (token_deep (f ∷ fs) e i) = in_struct (subst BareSaid (sym e) tt) r.start r.context r.notes f fs
+      by _ _ _ (token_unnoted fs h e x i d) = behind_colons _ i
+      by _ _ _ (token_unnamed fs s i) = behind_name (keyword_bare t.said i) r.start r.context fs [] s
+      by _ _ _ _ = tt
 
-  -- 4. What comes of the octet there.
+  -- 3. What comes of the octet there.
 
   -- an octet that is used at the scanner
   used_quiet : (again : State → Effect) (p : Place) (s : Known) (o : ℕ) (r : Reading)
@@ -233,7 +80,7 @@ module _ (g : Catalog) (l : Limits) where
   used_quiet again p s o r f (Next t) e u = noticed_quiet l r t
   used_quiet again p s o r f (Given y t) e u = said_quiet y.kind y.octets (λ c. behind_given l t (turn g l r (token_of y c))) (f y t e)
   used_quiet again p s o r f (Left y t) e u = absurd u
-  used_quiet again p s o r f (Refused n y) e u = feed_rowless p s o n y e
+  used_quiet again p s o r f (Refused n y) e u = (feed_lexical p s o n y e).1
 
   -- where nothing waits
   still_quiet : (again : State → Effect) (m : State) (x : Outcome) → settle g l m.reading ≡ goes m.reading → NotLate (on_scan g l again m.reading x)
@@ -300,7 +147,7 @@ module _ (g : Catalog) (l : Limits) where
   late_quiet n s o x _ (in_struct b start c rs f fs) colons once bare = struct_quiet n s o start c rs f fs (once b) bare
   late_quiet n s o x r (behind_colons _ e) colons once bare = absurd (colons e)
 
-  -- 5. Behind the marker of another version.
+  -- 4. Behind the marker of another version.
 
   fresh_ended : (t : Known) (start end : ℕ) (c : List Slot) (q : Payload)
       → NotLate (behind_given l t (ended (under g l) (spot_at end start c) [] (annotated [] q)))
@@ -340,4 +187,4 @@ module _ (g : Catalog) (l : Limits) where
       by x i (inl k) = subst (λ z. NotLate (behind_left again t (turn g l (fresh c) (token_of y z))))
           (sym (mark_said y.kind y.octets Mark.Colon x k.0 (said_body y.kind y.octets x i))) (λ j. j)
       by x i (inr k) = absurd (let n : false ≡ true = k.1 in cc)
-  version_quiet again s o c idle bare (Refused n y) e = feed_rowless Place.Top s o n y e
+  version_quiet again s o c idle bare (Refused n y) e = (feed_lexical Place.Top s o n y e).1

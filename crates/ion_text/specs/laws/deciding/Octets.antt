@@ -1,11 +1,13 @@
 -- An octet that is refused for a reason that rows have is refused by one of them.
 use Rattle.std.proofs.Common.{◌≡◌, ℕ, zero, suc, ◌+◌, nat_le, nat_lt, true, false, ◌&&◌, not, List, [], ◌∷◌, ◌++◌, length, take, Result, Ok, Err, Some, refl, sym, ap, ◌∙◌, subst, append_assoc, ◌⊎◌, inl, inr}
 use Rattle.std.proofs.lemmas.Bool.{cond_both}
-use Rattle.ion_text.specs.Names.{Catalog, Content, Continues, Decides, Effect, Frame, Given, HasRow, Held, IsBody, Known, Leading, Left, Lexeme, Limits, Mark, Mark', Next, NoColons, Now, Outcome, Payload, Place, Placed, Reading, Reason, Refusal, Refused, Run, Scanned, Slot, Spot, State, Symbols, TokenKind, Turn, Value, at, begun, behind_given, behind_left, by_octet, eats, fails, feed, fresh, gives, goes, held_payload, in_segment, is_colons, is_fresh, is_idle, is_top, late, leaves, noticed, on_now, on_octet, on_said, on_scan, on_settled, once_more, or_worse, paid, place, plain, reaches, reason_number, refuses, released, run, run_on, said, said_body, said_passes, settle, settle_same, shut, spot_at, system_slots, takes, token_of, trace, turn, under, unsettled, waits, waits_now, with_scan}
+use Rattle.ion_text.specs.Names.{Catalog, Content, Continues, Decides, Effect, Frame, Given, HasRow, Held, IsBody, Known, Leading, Left, Lexeme, Limits, Mark, Mark', Next, NoColons, Now, Outcome, Place, Placed, Reading, Reason, Refusal, Refused, Run, Scanned, Slot, State, Symbols, TokenKind, Turn, Value, at, begun, behind_given, behind_left, by_octet, eats, fails, feed, fresh, gives, goes, in_segment, is_colons, is_fresh, is_idle, is_top, late, leaves, noticed, on_now, on_octet, on_said, on_scan, on_settled, once_more, or_worse, place, plain, reaches, reason_number, refuses, run, run_on, said, said_body, said_passes, settle, settle_same, shut, takes, token_of, trace, turn, under, unsettled, waits, waits_now, with_scan}
+use Rattle.ion_text.specs.machine.Ways.{SettledWay, settled_held, settled_text, settled_version, settled_way}
 use Rattle.ion_tokens.proofs.runs.Scans.{placed, scanned_left}
-use Rattle.ion_text.specs.laws.deciding.Lates.{GivesNoBare, LateAs, NotLate, TurnLate, ended_late, feed_rowless, late_quiet, noticed_quiet, said_rowless, turn_late, version_quiet, within_late}
+use Rattle.ion_text.specs.laws.deciding.Lates.{GivesNoBare, LateAs, NotLate, TurnLate, late_quiet, noticed_quiet, turn_late, value_late, version_quiet}
 use Rattle.ion_text.specs.laws.deciding.Shows.{BareSaid, IsBare, Shown, flag, given_bare, given_shown, left_shown, no_colons, said_bare}
 use Rattle.ion_text.specs.laws.deciding.Turns.{Decided, TurnDecided, settled_decided, token_decided}
+use Rattle.ion_text.specs.laws.reading.Reasons.{feed_lexical, said_lexical}
 use Rattle.ion_text.specs.laws.reading.Stops.{behind_run, refused_run, stop_of, stop_taken}
 use Rattle.ion_text.specs.laws.reading.complete.Fuel.{Leaving, UsedHere, feed_leaves}
 use Rattle.ion_text.specs.laws.reading.complete.Going.{mark_kind, top_place}
@@ -30,23 +32,14 @@ module _ (g : Catalog) (l : Limits) where
   abbrev LateVersion : List Slot → List Frame → Now → Reading → Type 0
   LateVersion c fs now n = (fs ≡ []) × (n ≡ fresh c) × IsPending now
 
-  paid_late : (P : Reading → Type 0) (spot : Spot) (fs : List Frame) (ss : Symbols) (q : Result Payload Reason) → TurnLate P (paid (under g l) spot fs ss q)
-  paid_late P spot fs ss (Ok q) = ended_late P (under g l) spot fs _
-  paid_late P spot fs ss (Err e) = tt
-
-  released_late : (start end : ℕ) (c : List Slot) (fs : List Frame) (ss : Symbols) (h : Held) (now : Now) → IsPending now
-      → TurnLate (LateVersion c fs now) (released (under g l) (spot_at end start c) fs ss h)
-  released_late start end c [] [] (Held.Version true s) now i = within_late (LateVersion c [] now) l.item start end (goes (fresh system_slots)) tt
-  released_late start end c [] [] (Held.Version false s) now i = (refl, refl, i)
-  released_late start end c [] [] Held.Nan now i = tt
-  released_late start end c [] [] h now i = paid_late (LateVersion c [] now) (spot_at end start c) [] [] (held_payload h)
-  released_late start end c [] (x ∷ ss) h now i = paid_late (LateVersion c [] now) (spot_at end start c) [] (x ∷ ss) (held_payload h)
-  released_late start end c (f ∷ fs) ss h now i = paid_late (LateVersion c (f ∷ fs) now) (spot_at end start c) (f ∷ fs) ss (held_payload h)
-
   settled_late : (start : ℕ) (c : List Slot) (fs : List Frame) (ss : Symbols) (now : Now) → TurnLate (LateVersion c fs now) (settle g l (at start c fs ss now))
-  settled_late start c fs ss (Now.Pending h end) = released_late start end c fs ss h (Now.Pending h end) tt
-  settled_late start c fs ss (Now.Long v end) = ended_late (LateVersion c fs (Now.Long v end)) (under g l) (spot_at end start c) fs _
-  settled_late start c fs ss _ = tt
+  settled_late start c fs ss now = by fs now _ (settled_way g l start c fs ss now)
+    where
+      by : (fs : List Frame) (now : Now) (t : Turn) → SettledWay g l start c ss fs now t → TurnLate (LateVersion c fs now) t
+      by _ _ _ (settled_held fs h end q t flat way) = value_late (LateVersion c fs (Now.Pending h end)) (under g l) _ _ fs t way
+      by _ _ _ (settled_text fs w end t way) = value_late (LateVersion c fs (Now.Long w end)) (under g l) _ _ fs t way
+      by _ _ _ (settled_version h end) = (refl, refl, tt)
+      by _ _ _ _ = tt
 
   pending_idle : (s : Known) (now : Now) → IsPending now → Waits g l s now → is_idle s.mode ≡ true
   pending_idle s (Now.Pending h end) i w = w
@@ -107,7 +100,7 @@ module _ (g : Catalog) (l : Limits) where
             by (late y m) d = worse_rows y (noticed l m s') d (noticed_quiet l m s')
 
             go : (c : Result Content Reason) → said x.kind x.octets ≡ c → Rows (on_said c (λ c. behind_given l s' (turn g l r (token_of x c))))
-            go (Err y) k = λ i. absurd (said_rowless x.kind x.octets y k i)
+            go (Err y) k = λ i. absurd ((said_lexical x.kind x.octets y k).1 i)
             go (Ok c) k = by (turn g l r (token_of x c)) (turned x c k
                 (given_shown (place r) s u ts ahead b.scanned o next x s' (said_passes x.kind x.octets c k) c (said_body x.kind x.octets c k) e))
 
@@ -157,14 +150,14 @@ module _ (g : Catalog) (l : Limits) where
           where
             go : (c : Result Content Reason) → said x.kind x.octets ≡ c
                 → Rows (on_said c (λ c. behind_left (λ m. takes g l n m o) s' (turn g l r (token_of x c))))
-            go (Err y) k = λ i. absurd (said_rowless x.kind x.octets y k i)
+            go (Err y) k = λ i. absurd ((said_lexical x.kind x.octets y k).1 i)
             go (Ok c) k = left_by x s' e c k
 
         scan_rows : (x : Outcome) → feed (place r) s o ≡ x → Rows (on_scan g l (λ m. takes g l n m o) r x)
         scan_rows (Next t) e = noticed_rows r t
         scan_rows (Given y t) e = given_rows y t e
         scan_rows (Left y t) e = left_rows y t e
-        scan_rows (Refused i y) e = λ j. absurd (feed_rowless (place r) s o i y e j)
+        scan_rows (Refused i y) e = λ j. absurd ((feed_lexical (place r) s o i y e).1 j)
 
       -- where it was settled before the octet
       module _ (n : ℕ) (again : RowsAgain n) (s : Known) (r : Reading) (ahead : List ℕ) (next : Continues (o ∷ []) ahead) (b : Here s r ahead)

@@ -1,23 +1,21 @@
 -- Octets that are tokens up to one that is refused, or up to where something waits, lead the reader of octets there, unless an item becomes
 -- too long.
 use Rattle.std.proofs.Common.{◌≡◌, ℕ, ◌+◌, ◌<◌, ◌≤◌, nat_le, nat_lt, List, [], ◌∷◌, length, Bool, true, false, ◌&&◌, ◌||◌, not, Result, Ok, Err, Some, refl, ap, sym, ◌∙◌, subst, arith, ◌⊎◌, inl, inr}
-use Rattle.std.proofs.lemmas.Bool.{cond-false, cond_both, true_from_ne_false}
-use Rattle.std.proofs.lemmas.Bool.Decides.{nat_tests}
-use Rattle.ion_text.specs.Names.{Catalog, Content, Effect, Given, HasRow, IsBody, Known, Leading, Left, Limits, Mark, Mark', Mode, Next, Now, Outcome, Placed, Reading, Reason, Refusal, Run, State, TokenKind, Turn, Value, at_end, behind_given, behind_left, continues, eats, fails, feed, gives, goes, is_closing, is_idle, is_quoted, is_quoting, is_sane, is_top, is_two_quotes, late, leaves, lesser, noticed, on_said, on_scan, once_more, or_worse, place, reaches, reason_number, refuses, run, run_on, said, said_body, settle, settle_same, settle_still, shut, takes, tells, token_at, token_of, turn, turn_now, under, uses, waits, waits_now, with_scan}
+use Rattle.std.proofs.lemmas.Bool.{cond-false, cond_both, ltb-true}
+use Rattle.ion_text.specs.Names.{Catalog, Effect, Given, HasRow, IsBody, Known, Leading, Left, Limits, Mode, Next, Outcome, Placed, Reading, Reason, Refusal, Run, State, Turn, at_end, behind_given, behind_left, continues, eats, fails, feed, gives, goes, is_closing, is_idle, is_sane, is_top, is_two_quotes, late, leaves, lesser, noticed, on_said, on_scan, once_more, or_worse, place, reaches, reason_number, refuses, run, run_on, said_body, settle, settle_same, settle_still, shut, takes, tells, token_of, turn, uses, waits, with_scan}
 use Rattle.ion_tokens.proofs.runs.Runs.{feed_used}
 use Rattle.ion_tokens.proofs.runs.Splits.{given_one, left_one}
 use Rattle.ion_text.specs.laws.deciding.Heading.{Heads, IsLast, Turned, TurnsTo, settled_heads}
 use Rattle.ion_text.specs.laws.deciding.Shows.{IsBare}
-use Rattle.ion_text.specs.laws.reading.complete.Accepts.{DirectAt, SettledCalm, always_calm, eats_direct, eats_settled, exactly_as, fresh_top, idle_calm, long_refused, mark_said, ready_still, settle_settled, still_calm, turn_ok, waits_calm}
+use Rattle.ion_text.specs.laws.reading.complete.Accepts.{DirectAt, Onto, SettledCalm, eats_direct, eats_settled, exactly_as, idle_calm, left_run, settle_settled, still_calm, turn_ok, waits_calm}
 use Rattle.ion_text.specs.laws.reading.complete.Exact.{Exact}
-use Rattle.ion_text.specs.laws.reading.complete.Fuel.{Leaving, UsedHere, eats_stays, feed_leaves, more_same, twice_fuel}
-use Rattle.ion_text.specs.laws.reading.complete.Going.{Direct, Operators, TopOk, closes_kind, gives_top, mark_kind, no_operator}
-use Rattle.ion_text.specs.laws.reading.complete.Meets.{IdleLeft, MeetsNext, begun_closing, ends_next, finely_as, follows_as, idle_left, next_given, next_left, next_on}
+use Rattle.ion_text.specs.laws.reading.complete.Going.{Direct, Operators, TopOk, mark_kind}
+use Rattle.ion_text.specs.laws.reading.complete.Meets.{MeetsNext, begun_closing, ends_next, finely_as, follows_as, next_given, next_left, next_on}
 use Rattle.ion_text.specs.laws.reading.complete.Quiet.{CalmNow, ClosingSaid, EndedIn, calm_now, shut_said, shut_still}
 use Rattle.ion_text.specs.laws.reading.complete.Segments.{NotRefused}
-use Rattle.ion_text.specs.laws.reading.complete.Tokens.{given_agrees, left_agrees, left_colons, left_two, next_agrees, quoting_left, segment_agree}
-use Rattle.ion_text.specs.laws.reading.sound.Quotes.{Fine, Finely, given_far}
-use Rattle.ion_text.specs.laws.reading.sound.Spans.{IsClose, IsTopNow, Spans, turn_spans}
+use Rattle.ion_text.specs.laws.reading.complete.Tokens.{given_agrees, left_agrees, left_colons, left_two, next_agrees}
+use Rattle.ion_text.specs.laws.reading.sound.Quotes.{Fine, given_far}
+use Rattle.ion_text.specs.laws.reading.sound.Spans.{IsTopNow, turn_spans}
 use Rattle.ion_text.specs.laws.reading.sound.StandsOpen.{start_now}
 
 -- 1. What the scanner meets.
@@ -54,16 +52,13 @@ module _ (ByOctet : Type 0) (Rest : Known → List ℕ → Type 0) (some : (s : 
 
 -- 2. Reasons.
 
-less_most : (a b : ℕ) → nat_lt a b ≡ true → a ≤ b
-less_most a b h = grind (arith, nat_tests)
-
 -- refused for a reason, or for one with a smaller number
 pub worse_less : (f : Reason) (x : Effect) → (h : Reason) × (or_worse f x ≡ fails h) × (reason_number h ≤ reason_number f)
 worse_less f (fails y) = (
   lesser f y,
   refl,
   cond_both (nat_lt (reason_number y) (reason_number f)) y f (λ x. reason_number x ≤ reason_number f)
-      (λ i. less_most (reason_number y) (reason_number f) i) (λ i. omega arith),
+      (λ i. omega (arith, ltb-true (reason_number y) (reason_number f) i)) (λ i. omega arith),
 )
 worse_less f _ = (f, refl, omega arith)
 
@@ -84,26 +79,6 @@ module _ (g : Catalog) (l : Limits) where
     unexpected_never : (x : Turn) (ts : List Placed) → x ≡ refuses Reason.Unexpected → Turned g l e Done Refused x ts → ⊥
     unexpected_never x ts i h = let k : IsLast g l e Done Refused ts × (Reason.Unexpected ≡ e) = subst (λ y. Turned g l e Done Refused y ts) i h in
         subst HasRow (sym k.1) row
-
-    -- where something waited at the top level, a colon doesn't follow
-    settled_colon : (r : Reading) (t : Placed) (ts : List Placed) (h : Heads g l e Done Refused r (t ∷ ts)) → is_top r.frames ≡ true → TopOk g l r
-        → continues r (token_of t.lexeme h.1) ≡ false → t.lexeme.kind ≡ TokenKind.Mark Mark.Colon → ⊥
-    settled_colon r t ts h top ok w i = by (settle g l r) (settle_same g l r.start r.context r.frames r.notes r.now)
-        (settle_settled g l r.start r.context r.frames r.notes r.now ok) (h.4 w)
-      where
-        c : h.1 ≡ Mark' Mark.Colon
-        c = mark_said t.lexeme.kind t.lexeme.octets Mark.Colon h.1 i (said_body t.lexeme.kind t.lexeme.octets h.1 h.2)
-
-        never : (k : Reading) → k.now ≡ Now.Ready → Turned g l e Done Refused (turn g l k (token_of t.lexeme h.1)) ts → ⊥
-        never k n d = unexpected_never (turn g l k (token_of t.lexeme h.1)) ts
-            (ap (λ y. turn g l k (token_of t.lexeme y)) c
-            ∙ ap (turn_now (under g l) k (token_at t.lexeme.start t.lexeme.end (Mark' Mark.Colon))) n) d
-
-        by : (x : Turn) → Leading g l (λ n. (place n ≡ place r) × (is_top n.frames ≡ is_top r.frames)) x → SettledCalm g l x
-            → TurnsTo g l e Done Refused (λ k. Turned g l e Done Refused (turn g l k (token_of t.lexeme h.1)) ts) ⊥ x → ⊥
-        by (goes k) a b d = never k (always_calm g l k.now (λ m. b m (a.1 ∙ top))) d
-        by (gives v k) a b d = never k (always_calm g l k.now (λ m. b m (a.1 ∙ top))) d
-        by _ a b d = d.0
 
     -- behind an element or a name no token has begun but a mark of one octet
     pub not_shut : (r : Reading) (t : Placed) (ts : List Placed) (h : Heads g l e Done Refused r (t ∷ ts)) (s : Known) → MeetsNext s t → is_sane s.mode ≡ true
@@ -296,129 +271,28 @@ module _ (g : Catalog) (l : Limits) where
       module _ (to : ℕ) (os : List ℕ) (ts : List Placed) (r : Reading) (h : H r (t ∷ ts)) (i : feed (place r) s o ≡ Left t.lexeme s') (calm : TopCalm s r)
           (never : IsLast g l e Done Refused ts → ⊥)
           (onward : (k : Reading) → TopCalm s' k → H k ts → Good (run g l to (with_scan s' k) (o ∷ os)).now) where
-        f : Finely s.mode (Left t.lexeme s')
-        f = finely_as (place r) s o (Left t.lexeme s') fine i
+        abbrev Onward : Unit {0} → (Reading → Type 0) → Turn → Type 0
+        Onward u P = Onto g l (Unit {0}) (λ u v w. Unit {0}) (λ u. P) u
 
-        ok : TopOk g l r
-        ok top = calm_now r.now s.mode (calm top)
+        turned : (u : Unit {0}) (x : Turn) → T x ts → Onward u (λ n. H n ts) x
+        turned u (goes n) d = d
+        turned u (gives v n) d = (tt, tt, d)
+        turned u _ d = absurd (never d.0)
 
-        abbrev next : State → Run
-        next = λ n. run g l (to + 1) n os
+        settled : (u : Unit {0}) (k : Reading) (d : H k (t ∷ ts)) (x : Turn)
+            → Leading g l (λ n. (place n ≡ place k) × (is_top n.frames ≡ is_top k.frames)) x → Leading g l (λ n. settle g l n ≡ goes n) x
+            → TurnsTo g l e Done Refused (λ n. T (turn g l n (token_of t.lexeme d.1)) ts) ⊥ x → Onward u (λ n. H n (t ∷ ts)) x
+        settled u k d (goes n) a b j = settled_heads g l e Done Refused k n t ts d a.0 b j
+        settled u k d (gives v n) a b j = (tt, tt, settled_heads g l e Done Refused k n t ts d a.0 b j)
+        settled u k d _ a b j = absurd j.0
 
-        leaving : Leaving o (Left t.lexeme s')
-        leaving = subst (Leaving o) i (feed_leaves (place r) s o fine)
-
-        no_close : (c : Content) → said t.lexeme.kind t.lexeme.octets ≡ Ok c → IsClose false c → ⊥
-        no_close c j k = let n : true ≡ false = sym (closes_kind t.lexeme.kind t.lexeme.octets c k (said_body t.lexeme.kind t.lexeme.octets c j)) ∙ f.5 in cc
-
-        -- behind what was settled
-        behind : (k : Reading) (d : H k (t ∷ ts)) → TopOk g l k → settle g l k ≡ goes k → (x : Effect)
-            → x ≡ on_scan g l (λ n. takes g l 2 n o) k (Left t.lexeme s') → Good (run_on to (λ n. eats g l n o) next x).now
-        behind k d fits still x same =
-            subst (λ y. Good (run_on to (λ n. eats g l n o) next y).now)
-            (sym (same ∙ ap (λ y. on_said y (λ c. behind_left (λ n. takes g l 2 n o) s' (turn g l k (token_of t.lexeme c)))) d.2))
-            (by (turn g l k (token_of t.lexeme d.1)) (turn_spans g l k (token_of t.lexeme d.1) fits) (d.3 (inr still)))
-          where
-            start : ℕ
-            start = start_now k.now k.start t.lexeme.start k.frames k.notes
-
-            top_of : (n : Reading) → Spans (is_top k.frames) d.1 l.item start t.lexeme.end (goes n) → is_top n.frames ≡ true → (b : Bool) → is_top k.frames ≡ b
-                → b ≡ true
-            top_of n q j true z = refl
-            top_of n (inl (inl q, from, to)) j false z = absurd (let x : true ≡ false = sym j ∙ q in cc)
-            top_of n (inl (inr (q, new, ok), from, to)) j false z = absurd (let x : true ≡ false = sym q ∙ z in cc)
-            top_of n (inr q) j false z = absurd (no_close d.1 d.2 (subst (λ b. IsClose b d.1) z q.1))
-
-            idle : is_top k.frames ≡ true → is_idle s'.mode ≡ true
-            idle top = elim f.4 [
-              | inl j ↦ j
-              | inr j ↦ absurd (no_operator g l k t top d.0 ops.0 j)
-            ]
-
-            calm' : (n : Reading) → Spans (is_top k.frames) d.1 l.item start t.lexeme.end (goes n) → TopCalm s' n
-            calm' n q top = idle_calm n.now s'.mode (turn_ok g l k d.1 l.item start t.lexeme.end (goes n) q top).0 (idle (top_of n q top (is_top k.frames) refl))
-
-            used : (v : Value) (n : Reading) → Spans (is_top k.frames) d.1 l.item start t.lexeme.end (gives v n) → UsedHere s' o
-            used v n q = elim leaving.0 [
-              | inl j ↦ j
-              | inr j ↦ absurd (by' (is_top k.frames) refl j)
-            ]
-              where
-                by' : (b : Bool) → is_top k.frames ≡ b → t.lexeme.kind ≡ TokenKind.Operator → ⊥
-                by' true z j = no_operator g l k t z d.0 ops.0 j
-                by' false z j = no_close d.1 d.2 (subst (λ b. IsClose b d.1) z q.1)
-
-            by : (y : Turn) → Spans (is_top k.frames) d.1 l.item start t.lexeme.end y → T y ts
-                → Good (run_on to (λ n. eats g l n o) next (behind_left (λ n. takes g l 2 n o) s' y)).now
-            by (goes n) q j = subst (λ z. Good (run_on to (λ n. eats g l n o) next z).now) (sym (twice_fuel g l (with_scan s' n) o leaving.1))
-                (onward n (calm' n q) j)
-            by (gives v n) q j =
-                let ready = fresh_top n q.2 in
-                subst (λ z. Good z.now) (sym (more_same g l to (λ n. eats g l n o) next (eats g l (with_scan s' n) o)
-                (eats_stays g l n s' o (ready_still g l n ready) (used v n q (place n)))))
-                (onward n (λ top. subst (λ z. CalmNow z s'.mode) (sym ready) tt) j)
-            by _ q j = absurd (never j.0)
-
-        shut_off : waits r (Left t.lexeme s') ≡ false → continues r (token_of t.lexeme h.1) ≡ false
-        shut_off w = sym (left_direct r ts h i) ∙ w
-
-        -- nothing that waits at the top level is ended by a token that is left
-        never_gives : (n : Now) → r.now ≡ n → is_top r.frames ≡ true → waits r (Left t.lexeme s') ≡ false → CalmNow n s.mode → (n ≡ Now.Ready → ⊥) → ⊥
-        never_gives Now.Ready x top w c z = z refl
-        never_gives (Now.Pending q b) x top w c z = idle (subst (IdleLeft (place r) s.used) i (idle_left (place r) s o c))
-          where
-            idle : IdleLeft (place r) s.used (Left t.lexeme s') → ⊥
-            idle (inl j) = settled_colon e row Done Refused r t ts h top ok (shut_off w) j.0
-            idle (inr j) = no_operator g l r t top h.0 ops.0 j.0
-        never_gives (Now.Long v b) x top w c z = by (is_idle s.mode) refl
-          where
-            idle : IdleLeft (place r) s.used (Left t.lexeme s') → ⊥
-            idle (inl j) = settled_colon e row Done Refused r t ts h top ok (shut_off w) j.0
-            idle (inr j) = no_operator g l r t top h.0 ops.0 j.0
-
-            by : (j : Bool) → is_idle s.mode ≡ j → ⊥
-            by true j = idle (subst (IdleLeft (place r) s.used) i (idle_left (place r) s o j))
-            by false j =
-                let q : is_quoting s.mode ≡ true = sym (ap (λ b. b || is_quoting s.mode) j) ∙ c in
-                let k = quoting_left (place r) s s' o t.lexeme exactly q i in
-                let n : true ≡ false = sym (ap is_quoted k.0) ∙ (sym (ap (λ b. b && is_quoted t.lexeme.kind) top)
-                ∙ (ap (λ b. waits_now (is_top r.frames) b (Left t.lexeme s')) (sym x) ∙ w)) in cc
-        never_gives Now.After x top w c z = c
-        never_gives _ x top w c z = c
-
-        settled : (x : Turn) → settle g l r ≡ x → waits r (Left t.lexeme s') ≡ false
-            → Leading g l (λ n. (place n ≡ place r) × (is_top n.frames ≡ is_top r.frames)) x → Leading g l (λ n. settle g l n ≡ goes n) x → SettledCalm g l x
-            → TurnsTo g l e Done Refused (λ k. T (turn g l k (token_of t.lexeme h.1)) ts) ⊥ x → Good (run g l to (with_scan s r) (o ∷ os)).now
-        settled (goes k) j w a b c d =
-            behind k (settled_heads g l e Done Refused r k t ts h a.0 b d) (settled_ok k c) b (eats g l (with_scan s r) o)
-            (eats_settled g l s o r (Left t.lexeme s') (goes k) i tt w j)
-        settled (gives v k) j w a b c d = absurd (never' r.now refl)
-          where
-            top : is_top r.frames ≡ true
-            top = true_from_ne_false (is_top r.frames) (λ z. gives_top g l r v k z j)
-
-            never' : (n : Now) → r.now ≡ n → ⊥
-            never' n x = never_gives n x top w (subst (λ z. CalmNow z s.mode) x (calm top))
-                (λ z. let q : goes r ≡ gives v k = sym (ready_still g l r (x ∙ z)) ∙ j in cc)
-        settled (refuses z) j w a b c d = absurd d.0
-        settled (late z k) j w a b c d = absurd d.0
-
-        waited : (n : Now) → r.now ≡ n → waits_now (is_top r.frames) n (Left t.lexeme s') ≡ true → continues r (token_of t.lexeme h.1) ≡ true → ⊥
-        waited (Now.Long v b) x w q =
-            let body = said_body t.lexeme.kind t.lexeme.octets h.1 h.2 in
-            unexpected_never e row Done Refused (turn g l r (token_of t.lexeme h.1)) ts
-            (ap (turn_now (under g l) r (token_of t.lexeme h.1)) x
-            ∙ long_refused g l t.lexeme.start t.lexeme.end r.start r.context r.frames r.notes h.1 v b
-            (sym (segment_agree t.lexeme.kind t.lexeme.octets h.1 body) ∙ f.1)) (h.3 (inl q))
-        waited _ x w d = absurd cc
-
-        left_run : Good (run g l to (with_scan s r) (o ∷ os)).now
-        left_run = go (waits r (Left t.lexeme s')) refl
-          where
-            go : (b : Bool) → waits r (Left t.lexeme s') ≡ b → Good (run g l to (with_scan s r) (o ∷ os)).now
-            go true w = absurd (waited r.now refl w (sym (left_direct r ts h i) ∙ w))
-            go false w = settled (settle g l r) refl w (settle_same g l r.start r.context r.frames r.notes r.now)
-                (settle_still g l r.start r.context r.frames r.notes r.now) (settle_settled g l r.start r.context r.frames r.notes r.now ok) (h.4 (shut_off w))
+        left_good : Good (run g l to (with_scan s r) (o ∷ os)).now
+        left_good =
+            left_run g l (Unit {0}) (λ u v w. Unit {0}) t (λ u n. H n (t ∷ ts)) (λ u n. H n ts) (λ u n d. (d.0, d.1, d.2))
+            (λ u n d w. turned u (turn g l n (token_of t.lexeme d.1)) (d.3 w))
+            (λ u n d w. settled u n d (settle g l n) (settle_same g l n.start n.context n.frames n.notes n.now)
+            (settle_still g l n.start n.context n.frames n.notes n.now) (d.4 w))
+            (λ u R. Good R.now) (λ u w v to R c h. h) s s' o sane fine exactly ops.0 to os tt r i calm h (λ u n c d. onward n (λ top. (c top).0) d)
 
     -- Octets in which the scanner meets such tokens lead there.
     pub reached : (s : Known) (os : List ℕ) (ts : List Placed) → S s os ts → is_sane s.mode ≡ true → Fine s → Exact s → Operators ts → (to : ℕ)
@@ -468,5 +342,5 @@ module _ (g : Catalog) (l : Limits) where
         let here : feed (place r) s o ≡ Left t.lexeme s' = ap (λ q. feed q s o) (sym h.0) ∙ i in
         let f = finely_as (place r) s o (Left t.lexeme s') fine here in
         let used = left_one (place r) o s s' t.lexeme here in
-        left_run s s' o t sane fine ex (ops.0, tt) to os ts r h here calm (never_last s' (o ∷ os) ts m)
+        left_good s s' o t sane fine ex (ops.0, tt) to os ts r h here calm (never_last s' (o ∷ os) ts m)
         (λ n c d. reached s' (o ∷ os) ts m f.3 f.0 (exactly_as g l (place r) s o (Left t.lexeme s') ex here) ops.1 to all (omega (arith, used, at)) n c d)

@@ -1,11 +1,12 @@
 -- What octets show of a token that ends with the last of them, or before it.
 use Rattle.std.proofs.Common.{◌≡◌, ℕ, zero, suc, ◌+◌, List, [], ◌∷◌, ◌++◌, length, take, Bool, true, false, ◌||◌, Ok, refl, sym, ap, ◌∙◌, subst, append-nil, length-append, arith, ◌⊎◌, inl, inr, codes}
-use Rattle.ion_text.specs.Names.{Are, AwaitsColons, BeginsWith, BlankThen, Blob, Clob, Content, Continues, Given, Id, IsBody, IsLexeme, Known, Left, Lexeme, LexesTo, Long, Mark, Mark', Mode, Next, NoColons, Number', Operator, Place, Placed, Quoted, Scanned, Short, Sight, TokenKind, TypedNull, Word, by_octet, colon_behind, end_of, feed, is_closing, is_idle, is_keyword, is_sane, is_version, scan as run, symbol_waits}
+use Rattle.ion_text.specs.Names.{Are, AwaitsColons, BeginsWith, BlankThen, Content, Continues, Given, Id, IsBody, IsLexeme, Known, Left, Lexeme, LexesTo, Mark, Mark', Mode, Next, NoColons, Operator, Place, Placed, Scanned, Sight, TokenKind, TypedNull, Word, by_octet, colon_behind, end_of, feed, is_closing, is_idle, is_keyword, is_sane, is_version, scan as run, symbol_waits}
 use Rattle.ion_tokens.specs.Lexed.{Passes}
 use Rattle.ion_tokens.proofs.complete.Moves.{at}
 use Rattle.ion_tokens.proofs.runs.Scans.{placed}
 use Rattle.ion_tokens.proofs.sound.Holds.{InMode, IsTold, Sound}
 use Rattle.ion_tokens.proofs.sound.Sounds.{feed_sound}
+use Rattle.ion_text.specs.laws.reading.complete.Complete.{body_kind, kind_said}
 use Rattle.ion_text.specs.laws.reading.complete.Going.{mark_kind}
 use Rattle.ion_text.specs.laws.reading.complete.Meets.{IdleLeft, end_spans, follows_as, idle_left}
 use Rattle.ion_text.specs.laws.reading.complete.Segments.{never}
@@ -56,25 +57,16 @@ BareSaid (TypedNull k) = Unit {0}
 BareSaid (Mark' Mark.FieldsOpen) = Unit {0}
 BareSaid _ = ⊥
 
-mark_bare : (m : Mark) → BareSaid (Mark' m) → IsBare (TokenKind.Mark m)
-mark_bare Mark.FieldsOpen h = tt
-mark_bare _ h = absurd h
-
-other_bare : (c d : Content) → c ≡ d → (BareSaid d → ⊥) → BareSaid c → ⊥
-other_bare c d e n h = n (subst BareSaid e h)
+kind_bare : (c : Content) → BareSaid c → IsBare (kind_said c)
+kind_bare (Word w) h = tt
+kind_bare (Id id) h = tt
+kind_bare (TypedNull k) h = tt
+kind_bare (Mark' Mark.FieldsOpen) h = tt
+kind_bare _ h = absurd h
 
 -- what says a word, an id, a typed null or the `{` of a struct is a token that the octet behind it shows
 pub said_bare : (k : TokenKind) (octets : List ℕ) (c : Content) → IsBody k octets (Ok c) → BareSaid c → IsBare k
-said_bare TokenKind.Number octets (Number' n) b h = absurd h
-said_bare TokenKind.Number octets _ b h = absurd b
-said_bare TokenKind.Operator octets c b h = absurd (other_bare c (Operator octets) b.0 (λ x. x) h)
-said_bare TokenKind.QuotedSymbol octets c b h = absurd (other_bare c (Quoted octets) b.0 (λ x. x) h)
-said_bare TokenKind.ShortString octets c b h = absurd (other_bare c (Short octets) b.0 (λ x. x) h)
-said_bare TokenKind.LongString octets c b h = absurd (other_bare c (Long octets) b.0 (λ x. x) h)
-said_bare TokenKind.Clob octets c b h = absurd (other_bare c (Clob octets) (let e : c ≡ Clob octets = cc in e) (λ x. x) h)
-said_bare TokenKind.Blob octets c b h = absurd (other_bare c (Blob octets) (let e : c ≡ Blob octets = cc in e) (λ x. x) h)
-said_bare (TokenKind.Mark m) octets c b h = mark_bare m (subst BareSaid (let e : c ≡ Mark' m = cc in e) h)
-said_bare _ octets c b h = tt
+said_bare k octets c b h = subst IsBare (sym (body_kind k octets c b)) (kind_bare c h)
 
 -- what says a keyword, a version, an id or a typed null, of which alone the end decides
 abbrev pub EndSaid : Content → Type 0

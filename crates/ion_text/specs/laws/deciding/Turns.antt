@@ -1,10 +1,10 @@
 -- What a token is refused for, and what waits, is a row of the table.
 use Rattle.std.proofs.Common.{◌≡◌, ℕ, ◌+◌, ◌≤◌, nat_le, nat_lt, List, [], ◌∷◌, ◌++◌, length, Bool, true, false, ◌&&◌, ◌||◌, Result, Ok, Err, Option, Some, refl, sym, ap, ◌∙◌, subst, append_assoc, arith, codes, if◌then◌else◌, inl, inr}
-use Rattle.std.proofs.lemmas.Bool.{cond_both}
-use Rattle.std.proofs.lemmas.Bool.Decides.{nat_tests}
+use Rattle.std.proofs.lemmas.Bool.{cond_both, ltb-false}
 use Rattle.std.specs.Str.{bytes_eq}
 use Rattle.std.proofs.lemmas.Slice.Eq.{bytes_eq-Decides}
 use Rattle.ion_text.specs.Names.{Blob, Bracket, Catalog, Clob, Content, Field, Frame, HasRow, Held, Id, InStruct, IsKeyword, Kind, Limits, Listing, Long, Mark, Mark', Means, Now, Number, Number', Operator, Payload, Pieces, Place, Placed, Quoted, Reason, Says, Short, Sight, Slot, Symbols, Turn, TypedNull, Value, Word, annotated, at, bad_table, begins_as_long, begun_at, bracket_in, close_place, closed, deeper, ended, ends_long, fresh, gives, goes, held_symbol, held_word, is_fields, is_keyword, is_table, is_version, keyed, keyword_as_annotation, keyword_as_name, late, layer_kind, means, named, names_table, next, no_symbol, noted, null_table, number_payload, on_after, on_comma, on_keyed, on_long, on_long_name, on_name, on_pending, on_ready, one_token, other_version, pending_at, place_in, refuses, released, resolve, resolved, settle, spot_at, struct_too_deep, system_slots, the_marker, token_at, too_deep, turn_now, turned, under, within}
+use Rattle.ion_text.specs.machine.Ways.{flat_held}
 use Rattle.ion_model.specs.declared.value.Payload.TheVariants as payloads
 use Rattle.ion_model.specs.declared.value.Payload.TheViews as views
 use Rattle.ion_text.specs.Deciding.{Ends, Gives}
@@ -12,7 +12,7 @@ use Rattle.ion_text.specs.laws.deciding.Openings.{begins_so, containers, levels_
 use Rattle.ion_text.specs.laws.deciding.Shows.{Shown}
 use Rattle.ion_text.specs.laws.reading.Brackets.{Closes, closes_or_not, ends_list, ends_none, ends_sexp, ends_struct}
 use Rattle.ion_text.specs.laws.reading.complete.Segments.{never}
-use Rattle.ion_text.specs.laws.reading.sound.Depths.{Deep, flat_null}
+use Rattle.ion_text.specs.laws.reading.sound.Depths.{Deep, flat_depth}
 use Rattle.ion_text.specs.laws.reading.sound.Held.{none_noted}
 use Rattle.ion_text.specs.laws.reading.sound.StandsOpen.{IsHeld, NowStands, Opened, PendingFor, ReadyFor, symbol_said, value_place}
 
@@ -31,9 +31,6 @@ pub flat_number : (n : Number) → is_fields (layer_kind (views.out-Payload (num
 flat_number (Number.Int z) = ap (λ y. is_fields (layer_kind y)) (views.outs-Int z)
 flat_number (Number.Decimal d) = ap (λ y. is_fields (layer_kind y)) (views.outs-Decimal d)
 flat_number (Number.Timestamp t) = ap (λ y. is_fields (layer_kind y)) (views.outs-Timestamp t)
-
-not_less : (a b : ℕ) → nat_lt a b ≡ false → b ≤ a
-not_less a b h = grind (arith, nat_tests)
 
 -- a word that is held as no symbol
 word_keyword : (w : List ℕ) (e : Reason) → held_symbol (held_word w) ≡ Err e → (is_keyword w ≡ true) × (Reason.KeywordAsName ≡ e)
@@ -123,7 +120,7 @@ module _ (g : Catalog) (l : Limits) (sight : Sight) where
   deeper_decided : (fs : List Frame) (t deep : Turn) → TurnDecided t → (l.depth ≤ length (containers fs) → TurnDecided deep)
       → TurnDecided (deeper l.depth fs t deep)
   deeper_decided fs t deep h k =
-      cond_both (nat_lt (length fs) l.depth) t deep TurnDecided (λ e. h) (λ e. k (omega (arith, not_less (length fs) l.depth e, levels_same fs)))
+      cond_both (nat_lt (length fs) l.depth) t deep TurnDecided (λ e. h) (λ e. k (omega (arith, ltb-false (length fs) l.depth e, levels_same fs)))
 
   -- a list or an s-expression is closed
   items_decided : (start end : ℕ) (c : List Slot) (listing : Listing) (fs : List Frame)
@@ -303,7 +300,7 @@ module _ (g : Catalog) (l : Limits) (sight : Sight) where
                 subst (λ x. Means c Place.Top x v) alone
                 (means Place.Top d.ready.notes (d.token ∷ []) ss (payloads.Null k) d.ready.noted
                 (one_token Place.Top d.token d.said (payloads.Null k) d.says (d.stood.value (payloads.Null k) refl)));
-            deep = let flat = flat_null ss k in omega (arith, flat);
+            deep = let flat = flat_depth ss (payloads.Null k) (flat_held (Held.Null k)) in omega (arith, flat);
             apart = apart;
           }
 

@@ -15,14 +15,14 @@ use Rattle.ion_text.specs.laws.deciding.Openings.{begins_so, containers}
 use Rattle.ion_text.specs.laws.deciding.Shows.{EndSaid, IsBare, NoLetters, end_bare, k, no_letters, said_bare}
 use Rattle.ion_text.specs.laws.deciding.Tokens.{Refusing, null_apart, read_to, refusing_is, refusing_stops, word_apart}
 use Rattle.ion_text.specs.laws.reading.complete.Complete.{pending_goes, released_paid}
-use Rattle.ion_text.specs.laws.reading.complete.Going.{mark_kind}
+use Rattle.ion_text.specs.laws.reading.complete.Going.{mark_kind, settled_reads}
 use Rattle.ion_text.specs.laws.reading.complete.Segments.{never}
 use Rattle.ion_text.specs.laws.reading.sound.Held.{no_notes}
 use Rattle.ion_text.specs.laws.reading.sound.StandsOpen.{symbol_said}
 use Rattle.ion_text.specs.laws.showing.shown.Opened.{blank_token, colons_token, symbol_colon}
 use Rattle.ion_text.specs.laws.showing.tokens.Compare.{lexes_once}
 use Rattle.ion_text.specs.laws.showing.tokens.Cuts.{parted}
-use Rattle.ion_text.specs.laws.showing.tokens.Walks.{behind_read, settled_reads, walking_said}
+use Rattle.ion_text.specs.laws.showing.tokens.Walks.{behind_read, walking_said}
 
 -- a word of the form of a marker is held as one
 version_held : (w : List ℕ) → is_version w ≡ true → w ≢ the_marker → held_word w ≡ Held.Version false (Some w)

@@ -1,194 +1,92 @@
 -- Why octets are refused: for their own sake.
-use Rattle.std.proofs.Common.{◌≡◌, ℕ, zero, suc, ◌+◌, nat_le, nat_lt, List, [], ◌∷◌, length, Bool, true, false, cond, Result, Ok, Err, Option, Some, None, refl, ap, sym, subst, if◌then◌else◌, ◌⊎◌, inl, inr}
+use Rattle.std.proofs.Common.{◌≡◌, ℕ, zero, suc, ◌+◌, nat_lt, List, [], ◌∷◌, Bool, true, false, cond, Result, Ok, Err, Option, Some, None, refl, ap, sym, subst, if◌then◌else◌, ◌⊎◌, inl, inr}
 use Rattle.std.specs.Prelude.{◌==◌}
 use Rattle.ion_text.specs.laws.reading.Effects.{noticed_each, said_each}
 use Rattle.std.proofs.lemmas.Bool.{cond_both}
-use Rattle.ion_text.specs.Names.{Blob, Bracket, Catalog, Clob, Content, Effect, End, Frame, Given, Held, Id, IsBody, IsWordBody, Keep, Kind, Known, Left, Lexeme, Limits, Listing, Long, Mark, Mark', Mode, Next, Now, Number', Operator, Outcome, Payload, Place, Reading, ReadsNumber, Reason, Refusal, Refused, Run, Setting, Short, Slot, Spot, State, Symbols, Token, TokenKind, Turn, Value, Word, at, at_end, begun, begun_at, behind_given, behind_left, closed, cut_short, deeper, eats, end_late, end_now, end_of, end_ready, end_said, end_settled, end_turned, end_waiting, ended, ends_at, ends_of, fails, feed, follow, fresh, gives, goes, held_payload, held_symbol, id_of, is_fresh, is_keyword, is_sexp, is_table, keyed, kind_named, late, leaves, lesser, named, next, noted, noticed, null_of, on_after, on_comma, on_keyed, on_long, on_long_name, on_name, on_pending, on_ready, on_scan, on_settled, once_more, or_worse, paid, place, reason_number, refused_of, refuses, released, resolve, resolved, run, run_on, said, says, settle, spot_at, spot_in, takes, tells, token_at, token_of, trace, turn, turn_now, turned, under, unsettled, uses, with_scan, within}
+use Rattle.ion_text.specs.Names.{HasRow, Blob, Catalog, Clob, Content, Effect, End, Frame, Given, IsBody, IsWordBody, Keep, Kind, Known, Left, Lexeme, Limits, Long, Mark, Mode, Next, Now, Operator, Outcome, Place, Reading, ReadsNumber, Reason, Refusal, Refused, Run, Spot, State, Token, TokenKind, Turn, Value, Word, at_end, begun, behind_given, behind_left, cut_short, eats, end_late, end_now, end_of, end_ready, end_said, end_settled, end_turned, end_waiting, ends_at, ends_of, fails, feed, follow, gives, goes, id_of, is_fresh, is_sexp, kind_named, late, leaves, lesser, noticed, null_of, on_scan, on_settled, once_more, or_worse, place, reason_number, refused_of, refuses, run, run_on, said, says, settle, takes, tells, token_of, trace, turn, under, unsettled, uses, with_scan}
 use Rattle.ion_tokens.proofs.bounds.Causes.{IsFair, run_fair}
 use Rattle.ion_tokens.proofs.bounds.Fits.{is_octet_reason}
-use Rattle.ion_symtab.specs.Decided.{Decides, IsDecided}
-use Rattle.ion_symtab.specs.laws.Decided.{next_decides, resolve_decides}
-use Rattle.ion_text.specs.laws.reading.Brackets.{Closes, bare_each, closes_or_not, ends_list, ends_none, ends_sexp, ends_struct}
+use Rattle.ion_symtab.specs.Decided.{IsDecided}
+use Rattle.ion_text.specs.machine.Ways.{SettledWay, TokenWay, ValueWay, now_way, settled_held, settled_refused, settled_text, settled_way, token_list, token_refused, token_sexp, token_struct, token_unnoted, token_value, value_refused}
 
 abbrev pub TurnDecides : Turn → Type 0
 TurnDecides (refuses e) = IsDecided e
 TurnDecides (late e r) = IsDecided e
 TurnDecides _ = Unit {0}
 
-within_decides : (item start end : ℕ) (t : Turn) → TurnDecides t → TurnDecides (within item start end t)
-within_decides item start end t h = cond_both (nat_le end (start + item)) t (refuses Reason.ItemTooLong) TurnDecides (λ e. h) (λ e. tt)
+-- What a scanner refuses for, and what a token that says nothing is refused for: octets decide it, and no row of the table has it.
+abbrev pub IsLexical : Reason → Type 0
+IsLexical e = IsDecided e × (HasRow e → ⊥)
 
-top_decides : (item start end : ℕ) (c : List Slot) (v : Value) (d : Result (List Slot) Reason) (b : Bool) → Decides d
-    → TurnDecides (if b then turned item start end d else within item start end (gives v (fresh c)))
-top_decides item start end c v (Ok d) true h = within_decides item start end (goes (fresh d)) tt
-top_decides item start end c v (Err e) true h = h
-top_decides item start end c v d false h = within_decides item start end (gives v (fresh c)) tt
+octet_lexical : (e : Reason) → is_octet_reason e ≡ true → IsLexical e
+octet_lexical Reason.Float h = (tt, λ i. i)
+octet_lexical Reason.BadEscape h = (tt, λ i. i)
+octet_lexical Reason.BadUtf8 h = (tt, λ i. i)
+octet_lexical Reason.BadBase64 h = (tt, λ i. i)
+octet_lexical Reason.Ambiguous h = (tt, λ i. i)
+octet_lexical Reason.Unexpected h = (tt, λ i. i)
+octet_lexical _ h = absurd cc
 
-ended_decides : (setting : Setting) (spot : Spot) (fs : List Frame) (v : Value) → TurnDecides (ended setting spot fs v)
-ended_decides setting spot [] v = top_decides setting.limits.item spot.start spot.end spot.context v (next spot.context v setting.catalog) (is_table v)
-    (next_decides spot.context v setting.catalog)
-ended_decides setting spot (Frame.Items listing ss vs ∷ fs) v = tt
-ended_decides setting spot _ v = tt
+fair_reason : (n : ℕ) (e : Reason) → IsFair (Refused n e) → is_octet_reason e ≡ true
+unfolding IsFair
+fair_reason n e h = h
 
-payload_decides : (h : Held) → Decides (held_payload h)
-payload_decides (Held.Symbol s) = tt
-payload_decides _ = tt
+-- so is what the scanner refuses an octet for
+pub feed_lexical : (p : Place) (s : Known) (o n : ℕ) (e : Reason) → feed p s o ≡ Refused n e → IsLexical e
+feed_lexical p s o n e h = octet_lexical e (fair_reason n e (subst IsFair (ap (λ y. follow y (λ t. Next t)) h) (run_fair p (o ∷ []) s)))
 
-symbol_decides : (h : Held) → Decides (held_symbol h)
-symbol_decides (Held.Symbol s) = tt
-symbol_decides _ = tt
+number_lexical : (octets : List ℕ) (e : Reason) → ReadsNumber octets (Err e) → IsLexical e
+number_lexical octets Reason.TooLarge h = (tt, λ i. i)
+number_lexical octets Reason.Malformed h = (tt, λ i. i)
+number_lexical octets Reason.Float h = (tt, λ i. i)
+number_lexical octets _ h = absurd h
 
-paid_decides : (setting : Setting) (spot : Spot) (fs : List Frame) (ss : Symbols) (q : Result Payload Reason) → Decides q
-    → TurnDecides (paid setting spot fs ss q)
-paid_decides setting spot fs ss (Ok q) h = ended_decides setting spot fs _
-paid_decides setting spot fs ss (Err e) h = h
+word_lexical : (octets : List ℕ) (id : Option ℕ) (e : Reason) → IsWordBody octets id (Err e) → IsLexical e
+word_lexical octets None e h = subst IsLexical (sym h.0) (tt, λ i. i)
+word_lexical octets (Some id) e h = absurd cc
 
-released_decides : (setting : Setting) (spot : Spot) (fs : List Frame) (ss : Symbols) (h : Held) → TurnDecides (released setting spot fs ss h)
-released_decides setting spot [] [] (Held.Version true s) = within_decides setting.limits.item spot.start spot.end _ tt
-released_decides setting spot [] [] (Held.Version false s) = tt
-released_decides setting spot [] [] Held.Nan = tt
-released_decides setting spot [] (s ∷ ss) h = paid_decides setting spot [] (s ∷ ss) (held_payload h) (payload_decides h)
-released_decides setting spot (f ∷ fs) ss h = paid_decides setting spot (f ∷ fs) ss (held_payload h) (payload_decides h)
-released_decides setting spot [] [] h = paid_decides setting spot [] [] (held_payload h) tt
+null_lexical : (kind : Option Kind) (e : Reason) → Err e ≡ null_of kind → IsLexical e
+null_lexical None e h = let k : Reason.Malformed ≡ e = cc in subst IsLexical k (tt, λ i. i)
+null_lexical (Some kind) e h = absurd cc
 
-resolved_decides : (r : Result (Option (List ℕ)) Reason) (f : Option (List ℕ) → Turn) → Decides r → ((s : Option (List ℕ)) → TurnDecides (f s))
-    → TurnDecides (resolved r f)
-resolved_decides (Ok s) f h k = k s
-resolved_decides (Err e) f h k = h
+body_lexical : (k : TokenKind) (octets : List ℕ) (e : Reason) → IsBody k octets (Err e) → IsLexical e
+body_lexical TokenKind.Word octets e h = word_lexical octets (id_of octets) e h
+body_lexical TokenKind.KindName octets e h = null_lexical (kind_named octets) e h
+body_lexical TokenKind.Number octets e h = number_lexical octets e h
+body_lexical TokenKind.Clob octets e h = absurd cc
+body_lexical TokenKind.Blob octets e h = absurd cc
+body_lexical (TokenKind.Mark m) octets e h = absurd cc
+body_lexical _ octets e h = subst IsLexical (sym h.0) (tt, λ i. i)
 
-deeper_decides : (depth : ℕ) (fs : List Frame) (t deep : Turn) → TurnDecides t → TurnDecides deep → TurnDecides (deeper depth fs t deep)
-deeper_decides depth fs t deep h k = cond_both (nat_lt (length fs) depth) t deep TurnDecides (λ e. h) (λ e. k)
-
-closed_decides : (setting : Setting) (spot : Spot) (bracket : Bracket) (fs : List Frame) → TurnDecides (closed bracket setting spot fs)
-closed_decides setting spot bracket fs = by bracket fs (closes_or_not bracket fs)
-  where
-    by : (bracket : Bracket) (fs : List Frame) → Closes bracket fs → TurnDecides (closed bracket setting spot fs)
-    by _ _ (ends_list ss vs fs) = ended_decides setting spot fs _
-    by _ _ (ends_sexp ss vs fs) = ended_decides setting spot fs _
-    by _ _ (ends_struct ss ms fs) = ended_decides setting spot fs _
-    by _ _ (ends_none bracket fs e) = subst TurnDecides (sym (e setting spot)) tt
+-- so is what a token that says nothing is refused for
+pub said_lexical : (k : TokenKind) (octets : List ℕ) (e : Reason) → said k octets ≡ Err e → IsLexical e
+said_lexical k octets e h = body_lexical k octets e (subst (IsBody k octets) h (says k octets))
 
 module _ (g : Catalog) (l : Limits) where
-  ready_decides : (spot : Spot) (fs : List Frame) (ss : Symbols) (x : Content) → TurnDecides (on_ready (under g l) spot fs ss x)
-  ready_decides spot fs ss (Id id) = resolved_decides (resolve spot.context id) _ (resolve_decides spot.context id) (λ s. tt)
-  ready_decides spot fs ss (Short w) = ended_decides (under g l) spot fs _
-  ready_decides spot fs ss (Number' n) = ended_decides (under g l) spot fs _
-  ready_decides spot fs ss (Operator w) = ended_decides (under g l) spot fs _
-  ready_decides spot fs ss (Clob w) = ended_decides (under g l) spot fs _
-  ready_decides spot fs ss (Blob w) = ended_decides (under g l) spot fs _
-  ready_decides spot fs ss (Mark' Mark.ListOpen) = deeper_decides l.depth fs _ _ tt tt
-  ready_decides spot fs ss (Mark' Mark.SexpOpen) = deeper_decides l.depth fs _ _ tt tt
-  ready_decides spot fs ss (Mark' Mark.FieldsOpen) = deeper_decides l.depth fs _ _ tt tt
-  ready_decides spot fs ss (Mark' Mark.ListClose) = bare_each TurnDecides ss _ (closed_decides (under g l) spot Bracket.List fs) tt
-  ready_decides spot fs ss (Mark' Mark.SexpClose) = bare_each TurnDecides ss _ (closed_decides (under g l) spot Bracket.Sexp fs) tt
-  ready_decides spot fs ss _ = tt
-
-  noted_decides : (start : ℕ) (c : List Slot) (fs : List Frame) (ss : Symbols) (r : Result (Option (List ℕ)) Reason) → Decides r
-      → TurnDecides (noted start c fs ss r)
-  noted_decides start c fs ss (Ok s) h = tt
-  noted_decides start c fs ss (Err e) h = h
-
-  pending_decides : (start : ℕ) (c : List Slot) (fs : List Frame) (ss : Symbols) (h : Held) (x : Content) → TurnDecides (on_pending start c fs ss h x)
-  pending_decides start c fs ss h (Mark' Mark.Colons) = noted_decides start c fs ss (held_symbol h) (symbol_decides h)
-  pending_decides start c fs ss h _ = tt
-
-  long_decides : (spot : Spot) (fs : List Frame) (ss : Symbols) (v : List ℕ) (x : Content) → TurnDecides (on_long spot fs ss v x)
-  long_decides spot fs ss v (Long w) = tt
-  long_decides spot fs ss v _ = tt
-
-  comma_decides : (start : ℕ) (c : List Slot) (fs : List Frame) → TurnDecides (on_comma start c fs)
-  comma_decides start c (Frame.Items Listing.List ss vs ∷ fs) = tt
-  comma_decides start c _ = tt
-
-  after_decides : (spot : Spot) (fs : List Frame) (x : Content) → TurnDecides (on_after (under g l) spot fs x)
-  after_decides spot fs (Mark' Mark.Comma) = comma_decides spot.start spot.context fs
-  after_decides spot fs (Mark' Mark.ListClose) = closed_decides (under g l) spot Bracket.List fs
-  after_decides spot fs (Mark' Mark.FieldsClose) = closed_decides (under g l) spot Bracket.Fields fs
-  after_decides spot fs _ = tt
-
-  name_decides : (spot : Spot) (fs : List Frame) (x : Content) → TurnDecides (on_name (under g l) spot fs x)
-  name_decides spot fs (Word w) =
-      let k = keyed spot.start spot.context fs (Some w) in
-      cond_both (is_keyword w) (late Reason.KeywordAsName k) (goes k) TurnDecides (λ e. tt) (λ e. tt)
-  name_decides spot fs (Id id) = resolved_decides (resolve spot.context id) _ (resolve_decides spot.context id) (λ s. tt)
-  name_decides spot fs (Mark' Mark.FieldsClose) = closed_decides (under g l) spot Bracket.Fields fs
-  name_decides spot fs _ = tt
-
-  long_name_decides : (start : ℕ) (c : List Slot) (fs : List Frame) (v : List ℕ) (x : Content) → TurnDecides (on_long_name start c fs v x)
-  long_name_decides start c fs v (Long w) = tt
-  long_name_decides start c fs v _ = tt
-
-  named_decides : (start : ℕ) (c : List Slot) (fs : List Frame) (s : Option (List ℕ)) → TurnDecides (named start c fs s)
-  named_decides start c (Frame.Fields ss ms ∷ fs) s = tt
-  named_decides start c _ s = tt
-
-  keyed_decides : (start : ℕ) (c : List Slot) (fs : List Frame) (s : Option (List ℕ)) (x : Content) → TurnDecides (on_keyed start c fs s x)
-  keyed_decides start c fs s (Mark' Mark.Colon) = named_decides start c fs s
-  keyed_decides start c fs s _ = tt
-
-  now_decides : (begin end start : ℕ) (c : List Slot) (fs : List Frame) (ss : Symbols) (x : Content) (now : Now)
-      → TurnDecides (turn_now (under g l) (at start c fs ss now) (token_at begin end x) now)
-  now_decides begin end start c fs ss x Now.Ready = ready_decides (spot_at end (begun_at start begin fs ss) c) fs ss x
-  now_decides begin end start c fs ss x (Now.Pending h e) = pending_decides start c fs ss h x
-  now_decides begin end start c fs ss x (Now.Long w e) = long_decides (spot_at end start c) fs ss w x
-  now_decides begin end start c fs ss x Now.After = after_decides (spot_at end start c) fs x
-  now_decides begin end start c fs ss x Now.Name = name_decides (spot_at end start c) fs x
-  now_decides begin end start c fs ss x (Now.LongName w) = long_name_decides start c fs w x
-  now_decides begin end start c fs ss x (Now.Keyed s) = keyed_decides start c fs s x
+  value_decides : (spot : Spot) (v : Value) (fs : List Frame) (t : Turn) → ValueWay (under g l) spot v fs t → TurnDecides t
+  value_decides spot v _ _ (value_refused fs e d) = d
+  value_decides spot v _ _ _ = tt
 
   turn_decides : (r : Reading) (t : Token) → TurnDecides (turn g l r t)
-  turn_decides r t = now_decides t.start t.end r.start r.context r.frames r.notes t.said r.now
+  turn_decides r t = by r.frames r.now _ (now_way g l t.start t.end r.start r.context r.frames r.notes t.said r.now)
+    where
+      by : (fs : List Frame) (now : Now) (x : Turn) → TokenWay g l t.start t.end r.start r.context t.said r.notes fs now x → TurnDecides x
+      by _ _ _ (token_refused fs now e d) = d
+      by _ _ _ (token_unnoted fs h e x i d) = d
+      by _ _ _ (token_value fs q x none flat way) = value_decides _ _ fs x way
+      by _ _ _ (token_list rs vs fs now x e way) = value_decides _ _ fs x way
+      by _ _ _ (token_sexp rs vs fs now x e way) = value_decides _ _ fs x way
+      by _ _ _ (token_struct rs ms fs now x e way) = value_decides _ _ fs x way
+      by _ _ _ _ = tt
 
   settle_decides : (r : Reading) → TurnDecides (settle g l r)
-  settle_decides r = go r.now
+  settle_decides r = by r.frames r.now _ (settled_way g l r.start r.context r.frames r.notes r.now)
     where
-      go : (n : Now) → TurnDecides (settle g l (at r.start r.context r.frames r.notes n))
-      go (Now.Pending h e) = released_decides (under g l) (spot_in r e) r.frames r.notes h
-      go (Now.Long w e) = ended_decides (under g l) (spot_in r e) r.frames _
-      go _ = tt
-
-  -- what a scanner refuses for, and what a token that says nothing is refused for
-
-  octet_decided : (e : Reason) → is_octet_reason e ≡ true → IsDecided e
-  octet_decided Reason.Memory h = absurd cc
-  octet_decided Reason.Incomplete h = absurd cc
-  octet_decided Reason.DuplicateTable h = absurd cc
-  octet_decided Reason.BadTable h = absurd cc
-  octet_decided _ h = tt
-
-  fair_decided : (n : ℕ) (e : Reason) → IsFair (Refused n e) → is_octet_reason e ≡ true
-  unfolding IsFair
-  fair_decided n e h = h
-
-  feed_decided : (p : Place) (s : Known) (o n : ℕ) (e : Reason) → feed p s o ≡ Refused n e → IsDecided e
-  feed_decided p s o n e h = octet_decided e (fair_decided n e (subst IsFair (ap (λ y. follow y (λ t. Next t)) h) (run_fair p (o ∷ []) s)))
-
-  number_decided : (octets : List ℕ) (e : Reason) → ReadsNumber octets (Err e) → IsDecided e
-  number_decided octets Reason.Memory h = absurd h
-  number_decided octets Reason.Incomplete h = absurd h
-  number_decided octets Reason.DuplicateTable h = absurd h
-  number_decided octets Reason.BadTable h = absurd h
-  number_decided octets _ h = tt
-
-  word_decided : (octets : List ℕ) (id : Option ℕ) (e : Reason) → IsWordBody octets id (Err e) → IsDecided e
-  word_decided octets None e h = subst IsDecided (sym h.0) tt
-  word_decided octets (Some id) e h = absurd cc
-
-  null_decided : (kind : Option Kind) (e : Reason) → Err e ≡ null_of kind → IsDecided e
-  null_decided None e h = let k : Reason.Malformed ≡ e = cc in subst IsDecided k tt
-  null_decided (Some kind) e h = absurd cc
-
-  body_decided : (k : TokenKind) (octets : List ℕ) (e : Reason) → IsBody k octets (Err e) → IsDecided e
-  body_decided TokenKind.Word octets e h = word_decided octets (id_of octets) e h
-  body_decided TokenKind.KindName octets e h = null_decided (kind_named octets) e h
-  body_decided TokenKind.Number octets e h = number_decided octets e h
-  body_decided TokenKind.Clob octets e h = absurd cc
-  body_decided TokenKind.Blob octets e h = absurd cc
-  body_decided (TokenKind.Mark m) octets e h = absurd cc
-  body_decided _ octets e h = subst IsDecided (sym h.0) tt
-
-  said_decided : (k : TokenKind) (octets : List ℕ) (e : Reason) → said k octets ≡ Err e → IsDecided e
-  said_decided k octets e h = body_decided k octets e (subst (IsBody k octets) h (says k octets))
+      by : (fs : List Frame) (now : Now) (x : Turn) → SettledWay g l r.start r.context r.notes fs now x → TurnDecides x
+      by _ _ _ (settled_refused fs now e d) = d
+      by _ _ _ (settled_held fs h end q x flat way) = value_decides _ _ fs x way
+      by _ _ _ (settled_text fs w end x way) = value_decides _ _ fs x way
+      by _ _ _ _ = tt
 
   -- of effects
   abbrev EffectDecides : Effect → Type 0
@@ -222,10 +120,10 @@ module _ (g : Catalog) (l : Limits) where
       → EffectDecides (on_scan g l again r x)
   scan_decides again p s o r (Next t) e f = noticed_decides r t
   scan_decides again p s o r (Given x t) e f = said_each EffectDecides (said x.kind x.octets) _
-      (λ c k. given_decides t (turn g l r (token_of x c)) (turn_decides r (token_of x c))) (said_decided x.kind x.octets)
+      (λ c k. given_decides t (turn g l r (token_of x c)) (turn_decides r (token_of x c))) (λ e i. (said_lexical x.kind x.octets e i).0)
   scan_decides again p s o r (Left x t) e f = said_each EffectDecides (said x.kind x.octets) _
-      (λ c k. left_decides again t (turn g l r (token_of x c)) f (turn_decides r (token_of x c))) (said_decided x.kind x.octets)
-  scan_decides again p s o r (Refused n y) e f = feed_decided p s o n y e
+      (λ c k. left_decides again t (turn g l r (token_of x c)) f (turn_decides r (token_of x c))) (λ e i. (said_lexical x.kind x.octets e i).0)
+  scan_decides again p s o r (Refused n y) e f = (feed_lexical p s o n y e).0
 
   settled_decides : (again : State → Effect) (p : Place) (s : Known) (o : ℕ) (t : Turn) → TurnDecides t → ((m : State) → EffectDecides (again m))
       → EffectDecides (on_settled g l again s (feed p s o) t)
@@ -345,7 +243,7 @@ module _ (g : Catalog) (l : Limits) where
   ready_ends : (used : ℕ) (r : Reading) (x : Result (Option Lexeme) Reason) → EndsWell x → AnswersAtEnd (end_ready g l used r x)
   unfolding EndsWell
   ready_ends used r (Ok None) h = fresh_ends used (is_fresh r)
-  ready_ends used r (Ok (Some x)) h = said_ends used r x (said x.kind x.octets) (said_decided x.kind x.octets)
+  ready_ends used r (Ok (Some x)) h = said_ends used r x (said x.kind x.octets) (λ e i. (said_lexical x.kind x.octets e i).0)
   ready_ends used r (Err e) h = h
 
   ends_decide : (used : ℕ) (r : Reading) (x : Result (Option Lexeme) Reason) (n : Now) → EndsWell x → AnswersAtEnd (end_now g l used r x n)

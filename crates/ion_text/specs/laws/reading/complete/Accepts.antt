@@ -1,10 +1,11 @@
 -- The reader of octets accepts each document, and gives its values.
-use Rattle.std.proofs.Common.{◌≡◌, ℕ, ◌+◌, ◌≤◌, ◌==◌, nat_le, List, [], ◌∷◌, ◌++◌, Bool, true, false, ◌&&◌, ◌||◌, Result, Ok, Err, Option, Some, None, refl, ap, sym, ◌∙◌, subst, arith, option_to_list, if◌then◌else◌, ◌⊎◌, inl, inr}
-use Rattle.std.proofs.lemmas.Bool.{and_right, cond_both, true_from_ne_false}
-use Rattle.ion_text.specs.Names.{Catalog, Content, Document, Effect, Frame, Given, Held, IsBody, IsLastBlank, Known, Leading, Left, Lexeme, Limits, Long, Mark, Mark', Mode, Next, Now, Outcome, Payload, Place, Placed, Reading, Reason, Run, Slot, Spot, State, Streams, Symbols, TokenKind, Turn, Value, at, at_end, bare, behind_given, behind_left, continues, continues_now, cut_short, eats, end_now, end_of, end_ready, end_said, end_settled, end_turned, end_waiting, ended, ends_of, feed, follow, fresh, gives, goes, held_payload, initial, is_colons, is_fresh, is_idle, is_quoted, is_quoting, is_sane, is_segment, is_table, is_top, is_two_quotes, next as next_slots, on_said, on_scan, on_settled, once_more, paid, place, plain, refuses, released, run, run_on, said, said_body, settle, settle_same, settle_still, spot_at, start_of, system_slots, takes, tells, token_at, token_of, trace, turn, turn_now, turned, under, unsettled, uses, waits, waits_now, with_scan, with_value, within}
+use Rattle.std.proofs.Common.{◌≡◌, ℕ, ◌+◌, ◌≤◌, ◌==◌, List, [], ◌∷◌, ◌++◌, Bool, true, false, ◌&&◌, ◌||◌, Ok, Option, Some, None, refl, ap, sym, ◌∙◌, subst, arith, option_to_list, if◌then◌else◌, ◌⊎◌, inl, inr}
+use Rattle.std.proofs.lemmas.Bool.{and_right, true_from_ne_false}
+use Rattle.ion_text.specs.Names.{Catalog, Content, Document, Effect, Frame, Given, IsBody, IsLastBlank, Known, Leading, Left, Lexeme, Limits, Long, Mark, Mark', Mode, Next, Now, Outcome, Place, Placed, Reading, Reason, Run, Slot, Spot, State, Streams, Symbols, TokenKind, Turn, Value, at, at_end, behind_given, behind_left, continues, continues_now, cut_short, eats, end_now, end_of, end_ready, end_said, end_settled, end_turned, end_waiting, ended, ends_of, feed, follow, fresh, gives, goes, initial, is_colons, is_fresh, is_idle, is_quoted, is_quoting, is_sane, is_segment, is_sexp, is_top, is_two_quotes, on_said, on_scan, on_settled, once_more, place, plain, refuses, run, run_on, said, said_body, settle, settle_same, settle_still, start_of, system_slots, takes, tells, token_at, token_of, trace, turn, turn_now, under, unsettled, uses, waits, waits_now, with_scan, with_value}
 use Rattle.ion_model.specs.declared.value.Payload.TheVariants as payloads
 use Rattle.ion_tokens.proofs.runs.Runs.{feed_used, given_used}
 use Rattle.ion_text.specs.machine.Run.{ends}
+use Rattle.ion_text.specs.machine.Ways.{SettledWay, ValueWay, settled_free, settled_held, settled_marker, settled_name, settled_text, settled_way, value_given, value_refused, value_table}
 use Rattle.ion_text.specs.laws.reading.complete.Exact.{Exact, Exactly, feed_exact}
 use Rattle.ion_text.specs.laws.reading.complete.Found.{finds_met, lexes_finds, lexes_operators}
 use Rattle.ion_text.specs.laws.reading.complete.Fuel.{Leaving, UsedHere, eats_stays, feed_leaves, more_same, twice_fuel}
@@ -46,39 +47,27 @@ module _ (g : Catalog) (l : Limits) where
   abbrev pub SettledCalm : Turn → Type 0
   SettledCalm t = Leading g l (λ k. (m : Mode) → is_top k.frames ≡ true → CalmNow k.now m) t
 
-  within_settled : (item start end : ℕ) (t : Turn) → SettledCalm t → SettledCalm (within item start end t)
-  within_settled item start end t h = cond_both (nat_le end (start + item)) t (refuses Reason.ItemTooLong) SettledCalm (λ e. h) (λ e. tt)
-
-  top_settled : (item start end : ℕ) (c : List Slot) (v : Value) (d : Result (List Slot) Reason) (b : Bool)
-      → SettledCalm (if b then turned item start end d else within item start end (gives v (fresh c)))
-  top_settled item start end c v (Ok d) true = within_settled item start end (goes (fresh d)) (λ m h. tt)
-  top_settled item start end c v (Err e) true = tt
-  top_settled item start end c v d false = within_settled item start end (gives v (fresh c)) (λ m h. tt)
-
-  ended_settled : (spot : Spot) (fs : List Frame) (v : Value) → SettledCalm (ended (under g l) spot fs v)
-  ended_settled spot [] v = top_settled l.item spot.start spot.end spot.context v (next_slots spot.context v g) (is_table v)
-  ended_settled spot (Frame.Fields ss ms ∷ fs) v = tt
-  ended_settled spot _ v = λ m h. absurd cc
-
-  paid_settled : (spot : Spot) (fs : List Frame) (ss : Symbols) (q : Result Payload Reason) → SettledCalm (paid (under g l) spot fs ss q)
-  paid_settled spot fs ss (Ok q) = ended_settled spot fs _
-  paid_settled spot fs ss (Err e) = tt
-
-  released_settled : (spot : Spot) (fs : List Frame) (ss : Symbols) (h : Held) → SettledCalm (released (under g l) spot fs ss h)
-  released_settled spot [] [] (Held.Version true s) = within_settled l.item spot.start spot.end (goes (fresh system_slots)) (λ m h. tt)
-  released_settled spot [] [] (Held.Version false s) = tt
-  released_settled spot [] [] Held.Nan = tt
-  released_settled spot [] (s ∷ ss) h = paid_settled spot [] (s ∷ ss) (held_payload h)
-  released_settled spot (f ∷ fs) ss h = paid_settled spot (f ∷ fs) ss (held_payload h)
-  released_settled spot [] [] h = paid_settled spot [] [] (held_payload h)
+  value_settled : (spot : Spot) (v : Value) (fs : List Frame) (t : Turn) → ValueWay (under g l) spot v fs t → SettledCalm t
+  value_settled spot v _ _ (value_refused fs e d) = tt
+  value_settled spot v _ _ (value_table d fits) = λ m h. tt
+  value_settled spot v _ _ (value_given fits) = λ m h. tt
+  value_settled spot v _ _ _ = λ m h. absurd cc
 
   -- behind what was settled at the top level it is calm, whatever token has begun
   pub settle_settled : (start : ℕ) (c : List Slot) (fs : List Frame) (ss : Symbols) (now : Now) → (is_top fs ≡ true → IsTopNow now)
       → SettledCalm (settle g l (at start c fs ss now))
-  settle_settled start c fs ss (Now.Pending h end) k = released_settled (spot_at end start c) fs ss h
-  settle_settled start c fs ss (Now.Long w end) k = ended_settled (spot_at end start c) fs _
-  settle_settled start c fs ss Now.Ready k = λ m h. tt
-  settle_settled start c fs ss _ k = λ m h. k h
+  settle_settled start c fs ss now = by fs now _ (settled_way g l start c fs ss now)
+    where
+      by : (fs : List Frame) (now : Now) (t : Turn) → SettledWay g l start c ss fs now t → (is_top fs ≡ true → IsTopNow now) → SettledCalm t
+      by _ _ _ (settled_held fs h end q t flat way) k = value_settled _ _ fs t way
+      by _ _ _ (settled_text fs w end t way) k = value_settled _ _ fs t way
+      by _ _ _ (settled_marker h end fits) k = λ m h. tt
+      by _ _ _ (settled_name fs w) k = λ m h. k h
+      by _ _ _ (settled_free fs Now.Ready i e) k = λ m h. tt
+      by _ _ _ (settled_free fs (Now.Pending h end) i e) k = absurd i
+      by _ _ _ (settled_free fs (Now.Long w end) i e) k = absurd i
+      by _ _ _ (settled_free fs _ i e) k = λ m h. k h
+      by _ _ _ _ k = tt
 
   -- where nothing waits it is calm, whatever token has begun
   pub still_calm : (r : Reading) (m : Mode) → TopOk g l r → settle g l r ≡ goes r → is_top r.frames ≡ true → CalmNow r.now m
@@ -242,99 +231,108 @@ module _ (g : Catalog) (l : Limits) where
       by (gives v n) h e = inr (v, with_scan s' n, e.0, refl, e.1, more n e.0 (calm n h) e.2)
       by _ h e = absurd e
 
-  -- no colon stands where a value may come
-  no_colon : (k : Reading) (t : Placed) (ts : List Placed) (all : List Value) → k.now ≡ Now.Ready → Going g l k (t ∷ ts) all
-      → t.lexeme.kind ≡ TokenKind.Mark Mark.Colon → ⊥
-  no_colon k t ts all e d i =
-      let p = going_said g l k t ts all d in
-      let c = mark_said t.lexeme.kind t.lexeme.octets Mark.Colon p.1 i (said_body t.lexeme.kind t.lexeme.octets p.1 p.2) in
-      let d' = going_turn g l k t ts all p.1 d p.2 (inr (ready_still g l k e)) in
-      subst (λ n. TurnGoes g l (turn_now (under g l) k (token_at t.lexeme.start t.lexeme.end (Mark' Mark.Colon)) n) ts all) e
-      (subst (λ y. TurnGoes g l (turn g l k (token_of t.lexeme y)) ts all) c d')
-
-  -- where something waited at the top level, a colon doesn't follow
-  settled_colon : (r : Reading) (t : Placed) (ts : List Placed) (all : List Value) → is_top r.frames ≡ true → TopOk g l r
-      → TurnGoes g l (settle g l r) (t ∷ ts) all → t.lexeme.kind ≡ TokenKind.Mark Mark.Colon → ⊥
-  settled_colon r t ts all top ok d i = by (settle g l r) (settle_same g l r.start r.context r.frames r.notes r.now)
-      (settle_settled r.start r.context r.frames r.notes r.now ok) d
-    where
-      by : (x : Turn) → Leading g l (λ n. (place n ≡ place r) × (is_top n.frames ≡ is_top r.frames)) x → SettledCalm x → TurnGoes g l x (t ∷ ts) all → ⊥
-      by (goes k) a b e = no_colon k t ts all (always_calm k.now (λ m. b m (a.1 ∙ top))) e i
-      by (gives v k) a b e = no_colon k t ts e.0 (always_calm k.now (λ m. b m (a.1 ∙ top))) e.2 i
-      by _ a b e = e
-
   -- a long string goes on with its segments alone
   pub long_refused : (begin end start : ℕ) (slots : List Slot) (fs : List Frame) (ss : Symbols) (c : Content) (w : List ℕ) (e : ℕ) → is_long_said c ≡ false
       → turn_now (under g l) (at start slots fs ss (Now.Long w e)) (token_at begin end c) (Now.Long w e) ≡ refuses Reason.Unexpected
   long_refused begin end start slots fs ss (Long v) w e h = absurd cc
   long_refused begin end start slots fs ss _ w e h = refl
 
-  -- a token that goes on with a long string is a segment
-  long_turn : (r : Reading) (t : Placed) (c : Content) (w : List ℕ) (e : ℕ) (ts : List Placed) (all : List Value) → r.now ≡ Now.Long w e
-      → is_segment t.lexeme.kind ≡ false → IsBody t.lexeme.kind t.lexeme.octets (Ok c) → TurnGoes g l (turn g l r (token_of t.lexeme c)) ts all → ⊥
-  long_turn r t c w e ts all n h b d =
-      subst (λ y. TurnGoes g l y ts all)
-      (long_refused t.lexeme.start t.lexeme.end r.start r.context r.frames r.notes c w e (sym (segment_agree t.lexeme.kind t.lexeme.octets c b) ∙ h))
-      (subst (λ y. TurnGoes g l (turn_now (under g l) r (token_at t.lexeme.start t.lexeme.end c) y) ts all) n d)
+  -- What is carried over tokens: where a value comes, it is taken from what is still to come.
+  module _ (X : Type 0) (Comes : X → Value → X → Type 0) where
+    -- a turn leads on to where this holds
+    abbrev pub Onto : (X → Reading → Type 0) → X → Turn → Type 0
+    Onto P x (goes n) = P x n
+    Onto P x (gives v n) = (y : X) × Comes x v y × P y n
+    Onto P x _ = ⊥
 
-  module _ (s s' : Known) (o : ℕ) (t : Placed) (sane : is_sane s.mode ≡ true) (fine : Fine s) (exactly : Exact s) where
-    -- where a token is left before the octet
-    left_run : (to : ℕ) (os : List ℕ) (ts : List Placed) (r : Reading) (all : List Value) → feed (place r) s o ≡ Left t.lexeme s' → Operators (t ∷ ts)
-        → Calm s r → Going g l r (t ∷ ts) all
-        → ((k : Reading) (all : List Value) → Calm s' k → Going g l k ts all → Streamed (run g l to (with_scan s' k) (o ∷ os)) all)
-        → Streamed (run g l to (with_scan s r) (o ∷ os)) all
-    left_run to os ts r all e ops calm d more = go (waits r (Left t.lexeme s')) refl
-      where
-        p : (t.place ≡ place r) × (c : Content) × (said t.lexeme.kind t.lexeme.octets ≡ Ok c)
-        p = going_said g l r t ts all d
+    -- one of this holds before a token, and the other behind it
+    module _ (t : Placed) (Before After : X → Reading → Type 0)
+        (says : (x : X) (r : Reading) → Before x r → (t.place ≡ place r) × (c : Content) × (said t.lexeme.kind t.lexeme.octets ≡ Ok c))
+        (turns : (x : X) (r : Reading) (b : Before x r) → Direct g l r (token_of t.lexeme (says x r b).1)
+        → Onto After x (turn g l r (token_of t.lexeme (says x r b).1)))
+        (settles : (x : X) (r : Reading) (b : Before x r) → continues r (token_of t.lexeme (says x r b).1) ≡ false → Onto Before x (settle g l r)) where
+      body : (y : X) (k : Reading) (d : Before y k) → IsBody t.lexeme.kind t.lexeme.octets (Ok (says y k d).1)
+      body y k d = said_body t.lexeme.kind t.lexeme.octets (says y k d).1 (says y k d).2
 
-        body : IsBody t.lexeme.kind t.lexeme.octets (Ok p.1)
-        body = said_body t.lexeme.kind t.lexeme.octets p.1 p.2
+      -- no colon stands where a value may come
+      no_colon : (y : X) (k : Reading) → Before y k → k.now ≡ Now.Ready → t.lexeme.kind ≡ TokenKind.Mark Mark.Colon → ⊥
+      no_colon y k d n i =
+          subst (λ m. Onto After y (turn_now (under g l) k (token_at t.lexeme.start t.lexeme.end (Mark' Mark.Colon)) m)) n
+          (subst (λ c. Onto After y (turn g l k (token_of t.lexeme c)))
+          (mark_said t.lexeme.kind t.lexeme.octets Mark.Colon (says y k d).1 i (body y k d)) (turns y k d (inr (ready_still g l k n))))
+
+      -- where what waited at the top level is settled, a colon doesn't follow
+      settled_colon : (x : X) (r : Reading) → is_top r.frames ≡ true → TopOk g l r → Onto Before x (settle g l r) → t.lexeme.kind ≡ TokenKind.Mark Mark.Colon
+          → ⊥
+      settled_colon x r top ok d i = by (settle g l r) (settle_same g l r.start r.context r.frames r.notes r.now)
+          (settle_settled r.start r.context r.frames r.notes r.now ok) d
+        where
+          by : (z : Turn) → Leading g l (λ n. (place n ≡ place r) × (is_top n.frames ≡ is_top r.frames)) z → SettledCalm z → Onto Before x z → ⊥
+          by (goes k) a c d = no_colon x k d (always_calm k.now (λ m. c m (a.1 ∙ top))) i
+          by (gives v k) a c d = no_colon d.0 k d.2 (always_calm k.now (λ m. c m (a.1 ∙ top))) i
+          by _ a c d = d
+
+      -- a token that goes on with a long string is a segment
+      long_turn : (x : X) (r : Reading) (b : Before x r) (v : List ℕ) (q : ℕ) → r.now ≡ Now.Long v q → is_segment t.lexeme.kind ≡ false
+          → Onto After x (turn g l r (token_of t.lexeme (says x r b).1)) → ⊥
+      long_turn x r b v q i h y =
+          subst (Onto After x)
+          (ap (turn_now (under g l) r (token_of t.lexeme (says x r b).1)) i
+          ∙ long_refused t.lexeme.start t.lexeme.end r.start r.context r.frames r.notes (says x r b).1 v q
+          (sym (segment_agree t.lexeme.kind t.lexeme.octets (says x r b).1 (body x r b)) ∙ h)) y
+
+      -- A token is left before the octet; `Good` of what is still to come is said of a run.
+      module _ (Good : X → Run → Type 0) (more : (x y : X) (v : Value) (to : ℕ) (R : Run) → Comes x v y → Good y R → Good x (with_value v to R))
+          (s s' : Known) (o : ℕ) (sane : is_sane s.mode ≡ true) (fine : Fine s) (exactly : Exact s)
+          (ops : t.lexeme.kind ≡ TokenKind.Operator → is_sexp t.place ≡ true) (to : ℕ) (os : List ℕ) (x : X) (r : Reading) (e : feed (place r) s o ≡ Left t.lexeme s')
+          (calm : is_top r.frames ≡ true → CalmNow r.now s.mode) (b : Before x r) (onward : (y : X) (k : Reading) → Calm s' k → After y k → Good y (run g l to (with_scan s' k) (o ∷ os))) where
+        abbrev p : (t.place ≡ place r) × (c : Content) × (said t.lexeme.kind t.lexeme.octets ≡ Ok c)
+        p = says x r b
 
         f : Finely s.mode (Left t.lexeme s')
         f = finely_as (place r) s o (Left t.lexeme s') fine e
 
         agree : waits r (Left t.lexeme s') ≡ continues r (token_of t.lexeme p.1)
-        agree = left_agrees r.frames r.now s' t.lexeme p.1 body (left_colons (place r) s s' o t.lexeme sane e) f.1
+        agree = left_agrees r.frames r.now s' t.lexeme p.1 (body x r b) (left_colons (place r) s s' o t.lexeme sane e) f.1
             (left_two (place r) s s' o t.lexeme fine exactly e)
 
         ok : TopOk g l r
-        ok = calm_ok g l s r calm
+        ok top = calm_now r.now s.mode (calm top)
 
-        next : (n : State) → Run
+        abbrev next : State → Run
         next = λ n. run g l (to + 1) n os
 
         leaving : Leaving o (Left t.lexeme s')
         leaving = subst (Leaving o) e (feed_leaves (place r) s o fine)
 
-        no_close : (c : Content) → said t.lexeme.kind t.lexeme.octets ≡ Ok c → IsClose false c → ⊥
-        no_close c i k = let n : true ≡ false = sym (closes_kind t.lexeme.kind t.lexeme.octets c k (said_body t.lexeme.kind t.lexeme.octets c i)) ∙ f.5 in cc
-
         -- behind what was settled
-        behind : (k : Reading) (rest : List Value) → place k ≡ place r → TopOk g l k → settle g l k ≡ goes k → Going g l k (t ∷ ts) rest → (x : Effect)
-            → x ≡ on_scan g l (λ k. takes g l 2 k o) k (Left t.lexeme s') → Streamed (run_on to (λ n. eats g l n o) next x) rest
-        behind k rest here ok still d x same =
-            subst (λ y. Streamed (run_on to (λ n. eats g l n o) next y) rest)
+        behind : (y : X) (k : Reading) → Before y k → TopOk g l k → settle g l k ≡ goes k → (z : Effect)
+            → z ≡ on_scan g l (λ k. takes g l 2 k o) k (Left t.lexeme s') → Good y (run_on to (λ n. eats g l n o) next z)
+        behind y k d ok still z same =
+            subst (λ z. Good y (run_on to (λ n. eats g l n o) next z))
             (sym (same ∙ ap (λ y. on_said y (λ c. behind_left (λ k. takes g l 2 k o) s' (turn g l k (token_of t.lexeme c)))) q.2))
-            (by (turn g l k (token_of t.lexeme q.1)) (turn_spans g l k (token_of t.lexeme q.1) ok) (going_turn g l k t ts rest q.1 d q.2 (inr still)))
+            (by (turn g l k (token_of t.lexeme q.1)) (turn_spans g l k (token_of t.lexeme q.1) ok) (turns y k d (inr still)))
           where
             q : (t.place ≡ place k) × (c : Content) × (said t.lexeme.kind t.lexeme.octets ≡ Ok c)
-            q = going_said g l k t ts rest d
+            q = says y k d
 
             start : ℕ
             start = start_now k.now k.start t.lexeme.start k.frames k.notes
+
+            no_close : IsClose false q.1 → ⊥
+            no_close i = let n : true ≡ false = sym (closes_kind t.lexeme.kind t.lexeme.octets q.1 i (body y k d)) ∙ f.5 in cc
 
             top_of : (n : Reading) → Spans (is_top k.frames) q.1 l.item start t.lexeme.end (goes n) → is_top n.frames ≡ true → (b : Bool) → is_top k.frames ≡ b
                 → b ≡ true
             top_of n h i true j = refl
             top_of n (inl (inl h, from, to)) i false j = absurd (let x : true ≡ false = sym i ∙ h in cc)
             top_of n (inl (inr (h, new, ok), from, to)) i false j = absurd (let x : true ≡ false = sym h ∙ j in cc)
-            top_of n (inr h) i false j = absurd (no_close q.1 q.2 (subst (λ b. IsClose b q.1) j h.1))
+            top_of n (inr h) i false j = absurd (no_close (subst (λ b. IsClose b q.1) j h.1))
 
             idle : (is_top k.frames ≡ true) → is_idle s'.mode ≡ true
             idle h = elim f.4 [
               | inl i ↦ i
-              | inr i ↦ absurd (no_operator g l k t h q.0 ops.0 i)
+              | inr i ↦ absurd (no_operator g l k t h q.0 ops i)
             ]
 
             calm' : (n : Reading) → Spans (is_top k.frames) q.1 l.item start t.lexeme.end (goes n) → Calm s' n
@@ -342,75 +340,105 @@ module _ (g : Catalog) (l : Limits) where
                 let o = turn_ok k q.1 l.item start t.lexeme.end (goes n) h i in
                 (idle_calm n.now s'.mode o.0 (idle (top_of n h i (is_top k.frames) refl)), ended_more n.now t.lexeme.end s'.used f.6 o.1)
 
-            used : (n : Reading) → Spans (is_top k.frames) q.1 l.item start t.lexeme.end (gives (bare (payloads.Truth true)) n) → UsedHere s' o
-            used n h = elim leaving.0 [
+            used : (b : Bool) → is_top k.frames ≡ b → IsClose (is_top k.frames) q.1 → UsedHere s' o
+            used b j h = elim leaving.0 [
               | inl i ↦ i
-              | inr i ↦ absurd (by' (is_top k.frames) refl i)
+              | inr i ↦ absurd (by' b j i)
             ]
               where
                 by' : (b : Bool) → is_top k.frames ≡ b → t.lexeme.kind ≡ TokenKind.Operator → ⊥
-                by' true j i = no_operator g l k t j q.0 ops.0 i
-                by' false j i = no_close q.1 q.2 (subst (λ b. IsClose b q.1) j h.1)
+                by' true j i = no_operator g l k t j q.0 ops i
+                by' false j i = no_close (subst (λ b. IsClose b q.1) j h)
 
-            by : (y : Turn) → Spans (is_top k.frames) q.1 l.item start t.lexeme.end y → TurnGoes g l y ts rest
-                → Streamed (run_on to (λ n. eats g l n o) next (behind_left (λ k. takes g l 2 k o) s' y)) rest
-            by (goes n) h i = subst (λ z. Streamed (run_on to (λ n. eats g l n o) next z) rest) (sym (twice_fuel g l (with_scan s' n) o leaving.1))
-                (more n rest (calm' n h) i)
+            by : (z : Turn) → Spans (is_top k.frames) q.1 l.item start t.lexeme.end z → Onto After y z
+                → Good y (run_on to (λ n. eats g l n o) next (behind_left (λ k. takes g l 2 k o) s' z))
+            by (goes n) h i = subst (λ z. Good y (run_on to (λ n. eats g l n o) next z)) (sym (twice_fuel g l (with_scan s' n) o leaving.1))
+                (onward y n (calm' n h) i)
             by (gives v n) h i =
                 let ready = fresh_top n h.2 in
-                with_streamed v to (once_more to next (eats g l (with_scan s' n) o)) i.0 rest
-                (subst (λ z. Streamed z i.0) (sym (more_same g l to (λ n. eats g l n o) next (eats g l (with_scan s' n) o)
-                (eats_stays g l n s' o (ready_still g l n ready) (used n h (place n)))))
-                (more n i.0 (λ j. subst (λ z. CalmNow z s'.mode × EndedIn s'.used z) (sym ready) (tt, tt)) i.2)) i.1
+                more y i.0 v to (once_more to next (eats g l (with_scan s' n) o)) i.1
+                (subst (Good i.0) (sym (more_same g l to (λ n. eats g l n o) next (eats g l (with_scan s' n) o)
+                (eats_stays g l n s' o (ready_still g l n ready) (used (is_top k.frames) refl h.1 (place n)))))
+                (onward i.0 n (λ j. subst (λ z. CalmNow z s'.mode × EndedIn s'.used z) (sym ready) (tt, tt)) i.2))
             by _ h i = absurd i
 
-        idle_never : is_top r.frames ≡ true → TurnGoes g l (settle g l r) (t ∷ ts) all → is_idle s.mode ≡ true → ⊥
+        -- where what waited at the top level is settled, no token was idle
+        idle_never : is_top r.frames ≡ true → Onto Before x (settle g l r) → is_idle s.mode ≡ true → ⊥
         idle_never top y i = elim (subst (IdleLeft (place r) s.used) e (idle_left (place r) s o i)) [
-          | inl j ↦ settled_colon r t ts all top ok y j.0
-          | inr j ↦ no_operator g l r t top p.0 ops.0 j.0
+          | inl j ↦ settled_colon x r top ok y j.0
+          | inr j ↦ no_operator g l r t top p.0 ops j.0
         ]
 
         -- nothing that waits at the top level is ended by a token that is left
-        never_gives : (n : Now) → r.now ≡ n → is_top r.frames ≡ true → waits r (Left t.lexeme s') ≡ false → TurnGoes g l (settle g l r) (t ∷ ts) all
+        never_gives : (n : Now) → r.now ≡ n → is_top r.frames ≡ true → waits r (Left t.lexeme s') ≡ false → Onto Before x (settle g l r)
             → CalmNow n s.mode → (n ≡ Now.Ready → ⊥) → ⊥
-        never_gives Now.Ready x top w y c z = z refl
-        never_gives (Now.Pending h b) x top w y c z = idle_never top y c
-        never_gives (Now.Long v b) x top w y c z = by (is_idle s.mode) refl
+        never_gives Now.Ready i top w y c z = z refl
+        never_gives (Now.Pending h b) i top w y c z = idle_never top y c
+        never_gives (Now.Long v b) i top w y c z = by (is_idle s.mode) refl
           where
-            by : (i : Bool) → is_idle s.mode ≡ i → ⊥
-            by true i = idle_never top y i
-            by false i =
-                let q : is_quoting s.mode ≡ true = sym (ap (λ b. b || is_quoting s.mode) i) ∙ c in
+            by : (j : Bool) → is_idle s.mode ≡ j → ⊥
+            by true j = idle_never top y j
+            by false j =
+                let q : is_quoting s.mode ≡ true = sym (ap (λ b. b || is_quoting s.mode) j) ∙ c in
                 let k = quoting_left (place r) s s' o t.lexeme exactly q e in
                 let n : true ≡ false = sym (ap is_quoted k.0) ∙ (sym (ap (λ b. b && is_quoted t.lexeme.kind) top)
-                ∙ (ap (λ b. waits_now (is_top r.frames) b (Left t.lexeme s')) (sym x) ∙ w)) in cc
-        never_gives _ x top w y c z = c
+                ∙ (ap (λ b. waits_now (is_top r.frames) b (Left t.lexeme s')) (sym i) ∙ w)) in cc
+        never_gives _ i top w y c z = c
 
-        settled : (x : Turn) → settle g l r ≡ x → waits r (Left t.lexeme s') ≡ false
-            → Leading g l (λ n. (place n ≡ place r) × (is_top n.frames ≡ is_top r.frames)) x → Leading g l (λ n. settle g l n ≡ goes n) x → SettledCalm x
-            → TurnGoes g l x (t ∷ ts) all → Streamed (run g l to (with_scan s r) (o ∷ os)) all
-        settled (goes k) i w a b c y =
-            behind k all a.0 (λ h. calm_now k.now Mode.Blank (c Mode.Blank h)) b y (eats g l (with_scan s r) o)
+        settled : (z : Turn) → settle g l r ≡ z → waits r (Left t.lexeme s') ≡ false → Leading g l (λ n. settle g l n ≡ goes n) z → SettledCalm z
+            → Onto Before x z → Good x (run g l to (with_scan s r) (o ∷ os))
+        settled (goes k) i w still c y =
+            behind x k y (λ h. calm_now k.now Mode.Blank (c Mode.Blank h)) still (eats g l (with_scan s r) o)
             (eats_settled s o r (Left t.lexeme s') (goes k) e tt w i)
-        settled (gives v k) i w a b c y = absurd (never r.now refl)
+        settled (gives v k) i w still c y = absurd (never r.now refl)
           where
             top : is_top r.frames ≡ true
             top = true_from_ne_false (is_top r.frames) (λ j. gives_top g l r v k j i)
 
             never : (n : Now) → r.now ≡ n → ⊥
-            never n x = never_gives n x top w (subst (λ z. TurnGoes g l z (t ∷ ts) all) (sym i) y) (subst (λ z. CalmNow z s.mode) x (calm top).0)
-                (λ z. let q : goes r ≡ gives v k = sym (ready_still g l r (x ∙ z)) ∙ i in cc)
-        settled _ i w a b c y = absurd y
+            never n z = never_gives n z top w (subst (Onto Before x) (sym i) y) (subst (λ z. CalmNow z s.mode) z (calm top))
+                (λ j. let q : goes r ≡ gives v k = sym (ready_still g l r (z ∙ j)) ∙ i in cc)
+        settled _ i w still c y = absurd y
 
-        waited : (n : Now) → r.now ≡ n → waits_now (is_top r.frames) n (Left t.lexeme s') ≡ true → TurnGoes g l (turn g l r (token_of t.lexeme p.1)) ts all → ⊥
-        waited (Now.Long v b) x w y = long_turn r t p.1 v b ts all x f.1 body y
-        waited _ x w y = absurd cc
+        waited : (n : Now) → r.now ≡ n → waits_now (is_top r.frames) n (Left t.lexeme s') ≡ true → Onto After x (turn g l r (token_of t.lexeme p.1)) → ⊥
+        waited (Now.Long v q) i w y = long_turn x r b v q i f.1 y
+        waited _ i w y = absurd cc
 
-        go : (b : Bool) → waits r (Left t.lexeme s') ≡ b → Streamed (run g l to (with_scan s r) (o ∷ os)) all
-        go true w = absurd (waited r.now refl w (going_turn g l r t ts all p.1 d p.2 (inl (sym agree ∙ w))))
-        go false w = settled (settle g l r) refl w (settle_same g l r.start r.context r.frames r.notes r.now)
-            (settle_still g l r.start r.context r.frames r.notes r.now) (settle_settled r.start r.context r.frames r.notes r.now ok)
-            (going_settle g l r t ts all p.1 d p.2 (sym agree ∙ w))
+        -- what is read on so is good
+        pub left_run : Good x (run g l to (with_scan s r) (o ∷ os))
+        left_run = go (waits r (Left t.lexeme s')) refl
+          where
+            go : (q : Bool) → waits r (Left t.lexeme s') ≡ q → Good x (run g l to (with_scan s r) (o ∷ os))
+            go true w = absurd (waited r.now refl w (turns x r b (inl (sym agree ∙ w))))
+            go false w =
+                let y = settles x r b (sym agree ∙ w) in
+                settled (settle g l r) refl w (settle_still g l r.start r.context r.frames r.notes r.now)
+                (settle_settled r.start r.context r.frames r.notes r.now ok) y
+
+  with_streamed' : (all others : List Value) (v : Value) (to : ℕ) (R : Run) → all ≡ v ∷ others → Streamed R others → Streamed (with_value v to R) all
+  with_streamed' all others v to R e h = with_streamed v to R others all h e
+
+  -- where values go on so, the tokens do
+  abbrev GoesOnto : List Placed → List Value → Turn → Type 0
+  GoesOnto ts = Onto (List Value) (λ all v others. all ≡ v ∷ others) (λ all r. Going g l r ts all)
+
+  goes_onto : (ts : List Placed) (all : List Value) (x : Turn) → TurnGoes g l x ts all → GoesOnto ts all x
+  goes_onto ts all (goes n) h = h
+  goes_onto ts all (gives v n) h = h
+  goes_onto ts all _ h = absurd h
+
+  module _ (t : Placed) (ts : List Placed) where
+    abbrev says_onto : (all : List Value) (r : Reading) → Going g l r (t ∷ ts) all
+        → (t.place ≡ place r) × (c : Content) × (said t.lexeme.kind t.lexeme.octets ≡ Ok c)
+    says_onto all r d = going_said g l r t ts all d
+
+    turns_onto : (all : List Value) (r : Reading) (d : Going g l r (t ∷ ts) all) → Direct g l r (token_of t.lexeme (says_onto all r d).1)
+        → GoesOnto ts all (turn g l r (token_of t.lexeme (says_onto all r d).1))
+    turns_onto all r d w = goes_onto ts all _ (going_turn g l r t ts all (says_onto all r d).1 d (says_onto all r d).2 w)
+
+    settles_onto : (all : List Value) (r : Reading) (d : Going g l r (t ∷ ts) all) → continues r (token_of t.lexeme (says_onto all r d).1) ≡ false
+        → GoesOnto (t ∷ ts) all (settle g l r)
+    settles_onto all r d w = goes_onto (t ∷ ts) all _ (going_settle g l r t ts all (says_onto all r d).1 d (says_onto all r d).2 w)
 
   -- what the end answers of a reading that is settled
   settled_ends : (used : ℕ) (all : List Value) (x : Turn) → TurnEnds g l x all → (last : Option Value) × (end_settled used x ≡ Ok last)
@@ -430,7 +458,7 @@ module _ (g : Catalog) (l : Limits) where
   -- the end ends a token
   module _ (s : Known) (t : Placed) (fine : Fine s) (exactly : Exact s) (ops : Operators (t ∷ [])) (r : Reading) (all : List Value) (calm : Calm s r)
       (d : Going g l r (t ∷ []) all) (e : at_end t.place s ≡ Ok (Some t.lexeme)) where
-    said_here : (t.place ≡ place r) × (c : Content) × (said t.lexeme.kind t.lexeme.octets ≡ Ok c)
+    abbrev said_here : (t.place ≡ place r) × (c : Content) × (said t.lexeme.kind t.lexeme.octets ≡ Ok c)
     said_here = going_said g l r t [] all d
 
     body_here : IsBody t.lexeme.kind t.lexeme.octets (Ok said_here.1)
@@ -453,7 +481,8 @@ module _ (g : Catalog) (l : Limits) where
     -- where no token was open, a last token ends what waits, and is refused
     none_idle : is_idle s.mode ≡ true → (t.lexeme.kind ≡ TokenKind.Mark Mark.Colon → continues r (token_of t.lexeme said_here.1) ≡ false) → ⊥
     none_idle i shut = elim ((at_end_fine t.place s t.lexeme e).4 i) [
-      | inl k ↦ settled_colon r t [] all top_here ok_here (going_settle g l r t [] all said_here.1 d said_here.2 (shut k)) k
+      | inl k ↦ settled_colon (List Value) (λ all v others. all ≡ v ∷ others) t (λ all k. Going g l k (t ∷ []) all) (λ all k. Going g l k [] all)
+          (says_onto t []) (turns_onto t []) (settles_onto t []) all r top_here ok_here (settles_onto t [] all r d (shut k)) k
       | inr k ↦ no_operator g l r t top_here said_here.0 ops.0 k
     ]
 
@@ -478,7 +507,8 @@ module _ (g : Catalog) (l : Limits) where
             let on : continues r (token_of t.lexeme said_here.1) ≡ true =
             long ∙ (ap (λ z. is_segment z || (is_top r.frames && is_two_quotes t.lexeme.kind t.lexeme.start t.lexeme.end)) k
             ∙ (ap (λ z. z && is_two_quotes t.lexeme.kind t.lexeme.start t.lexeme.end) top_here ∙ two)) in
-            long_turn r t said_here.1 w y [] all x (ap is_segment k) body_here (going_turn g l r t [] all said_here.1 d said_here.2 (inl on))
+            long_turn (List Value) (λ all v others. all ≡ v ∷ others) t (λ all k. Going g l k (t ∷ []) all) (λ all k. Going g l k [] all) (says_onto t [])
+            (turns_onto t []) (settles_onto t []) all r d w y x (ap is_segment k) (turns_onto t [] all r d (inl on))
           where
             ended : (t.lexeme.start ≡ start_of s.mode s.start s.used) × (t.lexeme.end ≡ s.used) → (s.used ≡ start_of s.mode s.start s.used + 2)
                 → (t.lexeme.end == t.lexeme.start + 2) ≡ true
@@ -587,8 +617,9 @@ module _ (g : Catalog) (l : Limits) where
       let p = going_said g l r t ts all d in
       let here : feed (place r) s o ≡ Left t.lexeme s' = ap (λ q. feed q s o) (sym p.0) ∙ e in
       let f = finely_as (place r) s o (Left t.lexeme s') fine here in
-      left_run s s' o t sane fine ex to os ts r all here ops calm d
-      (λ k rest c d. streams s' (o ∷ os) ts m f.3 f.0 (exactly_as (place r) s o (Left t.lexeme s') ex here) ops.1 to k rest c d)
+      left_run (List Value) (λ all v others. all ≡ v ∷ others) t (λ all k. Going g l k (t ∷ ts) all) (λ all k. Going g l k ts all) (says_onto t ts)
+      (turns_onto t ts) (settles_onto t ts) (λ all R. Streamed R all) with_streamed' s s' o sane fine ex ops.0 to os all r here (λ top. (calm top).0) d
+      (λ rest k c d. streams s' (o ∷ os) ts m f.3 f.0 (exactly_as (place r) s o (Left t.lexeme s') ex here) ops.1 to k rest c d)
 
   -- Each document is accepted, with its values.
   pub accepts : (u : List ℕ) (s : List Value) → Document g l u s → Streams (trace g l u) s

@@ -2,7 +2,7 @@
 use Rattle.std.proofs.Common.{◌≡◌, ◌≢◌, ℕ, suc, max, ◌+◌, ◌≤◌, ◌<◌, List, [], ◌∷◌, ◌++◌, length, map, Bool, true, false, ◌&&◌, ◌||◌, Ok, Option, Some, None, refl, ap, sym, ◌∙◌, subst, arith, append_assoc, if◌then◌else◌, ◌⊎◌, inl, inr, codes}
 use Rattle.std.proofs.lemmas.Bool.{cond-false, cond-true, false_from_ne_true, lt-ltb}
 use Rattle.std.specs.Str.{bytes_eq}
-use Rattle.ion_text.specs.Names.{Annotations, Bracket, Catalog, Content, Elements, Field, Frame, Held, IsBody, IsName, IsScalar, IsSymbol, IsWordBody, Kind, Limits, Listing, Long, Mark, Mark', Means, Members, Now, Operator, Payload, Place, Placed, Plain, Quoted, Reading, Row, Says, Segments, Short, Slot, Spells, Symbols, Token, TokenKind, Turn, Value, Word, adds_none, annotated, at, begins_long, begun_at, behind_waiting, by_long, by_short, by_symbol, close_place, comma, continues, continues_now, depth, done, element, ended, ends_long, field, field_comma, field_of, first_now, first_token, goes, greatest, held_payload, held_symbol, held_word, id_of, is_false, is_id, is_keyword, is_list, is_null, is_segment, is_struct, is_symbol, is_top, is_true, is_typed_null, is_version, is_version_word, is_word, item, joined, kind_named, long_at, long_string, means, name_at, no_annotation, no_element, no_field, no_item, noted, null_of, on_name, on_ready, on_turn, one_annotation, one_token, open_mark, opened, paid, pending_at, place, place_in, reads, reads-append, released, resolved, segment, settle, spot_at, the_marker, then_walk, token_of, turn, under}
+use Rattle.ion_text.specs.Names.{Annotations, Blob, Bracket, Catalog, Clob, Content, Elements, Field, Frame, Held, Id, IsBody, IsName, IsScalar, IsSymbol, IsWordBody, Kind, Limits, Listing, Long, Mark, Mark', Means, Members, Now, Number', Operator, Payload, Place, Placed, Plain, Quoted, Reading, Row, Says, Segments, Short, Slot, Symbols, Token, TokenKind, Turn, TypedNull, Value, Word, adds_none, annotated, at, begins_long, begun_at, behind_waiting, by_long, by_short, by_symbol, close_place, comma, continues, continues_now, depth, done, element, ended, ends_long, field, field_comma, field_of, first_now, first_token, goes, greatest, held_payload, held_symbol, held_word, id_of, is_false, is_id, is_keyword, is_list, is_null, is_segment, is_struct, is_symbol, is_top, is_true, is_typed_null, is_version, is_version_word, is_word, item, joined, kind_named, long_at, long_string, means, name_at, no_annotation, no_element, no_field, no_item, noted, null_of, on_name, on_ready, on_turn, one_annotation, one_token, open_mark, opened, paid, pending_at, place, place_in, reads, reads-append, released, resolved, segment, settle, spot_at, the_marker, then_walk, token_of, turn, under}
 use Rattle.ion_model.specs.declared.value.Payload.TheVariants as payloads
 use Rattle.ion_model.specs.laws.Measures.{deepest-more, depth-at-Fields, depth-at-List, depth-at-Sexp}
 use Rattle.ion_text.specs.Grammar.{end_of, is_quoted, is_sexp}
@@ -49,28 +49,42 @@ pub field_deepest-more : (ms : List Field) (m : Field) → field_depths (ms ++ m
 field_deepest-more [] m = omega arith
 field_deepest-more (n ∷ ms) m = omega (arith, field_deepest-more ms m)
 
--- what says a segment is one
-spelled_other : (said : Content) (octets w : List ℕ) → said ≢ Long w → Spells said octets (Ok (Long w)) → ⊥
-spelled_other said octets w n h = n (sym h.0)
+-- the kind of the tokens that say this
+abbrev pub kind_said : Content → TokenKind
+kind_said (Word w) = TokenKind.Word
+kind_said (Id id) = TokenKind.Word
+kind_said (TypedNull k) = TokenKind.KindName
+kind_said (Number' n) = TokenKind.Number
+kind_said (Operator w) = TokenKind.Operator
+kind_said (Quoted w) = TokenKind.QuotedSymbol
+kind_said (Short w) = TokenKind.ShortString
+kind_said (Long w) = TokenKind.LongString
+kind_said (Clob w) = TokenKind.Clob
+kind_said (Blob w) = TokenKind.Blob
+kind_said (Mark' m) = TokenKind.Mark m
+
+-- a token is of the kind of what it says
+pub body_kind : (k : TokenKind) (octets : List ℕ) (c : Content) → IsBody k octets (Ok c) → k ≡ kind_said c
+body_kind TokenKind.Word octets c h = go (id_of octets) h
+  where
+    go : (id : Option ℕ) → IsWordBody octets id (Ok c) → TokenKind.Word ≡ kind_said c
+    go None h = sym (ap kind_said h.0)
+    go (Some id) h = let e : c ≡ Id id = cc in sym (ap kind_said e)
+body_kind TokenKind.KindName octets c h = go (kind_named octets) h
+  where
+    go : (k : Option Kind) → Ok c ≡ null_of k → TokenKind.KindName ≡ kind_said c
+    go None h = absurd cc
+    go (Some k) h = let e : c ≡ TypedNull k = cc in sym (ap kind_said e)
+body_kind TokenKind.Number octets (Number' n) h = refl
+body_kind TokenKind.Number octets _ h = absurd h
+body_kind TokenKind.Clob octets c h = let e : c ≡ Clob octets = cc in sym (ap kind_said e)
+body_kind TokenKind.Blob octets c h = let e : c ≡ Blob octets = cc in sym (ap kind_said e)
+body_kind (TokenKind.Mark m) octets c h = let e : c ≡ Mark' m = cc in sym (ap kind_said e)
+body_kind _ octets c h = sym (ap kind_said h.0)
 
 -- what says a segment is a token of one
 pub segment_kind : (k : TokenKind) (octets w : List ℕ) → IsBody k octets (Ok (Long w)) → is_segment k ≡ true
-segment_kind TokenKind.Word octets w h = absurd (go (id_of octets) h)
-  where
-    go : (id : Option ℕ) → IsWordBody octets id (Ok (Long w)) → ⊥
-    go None h = spelled_other (Word octets) octets w (λ e. cc) h
-    go (Some id) h = cc
-segment_kind TokenKind.KindName octets w h = absurd (go (kind_named octets) h)
-  where
-    go : (k : Option Kind) → Ok (Long w) ≡ null_of k → ⊥
-    go None h = cc
-    go (Some k) h = cc
-segment_kind TokenKind.Number octets w h = absurd h
-segment_kind TokenKind.Operator octets w h = absurd (spelled_other (Operator octets) octets w (λ e. cc) h)
-segment_kind TokenKind.QuotedSymbol octets w h = absurd (spelled_other (Quoted octets) octets w (λ e. cc) h)
-segment_kind TokenKind.ShortString octets w h = absurd (spelled_other (Short octets) octets w (λ e. cc) h)
-segment_kind TokenKind.LongString octets w h = refl
-segment_kind _ octets w h = absurd cc
+segment_kind k octets w h = ap is_segment (body_kind k octets (Long w) h)
 
 -- the segments of a long string end in a long string
 pub segments_long : (p : Place) (ts : List Placed) (w : List ℕ) → Segments p ts w → ends_long ts ≡ true
@@ -83,22 +97,14 @@ segments_long p _ _ (joined ts v w t d h) = ends_long_more ts t ∙ segment_kind
 
 -- what says a word is the token of a word, of these octets
 pub word_token : (k : TokenKind) (octets w : List ℕ) → IsBody k octets (Ok (Word w)) → (k ≡ TokenKind.Word) × (octets ≡ w)
-word_token TokenKind.Word octets w h = (refl, go (id_of octets) h)
+word_token k octets w h = (kind, go (id_of octets) (subst (λ k. IsBody k octets (Ok (Word w))) kind h))
   where
+    kind : k ≡ TokenKind.Word
+    kind = body_kind k octets (Word w) h
+
     go : (id : Option ℕ) → IsWordBody octets id (Ok (Word w)) → octets ≡ w
     go None h = let e : Word w ≡ Word octets = h.0 in cc
     go (Some id) h = absurd cc
-word_token TokenKind.KindName octets w h = absurd (go (kind_named octets) h)
-  where
-    go : (k : Option Kind) → Ok (Word w) ≡ null_of k → ⊥
-    go None h = cc
-    go (Some k) h = cc
-word_token TokenKind.Number octets w h = absurd h
-word_token TokenKind.Operator octets w h = absurd (let e : Word w ≡ Operator octets = h.0 in cc)
-word_token TokenKind.QuotedSymbol octets w h = absurd (let e : Word w ≡ Quoted octets = h.0 in cc)
-word_token TokenKind.ShortString octets w h = absurd (let e : Word w ≡ Short octets = h.0 in cc)
-word_token TokenKind.LongString octets w h = absurd (let e : Word w ≡ Long octets = h.0 in cc)
-word_token _ octets w h = absurd cc
 
 -- an unannotated word of the form of a marker is held as one, and nothing else
 abbrev pub is_unmarked : Held → Bool

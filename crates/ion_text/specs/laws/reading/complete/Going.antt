@@ -1,9 +1,11 @@
 -- Tokens that go on to the end of a document, read one by one, and that the reader of octets has no reason to refuse before.
-use Rattle.std.proofs.Common.{◌≡◌, ℕ, ◌+◌, ◌≤◌, List, [], ◌∷◌, ◌++◌, Bool, true, false, Result, Ok, Option, Some, None, refl, ap, sym, ◌∙◌, subst, arith, ◌⊎◌, inl, inr}
+use Rattle.std.proofs.Common.{◌≡◌, ℕ, ◌+◌, ◌≤◌, List, [], ◌∷◌, ◌++◌, Bool, true, false, Result, Ok, refl, ap, sym, ◌∙◌, subst, arith, ◌⊎◌, inl, inr}
 use Rattle.std.proofs.lemmas.Bool.{cond-false}
-use Rattle.ion_text.specs.Names.{Catalog, Content, Frame, Given, IsBody, IsWordBody, Known, Leading, Left, Lexeme, Limits, Long, Mark, Mark', Mode, Next, Now, Operator, Place, Placed, Quoted, Reading, Reason, Says, Short, Slot, Symbols, Token, TokenKind, Turn, Value, Walk, Word, adds_values, at, begun_at, continues, done, end_of, feed, first_token, follow, fresh, gives, goes, id_of, in_place, is_fresh, is_idle, is_sexp, is_top, kind_named, null_of, on_judged, on_placed, on_turn, place, place_in, reads, said, said_body, same_is, same_place, settle, settle_same, settle_still, stopped, token_of, turn}
+use Rattle.ion_text.specs.Names.{Catalog, Content, Frame, Given, IsBody, Known, Leading, Left, Lexeme, Limits, Long, Mark, Mark', Mode, Next, Now, Operator, Place, Placed, Reading, Reason, Says, Slot, Symbols, Token, TokenKind, Turn, Value, Walk, adds_values, at, begun_at, continues, done, end_of, feed, first_token, follow, fresh, gives, goes, in_place, is_fresh, is_idle, is_sexp, is_top, on_judged, on_placed, on_turn, place, place_in, reads, said, said_body, same_is, same_place, settle, settle_same, settle_still, stopped, token_of, turn}
 use Rattle.ion_tokens.proofs.runs.Runs.{feed_used, left_used}
 use Rattle.ion_text.specs.machine.TokenLists.{walked}
+use Rattle.ion_text.specs.laws.reading.complete.Complete.{body_kind}
+use Rattle.ion_text.specs.laws.reading.complete.Pieces.{walked_now}
 use Rattle.ion_text.specs.laws.reading.complete.Meets.{Meets, at_blank, at_token, end_spans, finely_as, goes_on, idle_span, is_given, is_left, one_given}
 use Rattle.ion_text.specs.laws.reading.sound.Quotes.{Fine, is_close}
 use Rattle.ion_text.specs.laws.reading.sound.Spans.{IsClose, IsTopNow, IsWaiting, OpenAs, SettlesWithin, Spans, settle_spans, turn_spans}
@@ -26,23 +28,7 @@ start_inside _ start begin _ _ h = refl
 
 -- a mark is said by a mark alone
 pub mark_kind : (k : TokenKind) (octets : List ℕ) (m : _) → IsBody k octets (Ok (Mark' m)) → k ≡ TokenKind.Mark m
-mark_kind (TokenKind.Mark n) octets m h = ap TokenKind.Mark (let e : n ≡ m = cc in e)
-mark_kind TokenKind.Word octets m h = absurd (go (id_of octets) h)
-  where
-    go : (id : Option ℕ) → IsWordBody octets id (Ok (Mark' m)) → ⊥
-    go None h = let e : Mark' m ≡ Word octets = h.0 in cc
-    go (Some id) h = cc
-mark_kind TokenKind.KindName octets m h = absurd (go (kind_named octets) h)
-  where
-    go : (k : Option _) → Ok (Mark' m) ≡ null_of k → ⊥
-    go None h = cc
-    go (Some k) h = cc
-mark_kind TokenKind.Number octets m h = absurd h
-mark_kind TokenKind.Operator octets m h = absurd (let e : Mark' m ≡ Operator octets = h.0 in cc)
-mark_kind TokenKind.QuotedSymbol octets m h = absurd (let e : Mark' m ≡ Quoted octets = h.0 in cc)
-mark_kind TokenKind.ShortString octets m h = absurd (let e : Mark' m ≡ Short octets = h.0 in cc)
-mark_kind TokenKind.LongString octets m h = absurd (let e : Mark' m ≡ Long octets = h.0 in cc)
-mark_kind _ octets m h = absurd cc
+mark_kind k octets m h = body_kind k octets (Mark' m) h
 
 -- what closes a container is a close
 pub closes_kind : (k : TokenKind) (octets : List ℕ) (said : Content) → IsClose false said → IsBody k octets (Ok said) → is_close k ≡ true
@@ -68,37 +54,34 @@ module _ (g : Catalog) (l : Limits) where
   TurnGoes (gives v r) ts all = (rest : List Value) × (all ≡ v ∷ rest) × Going r ts rest
   TurnGoes _ ts all = ⊥
 
-  values_in : Walk → List Value
-  values_in (walked vs r) = vs
-  values_in stopped = []
-
-  reading_in : Reading → Walk → Reading
-  reading_in d (walked vs r) = r
-  reading_in d stopped = d
-
-  added : (v : Value) (vs : List Value) (n : Reading) (w : Walk) → adds_values (v ∷ []) w ≡ walked vs n → (ws : List Value) × (w ≡ walked ws n) × (vs ≡ v ∷ ws)
-  unfolding values_in reading_in
-  added v vs n (walked ws m) e = (ws, ap (walked ws) (ap (reading_in n) e), sym (ap values_in e))
-  added v vs n stopped e = absurd cc
+  -- what is added in front changes nothing else
+  pub added : (us vs : List Value) (n : Reading) (w : Walk) → adds_values us w ≡ walked vs n → (ws : List Value) × (w ≡ walked ws n) × (vs ≡ us ++ ws)
+  added us vs n (walked ws m) e = let same = walked_now g l (us ++ ws) vs m n e in (ws, ap (walked ws) same.1, sym same.0)
+  added us vs n stopped e = absurd cc
 
   turn_goes : (t : Turn) (ts : List Placed) (vs later all : List Value) (n : Reading) (c : List Slot) → on_turn t (λ k. reads g l k ts) ≡ walked vs n
       → on_turn (settle g l n) done ≡ walked later (fresh c) → all ≡ vs ++ later → TurnGoes t ts all
   turn_goes (goes r) ts vs later all n c e f h = record { vs = vs; later = later; n = n; c = c; read = e; ends = f; whole = h }
   turn_goes (gives v r) ts vs later all n c e f h =
-      let a = added v vs n (reads g l r ts) e in
+      let a = added (v ∷ []) vs n (reads g l r ts) e in
       (a.0 ++ later, h ∙ ap (λ x. x ++ later) a.2, record { vs = a.0; later = later; n = n; c = c; read = a.1; ends = f; whole = refl })
   turn_goes _ ts vs later all n c e f h = absurd cc
 
   -- a token that is read next stands in its place and says something
-  pub going_said : (r : Reading) (t : Placed) (ts : List Placed) (all : List Value) → Going r (t ∷ ts) all → (t.place ≡ place r) × (c : Content)
+  pub reads_said : (r n : Reading) (t : Placed) (ts : List Placed) (vs : List Value) → reads g l r (t ∷ ts) ≡ walked vs n → (t.place ≡ place r) × (c : Content)
       × (said t.lexeme.kind t.lexeme.octets ≡ Ok c)
-  going_said r t ts all d = go (same_place t.place (place r)) refl (said t.lexeme.kind t.lexeme.octets) refl d.read
+  reads_said r n t ts vs read = go (same_place t.place (place r)) refl (said t.lexeme.kind t.lexeme.octets) refl read
     where
       go : (b : Bool) → same_place t.place (place r) ≡ b → (s : Result Content Reason) → said t.lexeme.kind t.lexeme.octets ≡ s
-          → on_placed g l b (on_judged g l r t s (λ k. reads g l k ts)) ≡ walked d.vs d.n → (t.place ≡ place r) × (c : Content)
+          → on_placed g l b (on_judged g l r t s (λ k. reads g l k ts)) ≡ walked vs n → (t.place ≡ place r) × (c : Content)
           × (said t.lexeme.kind t.lexeme.octets ≡ Ok c)
       go true e (Ok c) f h = (same_is t.place (place r) e, c, f)
       go _ e _ f h = absurd cc
+
+  -- so does one from which the tokens go on
+  pub going_said : (r : Reading) (t : Placed) (ts : List Placed) (all : List Value) → Going r (t ∷ ts) all → (t.place ≡ place r) × (c : Content)
+      × (said t.lexeme.kind t.lexeme.octets ≡ Ok c)
+  going_said r t ts all d = reads_said r d.n t ts d.vs d.read
 
   -- where a value may come, settling changes nothing
   pub ready_still : (r : Reading) → r.now ≡ Now.Ready → settle g l r ≡ goes r
@@ -120,16 +103,17 @@ module _ (g : Catalog) (l : Limits) where
       turn_goes (turn g l r (token_of t.lexeme c)) ts d.vs d.later all d.n d.c (sym (first_token g l (place r) r t c ts (says_so r t c p e) refl w) ∙ d.read)
       d.ends d.whole
 
-  -- where what waits doesn't go on with the token, it is settled to where the tokens go on
-  pub going_settle : (r : Reading) (t : Placed) (ts : List Placed) (all : List Value) (c : Content) → Going r (t ∷ ts) all → said t.lexeme.kind t.lexeme.octets
-      ≡ Ok c → continues r (token_of t.lexeme c) ≡ false → TurnGoes (settle g l r) (t ∷ ts) all
-  going_settle r t ts all c d e w = turn_goes (settle g l r) (t ∷ ts) d.vs d.later all d.n d.c (sym here ∙ d.read) d.ends d.whole
+  -- what waits is settled by a token that doesn't go on with it
+  pub settled_reads : (r : Reading) (t : Placed) (ts : List Placed) (c : Content) → t.place ≡ place r → said t.lexeme.kind t.lexeme.octets ≡ Ok c
+      → continues r (token_of t.lexeme c) ≡ false → reads g l r (t ∷ ts) ≡ on_turn (settle g l r) (λ k. reads g l k (t ∷ ts))
+  settled_reads r t ts c p e w =
+      in_place g l (place r) r t c (on_judged g l r t (said t.lexeme.kind t.lexeme.octets) (λ k. reads g l k ts)) (says_so r t c p e) refl
+      ∙ (ap (λ x. on_judged g l r t x (λ k. reads g l k ts)) e
+      ∙ (cond-false _ _ _ w
+      ∙ same (settle g l r) (settle_same g l r.start r.context r.frames r.notes r.now) (settle_still g l r.start r.context r.frames r.notes r.now)))
     where
       F : Reading → Walk
       F = λ k. on_turn (turn g l k (token_of t.lexeme c)) (λ k. reads g l k ts)
-
-      p : t.place ≡ place r
-      p = (going_said r t ts all d).0
 
       same : (x : Turn) → Leading g l (λ n. (place n ≡ place r) × (is_top n.frames ≡ is_top r.frames)) x → Leading g l (λ n. settle g l n ≡ goes n) x
           → on_turn x F ≡ on_turn x (λ k. reads g l k (t ∷ ts))
@@ -137,12 +121,11 @@ module _ (g : Catalog) (l : Limits) where
       same (gives v n) h k = ap (adds_values (v ∷ [])) (sym (first_token g l (place r) n t c ts (says_so r t c p e) (sym h.0) (inr k)))
       same _ h k = refl
 
-      here : reads g l r (t ∷ ts) ≡ on_turn (settle g l r) (λ k. reads g l k (t ∷ ts))
-      here =
-          in_place g l (place r) r t c (on_judged g l r t (said t.lexeme.kind t.lexeme.octets) (λ k. reads g l k ts)) (says_so r t c p e) refl
-          ∙ (ap (λ x. on_judged g l r t x (λ k. reads g l k ts)) e
-          ∙ (cond-false _ _ _ w
-          ∙ same (settle g l r) (settle_same g l r.start r.context r.frames r.notes r.now) (settle_still g l r.start r.context r.frames r.notes r.now)))
+  -- where what waits doesn't go on with the token, it is settled to where the tokens go on
+  pub going_settle : (r : Reading) (t : Placed) (ts : List Placed) (all : List Value) (c : Content) → Going r (t ∷ ts) all → said t.lexeme.kind t.lexeme.octets
+      ≡ Ok c → continues r (token_of t.lexeme c) ≡ false → TurnGoes (settle g l r) (t ∷ ts) all
+  going_settle r t ts all c d e w =
+      turn_goes (settle g l r) (t ∷ ts) d.vs d.later all d.n d.c (sym (settled_reads r t ts c (going_said r t ts all d).0 e w) ∙ d.read) d.ends d.whole
 
   -- what is settled at the end
   abbrev pub TurnEnds : Turn → List Value → Type 0
@@ -151,19 +134,16 @@ module _ (g : Catalog) (l : Limits) where
   TurnEnds _ all = ⊥
 
   turn_ends : (t : Turn) (all : List Value) (c : List Slot) → on_turn t done ≡ walked all (fresh c) → TurnEnds t all
-  unfolding values_in reading_in
-  turn_ends (goes r) all c e = ((c, ap (reading_in r) e), sym (ap values_in e))
-  turn_ends (gives v r) all c e = ((c, ap (reading_in r) e), sym (ap values_in e))
+  turn_ends (goes r) all c e = let same = walked_now g l [] all r (fresh c) e in ((c, same.1), sym same.0)
+  turn_ends (gives v r) all c e = let same = walked_now g l (v ∷ []) all r (fresh c) e in ((c, same.1), sym same.0)
   turn_ends _ all c e = absurd cc
 
   -- where no token is left, what waits is settled to a whole document
   pub going_ends : (r : Reading) (all : List Value) → Going r [] all → TurnEnds (settle g l r) all
-  unfolding values_in reading_in
   going_ends r all d =
-      let none : [] ≡ d.vs = ap values_in d.read in
-      let same : r ≡ d.n = ap (reading_in r) d.read in
-      turn_ends (settle g l r) all d.c (ap (λ x. on_turn (settle g l x) done) same
-      ∙ (d.ends ∙ ap (λ x. walked x (fresh d.c)) (sym (d.whole ∙ ap (λ x. x ++ d.later) (sym none)))))
+      let walk = walked_now g l [] d.vs r d.n d.read in
+      turn_ends (settle g l r) all d.c (ap (λ x. on_turn (settle g l x) done) walk.1
+      ∙ (d.ends ∙ ap (λ x. walked x (fresh d.c)) (sym (d.whole ∙ ap (λ x. x ++ d.later) (sym walk.0)))))
 
   -- in a container the tokens aren't at an end
   pub inside_end : (r : Reading) (all : List Value) → is_top r.frames ≡ false → Going r [] all → ⊥

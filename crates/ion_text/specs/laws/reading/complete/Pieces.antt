@@ -1,11 +1,11 @@
 -- The tokens of a document lead the reader to its stream.
-use Rattle.std.proofs.Common.{◌≡◌, ℕ, ◌+◌, ◌-◌, ◌≤◌, ◌==◌, nat_le, List, [], ◌∷◌, ◌++◌, Bool, true, false, ◌&&◌, ◌||◌, Ok, Option, Some, None, refl, ap, sym, ◌∙◌, subst, arith, append-nil, if◌then◌else◌, ◌⊎◌, inl, inr}
+use Rattle.std.proofs.Common.{◌≡◌, ℕ, ◌+◌, ◌-◌, ◌≤◌, ◌==◌, nat_le, List, [], ◌∷◌, ◌++◌, Bool, true, false, ◌&&◌, ◌||◌, Ok, refl, ap, sym, ◌∙◌, subst, arith, append-nil, if◌then◌else◌, ◌⊎◌, inl, inr}
 use Rattle.std.proofs.lemmas.Bool.{cond-false, cond-true, false_from_ne_true}
 use Rattle.std.proofs.lemmas.Bool.Decides.{nat_tests}
-use Rattle.ion_text.specs.Names.{Annotations, Catalog, Content, IsBody, IsWordBody, Kind, Leading, Limits, Long, Mark, Mark', Means, Now, Operator, Pieces, Place, Placed, Quoted, Reading, Says, Short, Slot, Symbols, Token, TokenKind, Turn, Value, Walk, Word, adds_adds, adds_none, adds_values, annotated, at, begins, begins_as_long, continues, done, ends_long, first_token, fresh, gives, goes, held_word, holds, id_of, in_place, is_segment, is_table, is_top, is_two_quotes, is_version_word, kind_named, marked, means, no_annotation, null_of, on_judged, on_turn, one_annotation, place, reads, reads-append, released, said, said_ok, settle, settle_same, span, spot_at, stopped, system_slots, the_marker, then_walk, token_of, turn, turned, turns, under}
+use Rattle.ion_text.specs.Names.{Annotations, Catalog, Content, IsBody, Leading, Limits, Long, Mark, Mark', Means, Now, Pieces, Place, Placed, Quoted, Reading, Says, Slot, Symbols, Token, TokenKind, Turn, Value, Walk, Word, adds_adds, adds_none, adds_values, annotated, at, begins, begins_as_long, continues, done, ends_long, first_token, fresh, gives, goes, held_word, holds, in_place, is_segment, is_table, is_top, is_two_quotes, is_version_word, marked, means, no_annotation, on_judged, on_turn, one_annotation, place, reads, reads-append, released, said, said_ok, settle, settle_same, span, spot_at, stopped, system_slots, the_marker, then_walk, token_of, turn, turned, turns, under}
 use Rattle.ion_text.specs.Grammar.{end_of}
 use Rattle.ion_text.specs.machine.TokenLists.{walked}
-use Rattle.ion_text.specs.laws.reading.complete.Complete.{Begins, LeadsToTurn, at_once, by_held, by_long', means_begins, means_read, pending_goes, segment_kind, starts, word_token}
+use Rattle.ion_text.specs.laws.reading.complete.Complete.{body_kind, Begins, LeadsToTurn, at_once, by_held, by_long', means_begins, means_read, pending_goes, segment_kind, starts, word_token}
 
 -- a token that goes on behind a long string at the top level: a segment, or `''`
 abbrev pub GoesOn : Token → Type 0
@@ -13,22 +13,7 @@ GoesOn t = ((w : List ℕ) × (t.said ≡ Long w)) ⊎ ((w : List ℕ) × (t.sai
 
 -- what says a quoted symbol is the token of one
 pub quoted_kind : (k : TokenKind) (octets w : List ℕ) → IsBody k octets (Ok (Quoted w)) → k ≡ TokenKind.QuotedSymbol
-quoted_kind TokenKind.QuotedSymbol octets w h = refl
-quoted_kind TokenKind.Word octets w h = absurd (go (id_of octets) h)
-  where
-    go : (id : Option ℕ) → IsWordBody octets id (Ok (Quoted w)) → ⊥
-    go None h = let e : Quoted w ≡ Word octets = h.0 in cc
-    go (Some id) h = cc
-quoted_kind TokenKind.KindName octets w h = absurd (go (kind_named octets) h)
-  where
-    go : (k : Option Kind) → Ok (Quoted w) ≡ null_of k → ⊥
-    go None h = cc
-    go (Some k) h = cc
-quoted_kind TokenKind.Number octets w h = absurd h
-quoted_kind TokenKind.Operator octets w h = absurd (let e : Quoted w ≡ Operator octets = h.0 in cc)
-quoted_kind TokenKind.ShortString octets w h = absurd (let e : Quoted w ≡ Short octets = h.0 in cc)
-quoted_kind TokenKind.LongString octets w h = absurd (let e : Quoted w ≡ Long octets = h.0 in cc)
-quoted_kind _ octets w h = absurd cc
+quoted_kind k octets w h = body_kind k octets (Quoted w) h
 
 begins_so : (t : Placed) (ts : List Placed) (c : Content) → Says Place.Top t c → GoesOn (token_of t.lexeme c) → begins_as_long (t ∷ ts) ≡ true
 begins_so t ts c h (inl (w, e)) = ap (λ (b : Bool). b || is_two_quotes t.lexeme.kind t.lexeme.start t.lexeme.end)

@@ -4,36 +4,24 @@ use Rattle.std.proofs.lemmas.Bool.{and_right, or_from, or_parts}
 use Rattle.std.proofs.lemmas.Bool.Decides.{nat_tests}
 use Rattle.ion_text.specs.Names.{Action, Content, Frame, Given, Held, IsBody, Keep, Known, Left, Lexeme, Long, Mark, Mark', Mode, Next, Now, Outcome, Place, Placed, Quoted, Reason, Style, TokenKind, Within, acts, at_end, before, continues_now, end_of, ends_at, feed, in_text, is_closing, is_colons, is_idle, is_quoted, is_quoting, is_sane, is_segment, is_top, is_two_quotes, raw, start_of, token_of, waits_now}
 use Rattle.ion_tokens.specs.machine.Table.{next}
-use Rattle.ion_text.specs.laws.reading.complete.Complete.{segment_kind}
+use Rattle.ion_text.specs.laws.reading.complete.Complete.{body_kind, kind_said, segment_kind}
 use Rattle.ion_text.specs.laws.reading.complete.Exact.{Exact, exact}
-use Rattle.ion_text.specs.laws.reading.complete.Going.{mark_kind}
 use Rattle.ion_text.specs.laws.reading.complete.Meets.{IdleLeft, MeetsNext, begun_apart, begun_closing, finely_as, follows_as, idle_left, raw_text, text, text_text}
 use Rattle.ion_text.specs.laws.reading.complete.Pieces.{quoted_kind}
 use Rattle.ion_text.specs.laws.reading.sound.Quotes.{Fine, left_none}
 use Rattle.ion_text.specs.laws.reading.sound.StandsOpen.{no_segment}
 
--- what a token says that isn't a mark, and is no segment
-
-abbrev pub is_mark_said : Content → Bool
-is_mark_said (Mark' m) = true
-is_mark_said _ = false
-
 -- the octet at which a token is given or left shows what waits to go on, or not, as the token does
-
-no_colons : (k : TokenKind) (octets : List ℕ) (c : Content) → is_mark_said c ≡ false → IsBody k octets (Ok c) → is_colons k ≡ false
-no_colons (TokenKind.Mark m) octets c h b = absurd (let e : c ≡ Mark' m = cc in let n : false ≡ true = sym h ∙ ap is_mark_said e in cc)
-no_colons _ octets c h b = refl
-
-mark_colons : (m : Mark) (top : Bool) (h : Held) (e start end : ℕ) → is_colons (TokenKind.Mark m)
-    ≡ continues_now top (Now.Pending h e) (record { start = start; end = end; said = Mark' m })
-mark_colons Mark.Colons top h e start end = refl
-mark_colons _ top h e start end = refl
 
 -- a token is `::` just where a symbol that waits goes on with what it says
 pub colons_agree : (top : Bool) (h : Held) (e start end : ℕ) (k : TokenKind) (octets : List ℕ) (c : Content) → IsBody k octets (Ok c)
     → is_colons k ≡ continues_now top (Now.Pending h e) (record { start = start; end = end; said = c })
-colons_agree top h e start end k octets (Mark' m) b = ap is_colons (mark_kind k octets m b) ∙ mark_colons m top h e start end
-colons_agree top h e start end k octets x b = no_colons k octets x refl b
+colons_agree top h e start end k octets c b = ap is_colons (body_kind k octets c b) ∙ by c
+  where
+    by : (c : Content) → is_colons (kind_said c) ≡ continues_now top (Now.Pending h e) (record { start = start; end = end; said = c })
+    by (Mark' Mark.Colons) = refl
+    by (Mark' _) = refl
+    by _ = refl
 
 -- what is said is a segment
 abbrev pub is_long_said : Content → Bool

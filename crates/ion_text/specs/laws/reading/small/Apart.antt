@@ -6,14 +6,14 @@ use Rattle.std.proofs.lemmas.Bool.Decides.{nat_tests}
 use Rattle.ion_text.specs.Names.{BeginsWith, Catalog, Content, IsBody, Leading, LexesTo, Limits, Mark, Mark', Place, Placed, Reading, TokenKind, Turn, Value, Whole, adds_values, begins_as_long, colon_behind, continues, done, ends_long, fresh, gives, goes, initial, is_long, is_sexp, is_two_quotes, nodes, on_turn, place, reads, said, said_body, settle, settle_still, system_slots, token_of, turn}
 use Rattle.ion_text.specs.machine.TokenLists.{walked}
 use Rattle.ion_text.specs.laws.reading.complete.Complete.{Begins}
-use Rattle.ion_text.specs.laws.reading.complete.Going.{Going, TurnGoes, going_said, going_settle, going_turn, mark_kind}
+use Rattle.ion_text.specs.laws.reading.complete.Going.{Going, TurnGoes, added, going_said, going_settle, going_turn, mark_kind}
 use Rattle.ion_text.specs.laws.reading.complete.Pieces.{ReadSoFar, more_read, pieces_read, walked_now}
 use Rattle.ion_text.specs.laws.reading.small.Sizes.{Weighs, open_nodes, settle_weighs, turn_weighs, wait_end}
 use Rattle.ion_text.specs.laws.showing.shown.Opened.{blank_token, colons_token, long_token, quoted_token, segment_is}
 use Rattle.ion_text.specs.laws.showing.tokens.Compare.{Compared, Found', begins_after, compare, lexes_once}
 use Rattle.ion_text.specs.laws.showing.tokens.Cuts.{Parted, parted}
 use Rattle.ion_text.specs.laws.showing.tokens.Once.{going_once, operator_inside, some_token, whole_ends, whole_found, whole_going, whole_operators}
-use Rattle.ion_text.specs.laws.showing.tokens.Walks.{adds_is, behind_read, walking_said}
+use Rattle.ion_text.specs.laws.showing.tokens.Walks.{behind_read, walking_said}
 
 -- 1. Tokens that give one value: it has at most as many nodes as they are, and as are open before them.
 
@@ -183,7 +183,7 @@ module _ (g : Catalog) (l : Limits) (front following : List ℕ) (s : List Value
         } in
         let read : adds_values s (reads g l (fresh w.context) (y ∷ ys)) ≡ walked d.vs d.n = sym (more_read g l w.tokens (y ∷ ys) s w.context so_far first shut)
         ∙ d.read in
-        let there = adds_is g l s d.vs d.n (reads g l (fresh w.context) (y ∷ ys)) read in
+        let there = added g l s d.vs d.n (reads g l (fresh w.context) (y ∷ ys)) read in
         let same = walked_now g l (s ++ there.0) d.vs d.n d.n (sym (ap (adds_values s) there.1) ∙ read) in (
           there.0 ++ d.later,
           d.whole ∙ (ap (λ x. x ++ d.later) (sym same.0) ∙ append_assoc s there.0 d.later),

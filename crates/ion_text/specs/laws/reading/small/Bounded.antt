@@ -1,8 +1,8 @@
 -- No more octets are kept than an item may have.
-use Rattle.std.proofs.Common.{◌≡◌, ℕ, zero, suc, ◌+◌, ◌-◌, ◌≤◌, Bool, true, false, ◌||◌, List, [], ◌∷◌, ◌++◌, length, Result, Ok, Err, Option, Some, None, refl, sym, ap, ◌∙◌, subst, arith, ◌⊎◌, inl, inr, if◌then◌else◌}
-use Rattle.ion_text.specs.laws.reading.Effects.{noticed_each, said_each, worse_each}
+use Rattle.std.proofs.Common.{◌≡◌, ℕ, ◌+◌, ◌-◌, ◌≤◌, Bool, true, false, ◌||◌, List, [], ◌∷◌, ◌++◌, length, Ok, Option, Some, None, refl, sym, ap, ◌∙◌, subst, arith, ◌⊎◌, inl, inr, if◌then◌else◌}
+use Rattle.ion_text.specs.laws.reading.Effects.{GivesSo, LeavesSo, ScansSo, SettlesSo, takes_each}
 use Rattle.std.proofs.lemmas.Bool.{cond_both}
-use Rattle.ion_text.specs.Names.{Begun, Catalog, Content, Effect, Follows, Form, Frame, Given, Held, IsBody, IsSteady, Known, Leading, Left, Lexeme, LexesTo, Limits, Mode, Next, Now, Operator, Outcome, Payload, Place, Placed, Ran, Reading, Reason, Refused, Run, Slot, Spot, State, Style, Symbols, TokenKind, Turn, Value, at, begun, begun_in, behind, behind_given, behind_left, ended, feed, form_of, gives, goes, held_in, held_payload, is_idle, is_long_begun, is_long_form, is_sane, is_sexp, is_top, late, leaves, longest_top, noticed, on_octet, on_scan, on_settled, paid, place, place_in, plain, reaches, refuses, released, run, said, said_body, settle, settle_same, settled, spot_at, takes, token_at, token_of, turn, turn_now, under, unkept, unsettled, with_scan}
+use Rattle.ion_text.specs.Names.{Begun, Catalog, Content, Effect, Follows, Form, Frame, Given, IsBody, IsSteady, Known, Leading, Left, Lexeme, LexesTo, Limits, Mode, Next, Now, Operator, Outcome, Place, Placed, Ran, Reading, Refused, Run, Slot, Spot, State, Style, Symbols, TokenKind, Turn, Value, at, begun, begun_in, behind, ended, feed, form_of, gives, goes, held_in, is_idle, is_long_begun, is_long_form, is_sane, is_sexp, is_top, leaves, longest_top, place, place_in, plain, reaches, run, said, said_body, settle, settle_same, takes, token_at, token_of, turn, turn_now, under, unkept}
 use Rattle.ion_tokens.specs.laws.Follows.{feed_follows}
 use Rattle.ion_tokens.proofs.foreseen.Reaches.{begun_stays}
 use Rattle.ion_tokens.proofs.sound.Holds.{InMode}
@@ -11,6 +11,7 @@ use Rattle.ion_text.specs.laws.reading.sound.Held.{IsFirst, none_open}
 use Rattle.ion_text.specs.laws.reading.sound.Quotes.{Fine, Finely, feed_fine}
 use Rattle.ion_text.specs.laws.reading.sound.StandsOpen.{NowStands}
 use Rattle.ion_text.specs.laws.reading.sound.Steps.{Stood, StoodBehind, begun_stood, run_ran}
+use Rattle.ion_text.specs.machine.Ways.{SettledWay, ValueWay, settled_held, settled_text, settled_way, value_given}
 use Rattle.ion_text.specs.laws.showing.shown.OpenRests.{start_before}
 use Rattle.ion_text.specs.laws.showing.shown.Within.{EndsWithin, Within, begun_within}
 use Rattle.ion_text.specs.laws.showing.tokens.Cuts.{OpenBehind, behind_tokens}
@@ -134,27 +135,17 @@ module _ (g : Catalog) (l : Limits) where
   TopGives fs (gives v n) = is_top fs ≡ true
   TopGives fs _ = Unit {0}
 
-  at_top : (t : Turn) → TopGives [] t
-  at_top (gives v n) = refl
-  at_top _ = tt
+  value_top : (spot : Spot) (v : Value) (fs : List Frame) (t : Turn) → ValueWay (under g l) spot v fs t → TopGives fs t
+  value_top spot v _ _ (value_given fits) = refl
+  value_top spot v _ _ _ = tt
 
-  ended_top : (spot : Spot) (fs : List Frame) (v : Value) → TopGives fs (ended (under g l) spot fs v)
-  ended_top spot [] v = at_top (ended (under g l) spot [] v)
-  ended_top spot (Frame.Items listing ss vs ∷ fs) v = tt
-  ended_top spot _ v = tt
-
-  paid_top : (spot : Spot) (fs : List Frame) (ss : Symbols) (q : Result Payload Reason) → TopGives fs (paid (under g l) spot fs ss q)
-  paid_top spot fs ss (Ok q) = ended_top spot fs _
-  paid_top spot fs ss (Err e) = tt
-
-  released_top : (spot : Spot) (fs : List Frame) (ss : Symbols) (h : Held) → TopGives fs (released (under g l) spot fs ss h)
-  released_top spot [] ss h = at_top (released (under g l) spot [] ss h)
-  released_top spot (f ∷ fs) ss h = paid_top spot (f ∷ fs) ss (held_payload h)
-
-  settled_top : (start : ℕ) (c : List Slot) (fs : List Frame) (ss : Symbols) (now : Now) → TopGives fs (settled (under g l) start c fs ss now)
-  settled_top start c fs ss (Now.Pending h end) = released_top (spot_at end start c) fs ss h
-  settled_top start c fs ss (Now.Long w end) = ended_top (spot_at end start c) fs _
-  settled_top start c fs ss _ = tt
+  settled_top : (start : ℕ) (c : List Slot) (fs : List Frame) (ss : Symbols) (now : Now) → TopGives fs (settle g l (at start c fs ss now))
+  settled_top start c fs ss now = by fs now _ (settled_way g l start c fs ss now)
+    where
+      by : (fs : List Frame) (now : Now) (t : Turn) → SettledWay g l start c ss fs now t → TopGives fs t
+      by _ _ _ (settled_held fs h end q t flat way) = value_top _ _ fs t way
+      by _ _ _ (settled_text fs w end t way) = value_top _ _ fs t way
+      by _ _ _ _ = tt
 
   -- in a container it stays open, and gives nothing
   abbrev StaysInside : Turn → Type 0
@@ -183,82 +174,65 @@ module _ (g : Catalog) (l : Limits) where
     KeptBehind (leaves v m) = NoneOrFirst m.scan
     KeptBehind _ = Unit {0}
 
-    noticed_kept : (r : Reading) (s : Known) → KeptBehind (noticed l r s)
-    noticed_kept r s = noticed_each KeptBehind l r s tt tt tt
+    -- what is known where the octet comes again
+    abbrev Stands : Known → Reading → Type 0
+    Stands s r = (is_sane s.mode ≡ true) × Fine s × KeptTop s r
 
-    given_kept : (s : Known) (t : Turn) → KeptBehind (behind_given l s t)
-    given_kept s (goes r) = noticed_kept r s
-    given_kept s (late e r) = worse_each KeptBehind e (noticed l r s) (λ f. tt)
+    given_kept : (s : Known) (t : Turn) → GivesSo g l KeptBehind (λ e. tt) Stands s t
+    given_kept s (goes r) = λ k. tt
     given_kept s _ = tt
 
-    abbrev AgainKept : (State → Effect) → Type 0
-    AgainKept again = (k : State) → is_sane k.scan.mode ≡ true → Fine k.scan → KeptTop k.scan k.reading → KeptBehind (again k)
+    abbrev LeftKept : Known → Turn → Type 0
+    LeftKept s t = LeavesSo g l KeptBehind (λ e. tt) Stands s t
 
     -- behind a token that was left none is open
-    left_idle : (again : State → Effect) (s : Known) (t : Turn) → AgainKept again → is_sane s.mode ≡ true → Fine s → held_in s ≡ 0
-        → KeptBehind (behind_left again s t)
-    left_idle again s (goes r) f sane fine h = f (with_scan s r) sane fine (λ _. inl h)
-    left_idle again s (gives v r) f sane fine h = inl h
-    left_idle again s (refuses e) f sane fine h = tt
-    left_idle again s (late e r) f sane fine h = worse_each KeptBehind e (again (with_scan s r)) (λ f. tt)
+    left_idle : (s : Known) (t : Turn) → is_sane s.mode ≡ true → Fine s → held_in s ≡ 0 → LeftKept s t
+    left_idle s (goes r) sane fine h = (sane, fine, λ _. inl h)
+    left_idle s (gives v r) sane fine h = inl h
+    left_idle s _ sane fine h = tt
 
     -- or it is an operator in an s-expression
-    left_inside : (again : State → Effect) (s : Known) (t : Turn) → AgainKept again → is_sane s.mode ≡ true → Fine s → StaysInside t
-        → KeptBehind (behind_left again s t)
-    left_inside again s (goes r) f sane fine h = f (with_scan s r) sane fine (λ e. absurd (let n : true ≡ false = sym e ∙ h in cc))
-    left_inside again s (gives v r) f sane fine h = absurd h
-    left_inside again s (refuses e) f sane fine h = tt
-    left_inside again s (late e r) f sane fine h = worse_each KeptBehind e (again (with_scan s r)) (λ f. tt)
+    left_inside : (s : Known) (t : Turn) → is_sane s.mode ≡ true → Fine s → StaysInside t → LeftKept s t
+    left_inside s (goes r) sane fine h = (sane, fine, λ e. absurd (let n : true ≡ false = sym e ∙ h in cc))
+    left_inside s (gives v r) sane fine h = absurd h
+    left_inside s _ sane fine h = tt
 
-    module _ (r : Reading) (p : Place) (inside : is_sexp p ≡ true → is_top r.frames ≡ false) (again : State → Effect) (f : AgainKept again) where
+    module _ (r : Reading) (p : Place) (inside : is_sexp p ≡ true → is_top r.frames ≡ false) where
       left_kept : (m : Mode) (x : Lexeme) (s : Known) → Follows p m (Left x s) → Finely m (Left x s) → (c : Content) → said x.kind x.octets ≡ Ok c
-          → KeptBehind (behind_left again s (turn g l r (token_of x c)))
+          → LeftKept s (turn g l r (token_of x c))
       left_kept m x s fo fi c e = by fi.4 (is_sexp p) refl
         where
-          idle : is_idle s.mode ≡ true → KeptBehind (behind_left again s (turn g l r (token_of x c)))
-          idle i = left_idle again s (turn g l r (token_of x c)) f fi.3 fi.0 (idle_held s i)
+          idle : is_idle s.mode ≡ true → LeftKept s (turn g l r (token_of x c))
+          idle i = left_idle s (turn g l r (token_of x c)) fi.3 fi.0 (idle_held s i)
 
-          by : (is_idle s.mode ≡ true) ⊎ (x.kind ≡ TokenKind.Operator) → (b : Bool) → is_sexp p ≡ b → KeptBehind (behind_left again s (turn g l r (token_of x c)))
+          by : (is_idle s.mode ≡ true) ⊎ (x.kind ≡ TokenKind.Operator) → (b : Bool) → is_sexp p ≡ b → LeftKept s (turn g l r (token_of x c))
           by (inl i) b q = idle i
           by (inr k) false q = idle (fo.0 q)
           by (inr k) true q =
-              left_inside again s (turn g l r (token_of x c)) f fi.3 fi.0
+              left_inside s (turn g l r (token_of x c)) fi.3 fi.0
               (subst (λ y. StaysInside (turn g l r (token_of x y))) (sym (operator_says x c k e))
               (operator_inside x.start x.end r.start r.context r.frames r.notes x.octets r.now (inside q)))
 
-      scan_kept : (m : Mode) (x : Outcome) → Follows p m x → Finely m x → KeptBehind (on_scan g l again r x)
-      scan_kept m (Next s) fo fi = noticed_kept r s
-      scan_kept m (Given x s) fo fi = said_each KeptBehind (said x.kind x.octets) (λ c. behind_given l s (turn g l r (token_of x c)))
-          (λ c e. given_kept s (turn g l r (token_of x c))) (λ e k. tt)
-      scan_kept m (Left x s) fo fi = said_each KeptBehind (said x.kind x.octets) (λ c. behind_left again s (turn g l r (token_of x c)))
-          (left_kept m x s fo fi) (λ e k. tt)
-      scan_kept m (Refused n e) fo fi = tt
+      scans_kept : (m : Mode) (x : Outcome) → Follows p m x → Finely m x → ScansSo g l KeptBehind (λ e. tt) Stands r x
+      scans_kept m (Next s) fo fi = λ k. tt
+      scans_kept m (Given x s) fo fi = λ c e. given_kept s (turn g l r (token_of x c))
+      scans_kept m (Left x s) fo fi = left_kept m x s fo fi
+      scans_kept m (Refused n e) fo fi = tt
 
-    module _ (s : Known) (r : Reading) (kept : KeptTop s r) (again : State → Effect) (f : AgainKept again) where
-      turned_kept : (x : Outcome) → Follows (place r) s.mode x → Finely s.mode x → (t : Turn) → Leading g l (λ n. is_top n.frames ≡ is_top r.frames) t
-          → TopGives r.frames t → KeptBehind (on_settled g l again s x t)
-      turned_kept x fo fi (goes n) same top = scan_kept n (place r) (λ h. same ∙ sexp_open r.frames r.now h) again f s.mode x fo fi
-      turned_kept x fo fi (gives v n) same top = kept top
-      turned_kept x fo fi (refuses e) same top = tt
-      turned_kept x fo fi (late e n) same top = worse_each KeptBehind e (on_scan g l again n x) (λ f. tt)
-
-      same_top : (t : Turn) → Leading g l (λ n. (place n ≡ place r) × (is_top n.frames ≡ is_top r.frames)) t
-          → Leading g l (λ n. is_top n.frames ≡ is_top r.frames) t
-      same_top (refuses e) h = tt
-      same_top (late e n) h = tt
-      same_top _ h = h.1
-
-      octet_kept : (x : Outcome) → Follows (place r) s.mode x → Finely s.mode x → KeptBehind (on_octet g l again (with_scan s r) x)
-      octet_kept x fo fi = cond_both (unsettled s r x) (on_scan g l again r x) (on_settled g l again s x (settle g l r)) KeptBehind
-          (λ e. scan_kept r (place r) (λ h. sexp_open r.frames r.now h) again f s.mode x fo fi)
-          (λ e. turned_kept x fo fi (settle g l r) (same_top (settle g l r) (settle_same g l r.start r.context r.frames r.notes r.now))
-          (settled_top r.start r.context r.frames r.notes r.now))
+    settles_kept : (s : Known) (r : Reading) → KeptTop s r → (x : Outcome) → Follows (place r) s.mode x → Finely s.mode x → (t : Turn)
+        → Leading g l (λ n. (place n ≡ place r) × (is_top n.frames ≡ is_top r.frames)) t → TopGives r.frames t
+        → SettlesSo g l KeptBehind (λ e. tt) Stands s x t
+    settles_kept s r kept x fo fi (goes n) same top = scans_kept n (place r) (λ h. same.1 ∙ sexp_open r.frames r.now h) s.mode x fo fi
+    settles_kept s r kept x fo fi (gives v n) same top = kept top
+    settles_kept s r kept x fo fi _ same top = tt
 
     takes_kept : (n : ℕ) (m : State) (o : ℕ) → is_sane m.scan.mode ≡ true → Fine m.scan → KeptTop m.scan m.reading → KeptBehind (takes g l n m o)
-    takes_kept zero m o sane fine kept = tt
-    takes_kept (suc n) m o sane fine kept =
-        octet_kept m.scan m.reading kept (λ k. takes g l n k o) (λ k i j h. takes_kept n k o i j h) (feed (place m.reading) m.scan o)
-        (feed_follows (place m.reading) m.scan o sane) (feed_fine (place m.reading) m.scan o fine)
+    takes_kept n m o sane fine kept =
+        takes_each g l KeptBehind (λ e. tt) Stands o
+        (λ s r h e. scans_kept r (place r) (λ h. sexp_open r.frames r.now h) s.mode (feed (place r) s o) (feed_follows (place r) s o h.0)
+        (feed_fine (place r) s o h.1))
+        (λ s r h e. settles_kept s r h.2 (feed (place r) s o) (feed_follows (place r) s o h.0) (feed_fine (place r) s o h.1) (settle g l r)
+        (settle_same g l r.start r.context r.frames r.notes r.now) (settled_top r.start r.context r.frames r.notes r.now)) n m (sane, fine, kept)
 
   -- 3. What is held stands for octets.
 

@@ -2,12 +2,12 @@
 use Rattle.std.proofs.Common.{◌≡◌, ℕ, zero, suc, ◌+◌, ◌-◌, ◌≤◌, Bool, true, false, cond, List, [], refl, arith, Option, Some, None, Ok, ◌⊎◌, inl, inr}
 use Rattle.std.specs.Prelude.{◌==◌, ◌&&◌, ◌||◌, not, nat_le, bytes_eq, codes}
 use Rattle.std.specs.List.{list_all}
-use Rattle.std.proofs.lemmas.Bool.{and_parts, le-leb}
+use Rattle.std.proofs.lemmas.Bool.{and_parts, le-leb, leb-true}
 use Rattle.ion_text.specs.Names.{Action, End, Given, Keep, Known, Left, Lexeme, Mode, Next, Outcome, Place, Reason, Refused, TokenKind, acts, at_end, blob_ends, blob_of, cut, end_of, ends_at, feed, go_to, initial, is_idle, is_quoted, is_quoting, is_sexp, left_of, past, start_of}
 use Rattle.ion_tokens.specs.machine.Rows.{infinity_rows}
 use Rattle.ion_tokens.specs.machine.Table.{next}
 use Rattle.ion_tokens.specs.laws.ByRows.{by_mode, by_rows_where}
-use Rattle.ion_text.specs.laws.reading.sound.Quotes.{implies, is_left_in, le_of}
+use Rattle.ion_text.specs.laws.reading.sound.Quotes.{implies, is_left_in}
 
 -- At least so many octets were used since the open token began: one of its own, and those that may turn out to be no part of it.
 abbrev pub wants : Mode → ℕ
@@ -140,7 +140,7 @@ acts_measured : (p : Place) (s : Known) (o : ℕ) (a : Action)
     → length_fits (is_sexp p) (wants s.mode) (wants_next s.mode) (is_quoting s.mode) a ≡ true → Sized s → Measured p s (acts p s o a)
 acts_measured p s o (Action.Go m k) f z =
     let x = and_parts (nat_le (wants m) (wants_next s.mode)) (lettered m) f in
-    let n = le_of (wants m) (wants_next s.mode) x.0 in
+    let n = leb-true (wants m) (wants_next s.mode) x.0 in
     (record { enough = went m (start_of s.mode s.start s.used) s.used (wants s.mode) z.enough (omega (arith, n, next_wants s.mode)); letters = x.1 }, refl, n)
 acts_measured p s o (Action.Give kind k) f z =
     let e = z.enough in (
@@ -151,14 +151,14 @@ acts_measured p s o (Action.Give kind k) f z =
 acts_measured p s o (Action.Before kind k m) f z =
     let x = and_parts (is_left_in m && nat_le (wants m + 1) (wants s.mode)) (not (is_quoting s.mode) || is_quoted kind) f in
     let y = and_parts (is_left_in m) (nat_le (wants m + 1) (wants s.mode)) x.0 in
-    (left_ends p s kind _ m y.0 (le_of (wants m + 1) (wants s.mode) y.1) z, refl, implies (is_quoting s.mode) (is_quoted kind) x.1)
+    (left_ends p s kind _ m y.0 (leb-true (wants m + 1) (wants s.mode) y.1) z, refl, implies (is_quoting s.mode) (is_quoted kind) x.1)
 acts_measured p s o Action.EndWord f z = word ((o == 46) && bytes_eq s.kept (codes "null"))
   where
     x : (nat_le 1 (wants s.mode) ≡ true) × (not (is_quoting s.mode) ≡ true)
     x = and_parts (nat_le 1 (wants s.mode)) (not (is_quoting s.mode)) f
 
     n : 1 ≤ wants s.mode
-    n = le_of 1 (wants s.mode) x.0
+    n = leb-true 1 (wants s.mode) x.0
 
     less : (m : Mode) → 1 ≤ wants_next m
     less Mode.Number = omega arith
@@ -183,8 +183,8 @@ acts_measured p s o (Action.Split letters) f z =
     let x = and_parts (is_sexp p && not (is_quoting s.mode)) (nat_le 1 letters && nat_le (1 + letters) (wants s.mode)) f in
     let y = and_parts (is_sexp p) (not (is_quoting s.mode)) x.0 in
     let w = and_parts (nat_le 1 letters) (nat_le (1 + letters) (wants s.mode)) x.1 in
-    let a = le_of 1 letters w.0 in
-    let b = le_of (1 + letters) (wants s.mode) w.1 in
+    let a = leb-true 1 letters w.0 in
+    let b = leb-true (1 + letters) (wants s.mode) w.1 in
     let e = z.enough in (
       record {
         sized = record { enough = omega (arith, a, b, e); letters = refl };
@@ -201,7 +201,7 @@ acts_measured p s o Action.EndBlob f z = blob (blob_of s.kept)
   where
     blob : (b : Option (List ℕ)) → Measured p s (blob_ends s b)
     blob None = tt
-    blob (Some octets) = let e = z.enough in let n = le_of 1 (wants_next s.mode) f in
+    blob (Some octets) = let e = z.enough in let n = leb-true 1 (wants_next s.mode) f in
         (record { enough = omega (arith, e, n, next_wants s.mode); letters = refl }, refl, n)
 acts_measured p s o (Action.Refuse e) f z = tt
 

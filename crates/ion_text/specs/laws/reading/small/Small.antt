@@ -1,8 +1,8 @@
 -- Each value has at most as many nodes as octets were used since the value before it, and as the limit on items allows octets.
-use Rattle.std.proofs.Common.{◌≡◌, ℕ, zero, suc, ◌+◌, ◌≤◌, max, List, [], ◌∷◌, ◌++◌, length, Bool, true, false, Result, Ok, Err, Option, Some, None, refl, ap, sym, ◌∙◌, subst, arith, if◌then◌else◌, ◌⊎◌, inl, inr}
-use Rattle.ion_text.specs.laws.reading.Effects.{noticed_each, said_each, worse_each}
+use Rattle.std.proofs.Common.{◌≡◌, ℕ, ◌+◌, ◌≤◌, max, List, [], ◌∷◌, ◌++◌, length, Bool, true, false, Result, Ok, Err, Option, Some, None, refl, ap, sym, ◌∙◌, subst, arith, if◌then◌else◌, ◌⊎◌, inl, inr}
+use Rattle.ion_text.specs.laws.reading.Effects.{GivesSo, LeavesSo, ScansSo, SettlesSo, scan_each, takes_each}
 use Rattle.std.proofs.lemmas.Bool.{both_ways, or_cases, or_parts}
-use Rattle.ion_text.specs.Names.{Catalog, Content, Effect, Frame, Given, HasSpan, IsBody, IsSmall, Known, Leading, Left, Lexeme, Limits, Mark, Mark', Mode, Next, Now, Operator, Outcome, Place, Reading, Reason, Refusal, Refused, Run, Slot, Spaced, State, Symbols, TokenKind, Turn, Value, at, at_end, begun, behind_given, behind_left, cut_short, eats, end_late, end_now, end_of, end_ready, end_said, end_settled, end_turned, end_waiting, ends_of, fails, feed, fresh, gives, goes, in_segment, is_fresh, is_idle, is_quoted, is_quoting, is_sexp, is_top, late, leaves, long_waits, noticed, on_scan, on_settled, once_more, place, place_in, refuses, run, run_on, said, said_body, settle, settle_same, takes, tells, token_at, token_of, trace, turn, turn_now, under, unsettled, uses, waits, waits_now, with_scan}
+use Rattle.ion_text.specs.Names.{Catalog, Content, Effect, Frame, Given, HasSpan, IsBody, IsSmall, Known, Leading, Left, Lexeme, Limits, Mark, Mark', Mode, Next, Now, Operator, Outcome, Place, Reading, Reason, Refusal, Refused, Run, Slot, Spaced, State, Symbols, TokenKind, Turn, Value, at, at_end, begun, cut_short, eats, end_late, end_now, end_of, end_ready, end_said, end_settled, end_turned, end_waiting, ends_of, fails, feed, fresh, gives, goes, in_segment, is_fresh, is_idle, is_quoted, is_quoting, is_sexp, is_top, late, leaves, long_waits, once_more, place, place_in, refuses, run, run_on, said, said_body, settle, settle_same, takes, tells, token_at, token_of, trace, turn, turn_now, under, uses, waits, waits_now, with_scan}
 use Rattle.ion_text.specs.laws.reading.complete.Meets.{IdleLeft, end_spans, idle_left}
 use Rattle.ion_text.specs.laws.reading.complete.Segments.{NotRefused, unsettled_waits}
 use Rattle.ion_text.specs.laws.reading.small.Lengths.{EndedToken, Measured, Sized, feed_measured, idle_next, next_wants, quoting_next, sized_initial, token_wants, wants, wants_next}
@@ -285,19 +285,15 @@ module _ (g : Catalog) (l : Limits) where
   CameNear from used o (fails e) = Unit {0}
 
   module _ (from used o : ℕ) where
-    noticed_came : (r : Reading) (t : Known) → Near from t r → t.used ≡ used + 1 → CameNear from used o (noticed l r t)
-    noticed_came r t h e = noticed_each (CameNear from used o) l r t (h, e) tt tt
+    -- what is known where the octet comes again
+    abbrev NearAgain : Known → Reading → Type 0
+    NearAgain s r = Near from s r × (s.used ≡ used)
 
     given_came : (t : Known) (turned : Turn) → TurnNear from t turned → t.used ≡ used + 1 → wants t.mode ≡ 0 → Sized t
-        → CameNear from used o (behind_given l t turned)
-    given_came t (goes r) h e w z = noticed_came r t h e
+        → GivesSo g l (CameNear from used o) (λ e. tt) NearAgain t turned
+    given_came t (goes r) h e w z = λ k. (h, e)
     given_came t (gives v r) h e w z = (subst (λ n. HasSpan l.item from n v) e h.0, near_fresh (used + 1) t r h.1 (omega (arith, e, w)) z, e)
-    given_came t (refuses x) h e w z = tt
-    given_came t (late x r) h e w z = worse_each (CameNear from used o) x (noticed l r t) (λ f. tt)
-
-    -- where the reader goes on at the octet
-    abbrev AgainNear : (State → Effect) → Type 0
-    AgainNear again = (k : State) → Near from k.scan k.reading → k.scan.used ≡ used → CameNear from used o (again k)
+    given_came t _ h e w z = tt
 
     -- What gives a value before the octet waited, and the octet ends no token behind it but a colon.
     abbrev ShowsEnd : Known → Type 0
@@ -315,20 +311,19 @@ module _ (g : Catalog) (l : Limits) where
           z,
         )
 
-    left_came : (again : State → Effect) (t : Known) (turned : Turn) → AgainNear again → TurnNear from t turned → t.used ≡ used
-        → (GivesNone turned ⊎ (is_idle t.mode ≡ true)) → Sized t → CameNear from used o (behind_left again t turned)
-    left_came again t (goes r) f h e i z = f (with_scan t r) h e
-    left_came again t (gives v r) f h e (inl i) z = absurd i
-    left_came again t (gives v r) f h e (inr i) z = leaves_came t r v h e (idle_next t.mode i, idle_colon t o i) z
-    left_came again t (refuses x) f h e i z = tt
-    left_came again t (late x r) f h e i z = worse_each (CameNear from used o) x (again (with_scan t r)) (λ f. tt)
+    left_came : (t : Known) (turned : Turn) → TurnNear from t turned → t.used ≡ used → (GivesNone turned ⊎ (is_idle t.mode ≡ true)) → Sized t
+        → LeavesSo g l (CameNear from used o) (λ e. tt) NearAgain t turned
+    left_came t (goes r) h e i z = (h, e)
+    left_came t (gives v r) h e (inl i) z = absurd i
+    left_came t (gives v r) h e (inr i) z = leaves_came t r v h e (idle_next t.mode i, idle_colon t o i) z
+    left_came t _ h e i z = tt
 
     -- a colon where no item is open
-    colon_fails : (again : State → Effect) (t : Known) (r : Reading) (x : Lexeme) (c : Content) → r ≡ fresh r.context → c ≡ Mark' Mark.Colon
-        → CameNear from used o (behind_left again t (turn g l r (token_of x c)))
-    colon_fails again t r x c e k =
-        subst (λ n. CameNear from used o (behind_left again t (turn g l n (token_of x c)))) (sym e)
-        (subst (λ b. CameNear from used o (behind_left again t (turn g l (fresh r.context) (token_of x b)))) (sym k) tt)
+    colon_fails : (t : Known) (r : Reading) (x : Lexeme) (c : Content) → r ≡ fresh r.context → c ≡ Mark' Mark.Colon
+        → LeavesSo g l (CameNear from used o) (λ e. tt) NearAgain t (turn g l r (token_of x c))
+    colon_fails t r x c e k =
+        subst (λ n. LeavesSo g l (CameNear from used o) (λ e. tt) NearAgain t (turn g l n (token_of x c))) (sym e)
+        (subst (λ b. LeavesSo g l (CameNear from used o) (λ e. tt) NearAgain t (turn g l (fresh r.context) (token_of x b))) (sym k) tt)
 
     operator_gives : (begin end start : ℕ) (c : List Slot) (fs : List Frame) (ss : Symbols) (now : Now) (w : List ℕ) → is_top fs ≡ false
         → GivesNone (turn_now (under g l) (at start c fs ss now) (token_at begin end (Operator w)) now)
@@ -351,21 +346,16 @@ module _ (g : Catalog) (l : Limits) where
             (operator_gives x.start x.end r.start r.context r.frames r.notes r.now x.octets k))
 
     -- An octet at the scanner.
-    scan_came : (p : Place) (s : Known) (r : Reading) (again : State → Effect) (x : Outcome) → p ≡ place r → s.used ≡ used → AgainNear again → Measured p s x
-        → ScannedNear from r x → CameNear from used o (on_scan g l again r x)
-    scan_came p s r again (Next t) q e f z h = noticed_came r t h (omega (arith, z.1, e))
-    scan_came p s r again (Given x t) q e f z h =
-        said_each (CameNear from used o) (said x.kind x.octets) (λ c. behind_given l t (turn g l r (token_of x c)))
-        (λ c k. given_came t (turn g l r (token_of x c)) (token_near from r x t c h) (omega (arith, z.1, e)) (omega (arith, z.1, z.2, h.rest))
-        h.sized) (λ e k. tt)
-    scan_came p s r again (Left x t) q e f z (inl h) =
-        said_each (CameNear from used o) (said x.kind x.octets) (λ c. behind_left again t (turn g l r (token_of x c)))
-        (λ c k. left_came again t (turn g l r (token_of x c)) f (token_near from r x t c h) (omega (arith, z.1, e)) (left_idle p r x t c q z.0.idle k)
-        h.sized) (λ e k. tt)
-    scan_came p s r again (Left x t) q e f z (inr h) =
-        said_each (CameNear from used o) (said x.kind x.octets) (λ c. behind_left again t (turn g l r (token_of x c)))
-        (λ c k. colon_fails again t r x c h.1 (colon_body x.octets c (subst (λ y. IsBody y x.octets (Ok c)) h.0 (said_body x.kind x.octets c k)))) (λ e k. tt)
-    scan_came p s r again (Refused n y) q e f z h = tt
+    scans_came : (p : Place) (s : Known) (r : Reading) (x : Outcome) → p ≡ place r → s.used ≡ used → Measured p s x → ScannedNear from r x
+        → ScansSo g l (CameNear from used o) (λ e. tt) NearAgain r x
+    scans_came p s r (Next t) q e z h = λ k. (h, omega (arith, z.1, e))
+    scans_came p s r (Given x t) q e z h = λ c k.
+        given_came t (turn g l r (token_of x c)) (token_near from r x t c h) (omega (arith, z.1, e)) (omega (arith, z.1, z.2, h.rest)) h.sized
+    scans_came p s r (Left x t) q e z (inl h) = λ c k.
+        left_came t (turn g l r (token_of x c)) (token_near from r x t c h) (omega (arith, z.1, e)) (left_idle p r x t c q z.0.idle k) h.sized
+    scans_came p s r (Left x t) q e z (inr h) = λ c k.
+        colon_fails t r x c h.1 (colon_body x.octets c (subst (λ y. IsBody y x.octets (Ok c)) h.0 (said_body x.kind x.octets c k)))
+    scans_came p s r (Refused n y) q e z h = tt
 
     long_shows : (s : Known) → Sized s → long_waits true (feed Place.Top s o) ≡ false → (is_idle s.mode ≡ true) ⊎ (is_quoting s.mode ≡ true) → ShowsEnd s
     long_shows s z w (inl i) = (idle_next s.mode i, idle_colon s o i)
@@ -387,45 +377,36 @@ module _ (g : Catalog) (l : Limits) where
     on_place p q s e z = subst (λ k. Measured k s (feed p s o)) e (feed_measured p s o z)
 
     -- where it was settled before the octet
-    settled_came : (s : Known) (fs : List Frame) (now : Now) (again : State → Effect) (turned : Turn) → s.used ≡ used → Sized s → AgainNear again
-        → TurnNear from s turned → SettledNear turned
+    settles_came : (s : Known) (fs : List Frame) (now : Now) (turned : Turn) → s.used ≡ used → Sized s → TurnNear from s turned → SettledNear turned
         → Leading g l (λ (r : Reading). (place r ≡ place_in fs now) × (is_top r.frames ≡ is_top fs)) turned → GivesNone turned ⊎ ShowsEnd s
-        → CameNear from used o (on_settled g l again s (feed (place_in fs now) s o) turned)
-    settled_came s fs now again (goes r) e z f h i k w =
+        → SettlesSo g l (CameNear from used o) (λ e. tt) NearAgain s (feed (place_in fs now) s o) turned
+    settles_came s fs now (goes r) e z h i k w =
         let x : Outcome = feed (place_in fs now) s o in
         let there = on_place (place_in fs now) (place r) s (sym k.0) z in
-        scan_came (place r) s r again x refl e f there (comes_near from s r h x there (λ t q j. i t.mode j))
-    settled_came s fs now again (gives v r) e z f h i k (inl w) = absurd w
-    settled_came s fs now again (gives v r) e z f h i k (inr w) = leaves_came s r v h e w z
-    settled_came s fs now again (refuses x) e z f h i k w = tt
-    settled_came s fs now again (late x r) e z f h i k w = worse_each (CameNear from used o) x (on_scan g l again r (feed (place_in fs now) s o)) (λ f. tt)
+        scans_came (place r) s r x refl e there (comes_near from s r h x there (λ t q j. i t.mode j))
+    settles_came s fs now (gives v r) e z h i k (inl w) = absurd w
+    settles_came s fs now (gives v r) e z h i k (inr w) = leaves_came s r v h e w z
+    settles_came s fs now _ e z h i k w = tt
 
     -- An octet behind what is read.
     takes_came : (n : ℕ) (s : Known) (r : Reading) → Near from s r → s.used ≡ used → CameNear from used o (takes g l n (with_scan s r) o)
-    takes_came zero s r h e = tt
-    takes_came (suc n) s r h e = go (unsettled s r (feed (place r) s o)) refl (λ k i j. takes_came n k.scan k.reading i j)
-      where
-        again : State → Effect
-        again k = takes g l n k o
-
-        go : (b : Bool) → unsettled s r (feed (place r) s o) ≡ b → AgainNear again
-            → CameNear from used o (if b then on_scan g l again r (feed (place r) s o) else on_settled g l again s (feed (place r) s o) (settle g l r))
-        go true w f =
-            let z = feed_measured (place r) s o h.sized in
-            scan_came (place r) s r again (feed (place r) s o) refl e f z
-            (comes_near from s r h (feed (place r) s o) z (λ t q i.
-            waits_in r.now (is_top r.frames) t (subst (λ x. waits r x ≡ true) q (unsettled_waits (place r) s r o (subst NotRefused (sym q) tt) w))))
-        go false w f =
-            settled_came s r.frames r.now again (settle g l r) e h.sized f (settle_near from s r h)
-            (settled_in (open_nodes r) r.start (wait_end r.now) (settle g l r) (settle_weighs g l r))
-            (settle_same g l r.start r.context r.frames r.notes r.now)
-            (shown_before s r.start r.context r.frames r.notes r.now h (or_parts (waits r (feed (place r) s o)) (in_segment r.now s) w).0)
+    takes_came n s r h e =
+        takes_each g l (CameNear from used o) (λ e. tt) NearAgain o
+        (λ s r a w. scans_came (place r) s r (feed (place r) s o) refl a.1 (feed_measured (place r) s o a.0.sized)
+        (comes_near from s r a.0 (feed (place r) s o) (feed_measured (place r) s o a.0.sized) (λ t q i.
+        waits_in r.now (is_top r.frames) t (subst (λ x. waits r x ≡ true) q (unsettled_waits (place r) s r o (subst NotRefused (sym q) tt) w)))))
+        (λ s r a w. settles_came s r.frames r.now (settle g l r) a.1 a.0.sized (settle_near from s r a.0)
+        (settled_in (open_nodes r) r.start (wait_end r.now) (settle g l r) (settle_weighs g l r))
+        (settle_same g l r.start r.context r.frames r.notes r.now)
+        (shown_before s r.start r.context r.frames r.notes r.now a.0 (or_parts (waits r (feed (place r) s o)) (in_segment r.now s) w).0))
+        n (with_scan s r) (h, e)
 
     -- the octet that showed the end of a value, again
     fresh_came : (s : Known) (c : List Slot) → ScannedNear from (fresh c) (feed Place.Top s o) → s.used ≡ used → Sized s
         → CameNear from used o (takes g l 3 (with_scan s (fresh c)) o)
-    fresh_came s c h e z = scan_came Place.Top s (fresh c) (λ k. takes g l 2 k o) (feed Place.Top s o) refl e (λ k i j. takes_came 2 k.scan k.reading i j)
-        (feed_measured Place.Top s o z) h
+    fresh_came s c h e z =
+        scan_each g l (CameNear from used o) (λ e. tt) NearAgain (λ k. takes g l 2 k o) (λ k i. takes_came 2 k.scan k.reading i.0 i.1) (fresh c)
+        (feed Place.Top s o) (scans_came Place.Top s (fresh c) (feed Place.Top s o) refl e (feed_measured Place.Top s o z) h)
 
     again_came : (m : State) → m.reading ≡ fresh m.reading.context → ScannedNear from m.reading (feed (place m.reading) m.scan o) → m.scan.used ≡ used
         → Sized m.scan → CameNear from used o (eats g l m o)

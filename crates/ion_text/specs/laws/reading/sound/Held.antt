@@ -1,5 +1,6 @@
 -- What the reader of octets holds stands for the octets: whole pieces, and the tokens of the open item.
 use Rattle.std.proofs.Common.{◌≡◌, ℕ, ◌+◌, ◌≤◌, List, [], ◌∷◌, ◌++◌, Bool, true, false, ◌&&◌, ◌||◌, Ok, refl, ap, sym, ◌∙◌, subst, arith, append_assoc, append-nil, ◌⊎◌, inl, inr}
+use Rattle.std.proofs.lemmas.Bool.{and_right}
 pub use Rattle.std.proofs.lemmas.Bool.{or_parts}
 use Rattle.ion_text.specs.Names.{Annotations, Catalog, Content, Follows, Frame, Given, IsBody, Known, Leading, Left, Lexeme, Limits, Listing, Long, Mode, Next, Now, Outcome, Pieces, Place, Placed, Reading, Refused, Says, Segments, Slot, Symbols, TokenKind, Turn, Value, at, begins_as_long, begins_long, begun_at, ends_long, feed, fresh, gives, goes, holds, is_fresh, is_idle, is_long, is_quoted, is_quoting, is_sane, is_segment, is_top, is_two_quotes, joined, late, long_waits, marked, no_annotation, one_annotation, place, place_in, refuses, said, said_body, segment, settle, settle_same, span, system_slots, token_at, token_of, turn, turn_now, turns, under, waits, waits_now}
 use Rattle.ion_tokens.specs.laws.Follows.{feed_follows}
@@ -7,7 +8,6 @@ use Rattle.ion_tokens.proofs.runs.Scans.{placed}
 use Rattle.ion_text.specs.Grammar.{end_of}
 use Rattle.ion_text.specs.laws.reading.complete.Complete.{end_more, ends_behind}
 use Rattle.ion_text.specs.laws.reading.sound.Depths.{Deep, GoesDeep, settle_deep, turn_deep}
-use Rattle.ion_text.specs.laws.reading.sound.MarkerWords.{both_not}
 use Rattle.ion_text.specs.laws.reading.sound.Quotes.{Fine, Finely, feed_fine}
 use Rattle.ion_text.specs.laws.reading.sound.Sound.{Sounds, settle_sounds, turn_sounds}
 use Rattle.ion_text.specs.laws.reading.sound.StandsOpen.{EndsAt, IsInside, IsStruct, NoSegmentComes, NowStands, Opened, end_of_now, long_behind, not_long, notes_not_long, start_now, symbol_no_long, value_place}
@@ -40,7 +40,7 @@ open_apart top p s o h f k = go (feed p s o) (feed_follows p s o h) (feed_fine p
     go : (x : Outcome) → Follows p s.mode x → Finely s.mode x → NoSegment top x
     go (Next t) a b = (a.1 k.0, a.2 k.0 k.1)
     go (Given x t) a b = a.1 k.0 k.1
-    go (Left x t) a b = both_not top (is_quoted x.kind) (b.2 k.1)
+    go (Left x t) a b = and_right top (is_quoted x.kind) (b.2 k.1)
     go (Refused n e) a b = tt
 
 -- a token that has begun with no quote, or shows that nothing goes on
@@ -236,7 +236,7 @@ module _ (g : Catalog) (l : Limits) where
     ends = tt;
     deep = tt;
     apart = λ e. apart (sym (ap ends_long (append-nil front)) ∙ e);
-    first = both_not (ends_long front) false refl;
+    first = and_right (ends_long front) false refl;
     sane = sane;
     fine = fine;
   }

@@ -1,5 +1,6 @@
 -- Which tokens are one word of the form of a version marker.
 use Rattle.std.proofs.Common.{◌≡◌, ℕ, ◌-◌, ◌^◌, ◌==◌, min, arith, nat_lt, List, [], ◌∷◌, ◌++◌, length, Bool, true, false, Ok, Option, Some, None, refl, ap, ◌∙◌, if◌then◌else◌, codes, ◌&&◌}
+use Rattle.std.proofs.lemmas.Bool.{and_right}
 use Rattle.std.proofs.lemmas.Slice.Eq.{bytes_eq-Decides}
 use Rattle.std.specs.Str.{bytes_eq}
 use Rattle.std.specs.List.{list_all}
@@ -22,16 +23,11 @@ other_word t said n m h = go t.lexeme.kind h
     go TokenKind.Word h = absurd (word (id_of t.lexeme.octets) h)
     go _ h = refl
 
--- where the second of two tests fails, they don't hold together
-pub both_not : (a b : Bool) → b ≡ false → (a && b) ≡ false
-both_not true b h = h
-both_not false b h = refl
-
 -- `$` and digits are no version marker
 pub id_no_version : (w : List ℕ) (id : ℕ) → id_of w ≡ Some id → is_version w ≡ false
 id_no_version [] id h = refl
-id_no_version (o ∷ []) id h = both_not (36 == o) false refl
-id_no_version (o ∷ x ∷ xs) id h = both_not (36 == o) _ (go (o == 36) (nat_lt 0 (length (x ∷ xs))) (is_digit x) (list_all is_digit xs) refl h)
+id_no_version (o ∷ []) id h = and_right (36 == o) false refl
+id_no_version (o ∷ x ∷ xs) id h = and_right (36 == o) _ (go (o == 36) (nat_lt 0 (length (x ∷ xs))) (is_digit x) (list_all is_digit xs) refl h)
   where
     digit : (x : ℕ) → is_digit x ≡ true → (105 == x) ≡ false
     digit x h = grind (arith, nat_tests)

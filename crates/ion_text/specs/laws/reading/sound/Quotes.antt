@@ -1,7 +1,7 @@
 -- More of what the scanner's table promises: which tokens come of which octets.
 use Rattle.std.proofs.Common.{◌≡◌, ℕ, ◌+◌, ◌≤◌, Bool, true, false, cond, List, [], refl, arith, Option, Some, None, ◌⊎◌, inl, inr}
 use Rattle.std.specs.Prelude.{◌==◌, ◌&&◌, ◌||◌, not, nat_le, bytes_eq, codes}
-use Rattle.std.proofs.lemmas.Bool.{and_parts, not-true}
+use Rattle.std.proofs.lemmas.Bool.{and_parts, leb-true, not-true}
 use Rattle.std.proofs.lemmas.Bool.Decides.{nat_tests}
 use Rattle.ion_text.specs.Names.{Action, Given, Known, Left, Lexeme, Mark, Mode, Next, Outcome, Place, Refused, Style, TokenKind, acts, blob_ends, blob_of, cut, feed, go_to, is_idle, is_quoted, is_quoting, is_sane, is_segment, is_two_quotes, past, start_of}
 use Rattle.ion_tokens.specs.machine.Table.{next}
@@ -51,10 +51,6 @@ Finely m (Left l s) = Fine s × (is_segment l.kind ≡ false) × (is_quoting m �
     × ((is_idle s.mode ≡ true) ⊎ (l.kind ≡ TokenKind.Operator)) × (is_close l.kind ≡ false) × (l.end ≤ s.used)
 Finely m (Refused n e) = Unit {0}
 
--- where the test says so, a number is at most another
-pub le_of : (a b : ℕ) → nat_le a b ≡ true → a ≤ b
-le_of a b h = grind (arith, nat_tests)
-
 -- where a test holds that implies another, the other holds
 pub implies : (a b : Bool) → (not a || b) ≡ true → a ≡ true → b ≡ true
 implies true b h e = h
@@ -79,10 +75,10 @@ blob_fine s None e h = tt
 blob_fine s (Some octets) e h = let k = h.enough in record { enough = omega arith }
 
 acts_fine : (p : Place) (s : Known) (o : ℕ) (a : Action) → quotes_fit (least s.mode) (is_quoting s.mode) a ≡ true → Fine s → Finely s.mode (acts p s o a)
-acts_fine p s o (Action.Go m k) f h = record { enough = moved m (start_of s.mode s.start s.used) s.used (least s.mode) h.enough (le_of _ _ f) }
+acts_fine p s o (Action.Go m k) f h = record { enough = moved m (start_of s.mode s.start s.used) s.used (least s.mode) h.enough (leb-true _ _ f) }
 acts_fine p s o (Action.Give kind k) f h = (
   record { enough = omega arith },
-  (λ e. let n = le_of 2 (least s.mode) (implies (is_quoted kind) _ f e) in let m = h.enough in omega arith),
+  (λ e. let n = leb-true 2 (least s.mode) (implies (is_quoted kind) _ f e) in let m = h.enough in omega arith),
   refl,
   refl,
   refl,

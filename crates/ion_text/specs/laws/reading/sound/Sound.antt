@@ -6,9 +6,10 @@ use Rattle.ion_model.specs.declared.value.Payload.TheVariants as payloads
 use Rattle.ion_text.specs.Grammar.{is_quoted, is_sexp}
 use Rattle.ion_text.specs.laws.reading.Brackets.{Closes, closes_or_not, ends_list, ends_none, ends_sexp, ends_struct}
 use Rattle.ion_text.specs.laws.reading.complete.Complete.{depth-list, depth-sexp, depth-struct, is_unmarked}
-use Rattle.ion_text.specs.laws.reading.sound.Depths.{Deep, flat_blob, flat_clob, flat_held, flat_number, flat_symbol, flat_text}
+use Rattle.ion_text.specs.laws.reading.sound.Depths.{Deep, flat_depth}
 use Rattle.ion_text.specs.laws.reading.sound.MarkerWords.{id_no_word, more_words, noted_no_word, other_word, segments_no_word, word_no_word}
 use Rattle.ion_text.specs.laws.reading.sound.StandsOpen.{Around, EndsAt, HoldsWhatIsSaid, IsHeld, Items, LongFor, NameFor, NoSegmentComes, NowStands, Opened, PendingFor, ReadingStands, ReadyFor, Receives, begins_long_more, end_of_now, long_behind, more_around, no_note, not_long, notes_not_long, nothing_noted, opened_around, start_now, symbol_said, symbol_stood, value_place, whole_behind, word_stood}
+use Rattle.ion_text.specs.machine.Ways.{HeldFlat, IsFlat, flat_blob, flat_clob, flat_held, flat_number, flat_symbol, flat_text}
 
 module _ (g : Catalog) (l : Limits) where
   -- what came of the tokens of the open item
@@ -23,8 +24,8 @@ module _ (g : Catalog) (l : Limits) where
   Sounds c start end ts _ = Unit {0}
 
   -- a value with nothing inside
-  flat_level : (v : Value) → depth v ≡ 0 → depth v ≤ l.depth
-  flat_level v e = omega arith
+  flat_level : (ss : Symbols) (q : Payload) → IsFlat q → depth (annotated ss q) ≤ l.depth
+  flat_level ss q flat = let e = flat_depth ss q flat in omega arith
 
   within_sounds : (c : List Slot) (ts : List Placed) (start end : ℕ) (t : Turn) → (end ≤ start + l.item → Sounds c start end ts t)
       → Sounds c start end ts (within l.item start end t)
@@ -122,7 +123,7 @@ module _ (g : Catalog) (l : Limits) where
   paid_sounds c fs ss h ts start end d (Ok q) e n =
       subst (λ x. Sounds c start end x (ended (under g l) (spot_at end start c) fs (annotated ss q))) (sym d.whole)
       (plain_sounds c fs ss d.before (d.token ∷ []) q start end d.ready (one_token (value_place fs) d.token d.said q d.says (d.stood.value q e))
-      (one_apart c fs ss d.before d.token d.said d.ready d.says d.other) n (λ i. flat_level (annotated ss q) (flat_held ss h q e)))
+      (one_apart c fs ss d.before d.token d.said d.ready d.says d.other) n (λ i. flat_level ss q (subst HeldFlat e (flat_held h))))
   paid_sounds c fs ss h ts start end d (Err x) e n = tt
 
   -- an unannotated marker at the top level
@@ -147,7 +148,7 @@ module _ (g : Catalog) (l : Limits) where
   long_sounds c fs ss w ts start end d =
       subst (λ x. Sounds c start end x (ended (under g l) (spot_at end start c) fs (annotated ss (payloads.Str w)))) (sym d.whole)
       (plain_sounds c fs ss d.before d.segments (payloads.Str w) start end d.ready (long_string (value_place fs) d.segments w d.are) d.apart
-      (λ i j. segments_no_word (value_place fs) d.segments w d.are) (λ i. flat_level (annotated ss (payloads.Str w)) (flat_text ss w)))
+      (λ i j. segments_no_word (value_place fs) d.segments w d.are) (λ i. flat_level ss (payloads.Str w) (flat_text w)))
 
   waits_sounds : (c : List Slot) (fs : List Frame) (ss : Symbols) (ts : List Placed) (t : Placed) (said : Content) (h : Held) (start end : ℕ)
       → ReadyFor c fs ss ts → Says (value_place fs) t said → HoldsWhatIsSaid c said h → ((w : List ℕ) → said ≡ Long w → ⊥) → (symbol_said said ≡ true)
@@ -271,28 +272,28 @@ module _ (g : Catalog) (l : Limits) where
   )
   ready_sounds c fs ss ts t (Short w) start dd d i n = plain_sounds c fs ss ts (t ∷ []) (payloads.Str w) start t.lexeme.end d
       (one_token (value_place fs) t (Short w) (payloads.Str w) i (is_short w)) (one_apart c fs ss ts t _ d i (λ v x. cc))
-      (λ a b. other_word t (Short w) (λ v e. cc) (λ id e. cc) i.body) (λ a. flat_level (annotated ss (payloads.Str w)) (flat_text ss w))
+      (λ a b. other_word t (Short w) (λ v e. cc) (λ id e. cc) i.body) (λ a. flat_level ss (payloads.Str w) (flat_text w))
   ready_sounds c fs ss ts t (Number' (Number.Int z)) start dd d i n =
       plain_sounds c fs ss ts (t ∷ []) (payloads.Int z) start t.lexeme.end d (one_token (value_place fs) t _ _ i (is_int z))
       (one_apart c fs ss ts t _ d i (λ v x. cc)) (λ a b. other_word t (Number' (Number.Int z)) (λ v e. cc) (λ id e. cc) i.body)
-      (λ a. flat_level (annotated ss (payloads.Int z)) (flat_number ss (Number.Int z)))
+      (λ a. flat_level ss (payloads.Int z) (flat_number (Number.Int z)))
   ready_sounds c fs ss ts t (Number' (Number.Decimal z)) start dd d i n =
       plain_sounds c fs ss ts (t ∷ []) (payloads.Decimal z) start t.lexeme.end d (one_token (value_place fs) t _ _ i (is_decimal z))
       (one_apart c fs ss ts t _ d i (λ v x. cc)) (λ a b. other_word t (Number' (Number.Decimal z)) (λ v e. cc) (λ id e. cc) i.body)
-      (λ a. flat_level (annotated ss (payloads.Decimal z)) (flat_number ss (Number.Decimal z)))
+      (λ a. flat_level ss (payloads.Decimal z) (flat_number (Number.Decimal z)))
   ready_sounds c fs ss ts t (Number' (Number.Timestamp z)) start dd d i n =
       plain_sounds c fs ss ts (t ∷ []) (payloads.Timestamp z) start t.lexeme.end d (one_token (value_place fs) t _ _ i (is_timestamp z))
       (one_apart c fs ss ts t _ d i (λ v x. cc)) (λ a b. other_word t (Number' (Number.Timestamp z)) (λ v e. cc) (λ id e. cc) i.body)
-      (λ a. flat_level (annotated ss (payloads.Timestamp z)) (flat_number ss (Number.Timestamp z)))
+      (λ a. flat_level ss (payloads.Timestamp z) (flat_number (Number.Timestamp z)))
   ready_sounds c fs ss ts t (Operator w) start dd d i n = plain_sounds c fs ss ts (t ∷ []) (payloads.Symbol (Some w)) start t.lexeme.end d
       (one_token (value_place fs) t _ _ i (is_operator w)) (one_apart c fs ss ts t _ d i (λ v x. cc))
-      (λ a b. other_word t (Operator w) (λ v e. cc) (λ id e. cc) i.body) (λ a. flat_level (annotated ss (payloads.Symbol (Some w))) (flat_symbol ss (Some w)))
+      (λ a b. other_word t (Operator w) (λ v e. cc) (λ id e. cc) i.body) (λ a. flat_level ss (payloads.Symbol (Some w)) (flat_symbol (Some w)))
   ready_sounds c fs ss ts t (Clob w) start dd d i n = plain_sounds c fs ss ts (t ∷ []) (payloads.Clob w) start t.lexeme.end d
       (one_token (value_place fs) t _ _ i (is_clob w)) (one_apart c fs ss ts t _ d i (λ v x. cc)) (λ a b. other_word t (Clob w) (λ v e. cc) (λ id e. cc) i.body)
-      (λ a. flat_level (annotated ss (payloads.Clob w)) (flat_clob ss w))
+      (λ a. flat_level ss (payloads.Clob w) (flat_clob w))
   ready_sounds c fs ss ts t (Blob w) start dd d i n = plain_sounds c fs ss ts (t ∷ []) (payloads.Blob w) start t.lexeme.end d
       (one_token (value_place fs) t _ _ i (is_blob w)) (one_apart c fs ss ts t _ d i (λ v x. cc)) (λ a b. other_word t (Blob w) (λ v e. cc) (λ id e. cc) i.body)
-      (λ a. flat_level (annotated ss (payloads.Blob w)) (flat_blob ss w))
+      (λ a. flat_level ss (payloads.Blob w) (flat_blob w))
   ready_sounds c fs ss ts t (Mark' Mark.ListOpen) start dd d i n = opens_sounds Bracket.List c fs ss ts t start t.lexeme.end (nat_lt (length fs) l.depth) d i
   ready_sounds c fs ss ts t (Mark' Mark.SexpOpen) start dd d i n = opens_sounds Bracket.Sexp c fs ss ts t start t.lexeme.end (nat_lt (length fs) l.depth) d i
   ready_sounds c fs ss ts t (Mark' Mark.FieldsOpen) start dd d i n = opens_sounds Bracket.Fields c fs ss ts t start t.lexeme.end

@@ -2,9 +2,10 @@
 use Rattle.std.proofs.Common.{◌≡◌, ℕ, List, [], ◌∷◌, ◌++◌, Bool, true, false, Ok, Option, Some, refl, ap, sym, ◌∙◌, subst, append_assoc, append-nil, if◌then◌else◌, codes, ◌||◌, ◌&&◌}
 use Rattle.std.proofs.lemmas.Slice.Eq.{bytes_eq-Decides}
 use Rattle.std.specs.Str.{bytes_eq}
-use Rattle.ion_text.specs.Names.{Annotations, Bracket, Content, Elements, Frame, Held, Id, IsBody, IsName, IsScalar, IsSymbol, Kind, Listing, Long, Mark, Mark', Members, Now, Payload, Place, Placed, Quoted, Reading, Row, Says, Segments, Slot, Symbols, TokenKind, TypedNull, Value, Word, begins_long, begun_at, bracket_in, ends_long, held_payload, held_symbol, held_word, is_false, is_long, is_null, is_segment, is_symbol, is_true, is_version, is_version_word, is_word, joined, no_annotation, one_annotation, open_mark, place_in, resolve, the_marker}
+use Rattle.ion_text.specs.Names.{Annotations, Bracket, Content, Elements, Frame, Held, Id, IsBody, IsName, IsScalar, IsSymbol, Kind, Listing, Long, Mark, Mark', Members, Now, Payload, Place, Placed, Quoted, Reading, Row, Says, Segments, Slot, Symbols, TokenKind, TypedNull, Value, Word, begins_long, bracket_in, ends_long, held_payload, held_symbol, held_word, is_false, is_long, is_null, is_segment, is_symbol, is_true, is_version, is_version_word, is_word, joined, no_annotation, one_annotation, open_mark, place_in, resolve, the_marker}
 use Rattle.ion_model.specs.declared.value.Payload.TheVariants as payloads
 use Rattle.ion_text.specs.laws.reading.complete.Complete.{is_unmarked}
+pub use Rattle.ion_text.specs.machine.Ways.{start_now}
 
 -- where a value of the innermost container stands
 abbrev pub value_place : List Frame → Place
@@ -224,11 +225,6 @@ NowStands c fs ss ts (Now.Keyed s) = NameFor c fs (λ n. IsName c n s) ts
 -- the same with the context of symbols
 abbrev pub ReadingStands : List Slot → Reading → List Placed → Type 0
 ReadingStands c r ts = (r.context ≡ c) × NowStands c r.frames r.notes ts r.now
-
--- where the open item begins, behind one more token
-abbrev pub start_now : Now → ℕ → ℕ → List Frame → Symbols → ℕ
-start_now Now.Ready start begin fs ss = begun_at start begin fs ss
-start_now _ start begin fs ss = start
 
 -- where what waits ended
 abbrev pub end_of_now : Now → ℕ → ℕ

@@ -1,15 +1,17 @@
 -- Where the end of the octets would give a value, the next octet isn't used to give one: what shows that a value has ended isn't part of it.
-use Rattle.std.proofs.Common.{◌≡◌, ℕ, zero, suc, ◌+◌, Bool, true, false, ◌&&◌, not, nat_le, nat_lt, List, [], ◌∷◌, Result, Ok, Err, Option, Some, None, refl, sym, ap, ◌∙◌, subst, ◌⊎◌, inl, inr, if◌then◌else◌}
+use Rattle.std.proofs.Common.{◌≡◌, ℕ, ◌+◌, Bool, true, false, ◌&&◌, not, nat_lt, List, [], ◌∷◌, Result, Ok, Err, Option, Some, None, refl, sym, ap, ◌∙◌, subst, ◌⊎◌, inl, inr, if◌then◌else◌}
 use Rattle.std.proofs.lemmas.Bool.{cond_both}
 use Rattle.std.specs.Prelude.{◌==◌, bytes_eq, codes}
-use Rattle.ion_text.specs.Names.{Action, Blob, Bracket, Catalog, Clob, Content, Effect, Frame, Given, Held, Id, Known, Left, Lexeme, Limits, Long, Mark, Mark', Mode, Next, Now, Number', Operator, Outcome, Payload, Place, Placed, Quoted, Reading, Reason, Refused, Setting, Short, Slot, Spot, State, Symbols, Token, TokenKind, Turn, TypedNull, Value, Word, acts, annotated, at, at_end, begun_at, behind_given, behind_left, beyond_depth, blob_ends, blob_of, cut_short, end_of, end_ready, end_said, end_settled, end_turned, end_waiting, ended, ends_at, fails, feed, first_now, fresh, gives, goes, held_payload, held_symbol, is_fresh, is_idle, is_mark, is_table, is_top, late, next as next_context, noted, noticed, number_payload, on_long, on_octet, on_pending, on_ready, on_said, on_scan, on_settled, opened, opening, or_worse, paid, place, reaches, refuses, released, resolve, resolved, said, said_body, settle, shut, spot_at, system_slots, takes, tells, token_of, turn, turned, under, unsettled, with_scan, within}
+use Rattle.ion_text.specs.Names.{Action, Bracket, Catalog, Content, Effect, Frame, Given, Known, Left, Lexeme, Limits, Long, Mark, Mark', Mode, Next, Now, Outcome, Place, Placed, Reading, Reason, Refused, Slot, Spot, State, Symbols, Token, TokenKind, Turn, Value, acts, at, at_end, begun_at, blob_ends, blob_of, cut_short, end_of, end_ready, end_said, end_settled, end_turned, end_waiting, ends_at, feed, first_now, gives, goes, is_fresh, is_mark, is_top, late, open_mark, opened, place, refuses, said, said_body, settle, takes, tells, token_at, token_of, turn, under}
 use Rattle.ion_model.specs.declared.value.Payload.TheVariants as payloads
 use Rattle.ion_tokens.specs.machine.Table.{next}
 use Rattle.ion_tokens.specs.laws.ByRows.{by_rows_where}
 use Rattle.ion_text.specs.machine.Run.{ends}
 use Rattle.ion_text.specs.laws.reading.complete.Going.{InsideTurn, closes_kind, mark_kind, settle_inside}
 use Rattle.ion_text.specs.laws.reading.sound.Admits.{at_end_fine, late_never}
+use Rattle.ion_text.specs.laws.reading.Effects.{GivesSo, LeavesSo, ScansSo, SettlesSo, takes_each}
 use Rattle.ion_text.specs.laws.reading.sound.Spans.{IsClose, IsTopNow, SettlesWithin, Spans, settle_spans, turn_spans}
+use Rattle.ion_text.specs.machine.Ways.{SettledWay, TokenWay, ValueWay, now_way, settled_free, settled_held, settled_marker, settled_name, settled_text, settled_way, token_deep, token_held, token_long_name, token_more, token_more_name, token_name, token_noted, token_open, token_refused, token_text, token_unnamed, token_unnoted, token_value, token_list, token_sexp, token_struct, value_field, value_item, value_table}
 use Rattle.ion_text.specs.laws.reading.sound.StandsOpen.{NowStands, start_now}
 
 -- 1. What an octet does where neither a quoted text nor a lob is open, nor a brace that may begin a lob.
@@ -95,116 +97,62 @@ abbrev Never : Turn → Type 0
 Never (gives v r) = ⊥
 Never _ = Unit {0}
 
-within_stays : (item start end : ℕ) (t : Turn) → OpensNone t → OpensNone (within item start end t)
-within_stays item start end t h = cond_both (nat_le end (start + item)) t (refuses Reason.ItemTooLong) OpensNone (λ e. h) (λ e. tt)
-
-top_stays : (item start end : ℕ) (c : List Slot) (v : Value) (d : Result (List Slot) Reason) (b : Bool)
-    → OpensNone (if b then turned item start end d else within item start end (gives v (fresh c)))
-top_stays item start end c v (Ok d) true = within_stays item start end (goes (fresh d)) (refl, tt)
-top_stays item start end c v (Err e) true = tt
-top_stays item start end c v d false = within_stays item start end (gives v (fresh c)) tt
-
-ended_stays : (setting : Setting) (spot : Spot) (v : Value) → OpensNone (ended setting spot [] v)
-ended_stays setting spot v = top_stays setting.limits.item spot.start spot.end spot.context v (next_context spot.context v setting.catalog) (is_table v)
-
-paid_stays : (setting : Setting) (spot : Spot) (ss : Symbols) (q : Result Payload Reason) → OpensNone (paid setting spot [] ss q)
-paid_stays setting spot ss (Ok q) = ended_stays setting spot (annotated ss q)
-paid_stays setting spot ss (Err e) = tt
-
-released_stays : (setting : Setting) (spot : Spot) (ss : Symbols) (h : Held) → OpensNone (released setting spot [] ss h)
-released_stays setting spot [] (Held.Version true s) = within_stays setting.limits.item spot.start spot.end (goes (fresh system_slots)) (refl, tt)
-released_stays setting spot [] (Held.Version false s) = tt
-released_stays setting spot [] Held.Nan = tt
-released_stays setting spot (s ∷ ss) h = paid_stays setting spot (s ∷ ss) (held_payload h)
-released_stays setting spot [] h = paid_stays setting spot [] (held_payload h)
-
-ready_stays : (setting : Setting) (spot : Spot) (ss : Symbols) (said : Content) → opens said ≡ false → OpensNone (on_ready setting spot [] ss said)
-ready_stays setting spot ss (Word w) i = (refl, tt)
-ready_stays setting spot ss (Id id) i = go (resolve spot.context id)
-  where
-    go : (r : Result (Option (List ℕ)) Reason) → OpensNone (resolved r (λ s. goes (at spot.start spot.context [] ss (Now.Pending (Held.Symbol s) spot.end))))
-    go (Ok s) = (refl, tt)
-    go (Err e) = tt
-ready_stays setting spot ss (Quoted w) i = (refl, tt)
-ready_stays setting spot ss (TypedNull k) i = (refl, tt)
-ready_stays setting spot ss (Long w) i = (refl, tt)
-ready_stays setting spot ss (Short w) i = ended_stays setting spot (annotated ss (payloads.Str w))
-ready_stays setting spot ss (Number' n) i = ended_stays setting spot (annotated ss (number_payload n))
-ready_stays setting spot ss (Operator w) i = ended_stays setting spot (annotated ss (payloads.Symbol (Some w)))
-ready_stays setting spot ss (Clob w) i = ended_stays setting spot (annotated ss (payloads.Clob w))
-ready_stays setting spot ss (Blob w) i = ended_stays setting spot (annotated ss (payloads.Blob w))
-ready_stays setting spot ss (Mark' Mark.ListOpen) i = absurd cc
-ready_stays setting spot ss (Mark' Mark.SexpOpen) i = absurd cc
-ready_stays setting spot ss (Mark' Mark.FieldsOpen) i = absurd cc
-ready_stays setting spot [] (Mark' Mark.ListClose) i = tt
-ready_stays setting spot [] (Mark' Mark.SexpClose) i = tt
-ready_stays setting spot _ _ i = tt
-
-noted_stays : (start : ℕ) (c : List Slot) (ss : Symbols) (s : Result (Option (List ℕ)) Reason) → OpensNone (noted start c [] ss s)
-noted_stays start c ss (Ok s) = (refl, tt)
-noted_stays start c ss (Err e) = tt
-
-pending_stays : (start : ℕ) (c : List Slot) (ss : Symbols) (h : Held) (said : Content) → OpensNone (on_pending start c [] ss h said)
-pending_stays start c ss h (Mark' Mark.Colons) = noted_stays start c ss (held_symbol h)
-pending_stays start c ss h _ = tt
-
-long_stays : (spot : Spot) (ss : Symbols) (v : List ℕ) (said : Content) → OpensNone (on_long spot [] ss v said)
-long_stays spot ss v (Long w) = (refl, tt)
-long_stays spot ss v _ = tt
-
 -- a struct is open
 abbrev braced : ℕ → List Slot → Symbols → Reading
 braced start c ss = at start c (opened Bracket.Fields ss ∷ []) [] (first_now Bracket.Fields)
 
-open_never : (bracket : Bracket) (depth start : ℕ) (c : List Slot) (ss : Symbols) → Never (opening bracket depth start c [] ss)
-open_never bracket depth start c ss = go bracket (nat_lt 0 depth)
-  where
-    go : (bracket : Bracket) (b : Bool) → Never (if b then goes (at start c (opened bracket ss ∷ []) [] (first_now bracket)) else
-        beyond_depth bracket (at start c (opened bracket ss ∷ []) [] (first_now bracket)))
-    go bracket true = tt
-    go Bracket.List false = tt
-    go _ _ = tt
-
-ready_never : (setting : Setting) (spot : Spot) (ss : Symbols) (m : Mark) → Never (on_ready setting spot [] ss (Mark' m))
-ready_never setting spot ss Mark.ListOpen = open_never Bracket.List setting.limits.depth spot.start spot.context ss
-ready_never setting spot ss Mark.SexpOpen = open_never Bracket.Sexp setting.limits.depth spot.start spot.context ss
-ready_never setting spot ss Mark.FieldsOpen = open_never Bracket.Fields setting.limits.depth spot.start spot.context ss
-ready_never setting spot [] Mark.ListClose = tt
-ready_never setting spot [] Mark.SexpClose = tt
-ready_never setting spot _ _ = tt
-
-noted_never : (start : ℕ) (c : List Slot) (ss : Symbols) (s : Result (Option (List ℕ)) Reason) → Never (noted start c [] ss s)
-noted_never start c ss (Ok s) = tt
-noted_never start c ss (Err e) = tt
-
-pending_never : (start : ℕ) (c : List Slot) (ss : Symbols) (h : Held) (m : Mark) → Never (on_pending start c [] ss h (Mark' m))
-pending_never start c ss h Mark.Colons = noted_never start c ss (held_symbol h)
-pending_never start c ss h _ = tt
-
 module _ (g : Catalog) (l : Limits) where
-  turn_stays : (start : ℕ) (c : List Slot) (fs : List Frame) (ss : Symbols) (now : Now) (t : Token) → is_top fs ≡ true → IsTopNow now → opens t.said ≡ false
-      → OpensNone (turn g l (at start c fs ss now) t)
-  turn_stays start c (f ∷ fs) ss now t h i o = absurd cc
-  turn_stays start c [] ss Now.Ready t h i o = ready_stays (under g l) (spot_at t.end (begun_at start t.start [] ss) c) ss t.said o
-  turn_stays start c [] ss (Now.Pending k e) t h i o = pending_stays start c ss k t.said
-  turn_stays start c [] ss (Now.Long w e) t h i o = long_stays (spot_at t.end start c) ss w t.said
-  turn_stays start c [] ss _ t h i o = absurd i
+  value_stays : (spot : Spot) (v : Value) (fs : List Frame) (t : Turn) → ValueWay (under g l) spot v fs t → is_top fs ≡ true → OpensNone t
+  value_stays spot v _ _ (value_table d fits) h = (refl, tt)
+  value_stays spot v _ _ (value_item listing ss vs fs) h = absurd cc
+  value_stays spot v _ _ (value_field ss ms s fs) h = absurd cc
+  value_stays spot v _ _ _ h = tt
 
-  mark_never : (start : ℕ) (c : List Slot) (fs : List Frame) (ss : Symbols) (now : Now) (begin end : ℕ) (m : Mark) → is_top fs ≡ true → IsTopNow now
-      → Never (turn g l (at start c fs ss now) (record { start = begin; end = end; said = Mark' m }))
-  mark_never start c (f ∷ fs) ss now begin end m h i = absurd cc
-  mark_never start c [] ss Now.Ready begin end m h i = ready_never (under g l) (spot_at end (begun_at start begin [] ss) c) ss m
-  mark_never start c [] ss (Now.Pending k e) begin end m h i = pending_never start c ss k m
-  mark_never start c [] ss (Now.Long w e) begin end m h i = tt
-  mark_never start c [] ss _ begin end m h i = absurd i
+  opens_one : (bracket : Bracket) → opens (Mark' (open_mark bracket)) ≡ true
+  opens_one Bracket.List = refl
+  opens_one Bracket.Sexp = refl
+  opens_one Bracket.Fields = refl
 
-  settled_stays : (start : ℕ) (c : List Slot) (fs : List Frame) (ss : Symbols) (now : Now) → is_top fs ≡ true → IsTopNow now
-      → OpensNone (settle g l (at start c fs ss now))
-  settled_stays start c (f ∷ fs) ss now h i = absurd cc
-  settled_stays start c [] ss Now.Ready h i = (refl, tt)
-  settled_stays start c [] ss (Now.Pending k e) h i = released_stays (under g l) (spot_at e start c) ss k
-  settled_stays start c [] ss (Now.Long w e) h i = ended_stays (under g l) (spot_at e start c) (annotated ss (payloads.Str w))
-  settled_stays start c [] ss _ h i = absurd i
+  turn_stays : (r : Reading) (t : Token) → AtTop r → opens t.said ≡ false → OpensNone (turn g l r t)
+  turn_stays r t a o = by r.frames r.now _ (now_way g l t.start t.end r.start r.context r.frames r.notes t.said r.now) a.0 a.1
+    where
+      by : (fs : List Frame) (now : Now) (x : Turn) → TokenWay g l t.start t.end r.start r.context t.said r.notes fs now x → is_top fs ≡ true → IsTopNow now
+          → OpensNone x
+      by _ _ _ (token_refused fs now e d) h i = tt
+      by _ _ _ (token_deep fs e d) h i = tt
+      by _ _ _ (token_unnoted fs k e x f d) h i = tt
+      by _ _ _ (token_value fs q x none flat way) h i = value_stays _ _ fs x way h
+      by _ _ _ (token_open fs bracket e k) h i = absurd (let n : true ≡ false = sym (opens_one bracket) ∙ (sym (ap opens e) ∙ o) in cc)
+      by _ _ _ (token_held fs k) h i = (h, tt)
+      by _ _ _ (token_text fs w) h i = (h, tt)
+      by _ _ _ (token_noted fs k e s) h i = (h, tt)
+      by _ _ _ (token_more fs v e w) h i = (h, tt)
+      by _ _ _ (token_name fs s) h i = absurd i
+      by _ _ _ (token_unnamed fs s k) h i = absurd i
+      by _ _ _ (token_long_name fs w) h i = absurd i
+      by _ _ _ (token_more_name fs v w) h i = absurd i
+      by _ _ _ _ h i = absurd cc
+
+  mark_never : (r : Reading) (begin end : ℕ) (m : Mark) → AtTop r → Never (turn g l r (token_at begin end (Mark' m)))
+  mark_never r begin end m a = by r.frames r.now _ (now_way g l begin end r.start r.context r.frames r.notes (Mark' m) r.now) a.0
+    where
+      by : (fs : List Frame) (now : Now) (x : Turn) → TokenWay g l begin end r.start r.context (Mark' m) r.notes fs now x → is_top fs ≡ true → Never x
+      by _ _ _ (token_value fs q x none flat way) h = absurd (none m refl)
+      by _ _ _ (token_list rs vs fs now x e way) h = absurd cc
+      by _ _ _ (token_sexp rs vs fs now x e way) h = absurd cc
+      by _ _ _ (token_struct rs ms fs now x e way) h = absurd cc
+      by _ _ _ _ h = tt
+
+  settled_stays : (r : Reading) → AtTop r → OpensNone (settle g l r)
+  settled_stays r a = by r.frames r.now _ (settled_way g l r.start r.context r.frames r.notes r.now) a.0 a.1
+    where
+      by : (fs : List Frame) (now : Now) (t : Turn) → SettledWay g l r.start r.context r.notes fs now t → is_top fs ≡ true → IsTopNow now → OpensNone t
+      by _ _ _ (settled_free fs now i e) h k = (h, k)
+      by _ _ _ (settled_name fs w) h k = absurd k
+      by _ _ _ (settled_held fs x end q t flat way) h k = value_stays _ _ fs t way h
+      by _ _ _ (settled_text fs w end t way) h k = value_stays _ _ fs t way h
+      by _ _ _ (settled_marker x end fits) h k = (refl, tt)
+      by _ _ _ _ h k = tt
 
 -- 3. What an octet does there: if a value comes, the octet isn't used.
 
@@ -213,62 +161,39 @@ abbrev pub IsUntold : Effect → Type 0
 IsUntold (tells v m) = ⊥
 IsUntold _ = Unit {0}
 
-worse_untold : (e : Reason) (x : Effect) → IsUntold (or_worse e x)
-worse_untold e (fails f) = tt
-worse_untold e _ = tt
+-- what the scanner holds and what is read there
+abbrev IsPlainTop : Known → Reading → Type 0
+IsPlainTop s r = (is_plain s.mode ≡ true) × AtTop r
 
 module _ (g : Catalog) (l : Limits) where
-  noticed_untold : (r : Reading) (s : Known) → IsUntold (noticed l r s)
-  noticed_untold r s = cond_both (shut r.now && not (is_idle s.mode)) _ _ IsUntold (λ e. tt)
-      (λ e. cond_both (nat_le (reaches r.frames r s) l.item) _ _ IsUntold (λ k. tt) (λ k. tt))
-
-  given_untold : (s : Known) (t : Turn) → Never t → IsUntold (behind_given l s t)
-  given_untold s (goes r) h = noticed_untold r s
+  given_untold : (s : Known) (t : Turn) → Never t → GivesSo g l IsUntold (λ e. tt) IsPlainTop s t
+  given_untold s (goes r) h = λ k. tt
   given_untold s (gives v r) h = absurd h
-  given_untold s (refuses e) h = tt
-  given_untold s (late e r) h = worse_untold e (noticed l r s)
+  given_untold s _ h = tt
 
-  module _ (again : State → Effect) (fine : (k : State) → is_plain k.scan.mode ≡ true → AtTop k.reading → IsUntold (again k)) where
-    left_untold : (s : Known) (t : Turn) → is_plain s.mode ≡ true → OpensNone t → IsUntold (behind_left again s t)
-    left_untold s (goes r) p h = fine (with_scan s r) p h
-    left_untold s (late e r) p h = worse_untold e (again (with_scan s r))
-    left_untold s _ p h = tt
+  left_untold : (s : Known) (t : Turn) → is_plain s.mode ≡ true → OpensNone t → LeavesSo g l IsUntold (λ e. tt) IsPlainTop s t
+  left_untold s (goes r) p h = (p, h)
+  left_untold s _ p h = tt
 
-    scan_untold : (r : Reading) (x : Outcome) → AtTop r → IsPlainly x → IsUntold (on_scan g l again r x)
-    scan_untold r (Next s) a h = noticed_untold r s
-    scan_untold r (Given x s) a h = go (said x.kind x.octets) refl
-      where
-        go : (c : Result Content Reason) → said x.kind x.octets ≡ c → IsUntold (on_said c (λ c. behind_given l s (turn g l r (token_of x c))))
-        go (Err e) k = tt
-        go (Ok c) k =
-            let m = mark_says x.kind x.octets c h k in
-            given_untold s (turn g l r (token_of x c)) (subst (λ y. Never (turn g l r (token_of x y))) (sym m.1)
-            (mark_never g l r.start r.context r.frames r.notes r.now x.start x.end m.0 a.0 a.1))
-    scan_untold r (Left x s) a h = go (said x.kind x.octets) refl
-      where
-        go : (c : Result Content Reason) → said x.kind x.octets ≡ c → IsUntold (on_said c (λ c. behind_left again s (turn g l r (token_of x c))))
-        go (Err e) k = tt
-        go (Ok c) k =
-            left_untold s (turn g l r (token_of x c)) h.1 (turn_stays g l r.start r.context r.frames r.notes r.now (token_of x c) a.0 a.1
-            (said_opens x.kind x.octets c k h.0))
-    scan_untold r (Refused n e) a h = tt
+  scans_untold : (r : Reading) (x : Outcome) → AtTop r → IsPlainly x → ScansSo g l IsUntold (λ e. tt) IsPlainTop r x
+  scans_untold r (Next s) a h = λ k. tt
+  scans_untold r (Given x s) a h = λ c k.
+      let m = mark_says x.kind x.octets c h k in
+      given_untold s (turn g l r (token_of x c)) (subst (λ y. Never (turn g l r (token_of x y))) (sym m.1) (mark_never g l r x.start x.end m.0 a))
+  scans_untold r (Left x s) a h = λ c k.
+      left_untold s (turn g l r (token_of x c)) h.1 (turn_stays g l r (token_of x c) a (said_opens x.kind x.octets c k h.0))
+  scans_untold r (Refused n e) a h = tt
 
-    settled_untold : (s : Known) (x : Outcome) (t : Turn) → OpensNone t → IsPlainly x → IsUntold (on_settled g l again s x t)
-    settled_untold s x (goes r) h p = scan_untold r x h p
-    settled_untold s x (late e r) h p = worse_untold e (on_scan g l again r x)
-    settled_untold s x _ h p = tt
-
-    octet_untold : (m : State) (x : Outcome) → AtTop m.reading → IsPlainly x → IsUntold (on_octet g l again m x)
-    octet_untold m x a p =
-        cond_both (unsettled m.scan m.reading x) _ _ IsUntold (λ e. scan_untold m.reading x a p)
-        (λ e. settled_untold m.scan x (settle g l m.reading)
-        (settled_stays g l m.reading.start m.reading.context m.reading.frames m.reading.notes m.reading.now a.0 a.1) p)
+  settles_untold : (s : Known) (x : Outcome) (t : Turn) → OpensNone t → IsPlainly x → SettlesSo g l IsUntold (λ e. tt) IsPlainTop s x t
+  settles_untold s x (goes r) h p = scans_untold r x h p
+  settles_untold s x _ h p = tt
 
   -- at the top level, where neither quotes nor a lob are open, an octet isn't used to give a value
   pub takes_untold : (n o : ℕ) (m : State) → is_plain m.scan.mode ≡ true → AtTop m.reading → IsUntold (takes g l n m o)
-  takes_untold zero o m p a = tt
-  takes_untold (suc n) o m p a = octet_untold (λ k. takes g l n k o) (λ k. takes_untold n o k) m (feed (place m.reading) m.scan o) a
-      (feed_plainly (place m.reading) m.scan o p)
+  takes_untold n o m p a =
+      takes_each g l IsUntold (λ e. tt) IsPlainTop o
+      (λ s r h e. scans_untold r (feed (place r) s o) h.1 (feed_plainly (place r) s o h.0))
+      (λ s r h e. settles_untold s (feed (place r) s o) (settle g l r) (settled_stays g l r h.1) (feed_plainly (place r) s o h.0)) n m (p, a)
 
 -- 4. Where the end gives a value, it stands so.
 

@@ -1,7 +1,7 @@
 -- What stands behind what waits, by what the octet shows: `::`, or `''`.
 use Rattle.std.proofs.Common.{◌≡◌, ℕ, ◌+◌, ◌-◌, ◌≤◌, nat_le, Bool, true, false, ◌&&◌, not, List, [], ◌∷◌, ◌++◌, Some, None, refl, sym, ap, ◌∙◌, subst, arith, append_assoc, append-nil, if◌then◌else◌}
+use Rattle.std.proofs.lemmas.Bool.{le-leb}
 use Rattle.std.specs.Prelude.{codes}
-use Rattle.std.proofs.lemmas.Bool.Decides.{nat_tests}
 use Rattle.ion_text.specs.Names.{BlankThen, Frame, Given, IsBlank, Known, Left, Lexeme, Limits, Mark, Mode, Next, Now, Place, Reading, Reason, Style, Symbols, TokenKind, begun_in, behind, fails, feed, form_of, is_colons, is_idle, is_long_begun, is_quoted, is_quoting, is_segment, longest_top, noticed, reaches, shut, uses, with_scan}
 use Rattle.ion_tokens.specs.Lexed.{Passes}
 use Rattle.ion_tokens.proofs.sound.Holds.{Holds, InMode, IsTold, Sound}
@@ -103,11 +103,8 @@ long_reach start t w end ss h = go t.mode h
 module _ (l : Limits) (r : Reading) (t : Known) where
   -- what isn't shut, and within the limit, is noticed
   noticed_fits : shut r.now ≡ false → reaches r.frames r t ≤ l.item → (e : Reason) → noticed l r t ≡ fails e → ⊥
-  noticed_fits c h e f = go (shut r.now) (not (is_idle t.mode)) (nat_le (reaches r.frames r t) l.item) c (fits (reaches r.frames r t) l.item h) f
+  noticed_fits c h e f = go (shut r.now) (not (is_idle t.mode)) (nat_le (reaches r.frames r t) l.item) c (le-leb (reaches r.frames r t) l.item h) f
     where
-      fits : (a b : ℕ) → a ≤ b → nat_le a b ≡ true
-      fits a b h = grind (arith, nat_tests)
-
       go : (x y z : Bool) → x ≡ false → z ≡ true → (if x && y then fails Reason.Unexpected else
           (if z then uses (with_scan t r) else fails Reason.ItemTooLong)) ≡ fails e → ⊥
       go false y true a b f = cc

@@ -3,12 +3,12 @@ use Rattle.std.proofs.Common.{◌≡◌, ℕ, ◌+◌, ◌≤◌, ◌⊎◌, inl
 use Rattle.std.proofs.lemmas.Bool.{false_from_ne_true}
 use Rattle.std.specs.Prelude.{codes, nat_le}
 use Rattle.std.proofs.lemmas.Bool.Decides.{nat_tests}
-use Rattle.ion_text.specs.Names.{BeginsWith, Catalog, Content, IsBody, IsWordBody, Kind, LexesTo, Limits, Mark, Mark', Placed, Reading, Refusal, Shown, State, Streams, TokenKind, Turn, Value, Walk, Whole, adds_values, begun, colon_behind, continues, done, ends_long, ends_of, fresh, gives, goes, id_of, initial, is_sexp, kind_named, null_of, on_turn, plain, reads, reads-append, run, said_body, settle, stopped, system_slots, then_walk, token_of, trace}
+use Rattle.ion_text.specs.Names.{BeginsWith, Catalog, Content, IsBody, LexesTo, Limits, Mark, Mark', Placed, Reading, Refusal, Shown, State, Streams, Turn, Value, Whole, adds_values, begun, colon_behind, continues, done, ends_long, ends_of, fresh, gives, goes, initial, is_sexp, on_turn, plain, reads, reads-append, run, said_body, settle, system_slots, then_walk, token_of, trace}
 use Rattle.ion_text.specs.machine.TokenLists.{walked}
 use Rattle.ion_text.specs.laws.reading.complete.Accepts.{accepts}
 use Rattle.ion_text.specs.laws.reading.complete.Complete.{segment_kind}
-use Rattle.ion_text.specs.laws.reading.complete.Going.{Going, TurnGoes, going_said, going_settle}
-use Rattle.ion_text.specs.laws.reading.complete.Pieces.{GoesOn, ReadSoFar, pieces_read, quoted_kind}
+use Rattle.ion_text.specs.laws.reading.complete.Going.{Going, TurnGoes, added, going_said, going_settle, mark_kind}
+use Rattle.ion_text.specs.laws.reading.complete.Pieces.{walked_now, GoesOn, ReadSoFar, pieces_read, quoted_kind}
 use Rattle.ion_text.specs.laws.reading.sound.Steps.{StoodBehind, begun_stood, run_ran}
 use Rattle.ion_text.specs.laws.showing.shown.Fronts.{stood_front}
 use Rattle.ion_text.specs.laws.showing.shown.Opened.{blank_token, colons_token, long_token, quoted_token, segment_is}
@@ -18,45 +18,12 @@ use Rattle.ion_text.specs.laws.showing.tokens.Compare.{Compared, Found', TopFirs
 use Rattle.ion_text.specs.laws.showing.tokens.Cuts.{lexed_front, parted}
 use Rattle.ion_text.specs.laws.showing.tokens.Once.{going_once, operator_inside, some_token, whole_ends, whole_found, whole_going, whole_operators}
 
--- the mark that a token says is its kind
-mark_kind : (k : TokenKind) (octets : List ℕ) (m : Mark) → IsBody k octets (Ok (Mark' m)) → k ≡ TokenKind.Mark m
-mark_kind (TokenKind.Mark n) octets m h = let same : m ≡ n = cc in ap TokenKind.Mark (sym same)
-mark_kind TokenKind.Word octets m h = absurd (by (id_of octets) h)
-  where
-    by : (id : Option ℕ) → IsWordBody octets id (Ok (Mark' m)) → ⊥
-    by None h = let e = h.0 in cc
-    by (Some id) h = cc
-mark_kind TokenKind.KindName octets m h = absurd (by (kind_named octets) h)
-  where
-    by : (k : Option Kind) → Ok (Mark' m) ≡ null_of k → ⊥
-    by None h = cc
-    by (Some k) h = cc
-mark_kind TokenKind.Number octets m h = absurd h
-mark_kind TokenKind.Clob octets m h = cc
-mark_kind TokenKind.Blob octets m h = cc
-mark_kind _ octets m h = let e = h.0 in cc
-
-values_in : Walk → List Value
-values_in (walked vs r) = vs
-values_in stopped = []
-
-reading_in : Reading → Walk → Reading
-reading_in d (walked vs r) = r
-reading_in d stopped = d
-
--- what comes of a walk behind values
-added : (us vs : List Value) (n : Reading) (w : Walk) → adds_values us w ≡ walked vs n → (ws : List Value) × (w ≡ walked ws n) × (vs ≡ us ++ ws)
-unfolding values_in reading_in
-added us vs n (walked ws m) e = (ws, ap (walked ws) (ap (reading_in n) e), sym (ap values_in e))
-added us vs n stopped e = cc
-
 module _ (g : Catalog) (l : Limits) where
   -- What waits behind tokens is settled by others, which don't go on with it.
   settled_values : (t : Turn) (later all : List Value) (x : Placed) (xs : List Placed) (n : Reading) → on_turn t done ≡ walked later n
       → TurnGoes g l t (x ∷ xs) all → (rest : List Value) × (all ≡ later ++ rest)
-  unfolding values_in
-  settled_values (goes r) later all x xs n e d = (all, ap (λ vs. vs ++ all) (ap values_in e))
-  settled_values (gives v r) later all x xs n e d = (d.0, d.1 ∙ ap (λ vs. vs ++ d.0) (ap values_in e))
+  settled_values (goes r) later all x xs n e d = (all, ap (λ vs. vs ++ all) (walked_now g l [] later r n e).0)
+  settled_values (gives v r) later all x xs n e d = (d.0, d.1 ∙ ap (λ vs. vs ++ d.0) (walked_now g l (v ∷ []) later r n e).0)
   settled_values _ later all x xs n e d = absurd d
 
   module _ (front following : List ℕ) (s : List Value) (a : Whole g l front following s) where
@@ -90,7 +57,7 @@ module _ (g : Catalog) (l : Limits) where
       more_values xs t d =
           let walk : adds_values so_far.given (reads g l so_far.now (x ∷ xs)) ≡ walked d.vs d.n =
           sym (ap (λ w. then_walk w (λ k. reads g l k (x ∷ xs))) so_far.read) ∙ sym (reads-append g l a.tokens (x ∷ xs) (fresh system_slots)) ∙ d.read in
-          let w = added so_far.given d.vs d.n (reads g l so_far.now (x ∷ xs)) walk in
+          let w = added g l so_far.given d.vs d.n (reads g l so_far.now (x ∷ xs)) walk in
           let on : Going g l so_far.now (x ∷ xs) (w.0 ++ d.later) =
           record { vs = w.0; later = d.later; n = d.n; c = d.c; read = w.1; ends = d.ends; whole = refl } in
           let token = going_said g l so_far.now x xs (w.0 ++ d.later) on in

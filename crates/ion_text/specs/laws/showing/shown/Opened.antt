@@ -10,7 +10,7 @@ use Rattle.ion_tokens.proofs.sound.Holds.{InMode}
 use Rattle.ion_text.specs.machine.TokenLists.{walked}
 use Rattle.ion_text.specs.laws.reading.Stops.{stood_used}
 use Rattle.ion_text.specs.laws.reading.complete.Complete.{ends_behind, segment_kind, segments_long, starts}
-use Rattle.ion_text.specs.laws.reading.complete.Going.{Going, going_said, mark_kind}
+use Rattle.ion_text.specs.laws.reading.complete.Going.{Going, added, going_said, mark_kind, settled_reads}
 use Rattle.ion_text.specs.laws.reading.complete.Pieces.{GoesOn, ReadSoFar, pieces_read, quoted_kind, settled_first, top_now, walked_now}
 use Rattle.ion_text.specs.laws.reading.sound.Admits.{no_item}
 use Rattle.ion_text.specs.laws.reading.sound.Held.{Behind, IsFirst, IsSome, NoLongText}
@@ -25,7 +25,7 @@ use Rattle.ion_text.specs.laws.showing.tokens.Firsts.{opens_item, symbol_kind}
 use Rattle.ion_text.specs.laws.showing.tokens.Froms.{AllFrom, From, Waits, fresh_parts, settle_from, walked_from}
 use Rattle.ion_text.specs.laws.showing.tokens.Once.{begins_lexed, operator_inside, whole_found, whole_going, whole_operators}
 use Rattle.ion_text.specs.laws.showing.tokens.Stays.{Arrived, arrived, item_read}
-use Rattle.ion_text.specs.laws.showing.tokens.Walks.{adds_is, behind_read, settled_reads, walking_said}
+use Rattle.ion_text.specs.laws.showing.tokens.Walks.{behind_read, walking_said}
 
 -- tokens in a row begin one behind the other
 lexed_from : (n : ℕ) (ts : List Placed) (colon : Bool) (before : ℕ) (octets : List ℕ) (after : Bool) (end : ℕ) (rest : List ℕ) (g : Catalog) (l : Limits)
@@ -246,7 +246,7 @@ module _ (g : Catalog) (l : Limits) (u : List ℕ) (vs : List Value) (s : Known)
             let there : adds_values d.later (reads g l (fresh w.context) (y ∷ ys)) ≡ walked others.0 a.r =
             sym (settled_reads g l d.now y ys content is.0 is.2 h
             ∙ settled_first g l (settle g l d.now) d.later (fresh w.context) (λ z. reads g l z (y ∷ ys)) d.settles) ∙ others.1 in
-            let walk = adds_is g l d.later others.0 a.r (reads g l (fresh w.context) (y ∷ ys)) there in
+            let walk = added g l d.later others.0 a.r (reads g l (fresh w.context) (y ∷ ys)) there in
             let all : AllFrom g l y.lexeme.start (y ∷ ys) = (
               omega arith,
               lexed_from y.lexeme.start ys (colon_behind y) y.lexeme.end (parts.second).0 k.colon

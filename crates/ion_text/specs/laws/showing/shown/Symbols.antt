@@ -1,10 +1,10 @@
 -- Behind a symbol that no longer waits at the top level, a token has begun.
-use Rattle.std.proofs.Common.{◌≡◌, ℕ, zero, suc, ◌+◌, nat_le, List, [], ◌∷◌, ◌++◌, Bool, true, false, ◌&&◌, not, Result, Ok, Err, Option, Some, None, refl, sym, ap, ◌∙◌, subst, if◌then◌else◌, inl, inr}
-use Rattle.std.proofs.lemmas.Bool.{cond_both}
-use Rattle.ion_text.specs.Names.{Blob, Catalog, Clob, Content, Effect, Follows, Frame, Given, Held, Id, IsBody, IsWordBody, Known, Leading, Left, Lexeme, Limits, Long, Mark', Next, Now, Number', Operator, Outcome, Place, Quoted, Reading, Reason, Refusal, Refused, Short, Slot, State, Symbols, TokenKind, Turn, TypedNull, Value, Word, at, begun_at, behind_given, behind_left, eats, fails, feed, gives, goes, held_word, id_of, in_segment, is_fresh, is_idle, is_keyword, is_name, is_quoting, is_sane, is_top, keyed, kind_named, late, leaves, long_waits, noticed, null_of, on_octet, on_said, on_scan, on_settled, once_more, or_worse, place, place_in, reaches, refuses, resolve, resolved, run, run_on, said, said_body, settle, settle_same, shut, symbol_waits, takes, takes_colon, tells, token_at, token_of, turn, turn_now, under, unsettled, uses, waits, waits_now, with_scan}
+use Rattle.std.proofs.Common.{◌≡◌, ℕ, ◌+◌, List, [], ◌∷◌, ◌++◌, Bool, true, false, ◌&&◌, Result, Ok, Err, Option, Some, None, refl, sym, ap, ◌∙◌, subst, if◌then◌else◌, inl, inr}
+use Rattle.ion_text.specs.Names.{Blob, Catalog, Clob, Content, Effect, Follows, Frame, Given, Held, Id, IsBody, IsWordBody, Known, Leading, Left, Lexeme, Limits, Long, Mark', Next, Now, Number', Operator, Outcome, Place, Quoted, Reading, Reason, Refusal, Refused, Short, Slot, State, Symbols, TokenKind, Turn, TypedNull, Value, Word, at, begun_at, eats, fails, feed, gives, goes, held_word, id_of, in_segment, is_fresh, is_idle, is_keyword, is_name, is_quoting, is_sane, is_top, keyed, kind_named, late, leaves, long_waits, null_of, once_more, place, place_in, resolve, resolved, run, run_on, said, said_body, settle, settle_same, symbol_waits, takes, takes_colon, tells, token_at, token_of, turn, turn_now, under, uses, waits, waits_now}
 use Rattle.ion_tokens.specs.laws.Follows.{feed_follows}
 use Rattle.ion_text.specs.laws.reading.complete.Segments.{never}
 use Rattle.ion_text.specs.laws.reading.sound.Held.{map_turn, or_parts}
+use Rattle.ion_text.specs.laws.reading.Effects.{GivesSo, LeavesSo, ScansSo, SettlesSo, takes_each}
 use Rattle.ion_text.specs.laws.reading.sound.Spans.{IsClose, Spans, turn_spans}
 use Rattle.ion_text.specs.laws.reading.sound.StandsOpen.{start_now, symbol_said}
 use Rattle.ion_text.specs.laws.reading.sound.Steps.{After, Stood, eats_after, takes_after}
@@ -150,33 +150,17 @@ module _ (g : Catalog) (l : Limits) where
   StillBehind o (fails e) = Unit {0}
 
   module _ (o : ℕ) where
-    noticed_still : (r : Reading) (s : Known) → HasBegun s r → StillBehind o (noticed l r s)
-    noticed_still r s h = cond_both (shut r.now && not (is_idle s.mode)) _ _ (StillBehind o) (λ e. tt)
-        (λ e. cond_both (nat_le (reaches r.frames r s) l.item) _ _ (StillBehind o) (λ k. h) (λ k. tt))
-
-    worse_still : (e : Reason) (x : Effect) → StillBehind o (or_worse e x)
-    worse_still e (fails f) = tt
-    worse_still e _ = tt
-
-    given_still : (s : Known) (t : Turn) → Leading g l (λ n. is_fresh n ≡ true → s.colon ≡ false) t → StillBehind o (behind_given l s t)
-    given_still s (goes r) h = noticed_still r s (λ f c. absurd (never s.colon (h f) c))
+    given_still : (s : Known) (t : Turn) → Leading g l (λ n. is_fresh n ≡ true → s.colon ≡ false) t
+        → GivesSo g l (StillBehind o) (λ e. tt) (StillAt o) s t
+    given_still s (goes r) h = λ k f c. absurd (never s.colon (h f) c)
     given_still s (gives v r) h = λ f c. absurd (never s.colon (h f) c)
-    given_still s (refuses e) h = tt
-    given_still s (late e r) h = worse_still e (noticed l r s)
+    given_still s _ h = tt
 
-    abbrev AgainStill : (State → Effect) → Type 0
-    AgainStill again = (k : State) → StillAt o k.scan k.reading → StillBehind o (again k)
-
-    left_still : (again : State → Effect) (s : Known) (t : Turn) → AgainStill again → Leading g l (λ n. is_fresh n ≡ true → s.colon ≡ false) t
-        → StillBehind o (behind_left again s t)
-    left_still again s (goes r) f h = f (with_scan s r) (λ x c. absurd (never s.colon (h x) c))
-    left_still again s (gives v r) f h = λ x c. absurd (never s.colon (h x) c)
-    left_still again s (refuses e) f h = tt
-    left_still again s (late e r) f h = worse_still e (again (with_scan s r))
-
-    said_still : (r : Result Content Reason) (f : Content → Effect) → ((c : Content) → r ≡ Ok c → StillBehind o (f c)) → StillBehind o (on_said r f)
-    said_still (Ok c) f h = h c refl
-    said_still (Err e) f h = tt
+    left_still : (s : Known) (t : Turn) → Leading g l (λ n. is_fresh n ≡ true → s.colon ≡ false) t
+        → LeavesSo g l (StillBehind o) (λ e. tt) (StillAt o) s t
+    left_still s (goes r) h = λ x c. absurd (never s.colon (h x) c)
+    left_still s (gives v r) h = λ x c. absurd (never s.colon (h x) c)
+    left_still s _ h = tt
 
     -- behind a token that is told where nothing is open no colon may stand
     pub colon_free : (r : Reading) (x : Lexeme) (t : Known) (c : Content) → t.colon ≡ takes_colon (place r) x.kind → said x.kind x.octets ≡ Ok c
@@ -184,29 +168,22 @@ module _ (g : Catalog) (l : Limits) where
     colon_free r x t c e f = map_turn g l (λ n. is_fresh n ≡ true → takes_colon (place r) x.kind ≡ false) (λ n. is_fresh n ≡ true → t.colon ≡ false)
         (λ n h i. e ∙ h i) (turn g l r (token_of x c)) (turn_colon r x c (said_body x.kind x.octets c f))
 
-    scan_still : (s : Known) (r : Reading) (again : State → Effect) → AgainStill again → StillAt o s r → (x : Outcome) → feed (place r) s o ≡ x
-        → Keeps (place r) s x → StillBehind o (on_scan g l again r x)
-    scan_still s r again f h (Next t) e k = noticed_still r t (λ i c. subst BeginsOne e (h i (sym k.1 ∙ c)))
-    scan_still s r again f h (Given x t) e k = said_still (said x.kind x.octets) (λ c. behind_given l t (turn g l r (token_of x c)))
-        (λ c i. given_still t (turn g l r (token_of x c)) (colon_free r x t c k.2 i))
-    scan_still s r again f h (Left x t) e k = said_still (said x.kind x.octets) (λ c. behind_left again t (turn g l r (token_of x c)))
-        (λ c i. left_still again t (turn g l r (token_of x c)) f (colon_free r x t c k.2 i))
-    scan_still s r again f h (Refused n y) e k = tt
-
-    octet_scanned : (s : Known) (r : Reading) (again : State → Effect) → AgainStill again → StillAt o s r
-        → StillBehind o (on_scan g l again r (feed (place r) s o))
-    octet_scanned s r again f h = scan_still s r again f h (feed (place r) s o) refl (feed_keeps (place r) s o)
+    scans_still : (s : Known) (r : Reading) → StillAt o s r → (x : Outcome) → feed (place r) s o ≡ x → Keeps (place r) s x
+        → ScansSo g l (StillBehind o) (λ e. tt) (StillAt o) r x
+    scans_still s r h (Next t) e k = λ j i c. subst BeginsOne e (h i (sym k.1 ∙ c))
+    scans_still s r h (Given x t) e k = λ c i. given_still t (turn g l r (token_of x c)) (colon_free r x t c k.2 i)
+    scans_still s r h (Left x t) e k = λ c i. left_still t (turn g l r (token_of x c)) (colon_free r x t c k.2 i)
+    scans_still s r h (Refused n y) e k = tt
 
     -- what waited is settled by an octet that begins a token, or ends one
-    settled_still : (s : Known) (again : State → Effect) (p : Place) → AgainStill again → (t : Turn)
+    settles_still : (s : Known) (p : Place) (t : Turn)
         → Leading g l (λ n. (place n ≡ p) × (is_fresh n ≡ true → s.colon ≡ true → BeginsOne (feed p s o))) t
-        → StillBehind o (on_settled g l again s (feed p s o) t)
-    settled_still s again p f (goes r) h =
-        subst (λ q. StillBehind o (on_scan g l again r (feed q s o))) h.0
-        (octet_scanned s r again f (subst (λ q. is_fresh r ≡ true → s.colon ≡ true → BeginsOne (feed q s o)) (sym h.0) h.1))
-    settled_still s again p f (gives v r) h = subst (λ q. is_fresh r ≡ true → s.colon ≡ true → BeginsOne (feed q s o)) (sym h.0) h.1
-    settled_still s again p f (refuses e) h = tt
-    settled_still s again p f (late e r) h = worse_still e (on_scan g l again r (feed p s o))
+        → SettlesSo g l (StillBehind o) (λ e. tt) (StillAt o) s (feed p s o) t
+    settles_still s p (goes r) h =
+        scans_still s r (subst (λ q. is_fresh r ≡ true → s.colon ≡ true → BeginsOne (feed q s o)) (sym h.0) h.1) (feed p s o)
+        (ap (λ q. feed q s o) h.0) (subst (λ q. Keeps q s (feed p s o)) (sym h.0) (feed_keeps p s o))
+    settles_still s p (gives v r) h = subst (λ q. is_fresh r ≡ true → s.colon ≡ true → BeginsOne (feed q s o)) (sym h.0) h.1
+    settles_still s p _ h = tt
 
     symbol_begins : (x : Outcome) → symbol_waits x ≡ false → BeginsOne x
     symbol_begins (Next t) h = h
@@ -242,16 +219,12 @@ module _ (g : Catalog) (l : Limits) where
         go (Now.LongName v) e = by (long_begins false (feed p s o) (sym (ap (λ m. waits_now (is_top fs) m (feed p s o)) e) ∙ w))
         go n e = same n e refl
 
-    octet_still : (s : Known) (r : Reading) (again : State → Effect) → AgainStill again → StillAt o s r
-        → StillBehind o (on_octet g l again (with_scan s r) (feed (place r) s o))
-    octet_still s r again f h =
-        cond_both (unsettled s r (feed (place r) s o)) _ _ (StillBehind o) (λ e. octet_scanned s r again f h)
-        (λ e. settled_still s again (place r) f (settle g l r)
-        (settling r.start r.context r.frames r.notes r.now s h (or_parts (waits r (feed (place r) s o)) (in_segment r.now s) e).0))
-
     pub takes_still : (n : ℕ) (m : State) → StillAt o m.scan m.reading → StillBehind o (takes g l n m o)
-    takes_still zero m h = tt
-    takes_still (suc n) m h = octet_still m.scan m.reading (λ k. takes g l n k o) (λ k i. takes_still n k i) h
+    takes_still n m =
+        takes_each g l (StillBehind o) (λ e. tt) (StillAt o) o
+        (λ s r h e. scans_still s r h (feed (place r) s o) refl (feed_keeps (place r) s o))
+        (λ s r h e. settles_still s (place r) (settle g l r)
+        (settling r.start r.context r.frames r.notes r.now s h (or_parts (waits r (feed (place r) s o)) (in_segment r.now s) e).0)) n m
 
     pub eats_still : (m : State) → is_sane m.scan.mode ≡ true → HasBegun m.scan m.reading → StillBehind o (eats g l m o)
     eats_still m sane h = takes_still 3 m (still_at o m.scan m.reading sane h)

@@ -2,7 +2,7 @@
 use Rattle.std.proofs.Common.{◌≡◌, ℕ, ◌<◌, eqb-true, Bool, true, false, List, [], ◌∷◌, ◌++◌, length, refl, sym, ap, ◌∙◌, subst, arith, append_assoc, append-nil, length-append, ◌⊎◌, inl, inr}
 use Rattle.std.specs.Prelude.{◌==◌, ◌&&◌, ◌||◌, not, codes}
 use Rattle.std.specs.List.{flat_map, AllByRecursion}
-use Rattle.std.proofs.lemmas.Bool.{and_parts, or_parts}
+use Rattle.std.proofs.lemmas.Bool.{and_parts, or_from, or_parts}
 use Rattle.ion_text.specs.Names.{BlankPiece, BlankThen, Catalog, Document, HasPieces, IsBlank, IsBlankPiece, IsLastBlank, IsLexeme, IsNumeric, IsOperator, Lexes, LexesTo, Limits, LineComment, Mark, MarkEnds, OpenRest, Pieces, Place, Placed, Slot, TokenKind, Value, White, Whole, among, begins_comment, begins_infinity, blank_spelling, colon_behind, comment_within, is_operator_octet, is_stop, is_white, is_word_octet, mark_spelling}
 use Rattle.ion_tokens.specs.Lexemes.{begins}
 use Rattle.ion_tokens.proofs.sound.Holds.{blank_more, blank_none}
@@ -20,9 +20,6 @@ never_both : (b : Bool) → (b && false) ≡ false
 never_both true = refl
 never_both false = refl
 
-neither : (a b : Bool) → a ≡ false → b ≡ false → (a || b) ≡ false
-neither a b h k = ap (λ x. x || b) h ∙ k
-
 comment_front : (x f : List ℕ) → begins_comment (x ++ f) ≡ false → begins_comment x ≡ false
 comment_front [] f h = refl
 comment_front (o ∷ []) f h = never_both (o == 47)
@@ -32,7 +29,7 @@ within_front : (w x f : List ℕ) → comment_within w (x ++ f) ≡ false → co
 within_front [] x f h = refl
 within_front (o ∷ os) x f h =
     let k = or_parts _ _ h in
-    neither _ _ (comment_front (o ∷ os ++ x) f (ap (λ y. begins_comment (o ∷ y)) (append_assoc os x f) ∙ k.0)) (within_front os x f k.1)
+    or_from _ _ (comment_front (o ∷ os ++ x) f (ap (λ y. begins_comment (o ∷ y)) (append_assoc os x f) ∙ k.0)) (within_front os x f k.1)
 
 nothing_before : (x f : List ℕ) → x ++ f ≡ [] → x ≡ []
 nothing_before [] f e = refl

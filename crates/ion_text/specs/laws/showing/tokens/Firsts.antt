@@ -2,12 +2,12 @@
 use Rattle.std.proofs.Common.{◌≡◌, ℕ, ◌+◌, ◌-◌, Bool, true, false, List, [], ◌∷◌, ◌++◌, length, refl, sym, ap, ◌∙◌, subst, arith, Result, Ok, Option, Some, inl, inr, if◌then◌else◌}
 use Rattle.std.specs.Prelude.{◌==◌, ◌||◌}
 use Rattle.std.proofs.lemmas.Bool.Decides.{nat_tests}
-use Rattle.ion_text.specs.Names.{Annotations, BeginsWith, Blob, Bracket, Clob, Content, Frame, Given, IsBlank, IsBody, IsSymbol, Known, Left, Lexeme, Long, Mark, Mark', Mode, Next, Now, Number', Outcome, Place, Placed, Reason, Refused, Says, Segments, Slot, Style, Symbols, TokenKind, Within, acts, before, begins_as_long, end_of, ends_at, feed, follow, is_id, is_idle, is_quoting, is_segment, is_two_quotes, is_word, joined, no_annotation, one_annotation, open_mark, scan as run, segment}
+use Rattle.ion_text.specs.Names.{Annotations, BeginsWith, Bracket, Content, Frame, Given, Id, IsBlank, IsBody, IsSymbol, Known, Left, Lexeme, Long, Mark, Mark', Mode, Next, Now, Outcome, Place, Placed, Quoted, Reason, Refused, Says, Segments, Slot, Style, Symbols, TokenKind, TypedNull, Within, Word, acts, before, begins_as_long, end_of, ends_at, feed, follow, is_id, is_idle, is_quoting, is_segment, is_two_quotes, is_word, joined, no_annotation, one_annotation, open_mark, scan as run, segment}
 use Rattle.ion_tokens.specs.machine.Table.{go as go_on}
 use Rattle.ion_tokens.proofs.complete.Moves.{at, blank}
 use Rattle.ion_tokens.proofs.complete.TakesBlanks.{passes_blank}
 use Rattle.ion_text.specs.Grammar.{is_quoted}
-use Rattle.ion_text.specs.laws.reading.complete.Complete.{segment_kind}
+use Rattle.ion_text.specs.laws.reading.complete.Complete.{body_kind, kind_said, segment_kind}
 use Rattle.ion_text.specs.laws.reading.complete.Found.{next_is}
 use Rattle.ion_text.specs.laws.reading.complete.Going.{mark_kind}
 use Rattle.ion_text.specs.laws.reading.complete.Meets.{LongOn, is_long_text, long_feed}
@@ -38,19 +38,16 @@ opens_more : (ts us : List Placed) → OpensItem ts → OpensItem us → OpensIt
 opens_more [] us a b = b
 opens_more (t ∷ ts) us a b = a
 
-number_symbol : (octets : List ℕ) (c : Content) → IsBody TokenKind.Number octets (Ok c) → symbol_said c ≡ true → ⊥
-number_symbol octets (Number' n) h e = cc
-number_symbol octets _ h e = h
+said_opens : (c : Content) → symbol_said c ≡ true → opens_item (kind_said c) ≡ true
+said_opens (Word w) e = refl
+said_opens (Id id) e = refl
+said_opens (TypedNull k) e = refl
+said_opens (Quoted w) e = refl
+said_opens _ e = absurd cc
 
 -- a token that says a symbol may begin an item that is open
 pub symbol_kind : (k : TokenKind) (octets : List ℕ) (c : Content) → IsBody k octets (Ok c) → symbol_said c ≡ true → opens_item k ≡ true
-symbol_kind TokenKind.Number octets c h e = absurd (number_symbol octets c h e)
-symbol_kind TokenKind.ShortString octets c h e = absurd (let n : false ≡ true = sym (ap symbol_said h.0) ∙ e in cc)
-symbol_kind TokenKind.Operator octets c h e = absurd (let n : false ≡ true = sym (ap symbol_said h.0) ∙ e in cc)
-symbol_kind TokenKind.Clob octets c h e = absurd (let i : c ≡ Clob octets = cc in let n : false ≡ true = sym (ap symbol_said i) ∙ e in cc)
-symbol_kind TokenKind.Blob octets c h e = absurd (let i : c ≡ Blob octets = cc in let n : false ≡ true = sym (ap symbol_said i) ∙ e in cc)
-symbol_kind (TokenKind.Mark m) octets c h e = absurd (let i : c ≡ Mark' m = cc in let n : false ≡ true = sym (ap symbol_said i) ∙ e in cc)
-symbol_kind _ octets c h e = refl
+symbol_kind k octets c h e = ap opens_item (body_kind k octets c h) ∙ said_opens c e
 
 is_said : (c : List Slot) (said : Content) (s : Option (List ℕ)) → IsSymbol c said s → symbol_said said ≡ true
 is_said c _ _ (is_word w h) = refl

@@ -1,8 +1,9 @@
 -- Where a reading's open item begins, behind tokens that begin no earlier; and what the scanner may hold while something waits.
-use Rattle.std.proofs.Common.{◌≡◌, ℕ, zero, suc, ◌+◌, ◌≤◌, nat_le, Bool, true, false, ◌&&◌, ◌||◌, not, List, [], ◌∷◌, ◌++◌, refl, sym, ap, ◌∙◌, subst, arith, Result, Ok, Err, ◌⊎◌, inl, inr, if◌then◌else◌}
-use Rattle.std.proofs.lemmas.Bool.{cond_both}
-use Rattle.ion_text.specs.Names.{Catalog, Content, Effect, Frame, Given, Held, Known, Leading, Left, Limits, Listing, Next, Now, Outcome, Payload, Placed, Reading, Reason, Refusal, Refused, Slot, Spot, State, Symbols, Token, Turn, Value, Walk, adds_values, at, behind_given, behind_left, continues, eats, ended, fails, feed, fresh, gives, goes, held_payload, is_fresh, is_idle, is_quoting, is_table, is_top, late, leaves, next, noticed, on_judged, on_octet, on_placed, on_said, on_scan, on_settled, on_turn, once_more, or_worse, paid, place, reaches, reads, refuses, released, run, run_on, said, same_place, settle, settle_same, shut, spot_at, stopped, system_slots, takes, tells, token_of, turn, turned, under, unsettled, uses, waits, waits_now, with_scan, within}
+use Rattle.std.proofs.Common.{◌≡◌, ℕ, ◌+◌, ◌≤◌, Bool, true, false, ◌&&◌, ◌||◌, List, [], ◌∷◌, ◌++◌, refl, sym, ap, ◌∙◌, subst, arith, Result, Ok, Err, ◌⊎◌, inl, inr, if◌then◌else◌}
+use Rattle.ion_text.specs.Names.{Catalog, Content, Effect, Frame, Given, Known, Leading, Left, Limits, Listing, Next, Now, Outcome, Placed, Reading, Reason, Refusal, Refused, Slot, Spot, State, Symbols, Token, Turn, Value, Walk, adds_values, at, continues, eats, fails, feed, gives, goes, is_fresh, is_idle, is_quoting, is_top, late, leaves, on_judged, on_placed, on_turn, once_more, place, reads, refuses, run, run_on, said, same_place, settle, settle_same, spot_at, stopped, takes, tells, token_of, turn, under, uses, waits, waits_now}
 use Rattle.ion_text.specs.machine.TokenLists.{walked}
+use Rattle.ion_text.specs.machine.Ways.{SettledWay, ValueWay, settled_free, settled_held, settled_marker, settled_name, settled_text, settled_way, value_given, value_item, value_refused, value_table}
+use Rattle.ion_text.specs.laws.reading.Effects.{GivesSo, LeavesSo, ScansSo, SettlesSo, takes_each}
 use Rattle.ion_text.specs.laws.reading.complete.Meets.{finely_as}
 use Rattle.ion_text.specs.laws.reading.complete.Segments.{NotRefused, unsettled_waits}
 use Rattle.ion_text.specs.laws.reading.sound.Quotes.{Fine}
@@ -27,40 +28,27 @@ module _ (g : Catalog) (l : Limits) where
   abbrev pub Freed : ℕ → Reading → Type 0
   Freed start n = IsFree n.now × ((is_fresh n ≡ true) ⊎ ((n.start ≡ start) × (is_top n.frames ≡ false)))
 
-  within_freed : (begin item start end : ℕ) (t : Turn) → Leading g l (Freed begin) t → Leading g l (Freed begin) (within item start end t)
-  within_freed begin item start end t h =
-      cond_both (nat_le end (start + item)) t (refuses Reason.ItemTooLong) (Leading g l (Freed begin)) (λ e. h) (λ e. tt)
-
-  top_freed : (item start end : ℕ) (c : List Slot) (v : Value) (d : Result (List Slot) Reason) (b : Bool)
-      → Leading g l (Freed start) (if b then turned item start end d else within item start end (gives v (fresh c)))
-  top_freed item start end c v (Ok d) true = within_freed start item start end (goes (fresh d)) (tt, inl refl)
-  top_freed item start end c v (Err e) true = tt
-  top_freed item start end c v d false = within_freed start item start end (gives v (fresh c)) (tt, inl refl)
-
-  ended_freed : (spot : Spot) (fs : List Frame) (v : Value) → Leading g l (Freed spot.start) (ended (under g l) spot fs v)
-  ended_freed spot [] v = top_freed l.item spot.start spot.end spot.context v (next spot.context v g) (is_table v)
-  ended_freed spot (Frame.Fields ss ms ∷ fs) v = tt
-  ended_freed spot (Frame.Items Listing.List ss vs ∷ fs) v = (tt, inr (refl, refl))
-  ended_freed spot _ v = (tt, inr (refl, refl))
-
-  paid_freed : (spot : Spot) (fs : List Frame) (ss : Symbols) (q : Result Payload Reason) → Leading g l (Freed spot.start) (paid (under g l) spot fs ss q)
-  paid_freed spot fs ss (Ok q) = ended_freed spot fs _
-  paid_freed spot fs ss (Err e) = tt
-
-  released_freed : (spot : Spot) (fs : List Frame) (ss : Symbols) (h : Held) → Leading g l (Freed spot.start) (released (under g l) spot fs ss h)
-  released_freed spot [] [] (Held.Version true s) = within_freed spot.start l.item spot.start spot.end (goes (fresh system_slots)) (tt, inl refl)
-  released_freed spot [] [] (Held.Version false s) = tt
-  released_freed spot [] [] Held.Nan = tt
-  released_freed spot [] (s ∷ ss) h = paid_freed spot [] (s ∷ ss) (held_payload h)
-  released_freed spot (f ∷ fs) ss h = paid_freed spot (f ∷ fs) ss (held_payload h)
-  released_freed spot [] [] h = paid_freed spot [] [] (held_payload h)
+  value_freed : (spot : Spot) (v : Value) (fs : List Frame) (t : Turn) → ValueWay (under g l) spot v fs t → Leading g l (Freed spot.start) t
+  value_freed spot v _ _ (value_refused fs e d) = tt
+  value_freed spot v _ _ (value_table d fits) = (tt, inl refl)
+  value_freed spot v _ _ (value_given fits) = (tt, inl refl)
+  value_freed spot v _ _ (value_item Listing.List ss vs fs) = (tt, inr (refl, refl))
+  value_freed spot v _ _ _ = (tt, inr (refl, refl))
 
   -- what waits is settled to where no item is open, or to the same item in a container
   pub waiting_freed : (start : ℕ) (c : List Slot) (fs : List Frame) (ss : Symbols) (now : Now) → IsWaiting g l now
       → Leading g l (Freed start) (settle g l (at start c fs ss now))
-  waiting_freed start c fs ss (Now.Pending h end) w = released_freed (spot_at end start c) fs ss h
-  waiting_freed start c fs ss (Now.Long v end) w = ended_freed (spot_at end start c) fs _
-  waiting_freed start c fs ss _ w = absurd w
+  waiting_freed start c fs ss now = by fs now _ (settled_way g l start c fs ss now)
+    where
+      by : (fs : List Frame) (now : Now) (t : Turn) → SettledWay g l start c ss fs now t → IsWaiting g l now → Leading g l (Freed start) t
+      by _ _ _ (settled_held fs h end q t flat way) w = value_freed (spot_at end start c) _ fs t way
+      by _ _ _ (settled_text fs v end t way) w = value_freed (spot_at end start c) _ fs t way
+      by _ _ _ (settled_marker h end fits) w = (tt, inl refl)
+      by _ _ _ (settled_name fs v) w = absurd w
+      by _ _ _ (settled_free fs (Now.Pending h end) i e) w = absurd i
+      by _ _ _ (settled_free fs (Now.Long v end) i e) w = absurd i
+      by _ _ _ (settled_free fs _ i e) w = absurd w
+      by _ _ _ _ w = tt
 
   -- 1. Where an item begins.
 
@@ -215,66 +203,36 @@ module _ (g : Catalog) (l : Limits) where
   WaitsBehind (tells v m) = Waits m.scan m.reading.now
   WaitsBehind _ = Unit {0}
 
-  noticed_waits : (r : Reading) (s : Known) → Waits s r.now → WaitsBehind (noticed l r s)
-  noticed_waits r s h = cond_both (shut r.now && not (is_idle s.mode)) _ _ WaitsBehind (λ e. tt)
-      (λ e. cond_both (nat_le (reaches r.frames r s) l.item) _ _ WaitsBehind (λ k. h) (λ k. tt))
-
-  worse_waits : (e : Reason) (x : Effect) → WaitsBehind (or_worse e x)
-  worse_waits e (fails f) = tt
-  worse_waits e _ = tt
-
-  given_waits : (s : Known) (t : Turn) → is_idle s.mode ≡ true → WaitsBehind (behind_given l s t)
-  given_waits s (goes r) i = noticed_waits r s (idle_waits s r.now i)
+  given_waits : (s : Known) (t : Turn) → is_idle s.mode ≡ true → GivesSo g l WaitsBehind (λ e. tt) (λ s r. Fine s) s t
+  given_waits s (goes r) i = λ k. idle_waits s r.now i
   given_waits s (gives v r) i = idle_waits s r.now i
-  given_waits s (refuses e) i = tt
-  given_waits s (late e r) i = worse_waits e (noticed l r s)
+  given_waits s _ i = tt
 
   module _ (o : ℕ) where
-    abbrev AgainWaits : (State → Effect) → Type 0
-    AgainWaits again = (k : State) → Fine k.scan → WaitsBehind (again k)
+    left_waits : (s : Known) (t : Turn) → Fine s → LeavesSo g l WaitsBehind (λ e. tt) (λ s r. Fine s) s t
+    left_waits s (goes r) h = h
+    left_waits s _ h = tt
 
-    left_waits : (again : State → Effect) (s : Known) (t : Turn) → AgainWaits again → Fine s → WaitsBehind (behind_left again s t)
-    left_waits again s (goes r) f h = f (with_scan s r) h
-    left_waits again s (late e r) f h = worse_waits e (again (with_scan s r))
-    left_waits again s _ f h = tt
+    scans_waits : (s : Known) (r : Reading) → Fine s → (x : Outcome) → feed (place r) s o ≡ x → ((t : Known) → x ≡ Next t → Waits t r.now)
+        → ScansSo g l WaitsBehind (λ e. tt) (λ s r. Fine s) r x
+    scans_waits s r h (Next t) e k = λ i. k t refl
+    scans_waits s r h (Given x t) e k = λ c i. given_waits t (turn g l r (token_of x c)) (finely_as (place r) s o (Given x t) h e).3
+    scans_waits s r h (Left x t) e k = λ c i. left_waits t (turn g l r (token_of x c)) (finely_as (place r) s o (Left x t) h e).0
+    scans_waits s r h (Refused n y) e k = tt
 
-    said_waits : (r : Result Content Reason) (f : Content → Effect) → ((c : Content) → WaitsBehind (f c)) → WaitsBehind (on_said r f)
-    said_waits (Ok c) f h = h c
-    said_waits (Err e) f h = tt
-
-    scan_waits : (s : Known) (r : Reading) (again : State → Effect) → AgainWaits again → Fine s → (x : Outcome) → feed (place r) s o ≡ x
-        → ((t : Known) → x ≡ Next t → Waits t r.now) → WaitsBehind (on_scan g l again r x)
-    scan_waits s r again f h (Next t) e k = noticed_waits r t (k t refl)
-    scan_waits s r again f h (Given x t) e k = said_waits (said x.kind x.octets) (λ c. behind_given l t (turn g l r (token_of x c)))
-        (λ c. given_waits t (turn g l r (token_of x c)) (finely_as (place r) s o (Given x t) h e).3)
-    scan_waits s r again f h (Left x t) e k = said_waits (said x.kind x.octets) (λ c. behind_left again t (turn g l r (token_of x c)))
-        (λ c. left_waits again t (turn g l r (token_of x c)) f (finely_as (place r) s o (Left x t) h e).0)
-    scan_waits s r again f h (Refused n y) e k = tt
-
-    settled_waits : (s : Known) (again : State → Effect) (r : Reading) → AgainWaits again → Fine s → (t : Turn)
-        → Leading g l (λ n. IsFree n.now × (place n ≡ place r)) t → WaitsBehind (on_settled g l again s (feed (place r) s o) t)
-    settled_waits s again r f h (goes n) k = scan_waits s n again f h (feed (place r) s o) (ap (λ p. feed p s o) k.1) (λ t e. free_waits t n.now k.0)
-    settled_waits s again r f h (late e n) k = worse_waits e (on_scan g l again n (feed (place r) s o))
-    settled_waits s again r f h _ k = tt
-
-    octet_waits : (s : Known) (r : Reading) (again : State → Effect) → AgainWaits again → Fine s
-        → WaitsBehind (on_octet g l again (with_scan s r) (feed (place r) s o))
-    octet_waits s r again f h =
-        cond_both (unsettled s r (feed (place r) s o)) _ _ WaitsBehind
-        (λ e. scan_waits s r again f h (feed (place r) s o) refl
-        (λ t i. next_waits (is_top r.frames) r.now t (sym (ap (waits r) i) ∙ unsettled_waits (place r) s r o (subst NotRefused (sym i) tt) e)))
-        (λ e. settled_waits s again r f h (settle g l r)
-        (both (settle g l r) (settle_free r.start r.context r.frames r.notes r.now) (settle_same g l r.start r.context r.frames r.notes r.now)))
-      where
-        both : (t : Turn) → Leading g l (λ n. IsFree n.now) t → Leading g l (λ n. (place n ≡ place r) × (is_top n.frames ≡ is_top r.frames)) t
-            → Leading g l (λ n. IsFree n.now × (place n ≡ place r)) t
-        both (refuses e) a b = tt
-        both (late e n) a b = tt
-        both _ a b = (a, b.0)
+    settles_waits : (s : Known) (r : Reading) → Fine s → (t : Turn) → Leading g l (λ n. IsFree n.now) t
+        → Leading g l (λ n. (place n ≡ place r) × (is_top n.frames ≡ is_top r.frames)) t
+        → SettlesSo g l WaitsBehind (λ e. tt) (λ s r. Fine s) s (feed (place r) s o) t
+    settles_waits s r h (goes n) free same = scans_waits s n h (feed (place r) s o) (ap (λ p. feed p s o) same.0) (λ t e. free_waits t n.now free)
+    settles_waits s r h _ free same = tt
 
     takes_waits : (n : ℕ) (m : State) → Fine m.scan → WaitsBehind (takes g l n m o)
-    takes_waits zero m h = tt
-    takes_waits (suc n) m h = octet_waits m.scan m.reading (λ k. takes g l n k o) (λ k i. takes_waits n k i) h
+    takes_waits n m =
+        takes_each g l WaitsBehind (λ e. tt) (λ s r. Fine s) o
+        (λ s r h e. scans_waits s r h (feed (place r) s o) refl
+        (λ t i. next_waits (is_top r.frames) r.now t (sym (ap (waits r) i) ∙ unsettled_waits (place r) s r o (subst NotRefused (sym i) tt) e)))
+        (λ s r h e. settles_waits s r h (settle g l r) (settle_free r.start r.context r.frames r.notes r.now)
+        (settle_same g l r.start r.context r.frames r.notes r.now)) n m
 
   -- in which octets end
   abbrev pub EndsWaiting : Result State Refusal → Type 0

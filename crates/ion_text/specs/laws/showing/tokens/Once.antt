@@ -1,13 +1,12 @@
 -- Whole pieces at the front of octets have one list of values.
 use Rattle.std.proofs.Common.{◌≡◌, ℕ, ◌+◌, ◌<◌, Bool, true, false, List, [], ◌∷◌, ◌++◌, length, refl, sym, ap, ◌∙◌, subst, arith, append-nil, length-append, inl, inr}
-use Rattle.ion_text.specs.Names.{BeginsLexed, Catalog, IsLexeme, LexesTo, Limits, Place, Placed, Reading, Shown, TokenKind, Value, Walk, Whole, colon_behind, done, fresh, initial, is_sexp, on_turn, settle, stopped, system_slots}
+use Rattle.ion_text.specs.Names.{BeginsLexed, Catalog, IsLexeme, LexesTo, Limits, Place, Placed, Reading, Shown, TokenKind, Value, Whole, colon_behind, done, fresh, initial, is_sexp, on_turn, settle, system_slots}
 use Rattle.ion_tokens.proofs.complete.Wholes.{some_octet}
 use Rattle.ion_tokens.proofs.histories.Histories.{begins_completes}
 use Rattle.ion_symtab.specs.laws.Promises.{shown_once}
-use Rattle.ion_text.specs.machine.TokenLists.{walked}
 use Rattle.ion_text.specs.laws.reading.complete.Found.{lexes_operators}
 use Rattle.ion_text.specs.laws.reading.complete.Going.{Going, Operators}
-use Rattle.ion_text.specs.laws.reading.complete.Pieces.{pieces_read}
+use Rattle.ion_text.specs.laws.reading.complete.Pieces.{pieces_read, walked_now}
 use Rattle.ion_text.specs.laws.showing.tokens.Compare.{Compared, Found', TopFirst, begins_after, compare, lexes_once}
 use Rattle.ion_text.specs.laws.showing.tokens.Cuts.{lexed_front, parted}
 
@@ -27,23 +26,14 @@ pub operator_inside : (p : Place) (colon : Bool) (w r : List ℕ) (k : TokenKind
     → k ≡ TokenKind.Operator → ⊥
 operator_inside p colon w r k kept h n e = let i = subst (λ x. IsLexeme p colon w r x kept) e h in let never : true ≡ false = sym i.1 ∙ n in cc
 
-values_in : Walk → List Value
-values_in (walked vs r) = vs
-values_in stopped = []
-
-reading_in : Reading → Walk → Reading
-reading_in d (walked vs r) = r
-reading_in d stopped = d
-
 module _ (g : Catalog) (l : Limits) where
   -- tokens that go on to an end give one list of values
   pub going_once : (r : Reading) (ts : List Placed) (a b : List Value) → Going g l r ts a → Going g l r ts b → a ≡ b
-  unfolding values_in reading_in
   going_once r ts a b d e =
-      let vs : d.vs ≡ e.vs = ap values_in (sym d.read ∙ e.read) in
-      let n : d.n ≡ e.n = ap (reading_in r) (sym d.read ∙ e.read) in
-      let later : d.later ≡ e.later = ap values_in (sym d.ends ∙ (ap (λ x. on_turn (settle g l x) done) n ∙ e.ends)) in
-      d.whole ∙ (ap (λ x. x ++ d.later) vs ∙ (ap (λ x. e.vs ++ x) later ∙ sym e.whole))
+      let walk = walked_now g l d.vs e.vs d.n e.n (sym d.read ∙ e.read) in
+      let ends = sym d.ends ∙ (ap (λ x. on_turn (settle g l x) done) walk.1 ∙ e.ends) in
+      let later = (walked_now g l d.later e.later (fresh d.c) (fresh e.c) ends).0 in
+      d.whole ∙ (ap (λ x. x ++ d.later) walk.0 ∙ (ap (λ x. e.vs ++ x) later ∙ sym e.whole))
 
   module _ (front following : List ℕ) where
     -- the tokens of whole pieces go on to an end

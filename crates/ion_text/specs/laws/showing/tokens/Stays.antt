@@ -1,5 +1,6 @@
 -- The tokens of an open item lead the reader of tokens to where it stands, though what waits may not be put there yet.
 use Rattle.std.proofs.Common.{◌≡◌, ℕ, suc, ◌+◌, ◌≤◌, Bool, true, false, ◌&&◌, List, [], ◌∷◌, ◌++◌, length, refl, sym, ap, ◌∙◌, subst, arith, append_assoc, append-nil, Option, Some, Ok, ◌⊎◌, inl, inr}
+use Rattle.std.proofs.lemmas.Bool.{and_right}
 use Rattle.ion_text.specs.laws.reading.complete.Segments.{never}
 use Rattle.ion_text.specs.Names.{Annotations, Bracket, Catalog, Content, Elements, Field, Frame, Held, Id, IsBody, IsName, Leading, Limits, Listing, Long, Mark, Mark', Members, Now, Pieces, Place, Placed, Quoted, Reading, Says, Segments, Short, Slot, Symbols, Token, TypedNull, Value, Word, adds_values, at, begins_as_long, begins_long, begun_at, behind_item, bracket_in, by_long, by_short, by_symbol, comma, done, ends_long, field_comma, first_now, first_token, fresh, goes, is_fresh, is_long, is_top, long_at, no_annotation, no_element, no_field, on_ready, on_turn, one_annotation, open_mark, opened, pending_at, place, place_in, reads, resolved, said_body, settle, settle_same, spot_at, system_slots, under}
 use Rattle.ion_text.specs.Grammar.{end_of}
@@ -10,7 +11,6 @@ use Rattle.ion_text.specs.laws.reading.complete.Going.{mark_kind, says_so}
 use Rattle.ion_text.specs.laws.reading.complete.Pieces.{more_read, pieces_read}
 use Rattle.ion_text.specs.laws.reading.sound.Depths.{Deep}
 use Rattle.ion_text.specs.laws.reading.sound.Held.{IsSome, last_long, name_some, opened_some, some_more}
-use Rattle.ion_text.specs.laws.reading.sound.MarkerWords.{both_not}
 use Rattle.ion_text.specs.laws.reading.sound.Spans.{IsWaiting}
 use Rattle.ion_text.specs.laws.reading.sound.StandsOpen.{EndsAt, IsHeld, IsInside, Items, LongFor, NowStands, Opened, PendingFor, ReadyFor, Receives, long_behind, not_long, notes_not_long, symbol_no_long, symbol_said, value_place}
 use Rattle.ion_text.specs.laws.showing.tokens.Firsts.{now_first, opens_item}
@@ -61,7 +61,7 @@ module _ (g : Catalog) (l : Limits) where
           → reads g l (fresh c) (front ++ (notes ++ t ∷ us)) ≡ reads g l (at (starts g l start fs notes) c fs ss Now.Ready) (t ∷ us)
       token_behind t said us h n k =
           noted_behind (t ∷ us) (notes_begin g l c p notes (t ∷ us) ss a (record { first = t; later = us; said = said; cut = refl; says = h; no_colons = n }))
-          (both_not (ends_long front) (begins_long (notes ++ t ∷ us)) (notes_not_long c p notes us ss t a (not_long p t said h k)))
+          (and_right (ends_long front) (begins_long (notes ++ t ∷ us)) (notes_not_long c p notes us ss t a (not_long p t said h k)))
 
   -- what is reached by the last tokens is reached by all
   reached_behind : (c : List Slot) (r m n : Reading) (ts us : List Placed) → reads g l r (ts ++ us) ≡ reads g l m us → Reached g l c m us n
@@ -266,7 +266,7 @@ module _ (g : Catalog) (l : Limits) where
         item_behind g l c (value_place fs) (fresh c) (at (starts g l 0 [] front) c fs [] Now.Ready) front (ts ++ t ∷ colons ∷ []) refl refl d
         (notes_begin g l c (value_place fs) ts (t ∷ colons ∷ []) ss a
         (record { first = t; later = colons ∷ []; said = said; cut = refl; says = i; no_colons = symbol_no_colons g l c said s j }))
-        (both_not (ends_long front) (begins_long (ts ++ t ∷ colons ∷ []))
+        (and_right (ends_long front) (begins_long (ts ++ t ∷ colons ∷ []))
         (notes_not_long c (value_place fs) ts (colons ∷ []) ss t a (not_long (value_place fs) t said i (symbol_no_long c said s j))))
         ∙ notes_read g l c (value_place fs) (starts g l 0 [] front) fs (ts ++ t ∷ colons ∷ []) (ss ++ s ∷ []) refl
         (one_annotation ts ss t colons said s a i j k);
