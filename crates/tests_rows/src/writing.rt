@@ -157,10 +157,11 @@ pub fn converts(asked: Asked<'_>) -> Result<(), Fail> {
 /// Fails, where what a field spells is converted otherwise to either encoding.
 fn is_converted_again(asked: Asked<'_>, limits: Limits, number: usize) -> Result<(), Fail> {
     let document = asked.row.octets(asked.alloc, number)?;
-    let mut again = asked;
-    again.document = document.as_slice();
-    again.limits = limits;
-    converts_to_both(again)
+    converts_to_both(Asked {
+        document: document.as_slice(),
+        limits,
+        ..asked
+    })
 }
 
 fn converts_to_both(asked: Asked<'_>) -> Result<(), Fail> {
