@@ -3,7 +3,7 @@ use Rattle.std.proofs.Common.{◌≡◌, ℕ, ◌+◌, ◌-◌, ◌≤◌, ◌<�
 use Rattle.std.specs.Prelude.{◌==◌, if◌then◌else◌}
 use Rattle.std.proofs.lemmas.Bool.{false≢true}
 use Rattle.std.proofs.lemmas.List.{length-take-le, take-append-drop, take_all}
-use Rattle.ion_binary.specs.Names.{Answers, AreAround, BinaryWalk, Catalog, Does, Effect, EndsOn, Event, Frame, Gives, Goes, Holds, InBody, InMarker, InNumber, InPad, Incomplete, IsInside, Limits, Machine, Outcome, Phase, Reached, Ready, Reason, Refusal, Run, Scalar, StandsFor, Told, Value, Walks, WalksOn, WentOn, ends_of, feed, heard, initial, judge, judged, machine_of, name_of, refused_at, run, run-append, run_after, run_of, setting_of, shells, spot_of, then_run, told, trace, trace_of, under, whole}
+use Rattle.ion_binary.specs.Names.{Answers, AreAround, BinaryWalk, Catalog, Does, Effect, EndsOn, Event, Frame, Gives, Goes, Holds, InBody, InMarker, InNumber, InPad, Incomplete, IsInside, Limits, Machine, Outcome, Phase, Reached, Ready, Reason, Refusal, Run, Scalar, StandsFor, StepsOver, Told, Value, Walks, WalksOn, WentOn, awaits, ends_of, failed, feed, heard, if_ended, initial, judge, judged, machine_of, name_of, pending, refused_at, run, run-append, run_after, run_of, setting_of, shells, spot_of, taken, then_run, told, trace, trace_of, under, whole}
 use Rattle.ion_visiting.specs.laws.Filters.{hears_none}
 use Rattle.ion_binary.specs.machine.EachOctet.{moved}
 use Rattle.ion_binary.specs.walking.Holds.{Name}
@@ -195,6 +195,33 @@ module _ {V : Type 0} (takes : V → Event → V → Type 0) (old new : BinaryWa
     ),
     w.1.1.2.hears,
   )
+
+-- what a walk that isn't refused leaves behind it
+pub walk_leaves : (old new : BinaryWalk) (piece : List ℕ) (used : ℕ) (ended : Bool) → used ≤ length piece → (ended ≡ false → used ≡ length piece)
+    → (ended ≡ true → 0 < used) → new.used ≡ old.used + used → new.failed ≡ None
+    → StepsOver taken pending awaits failed old new piece used (if_ended ended)
+walk_leaves old new piece used true within all some counts fine =
+    let more = some refl in
+    record {
+      used = within;
+      uses_all = λ e. cc;
+      counts = counts;
+      progress = λ h. omega arith;
+      few_pending = omega arith;
+      onward = λ h. cc;
+      not_failed = fine;
+      awaited = tt;
+    }
+walk_leaves old new piece used false within all some counts fine = record {
+  used = within;
+  uses_all = λ e. all refl;
+  counts = counts;
+  progress = λ h. cc;
+  few_pending = omega arith;
+  onward = λ h. cc;
+  not_failed = fine;
+  awaited = tt;
+}
 
 -- what is refused is refused behind them
 pub walk_answers : {V : Type 0} (takes : V → Event → V → Type 0) (old new : BinaryWalk) (u : List ℕ) (s : List (Value × ℕ)) (fs : List Frame) → StandsFor old u s fs

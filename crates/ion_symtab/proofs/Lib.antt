@@ -2,3 +2,4 @@ pub mod Counting
 pub mod Systems
 pub mod Placing
 pub mod Indexing
+pub mod Walking

@@ -14,7 +14,7 @@ pub use Rattle.ion_symtab.specs.Slots.{Slot, gap, greatest_id, nine_system_slots
 unfoldable pub use Rattle.ion_symtab.specs.Slots.{resolve, system_slots}
 pub use Rattle.ion_symtab.specs.Tables.{AreApart, Table, find, find_best, is_named, is_usable, newer, newest, otherwise}
 pub use Rattle.ion_symtab.specs.Trace.{Answers, Grows, IsFront, Trace, given_at}
-pub use Rattle.ion_symtab.specs.Walks.{EndsOn, Telling, WalksOn}
+pub use Rattle.ion_symtab.specs.Walks.{DoesWalk, EndsOn, Telling, WalksOn, answer_of}
 pub use Rattle.ion_symtab.specs.declared.inlet.Inlet.{Ghosts}
 pub use Rattle.ion_symtab.specs.declared.segments.Segment.{Segment}
 pub use Rattle.ion_symtab.specs.kept.Places.{Indexes, IsPlaceOf, newest_among, newest_of, newest_place, place_of, version_kept}

@@ -1,7 +1,10 @@
 -- What a reader tells a visitor of a document that it walks over, and what the end answers then.
-use Rattle.std.specs.Prelude.{◌≡◌, ◌≢◌, ℕ, ◌+◌, ◌≤◌, List, [], ◌∷◌, ◌++◌, length, take, Bool, true, false, Option, Some, None, Result, Ok, Err, IfSome, IsNone}
+use Rattle.std.specs.Prelude.{◌≡◌, ◌≢◌, ℕ, ◌+◌, ◌≤◌, List, [], ◌∷◌, ◌++◌, length, take, Bool, true, false, Option, Some, None, Result, Ok, Err, IfOk, IfErr, IfSome, IsNone}
 use Rattle.ion_symtab.specs.Names.Below.{Event, Hears, Memory, Refusal, Value, events_of}
-use Rattle.ion_symtab.specs.Trace.{IsFront, Trace}
+use Rattle.ion_symtab.specs.declared.items.Walked.{Walked}
+use Rattle.ion_symtab.specs.declared.items.Went.{Went}
+use Rattle.ion_symtab.specs.Steps.{RefusesBy, StepsOver}
+use Rattle.ion_symtab.specs.Trace.{Answers, IsFront, Trace}
 
 -- Behind these octets, with these values ended, so much was told of what is open: what contracts see of a reader by `Items::told`.
 abbrev pub Telling : Type 0 → Type 1
@@ -26,6 +29,24 @@ module _ {V : Type 0} (takes : V → Event → V → Type 0) where
   EndsOn t es (Ok true) a b = (v : Value) × (t.ends ≡ Ok (Some v)) × Hears takes es (events_of v) a b
   EndsOn t es (Ok false) a b = (t.ends ≡ Ok None) × Hears takes es [] a b
   EndsOn t es (Err refusal) a b = refusal.reason ≢ Memory → t.ends ≡ Err refusal
+
+-- what is answered of a piece of so many octets, by a reader whose refusal is this
+abbrev pub answer_of : Went → ℕ → Option Refusal → Result Walked Refusal
+answer_of (Went.Ended used) size refusal = Ok (record { used = used; ended = true })
+answer_of Went.Ran size refusal = Ok (record { used = size; ended = false })
+answer_of Went.Refused size (Some refusal) = Err refusal
+answer_of Went.Refused size None = Err (record { offset = 0; reason = Memory })
+
+-- A walk of a reader over a piece answered so: what it leaves behind it, tells and refuses.
+pub record DoesWalk {X V : Type 0} (takes : V → Event → V → Type 0) (taken pending : X → ℕ) (awaits : X → Option ℕ) (failed : X → Option Refusal)
+    (told : Telling X) (trace : List ℕ → Trace) (old new : X) (piece : List ℕ) (answer : Result Walked Refusal) (a b : V) : Type 0 where
+  pub leaves : IfOk answer (λ walked. StepsOver taken pending awaits failed old new piece walked.used (if_ended walked.ended))
+  pub tells : IfOk answer (λ walked. (u : List ℕ) (s : List (Value × ℕ)) (es : List Event) → told old u s es
+      → WalksOn takes told u s es piece walked.used walked.ended new a b)
+  pub answers : IfErr answer (λ refusal. (u : List ℕ) (s : List (Value × ℕ)) (es : List Event) → told old u s es
+      → Answers trace u s piece (Err refusal))
+  pub refuses : IfErr answer (RefusesBy taken pending awaits failed old new piece)
+  pub again : IfSome (failed old) (λ refusal. answer ≡ Err refusal)
 
 -- What is so of a reader that told what it did: `u` are the octets that it used, `s` the values that ended with them.
 pub record HasTold {X : Type 0} (taken kept : X → ℕ) (failed : X → Option Refusal) (awaits : X → Option ℕ) (trace : List ℕ → Trace) (item : ℕ) (r : X)

@@ -32,6 +32,18 @@ pub struct Walked {
     pub ended: bool,
 }
 
+/// What a walk did, of which a reader knows the refusal. Unlike a `Result<Walked, Refusal>` it fits
+/// in registers.
+#[derive(Clone, Copy)]
+pub enum Went {
+    /// A value ended, behind so many octets of the piece.
+    Ended(usize),
+    /// The whole piece was used, and no value ended.
+    Ran,
+    /// It was refused.
+    Refused,
+}
+
 /// A reader of documents, to which the octets come in pieces of any size.
 ///
 /// Its values, its refusal and the totals of octets used at which the values come depend on the

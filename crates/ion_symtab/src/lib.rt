@@ -25,7 +25,7 @@ pub use context::{Context, SYSTEM_TEXTS};
 pub use fault::Fault;
 pub use history::History;
 pub use inlet::{Failed, FromRead, Inlet};
-pub use items::{Items, Step, Walked};
+pub use items::{Items, Step, Walked, Went};
 pub use limits::Limits;
 pub use outlet::{Outlet, ToWrite};
 pub use segments::GREATEST_ID;

@@ -1,15 +1,17 @@
 //! Walks over pieces: octets of a body or a pad are taken up at once, else one.
-ghost use Rattle.std.specs.Prelude.{◌≡◌, ◌≢◌, ℕ, ◌+◌, ◌-◌, ◌≤◌, ◌<◌, ◌^◌, [], ◌++◌, List, true, false, length, take, None, Some, Result, IfOk, IfErr, IfSome, IsNone};
+ghost use Rattle.std.specs.Prelude.{◌≡◌, ◌≢◌, ℕ, ◌+◌, ◌-◌, ◌≤◌, ◌<◌, ◌^◌, [], ◌++◌, List, true, false, length, take, None, Some, Result, IfOk, IfErr, IfSome, IsNone, IsSome};
 ghost use Rattle.ion_binary.specs.Names.{Answers, AreAround, Does, EndsOn, Event, Frame as AnyFrame, Holds, Memory, Moves, RefusesBy, SameSetting, StepsOver, Told, Value as AnyValue, Walks, WalksOn, awaits, failed, goes_on, if_ended, is_in_body, judge, judged, pending, run_of, setting_of, shells, spot_of, taken, told, trace, whole};
 ghost use Rattle.ion_binary.specs.declared.state.Phase.TheVariants as phases;
 ghost use Rattle.ion_binary.specs.machine.EachOctet.{moved};
 ghost use Rattle.ion_binary.specs.walking.Runs.{Led, Took, kept};
+ghost use Rattle.ion_symtab.specs.Walks.{DoesWalk, answer_of};
+ghost use Rattle.ion_symtab.specs.declared.items.Went.TheVariants as wents;
 
 use super::{BinaryWalk, TableFilter};
 use crate::form::Scalar;
 use crate::state::{Effect, Mark, Phase};
 use ion_model::{Reason, Refusal};
-use ion_symtab::{Catalog, Context, Limits, Walked};
+use ion_symtab::{Catalog, Context, Limits, Walked, Went};
 use ion_visiting::Visitor;
 use std::alloc::Global;
 
@@ -199,6 +201,7 @@ impl BinaryWalk<'_> {
 
     /// Takes up the octets of a piece up to the end of the next value. A refusal's offset counts the
     /// octet that decided; `Memory` has the octets of earlier walks.
+    #[inline(always)]
     fn advance<V: Visitor>(&mut self, piece: &[u8], visitor: &mut V) -> Result<Walked, Refusal>
         requires room { self.old.used + length piece.now < 2 ^ 63 }
         ensures does { (fs : List AnyFrame) → Holds self.old fs →
@@ -245,11 +248,36 @@ impl BinaryWalk<'_> {
         })
     }
 
+    /// What `walk` does, of which it answers what `Went` says.
+    #[inline(never)]
+    fn go_on<V: Visitor>(&mut self, piece: &[u8], visitor: &mut V) -> Went
+        requires room { IsNone self.old.failed → self.old.used + length piece.now < 2 ^ 63 }
+        ensures setting { (self.new.catalog.now ≡ self.old.catalog.now)
+            × (self.new.limits ≡ self.old.limits) }
+        ensures walks { DoesWalk V.takes taken pending awaits failed Told
+            (trace self.old.catalog.now self.old.limits) self.old self.new piece.now
+            (answer_of result (length piece.now) self.new.failed) visitor.old visitor.new }
+        ensures refused { result ≡ wents.Refused → IsSome self.new.failed }
+    {
+        if self.failed.is_some() {
+            return Went::Refused;
+        }
+        match self.advance(piece, visitor) {
+            Ok(walked) if walked.ended => Went::Ended(walked.used),
+            Ok(_) => Went::Ran,
+            Err(refusal) => {
+                self.failed = Some(refusal);
+                Went::Refused
+            }
+        }
+    }
+
     /// Takes up the octets of a piece up to the end of the next value of the top level, and tells a
     /// visitor what comes of them, as `Items::walk` promises it.
     ///
     /// The first refusal comes again with each call. `Memory` comes where memory was refused, or
     /// where the visitor can't go on.
+    #[inline(always)]
     pub fn walk<V: Visitor>(&mut self, piece: &[u8], visitor: &mut V) -> Result<Walked, Refusal>
         requires room { IsNone self.old.failed → self.old.used + length piece.now < 2 ^ 63 }
         ensures setting { (self.new.catalog.now ≡ self.old.catalog.now)
@@ -268,15 +296,16 @@ impl BinaryWalk<'_> {
             self.old self.new piece.now) }
         ensures again { IfSome self.old.failed (λ refusal. result ≡ Result.Err refusal) }
     {
-        if let Some(refusal) = self.failed {
-            return Err(refusal);
-        }
-        match self.advance(piece, visitor) {
-            Ok(walked) => Ok(walked),
-            Err(refusal) => {
-                self.failed = Some(refusal);
-                Err(refusal)
-            }
+        match self.go_on(piece, visitor) {
+            Went::Ended(used) => Ok(Walked { used, ended: true }),
+            Went::Ran => Ok(Walked {
+                used: piece.len(),
+                ended: false,
+            }),
+            Went::Refused => match self.failed {
+                Some(refusal) => Err(refusal),
+                None => unreachable!(),
+            },
         }
     }
 

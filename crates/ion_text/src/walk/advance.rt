@@ -4,12 +4,14 @@ ghost use Rattle.std.specs.Option.{is_some};
 ghost use Rattle.ion_text.specs.Names.{Answers, Event, Frame, Holds, IsFine, IsWithin, Memory, RefusesBy, SameReader, StaysSteady, StepsOver, Symbols, Told, TookFront, Value as AnyValue, WalksOn, failed, if_ended, octets_used, pending, scanned, state_of, told, trace};
 ghost use Rattle.ion_text.specs.machine.Progress.{BeginsWith};
 ghost use Rattle.ion_text.specs.walk.Advances.{DidAdvance, SameSettings};
+ghost use Rattle.ion_symtab.specs.Walks.{DoesWalk, answer_of};
+ghost use Rattle.ion_symtab.specs.declared.items.Went.TheVariants as wents;
 
 use super::TextWalk;
 use crate::reasons::with_memory_at;
 use crate::state::{Now, Taken};
 use ion_model::{Reason, Refusal};
-use ion_symtab::Walked;
+use ion_symtab::{Walked, Went};
 use ion_visiting::Visitor;
 
 // The refusal, with an octet of a piece of so many octets behind `before`. One with another octet
@@ -243,6 +245,33 @@ impl TextWalk<'_> {
         }
     }
 
+    /// What `walk` does, of which it answers what `Went` says.
+    #[inline(never)]
+    fn go_on<V: Visitor>(&mut self, piece: &[u8], visitor: &mut V) -> Went
+        requires room { IsNone (failed self.old) →
+            octets_used self.old + length piece.now < 2 ^ 63 }
+        requires begins { BeginsWith self.old.awaited piece.now }
+        ensures setting { (self.new.catalog.now ≡ self.old.catalog.now)
+            × (self.new.limits ≡ self.old.limits) }
+        ensures walks { DoesWalk V.takes octets_used pending (λ r. r.awaited) failed Told
+            (trace self.old.catalog.now self.old.limits) self.old self.new piece.now
+            (answer_of result (length piece.now) (failed self.new)) visitor.old visitor.new }
+        ensures refused { result ≡ wents.Refused → IsSome (failed self.new) }
+    {
+        if self.failure().is_some() {
+            self.awaited = None;
+            return Went::Refused;
+        }
+        match self.advance_on(piece, visitor) {
+            Ok(walked) if walked.ended => Went::Ended(walked.used),
+            Ok(_) => Went::Ran,
+            Err(refusal) => {
+                self.failed = Some(refusal);
+                Went::Refused
+            }
+        }
+    }
+
     /// Takes up octets of the piece, at most up to the end of the next value, and tells a visitor
     /// what comes of them, event by event. Without a value it used the whole piece.
     ///
@@ -250,6 +279,7 @@ impl TextWalk<'_> {
     /// document's first, and comes again with each call. `Memory` comes where memory was refused, or
     /// where the visitor can't go on. An octet that shows the end of a value without being part of
     /// it isn't used, and begins the next piece.
+    #[inline(always)]
     pub fn walk<V: Visitor>(&mut self, piece: &[u8], visitor: &mut V) -> Result<Walked, Refusal>
         requires room { IsNone (failed self.old) →
             octets_used self.old + length piece.now < 2 ^ 63 }
@@ -269,14 +299,16 @@ impl TextWalk<'_> {
             self.old self.new piece.now) }
         ensures again { IfSome (failed self.old) (λ refusal. result ≡ Err refusal) }
     {
-        if let Some(refusal) = self.failure() {
-            self.awaited = None;
-            return Err(refusal);
+        match self.go_on(piece, visitor) {
+            Went::Ended(used) => Ok(Walked { used, ended: true }),
+            Went::Ran => Ok(Walked {
+                used: piece.len(),
+                ended: false,
+            }),
+            Went::Refused => match self.failure() {
+                Some(refusal) => Err(refusal),
+                None => unreachable!(),
+            },
         }
-        let result = self.advance_on(piece, visitor);
-        if let Err(refusal) = &result {
-            self.failed = Some(*refusal);
-        }
-        result
     }
 }
