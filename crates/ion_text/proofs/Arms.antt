@@ -1,14 +1,14 @@
 -- What a token does that is taken up where the scanner rests and a container is open.
-use Rattle.std.proofs.Common.{◌≡◌, ◌≢◌, ℕ, zero, suc, ◌+◌, ◌-◌, ◌<◌, ◌≤◌, Bool, true, false, List, [], ◌∷◌, length, take, drop, get_or, Option, Some, None, Ok, Err, refl, ap, sym, ◌∙◌, subst, arith}
+use Rattle.std.proofs.Common.{◌≡◌, ◌≢◌, ℕ, suc, ◌+◌, ◌-◌, ◌<◌, ◌≤◌, Bool, true, false, List, [], ◌∷◌, length, take, drop, get_or, Option, Some, None, Ok, Err, refl, ap, sym, ◌∙◌, subst, arith}
 use Rattle.std.specs.Prelude.{if◌then◌else◌, ◌==◌, ◌&&◌, ◌^◌, nat_lt, min, IsUtf8}
 use Rattle.std.specs.List.{list_all}
 use Rattle.std.proofs.lemmas.Bool.Decides.{nat_tests}
 use Rattle.std.proofs.lemmas.Str.{is_utf8-from_IsUtf8}
 use Rattle.std.proofs.lemmas.Grind.{common_steps}
-use Rattle.ion_text.specs.Names.{Catalog, Content, Frame, Held, IsFound, IsStill, Lexeme, Limits, Listing, Long, Mark, Mark', Now, Number, Number', Operator, Passes, Place, Quiet, Reading, Reason, Rest, Setting, Short, Spot, Symbols, TokenKind, Turn, Value, Word, begun_at, ended, goes, held_payload, id_of, is_digit, is_top, item_place, lexeme_at, named, number_in, number_read, number_said, on_after, on_comma, on_ready, paid, past_blank, past_token, pending_at, place, place_in, released, resting, said, settle, spelled, spot_at, spot_in, token_of, turn, turn_now, under, with_scan, word_said}
-use Rattle.ion_text.proofs.Passing.{NoticesNothing, inner_notices, passes_given, passes_left}
+use Rattle.ion_text.specs.Names.{Catalog, Content, Frame, Held, IsFound, IsStill, Lexeme, Limits, Listing, Long, Mark, Mark', Now, Number, Number', Operator, Passes, Place, Quiet, Reading, Reason, Rest, Setting, Short, Spot, Symbols, TokenKind, Value, Word, begun_at, ended, goes, held_payload, id_of, is_digit, is_top, item_place, lexeme_at, named, number_in, number_read, number_said, on_after, on_comma, on_ready, paid, past_blank, past_token, pending_at, place, place_in, released, resting, said, settle, spelled, spot_at, spot_in, token_of, turn, turn_now, under, with_scan, word_said}
+use Rattle.ion_text.proofs.Passing.{NoticesNothing, passes_given, passes_left}
 
-begun_inner : (start begin : ℕ) (fs : List Frame) (ss : Symbols) → is_top fs ≡ false → begun_at start begin fs ss ≡ start
+pub begun_inner : (start begin : ℕ) (fs : List Frame) (ss : Symbols) → is_top fs ≡ false → begun_at start begin fs ss ≡ start
 begun_inner start begin [] ss h = absurd cc
 begun_inner start begin (f ∷ fs) ss h = refl
 
@@ -28,14 +28,9 @@ module _ (g : Catalog) (l : Limits) where
 abbrev pub StaysIn : ℕ → Reading → Type 0
 StaysIn start q = (is_top q.frames ≡ false) × (q.start ≡ start) × IsStill q.now
 
-reading_in : Turn → Reading → Reading
-reading_in (goes q) d = q
-reading_in _ d = d
-
 -- what holds of where one turn goes on holds of where an equal turn does
 pub went : (P : Reading → Type 0) (a b : Reading) → goes a ≡ goes b → P a → P b
-unfolding reading_in
-went P a b e h = subst P (ap (λ t. reading_in t a) e) h
+went P a b e h = let same : a ≡ b = cc in subst P same h
 
 module _ (setting : Setting) (spot : Spot) (q : Reading) where
   -- a value that ends in an open container leaves it open, in the same item, with nothing waiting
@@ -47,11 +42,9 @@ module _ (setting : Setting) (spot : Spot) (q : Reading) where
   ended_stays (Frame.Fields ss ms ∷ fs) v h e = absurd cc
 
   pub comma_stays : (fs : List Frame) → on_comma spot.start spot.context fs ≡ goes q → StaysIn spot.start q
-  comma_stays [] e = absurd cc
   comma_stays (Frame.Items Listing.List ss vs ∷ fs) e = went (StaysIn spot.start) _ q e (refl, refl, tt)
-  comma_stays (Frame.Items Listing.Sexp ss vs ∷ fs) e = absurd cc
-  comma_stays (Frame.Named ss ms name ∷ fs) e = absurd cc
   comma_stays (Frame.Fields ss ms ∷ fs) e = went (StaysIn spot.start) _ q e (refl, refl, tt)
+  comma_stays _ e = absurd cc
 
 -- a token of the machine, where it is found
 module _ (g : Catalog) (l : Limits) (r : Reading) (still : settle g l r ≡ goes r) (rest : Rest) (octets : List ℕ) (kind : TokenKind) (kept : List ℕ) (n : ℕ)
@@ -84,23 +77,6 @@ module _ (g : Catalog) (l : Limits) (r : Reading) (still : settle g l r ≡ goes
       → Passes g l (with_scan (resting rest) r) octets n (with_scan (resting (past_token (place r) rest kind n)) q)
   found_passes true f quiet most notices room = left_found f (quiet n (omega arith))
   found_passes false f quiet most notices room = given_found f (quiet (n - 1) (omega arith)) most notices room
-
--- where a container is open
-module _ (g : Catalog) (l : Limits) (r : Reading) (inner : is_top r.frames ≡ false) (still : settle g l r ≡ goes r) (rest : Rest) (octets : List ℕ)
-    (kind : TokenKind) (kept : List ℕ) (n : ℕ) (c : Content) (q : Reading)
-    (says : said kind kept ≡ Ok c) (turns : turn g l r (token_of (lexeme_at rest kind kept n) c) ≡ goes q)
-    (room : rest.used + length octets ≤ l.item + r.start) where
-  -- in an open container a token leads the run behind it that the octet behind it ends
-  pub left_passes : IsFound (place r) rest octets kind kept n true → Quiet g l r (place r) (resting rest) (take n octets)
-      → Passes g l (with_scan (resting rest) r) octets n (with_scan (resting (past_token (place r) rest kind n)) q)
-  left_passes f quiet = left_found g l r still rest octets kind kept n c q says turns f quiet
-
-  -- a token that its last octet ends leads the run behind it where the item goes on and nothing waits
-  pub given_passes : IsFound (place r) rest octets kind kept n false → Quiet g l r (place r) (resting rest) (take (n - 1) octets) → StaysIn r.start q
-      → Passes g l (with_scan (resting rest) r) octets n (with_scan (resting (past_token (place r) rest kind n)) q)
-  given_passes f quiet stays =
-      let same = stays.1 in
-      given_found g l r still rest octets kind kept n c q says turns f quiet (l.item + q.start) (inner_notices l q stays.0) (omega arith)
 
 -- a token of a mark says this mark
 pub mark_says : (m : Mark) → said (TokenKind.Mark m) [] ≡ Ok (Mark' m)
@@ -171,17 +147,14 @@ blank_colon r n = by (n == 0)
 module _ (setting : Setting) (spot : Spot) (q : Reading) where
   -- behind a value of an open container the place is the one where the value stood
   pub ended_place : (fs : List Frame) (v : Value) → is_top fs ≡ false → ended setting spot fs v ≡ goes q → place q ≡ place_in fs Now.Ready
-  ended_place [] v h e = absurd cc
   ended_place (Frame.Items listing ss vs ∷ fs) v h e = went (λ x. place x ≡ item_place listing) _ q e refl
   ended_place (Frame.Named ss ms name ∷ fs) v h e = went (λ x. place x ≡ Place.FieldValue) _ q e refl
-  ended_place (Frame.Fields ss ms ∷ fs) v h e = absurd cc
+  ended_place _ v h e = absurd cc
 
   -- behind a field's name and its colon the struct is open, in the same item, with nothing waiting
   pub named_stays : (fs : List Frame) (s : Option (List ℕ)) → named spot.start spot.context fs s ≡ goes q → StaysIn spot.start q
-  named_stays [] s e = absurd cc
-  named_stays (Frame.Items listing ss vs ∷ fs) s e = absurd cc
-  named_stays (Frame.Named ss ms name ∷ fs) s e = absurd cc
   named_stays (Frame.Fields ss ms ∷ fs) s e = went (StaysIn spot.start) _ q e (refl, refl, tt)
+  named_stays _ s e = absurd cc
 
 -- in an open container what was held is taken for a value, even a word of a version marker's form
 pub released_inner : (setting : Setting) (spot : Spot) (fs : List Frame) (ss : Symbols) (h : Held) → is_top fs ≡ false → released setting spot fs ss h
@@ -202,6 +175,5 @@ name_place (Frame.Fields ss ms ∷ fs) s = refl
 
 -- the first octet behind so many others is the one at that number
 pub at_drop : (k : ℕ) (w : List ℕ) → get_or (drop k w) 0 0 ≡ get_or w k 0
-at_drop zero w = refl
-at_drop (suc k) [] = refl
 at_drop (suc k) (x ∷ w) = at_drop k w
+at_drop _ _ = refl

@@ -1,7 +1,7 @@
 -- What a token does to a reader that holds no values: what stages, ends, opens and closes.
-use Rattle.std.proofs.Common.{◌≡◌, ℕ, ◌+◌, List, [], ◌∷◌, ◌++◌, Bool, true, false, Option, Some, None, Result, Ok, refl, ap, sym, subst, ◌∙◌}
+use Rattle.std.proofs.Common.{◌≡◌, ◌≢◌, ℕ, ◌+◌, List, [], ◌∷◌, ◌++◌, Bool, true, false, Option, Some, None, Result, Ok, refl, ap, sym, subst, ◌∙◌}
 use Rattle.std.specs.Prelude.{if◌then◌else◌, nat_le}
-use Rattle.ion_text.specs.Names.{AreAround, AreOpen, Bracket, Does, DoesAlone, Event, Frame, Gives, Goes, Hears, Holds, IsShape, Listing, Now, Payload, Reason, Setting, Spot, Symbols, TableFilter, TextWalk, Turn, Turned, Value, WasTold, annotated, at, behind_value, brackets_of, calm, ended, events_of, field_of, fresh, gives, goes, has_notes, heard, heard_by, is_inside, is_table, is_top, layer_events, next, open_brackets, out-Payload, part, reading_of, refuses, setting_of, spot_of, table_of, told, turned, within}
+use Rattle.ion_text.specs.Names.{AreAround, AreOpen, Bracket, Does, DoesAlone, Event, Frame, Gives, Goes, Hears, Holds, IsShape, Listing, Now, Payload, Reason, Setting, Spot, Symbols, TableFilter, TextWalk, Turn, Turned, Value, WasTold, annotated, at, behind_value, brackets_of, calm, ended, events_of, field_of, fresh, gives, goes, has_notes, heard, heard_by, is_inside, is_table, layer_events, next, open_brackets, out-Payload, part, reading_of, refuses, setting_of, spot_of, table_of, told, turned, within}
 use Rattle.ion_visiting.specs.declared.table_filter.Table.{Table}
 use Rattle.ion_visiting.specs.laws.Filters.{table_told}
 use Rattle.ion_text.specs.walk.Holds.{told_in}
@@ -12,22 +12,7 @@ use Rattle.ion_text.proofs.Taking.{does_behind}
 
 -- a reader of another stage, whose containers and annotations are those of before
 abbrev pub staged : TextWalk → Now → TextWalk
-staged r s = record {
-  alloc = r.alloc;
-  catalog = r.catalog;
-  limits = r.limits;
-  scanner = r.scanner;
-  beside = r.beside;
-  recent = r.recent;
-  start = r.start;
-  context = r.context;
-  frames = r.frames;
-  noted = r.noted;
-  stage = s;
-  filter = r.filter;
-  awaited = r.awaited;
-  failed = r.failed;
-}
+staged r s = record r { stage = s }
 
 pub stages : (r new : TextWalk) (fs : List Frame) (ss : Symbols) (s : Now) → new ≡ staged r s → calm s ≡ calm r.stage → Holds r fs ss
     → DoesAlone (told fs ss) (goes (at r.start r.context fs ss s)) (Ok Goes) new
@@ -47,53 +32,27 @@ top_ends E bs f result new none at_top (x ∷ fs) v same around told = let insid
 
 -- a reader behind a value in an open container
 abbrev pub behind_in : TextWalk → Now → TextWalk
-behind_in r s = record {
-  alloc = r.alloc;
-  catalog = r.catalog;
-  limits = r.limits;
-  scanner = r.scanner;
-  beside = r.beside;
-  recent = r.recent;
-  start = r.start;
-  context = r.context;
-  frames = r.frames;
-  noted = false;
-  stage = s;
-  filter = r.filter;
-  awaited = r.awaited;
-  failed = r.failed;
-}
+behind_in r s = record r { noted = false; stage = s }
 
 module _ (r : TextWalk) (end : ℕ) where
   abbrev Ends : List Frame → Value → TextWalk → Type 0
   Ends fs v new = DoesAlone (told_in fs ++ events_of v) (ended (setting_of r) (spot_of r end) fs v) (Ok Goes) new
 
+  -- it is put into a frame
+  put : (f g : Frame) (fs : List Frame) (v : Value) (n : Now) → ended (setting_of r) (spot_of r end) (f ∷ fs) v ≡ goes (at r.start r.context (g ∷ fs) [] n)
+      → open_brackets r ≡ brackets_of (g ∷ fs) → AreOpen (g ∷ fs) [] (calm n) → told (g ∷ fs) [] ≡ told_in (f ∷ fs) ++ events_of v
+      → WasTold r.filter (told_in (f ∷ fs) ++ events_of v) → Ends (f ∷ fs) v (behind_in r n)
+  put f g fs v n does same around e was =
+      (g ∷ fs, [], does, (record { frames = same; notes = refl; open_there = around }, subst (λ es. WasTold r.filter es) (sym e) was), ap heard e)
+
   ends_at : (f : Frame) (fs : List Frame) (v : Value) → open_brackets r ≡ brackets_of (f ∷ fs) → AreAround (f ∷ fs)
       → WasTold r.filter (told_in (f ∷ fs) ++ events_of v) → Ends (f ∷ fs) v (behind_in r (behind_value (brackets_of (f ∷ fs))))
   ends_at (Frame.Items Listing.List ss vs) fs v same around was =
-      let e = item_told Listing.List fs ss vs v in (
-        Frame.Items Listing.List ss (vs ++ v ∷ []) ∷ fs,
-        [],
-        refl,
-        (record { frames = same; notes = refl; open_there = around }, subst (λ es. WasTold r.filter es) (sym e) was),
-        ap heard e,
-      )
+      put (Frame.Items Listing.List ss vs) (Frame.Items Listing.List ss (vs ++ v ∷ [])) fs v Now.After refl same around (item_told Listing.List fs ss vs v) was
   ends_at (Frame.Items Listing.Sexp ss vs) fs v same around was =
-      let e = item_told Listing.Sexp fs ss vs v in (
-        Frame.Items Listing.Sexp ss (vs ++ v ∷ []) ∷ fs,
-        [],
-        refl,
-        (record { frames = same; notes = refl; open_there = around }, subst (λ es. WasTold r.filter es) (sym e) was),
-        ap heard e,
-      )
+      put (Frame.Items Listing.Sexp ss vs) (Frame.Items Listing.Sexp ss (vs ++ v ∷ [])) fs v Now.Ready refl same around (item_told Listing.Sexp fs ss vs v) was
   ends_at (Frame.Named ss ms s) fs v same around was =
-      let e = field_told fs ss ms s v in (
-        Frame.Fields ss (ms ++ field_of s v ∷ []) ∷ fs,
-        [],
-        refl,
-        (record { frames = same; notes = refl; open_there = around }, subst (λ es. WasTold r.filter es) (sym e) was),
-        ap heard e,
-      )
+      put (Frame.Named ss ms s) (Frame.Fields ss (ms ++ field_of s v ∷ [])) fs v Now.After refl same around (field_told fs ss ms s v) was
   ends_at (Frame.Fields ss ms) fs v same around was = absurd around
 
   -- in an open container
@@ -107,32 +66,14 @@ module _ (r : TextWalk) (end : ℕ) where
 
 -- a reader of the top level that gave a value
 abbrev pub given : TextWalk → TableFilter → TextWalk
-given r f = record {
-  alloc = r.alloc;
-  catalog = r.catalog;
-  limits = r.limits;
-  scanner = r.scanner;
-  beside = r.beside;
-  recent = r.recent;
-  start = 0;
-  context = r.context;
-  frames = r.frames;
-  noted = r.noted;
-  stage = r.stage;
-  filter = f;
-  awaited = r.awaited;
-  failed = r.failed;
-}
+given r f = record r { start = 0; filter = f }
 
 not_table : (v : Value) (b : Bool) → b ≡ is_table v → None ≡ (if b then Some v else None) → is_table v ≡ false
 not_table v true e n = absurd cc
 not_table v false e n = sym e
 
 a_table : (v t : Value) (b : Bool) → b ≡ is_table v → Some t ≡ (if b then Some v else None) → (is_table v ≡ true) × (t ≡ v)
-a_table v t true e n = (sym e, ap (value_or t) n) where
-  value_or : Value → Option Value → Value
-  value_or d None = d
-  value_or d (Some x) = x
+a_table v t true e n = (sym e, cc)
 a_table v t false e n = absurd cc
 
 module _ (setting : Setting) (spot : Spot) (f : TableFilter) (new : TextWalk) (o : Option Value)
@@ -197,54 +138,29 @@ module _ {V : Type 0} (leads : V → Event → V → Type 0) where
 
 calm_twice : (now : Now) → calm (calm now) ≡ calm now
 calm_twice Now.Ready = refl
-calm_twice (Now.Pending h end) = refl
-calm_twice (Now.Long w end) = refl
-calm_twice Now.After = refl
-calm_twice Now.Name = refl
-calm_twice (Now.LongName w) = refl
-calm_twice (Now.Keyed s) = refl
+calm_twice _ = refl
 
 -- a reader in which nothing waits any more stands for what it stood for
 pub holds_calm : (r mid : TextWalk) → mid ≡ staged r (calm r.stage) → (fs : List Frame) (ss : Symbols) → Holds r fs ss → Holds mid fs ss
 holds_calm r mid is fs ss h = subst (λ w. Holds w fs ss) (sym is)
     (subst (λ n. IsShape (open_brackets r) r.noted n fs ss) (sym (calm_twice r.stage)) h.0, h.1)
 
--- behind an element or a field, and where a name may come, there are no annotations
-abbrev pub IsBare : Now → Type 0
-IsBare Now.After = Unit {0}
-IsBare Now.Name = Unit {0}
-IsBare _ = ⊥
-
-pub no_notes : (fs : List Frame) (ss : Symbols) (now : Now) → IsBare now → AreOpen fs ss now → ss ≡ []
-no_notes fs [] now b h = refl
-no_notes [] (s ∷ ss) Now.After b h = absurd h
-no_notes (Frame.Items Listing.List qs vs ∷ fs) (s ∷ ss) Now.After b h = absurd h
-no_notes (Frame.Items Listing.Sexp qs vs ∷ fs) (s ∷ ss) Now.After b h = absurd h
-no_notes (Frame.Fields qs ms ∷ fs) (s ∷ ss) Now.After b h = absurd h
-no_notes (Frame.Named qs ms n ∷ fs) (s ∷ ss) Now.After b h = absurd h
-no_notes [] (s ∷ ss) Now.Name b h = absurd h
-no_notes (Frame.Items Listing.List qs vs ∷ fs) (s ∷ ss) Now.Name b h = absurd h
-no_notes (Frame.Items Listing.Sexp qs vs ∷ fs) (s ∷ ss) Now.Name b h = absurd h
-no_notes (Frame.Fields qs ms ∷ fs) (s ∷ ss) Now.Name b h = absurd h
-no_notes (Frame.Named qs ms n ∷ fs) (s ∷ ss) Now.Name b h = absurd h
-no_notes fs (s ∷ ss) Now.Ready b h = absurd b
-no_notes fs (s ∷ ss) (Now.Pending k end) b h = absurd b
-no_notes fs (s ∷ ss) (Now.Long w end) b h = absurd b
-no_notes fs (s ∷ ss) (Now.LongName w) b h = absurd b
-no_notes fs (s ∷ ss) (Now.Keyed k) b h = absurd b
+-- where no value may come no annotations were read
+pub open_bare : (fs : List Frame) (ss : Symbols) (now : Now) → AreOpen fs ss now → now ≢ Now.Ready → ss ≡ []
+open_bare fs ss Now.Ready h other = absurd (other refl)
+open_bare (Frame.Items Listing.List ns vs ∷ fs) [] Now.After h other = refl
+open_bare (Frame.Fields ns ms ∷ fs) [] Now.After h other = refl
+open_bare (Frame.Fields ns ms ∷ fs) [] Now.Name h other = refl
+open_bare _ _ _ h other = absurd h
 
 -- what a method does where there are no annotations, it does for whatever the reader stood for
-pub bare_does : (P : List Frame → Symbols → Type 0) (r mid : TextWalk) → mid ≡ staged r (calm r.stage) → IsBare (calm r.stage)
+pub bare_does : (P : List Frame → Symbols → Type 0) (r mid : TextWalk) → mid ≡ staged r (calm r.stage) → calm r.stage ≢ Now.Ready
     → ((fs : List Frame) → Holds mid fs [] → P fs []) → (fs : List Frame) (ss : Symbols) → Holds r fs ss → P fs ss
 bare_does P r mid is bare does fs ss h =
-    let none = no_notes fs ss (calm r.stage) bare h.0.open_there in
+    let none = open_bare fs ss (calm r.stage) h.0.open_there bare in
     subst (λ w. P fs w) (sym none) (does fs (subst (λ w. Holds mid fs w) none (holds_calm r mid is fs ss h)))
 
 -- no container is open, and no annotation was read
-
-pub top_alone : (fs : List Frame) → is_top fs ≡ true → fs ≡ []
-top_alone [] h = refl
-top_alone (f ∷ fs) h = absurd cc
 
 pub bare_alone : (ss : Symbols) → has_notes ss ≡ false → ss ≡ []
 bare_alone [] h = refl

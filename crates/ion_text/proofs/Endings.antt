@@ -1,6 +1,6 @@
 -- What the end of the octets shows.
 use Rattle.std.proofs.Common.{◌≡◌, ◌≢◌, ℕ, List, Option, Some, None, Result, Ok, Err, refl, sym, ap, ◌∙◌, subst}
-use Rattle.ion_text.specs.Names.{Catalog, DidEnd, Found, Held, Lexeme, Limits, Memory, Now, Reading, Reason, Refusal, Turn, end_now, end_ready, end_said, end_settled, end_turned, end_waiting, gives, goes, late, refuses, said, says, settle, turn}
+use Rattle.ion_text.specs.Names.{Catalog, DidEnd, Found, Held, Lexeme, Limits, Memory, Now, Reading, Reason, Refusal, Turn, end_now, end_ready, end_said, end_settled, end_turned, end_waiting, goes, said, says, settle, turn}
 use Rattle.ion_tokens.specs.machine.Steps.{Ends}
 use Rattle.ion_tokens.proofs.runs.Cutting.{one_body}
 use Rattle.ion_text.specs.machine.Views.{token_in}
@@ -10,20 +10,15 @@ module _ (g : Catalog) (l : Limits) (used : ℕ) where
   -- where the end ends no token, it settles what waited
   pub none_settles : (x : Result (Option Lexeme) Reason) (t : Turn) → Ends used x (Ok None) → end_waiting g l used x t ≡ end_settled used t
   none_settles (Ok None) t h = refl
-  none_settles (Ok (Some x)) t h = absurd h
-  none_settles (Err e) t h = absurd h
+  none_settles _ t h = absurd h
 
   open_same : (x : Lexeme) (e : Reason) (t : Turn) → end_waiting g l used (Ok (Some x)) t ≡ end_waiting g l used (Err e) t
   open_same x e (goes r) = refl
-  open_same x e (gives v r) = refl
-  open_same x e (refuses f) = refl
-  open_same x e (late f r) = refl
+  open_same x e _ = refl
 
   refused_same : (d e : Reason) (t : Turn) → end_waiting g l used (Err d) t ≡ end_waiting g l used (Err e) t
   refused_same d e (goes r) = refl
-  refused_same d e (gives v r) = refl
-  refused_same d e (refuses f) = refl
-  refused_same d e (late f r) = refl
+  refused_same d e _ = refl
 
   opens : (x : Result (Option Lexeme) Reason) (t : Turn) (e : Reason) → (x ≡ Ok None → ⊥) → end_waiting g l used x t ≡ end_waiting g l used (Err e) t
   opens (Ok None) t e h = absurd (h refl)
@@ -69,10 +64,7 @@ module _ (g : Catalog) (l : Limits) (used : ℕ) where
   -- where nothing waits
   pub now_ready : (r : Reading) (x : Result (Option Lexeme) Reason) (n : Now) → ((h : Held) (end : ℕ) → n ≡ Now.Pending h end → ⊥)
       → ((w : List ℕ) (end : ℕ) → n ≡ Now.Long w end → ⊥) → ((w : List ℕ) → n ≡ Now.LongName w → ⊥) → end_now g l used r x n ≡ end_ready g l used r x
-  now_ready r x Now.Ready p q s = refl
   now_ready r x (Now.Pending h end) p q s = absurd (p h end refl)
   now_ready r x (Now.Long w end) p q s = absurd (q w end refl)
-  now_ready r x Now.After p q s = refl
-  now_ready r x Now.Name p q s = refl
   now_ready r x (Now.LongName w) p q s = absurd (s w refl)
-  now_ready r x (Now.Keyed name) p q s = refl
+  now_ready r x _ p q s = refl

@@ -1,5 +1,5 @@
 -- What the end of the octets shows to a reader that holds no values.
-use Rattle.std.proofs.Common.{◌≡◌, ◌≢◌, ℕ, List, [], ◌∷◌, Bool, true, false, Option, Some, None, Result, Ok, Err, refl, ap, sym, ◌∙◌}
+use Rattle.std.proofs.Common.{◌≡◌, ◌≢◌, ℕ, List, [], Bool, true, false, Option, Some, None, Result, Ok, Err, refl, ap, sym, subst}
 use Rattle.std.specs.Prelude.{if◌then◌else◌}
 use Rattle.ion_text.specs.Names.{Catalog, Does, EndedSo, Event, Found, Frame, Gives, Goes, Hears, Holds, Lexeme, Limits, Reading, Reason, Refusal, Symbols, TextWalk, Turn, Value, cut_short, end_ready, end_settled, end_turned, end_waiting, events_of, heard, is_fresh, reading_of, settle, told, turn}
 use Rattle.ion_tokens.specs.machine.Steps.{Ends}
@@ -10,15 +10,12 @@ use Rattle.ion_text.proofs.Endings.{goes_settles, none_settles, refused_opens, t
 -- where no item is open, nothing was told of one
 pub fresh_told : (r : TextWalk) (fs : List Frame) (ss : Symbols) → is_fresh (reading_of r fs ss) ≡ true → told fs ss ≡ []
 fresh_told r [] [] e = refl
-fresh_told r [] (s ∷ ss) e = absurd cc
-fresh_told r (f ∷ fs) ss e = absurd cc
+fresh_told r _ _ e = absurd cc
 
 module _ {V : Type 0} (leads : V → Event → V → Type 0) where
   pub ended_same : (es : List Event) (used : ℕ) (x y : Result (Option Value) Refusal) (result : Result Bool Reason) (a b : V) → x ≡ y
       → EndedSo leads es used y result a b → EndedSo leads es used x result a b
-  ended_same es used x y (Ok true) a b e d = (d.0, e ∙ d.1, d.2)
-  ended_same es used x y (Ok false) a b e d = (e ∙ d.0, d.1)
-  ended_same es used x y (Err reason) a b e d = λ other. e ∙ d other
+  ended_same es used x y result a b e d = subst (λ x. EndedSo leads es used x result a b) (sym e) d
 
   -- a visitor heard before what it was to hear of what came before
   pub ended_behind : (es fs : List Event) (used : ℕ) (x : Result (Option Value) Refusal) (result : Result Bool Reason) (a m b : V)
@@ -92,5 +89,4 @@ module _ {V : Type 0} (leads : V → Event → V → Type 0) where
       → Ends used x (Ok None) → false ≡ is_fresh (reading_of r fs ss)
       → EndedSo leads (told fs ss) used (end_ready g l used (reading_of r fs ss) x) (Err Reason.Incomplete) a a
   ready_cut g l used (Ok None) r fs ss a h cut = λ _. ap (λ (x : Bool). if x then Ok None else cut_short used) (sym cut)
-  ready_cut g l used (Ok (Some x)) r fs ss a h cut = absurd h
-  ready_cut g l used (Err e) r fs ss a h cut = absurd h
+  ready_cut g l used _ r fs ss a h cut = absurd h

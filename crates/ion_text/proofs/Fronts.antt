@@ -10,52 +10,27 @@ use Rattle.ion_tokens.specs.machine.Table.{next}
 use Rattle.ion_tokens.proofs.runs.LastOctets.{IsLast, last_octet, refused_here}
 use Rattle.ion_tokens.proofs.runs.Runs.{feed_used, next_used}
 use Rattle.ion_tokens.proofs.runs.Splits.{given_one, left_one}
-
-start_in : Outcome → ℕ → ℕ
-start_in (Next s) n = s.start
-start_in _ n = n
+use Rattle.ion_text.specs.laws.reading.complete.Found.{next_is}
 
 blob_start : (s t : Known) (b : Option (List ℕ)) → blob_ends s b ≡ Next t → t.start ≡ floor s
-unfolding start_in
 blob_start s t None e = cc
-blob_start s t (Some b) e = sym (ap (λ x. start_in x 0) e)
+blob_start s t _ e = cc
 
 acts_start : (p : Place) (s t : Known) (o : ℕ) (a : Action) → acts p s o a ≡ Next t → t.start ≡ floor s
-unfolding start_in
-acts_start p s t o (Action.Go m k) e = sym (ap (λ x. start_in x 0) e)
-acts_start p s t o (Action.Give _ _) e = cc
-acts_start p s t o (Action.Before _ _ _) e = cc
 acts_start p s t o Action.EndWord e = sym (one ((o == 46) && bytes_eq s.kept (codes "null")) e) where
   one : (b : Bool) → cond b (Next (go_to s Mode.KindName [])) (Left (cut s TokenKind.Word s.kept s.used) (past p TokenKind.Word Mode.Blank [] s.used s.used)) ≡ Next t
       → floor s ≡ t.start
-  one true h = ap (λ x. start_in x 0) h
+  one true h = cc
   one false h = cc
-acts_start p s t o (Action.Split _) e = cc
 acts_start p s t o Action.EndBlob e = blob_start s t (blob_of s.kept) e
-acts_start p s t o (Action.Refuse _) e = cc
+acts_start p s t o _ e = cc
 
 feed_start : (p : Place) (s t : Known) (o : ℕ) → feed p s o ≡ Next t → t.start ≡ floor s
 feed_start p s t o e = acts_start p s t o (next p s.colon s.mode o) e
 
 start_later : (m : Mode) (f u : ℕ) → f ≤ u → (f ≤ start_of m f (u + 1)) × (start_of m f (u + 1) ≤ u + 1)
 start_later Mode.Blank f u h = (omega arith, omega arith)
-start_later Mode.Slash f u h = (omega arith, omega arith)
-start_later Mode.LineComment f u h = (omega arith, omega arith)
-start_later Mode.BlockComment f u h = (omega arith, omega arith)
-start_later Mode.BlockCommentStar f u h = (omega arith, omega arith)
-start_later Mode.Colon f u h = (omega arith, omega arith)
-start_later Mode.Word f u h = (omega arith, omega arith)
-start_later Mode.KindName f u h = (omega arith, omega arith)
-start_later Mode.Number f u h = (omega arith, omega arith)
-start_later Mode.NumberSlash f u h = (omega arith, omega arith)
-start_later (Mode.Operator e) f u h = (omega arith, omega arith)
-start_later Mode.OperatorSlash f u h = (omega arith, omega arith)
-start_later (Mode.Infinity n) f u h = (omega arith, omega arith)
-start_later Mode.Quote f u h = (omega arith, omega arith)
-start_later Mode.Quotes f u h = (omega arith, omega arith)
-start_later (Mode.Text s w) f u h = (omega arith, omega arith)
-start_later Mode.Brace f u h = (omega arith, omega arith)
-start_later (Mode.Lob l) f u h = (omega arith, omega arith)
+start_later _ f u h = (omega arith, omega arith)
 
 -- it never moves back
 floor_later : (p : Place) (s t : Known) (o : ℕ) → feed p s o ≡ Next t → floor s ≤ s.used → (floor s ≤ t.start) × (floor s ≤ floor t) × (floor t ≤ t.used)
@@ -70,30 +45,17 @@ floor_later p s t o e h =
 calm_open : (n : Now) → IsCalm n → shut n ≡ false
 calm_open Now.Ready h = refl
 calm_open Now.Name h = refl
-calm_open (Now.Pending k end) h = absurd h
-calm_open (Now.Long w end) h = absurd h
-calm_open Now.After h = absurd h
-calm_open (Now.LongName w) h = absurd h
-calm_open (Now.Keyed s) h = absurd h
+calm_open _ h = absurd h
 
 top_span : (idle : Bool) (s : Known) (from lo : ℕ) → lo ≤ s.start → (b : Option Begun)
     → b ≡ (if idle then None else Some (record { start = s.start; end = s.used - behind s.mode; form = form_of s.mode })) → (n : ℕ)
     → longest_top from s.used Now.Ready [] b n ≤ s.used - lo
 top_span true s from lo h None e n = omega arith
-top_span true s from lo h (Some b) e n = absurd cc
-top_span false s from lo h None e n = absurd cc
 top_span false s from lo h (Some b) e n =
-    let start = ap (λ (o : Option Begun). start_if s.start o) e in
-    let end = ap (λ (o : Option Begun). end_if 0 o) e in
+    let start : b.start ≡ s.start = cc in
+    let end : b.end ≡ s.used - behind s.mode = cc in
     omega arith
-  where
-    start_if : ℕ → Option Begun → ℕ
-    start_if d None = d
-    start_if d (Some b) = b.start
-
-    end_if : ℕ → Option Begun → ℕ
-    end_if d None = d
-    end_if d (Some b) = b.end
+top_span _ s from lo h _ e n = absurd cc
 
 -- how many octets the open item has is known by how many are used
 reach_bound : (r : Reading) (s : Known) (lo : ℕ) → IsCalm r.now → lo ≤ s.start → (fs : List Frame) (ss : Symbols) → r.notes ≡ ss
@@ -104,34 +66,21 @@ reach_bound r s lo calm h [] [] e = by r.now calm
     by Now.Ready c = subst (λ (ss : Symbols). longest_top r.start s.used Now.Ready ss (begun_in s) (is_long_begun (begun_in s)) ≤ s.used - lo) (sym e)
         (top_span (is_idle s.mode) s r.start lo h (begun_in s) refl (is_long_begun (begun_in s)))
     by Now.Name c = omega arith
-    by (Now.Pending k end) c = absurd c
-    by (Now.Long w end) c = absurd c
-    by Now.After c = absurd c
-    by (Now.LongName w) c = absurd c
-    by (Now.Keyed k) c = absurd c
+    by _ c = absurd c
 reach_bound r s lo calm h [] (x ∷ xs) e = by r.now calm
   where
     noted : (idle : Bool) (b : Option Begun) → b ≡ (if idle then None else Some
         (record { start = s.start; end = s.used - behind s.mode; form = form_of s.mode })) → (n : ℕ)
         → longest_top r.start s.used Now.Ready (x ∷ xs) b n ≤ s.used - r.start
     noted true None i n = omega arith
-    noted true (Some b) i n = absurd cc
-    noted false None i n = absurd cc
-    noted false (Some b) i n = let end = ap (λ (o : Option Begun). end_if 0 o) i in omega arith
-      where
-        end_if : ℕ → Option Begun → ℕ
-        end_if d None = d
-        end_if d (Some b) = b.end
+    noted false (Some b) i n = let end : b.end ≡ s.used - behind s.mode = cc in omega arith
+    noted _ _ i n = absurd cc
 
     by : (n : Now) → IsCalm n → longest_top r.start s.used n r.notes (begun_in s) (is_long_begun (begun_in s)) ≤ s.used - r.start
     by Now.Ready c = subst (λ (ss : Symbols). longest_top r.start s.used Now.Ready ss (begun_in s) (is_long_begun (begun_in s)) ≤ s.used - r.start) (sym e)
         (noted (is_idle s.mode) (begun_in s) refl (is_long_begun (begun_in s)))
     by Now.Name c = omega arith
-    by (Now.Pending k end) c = absurd c
-    by (Now.Long w end) c = absurd c
-    by Now.After c = absurd c
-    by (Now.LongName w) c = absurd c
-    by (Now.Keyed k) c = absurd c
+    by _ c = absurd c
 reach_bound r s lo calm h (f ∷ fs) ss e = omega arith
 
 module _ (g : Catalog) (l : Limits) (r : Reading) (lo : ℕ) (calm : IsCalm r.now) where
@@ -149,24 +98,18 @@ module _ (g : Catalog) (l : Limits) (r : Reading) (lo : ℕ) (calm : IsCalm r.no
     where
       by : (x : Outcome) → feed p s o ≡ x → ((t : Known) → lo ≤ floor t → floor t ≤ t.used → t.used + length os ≤ l.item + base r.frames r.notes r.start lo
           → Quiet g l r p t os) → OnNext x (λ t. (noticed l r t ≡ uses (with_scan t r)) × Quiet g l r p t os)
-      by (Given y t) e more = tt
-      by (Left y t) e more = tt
-      by (Refused n y) e more = tt
       by (Next t) e more =
           let later = floor_later p s t o e high in
           let used = feed_used p s t o e in
           let bound = reach_bound r t lo calm (omega arith) r.frames r.notes refl in
           (fits_noticed t (omega arith), more t (omega arith) later.2 (omega (arith, used)))
+      by _ e more = tt
 
 calm_settled : (setting : Setting) (start : ℕ) (c : List Slot) (fs : List Frame) (ss : Symbols) (n : Now) → IsCalm n → settled setting start c fs ss n
     ≡ goes (at start c fs ss n)
 calm_settled setting start c fs ss Now.Ready h = refl
 calm_settled setting start c fs ss Now.Name h = refl
-calm_settled setting start c fs ss (Now.Pending k end) h = absurd h
-calm_settled setting start c fs ss (Now.Long w end) h = absurd h
-calm_settled setting start c fs ss Now.After h = absurd h
-calm_settled setting start c fs ss (Now.LongName w) h = absurd h
-calm_settled setting start c fs ss (Now.Keyed s) h = absurd h
+calm_settled setting start c fs ss _ h = absurd h
 
 module _ (g : Catalog) (l : Limits) (r : Reading) (calm : IsCalm r.now) (s : Known) (piece : List ℕ) (high : floor s ≤ s.used)
     (room : s.used + length piece ≤ l.item + base r.frames r.notes r.start (floor s)) where
@@ -197,14 +140,7 @@ module _ (g : Catalog) (l : Limits) (r : Reading) (calm : IsCalm r.now) (s : Kno
       ends : (m : Known) (ws : List ℕ) → scanning.run (place r) ws m ≡ Next t → Quiet g l r (place r) m ws → noticed l r m ≡ uses (with_scan m r)
           → ((m : Known) → 0 < length ws → scanning.run (place r) ws m ≡ Next t → Quiet g l r (place r) m ws → noticed l r t ≡ uses (with_scan t r))
           → noticed l r t ≡ uses (with_scan t r)
-      ends m [] e q n more = subst (λ (y : Known). noticed l r y ≡ uses (with_scan y r)) (next_same m t e) n
-        where
-          known_in : Outcome → Known → Known
-          known_in (Next y) d = y
-          known_in _ d = d
-
-          next_same : (a b : Known) → Next a ≡ Next b → a ≡ b
-          next_same a b e = ap (λ x. known_in x a) e
+      ends m [] e q n more = subst (λ (y : Known). noticed l r y ≡ uses (with_scan y r)) (next_is m t e) n
       ends m (w ∷ ws) e q n more = more m (omega arith) e q
 
       by : (x : Outcome) → feed (place r) k o ≡ x → follow x (λ m. scanning.run (place r) os m) ≡ Next t
@@ -212,15 +148,10 @@ module _ (g : Catalog) (l : Limits) (r : Reading) (calm : IsCalm r.now) (s : Kno
           → ((m : Known) → 0 < length os → scanning.run (place r) os m ≡ Next t → Quiet g l r (place r) m os → noticed l r t ≡ uses (with_scan t r))
           → noticed l r t ≡ uses (with_scan t r)
       by (Next m) f e q more = ends m os e q.1 q.0 more
-      by (Given y m) f e q more = absurd cc
-      by (Left y m) f e q more = absurd cc
-      by (Refused n y) f e q more = absurd cc
+      by _ f e q more = absurd cc
 
   pub all_noticed : (t : Known) → 0 < length piece → scanning.run (place r) piece s ≡ Next t → noticed l r t ≡ uses (with_scan t r)
-  all_noticed t some e = last_noticed piece s t some (subst (λ (x : Outcome). scanning.run (place r) piece s ≡ x) e refl) (quiet' piece (omega arith))
-    where
-      quiet' : (os : List ℕ) → length os ≤ length piece → Quiet g l r (place r) s os
-      quiet' os few = quiet os few
+  all_noticed t some e = last_noticed piece s t some (subst (λ (x : Outcome). scanning.run (place r) piece s ≡ x) e refl) (quiet piece (omega arith))
 
   -- the octet with which something comes, and what is before it
   pub record AtLast (x : Outcome) : Type 0 where
@@ -267,12 +198,8 @@ module _ (g : Catalog) (l : Limits) (r : Reading) (calm : IsCalm r.now) (s : Kno
       seam : (xs ys : List ℕ) → get_or (xs ++ ys) (length xs) 0 ≡ get_or ys 0 0
       seam xs ys = let same : length xs ≡ length xs + 0 = omega arith in ap (λ k. get_or (xs ++ ys) k 0) same ∙ get_or-append-add xs ys 0 0
 
-  abbrev state_in : Effect → State → State
-  state_in (uses m) d = m
-  state_in _ d = d
-
   uses_same : (a b : State) → uses a ≡ uses b → a ≡ b
-  uses_same a b e = ap (λ x. state_in x a) e
+  uses_same a b e = cc
 
   no_telling : (v : Value) (a b : State) → uses a ≡ tells v b → ⊥
   no_telling v a b e = absurd cc
@@ -334,13 +261,12 @@ module _ (g : Catalog) (l : Limits) (r : Reading) (calm : IsCalm r.now) (s : Kno
 
     pub left_at : (x : Outcome) (now : Known) (count : ℕ) → scanning.run (place r) piece s ≡ x → IsBehind x now → is_left x ≡ true → now.used ≡ s.used + count
         → AtLeft x count
-    left_at (Next t) now count e b f u = absurd cc
-    left_at (Given z t) now count e b f u = absurd cc
     left_at (Left z t) now count e b f u =
         let a = at_last (Left z t) tt e in
         let m = ap (λ (k : Known). k.used) b in
         record { at = a; same = omega (arith, left_one (place r) a.octet a.known t z a.fed, a.counted) }
     left_at (Refused n z) now count e b f u = absurd b
+    left_at _ now count e b f u = absurd cc
 
     -- what the octet does that comes again is what these octets do
     module _ (x : Outcome) (a : AtLast x) (e : Effect) (same : on_scan g l (λ m. takes g l 2 m a.octet) r x ≡ e) where

@@ -2,31 +2,27 @@
 use Rattle.std.proofs.Common.{◌≡◌, ℕ, ◌+◌, ◌-◌, ◌<◌, ◌≤◌, Bool, true, false, List, [], ◌∷◌, length, take, drop, get_or, Option, Result, Some, Ok, Err, refl, ap, sym, ◌∙◌, subst, arith, length-drop, get_or-drop, inl, inr}
 use Rattle.std.specs.Prelude.{◌||◌, if◌then◌else◌, nat_le}
 use Rattle.std.proofs.lemmas.Grind.{common_steps}
-use Rattle.std.proofs.lemmas.List.{length-take-le}
-use Rattle.ion_text.specs.Names.{Ahead, BeginsValue, Bracket, Catalog, Content, Does, Effect, Ended, EndsAtOnce, EndsBy, EndsSo, Event, FoundToken, Frame, Gives, Goes, Held, Holds, IsCalm, IsFound, IsHere, IsStill, Known, Late, Limits, Mark', Now, Part, Passes, Payload, Place, Quiet, Reading, Reason, Rest, RestsBehind, SameSetting, Scanner, Setting, Spot, State, Strode, StrodeFrom, Symbols, Taken, Takes, TextWalk, TokenKind, TookSo, Turn, Turned, Value, WaitsThere, annotated, at, begun_at, behind_left, close_mark, close_octet, closed, closes, drive, eats, ended, ends_symbol, events_of, feed, fresh, gives, go_on, goes, heard, held_payload, is_fields, is_marker, is_null_struct, is_table, is_top, layer_kind, leaves, led, lexeme_at, next, on_said, on_scan, on_settled, paid, past_token, payload_of, place, place_in, reading_of, refuses, released, resting, resting_at, run, said, scanned, setting_of, settle, spot_at, spot_of, state_of, takes as takes_up, takes_colon, token_at, token_of, told, turn, turn_now, turned, under, unsettled, value_took, with_scan, within}
+use Rattle.std.proofs.lemmas.List.{length-take, length-take-le}
+use Rattle.ion_text.specs.Names.{Ahead, BeginsValue, Bracket, Catalog, Content, Does, Effect, Ended, EndsAtOnce, EndsBy, EndsSo, Event, FoundToken, Frame, Gives, Goes, Held, Holds, IsCalm, IsFound, IsHere, IsStill, Known, Limits, Mark', Now, Part, Passes, Payload, Place, Quiet, Reading, Reason, Rest, RestsBehind, SameSetting, Scanner, Setting, Spot, State, Strode, StrodeFrom, Symbols, Taken, Takes, TextWalk, TokenKind, TookSo, Turn, Turned, Value, WaitsThere, annotated, at, begun_at, behind_left, close_mark, close_octet, closed, closes, drive, eats, ended, ends_symbol, feed, fresh, gives, go_on, goes, held_payload, is_fields, is_marker, is_null_struct, is_table, is_top, layer_kind, leaves, led, lexeme_at, next, on_said, on_scan, on_settled, paid, past_token, payload_of, place, place_in, reading_of, refuses, released, resting, resting_at, run, said, scanned, setting_of, settle, spot_at, spot_of, state_of, takes as takes_up, takes_colon, token_at, token_of, told, turn, turn_now, turned, under, unsettled, value_took, with_scan, within}
 use Rattle.ion_model.specs.declared.value.Payload.TheVariants as payloads
 use Rattle.ion_model.specs.declared.value.Payload.TheViews as views
-use Rattle.ion_visiting.specs.laws.Filters.{hears_both}
 use Rattle.ion_text.specs.laws.deciding.Turns.{no_table}
 use Rattle.ion_text.specs.machine.LongStrings.{LongThere}
-use Rattle.ion_text.proofs.Arms.{ended_stays, found_passes, mark_says, ready_turns}
+use Rattle.ion_text.proofs.Arms.{begun_inner, ended_stays, found_passes, mark_says, ready_turns}
 use Rattle.ion_text.proofs.LongStrings.{long_unsettled, settled_on}
 use Rattle.ion_text.proofs.Nested.{close_found, closing}
 use Rattle.ion_text.proofs.Passing.{NoticesNothing, blank_quiet, blank_waits}
-use Rattle.ion_text.proofs.Strides.{IsBegun, begun_inner, begun_with, ends_so, front_same, moved_by, settings_begun, settings_on, strides_there, strode_on, take_short, token_leads, token_strode, with_moved}
+use Rattle.ion_text.proofs.Strides.{IsBegun, begun_with, ends_so, moved_by, settings_begun, settings_on, strode_on, token_leads, token_strode}
 use Rattle.ion_text.proofs.Striding.{still_settles}
 use Rattle.ion_text.proofs.Symbols.{ends_waits, symbol_passes}
+use Rattle.ion_text.proofs.Taking.{gave_behind, with_scanner}
 use Rattle.ion_text.proofs.Tops.{passes_then, token_gives, top_ended, top_quiet, waits_notices}
 
 -- what is no version marker is paid where no container is open, whatever annotations were read
 released_top : (setting : Setting) (spot : Spot) (ss : Symbols) (h : Held) → is_marker h ≡ false → released setting spot [] ss h
     ≡ paid setting spot [] ss (held_payload h)
-released_top setting spot [] (Held.Symbol s) e = refl
 released_top setting spot [] (Held.Version ours s) e = absurd cc
-released_top setting spot [] (Held.Null k) e = refl
-released_top setting spot [] (Held.Truth b) e = refl
-released_top setting spot [] Held.Nan e = refl
-released_top setting spot (x ∷ ss) h e = refl
+released_top setting spot _ _ e = refl
 
 -- a payload that holds no fields, with which a value is no local symbol table
 abbrev pub IsFlat : Payload → Type 0
@@ -58,8 +54,7 @@ no_goes setting spot v q free e = by (nat_le spot.end (spot.start + setting.limi
 
 no_gives : (setting : Setting) (spot : Spot) (f : Frame) (fs : List Frame) (v w : Value) (q : Reading) → ended setting spot (f ∷ fs) v ≡ gives w q → ⊥
 no_gives setting spot (Frame.Items listing ss vs) fs v w q e = cc
-no_gives setting spot (Frame.Named ss ms name) fs v w q e = cc
-no_gives setting spot (Frame.Fields ss ms) fs v w q e = cc
+no_gives setting spot _ fs v w q e = cc
 
 module _ {V : Type 0} (leads : V → Event → V → Type 0) (old new : TextWalk) (rest : Rest) (octets : List ℕ) (a b : V) (fs : List Frame) (ss : Symbols)
     (h : Ahead old fs ss rest (length octets)) where
@@ -313,8 +308,7 @@ module _ {V : Type 0} (leads : V → Event → V → Type 0) where
       value_so (Ok Gives) false top does =
           ends_so leads old new rest after octets n Taken.Tells a b
           (λ fs ss h. gives_out Taken.Tells top fs ss h (begun_so (Ok Gives) fs ss h.holds (does fs ss h.holds))) more used (settings_begun old new k s)
-      value_so (Ok (Late e)) left top does = record { ended = tt; memory = refl; same = settings_begun old new k s }
-      value_so (Err e) left top does = record { ended = tt; memory = refl; same = settings_begun old new k s }
+      value_so _ _ top does = record { ended = tt; memory = refl; same = settings_begun old new k s }
 
     -- a token that is a value at once
     pub value_answer : (token : FoundToken) (x : Result Turned Reason) → after ≡ past_token here rest token.kind token.count → token.count < length octets
@@ -419,60 +413,54 @@ module _ {V : Type 0} (leads : V → Event → V → Type 0) where
         ∙ (ap (λ w. run c0 l0 s.used k (take j w)) (sym is)
         ∙ (ap (λ g. run g l0 s.used k (take j behind)) (sym catalogs) ∙ ap (λ l. run mid.catalog.now l s.used k (take j behind)) (sym same.limits)))
 
+    size : length behind ≡ length octets - i
+    size = ap (λ (w : List ℕ). length w) is ∙ length-drop i octets
+
+    module _ (e : Taken) (y : Ended leads mid new s t behind (j, e) m b) where
+      second : (fs : List Frame) (ss : Symbols) (h : Ahead old fs ss r (length octets))
+          → EndsSo leads (x.leads fs ss h).frames (x.leads fs ss h).notes mid new s t behind j m b e
+      second fs ss h = let one = x.leads fs ss h in
+          y.leads one.frames one.notes (subst (λ n. Ahead mid one.frames one.notes s n) (sym size) one.ahead)
+
+      both : ((fs : List Frame) (ss : Symbols) → Ahead old fs ss r (length octets) → EndsSo leads fs ss old new r t octets (i + j) a b e)
+          → Ended leads old new r t octets (i + j, e) a b
+      both h =
+          let same_size = size in
+          let within = x.within in
+          let within' = y.within in
+          let used = x.used in
+          let used' = y.used in
+          record { leads = h; within = omega arith; used = omega arith }
+
     pub ended_on : (e : Taken) → Ended leads mid new s t behind (j, e) m b → Ended leads old new r t octets (i + j, e) a b
-    ended_on Taken.Uses y =
-        strode_on leads old mid new r s t octets behind i j a m b is same x y
-    ended_on Taken.Tells y =
-        let size : length behind ≡ length octets - i = ap (λ (w : List ℕ). length w) is ∙ length-drop i octets in
-        let within = x.within in
-        let within' = y.within in
+    ended_on Taken.Uses y = strode_on leads old mid new r s t octets behind i j a m b is same x y
+    ended_on Taken.Tells y = both Taken.Tells y
+        (λ fs ss h.
+        let one = x.leads fs ss h in
+        let two = second Taken.Tells y fs ss h in
+        let some = two.0 in
         let used = x.used in
-        let used' = y.used in
-        record {
-          leads = λ fs ss h.
-              let one = x.leads fs ss h in
-              let two = y.leads one.frames one.notes (subst (λ n. Ahead mid one.frames one.notes s n) (sym size) one.ahead) in
-              let some = two.0 in
-              let total : s.used + j ≡ r.used + (i + j) = omega arith in (
-                (let k : 0 < i + j = omega arith in k),
-                two.1,
-                run_on fs ss h some
-                    ∙ (two.2 ∙ ap (λ n. record { given = (two.1, n) ∷ []; now = Ok (resting_at t new [] []) }) total),
-                record {
-                  holds = two.3.holds;
-                  hears = hears_both leads (heard (told fs ss)) (heard (told one.frames one.notes)) (events_of two.1) a m b one.hears two.3.hears;
-                },
-              );
-          within = omega arith;
-          used = omega arith;
-        }
-    ended_on Taken.Leaves y =
-        let size : length behind ≡ length octets - i = ap (λ (w : List ℕ). length w) is ∙ length-drop i octets in
-        let within = x.within in
-        let within' = y.within in
-        let used = x.used in
-        let used' = y.used in
-        record {
-          leads = λ fs ss h.
-              let one = x.leads fs ss h in
-              let two = y.leads one.frames one.notes (subst (λ n. Ahead mid one.frames one.notes s n) (sym size) one.ahead) in
-              let some = two.0 in
-              let there : get_or behind j 0 ≡ get_or octets (i + j) 0 = ap (λ w. get_or w j 0) is ∙ get_or-drop i octets j 0 in (
-                (let k : 0 < i + j = omega arith in k),
-                two.1,
-                two.2,
-                run_on fs ss h some ∙ two.3,
-                subst (λ o. eats c0 l0 two.2 o ≡ leaves two.1 (resting_at t new [] [])) there
-                    (subst (λ g. eats g l0 two.2 (get_or behind j 0) ≡ leaves two.1 (resting_at t new [] [])) catalogs
-                    (subst (λ l. eats mid.catalog.now l two.2 (get_or behind j 0) ≡ leaves two.1 (resting_at t new [] [])) same.limits two.4)),
-                record {
-                  holds = two.5.holds;
-                  hears = hears_both leads (heard (told fs ss)) (heard (told one.frames one.notes)) (events_of two.1) a m b one.hears two.5.hears;
-                },
-              );
-          within = omega arith;
-          used = omega arith;
-        }
+        let total : s.used + j ≡ r.used + (i + j) = omega arith in (
+          (let k : 0 < i + j = omega arith in k),
+          two.1,
+          run_on fs ss h some ∙ (two.2 ∙ ap (λ n. record { given = (two.1, n) ∷ []; now = Ok (resting_at t new [] []) }) total),
+          gave_behind leads (told fs ss) (told one.frames one.notes) new two.1 a m b one.hears two.3,
+        ))
+    ended_on Taken.Leaves y = both Taken.Leaves y
+        (λ fs ss h.
+        let one = x.leads fs ss h in
+        let two = second Taken.Leaves y fs ss h in
+        let some = two.0 in
+        let there : get_or behind j 0 ≡ get_or octets (i + j) 0 = ap (λ w. get_or w j 0) is ∙ get_or-drop i octets j 0 in (
+          (let k : 0 < i + j = omega arith in k),
+          two.1,
+          two.2,
+          run_on fs ss h some ∙ two.3,
+          subst (λ o. eats c0 l0 two.2 o ≡ leaves two.1 (resting_at t new [] [])) there
+              (subst (λ g. eats g l0 two.2 (get_or behind j 0) ≡ leaves two.1 (resting_at t new [] [])) catalogs
+              (subst (λ l. eats mid.catalog.now l two.2 (get_or behind j 0) ≡ leaves two.1 (resting_at t new [] [])) same.limits two.4)),
+          gave_behind leads (told fs ss) (told one.frames one.notes) new two.1 a m b one.hears two.5,
+        ))
 
 module _ {V : Type 0} (leads : V → Event → V → Type 0) (old mid new : TextWalk) (r s t : Rest) where
   -- the same of what is answered
@@ -484,6 +472,12 @@ module _ {V : Type 0} (leads : V → Event → V → Type 0) (old mid new : Text
       (settings_on old mid new same y.same)
   ends_on octets behind i a m b is same front (Err e) y = record { ended = tt; memory = y.memory; same = settings_on old mid new same y.same }
 
+take_short : (k : ℕ) (w : List ℕ) → length (take k w) ≤ k
+take_short k w = let e = length-take k w in omega arith
+
+front_same : (j k : ℕ) (w : List ℕ) → j ≤ k → take j (take k w) ≡ take j w
+front_same j k w h = grind (arith, common_steps)
+
 get_there : (j k : ℕ) (w : List ℕ) → j < k → get_or (take k w) j 0 ≡ get_or w j 0
 get_there j k w h = grind (arith, common_steps)
 
@@ -492,37 +486,52 @@ module _ {V : Type 0} (leads : V → Event → V → Type 0) (old mid : TextWalk
     (a b : V) (is : octets ≡ take most piece) (some : 0 < length octets) (rests : scanned old.scanner ≡ resting first) (there : scanned moved ≡ resting behind)
     (still : IsStill old.stage)
     (fits : (fs : List Frame) (ss : Symbols) → Holds old fs ss → first.used + length octets ≤ old.limits.item + begun_at old.start first.used fs ss) where
+  few : length octets ≤ most
+  few = let short = take_short most piece in let size : length octets ≡ length (take most piece) = ap (λ (w : List ℕ). length w) is in omega arith
+
+  front : (j : ℕ) → j ≤ length octets → take j piece ≡ take j octets
+  front j h = let most_of = few in sym (ap (take j) is ∙ front_same j most piece (omega arith))
+
   pub took_there : (e : Taken) → Ended leads old mid first behind octets (count, e) a b
-      → (fs : List Frame) (ss : Symbols) → Holds old fs ss → TookSo leads fs ss old (with_moved mid moved) piece count a b e
-  took_there Taken.Uses y =
-      strides_there leads old mid moved first behind piece octets most count a b is some rests there still fits y
+      → (fs : List Frame) (ss : Symbols) → Holds old fs ss → TookSo leads fs ss old (with_scanner mid moved) piece count a b e
+  took_there Taken.Uses y = λ fs ss h.
+      let x = y.leads fs ss (record { holds = h; still = still; fits = fits fs ss h }) in
+      let within = y.within in
+      record {
+        frames = x.frames;
+        notes = x.notes;
+        passes =
+            subst (λ s. Passes old.catalog.now old.limits (with_scan s (reading_of old fs ss)) piece count
+            (with_scan (scanned moved) (reading_of mid x.frames x.notes))) (sym rests)
+            (subst (λ s. Passes old.catalog.now old.limits (resting_at first old fs ss) piece count (with_scan s (reading_of mid x.frames x.notes))) (sym there)
+            (λ w e. x.passes w (e ∙ front (count + 1) (omega arith))));
+        holds = x.ahead.holds;
+        hears = x.hears;
+        still = x.ahead.still;
+        rests = ap (λ (k : Known). k.mode) there;
+      }
   took_there Taken.Tells y = λ fs ss h.
       let two = y.leads fs ss (record { holds = h; still = still; fits = fits fs ss h }) in
-      let within = y.within in
-      let size : length octets ≡ length (take most piece) = ap (λ (w : List ℕ). length w) is in
-      let short = take_short most piece in
-      let front : take count piece ≡ take count octets = sym (ap (take count) is ∙ front_same count most piece (omega arith)) in (
+      let within = y.within in (
         two.0,
         two.1,
         subst (λ (k : Known). run old.catalog.now old.limits k.used (with_scan k (reading_of old fs ss)) (take count piece)
-            ≡ record { given = (two.1, k.used + count) ∷ []; now = Ok (state_of (with_moved mid moved) [] []) }) (sym rests)
+            ≡ record { given = (two.1, k.used + count) ∷ []; now = Ok (state_of (with_scanner mid moved) [] []) }) (sym rests)
             (subst (λ (k : Known). run old.catalog.now old.limits first.used (resting_at first old fs ss) (take count piece)
             ≡ record { given = (two.1, first.used + count) ∷ []; now = Ok (with_scan k (reading_of mid [] [])) }) (sym there)
-            (ap (run old.catalog.now old.limits first.used (resting_at first old fs ss)) front ∙ two.2)),
+            (ap (run old.catalog.now old.limits first.used (resting_at first old fs ss)) (front count (omega arith)) ∙ two.2)),
         record { holds = two.3.holds; hears = two.3.hears },
       )
   took_there Taken.Leaves y = λ fs ss h.
       let two = y.leads fs ss (record { holds = h; still = still; fits = fits fs ss h }) in
       let within = y.within in
-      let size : length octets ≡ length (take most piece) = ap (λ (w : List ℕ). length w) is in
-      let short = take_short most piece in
-      let front : take count piece ≡ take count octets = sym (ap (take count) is ∙ front_same count most piece (omega arith)) in
+      let most_of = few in
       let next : get_or octets count 0 ≡ get_or piece count 0 = ap (λ w. get_or w count 0) is ∙ get_there count most piece (omega arith) in (
         two.0,
         two.1,
         two.2,
         subst (λ (k : Known). run old.catalog.now old.limits k.used (with_scan k (reading_of old fs ss)) (take count piece) ≡ led two.2) (sym rests)
-            (ap (run old.catalog.now old.limits first.used (resting_at first old fs ss)) front ∙ two.3),
+            (ap (run old.catalog.now old.limits first.used (resting_at first old fs ss)) (front count (omega arith)) ∙ two.3),
         subst (λ (k : Known). eats old.catalog.now old.limits two.2 (get_or piece count 0) ≡ leaves two.1 (with_scan k (reading_of mid [] []))) (sym there)
             (subst (λ o. eats old.catalog.now old.limits two.2 o ≡ leaves two.1 (resting_at behind mid [] [])) next two.4),
         record { holds = two.5.holds; hears = two.5.hears },

@@ -4,7 +4,7 @@ use Rattle.std.proofs.lemmas.Grind.{common_steps}
 use Rattle.std.proofs.lemmas.List.{length-take-le, take-append-drop, get_or-drop}
 use Rattle.std.proofs.Math.Seq.{take-add, drop-cons}
 use Rattle.std.specs.Option.{is_some}
-use Rattle.ion_text.specs.Names.{Advances, Catalog, Effect, GaveLast, LedLeaving, Limits, Reason, Refusal, Run, State, Value, eats, fails, leaves, led, once_more, resumed, run, run-append, run_on, tells, then_run, uses, with_value}
+use Rattle.ion_text.specs.Names.{Advances, Catalog, Effect, GaveLast, LedLeaving, Limits, Reason, Refusal, Run, State, Value, eats, leaves, led, once_more, resumed, run, run-append, run_on, then_run, with_value}
 use Rattle.ion_text.specs.machine.Progress.{BeginsWith}
 
 no_cons : {A : Type 0} (x : A) (xs : List A) → x ∷ xs ≡ [] → ⊥
@@ -17,10 +17,8 @@ module _ (g : Catalog) (l : Limits) where
   NotLeft _ = Unit {0}
 
   once_same : (to : ℕ) (again : State → Effect) (rest : State → Run) (x : Effect) → NotLeft x → once_more to rest x ≡ run_on to again rest x
-  once_same to again rest (uses m) h = refl
-  once_same to again rest (tells v m) h = refl
   once_same to again rest (leaves v m) h = absurd h
-  once_same to again rest (fails e) h = refl
+  once_same to again rest _ h = refl
 
   pub resumed_same : (again : Bool) (to : ℕ) (m : State) (o : ℕ) (os : List ℕ) → NotLeft (eats g l m o) → resumed g l again to m (o ∷ os)
       ≡ run g l to m (o ∷ os)
@@ -30,10 +28,8 @@ module _ (g : Catalog) (l : Limits) where
   -- a value that came before the first octet would be the first that was given
   first_given : (to : ℕ) (rest : State → Run) (again : State → Effect) (x : Effect) → ((v : Value) (r : Run) → run_on to again rest x ≡ with_value v to r → ⊥)
       → NotLeft x
-  first_given to rest again (uses m) h = tt
-  first_given to rest again (tells v m) h = tt
   first_given to rest again (leaves v m) h = h v (once_more to rest (again m)) refl
-  first_given to rest again (fails e) h = tt
+  first_given to rest again _ h = tt
 
   pub not_left_nothing : (to : ℕ) (m : State) (o : ℕ) (os : List ℕ) (now : Result State Refusal) → run g l to m (o ∷ os) ≡ record { given = []; now = now }
       → NotLeft (eats g l m o)

@@ -1,63 +1,32 @@
 -- Long strings of segments that lie whole in a piece.
 use Rattle.std.proofs.Common.{◌≡◌, ℕ, ◌+◌, ◌-◌, ◌<◌, ◌≤◌, Bool, true, false, List, [], ◌∷◌, ◌++◌, length, take, drop, get_or, Ok, refl, ap, sym, ◌∙◌, subst, arith, length-drop, ◌⊎◌, inl, inr}
-use Rattle.std.specs.Prelude.{◌&&◌, ◌||◌, not, if◌then◌else◌, ◌==◌, cond}
-use Rattle.std.proofs.lemmas.Bool.Decides.{nat_tests}
+use Rattle.std.specs.Prelude.{◌||◌, not, if◌then◌else◌, ◌==◌}
+use Rattle.std.proofs.lemmas.Bool.{and_parts, not-true, or_from, or_parts}
 use Rattle.std.proofs.lemmas.List.{length-take-le}
-use Rattle.ion_text.specs.Names.{Action, Catalog, Effect, Frame, Given, IsFound, Known, LeadsTo, Limits, Long, Mode, Next, Now, OnNext, Outcome, Passes, Place, Quiet, Reading, Rest, Setting, Slot, State, Stays, Symbols, TokenKind, Value, Waiting, acts, annotated, at, begins_value, begins_word, begun_at, behind_given, drive, eats, ended, ended_so_far, ends_symbol, feed, followed, go_on, goes, in_blank, in_segment, is_digit, is_idle, is_name, is_operator_octet, is_quoting, is_sane, is_sexp, is_top, is_white, lexeme_at, long_waits, lulls, noticed, on_said, on_scan, on_settled, past_blank, past_token, place, place_in, rested, resting, said, settle, spot_at, takes, token_of, turn, turn_now, under, unsettled, uses, waits, waits_now, with_scan}
+use Rattle.ion_text.specs.Names.{Catalog, Effect, Frame, Given, IsFound, Known, LeadsTo, Limits, Long, Mode, Next, Now, Outcome, Passes, Place, Quiet, Reading, Rest, Setting, Slot, State, Stays, Symbols, TokenKind, Value, Waiting, annotated, at, begun_at, behind_given, drive, eats, ended, ended_so_far, ends_symbol, feed, go_on, goes, in_segment, is_idle, is_quoting, is_sane, is_top, lexeme_at, long_at, long_waits, lulls, noticed, on_said, on_scan, on_settled, past_blank, past_token, place, place_in, rested, resting, said, settle, spot_at, takes, token_of, turn, turn_now, under, unsettled, uses, waits_now, with_scan}
 use Rattle.ion_model.specs.declared.value.Payload.TheVariants as payloads
 use Rattle.ion_tokens.specs.machine.Scanning as scanning
-use Rattle.ion_tokens.proofs.runs.Runs.{feed_used, next_used}
+use Rattle.ion_tokens.proofs.runs.Runs.{next_used}
 use Rattle.ion_text.specs.machine.LongStrings.{LongSoFar, LongThere, PassedSegment, ends_long}
+use Rattle.ion_text.specs.laws.reading.complete.Found.{run_sane}
 use Rattle.ion_text.specs.laws.reading.complete.Meets.{follows_as}
 use Rattle.ion_text.proofs.Arms.{at_drop, blank_used, ended_place, ended_stays}
 use Rattle.ion_text.proofs.Lulls.{lull_noticed}
-use Rattle.ion_text.proofs.Passing.{calm_quiet, leads_on, leads_one, passes_led, passes_none, passes_on, passes_same}
+use Rattle.ion_text.proofs.Passing.{calm_quiet, leads_on, leads_one, passes_led, passes_none, passes_on, passes_same, quiet_as, waits_as}
 use Rattle.ion_text.proofs.Striding.{still_settles}
+use Rattle.ion_text.proofs.Symbols.{ends_shows}
 use Rattle.ion_text.proofs.Tops.{top_quiet}
 
 -- the mode of a blank, or of what may be a segment of a long string
 abbrev pub may_be_long : Mode → Bool
 may_be_long m = is_idle m || is_quoting m
 
-neither : (a b : Bool) → (a || b) ≡ false → (a ≡ false) × (b ≡ false)
-neither false b e = (refl, e)
-neither true b e = cc
-
-both_false : (a b : Bool) → a ≡ false → b ≡ false → (a || b) ≡ false
-both_false a b e f = ap (λ a. a || b) e ∙ f
-
-next_is : (s t : Known) → Next s ≡ Next t → s ≡ t
-next_is s t e = ap (λ x. known_in x s) e
-  where
-    known_in : Outcome → Known → Known
-    known_in (Next y) d = y
-    known_in _ d = d
-
 -- what surely is neither stays so
-stays_other : (p : Place) (os : List ℕ) (s t : Known) → is_sane s.mode ≡ true → may_be_long s.mode ≡ false → scanning.run p os s ≡ Next t
-    → may_be_long t.mode ≡ false
-stays_other p [] s t sane h e = subst (λ (k : Known). may_be_long k.mode ≡ false) (next_is s t e) h
-stays_other p (o ∷ os) s t sane h e =
-    let f = followed (feed p s o) (λ k. scanning.run p os k) t e in
-    let x = follows_as p s o (Next f.0) sane f.1 in
-    let i = neither (is_idle s.mode) (is_quoting s.mode) h in
-    stays_other p os f.0 t x.0 (both_false (is_idle f.0.mode) (is_quoting f.0.mode) (x.1 i.0) (x.2 i.0 i.1)) f.2
-
--- so what is one of them was so before
-long_first : (p : Place) (os : List ℕ) (s t : Known) → is_sane s.mode ≡ true → may_be_long t.mode ≡ true → scanning.run p os s ≡ Next t
-    → may_be_long s.mode ≡ true
-long_first p os s t sane long e = by (may_be_long s.mode) refl
-  where
-    by : (b : Bool) → may_be_long s.mode ≡ b → may_be_long s.mode ≡ true
-    by true h = h
-    by false h = absurd (let n : true ≡ false = sym long ∙ stays_other p os s t sane h e in cc)
-
-run_sane : (p : Place) (os : List ℕ) (s t : Known) → is_sane s.mode ≡ true → scanning.run p os s ≡ Next t → is_sane t.mode ≡ true
-run_sane p [] s t sane e = subst (λ (k : Known). is_sane k.mode ≡ true) (next_is s t e) sane
-run_sane p (o ∷ os) s t sane e =
-    let f = followed (feed p s o) (λ k. scanning.run p os k) t e in
-    let x = follows_as p s o (Next f.0) sane f.1 in
-    run_sane p os f.0 t x.0 f.2
+other_stays : (p : Place) (s t : Known) (o : ℕ) → is_sane s.mode ≡ true → feed p s o ≡ Next t → may_be_long s.mode ≡ false → may_be_long t.mode ≡ false
+other_stays p s t o sane e h =
+    let x = follows_as p s o (Next t) sane e in
+    let i = or_parts (is_idle s.mode) (is_quoting s.mode) h in
+    or_from (is_idle t.mode) (is_quoting t.mode) (x.1 i.0) (x.2 i.0 i.1)
 
 -- Where a value may come, octets within the limit on items are no reason to refuse.
 ready_quiet : (g : Catalog) (l : Limits) (start : ℕ) (c : List Slot) (fs : List Frame) (ss : Symbols) (rest : Rest) (octets : List ℕ) (n : ℕ)
@@ -115,23 +84,11 @@ module _ (g : Catalog) (l : Limits) (r : Reading) (w : List ℕ) (end : ℕ) (no
 
   long_quiet : (p : Place) (os : List ℕ) (s t : Known) → is_sane s.mode ≡ true → may_be_long t.mode ≡ true → scanning.run p os s ≡ Next t
       → s.used + length os ≤ r.start + l.item → Quiet g l r p s os
-  long_quiet p [] s t sane long e room = tt
-  long_quiet p (o ∷ os) s t sane long e room =
-      let f = followed (feed p s o) (λ k. scanning.run p os k) t e in
-      let x = follows_as p s o (Next f.0) sane f.1 in
-      let used = feed_used p s f.0 o f.1 in
-      subst (λ x. OnNext x (λ t. (noticed l r t ≡ uses (with_scan t r)) × Quiet g l r p t os)) (sym f.1)
-      (long_noticed f.0 (long_first p os f.0 t x.0 long f.2) (omega (arith, used, used)), long_quiet p os f.0 t x.0 long f.2 (omega (arith, used)))
+  long_quiet = quiet_as may_be_long other_stays g l r (r.start + l.item) long_noticed
 
   long_waits_on : (p : Place) (os : List ℕ) (s t : Known) → is_sane s.mode ≡ true → may_be_long t.mode ≡ true → scanning.run p os s ≡ Next t
       → Waiting g l r p s os
-  long_waits_on p [] s t sane long e = tt
-  long_waits_on p (o ∷ os) s t sane long e =
-      let f = followed (feed p s o) (λ k. scanning.run p os k) t e in
-      let x = follows_as p s o (Next f.0) sane f.1 in (
-        ap (λ y. waits r y) f.1 ∙ (ap (λ n. waits_now (is_top r.frames) n (Next f.0)) now ∙ long_first p os f.0 t x.0 long f.2),
-        subst (λ x. OnNext x (λ t. Waiting g l r p t os)) (sym f.1) (long_waits_on p os f.0 t x.0 long f.2),
-      )
+  long_waits_on = waits_as may_be_long other_stays g l r (λ k long. ap (λ n. waits_now (is_top r.frames) n (Next k)) now ∙ long)
 
   -- a blank behind a segment
   long_blank : (s t : Known) (octets : List ℕ) (n : ℕ) → n ≤ length octets → is_sane s.mode ≡ true → may_be_long t.mode ≡ true
@@ -184,68 +141,9 @@ module _ (g : Catalog) (l : Limits) (r : Reading) (w : List ℕ) (end : ℕ) (no
         (long_quiet (place r) (take (n - 1) octets) (resting rest) found.known refl is_long_mode found.ran (omega arith))
         (inr (long_waits_on (place r) (take (n - 1) octets) (resting rest) found.known refl is_long_mode found.ran))
 
--- The octet that shows that no segment follows.
-
-record ShowsNoSegment (top : Bool) (p : Place) (r : Rest) (o : ℕ) (a : Action) : Type 0 where
-  is : long_waits top (acts p (resting r) o a) ≡ false
-
-module _ {top : Bool} {p : Place} {r : Rest} {o : ℕ} where
-  yes : {a : Action} → long_waits top (acts p (resting r) o a) ≡ false → ShowsNoSegment top p r o a
-  yes h = record { is = h }
-
-  both : {x y : Action} (b : Bool) → ShowsNoSegment top p r o x → ShowsNoSegment top p r o y → ShowsNoSegment top p r o (cond b x y)
-  both true h k = h
-  both false h k = k
-
-  skip : {y : Action} (x : Action) (b : Bool) → b ≡ false → ShowsNoSegment top p r o y → ShowsNoSegment top p r o (cond b x y)
-  skip x true e h = absurd cc
-  skip x false e h = h
-
-value_shows : (top : Bool) (p : Place) (r : Rest) (o : ℕ) → ShowsNoSegment top p r o (begins_value p o)
-value_shows top p r o =
-    both (is_digit o) (yes refl)
-    (both (o == 123) (yes refl)
-    (both (o == 91) (yes refl)
-    (both (o == 93) (yes refl)
-    (both (o == 40) (yes refl)
-    (both (o == 41) (yes refl)
-    (both (o == 45) (yes refl)
-    (both (o == 43) (yes refl)
-    (both (is_sexp p && is_operator_octet o) (yes refl) (yes refl)))))))))
-
-front_true : (a b : Bool) → (a && b) ≡ true → (a ≡ true) × (b ≡ true)
-front_true true b e = (refl, e)
-front_true false b e = absurd cc
-
-no_white : (o : ℕ) → ends_symbol o ≡ true → is_white o ≡ false
-no_white o h = grind (arith, nat_tests)
-
-no_slash : (o : ℕ) → ends_symbol o ≡ true → (o == 47) ≡ false
-no_slash o h = grind (arith, nat_tests)
-
-no_colon : (o : ℕ) → ends_symbol o ≡ true → (o == 58) ≡ false
-no_colon o h = grind (arith, nat_tests)
-
-not_true : (b : Bool) → not b ≡ true → b ≡ false
-not_true false e = refl
-not_true true e = absurd cc
-
-long_shows : (top : Bool) (p : Place) (r : Rest) (o : ℕ) → ends_long o ≡ true → ShowsNoSegment top p r o (in_blank p r.colon o)
-long_shows top p r o h =
-    let f = front_true (ends_symbol o) (not (o == 39)) h in
-    skip _ (is_white o) (no_white o f.0)
-    (both (begins_word o) (yes refl)
-    (skip _ (o == 47) (no_slash o f.0)
-    (both (o == 34) (yes refl)
-    (skip _ (o == 39) (not_true (o == 39) f.1)
-    (both (o == 44) (yes refl)
-    (both (o == 125) (yes refl)
-    (skip _ (o == 58) (no_colon o f.0)
-    (both (is_name p) (yes refl) (value_shows top p r o)))))))))
-
 -- the octet behind a long string that waits ends it, at the top level and elsewhere
 long_ends : (top : Bool) (p : Place) (r : Rest) (o : ℕ) → ends_long o ≡ true → long_waits top (feed p (resting r) o) ≡ false
-long_ends top p r o h = (long_shows top p r o h).is
+long_ends top p r o h = let f = and_parts (ends_symbol o) (not (o == 39)) h in (ends_shows top p r o f.0).long (not-true (o == 39) f.1)
 
 module _ (g : Catalog) (l : Limits) (r : Reading) (w : List ℕ) (end : ℕ) (now : r.now ≡ Now.Long w end) where
   -- so nothing goes on there
@@ -278,20 +176,11 @@ module _ (g : Catalog) (l : Limits) (r : Reading) (w : List ℕ) (end : ℕ) (no
           go_on g l again q (resting rest) (feed (place q) (resting rest) o) (unsettled (resting rest) q (feed (place q) (resting rest) o)) (inr still)
           ∙ ap (λ p. on_scan g l again q (feed p (resting rest) o)) same
 
--- what waits stands in the place where the value may come
-long_place : (fs : List Frame) (w : List ℕ) (end : ℕ) → place_in fs (Now.Long w end) ≡ place_in fs Now.Ready
-long_place [] w end = refl
-long_place (Frame.Items listing ss vs ∷ fs) w end = refl
-long_place (Frame.Named ss ms name ∷ fs) w end = refl
-long_place (Frame.Fields ss ms ∷ fs) w end = refl
-
 -- in a container it says nothing where a value ended
 ended_anywhere : (setting : Setting) (start : ℕ) (c : List Slot) (fs : List Frame) (v : Value) (i j : ℕ) → is_top fs ≡ false
     → ended setting (spot_at i start c) fs v ≡ ended setting (spot_at j start c) fs v
 ended_anywhere setting start c [] v i j h = absurd cc
-ended_anywhere setting start c (Frame.Items listing ss vs ∷ fs) v i j h = refl
-ended_anywhere setting start c (Frame.Named ss ms name ∷ fs) v i j h = refl
-ended_anywhere setting start c (Frame.Fields ss ms ∷ fs) v i j h = refl
+ended_anywhere setting start c _ v i j h = refl
 
 module _ (g : Catalog) (l : Limits) (start : ℕ) (c : List Slot) (ss : Symbols) (fs : List Frame) where
   -- a long string waits
@@ -357,7 +246,7 @@ module _ (g : Catalog) (l : Limits) (start : ℕ) (c : List Slot) (ss : Symbols)
     further_on end early =
         let r = waits_long old end in
         let f = x.segment in
-        let there : place r ≡ p = long_place fs old end ∙ here in
+        let there : place r ≡ p = long_at fs old end ∙ here in
         let found : IsFound (place r) before octets TokenKind.LongString f.kept n false =
         subst (λ p. IsFound p before octets TokenKind.LongString f.kept n false) (sym there) f.found in
         behind_it (rested before start c fs ss (Now.Long old end)) refl
@@ -383,7 +272,7 @@ settled_on g l start c ss (f ∷ fs) p before octets count after text x inner he
     let whole : Passes g l (with_scan (resting after) r) (drop count octets) 0 (with_scan (resting after) q) =
     long_settled g l r text s.0 refl after (drop count octets) q (omega arith) (ap ends_long (at_drop count octets) ∙ x.ends)
     (ended_anywhere (under g l) start c (f ∷ fs) (annotated ss (payloads.Str text)) s.0 end refl ∙ does) (still_settles g l q stays.2)
-    (ended_place (under g l) (spot_at end start c) q (f ∷ fs) (annotated ss (payloads.Str text)) refl does ∙ sym (long_place (f ∷ fs) text s.0)) in
+    (ended_place (under g l) (spot_at end start c) q (f ∷ fs) (annotated ss (payloads.Str text)) refl does ∙ sym (long_at (f ∷ fs) text s.0)) in
     subst (λ k. Passes g l (rested before start c (f ∷ fs) ss Now.Ready) octets k (with_scan (resting after) q)) none
     (passes_on g l (rested before start c (f ∷ fs) ss Now.Ready) (with_scan (resting after) r) (with_scan (resting after) q) octets count 0 up_to whole)
 

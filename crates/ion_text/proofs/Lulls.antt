@@ -12,11 +12,9 @@ use Rattle.ion_text.specs.laws.reading.complete.Meets.{LongOn, is_long_text, lon
 open_mode : (n : Now) (m : Mode) → lulls n m ≡ true → (shut n && not (is_idle m)) ≡ false
 open_mode Now.Ready m h = absurd cc
 open_mode Now.Name m h = absurd cc
-open_mode (Now.Pending k end) m h = refl
-open_mode (Now.Long w end) m h = refl
 open_mode Now.After m h = ap not h
-open_mode (Now.LongName w) m h = refl
 open_mode (Now.Keyed s) m h = ap not h
+open_mode _ m h = refl
 
 end_if : ℕ → Option Begun → ℕ
 end_if d None = d
@@ -42,11 +40,8 @@ top_within : (start bound : ℕ) (n : Now) (s : Known) (ss : Symbols) (k : ℕ) 
     → longest_top start s.used n ss (begun_in s) k ≤ bound
 top_within start bound Now.Ready s ss k l e u = absurd cc
 top_within start bound Now.Name s ss k l e u = absurd cc
-top_within start bound (Now.Pending h end) s ss k l e u = omega arith
 top_within start bound (Now.Long w end) s ss k l e u = long_within start s.used bound end w ss (begun_in s) k e (begun_end s (is_idle s.mode)) u
-top_within start bound Now.After s ss k l e u = omega arith
-top_within start bound (Now.LongName w) s ss k l e u = omega arith
-top_within start bound (Now.Keyed x) s ss k l e u = omega arith
+top_within start bound _ s ss k l e u = omega arith
 
 reach_within : (l : Limits) (r : Reading) (s : Known) (fs : List Frame) → lulls r.now s.mode ≡ true → ended_so_far r.now ≤ r.start + l.item
     → s.used ≤ r.start + l.item → reaches fs r s ≤ l.item
@@ -73,22 +68,15 @@ no_text _ i h = absurd cc
 text_lulls : (n : Now) (m k : Mode) → lulls n m ≡ true → is_long_text m ≡ true → is_long_text k ≡ true → lulls n k ≡ true
 text_lulls Now.Ready m k w h i = absurd cc
 text_lulls Now.Name m k w h i = absurd cc
-text_lulls (Now.Pending held end) m k w h i = absurd (no_text m w h)
 text_lulls (Now.Long w end) m k w' h i = quoting_text k i
-text_lulls Now.After m k w h i = absurd (no_text m w h)
 text_lulls (Now.LongName w) m k w' h i = quoting_text k i
-text_lulls (Now.Keyed s) m k w h i = absurd (no_text m w h)
+text_lulls _ m k w h i = absurd (no_text m w h)
 
 -- the only text over which it waits
 waits_in_text : (n : Now) (s : Style) → lulls n (Mode.Text s Within.Plain) ≡ true → is_long_text (Mode.Text s Within.Plain) ≡ true
 waits_in_text n Style.LongString h = refl
 waits_in_text Now.Ready _ h = absurd cc
-waits_in_text Now.Name _ h = absurd cc
-waits_in_text (Now.Pending held end) _ h = absurd cc
-waits_in_text (Now.Long w end) _ h = absurd cc
-waits_in_text Now.After _ h = absurd cc
-waits_in_text (Now.LongName w) _ h = absurd cc
-waits_in_text (Now.Keyed name) _ h = absurd cc
+waits_in_text _ _ h = absurd cc
 
 each_or_text : (n : Now) (m : Mode) (w : List ℕ) → lulls n m ≡ true → GoesOver m w → Each (goes_on m) w ⊎ (is_long_text m ≡ true)
 each_or_text n (Mode.Text s Within.Plain) w h over = inr (waits_in_text n s h)
@@ -119,11 +107,9 @@ module _ (g : Catalog) (l : Limits) (r : Reading) where
       → (settled (under g l) start c fs ss n ≡ goes (at start c fs ss n)) ⊎ ((t : Known) → lulls n t.mode ≡ true → waits_now top n (Next t) ≡ true)
   waits_or_not start c fs ss top Now.Ready m h = absurd cc
   waits_or_not start c fs ss top Now.Name m h = absurd cc
-  waits_or_not start c fs ss top (Now.Pending k end) m h = inr (λ t h. h)
-  waits_or_not start c fs ss top (Now.Long w end) m h = inr (λ t h. h)
   waits_or_not start c fs ss top Now.After m h = inl refl
-  waits_or_not start c fs ss top (Now.LongName w) m h = inr (λ t h. h)
   waits_or_not start c fs ss top (Now.Keyed s) m h = inl refl
+  waits_or_not start c fs ss top _ m h = inr (λ t h. h)
 
   stays_lull : (os : List ℕ) (s : Known) → Each (goes_on s.mode) os → lulls r.now s.mode ≡ true → Stays g l r (place r) s os
   stays_lull os s each lull = by (waits_or_not r.start r.context r.frames r.notes (is_top r.frames) r.now s.mode lull) where

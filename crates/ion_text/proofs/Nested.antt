@@ -22,8 +22,7 @@ open_found Bracket.Fields p r octets opens more name = fields_open_found p r oct
 -- behind an open the reader stays where the open led it
 pub opened_stays : (start : ℕ) (c : List Slot) (fs : List Frame) (ss : Symbols) (x : Bracket) → StaysIn start (at start c (opened x ss ∷ fs) [] (first_now x))
 opened_stays start c fs ss Bracket.List = (refl, refl, tt)
-opened_stays start c fs ss Bracket.Sexp = (refl, refl, tt)
-opened_stays start c fs ss Bracket.Fields = (refl, refl, tt)
+opened_stays start c fs ss _ = (refl, refl, tt)
 
 -- A close.
 pub close_found : (x : Bracket) (fs : List Frame) (now : Now) (r : Rest) (octets : List ℕ) → closes x fs now ≡ true → 0 < length octets

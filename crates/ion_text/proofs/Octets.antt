@@ -8,36 +8,14 @@ use Rattle.ion_tokens.proofs.runs.Runs.{feed_used}
 -- memory that runs out answers for every other reason
 pub least : (e : Reason) → lesser e Reason.Memory ≡ Reason.Memory
 least Reason.Memory = refl
-least Reason.Incomplete = refl
-least Reason.TooLarge = refl
-least Reason.Malformed = refl
-least Reason.Float = refl
-least Reason.DuplicateTable = refl
-least Reason.BadTable = refl
-least Reason.SymbolRange = refl
-least Reason.ImportGap = refl
-least Reason.MissingImport = refl
-least Reason.RepeatedField = refl
-least Reason.TableTooLarge = refl
-least Reason.NullTable = refl
-least Reason.BadEscape = refl
-least Reason.BadUtf8 = refl
-least Reason.BadBase64 = refl
-least Reason.Ambiguous = refl
-least Reason.Unexpected = refl
-least Reason.Depth = refl
-least Reason.ItemTooLong = refl
-least Reason.Version = refl
-least Reason.KeywordAsName = refl
+least _ = refl
 
 -- one octet at the scanner
 pub one_octet : (p : Place) (s : Known) (o : ℕ) → run p (o ∷ []) s ≡ feed p s o
 one_octet p s o = by (feed p s o) where
   by : (x : Outcome) → follow x (λ t. Next t) ≡ x
   by (Next t) = refl
-  by (Given l t) = refl
-  by (Left l t) = refl
-  by (Refused n e) = refl
+  by _ = refl
 
 used_by : (p : Place) (s : Known) (o : ℕ) (x : Outcome) (now : Known) → feed p s o ≡ x → IsBehind x now → is_left x ≡ false → now.used ≡ s.used + 1
 used_by p s o (Next t) now f b l = ap (λ (k : Known). k.used) b ∙ feed_used p s t o f
@@ -53,10 +31,9 @@ one_used p s o m now b l f =
     used_by p s o (feed p s o) now refl (subst (λ x. IsBehind x now) same b) (sym (ap is_left same) ∙ (l ∙ f))
 
 left_by : (p : Place) (s : Known) (o : ℕ) (x : Outcome) (now : Known) → feed p s o ≡ x → IsBehind x now → is_left x ≡ true → now.used ≡ s.used
-left_by p s o (Next t) now f b l = absurd cc
-left_by p s o (Given y t) now f b l = absurd cc
 left_by p s o (Left y t) now f b l = ap (λ (k : Known). k.used) b ∙ left_one p o s t y f
 left_by p s o (Refused n e) now f b l = absurd b
+left_by p s o _ now f b l = absurd cc
 
 -- an octet that comes again wasn't used
 pub one_left : (p : Place) (s : Known) (o : ℕ) (m : Met) (now : Known) → IsBehind (run p (o ∷ []) s) now → is_left (run p (o ∷ []) s) ≡ comes_again m

@@ -15,13 +15,11 @@ use Rattle.ion_text.proofs.Taking.{does_behind}
 
 bracket_opened : (b : Bracket) (ss : Symbols) → bracket_of (opened b ss) ≡ b
 bracket_opened Bracket.List ss = refl
-bracket_opened Bracket.Sexp ss = refl
-bracket_opened Bracket.Fields ss = refl
+bracket_opened _ ss = refl
 
 opened_there : (b : Bracket) (fs : List Frame) (ss : Symbols) → AreAround fs → AreOpen (opened b ss ∷ fs) [] (calm (first_now b))
 opened_there Bracket.List fs ss h = h
-opened_there Bracket.Sexp fs ss h = h
-opened_there Bracket.Fields fs ss h = h
+opened_there _ fs ss h = h
 
 -- a bracket is pushed behind those that were open
 pushed : (items : List Bracket) (b : Bracket) (fs : List Frame) (ss : Symbols) → reverse items ≡ brackets_of fs
@@ -87,9 +85,6 @@ pub names_does : {V : Type 0} (leads : V → Event → V → Type 0) (r new : Te
 names_does leads r new s a z stage same noted now start context tells fs h = by fs h (subst (λ n. AreOpen fs [] (calm n)) stage h.0.open_there)
   where
     by : (fs : List Frame) → Holds r fs [] → AreOpen fs [] Now.Name → Does leads (told fs []) (named r.start r.context fs s) (Ok Goes) new a z
-    by [] h o = absurd o
-    by (Frame.Items listing ss vs ∷ fs) h o = absurd o
-    by (Frame.Named ss ms t ∷ fs) h o = absurd o
     by (Frame.Fields ss ms ∷ fs) h o =
         let i = tells (told (Frame.Fields ss ms ∷ fs) []) h.1 in
         let e = name_told fs ss ms s in (
@@ -110,8 +105,18 @@ names_does leads r new s a z stage same noted now start context tells fs h = by 
             hears = subst (λ es. Hears leads (heard (told (Frame.Fields ss ms ∷ fs) [])) (heard es) a z) e i.1;
           },
         )
+    by _ h o = absurd o
 
 -- 4. A close.
+
+-- where a close may come, such containers are open around the one that it closes
+around_open : (f : Frame) (fs : List Frame) (now : Now) → AreOpen (f ∷ fs) [] now → AreAround fs
+around_open (Frame.Items listing ss vs) fs Now.Ready o = o
+around_open (Frame.Named ss ms s) fs Now.Ready o = o
+around_open (Frame.Items Listing.List ss vs) fs Now.After o = o
+around_open (Frame.Fields ss ms) fs Now.After o = o
+around_open (Frame.Fields ss ms) fs Now.Name o = o
+around_open _ fs _ o = absurd o
 
 -- a container of these brackets closes, where this may come next: the frames of the model are its frame and those around it
 module _ {V : Type 0} (leads : V → Event → V → Type 0) (setting : Setting) (spot : Spot) (r : TextWalk) (b : Bracket) (outer : List Bracket)
@@ -120,97 +125,44 @@ module _ {V : Type 0} (leads : V → Event → V → Type 0) (setting : Setting)
     (tells : (es : List Event) → WasTold r.filter es → WasTold g (es ++ closes b ∷ []) × Hears leads (heard es) (heard (es ++ closes b ∷ [])) a z)
     (ends : (fs : List Frame) (v : Value) → outer ≡ brackets_of fs → AreAround fs → WasTold g (told_in fs ++ events_of v)
     → DoesAlone (told_in fs ++ events_of v) (ended setting spot fs v) result new) where
-  abbrev rest_of : List Bracket → List Bracket
-  rest_of [] = []
-  rest_of (x ∷ xs) = xs
-
-  abbrev first_of : List Bracket → Bracket
-  first_of [] = b
-  first_of (x ∷ xs) = x
-
-  whole : (fs before : List Frame) (v : Value) → WasTold r.filter (told before []) → outer ≡ brackets_of fs → AreAround fs
-      → told before [] ++ closes b ∷ [] ≡ told_in fs ++ events_of v → Does leads (told before []) (ended setting spot fs v) result new a z
-  whole fs before v was same around e =
+  whole : (b' : Bracket) → b' ≡ b → (fs before : List Frame) (v : Value) → WasTold r.filter (told before []) → outer ≡ brackets_of fs → AreAround fs
+      → told before [] ++ closes b' ∷ [] ≡ told_in fs ++ events_of v → Does leads (told before []) (ended setting spot fs v) result new a z
+  whole b' is fs before v was same around e =
       let i = tells (told before []) was in
+      let there = subst (λ x. told before [] ++ closes x ∷ [] ≡ told_in fs ++ events_of v) is e in
       does_behind leads (told before []) (told_in fs ++ events_of v) (ended setting spot fs v) result new a z
-      (subst (λ es. Hears leads (heard (told before [])) (heard es) a z) e i.1) (ends fs v same around (subst (λ es. WasTold g es) e i.0))
+      (subst (λ es. Hears leads (heard (told before [])) (heard es) a z) there i.1) (ends fs v same around (subst (λ es. WasTold g es) there i.0))
 
   by : (b' : Bracket) → b' ≡ b → (f : Frame) (fs : List Frame) (now : Now) → b ≡ bracket_of f → outer ≡ brackets_of fs → MayClose b' now
       → AreOpen (f ∷ fs) [] now → WasTold r.filter (told (f ∷ fs) [])
       → Does leads (told (f ∷ fs) []) (closed b' setting spot (f ∷ fs)) result new a z
   by Bracket.List e (Frame.Items Listing.List ss vs) fs now i same m o was =
-      whole fs (Frame.Items Listing.List ss vs ∷ fs) (annotated ss (payloads.List vs)) was same (items_around now o)
-      (subst (λ x. told (Frame.Items Listing.List ss vs ∷ fs) [] ++ closes x ∷ [] ≡ told_in fs ++ events_of (annotated ss (payloads.List vs))) e
-      (list_told fs ss vs))
-    where
-      items_around : (now : Now) → AreOpen (Frame.Items Listing.List ss vs ∷ fs) [] now → AreAround fs
-      items_around Now.Ready o = o
-      items_around Now.After o = o
-      items_around Now.Name o = absurd o
-      items_around (Now.Pending h end) o = absurd o
-      items_around (Now.Long w end) o = absurd o
-      items_around (Now.LongName w) o = absurd o
-      items_around (Now.Keyed s) o = absurd o
+      whole Bracket.List e fs (Frame.Items Listing.List ss vs ∷ fs) (annotated ss (payloads.List vs)) was same
+      (around_open (Frame.Items Listing.List ss vs) fs now o) (list_told fs ss vs)
   by Bracket.Sexp e (Frame.Items Listing.Sexp ss vs) fs now i same m o was =
-      whole fs (Frame.Items Listing.Sexp ss vs ∷ fs) (annotated ss (payloads.Sexp vs)) was same (items_around now o)
-      (subst (λ x. told (Frame.Items Listing.Sexp ss vs ∷ fs) [] ++ closes x ∷ [] ≡ told_in fs ++ events_of (annotated ss (payloads.Sexp vs))) e
-      (sexp_told fs ss vs))
-    where
-      items_around : (now : Now) → AreOpen (Frame.Items Listing.Sexp ss vs ∷ fs) [] now → AreAround fs
-      items_around Now.Ready o = o
-      items_around Now.After o = absurd o
-      items_around Now.Name o = absurd o
-      items_around (Now.Pending h end) o = absurd o
-      items_around (Now.Long w end) o = absurd o
-      items_around (Now.LongName w) o = absurd o
-      items_around (Now.Keyed s) o = absurd o
+      whole Bracket.Sexp e fs (Frame.Items Listing.Sexp ss vs ∷ fs) (annotated ss (payloads.Sexp vs)) was same
+      (around_open (Frame.Items Listing.Sexp ss vs) fs now o) (sexp_told fs ss vs)
   by Bracket.Fields e (Frame.Fields ss ms) fs now i same m o was =
-      whole fs (Frame.Fields ss ms ∷ fs) (annotated ss (payloads.Fields ms)) was same (fields_around now o)
-      (subst (λ x. told (Frame.Fields ss ms ∷ fs) [] ++ closes x ∷ [] ≡ told_in fs ++ events_of (annotated ss (payloads.Fields ms))) e
-      (fields_told fs ss ms))
-    where
-      fields_around : (now : Now) → AreOpen (Frame.Fields ss ms ∷ fs) [] now → AreAround fs
-      fields_around Now.Ready o = absurd o
-      fields_around Now.After o = o
-      fields_around Now.Name o = o
-      fields_around (Now.Pending h end) o = absurd o
-      fields_around (Now.Long w end) o = absurd o
-      fields_around (Now.LongName w) o = absurd o
-      fields_around (Now.Keyed s) o = absurd o
+      whole Bracket.Fields e fs (Frame.Fields ss ms ∷ fs) (annotated ss (payloads.Fields ms)) was same
+      (around_open (Frame.Fields ss ms) fs now o) (fields_told fs ss ms)
   by Bracket.Fields e (Frame.Named ss ms s) fs now i same m o was = absurd (nowhere now m o)
     where
       nowhere : (now : Now) → MayClose Bracket.Fields now → AreOpen (Frame.Named ss ms s ∷ fs) [] now → ⊥
       nowhere Now.Ready m o = m
-      nowhere Now.After m o = o
-      nowhere Now.Name m o = o
-      nowhere (Now.Pending h end) m o = o
-      nowhere (Now.Long w end) m o = o
-      nowhere (Now.LongName w) m o = o
-      nowhere (Now.Keyed s) m o = o
-  by Bracket.List e (Frame.Items Listing.Sexp ss vs) fs now i same m o was = absurd cc
-  by Bracket.List e (Frame.Fields ss ms) fs now i same m o was = absurd cc
-  by Bracket.List e (Frame.Named ss ms s) fs now i same m o was = absurd cc
-  by Bracket.Sexp e (Frame.Items Listing.List ss vs) fs now i same m o was = absurd cc
-  by Bracket.Sexp e (Frame.Fields ss ms) fs now i same m o was = absurd cc
-  by Bracket.Sexp e (Frame.Named ss ms s) fs now i same m o was = absurd cc
+      nowhere _ m o = o
   by Bracket.Fields e (Frame.Items Listing.List ss vs) fs now i same m o was = absurd cc
-  by Bracket.Fields e (Frame.Items Listing.Sexp ss vs) fs now i same m o was = absurd cc
+  by _ e _ fs now i same m o was = absurd cc
 
   pub closes_does : (fs : List Frame) → Holds r fs [] → Does leads (told fs []) (closed b setting spot fs) result new a z
   closes_does [] h = let none = open_there in let e = h.0.frames in absurd cc
   closes_does (f ∷ fs) h =
-      by b refl f fs (calm r.stage) (ap first_of (sym open_there ∙ h.0.frames)) (ap rest_of (sym open_there ∙ h.0.frames)) may h.0.open_there h.1
+      let same : b ∷ outer ≡ brackets_of (f ∷ fs) = sym open_there ∙ h.0.frames in by b refl f fs (calm r.stage) (cc) (cc) may h.0.open_there h.1
 
 same_true : (b x : Bracket) → is_same b x ≡ true → b ≡ x
 same_true Bracket.List Bracket.List h = refl
 same_true Bracket.Sexp Bracket.Sexp h = refl
 same_true Bracket.Fields Bracket.Fields h = refl
-same_true Bracket.List Bracket.Sexp h = absurd cc
-same_true Bracket.List Bracket.Fields h = absurd cc
-same_true Bracket.Sexp Bracket.List h = absurd cc
-same_true Bracket.Sexp Bracket.Fields h = absurd cc
-same_true Bracket.Fields Bracket.List h = absurd cc
-same_true Bracket.Fields Bracket.Sexp h = absurd cc
+same_true _ _ h = absurd cc
 
 -- the innermost container that closes was the last in memory
 pub popped : (b : Bracket) (items rest : List Bracket) (o : Option Bracket) → items ≡ rest ++ option_to_list o → (0 < length items → IsSome o)
@@ -229,21 +181,15 @@ comma_goes r new s behind is stage fs h =
     subst (λ n. DoesAlone (told fs []) (on_comma r.start r.context fs) (Ok Goes) n) (sym is)
     (by fs h (subst (λ n. AreOpen fs [] (calm n)) stage h.0.open_there) (ap behind_comma (sym h.0.frames) ∙ behind))
   where
-    now_in : Now → Option Now → Now
-    now_in d None = d
-    now_in d (Some n) = n
-
     by : (fs : List Frame) → Holds r fs [] → AreOpen fs [] Now.After → behind_comma (brackets_of fs) ≡ Some s
         → DoesAlone (told fs []) (on_comma r.start r.context fs) (Ok Goes) (staged r s)
-    by [] h o e = absurd o
-    by (Frame.Items Listing.Sexp ss vs ∷ fs) h o e = absurd o
-    by (Frame.Named ss ms t ∷ fs) h o e = absurd o
     by (Frame.Items Listing.List ss vs ∷ fs) h o e =
-        let now : Now.Ready ≡ s = ap (now_in s) e in
+        let now : Now.Ready ≡ s = cc in
         subst (λ n. DoesAlone (told (Frame.Items Listing.List ss vs ∷ fs) []) (on_comma r.start r.context (Frame.Items Listing.List ss vs ∷ fs))
         (Ok Goes) (staged r n)) now
         (Frame.Items Listing.List ss vs ∷ fs, [], refl, (record { frames = h.0.frames; notes = h.0.notes; open_there = o }, h.1), refl)
     by (Frame.Fields ss ms ∷ fs) h o e =
-        let now : Now.Name ≡ s = ap (now_in s) e in
+        let now : Now.Name ≡ s = cc in
         subst (λ n. DoesAlone (told (Frame.Fields ss ms ∷ fs) []) (on_comma r.start r.context (Frame.Fields ss ms ∷ fs)) (Ok Goes) (staged r n)) now
         (Frame.Fields ss ms ∷ fs, [], refl, (record { frames = h.0.frames; notes = h.0.notes; open_there = o }, h.1), refl)
+    by _ h o e = absurd o

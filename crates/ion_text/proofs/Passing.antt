@@ -1,14 +1,15 @@
 -- Octets that are taken up at once where a container is open.
 use Rattle.std.proofs.Common.{◌≡◌, ℕ, zero, suc, ◌+◌, ◌-◌, ◌<◌, ◌≤◌, Bool, true, false, List, [], ◌∷◌, ◌++◌, length, take, drop, get_or, Ok, refl, ap, sym, ◌∙◌, subst, arith, length-drop, inl, inr}
-use Rattle.std.proofs.lemmas.Bool.{le-leb}
+use Rattle.std.proofs.lemmas.Bool.{le-leb, true_from_ne_false}
 use Rattle.std.specs.Prelude.{◌&&◌, ◌||◌, not, nat_le, if◌then◌else◌}
 use Rattle.std.proofs.lemmas.Grind.{common_steps}
 use Rattle.std.proofs.lemmas.List.{length-take-le, take-append-drop, drop-take}
-use Rattle.ion_text.specs.Names.{Catalog, Content, Effect, Frame, Given, Held, IsCalm, IsUsed, Known, LeadsTo, Left, Lexeme, Limits, Mode, Next, Now, OnNext, Outcome, Passes, Place, Quiet, Reading, Reason, Refused, State, Stays, Symbols, Waiting, base, behind_given, behind_left, drive, eats, fails, feed, floor, followed, go_on, goes, in_segment, is_colons, is_idle, is_sane, is_top, led, noticed, on_said, on_scan, on_settled, place, reaches, run, run-append, run_on, said, settle, shut, symbol_waits, takes, then_run, token_of, turn, unsettled, uses, waits, waits_now, with_scan}
+use Rattle.ion_text.specs.Names.{Catalog, Content, Effect, Frame, Given, Held, IsCalm, Known, LeadsTo, Left, Lexeme, Limits, Mode, Next, Now, OnNext, Outcome, Passes, Place, Quiet, Reading, Reason, State, Stays, Symbols, Waiting, base, behind_given, behind_left, drive, eats, fails, feed, floor, followed, go_on, goes, in_segment, is_colons, is_idle, is_sane, is_top, led, noticed, on_said, on_scan, on_settled, place, reaches, run, run-append, run_on, said, settle, shut, symbol_waits, takes, then_run, token_of, turn, unsettled, uses, waits, waits_now, with_scan}
 use Rattle.ion_tokens.specs.machine.Scanning as scanning
 use Rattle.ion_tokens.specs.laws.Again.{blank_uses}
 use Rattle.ion_tokens.proofs.runs.Runs.{feed_used, next_used}
-use Rattle.ion_text.specs.laws.reading.complete.Fuel.{Twice, UsedThen, twice_fuel}
+use Rattle.ion_text.specs.laws.reading.complete.Found.{begun_stays, run_keeps}
+use Rattle.ion_text.specs.laws.reading.complete.Fuel.{Twice, twice_fuel, used_then}
 use Rattle.ion_text.specs.laws.reading.complete.Meets.{follows_as}
 use Rattle.ion_text.proofs.Fronts.{quiet_within}
 
@@ -29,9 +30,8 @@ agree_length k w os h e =
     omega arith
   where
     shorter : (k : ℕ) (v : List ℕ) → length (take k v) ≤ length v
-    shorter zero v = omega arith
-    shorter (suc k) [] = omega arith
     shorter (suc k) (x ∷ v) = let i = shorter k v in omega arith
+    shorter _ _ = omega arith
 
 -- the octet behind so many
 pub next_octet : (k : ℕ) (w os : List ℕ) → k < length os → take (k + 1) w ≡ take (k + 1) os → drop k w ≡ get_or os k 0 ∷ drop (k + 1) w
@@ -110,12 +110,6 @@ module _ (g : Catalog) (l : Limits) where
       ∙ ap (run g l p.scan.used p) (sym next))))
 
 -- an octet behind a token is used where the scanner rests
-used_then : (o : ℕ) (x : Outcome) → IsUsed x → UsedThen o x
-used_then o (Left x t) u = absurd u
-used_then o (Next t) u = tt
-used_then o (Given x t) u = tt
-used_then o (Refused n e) u = tt
-
 blank_twice : (s : Known) (o : ℕ) → s.mode ≡ Mode.Blank → Twice s o
 blank_twice s o e p = used_then o (feed p s o) (blank_uses p s o e)
 
@@ -143,28 +137,37 @@ module _ (l : Limits) where
       never true = refl
       never false = refl
 
--- a token that has begun isn't forgotten
-stays_begun : (p : Place) (os : List ℕ) (s t : Known) → is_sane s.mode ≡ true → is_idle s.mode ≡ false → scanning.run p os s ≡ Next t → is_idle t.mode ≡ false
-stays_begun p [] s t sane h e = subst (λ (k : Known). is_idle k.mode ≡ false) (next_same s t e) h
-  where
-    known_in : Outcome → Known → Known
-    known_in (Next y) d = y
-    known_in _ d = d
+-- a test of what the scanner is in that fails behind an octet where it failed before it
+module _ (test : Mode → Bool)
+    (stays : (p : Place) (s t : Known) (o : ℕ) → is_sane s.mode ≡ true → feed p s o ≡ Next t → test s.mode ≡ false → test t.mode ≡ false) where
+  -- holds before octets behind which it holds
+  pub held_first : (p : Place) (os : List ℕ) (s t : Known) → is_sane s.mode ≡ true → test t.mode ≡ true → scanning.run p os s ≡ Next t → test s.mode ≡ true
+  held_first p os s t sane held e =
+      true_from_ne_false (test s.mode) (λ h. let n : true ≡ false = sym held ∙ run_keeps (λ m. test m ≡ false) stays p os s t sane h e in cc)
 
-    next_same : (a b : Known) → Next a ≡ Next b → a ≡ b
-    next_same a b e = ap (λ x. known_in x a) e
-stays_begun p (o ∷ os) s t sane h e =
-    let f = followed (feed p s o) (λ k. scanning.run p os k) t e in
-    let x = follows_as p s o (Next f.0) sane f.1 in
-    stays_begun p os f.0 t x.0 (x.1 h) f.2
+  module _ (g : Catalog) (l : Limits) (r : Reading) where
+    -- so what is no reason to refuse where it holds is none behind any of them
+    pub quiet_as : (most : ℕ) → ((s : Known) → test s.mode ≡ true → s.used ≤ most → noticed l r s ≡ uses (with_scan s r))
+        → (p : Place) (os : List ℕ) (s t : Known) → is_sane s.mode ≡ true → test t.mode ≡ true → scanning.run p os s ≡ Next t
+        → s.used + length os ≤ most → Quiet g l r p s os
+    quiet_as most notices p [] s t sane held e room = tt
+    quiet_as most notices p (o ∷ os) s t sane held e room =
+        let f = followed (feed p s o) (λ k. scanning.run p os k) t e in
+        let x = follows_as p s o (Next f.0) sane f.1 in
+        let used = feed_used p s f.0 o f.1 in
+        subst (λ x. OnNext x (λ t. (noticed l r t ≡ uses (with_scan t r)) × Quiet g l r p t os)) (sym f.1)
+        (notices f.0 (held_first p os f.0 t x.0 held f.2) (omega (arith, used)), quiet_as most notices p os f.0 t x.0 held f.2 (omega (arith, used)))
 
--- so none has behind any of the octets of a blank
-idle_first : (p : Place) (os : List ℕ) (s t : Known) → is_sane s.mode ≡ true → is_idle t.mode ≡ true → scanning.run p os s ≡ Next t → is_idle s.mode ≡ true
-idle_first p os s t sane idle e = by (is_idle s.mode) refl
-  where
-    by : (b : Bool) → is_idle s.mode ≡ b → is_idle s.mode ≡ true
-    by true h = h
-    by false h = absurd (let n : true ≡ false = sym idle ∙ stays_begun p os s t sane h e in cc)
+    -- and what waits where it holds goes on to wait
+    pub waits_as : ((s : Known) → test s.mode ≡ true → waits r (Next s) ≡ true) → (p : Place) (os : List ℕ) (s t : Known) → is_sane s.mode ≡ true
+        → test t.mode ≡ true → scanning.run p os s ≡ Next t → Waiting g l r p s os
+    waits_as wait p [] s t sane held e = tt
+    waits_as wait p (o ∷ os) s t sane held e =
+        let f = followed (feed p s o) (λ k. scanning.run p os k) t e in
+        let x = follows_as p s o (Next f.0) sane f.1 in (
+          ap (λ y. waits r y) f.1 ∙ wait f.0 (held_first p os f.0 t x.0 held f.2),
+          subst (λ x. OnNext x (λ t. Waiting g l r p t os)) (sym f.1) (waits_as wait p os f.0 t x.0 held f.2),
+        )
 
 -- what is noticed where no token has begun that surely is one, as long as no more octets than these were used
 abbrev pub NoticesNothing : Limits → Reading → ℕ → Type 0
@@ -178,25 +181,13 @@ module _ (g : Catalog) (l : Limits) (r : Reading) where
   -- a blank behind what may be a symbol goes on to wait
   pub blank_waits : (h : Held) (end : ℕ) → r.now ≡ Now.Pending h end → (p : Place) (os : List ℕ) (s t : Known) → is_sane s.mode ≡ true → is_idle t.mode ≡ true
       → scanning.run p os s ≡ Next t → Waiting g l r p s os
-  blank_waits h end now p [] s t sane idle e = tt
-  blank_waits h end now p (o ∷ os) s t sane idle e =
-      let f = followed (feed p s o) (λ k. scanning.run p os k) t e in
-      let x = follows_as p s o (Next f.0) sane f.1 in (
-        ap (λ y. waits r y) f.1 ∙ (ap (λ n. waits_now (is_top r.frames) n (Next f.0)) now ∙ idle_first p os f.0 t x.0 idle f.2),
-        subst (λ x. OnNext x (λ t. Waiting g l r p t os)) (sym f.1) (blank_waits h end now p os f.0 t x.0 idle f.2),
-      )
+  blank_waits h end now = waits_as is_idle begun_stays g l r (λ k idle. ap (λ n. waits_now (is_top r.frames) n (Next k)) now ∙ idle)
 
   module _ (most : ℕ) (notices : NoticesNothing l r most) where
     -- where no token has surely begun behind octets, the reader has no reason to refuse, within a limit
     pub blank_quiet : (p : Place) (os : List ℕ) (s t : Known) → is_sane s.mode ≡ true → is_idle t.mode ≡ true → scanning.run p os s ≡ Next t
         → s.used + length os ≤ most → Quiet g l r p s os
-    blank_quiet p [] s t sane idle e room = tt
-    blank_quiet p (o ∷ os) s t sane idle e room =
-        let f = followed (feed p s o) (λ k. scanning.run p os k) t e in
-        let x = follows_as p s o (Next f.0) sane f.1 in
-        let used = feed_used p s f.0 o f.1 in
-        subst (λ x. OnNext x (λ t. (noticed l r t ≡ uses (with_scan t r)) × Quiet g l r p t os)) (sym f.1)
-        (notices f.0 (idle_first p os f.0 t x.0 idle f.2) (omega (arith, used)), blank_quiet p os f.0 t x.0 idle f.2 (omega (arith, used)))
+    blank_quiet = quiet_as is_idle begun_stays g l r most notices
 
     module _ (s t : Known) (octets : List ℕ) (n : ℕ) (within : n ≤ length octets) (sane : is_sane s.mode ≡ true) (idle : is_idle t.mode ≡ true)
         (e : scanning.run (place r) (take n octets) s ≡ Next t) (room : s.used + n ≤ most) where

@@ -23,13 +23,12 @@ used_by p os s now (Refused n y) e b f some = absurd b
 
 left_by : (p : Place) (os : List ℕ) (s now : Known) (x : Outcome) → scanning.run p os s ≡ x → IsBehind x now → is_left x ≡ true
     → now.used < s.used + length os
-left_by p os s now (Next t) e b f = absurd cc
-left_by p os s now (Given y t) e b f = absurd cc
 left_by p os s now (Left y t) e b f =
     let u = left_used p os s t y (sym e) in
     let m = ap (λ (k : Known). k.used) b in
     omega (arith, u.0, u.1)
 left_by p os s now (Refused n y) e b f = absurd b
+left_by p os s now _ e b f = absurd cc
 
 module _ (p : Place) (os : List ℕ) (s : Known) (y : Met) (mid : TextWalk) (count : ℕ) (m : IsMet (scanning.run p os s) y mid)
     (u : (scanned mid.scanner).used ≡ s.used + count) where
@@ -62,8 +61,7 @@ module _ {V : Type 0} (leads : V → Event → V → Type 0) (g : Catalog) (l : 
         let h = subst (λ (y : Met). Met_it y mid a b) is d in (
           h.0,
           h.1,
-          uses_front g l q calm s piece high room some (scanning.run p piece s) (scanned mid.scanner) count (state_of mid h.0 h.1) came m.0
-              (m.1 ∙ ap comes_again is) u h.2,
+          uses_front g l q calm s piece high room some _ (scanned mid.scanner) count (state_of mid h.0 h.1) came m.0 (m.1 ∙ ap comes_again is) u h.2,
           h.3,
         )
 
@@ -72,8 +70,7 @@ module _ {V : Type 0} (leads : V → Event → V → Type 0) (g : Catalog) (l : 
     tells_reached is =
         let h = subst (λ (y : Met). Met_it y mid a b) is d in (
           h.0,
-          tells_front g l q calm s piece high room some (scanning.run p piece s) (scanned mid.scanner) count h.0 (state_of mid [] []) came m.0
-              (m.1 ∙ ap comes_again is) u h.1,
+          tells_front g l q calm s piece high room some _ (scanned mid.scanner) count h.0 (state_of mid [] []) came m.0 (m.1 ∙ ap comes_again is) u h.1,
           h.2,
         )
 
@@ -82,8 +79,7 @@ module _ {V : Type 0} (leads : V → Event → V → Type 0) (g : Catalog) (l : 
     leaves_reached is =
         let h = subst (λ (y : Met). Met_it y mid a b) is d in (
           h.0,
-          leaves_front g l q calm s piece high room some (scanning.run p piece s) (scanned mid.scanner) count h.0 (state_of mid [] []) came m.0
-              (m.1 ∙ ap comes_again is) u h.1,
+          leaves_front g l q calm s piece high room some _ (scanned mid.scanner) count h.0 (state_of mid [] []) came m.0 (m.1 ∙ ap comes_again is) u h.1,
           h.2,
         )
 

@@ -1,7 +1,7 @@
 -- What tokens say that lie whole in a piece, for a reader that holds no values.
 use Rattle.std.specs.Prelude.{IfSome}
 use Rattle.std.proofs.Common.{◌≡◌, ℕ, Bool, true, false, List, Option, Some, Ok, refl, ap, sym, subst}
-use Rattle.ion_text.specs.Names.{BeginsName, BeginsValue, FoundNumber, FoundPart, FoundSymbol, FoundToken, Held, Id, IsValue, NameThere, Now, Number, Number', Payload, Place, Rest, SaysThere, Scalar, Slot, TokenKind, WaitsThere, at, goes, held_of, held_payload, id_of, is_marker, keyed, number_payload, resolve, resolved, said, spot_at, takes_colon, word_said}
+use Rattle.ion_text.specs.Names.{BeginsName, BeginsValue, Content, FoundNumber, FoundPart, FoundSymbol, FoundToken, Held, Id, IsValue, NameThere, Now, Number, Number', Payload, Place, Rest, SaysThere, Scalar, Slot, TokenKind, WaitsThere, at, goes, held_of, held_payload, id_of, is_marker, keyed, number_payload, resolve, resolved, said, spot_at, takes_colon, word_said}
 use Rattle.ion_text.proofs.Symbols.{held_in, name_colon, names_so, symbol_colon, waits_so}
 
 -- a part that was found is such a value
@@ -16,6 +16,12 @@ part_begins w p r octets s payload f e =
       says = t.says;
       is = subst (λ q. IsValue w t.content q) f.is (subst (λ b. IsValue b t.content t.payload) e t.is);
     }
+
+-- so is what a token says
+abbrev pub says_part : (p : Place) (r : Rest) (octets : List ℕ) (s : Scalar) (c : Content) (payload : Payload) → SaysThere p r octets s.token c
+    → IsValue s.waits c payload → FoundPart p r octets s payload
+says_part p r octets s c payload x is =
+    record { token = record { kept = x.kept; content = c; payload = payload; found = x.found; says = x.says; is = is }; is = refl }
 
 -- so is a number
 pub number_begins : (p : Place) (r : Rest) (octets : List ℕ) (token : FoundToken) (n : Number) → FoundNumber p r octets token n

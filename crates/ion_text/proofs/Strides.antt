@@ -1,13 +1,13 @@
 -- Tokens that a reader without values takes up at once, one behind the other.
-use Rattle.std.proofs.Common.{◌≡◌, ◌≢◌, ℕ, ◌+◌, ◌-◌, ◌<◌, ◌≤◌, Bool, true, false, List, [], ◌∷◌, ◌++◌, length, take, drop, get_or, Option, Result, Ok, Err, refl, ap, sym, ◌∙◌, subst, arith, length-drop, ◌⊎◌, inl, inr}
+use Rattle.std.proofs.Common.{◌≡◌, ◌≢◌, ℕ, ◌+◌, ◌-◌, ◌<◌, ◌≤◌, Bool, true, false, List, [], ◌∷◌, ◌++◌, length, drop, get_or, Option, Result, Ok, refl, ap, sym, ◌∙◌, subst, arith, length-drop, ◌⊎◌, inl, inr}
 use Rattle.std.specs.Prelude.{if◌then◌else◌, nat_lt}
-use Rattle.std.proofs.lemmas.Bool.Decides.{nat_tests}
-use Rattle.std.proofs.lemmas.Grind.{common_steps}
-use Rattle.std.proofs.lemmas.List.{length-map, length-reverse, length-take}
-use Rattle.ion_text.specs.Names.{Ahead, AreAround, AreOpen, Bracket, Catalog, Content, Does, DoesAlone, Ended, EndsBy, EndsSo, Event, FoundNote, FoundToken, Frame, Gives, Goes, Holds, IsCalm, IsFound, IsHere, IsPassed, IsStill, Known, Late, Limits, Listing, Mark, Mark', NameThere, Now, OpensAt, Passes, Place, Reading, Reason, Rest, RestsBehind, SameSetting, Scanner, Slot, Strides, Strode, StrodeFrom, SymbolThere, Symbols, Taken, Takes, TextWalk, TokenKind, Turn, Turned, WentOn, at, before_end, begun_at, behind_note, beyond_depth, bracket_of, brackets_of, calm, close_mark, close_octet, closed, closes, first_now, goes, heard, is_name, is_top, lexeme_at, named, on_comma, only_goes, open_brackets, open_mark, opened, opening, past_blank, past_token, place, place_in, reading_of, resting, resting_at, said, scanned, setting_of, spot_at, spot_of, takes_colon, token_of, told, turn, under, with_scan}
+use Rattle.std.proofs.lemmas.Bool.{ltb-true}
+use Rattle.std.proofs.lemmas.List.{length-map, length-reverse}
+use Rattle.ion_text.specs.Names.{Ahead, AreAround, AreOpen, Bracket, Catalog, Content, Does, DoesAlone, Ended, EndsBy, EndsSo, Event, FoundNote, FoundToken, Frame, Goes, Holds, IsCalm, IsFound, IsHere, IsPassed, IsStill, Limits, Listing, Mark, Mark', NameThere, Now, OpensAt, Passes, Place, Reading, Reason, Rest, RestsBehind, SameSetting, Slot, Strode, StrodeFrom, SymbolThere, Symbols, Taken, Takes, TextWalk, TokenKind, Turn, Turned, WentOn, at, before_end, begun_at, behind_note, beyond_depth, bracket_of, brackets_of, calm, close_mark, close_octet, closed, closes, first_now, goes, heard, is_name, is_top, lexeme_at, named, on_comma, only_goes, open_brackets, open_mark, opened, opening, past_blank, past_token, place, place_in, reading_of, resting, resting_at, said, setting_of, spot_at, spot_of, takes_colon, token_of, told, turn, under, with_scan}
 use Rattle.ion_tokens.proofs.runs.WholeTokens.{comma_found}
 use Rattle.ion_visiting.specs.laws.Filters.{hears_both, hears_none}
-use Rattle.ion_text.proofs.Arms.{StaysIn, after_turns, blank_used, comma_stays, mark_says, named_stays, ready_turns, went}
+use Rattle.ion_text.proofs.Arms.{StaysIn, after_turns, begun_inner, blank_used, comma_stays, mark_says, named_stays, ready_turns, went}
+use Rattle.ion_text.proofs.Ended.{open_bare}
 use Rattle.ion_text.proofs.Nested.{close_found, close_stays, closing, is_open_left, open_found, opened_stays}
 use Rattle.ion_text.proofs.Passing.{inner_notices, passes_blank, passes_none, passes_on}
 use Rattle.ion_text.proofs.Striding.{still_settles}
@@ -31,22 +31,7 @@ settings_none a = record { catalog = refl; limits = refl; scanner = refl; awaite
 
 -- a reader whose open item begins there
 abbrev pub begun_with : TextWalk → ℕ → TextWalk
-begun_with r k = record {
-  alloc = r.alloc;
-  catalog = r.catalog;
-  limits = r.limits;
-  scanner = r.scanner;
-  beside = r.beside;
-  recent = r.recent;
-  start = k;
-  context = r.context;
-  frames = r.frames;
-  noted = r.noted;
-  stage = r.stage;
-  filter = r.filter;
-  awaited = r.awaited;
-  failed = r.failed;
-}
+begun_with r k = record r { start = k }
 
 -- the item of a token begins there that begins where the scanner rests
 abbrev pub IsBegun : TextWalk → Rest → ℕ → Type 0
@@ -55,16 +40,10 @@ IsBegun r rest k = (fs : List Frame) (ss : Symbols) → Holds r fs ss → k ≡ 
 pub settings_begun : (old new : TextWalk) (k : ℕ) → SameSetting (begun_with old k) new → SameSetting old new
 settings_begun old new k h = record { catalog = h.catalog; limits = h.limits; scanner = h.scanner; awaited = h.awaited; failed = h.failed }
 
--- where a container is open an item begins where it began
-pub begun_inner : (start begin : ℕ) (fs : List Frame) (ss : Symbols) → is_top fs ≡ false → begun_at start begin fs ss ≡ start
-begun_inner start begin [] ss h = absurd cc
-begun_inner start begin (f ∷ fs) ss h = refl
-
 -- no item of the top level begins earlier behind more octets
 begun_later : (start i j : ℕ) (fs : List Frame) (ss : Symbols) → i ≤ j → begun_at start i fs ss ≤ begun_at start j fs ss
 begun_later start i j [] [] h = h
-begun_later start i j [] (s ∷ ss) h = omega arith
-begun_later start i j (f ∷ fs) ss h = omega arith
+begun_later start i j _ _ h = omega arith
 
 -- where no value may come a container is open
 pub open_inner : (fs : List Frame) (ss : Symbols) (now : Now) → AreOpen fs ss now → now ≢ Now.Ready → is_top fs ≡ false
@@ -74,14 +53,6 @@ open_inner (Frame.Fields ns ms ∷ fs) [] Now.After h other = refl
 open_inner (Frame.Fields ns ms ∷ fs) [] Now.Name h other = refl
 open_inner _ _ _ h other = absurd h
 
--- nor were annotations read
-pub open_bare : (fs : List Frame) (ss : Symbols) (now : Now) → AreOpen fs ss now → now ≢ Now.Ready → ss ≡ []
-open_bare fs ss Now.Ready h other = absurd (other refl)
-open_bare (Frame.Items Listing.List ns vs ∷ fs) [] Now.After h other = refl
-open_bare (Frame.Fields ns ms ∷ fs) [] Now.After h other = refl
-open_bare (Frame.Fields ns ms ∷ fs) [] Now.Name h other = refl
-open_bare _ _ _ h other = absurd h
-
 -- a name may come in a struct
 pub open_name : (fs : List Frame) (ss : Symbols) → AreOpen fs ss Now.Name → place_in fs Now.Name ≡ Place.Name
 open_name (Frame.Fields ns ms ∷ fs) [] h = refl
@@ -89,11 +60,9 @@ open_name _ _ h = absurd h
 
 -- where a value may come no name may
 around_value : (fs : List Frame) → AreAround fs → is_name (place_in fs Now.Ready) ≡ false
-around_value [] h = refl
-around_value (Frame.Items Listing.List ns vs ∷ fs) h = refl
-around_value (Frame.Items Listing.Sexp ns vs ∷ fs) h = refl
-around_value (Frame.Named ns ms name ∷ fs) h = refl
 around_value (Frame.Fields ns ms ∷ fs) h = absurd h
+around_value (Frame.Items Listing.List ns vs ∷ fs) h = refl
+around_value _ h = refl
 
 pub value_place : (r : TextWalk) (fs : List Frame) (ss : Symbols) → r.stage ≡ Now.Ready → Holds r fs ss → is_name (place (reading_of r fs ss)) ≡ false
 value_place r fs ss now h = ap (λ n. is_name (place_in fs n)) now ∙ around_value fs (subst (AreOpen fs ss) (ap calm now) h.0.open_there)
@@ -328,7 +297,7 @@ module _ {V : Type 0} (takes : V → Event → V → Type 0) where
               (with_scan (resting after) inside)) (sym now)
               (subst (λ p. Passes old.catalog.now old.limits (with_scan (resting rest) (at old.start old.context fs ss Now.Ready)) octets 1
               (with_scan (resting (past_token p rest (TokenKind.Mark (open_mark x)) 1)) inside)) (sym (is ∙ ap (place_in fs) now))
-              (open_passes old.catalog.now old.limits old.start old.context fs ss rest octets x (below admits) more opens
+              (open_passes old.catalog.now old.limits old.start old.context fs ss rest octets x (ltb-true _ _ admits) more opens
               (around_value fs (subst (AreOpen fs ss) (ap calm now) h.holds.0.open_there)) fits)));
           ahead = record {
             holds = does.3.holds;
@@ -337,9 +306,6 @@ module _ {V : Type 0} (takes : V → Event → V → Type 0) where
           };
           hears = does.3.hears;
         }
-      where
-        below : {n m : ℕ} → nat_lt n m ≡ true → n < m
-        below h = grind (arith, nat_tests)
 
   -- what each token answers, from what its method does
 
@@ -370,9 +336,7 @@ module _ {V : Type 0} (takes : V → Event → V → Type 0) where
         ends_so old new rest after octets n Taken.Uses a b
         (λ fs ss h. subst (λ r. StrodeFrom takes fs ss old new rest r octets n a b) (sym there) (leads fs ss h (does fs ss h.holds))) more
         (ap (λ (r : Rest). r.used) there ∙ used) same
-    goes_so n last t (Ok Gives) there more used leads does = record { ended = tt; memory = refl; same = same }
-    goes_so n last t (Ok (Late e)) there more used leads does = record { ended = tt; memory = refl; same = same }
-    goes_so n last t (Err e) there more used leads does = record { ended = tt; memory = refl; same = same }
+    goes_so n last t _ there more used leads does = record { ended = tt; memory = refl; same = same }
 
     -- where this may come next no value may
     bare_at : (now : Now) → old.stage ≡ now → calm now ≢ Now.Ready → (fs : List Frame) (ss : Symbols) → Holds old fs ss
@@ -530,56 +494,3 @@ module _ {V : Type 0} (takes : V → Event → V → Type 0) where
       (λ fs ss. opening bracket old.limits.depth (begun_at old.start rest.used fs ss) old.context fs ss) x there t.more refl
       (λ fs ss h d. open_strode old new rest octets a b fs ss h same here bracket t.more opens t.stage (is fs ss h.holds) (admits fs ss h.holds) d)
       (λ fs ss h. subst (λ i. Does takes (told fs ss) (opening bracket old.limits.depth i old.context fs ss) x new a b) (begun fs ss h) (does fs ss h))
-
--- a reader whose scanner was moved
-abbrev pub with_moved : TextWalk → Scanner → TextWalk
-with_moved r s = record {
-  alloc = r.alloc;
-  catalog = r.catalog;
-  limits = r.limits;
-  scanner = s;
-  beside = r.beside;
-  recent = r.recent;
-  start = r.start;
-  context = r.context;
-  frames = r.frames;
-  noted = r.noted;
-  stage = r.stage;
-  filter = r.filter;
-  awaited = r.awaited;
-  failed = r.failed;
-}
-
-pub take_short : (k : ℕ) (w : List ℕ) → length (take k w) ≤ k
-take_short k w = let e = length-take k w in omega arith
-
-pub front_same : (j k : ℕ) (w : List ℕ) → j ≤ k → take j (take k w) ≡ take j w
-front_same j k w h = grind (arith, common_steps)
-
--- the octets of a piece that the limit on items leaves are those at its front
-module _ {V : Type 0} (takes : V → Event → V → Type 0) (old mid : TextWalk) (moved : Scanner) (first behind : Rest) (piece octets : List ℕ) (most count : ℕ)
-    (a b : V) (is : octets ≡ take most piece) (some : 0 < length octets) (rests : scanned old.scanner ≡ resting first) (there : scanned moved ≡ resting behind)
-    (still : IsStill old.stage)
-    (fits : (fs : List Frame) (ss : Symbols) → Holds old fs ss → first.used + length octets ≤ old.limits.item + begun_at old.start first.used fs ss)
-    (strode : Strode takes old mid first behind octets count a b) where
-  pub strides_there : (fs : List Frame) (ss : Symbols) → Holds old fs ss → Strides takes fs ss old (with_moved mid moved) piece count a b
-  strides_there fs ss h =
-      let x = strode.leads fs ss (record { holds = h; still = still; fits = fits fs ss h }) in
-      let within = strode.within in
-      let size : length octets ≡ length (take most piece) = ap (λ (w : List ℕ). length w) is in
-      let short = take_short most piece in
-      let front : take (count + 1) piece ≡ take (count + 1) octets =
-      sym (ap (take (count + 1)) is ∙ front_same (count + 1) most piece (omega arith)) in
-      record {
-        frames = x.frames;
-        notes = x.notes;
-        passes =
-            subst (λ s. Passes old.catalog.now old.limits (with_scan s (reading_of old fs ss)) piece count
-            (with_scan (scanned moved) (reading_of mid x.frames x.notes))) (sym rests)
-            (subst (λ s. Passes old.catalog.now old.limits (resting_at first old fs ss) piece count (with_scan s (reading_of mid x.frames x.notes))) (sym there)
-            (λ w e. x.passes w (e ∙ front)));
-        holds = x.ahead.holds;
-        hears = x.hears;
-        still = x.ahead.still;
-        rests = ap (λ (k : Known). k.mode) there;
-      }

@@ -7,10 +7,7 @@ pub still_settles : (g : Catalog) (l : Limits) (r : Reading) → IsStill r.now �
 still_settles g l r h = go r.now refl h
   where
     go : (n : Now) → r.now ≡ n → IsStill n → settle g l r ≡ goes r
-    go Now.After e k = subst (λ n. settle g l (at r.start r.context r.frames r.notes n) ≡ goes (at r.start r.context r.frames r.notes n)) (sym e) refl
-    go (Now.Keyed s) e k = subst (λ n. settle g l (at r.start r.context r.frames r.notes n) ≡ goes (at r.start r.context r.frames r.notes n)) (sym e) refl
-    go Now.Ready e k = subst (λ n. settle g l (at r.start r.context r.frames r.notes n) ≡ goes (at r.start r.context r.frames r.notes n)) (sym e) refl
-    go Now.Name e k = subst (λ n. settle g l (at r.start r.context r.frames r.notes n) ≡ goes (at r.start r.context r.frames r.notes n)) (sym e) refl
     go (Now.Pending x y) e k = absurd k
     go (Now.Long x y) e k = absurd k
     go (Now.LongName x) e k = absurd k
+    go _ e k = subst (λ n. settle g l (at r.start r.context r.frames r.notes n) ≡ goes (at r.start r.context r.frames r.notes n)) (sym e) refl

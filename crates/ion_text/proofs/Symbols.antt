@@ -4,12 +4,12 @@ use Rattle.std.specs.Prelude.{◌==◌, ◌&&◌, if◌then◌else◌, IsUtf8}
 use Rattle.std.proofs.lemmas.Bool.Decides.{nat_tests}
 use Rattle.std.proofs.lemmas.Grind.{common_steps}
 use Rattle.std.proofs.lemmas.List.{length-take-le}
-use Rattle.ion_text.specs.Names.{Action, BeginsName, BeginsValue, Blob, Catalog, Clob, Content, FoundToken, Frame, Held, Id, IsBody, IsCalm, IsFound, IsPassed, IsStill, Known, Limits, Long, Mark, Mark', Names, Next, Now, Number', Operator, Outcome, Passes, Payload, Pays, Place, Quiet, Quoted, Reading, Reason, Rest, RestsBehind, SaysNumber, Setting, Short, Slot, Spot, Symbols, TokenKind, TypedNull, Word, acts, annotated, at, begins_value, begins_word, ended, ends_symbol, feed, follow, goes, held_of, held_payload, held_symbol, held_word, in_blank, is_digit, is_idle, is_keyword, is_name, is_operator_octet, is_sexp, is_top, is_white, keyed, late, lexeme_at, named, noted, on_name, on_ready, paid, past_blank, past_token, place, place_in, resting, said, says, settle, spot_in, symbol_waits, takes_colon, token_at, token_of, turn, turn_now, under, with_scan}
+use Rattle.ion_text.specs.Names.{Action, BeginsName, BeginsValue, Blob, Catalog, Clob, Content, FoundToken, Frame, Held, IsBody, IsCalm, IsFound, IsPassed, IsStill, Known, Limits, Long, Mark, Mark', Names, Next, Now, Number', Operator, Outcome, Passes, Payload, Pays, Place, Quiet, Quoted, Reading, Reason, Rest, RestsBehind, SaysNumber, Setting, Short, Slot, Spot, Symbols, TokenKind, TypedNull, Word, acts, annotated, at, begins_value, begins_word, ended, ends_symbol, feed, follow, goes, held_of, held_payload, held_symbol, held_word, in_blank, is_digit, is_idle, is_keyword, is_name, is_operator_octet, is_sexp, is_top, is_white, keyed, late, lexeme_at, long_waits, named, noted, on_name, on_ready, paid, past_blank, past_token, place, place_in, resting, said, says, settle, spot_in, symbol_waits, takes_colon, token_at, token_of, turn, turn_now, under, with_scan}
 use Rattle.ion_model.specs.declared.value.Payload.TheVariants as payloads
 use Rattle.ion_tokens.specs.machine.Scanning as scanning
 use Rattle.ion_tokens.proofs.runs.Runs.{next_used}
 use Rattle.ion_tokens.proofs.runs.WholeTokens.{colon_found, colons_found}
-use Rattle.ion_text.proofs.Arms.{StaysIn, at_drop, blank_colon, blank_used, ended_place, ended_stays, first_of, found_passes, left_passes, mark_says, name_place, ready_turns, released_inner, same_place_in, short_says, spelled_utf8, word_says}
+use Rattle.ion_text.proofs.Arms.{StaysIn, at_drop, blank_colon, blank_used, ended_place, ended_stays, first_of, found_passes, left_found, mark_says, name_place, ready_turns, released_inner, same_place_in, short_says, spelled_utf8, word_says}
 use Rattle.ion_text.proofs.Passing.{NoticesNothing, blank_quiet, calm_quiet, inner_notices, passes_blank, passes_colons, passes_on, passes_settled, passes_waiting}
 use Rattle.ion_text.proofs.Striding.{still_settles}
 
@@ -34,14 +34,7 @@ waits_so setting spot fs ss c h e = go c e
     go (Word w) e = held _ e
     go (Quoted w) e = held _ e
     go (TypedNull k) e = held _ e
-    go (Id n) e = absurd cc
-    go (Short w) e = absurd cc
-    go (Long w) e = absurd cc
-    go (Number' n) e = absurd cc
-    go (Operator w) e = absurd cc
-    go (Clob w) e = absurd cc
-    go (Blob w) e = absurd cc
-    go (Mark' m) e = absurd cc
+    go _ e = absurd cc
 
 -- what is said is a field's name
 pub names_so : (setting : Setting) (spot : Spot) (fs : List Frame) (c : Content) (s : Option (List ℕ)) → Names c s → on_name setting spot fs c
@@ -56,14 +49,7 @@ names_so setting spot fs c s e = go c e
         (keyed spot.start spot.context fs (Some w))) e.1 ∙ name w e.0
     go (Quoted w) e = name w e
     go (Short w) e = name w e
-    go (TypedNull k) e = absurd e
-    go (Operator w) e = absurd e
-    go (Clob w) e = absurd e
-    go (Blob w) e = absurd e
-    go (Id n) e = absurd e
-    go (Long w) e = absurd e
-    go (Number' n) e = absurd e
-    go (Mark' m) e = absurd e
+    go _ e = absurd e
 
 -- a colon may stand behind it
 pub name_colon : (p : Place) (k : TokenKind) (kept : List ℕ) (c : Content) (s : Option (List ℕ)) → said k kept ≡ Ok c → Names c s → is_name p ≡ true
@@ -78,9 +64,6 @@ name_colon p k kept c s e n h = go k (subst (λ x. IsBody k kept x) e (says k ke
     number _ f n = f
 
     go : (k : TokenKind) → IsBody k kept (Ok c) → takes_colon p k ≡ true
-    go TokenKind.Word f = refl
-    go TokenKind.KindName f = refl
-    go TokenKind.QuotedSymbol f = refl
     go TokenKind.ShortString f = h
     go TokenKind.LongString f = h
     go TokenKind.Number f = absurd (number c f n)
@@ -88,6 +71,7 @@ name_colon p k kept c s e n h = go k (subst (λ x. IsBody k kept x) e (says k ke
     go TokenKind.Clob f = absurd (other (Clob kept) (ok_is c (Clob kept) f))
     go TokenKind.Blob f = absurd (other (Blob kept) (ok_is c (Blob kept) f))
     go (TokenKind.Mark m) f = absurd (other (Mark' m) (ok_is c (Mark' m) f))
+    go _ f = refl
 
 pub symbol_colon : (p : Place) (k : TokenKind) (kept : List ℕ) (c : Content) (h : Held) → said k kept ≡ Ok c → held_of c ≡ Some h → takes_colon p k ≡ true
 symbol_colon p k kept c h e is = go k (subst (λ x. IsBody k kept x) e (says k kept))
@@ -100,9 +84,6 @@ symbol_colon p k kept c h e is = go k (subst (λ x. IsBody k kept x) e (says k k
     number _ f n = f
 
     go : (k : TokenKind) → IsBody k kept (Ok c) → takes_colon p k ≡ true
-    go TokenKind.Word f = refl
-    go TokenKind.KindName f = refl
-    go TokenKind.QuotedSymbol f = refl
     go TokenKind.ShortString f = absurd (other (Short kept) f.0 refl)
     go TokenKind.LongString f = absurd (other (Long kept) f.0 refl)
     go TokenKind.Number f = absurd (number c f is)
@@ -110,35 +91,41 @@ symbol_colon p k kept c h e is = go k (subst (λ x. IsBody k kept x) e (says k k
     go TokenKind.Clob f = absurd (other (Clob kept) (ok_is c (Clob kept) f) refl)
     go TokenKind.Blob f = absurd (other (Blob kept) (ok_is c (Blob kept) f) refl)
     go (TokenKind.Mark m) f = absurd (other (Mark' m) (ok_is c (Mark' m) f) refl)
+    go _ f = refl
 
--- The octet that shows that no `::` follows.
+-- The octet that shows that neither `::` nor another segment of a long string follows, this unless it is a quote.
 
-record ShowsNoColons (p : Place) (r : Rest) (o : ℕ) (a : Action) : Type 0 where
-  is : symbol_waits (acts p (resting r) o a) ≡ false
+pub record ShowsEnd (top : Bool) (p : Place) (r : Rest) (o : ℕ) (a : Action) : Type 0 where
+  pub symbol : symbol_waits (acts p (resting r) o a) ≡ false
+  pub long : (o == 39) ≡ false → long_waits top (acts p (resting r) o a) ≡ false
 
-module _ {p : Place} {r : Rest} {o : ℕ} where
-  yes : {a : Action} → symbol_waits (acts p (resting r) o a) ≡ false → ShowsNoColons p r o a
-  yes h = record { is = h }
+module _ {top : Bool} {p : Place} {r : Rest} {o : ℕ} where
+  yes : {a : Action} → symbol_waits (acts p (resting r) o a) ≡ false → long_waits top (acts p (resting r) o a) ≡ false → ShowsEnd top p r o a
+  yes h k = record { symbol = h; long = λ e. k }
 
-  both : {x y : Action} (b : Bool) → ShowsNoColons p r o x → ShowsNoColons p r o y → ShowsNoColons p r o (cond b x y)
+  both : {x y : Action} (b : Bool) → ShowsEnd top p r o x → ShowsEnd top p r o y → ShowsEnd top p r o (cond b x y)
   both true h k = h
   both false h k = k
 
-  skip : {y : Action} (x : Action) (b : Bool) → b ≡ false → ShowsNoColons p r o y → ShowsNoColons p r o (cond b x y)
+  skip : {y : Action} (x : Action) (b : Bool) → b ≡ false → ShowsEnd top p r o y → ShowsEnd top p r o (cond b x y)
   skip x true e h = absurd cc
   skip x false e h = h
 
-value_shows : (p : Place) (r : Rest) (o : ℕ) → ShowsNoColons p r o (begins_value p o)
-value_shows p r o =
-    both (is_digit o) (yes refl)
-    (both (o == 123) (yes refl)
-    (both (o == 91) (yes refl)
-    (both (o == 93) (yes refl)
-    (both (o == 40) (yes refl)
-    (both (o == 41) (yes refl)
-    (both (o == 45) (yes refl)
-    (both (o == 43) (yes refl)
-    (both (is_sexp p && is_operator_octet o) (yes refl) (yes refl)))))))))
+  quote : {y : Action} (x : Action) (b : Bool) → (o == 39) ≡ b → symbol_waits (acts p (resting r) o x) ≡ false → ShowsEnd top p r o y → ShowsEnd top p r o (cond b x y)
+  quote x true e s h = record { symbol = s; long = λ f. absurd cc }
+  quote x false e s h = h
+
+value_shows : (top : Bool) (p : Place) (r : Rest) (o : ℕ) → ShowsEnd top p r o (begins_value p o)
+value_shows top p r o =
+    both (is_digit o) (yes refl refl)
+    (both (o == 123) (yes refl refl)
+    (both (o == 91) (yes refl refl)
+    (both (o == 93) (yes refl refl)
+    (both (o == 40) (yes refl refl)
+    (both (o == 41) (yes refl refl)
+    (both (o == 45) (yes refl refl)
+    (both (o == 43) (yes refl refl)
+    (both (is_sexp p && is_operator_octet o) (yes refl refl) (yes refl refl)))))))))
 
 no_white : (o : ℕ) → ends_symbol o ≡ true → is_white o ≡ false
 no_white o h = grind (arith, nat_tests)
@@ -149,21 +136,21 @@ no_slash o h = grind (arith, nat_tests)
 no_colon : (o : ℕ) → ends_symbol o ≡ true → (o == 58) ≡ false
 no_colon o h = grind (arith, nat_tests)
 
-ends_shows : (p : Place) (r : Rest) (o : ℕ) → ends_symbol o ≡ true → ShowsNoColons p r o (in_blank p r.colon o)
-ends_shows p r o h =
+pub ends_shows : (top : Bool) (p : Place) (r : Rest) (o : ℕ) → ends_symbol o ≡ true → ShowsEnd top p r o (in_blank p r.colon o)
+ends_shows top p r o h =
     skip _ (is_white o) (no_white o h)
-    (both (begins_word o) (yes refl)
+    (both (begins_word o) (yes refl refl)
     (skip _ (o == 47) (no_slash o h)
-    (both (o == 34) (yes refl)
-    (both (o == 39) (yes refl)
-    (both (o == 44) (yes refl)
-    (both (o == 125) (yes refl)
+    (both (o == 34) (yes refl refl)
+    (quote _ (o == 39) refl refl
+    (both (o == 44) (yes refl refl)
+    (both (o == 125) (yes refl refl)
     (skip _ (o == 58) (no_colon o h)
-    (both (is_name p) (yes refl) (value_shows p r o)))))))))
+    (both (is_name p) (yes refl refl) (value_shows top p r o)))))))))
 
 -- no `::` follows before an octet that shows so
 pub ends_waits : (p : Place) (r : Rest) (o : ℕ) → ends_symbol o ≡ true → symbol_waits (feed p (resting r) o) ≡ false
-ends_waits p r o h = (ends_shows p r o h).is
+ends_waits p r o h = (ends_shows false p r o h).symbol
 
 next_at : (k : ℕ) (w : List ℕ) → get_or (drop k w) 1 0 ≡ get_or w (k + 1) 0
 next_at k w = grind (arith, common_steps)
@@ -264,10 +251,8 @@ module _ (g : Catalog) (l : Limits) (r : Reading) (start : ℕ) (now : r.now ≡
 
 named_place : (start : ℕ) (c : List Slot) (q : Reading) (fs : List Frame) (s : Option (List ℕ)) → named start c fs s ≡ goes q → is_name (place_in fs Now.Name)
     ≡ true
-named_place start c q [] s e = absurd cc
-named_place start c q (Frame.Items listing ss vs ∷ fs) s e = absurd cc
-named_place start c q (Frame.Named ss ms name ∷ fs) s e = absurd cc
 named_place start c q (Frame.Fields ss ms ∷ fs) s e = refl
+named_place start c q _ s e = absurd cc
 
 module _ (g : Catalog) (l : Limits) (r : Reading) (inner : is_top r.frames ≡ false) (rest : Rest) (octets : List ℕ) (kind : TokenKind) (kept : List ℕ) (n m : ℕ)
     (left : Bool) (c : Content) (room : rest.used + length octets ≤ l.item + r.start) (within : n + m < length octets)
@@ -395,8 +380,7 @@ module _ (g : Catalog) (l : Limits) (r : Reading) (inner : is_top r.frames ≡ f
         (λ e. one (sym (next_at (n + m) octets) ∙ e)) in
         subst (λ p. Passes g l (with_scan (resting behind_blank) with_name) (drop (n + m) octets) 1
         (with_scan (resting (past_token p behind_blank (TokenKind.Mark Mark.Colon) 1)) q)) name_there
-        (left_passes g l with_name inner refl behind_blank (drop (n + m) octets) (TokenKind.Mark Mark.Colon) [] 1 (Mark' Mark.Colon) q (mark_says Mark.Colon)
-        does (omega arith) f
+        (left_found g l with_name refl behind_blank (drop (n + m) octets) (TokenKind.Mark Mark.Colon) [] 1 (Mark' Mark.Colon) q (mark_says Mark.Colon) does f
         (blank_quiet g l with_name (l.item + r.start) (inner_notices l with_name inner) (place with_name) (take 1 (drop (n + m) octets)) (resting behind_blank)
         f.known refl (colon_idle (place with_name) behind_blank (drop (n + m) octets) may_colon (at_drop (n + m) octets ∙ colon) f.known f.ran) f.ran
         (let few = length-take-le 1 (drop (n + m) octets) (omega arith) in omega arith)))
@@ -482,9 +466,7 @@ pub symbol_held : (h : Held) (s : Option (List ℕ)) → held_payload h ≡ Ok (
 unfolding in_symbol
 symbol_held (Held.Symbol a) s e = ap in_symbol e
 symbol_held (Held.Version ours a) s e = ap in_symbol e
-symbol_held (Held.Null k) s e = absurd cc
-symbol_held (Held.Truth b) s e = absurd cc
-symbol_held Held.Nan s e = absurd cc
+symbol_held _ s e = absurd cc
 
 -- where what is held is a value, something is held
 pub held_in : (o : Option Held) (v : Payload) → Pays o v → (h : Held) × (o ≡ Some h) × (held_payload h ≡ Ok v)

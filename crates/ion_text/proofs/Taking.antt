@@ -1,10 +1,10 @@
 -- What a reader that holds no values does, over what it did before.
-use Rattle.std.proofs.Common.{◌≡◌, ◌≢◌, ℕ, ◌-◌, ◌<◌, true, false, List, [], ◌∷◌, Some, None, Result, Ok, Err, refl, sym, ap, ◌∙◌, subst}
+use Rattle.std.proofs.Common.{◌≡◌, ◌≢◌, ℕ, ◌-◌, ◌<◌, Bool, true, false, List, [], ◌∷◌, Some, None, Result, Ok, Err, refl, sym, ap, ◌∙◌, subst}
 use Rattle.ion_text.specs.Names.{Catalog, DidMeet, DidTake, Does, DoesAlone, Effect, Event, Found, Frame, GaveOut, Gives, Goes, Hears, Holds, IsBehind, IsMet, Known, Late, Limits, MeetsWith, Met, Outcome, Place, Reading, Reason, Refusal, Scanner, State, Stepped, Symbols, Taken, TextWalk, Turn, Turned, Value, WentOn, behind_given, behind_left, comes_again, events_of, fails, feed, gives, goes, heard, is_left, late, leaves, lesser, noticed, on_scan, or_worse, place, reading_of, refuses, scan as run, scanned, settle, state_of, takes, tells, told, turn, unsettled, uses, with_scan, worse}
 use Rattle.ion_tokens.specs.machine.Steps.{Answers}
 use Rattle.ion_visiting.specs.laws.Filters.{hears_both, hears_none}
 use Rattle.ion_text.specs.machine.Views.{token_in}
-use Rattle.ion_text.proofs.Meetings.{given_token, left_token, no_token, on_given, on_left}
+use Rattle.ion_text.proofs.Meetings.{behind_token, came_turns, no_token, token_came}
 use Rattle.ion_text.proofs.Octets.{goes_on_takes, least, one_octet, same_scan, same_takes, settles}
 
 module _ {V : Type 0} (leads : V → Event → V → Type 0) where
@@ -13,13 +13,11 @@ module _ {V : Type 0} (leads : V → Event → V → Type 0) where
   -- a visitor heard what it was to hear before a method that tells nothing
   pub does_behind : (es fs : List Event) (t : Turn) (result : Result Turned Reason) (r : TextWalk) (a b : V) → Hears leads (heard es) (heard fs) a b
       → DoesAlone fs t result r → Does leads es t result r a b
-  does_behind es fs t (Ok Goes) r a b h d =
-      (d.0, d.1, d.2, record { holds = d.3; hears = subst (λ w. Hears leads (heard es) w a b) (sym d.4) h })
   does_behind es fs t (Ok Gives) r a b h d =
       (d.0, d.1, record { holds = d.2; hears = subst (λ w. Hears leads (heard es) w a b) (sym d.3) h })
-  does_behind es fs t (Ok (Late e)) r a b h d =
-      (d.0, d.1, d.2, record { holds = d.3; hears = subst (λ w. Hears leads (heard es) w a b) (sym d.4) h })
   does_behind es fs t (Err e) r a b h d = d
+  does_behind es fs t _ r a b h d =
+      (d.0, d.1, d.2, record { holds = d.3; hears = subst (λ w. Hears leads (heard es) w a b) (sym d.4) h })
 
   -- it heard nothing
   pub does_alone : (es : List Event) (t : Turn) (result : Result Turned Reason) (r : TextWalk) (a : V) → DoesAlone es t result r
@@ -39,34 +37,27 @@ module _ {V : Type 0} (leads : V → Event → V → Type 0) where
 
   pub take_same : (es : List Event) (e f : Effect) (result : Result Taken Reason) (r : TextWalk) (a b : V) → e ≡ f → DidTake leads es f result r a b
       → DidTake leads es e result r a b
-  take_same es e f (Ok Taken.Uses) r a b h d = (d.0, d.1, h ∙ d.2, d.3)
-  take_same es e f (Ok Taken.Tells) r a b h d = (d.0, h ∙ d.1, d.2)
-  take_same es e f (Ok Taken.Leaves) r a b h d = (d.0, h ∙ d.1, d.2)
-  take_same es e f (Err reason) r a b h d = λ other. h ∙ d other
+  take_same es e f result r a b h d = subst (λ e. DidTake leads es e result r a b) (sym h) d
 
   pub take_behind : (es fs : List Event) (e : Effect) (result : Result Taken Reason) (r : TextWalk) (a m b : V) → Hears leads (heard es) (heard fs) a m
       → DidTake leads fs e result r m b → DidTake leads es e result r a b
   take_behind es fs e (Ok Taken.Uses) r a m b h d = (d.0, d.1, d.2, went_behind es fs r d.0 d.1 a m b h d.3)
-  take_behind es fs e (Ok Taken.Tells) r a m b h d = (d.0, d.1, gave_behind es fs r d.0 a m b h d.2)
-  take_behind es fs e (Ok Taken.Leaves) r a m b h d = (d.0, d.1, gave_behind es fs r d.0 a m b h d.2)
   take_behind es fs e (Err reason) r a m b h d = d
+  take_behind es fs e _ r a m b h d = (d.0, d.1, gave_behind es fs r d.0 a m b h d.2)
 
   -- an octet that was refused already and comes again is refused for the smaller of the reasons
   pub take_worse : (es : List Event) (reason : Reason) (e : Effect) (again : Result Taken Reason) (r : TextWalk) (a b : V) → DidTake leads es e again r a b
       → (worse reason again ≢ Reason.Memory) → or_worse reason e ≡ fails (worse reason again)
   take_worse es reason e (Ok Taken.Uses) r a b d other = ap (or_worse reason) d.2
-  take_worse es reason e (Ok Taken.Tells) r a b d other = ap (or_worse reason) d.1
-  take_worse es reason e (Ok Taken.Leaves) r a b d other = ap (or_worse reason) d.1
   take_worse es reason e (Err f) r a b d other = ap (or_worse reason) (d (λ m. other (ap (lesser reason) m ∙ least reason)))
+  take_worse es reason e _ r a b d other = ap (or_worse reason) d.1
 
   pub meet_same : (es : List Event) (e f : (State → Effect) → Effect) (result : Result Met Reason) (r : TextWalk) (a b : V)
       → ((again : State → Effect) → e again ≡ f again) → DidMeet leads es f result r a b → DidMeet leads es e result r a b
-  meet_same es e f (Ok Met.Uses) r a b h d = (d.0, d.1, (λ again. h again ∙ d.2 again), d.3)
   meet_same es e f (Ok Met.Tells) r a b h d = (d.0, (λ again. h again ∙ d.1 again), d.2)
   meet_same es e f (Ok Met.Leaves) r a b h d = (d.0, (λ again. h again ∙ d.1 again), d.2)
-  meet_same es e f (Ok Met.Again) r a b h d = (d.0, d.1, (λ again. h again ∙ d.2 again), d.3)
-  meet_same es e f (Ok (Met.Late reason)) r a b h d = (d.0, d.1, (λ again. h again ∙ d.2 again), d.3)
   meet_same es e f (Err reason) r a b h d = λ other again. h again ∙ d other again
+  meet_same es e f _ r a b h d = (d.0, d.1, (λ again. h again ∙ d.2 again), d.3)
 
   -- 3. One octet at the scanner.
 
@@ -196,59 +187,33 @@ module _ {V : Type 0} (leads : V → Event → V → Type 0) where
       no_token_meets r fs ss a none same h notices = (
         fs,
         ss,
-        (λ again. ap (λ y. on_scan g l again q y) (no_token g l q before x scan now answers none).is ∙ notices),
+        (λ again. ap (λ y. on_scan g l again q y) (no_token before x scan now answers none) ∙ notices),
         record { holds = h; hears = hears_none leads (heard es) (heard (told fs ss)) a (ap heard same) },
       )
 
-      -- a token that the last octet ended
-      pub given_token_meets : (t : Found) (result : Result Met Reason) (r : TextWalk) (a b : V) → scan.token ≡ Some t → scan.left ≡ false
-          → DidMeet leads es (λ _. behind_given l now (turn g l q (token_in t))) result r a b → DidMeet leads es (λ again. on_scan g l again q x) result r a b
-      given_token_meets t result r a b some left d =
-          let h = given_token g l q before x scan t now answers some left in
-          meet_same es _ _ result r a b
-          (λ again. ap (λ y. on_scan g l again q y) h.is ∙ on_given g l q again h.lexeme t now now refl h.token) d
-
-      -- a token whose end the last octet showed
-      pub left_token_meets : (t : Found) (result : Result Met Reason) (r : TextWalk) (a b : V) → scan.token ≡ Some t → scan.left ≡ true
-          → DidMeet leads es (λ again. behind_left again now (turn g l q (token_in t))) result r a b
+      -- a token
+      pub token_meets : (left : Bool) (t : Found) (result : Result Met Reason) (r : TextWalk) (a b : V) → scan.token ≡ Some t → scan.left ≡ left
+          → DidMeet leads es (λ again. behind_token l left again now (turn g l q (token_in t))) result r a b
           → DidMeet leads es (λ again. on_scan g l again q x) result r a b
-      left_token_meets t result r a b some left d =
-          let h = left_token g l q before x scan t now answers some left in
-          meet_same es _ _ result r a b
-          (λ again. ap (λ y. on_scan g l again q y) h.is ∙ on_left g l q again h.lexeme t now now refl h.token) d
+      token_meets left t result r a b some is d =
+          let h = token_came before x scan t now left answers some is in
+          meet_same es _ _ result r a b (λ again. came_turns g l q left again x t now h) d
 
 -- the reader with this scanner in place of its own
 abbrev pub with_scanner : TextWalk → Scanner → TextWalk
-with_scanner r s = record {
-  alloc = r.alloc;
-  catalog = r.catalog;
-  limits = r.limits;
-  scanner = s;
-  beside = r.beside;
-  recent = r.recent;
-  start = r.start;
-  context = r.context;
-  frames = r.frames;
-  noted = r.noted;
-  stage = r.stage;
-  filter = r.filter;
-  awaited = r.awaited;
-  failed = r.failed;
-}
+with_scanner r s = record r { scanner = s }
 
 -- how many octets are used then
-module _ (g : Catalog) (l : Limits) (q : Reading) (before : ℕ) (x : Outcome) (scan : Stepped) (now : Known) (answers : Answers before x (Ok scan) now)
-    (new : TextWalk) (same : scanned new.scanner ≡ now) where
+module _ (before : ℕ) (x : Outcome) (scan : Stepped) (now : Known) (answers : Answers before x (Ok scan) now) (new : TextWalk)
+    (same : scanned new.scanner ≡ now) where
   pub no_token_met : scan.token ≡ None → IsMet x Met.Uses new
   no_token_met none =
-      let h = (no_token g l q before x scan now answers none).is in (subst (λ y. IsBehind y (scanned new.scanner)) (sym h) same, ap is_left h)
+      let h = no_token before x scan now answers none in (subst (λ y. IsBehind y (scanned new.scanner)) (sym h) same, ap is_left h)
 
-  pub given_token_met : (t : Found) (m : Met) → scan.token ≡ Some t → scan.left ≡ false → comes_again m ≡ false → IsMet x m new
-  given_token_met t m some left ends =
-      let h = given_token g l q before x scan t now answers some left in
-      (subst (λ y. IsBehind y (scanned new.scanner)) (sym h.is) same, ap is_left h.is ∙ sym ends)
-
-  pub left_token_met : (t : Found) (m : Met) → scan.token ≡ Some t → scan.left ≡ true → comes_again m ≡ true → IsMet x m new
-  left_token_met t m some left again =
-      let h = left_token g l q before x scan t now answers some left in
+  pub token_met : (left : Bool) (t : Found) (m : Met) → scan.token ≡ Some t → scan.left ≡ left → comes_again m ≡ left → IsMet x m new
+  token_met true t m some is again =
+      let h = token_came before x scan t now true answers some is in
+      (subst (λ y. IsBehind y (scanned new.scanner)) (sym h.is) same, ap is_left h.is ∙ sym again)
+  token_met false t m some is again =
+      let h = token_came before x scan t now false answers some is in
       (subst (λ y. IsBehind y (scanned new.scanner)) (sym h.is) same, ap is_left h.is ∙ sym again)

@@ -6,10 +6,9 @@ use Rattle.ion_visiting.specs.declared.table_filter.Table.{Table}
 use Rattle.ion_visiting.specs.laws.Filters.{hears_none, visitor_tells}
 
 plain_of : (t : Table) (b : Bool) → is_of_table t true ≡ false → is_of_table t b ≡ false
-plain_of Table.Unknown b h = refl
-plain_of Table.No b h = refl
 plain_of Table.Noted b h = absurd (false≢true (sym h))
 plain_of Table.Yes b h = absurd (false≢true (sym h))
+plain_of _ b h = refl
 
 -- what answers false only there answers true elsewhere
 pub let_by : (b x : Bool) → (b ≡ false → x ≡ true) → x ≡ false → b ≡ true

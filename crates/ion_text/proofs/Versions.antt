@@ -14,10 +14,9 @@ no_underscore : (o : ℕ) → is_digit o ≡ true → (o == 95) ≡ false
 no_underscore o h = grind (arith, nat_tests)
 
 digit_passes : (d x u s : Bool) → d ≡ true → u ≡ false → ((d && x) || (u && s)) ≡ x
-digit_passes true true u s h k = refl
 digit_passes true false true s h k = cc
-digit_passes true false false s h k = refl
 digit_passes false x u s h k = cc
+digit_passes _ _ _ s h k = refl
 
 passes : (d x : Bool) → d ≡ true → (d && x) ≡ x
 passes true x h = refl
@@ -41,6 +40,5 @@ all_digits (o ∷ x ∷ w) h = ap (λ b. is_digit o && b) (all_digits (x ∷ w) 
       some_more y ys = grind (arith, nat_tests)
 
       more : (b e : Bool) → e ≡ false → b ≡ (b || e)
-      more true e h = refl
       more false true h = cc
-      more false false h = refl
+      more _ _ h = refl

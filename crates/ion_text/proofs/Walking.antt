@@ -4,8 +4,8 @@ use Rattle.std.specs.Prelude.{if◌then◌else◌, nat_lt}
 use Rattle.std.proofs.lemmas.Bool.Decides.{nat_tests}
 use Rattle.ion_text.specs.Names.{Bracket, Catalog, Content, Frame, IsCalm, IsFound, IsStill, Limits, Mark', Passes, Quiet, Reading, Rest, Setting, Spot, Symbols, TokenKind, at, before_end, beyond_depth, first_now, goes, is_top, lexeme_at, on_ready, open_mark, opened, past_token, place, resting, said, token_of, turn, with_scan}
 use Rattle.ion_text.specs.laws.reading.Brackets.{open_turns}
-use Rattle.ion_text.proofs.Arms.{StaysIn, given_passes, left_passes}
-use Rattle.ion_text.proofs.Passing.{calm_quiet}
+use Rattle.ion_text.proofs.Arms.{StaysIn, given_found, left_found}
+use Rattle.ion_text.proofs.Passing.{calm_quiet, inner_notices}
 use Rattle.ion_text.proofs.Striding.{still_settles}
 
 -- a token where the scanner rests and a container is open
@@ -19,10 +19,13 @@ module _ (g : Catalog) (l : Limits) (r : Reading) (inner : is_top r.frames ≡ f
 
   pub token_passes : (left : Bool) → IsFound (place r) rest octets kind kept n left → IsCalm r.now ⊎ (before_end left n ≡ 0)
       → Passes g l (with_scan (resting rest) r) octets n (with_scan (resting (past_token (place r) rest kind n)) q)
-  token_passes true f m = let shown = f.shown in left_passes g l r inner (still_settles g l r still) rest octets kind kept n c q says turns room f
-      (quiet n (omega arith) m)
-  token_passes false f m = let shown = f.shown in given_passes g l r inner (still_settles g l r still) rest octets kind kept n c q says turns room f
-      (quiet (n - 1) (omega arith) m) stays
+  token_passes true f m =
+      let shown = f.shown in left_found g l r (still_settles g l r still) rest octets kind kept n c q says turns f (quiet n (omega arith) m)
+  token_passes false f m =
+      let shown = f.shown in
+      let same = stays.1 in
+      given_found g l r (still_settles g l r still) rest octets kind kept n c q says turns f (quiet (n - 1) (omega arith) m) (l.item + q.start)
+      (inner_notices l q stays.0) (omega arith)
 
 -- containers
 

@@ -1,8 +1,8 @@
 -- What a word is as a value.
 use Rattle.std.proofs.Common.{◌≡◌, ◌≢◌, ℕ, Bool, true, false, List, [], ◌∷◌, get_or, Some, Ok, refl, ap, arith, ◌∙◌}
-use Rattle.std.specs.Prelude.{if◌then◌else◌, ◌==◌, ◌&&◌, ◌||◌, codes}
+use Rattle.std.specs.Prelude.{if◌then◌else◌, ◌==◌, ◌&&◌, codes}
 use Rattle.std.specs.Str.{bytes_eq}
-use Rattle.std.proofs.lemmas.Bool.{cond-true, cond-false}
+use Rattle.std.proofs.lemmas.Bool.{cond-true, cond-false, or_parts}
 use Rattle.std.proofs.lemmas.Bool.Decides.{nat_tests}
 use Rattle.ion_text.specs.Names.{Held, Kind, behind_front, held_payload, held_word, is_keyword, is_marker, is_version, the_marker, version_parts}
 use Rattle.ion_model.specs.declared.value.Payload.TheVariants as payloads
@@ -41,11 +41,8 @@ module _ (w : List ℕ) where
 
       go : (n t f a : Bool) → is_marker (if n then Held.Null Kind.Null else (if t then Held.Truth true else (if f then Held.Truth false
           else (if a then Held.Nan else (if is_version w then Held.Version (bytes_eq w the_marker) (Some w) else Held.Symbol (Some w)))))) ≡ false
-      go true t f a = refl
-      go false true f a = refl
-      go false false true a = refl
-      go false false false true = refl
       go false false false false = last
+      go _ _ _ _ = refl
 
   -- nor is one that begins with no `$`
   pub word_unmarked : get_or w 0 0 ≢ 36 → is_marker (held_word w) ≡ false
@@ -61,11 +58,7 @@ module _ (w : List ℕ) where
   -- a word that is no keyword is the symbol of its text
   pub word_free : is_keyword w ≡ false → held_payload (held_word w) ≡ Ok (payloads.Symbol (Some w))
   word_free h =
-      let a = neither _ _ h in
-      let b = neither _ _ a.0 in
-      let c = neither _ _ a.1 in
+      let a = or_parts _ _ h in
+      let b = or_parts _ _ a.0 in
+      let c = or_parts _ _ a.1 in
       word_symbol b.0 b.1 c.0 c.1
-    where
-      neither : (b c : Bool) → (b || c) ≡ false → (b ≡ false) × (c ≡ false)
-      neither false c e = (refl, e)
-      neither true c e = cc

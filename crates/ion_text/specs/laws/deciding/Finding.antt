@@ -2,19 +2,19 @@
 use Rattle.std.proofs.Common.{◌≡◌, ℕ, ◌+◌, ◌-◌, ◌==◌, Bool, true, false, ◌&&◌, List, [], ◌∷◌, ◌++◌, length, drop, Option, Some, None, refl, sym, ap, ◌∙◌, subst, arith, length-append, codes}
 use Rattle.std.proofs.lemmas.Bool.{cond_both}
 use Rattle.std.specs.Str.{bytes_eq}
-use Rattle.ion_text.specs.Names.{Action, Catalog, Given, Known, Left, LexesTo, Limits, Mark, Mode, Next, Outcome, Place, Placed, TokenKind, acts, blob_ends, blob_of, feed, follow, initial, scan as run}
+use Rattle.ion_text.specs.Names.{Action, Catalog, Given, Known, Left, LexesTo, Limits, Mark, Mode, Next, Outcome, Place, Placed, TokenKind, acts, blob_ends, blob_of, feed, initial, scan as run}
 use Rattle.ion_tokens.specs.machine.Table.{next}
 use Rattle.ion_tokens.specs.laws.ByRows.{by_rows_where}
 use Rattle.ion_tokens.proofs.complete.Found.{FindsUpTo, Gives, Last, Leaves, Nothing, Unclosed, in_word}
 use Rattle.ion_tokens.proofs.complete.Moves.{at}
 use Rattle.ion_tokens.proofs.complete.Wholes.{FindsFrom, find_token}
 use Rattle.ion_tokens.proofs.histories.Histories.{behind_front}
-use Rattle.ion_tokens.proofs.runs.Runs.{feed_used, next_used}
-use Rattle.ion_tokens.proofs.runs.Splits.{given_one, given_split, left_one, left_split}
+use Rattle.ion_tokens.proofs.runs.Runs.{next_used}
+use Rattle.ion_tokens.proofs.runs.Splits.{given_split, left_split}
 use Rattle.ion_text.specs.laws.deciding.Fronts.{Any, HasEnded, found_open, last_behind, last_of}
 use Rattle.ion_text.specs.laws.deciding.Reaching.{Sees, sees_given, sees_left, sees_on}
 use Rattle.ion_text.specs.laws.deciding.Shows.{IsBare}
-use Rattle.ion_text.specs.laws.reading.complete.Found.{no_more}
+use Rattle.ion_text.specs.laws.reading.complete.Found.{given_so, left_so}
 
 -- 1. A token that ends with an octet.
 
@@ -89,35 +89,12 @@ module _ (ByOctet ByEnd : Type 0) (Rest : Known → List ℕ → Type 0) where
   -- up to the octet with which it ends
   pub given_sees : (os rest : List ℕ) (s s' : Known) (t : Placed) (ts : List Placed) → run t.place os s ≡ Given t.lexeme s' → s'.used ≡ s.used + length os
       → ((k : Known) (o : ℕ) → feed t.place k o ≡ Given t.lexeme s' → S k (o ∷ rest) (t ∷ ts)) → S s (os ++ rest) (t ∷ ts)
-  given_sees [] rest s s' t ts e n q = absurd cc
-  given_sees (o ∷ os) rest s s' t ts e n q = go (feed t.place s o) refl e (λ k i m. given_sees os rest k s' t ts i m q)
-    where
-      go : (x : Outcome) → feed t.place s o ≡ x → follow x (λ k. run t.place os k) ≡ Given t.lexeme s'
-          → ((k : Known) → run t.place os k ≡ Given t.lexeme s' → s'.used ≡ k.used + length os → S k (os ++ rest) (t ∷ ts))
-          → S s (o ∷ os ++ rest) (t ∷ ts)
-      go (Next k) f h more = sees_on s o (os ++ rest) t ts k f (more k h (let u = feed_used t.place s k o f in omega (arith, u, n)))
-      go (Given x k) f h more =
-          let u = given_one t.place o s s' t.lexeme (f ∙ h) in
-          let none : os ≡ [] = no_more os (omega (arith, u, n)) in
-          subst (λ y. S s (o ∷ y ++ rest) (t ∷ ts)) (sym none) (q s o (f ∙ h))
-      go _ f h more = absurd cc
+  given_sees os rest s s' t ts e n q = given_so t (λ k us. S k us (t ∷ ts)) (λ k o us k' f. sees_on k o us t ts k' f) os rest s s' e n q
 
   -- up to the octet before which it ended
   pub left_sees : (os : List ℕ) (x : ℕ) (rest : List ℕ) (s s' : Known) (t : Placed) (ts : List Placed) → run t.place (os ++ x ∷ []) s ≡ Left t.lexeme s'
       → s'.used ≡ s.used + length os → ((k : Known) → feed t.place k x ≡ Left t.lexeme s' → S k (x ∷ rest) (t ∷ ts)) → S s (os ++ x ∷ rest) (t ∷ ts)
-  left_sees [] x rest s s' t ts e n q = go (feed t.place s x) refl e
-    where
-      go : (y : Outcome) → feed t.place s x ≡ y → follow y (λ k. Next k) ≡ Left t.lexeme s' → S s (x ∷ rest) (t ∷ ts)
-      go (Left l k) f h = q s (f ∙ h)
-      go _ f h = absurd cc
-  left_sees (o ∷ os) x rest s s' t ts e n q = go (feed t.place s o) refl e (λ k i m. left_sees os x rest k s' t ts i m q)
-    where
-      go : (y : Outcome) → feed t.place s o ≡ y → follow y (λ k. run t.place (os ++ x ∷ []) k) ≡ Left t.lexeme s'
-          → ((k : Known) → run t.place (os ++ x ∷ []) k ≡ Left t.lexeme s' → s'.used ≡ k.used + length os → S k (os ++ x ∷ rest) (t ∷ ts))
-          → S s (o ∷ os ++ x ∷ rest) (t ∷ ts)
-      go (Next k) f h more = sees_on s o (os ++ x ∷ rest) t ts k f (more k h (let u = feed_used t.place s k o f in omega (arith, u, n)))
-      go (Left l k) f h more = let u = left_one t.place o s s' t.lexeme (f ∙ h) in absurd (omega (arith, u, n))
-      go _ f h more = absurd cc
+  left_sees os x rest s s' t ts e n q = left_so t (λ k us. S k us (t ∷ ts)) (λ k o us k' f. sees_on k o us t ts k' f) os x rest s s' e n q
 
 -- 4. The tokens of a row.
 

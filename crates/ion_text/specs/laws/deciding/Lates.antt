@@ -1,7 +1,8 @@
 -- An octet for which a reason is late is read on, and refused there for no reason that rows have.
-use Rattle.std.proofs.Common.{◌≡◌, ℕ, zero, suc, ◌+◌, ◌≤◌, nat_le, nat_lt, List, [], ◌∷◌, ◌++◌, true, false, ◌&&◌, Ok, Option, Some, refl, sym, ◌∙◌, subst, if◌then◌else◌, inl, inr}
+use Rattle.std.proofs.Common.{◌≡◌, ℕ, zero, suc, ◌+◌, nat_le, nat_lt, List, [], ◌∷◌, ◌++◌, true, false, Ok, Option, Some, refl, sym, ◌∙◌, subst, if◌then◌else◌, inl, inr}
 use Rattle.std.proofs.lemmas.Bool.{cond_both, lt-ltb}
-use Rattle.ion_text.specs.Names.{Bracket, Catalog, Content, Effect, Frame, Given, HasRow, Held, Id, IsKeyword, IsUsed, Known, Left, Lexeme, Limits, Listing, Long, Mark, Mark', Next, Now, Outcome, Payload, Place, Quoted, Reading, Refused, Setting, Short, Slot, Spot, State, Symbols, Token, TokenKind, Turn, TypedNull, Value, Word, annotated, at, behind_given, behind_left, beyond_depth, ended, fails, feed, field_of, first_now, fresh, goes, is_idle, keyed, late, named, noticed, on_keyed, on_name, on_ready, on_said, on_scan, on_settled, opened, opening, place, said, said_body, settle, spot_at, takes, token_of, turn, under, unsettled, with_scan}
+use Rattle.ion_text.specs.Names.{Bracket, Catalog, Content, Effect, Frame, Given, HasRow, Held, Id, IsUsed, Known, Left, Lexeme, Limits, Listing, Long, Mark, Mark', Next, Now, Outcome, Payload, Place, Quoted, Reading, Refused, Setting, Short, Slot, Spot, State, Symbols, Token, TokenKind, Turn, TypedNull, Value, Word, annotated, at, behind_given, behind_left, beyond_depth, ended, fails, feed, field_of, first_now, fresh, goes, is_idle, keyed, late, named, noticed, on_keyed, on_name, on_ready, on_said, on_scan, on_settled, opened, opening, place, said, said_body, settle, spot_at, takes, token_of, turn, under, unsettled, with_scan}
+use Rattle.ion_text.specs.laws.deciding.OneOctet.{keyword_bare}
 use Rattle.ion_text.specs.machine.Ways.{TokenWay, ValueWay, now_way, token_deep, token_list, token_sexp, token_struct, token_unnamed, token_unnoted, token_value, value_refused}
 use Rattle.ion_model.specs.declared.value.Payload.TheVariants as payloads
 use Rattle.ion_text.specs.laws.deciding.Shows.{BareSaid}
@@ -45,11 +46,6 @@ TurnLate P _ = Unit {0}
 pub value_late : (P : Reading → Type 0) (setting : Setting) (spot : Spot) (v : Value) (fs : List Frame) (t : Turn) → ValueWay setting spot v fs t → TurnLate P t
 value_late P setting spot v _ _ (value_refused fs e d) = tt
 value_late P setting spot v _ _ _ = tt
-
-keyword_bare : (x : Content) → IsKeyword x → BareSaid x
-keyword_bare (Word w) h = tt
-keyword_bare (TypedNull k) h = tt
-keyword_bare _ h = absurd h
 
 module _ (g : Catalog) (l : Limits) where
   some_level : nat_lt 0 l.depth ≡ true

@@ -216,10 +216,6 @@ module _ (g : Catalog) (l : Limits) where
 
   -- 2. Whole octets.
 
-  reason_in : Reason → Result State Refusal → Reason
-  reason_in d (Err r) = r.reason
-  reason_in d (Ok m) = d
-
   module _ (u : List ℕ) (o : ℕ) (to : ℕ) (r : Refusal) where
     named_so : (y : Reason) → y ≡ r.reason → Decided g l (by_octet (u ++ o ∷ [])) y → HasRow r.reason → Decides g l (u ++ o ∷ []) r.reason
     named_so y e h i = subst (Decides g l (u ++ o ∷ [])) e (h (subst HasRow (sym e) i))
@@ -229,18 +225,18 @@ module _ (g : Catalog) (l : Limits) where
 
     last_rows : (vs : List Value) (n : State) → Stood g l u vs n → Waits g l n.scan n.reading.now
         → (run_on to (λ n. eats g l n o) (λ n. run g l (to + 1) n []) (eats g l n o)).now ≡ Err r → HasRow r.reason → Decides g l (u ++ o ∷ []) r.reason
-    unfolding reason_in open_at
+    unfolding open_at
     last_rows vs n b wait = by (eats g l n o) (takes_rows u o vs 3 n.scan n.reading [] (o ∷ [], refl) (open_at g l u vs o n.scan n.reading b) (λ top. wait))
         (eats_after g l u vs n o b)
       where
         again : (x : Effect) → Rows u o x → (once_more to (λ n. run g l (to + 1) n []) x).now ≡ Err r → HasRow r.reason → Decides g l (u ++ o ∷ []) r.reason
-        again (leaves v m) h e i = unexpected (ap (reason_in Reason.Unexpected) e) i
-        again (fails y) h e i = named_so y (ap (reason_in y) e) h i
+        again (leaves v m) h e i = unexpected (cc) i
+        again (fails y) h e i = named_so y (cc) h i
         again _ h e i = absurd cc
 
         by : (x : Effect) → Rows u o x → After g l u vs o x → (run_on to (λ n. eats g l n o) (λ n. run g l (to + 1) n []) x).now ≡ Err r → HasRow r.reason
             → Decides g l (u ++ o ∷ []) r.reason
-        by (fails y) h a e i = named_so y (ap (reason_in y) e) h i
+        by (fails y) h a e i = named_so y (cc) h i
         by (leaves v m) h a e i = again (eats g l m o) (takes_rows u o (vs ++ v ∷ []) 3 m.scan m.reading a.0 a.1 a.2 (λ top. h)) e i
         by _ h a e i = absurd cc
 

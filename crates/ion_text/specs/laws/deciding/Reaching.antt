@@ -1,6 +1,6 @@
 -- Octets that are tokens up to one that is refused, or up to where something waits, lead the reader of octets there, unless an item becomes
 -- too long.
-use Rattle.std.proofs.Common.{◌≡◌, ℕ, ◌+◌, ◌<◌, ◌≤◌, nat_le, nat_lt, List, [], ◌∷◌, length, Bool, true, false, ◌&&◌, ◌||◌, not, Result, Ok, Err, Some, refl, ap, sym, ◌∙◌, subst, arith, ◌⊎◌, inl, inr}
+use Rattle.std.proofs.Common.{◌≡◌, ℕ, ◌+◌, ◌<◌, ◌≤◌, nat_le, nat_lt, List, [], ◌∷◌, length, Bool, true, false, ◌&&◌, not, Result, Ok, Err, Some, refl, ap, sym, ◌∙◌, subst, arith, ◌⊎◌, inl, inr}
 use Rattle.std.proofs.lemmas.Bool.{cond-false, cond_both, ltb-true}
 use Rattle.ion_text.specs.Names.{Catalog, Effect, Given, HasRow, IsBody, Known, Leading, Left, Limits, Mode, Next, Outcome, Placed, Reading, Reason, Refusal, Run, State, Turn, at_end, behind_given, behind_left, continues, eats, fails, feed, gives, goes, is_closing, is_idle, is_sane, is_top, is_two_quotes, late, leaves, lesser, noticed, on_said, on_scan, once_more, or_worse, place, reaches, reason_number, refuses, run, run_on, said_body, settle, settle_same, settle_still, shut, takes, tells, token_of, turn, uses, waits, with_scan}
 use Rattle.ion_tokens.proofs.runs.Runs.{feed_used}

@@ -1,6 +1,6 @@
 -- What octets show of a token that ends with the last of them, or before it.
 use Rattle.std.proofs.Common.{◌≡◌, ℕ, zero, suc, ◌+◌, List, [], ◌∷◌, ◌++◌, length, take, Bool, true, false, ◌||◌, Ok, refl, sym, ap, ◌∙◌, subst, append-nil, length-append, arith, ◌⊎◌, inl, inr, codes}
-use Rattle.ion_text.specs.Names.{Are, AwaitsColons, BeginsWith, BlankThen, Content, Continues, Given, Id, IsBody, IsLexeme, Known, Left, Lexeme, LexesTo, Mark, Mark', Mode, Next, NoColons, Operator, Place, Placed, Scanned, Sight, TokenKind, TypedNull, Word, by_octet, colon_behind, end_of, feed, is_closing, is_idle, is_keyword, is_sane, is_version, scan as run, symbol_waits}
+use Rattle.ion_text.specs.Names.{Are, AwaitsColons, BeginsWith, BlankThen, Content, Continues, Given, Id, IsBody, IsLexeme, Known, Left, Lexeme, LexesTo, Mark, Mark', Mode, Next, NoColons, Place, Placed, Scanned, Sight, TokenKind, TypedNull, Word, by_octet, colon_behind, end_of, feed, is_closing, is_idle, is_keyword, is_sane, is_version, scan as run, symbol_waits}
 use Rattle.ion_tokens.specs.Lexed.{Passes}
 use Rattle.ion_tokens.proofs.complete.Moves.{at}
 use Rattle.ion_tokens.proofs.runs.Scans.{placed}
@@ -15,18 +15,7 @@ use Rattle.ion_text.specs.laws.showing.refused.Ahead.{octet_colons}
 use Rattle.ion_text.specs.laws.showing.refused.Halts.{symbol_colons}
 use Rattle.ion_text.specs.laws.showing.tokens.Closing.{colons_close}
 use Rattle.ion_text.specs.laws.showing.tokens.Cuts.{Is, OpenBehind, behind_tokens, one_found}
-
--- one token more
-lexes_more : (ts : List Placed) (colon : Bool) (before : ℕ) (octets : List ℕ) (after : Bool) (end : ℕ) (rest : List ℕ) (t : Placed) (r : List ℕ)
-    → LexesTo colon before octets ts after end rest → BeginsWith after end rest t r
-    → LexesTo colon before octets (ts ++ t ∷ []) (colon_behind t) t.lexeme.end r
-lexes_more [] colon before octets after end rest t r (c, b, o) h = (
-  r,
-  subst (λ x. BeginsWith x before octets t r) (sym c)
-      (subst (λ (x : ℕ). BeginsWith after x octets t r) (sym b) (subst (λ x. BeginsWith after end x t r) (sym o) h)),
-  (refl, refl, refl),
-)
-lexes_more (x ∷ ts) colon before octets after end rest t r (q, b, l) h = (q, b, lexes_more ts (colon_behind x) x.lexeme.end q after end rest t r l h)
+use Rattle.ion_tokens.proofs.sound.SoundHistories.{lexes_more}
 
 -- whether a colon may stand behind the last of them
 pub last_flag : (ts : List Placed) (t : Placed) (colon : Bool) (before : ℕ) (octets : List ℕ) (after : Bool) (end : ℕ) (rest : List ℕ)

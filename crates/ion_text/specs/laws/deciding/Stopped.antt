@@ -2,7 +2,7 @@
 -- became too long before.
 use Rattle.std.proofs.Common.{◌≡◌, ℕ, ◌+◌, ◌<◌, ◌≤◌, nat_le, Bool, true, false, ◌||◌, List, [], ◌∷◌, ◌++◌, length, Result, Err, IfErr, refl, sym, ap, ◌∙◌, subst, append_assoc, append-nil, length-append, arith, if◌then◌else◌, ◌⊎◌, inl, inr, codes}
 use Rattle.std.proofs.lemmas.Bool.{cond_both, false_from_ne_true}
-use Rattle.ion_text.specs.Names.{Are, BlankThen, Catalog, Decides, Effect, Given, HasRow, IsIdReason, IsTableReason, Known, Left, LexesTo, Limits, Mark, Mode, Next, NoColons, Outcome, Place, Placed, Reading, Reason, Refusal, Refused, Sight, State, TokenKind, Turn, annotated, bad_table, begun, eats, fails, feed, follow, followed, initial, is_idle, is_sane, late, no_symbol, noticed, null_table, on_scan, on_settled, reaches, reads, reason_number, refuses, run, run_on, scan, settle, symbol_waits, takes, uses, with_scan}
+use Rattle.ion_text.specs.Names.{Are, BlankThen, Catalog, Decides, Effect, Given, HasRow, IsIdReason, IsTableReason, Known, Left, LexesTo, Limits, Mark, Mode, Next, NoColons, Outcome, Place, Placed, Reading, Reason, Refusal, Refused, Sight, State, TokenKind, Turn, annotated, bad_table, begun, eats, fails, feed, follow, initial, is_idle, is_sane, late, no_symbol, noticed, null_table, on_scan, on_settled, reaches, reads, reason_number, refuses, run, run_on, scan, settle, symbol_waits, takes, uses, with_scan}
 use Rattle.ion_model.specs.declared.value.Payload.TheVariants as payloads
 use Rattle.ion_tokens.proofs.complete.Moves.{at}
 use Rattle.ion_tokens.proofs.complete.Wholes.{run_behind}
@@ -19,7 +19,7 @@ use Rattle.ion_text.specs.laws.deciding.Reaching.{Sees, last_given, last_left, r
 use Rattle.ion_text.specs.laws.deciding.Shows.{IsBare, last_flag}
 use Rattle.ion_text.specs.laws.deciding.Tokens.{Refusing, Stops}
 use Rattle.ion_text.specs.laws.deciding.Waiting.{Pends, pend}
-use Rattle.ion_text.specs.laws.reading.complete.Found.{lexes_operators, next_is, no_more}
+use Rattle.ion_text.specs.laws.reading.complete.Found.{lexes_operators, no_more, run_sane}
 use Rattle.ion_text.specs.laws.reading.complete.Meets.{follows_as}
 use Rattle.ion_text.specs.laws.showing.refused.Ahead.{last_parted, octet_colons}
 use Rattle.ion_text.specs.laws.showing.refused.Halts.{symbol_colons}
@@ -118,10 +118,6 @@ data Unfollowed : Known → List ℕ → Type 0 where
 unfollowed_some : (s : Known) (os : List ℕ) → Unfollowed s os → 0 < length os
 unfollowed_some _ _ (shows s o w) = omega arith
 unfollowed_some _ _ (may s o os s' f i m) = omega arith
-
-run_sane : (p : Place) (xs : List ℕ) (s t : Known) → is_sane s.mode ≡ true → scan p xs s ≡ Next t → is_sane t.mode ≡ true
-run_sane p [] s t h e = subst (λ (x : Known). is_sane x.mode ≡ true) (next_is s t e) h
-run_sane p (x ∷ xs) s t h e = let f = followed (feed p s x) (λ k. scan p xs k) t e in run_sane p xs f.0 t (follows_as p s x (Next f.0) h f.1).0 f.2
 
 -- the scanner has come to this over octets behind a token at the top level that may be a symbol, and that ended there
 pub record Stands (k : ℕ) (s : Known) (since : List ℕ) : Type 0 where

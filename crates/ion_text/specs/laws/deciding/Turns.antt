@@ -1,6 +1,6 @@
 -- What a token is refused for, and what waits, is a row of the table.
 use Rattle.std.proofs.Common.{◌≡◌, ℕ, ◌+◌, ◌≤◌, nat_le, nat_lt, List, [], ◌∷◌, ◌++◌, length, Bool, true, false, ◌&&◌, ◌||◌, Result, Ok, Err, Option, Some, refl, sym, ap, ◌∙◌, subst, append_assoc, arith, codes, if◌then◌else◌, inl, inr}
-use Rattle.std.proofs.lemmas.Bool.{cond_both, ltb-false}
+use Rattle.std.proofs.lemmas.Bool.{and_right, cond_both, ltb-false}
 use Rattle.std.specs.Str.{bytes_eq}
 use Rattle.std.proofs.lemmas.Slice.Eq.{bytes_eq-Decides}
 use Rattle.ion_text.specs.Names.{Blob, Bracket, Catalog, Clob, Content, Field, Frame, HasRow, Held, Id, InStruct, IsKeyword, Kind, Limits, Listing, Long, Mark, Mark', Means, Now, Number, Number', Operator, Payload, Pieces, Place, Placed, Quoted, Reason, Says, Short, Sight, Slot, Symbols, Turn, TypedNull, Value, Word, annotated, at, bad_table, begins_as_long, begun_at, bracket_in, close_place, closed, deeper, ended, ends_long, fresh, gives, goes, held_symbol, held_word, is_fields, is_keyword, is_table, is_version, keyed, keyword_as_annotation, keyword_as_name, late, layer_kind, means, named, names_table, next, no_symbol, noted, null_table, number_payload, on_after, on_comma, on_keyed, on_long, on_long_name, on_name, on_pending, on_ready, one_token, other_version, pending_at, place_in, refuses, released, resolve, resolved, settle, spot_at, struct_too_deep, system_slots, the_marker, token_at, too_deep, turn_now, turned, under, within}
@@ -21,11 +21,7 @@ use Rattle.ion_text.specs.laws.reading.sound.StandsOpen.{IsHeld, NowStands, Open
 -- what isn't of the kind of structs is no local symbol table
 pub no_table : (ss : Symbols) (q : Payload) → is_fields (layer_kind (views.out-Payload q)) ≡ false → is_table (annotated ss q) ≡ false
 no_table [] q h = refl
-no_table (s ∷ ss) q h = go (names_table s) (is_fields (layer_kind (views.out-Payload q))) h
-  where
-    go : (a b : Bool) → b ≡ false → (a && b) ≡ false
-    go true b h = h
-    go false b h = refl
+no_table (s ∷ ss) q h = and_right (names_table s) (is_fields (layer_kind (views.out-Payload q))) h
 
 pub flat_number : (n : Number) → is_fields (layer_kind (views.out-Payload (number_payload n))) ≡ false
 flat_number (Number.Int z) = ap (λ y. is_fields (layer_kind y)) (views.outs-Int z)

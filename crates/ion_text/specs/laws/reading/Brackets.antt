@@ -1,6 +1,6 @@
 -- What the marks of containers do.
-use Rattle.std.proofs.Common.{◌≡◌, ℕ, List, [], ◌∷◌, Result, Ok, Err, Option, refl}
-use Rattle.ion_text.specs.Names.{Bracket, Field, Frame, Listing, Mark, Mark', Reason, Setting, Spot, Symbols, Turn, Value, bare_close, closed, on_ready, open_mark, opening, refuses, resolved, unexpected}
+use Rattle.std.proofs.Common.{◌≡◌, List, ◌∷◌, refl}
+use Rattle.ion_text.specs.Names.{Bracket, Field, Frame, Listing, Mark, Mark', Setting, Spot, Symbols, Value, closed, on_ready, open_mark, opening, unexpected}
 
 -- where a value may come, the mark of an open opens
 pub open_turns : (bracket : Bracket) (setting : Setting) (spot : Spot) (fs : List Frame) (ss : Symbols)
@@ -26,14 +26,3 @@ closes_or_not Bracket.List (Frame.Items Listing.List ss vs ∷ fs) = ends_list s
 closes_or_not Bracket.Sexp (Frame.Items Listing.Sexp ss vs ∷ fs) = ends_sexp ss vs fs
 closes_or_not Bracket.Fields (Frame.Fields ss ms ∷ fs) = ends_struct ss ms fs
 closes_or_not _ _ = ends_none _ _ (λ setting spot. refl)
-
--- what holds of a close and of a refusal holds of a close that no annotation may stand before
-pub bare_each : (P : Turn → Type 0) (ss : Symbols) (t : Turn) → P t → P unexpected → P (bare_close ss t)
-bare_each P [] t h k = h
-bare_each P (s ∷ ss) t h k = k
-
--- what holds of each text of an id and of each refusal holds of the id
-pub resolved_each : (P : Turn → Type 0) (r : Result (Option (List ℕ)) Reason) (f : Option (List ℕ) → Turn) → ((s : Option (List ℕ)) → P (f s))
-    → ((e : Reason) → P (refuses e)) → P (resolved r f)
-resolved_each P (Ok s) f h k = h s
-resolved_each P (Err e) f h k = k e

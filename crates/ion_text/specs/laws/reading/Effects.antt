@@ -1,5 +1,5 @@
 -- What holds of each effect that an octet may have holds of its effect.
-use Rattle.std.proofs.Common.{◌≡◌, ℕ, zero, suc, ◌+◌, [], ◌∷◌, ◌++◌, Bool, true, false, Result, Ok, Err, if◌then◌else◌, refl}
+use Rattle.std.proofs.Common.{◌≡◌, ℕ, zero, suc, Bool, true, false, Result, Ok, Err, if◌then◌else◌, refl}
 use Rattle.std.proofs.lemmas.Bool.{cond_both}
 use Rattle.std.specs.Prelude.{◌&&◌, not, nat_le}
 use Rattle.ion_text.specs.Names.{Catalog, Content, Effect, Given, Known, Left, Limits, Next, Outcome, Reading, Reason, Refused, State, Turn, behind_given, behind_left, fails, feed, gives, goes, is_idle, late, leaves, lesser, noticed, on_said, on_scan, on_settled, or_worse, place, reaches, refuses, said, settle, shut, takes, tells, token_of, turn, unsettled, uses, with_scan}

@@ -1,5 +1,5 @@
 -- The promises of the reader of text, over the grammar.
-use Rattle.std.proofs.Common.{◌≡◌, ◌↔◌, ℕ, List, ◌++◌, Result, Ok, Err, Option, ap, sym, ◌∙◌, option_to_list, ◌⊎◌, inl, inr, subst, Some}
+use Rattle.std.proofs.Common.{◌≡◌, ◌↔◌, ℕ, List, ◌++◌, ap, sym, ◌∙◌, option_to_list, ◌⊎◌, inl, inr, subst, Some}
 use Rattle.std.specs.Prelude.{◌≢◌}
 use Rattle.ion_text.specs.Names.{Catalog, Document, HasReasons, IsReadersReason, Limits, Reason, Refusal, Streams, Trace, Value, plain, trace}
 use Rattle.ion_symtab.specs.Decided.{IsDecided}
@@ -11,13 +11,10 @@ use Rattle.ion_text.specs.laws.reading.sound.Admits.{admits}
 pub exact : (g : Catalog) (l : Limits) (u : List ℕ) (s : List Value) → Streams (trace g l u) s ↔ Document g l u s
 exact g l u s = (admits g l u s, accepts g l u s)
 
-last_in : Option Value → Result (Option Value) Refusal → Option Value
-last_in d (Ok last) = last
-last_in d (Err e) = d
-
 one_last : (t : Trace) (r s : List Value) → Streams t r → Streams t s → r ≡ s
-unfolding last_in
-one_last t r s a b = a.values ∙ (ap (λ x. plain t.given ++ option_to_list x) (ap (last_in a.last) (sym a.ends ∙ b.ends)) ∙ sym b.values)
+one_last t r s a b =
+    let same : a.last ≡ b.last = cc in
+    a.values ∙ (ap (λ x. plain t.given ++ option_to_list x) same ∙ sym b.values)
 
 -- A document has one stream.
 pub one_stream : (g : Catalog) (l : Limits) (u : List ℕ) (s t : List Value) → Document g l u s → Document g l u t → s ≡ t

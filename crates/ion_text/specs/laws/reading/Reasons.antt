@@ -3,7 +3,7 @@ use Rattle.std.proofs.Common.{◌≡◌, ℕ, zero, suc, ◌+◌, nat_lt, List, 
 use Rattle.std.specs.Prelude.{◌==◌}
 use Rattle.ion_text.specs.laws.reading.Effects.{noticed_each, said_each}
 use Rattle.std.proofs.lemmas.Bool.{cond_both}
-use Rattle.ion_text.specs.Names.{HasRow, Blob, Catalog, Clob, Content, Effect, End, Frame, Given, IsBody, IsWordBody, Keep, Kind, Known, Left, Lexeme, Limits, Long, Mark, Mode, Next, Now, Operator, Outcome, Place, Reading, ReadsNumber, Reason, Refusal, Refused, Run, Spot, State, Token, TokenKind, Turn, Value, Word, at_end, begun, behind_given, behind_left, cut_short, eats, end_late, end_now, end_of, end_ready, end_said, end_settled, end_turned, end_waiting, ends_at, ends_of, fails, feed, follow, gives, goes, id_of, is_fresh, is_sexp, kind_named, late, leaves, lesser, noticed, null_of, on_scan, on_settled, once_more, or_worse, place, reason_number, refused_of, refuses, run, run_on, said, says, settle, takes, tells, token_of, trace, turn, under, unsettled, uses, with_scan}
+use Rattle.ion_text.specs.Names.{HasRow, Catalog, Content, Effect, End, Frame, Given, IsBody, IsWordBody, Keep, Kind, Known, Left, Lexeme, Limits, Mode, Next, Now, Outcome, Place, Reading, ReadsNumber, Reason, Refusal, Refused, Run, Spot, State, Token, TokenKind, Turn, Value, at_end, begun, behind_given, behind_left, cut_short, eats, end_late, end_now, end_of, end_ready, end_said, end_settled, end_turned, end_waiting, ends_at, ends_of, fails, feed, follow, gives, goes, id_of, is_fresh, is_sexp, kind_named, late, leaves, lesser, noticed, null_of, on_scan, on_settled, once_more, or_worse, place, reason_number, refused_of, refuses, run, run_on, said, says, settle, takes, tells, token_of, trace, turn, under, unsettled, uses, with_scan}
 use Rattle.ion_tokens.proofs.bounds.Causes.{IsFair, run_fair}
 use Rattle.ion_tokens.proofs.bounds.Fits.{is_octet_reason}
 use Rattle.ion_symtab.specs.Decided.{IsDecided}

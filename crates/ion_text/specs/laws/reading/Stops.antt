@@ -1,7 +1,7 @@
 -- Where a run is refused, and what the refusal says.
 use Rattle.std.proofs.Common.{◌≡◌, ℕ, ◌+◌, ◌≤◌, List, [], ◌∷◌, ◌++◌, length, take, Bool, true, false, Result, Ok, Err, Option, Some, None, refl, ap, sym, ◌∙◌, subst, arith, append_assoc, append-nil, length-append, if◌then◌else◌}
 use Rattle.std.proofs.Math.Seq.{take-append-add}
-use Rattle.ion_text.specs.Names.{BeginsNone, Catalog, Content, Document, Effect, GivesNoTable, IsFirst, Lexeme, Limits, NoTables, Now, Reading, Reason, Refusal, Run, State, Turn, Value, at_end, begun, cut_short, eats, end_late, end_now, end_ready, end_said, end_settled, end_turned, end_waiting, ends_of, fails, gives, goes, grows, is_fresh, is_table, late, leaves, on_now, once_more, place, plain, refused_of, refuses, run, run-append, run_on, said, settle, token_of, trace, turn}
+use Rattle.ion_text.specs.Names.{BeginsNone, Catalog, Content, Document, Effect, GivesNoTable, IsFirst, Lexeme, Limits, NoTables, Now, Reading, Reason, Refusal, Run, State, Turn, Value, at_end, begun, cut_short, eats, end_late, end_now, end_ready, end_said, end_settled, end_turned, end_waiting, ends_of, fails, goes, grows, is_fresh, is_table, late, leaves, on_now, once_more, place, plain, refused_of, run, run-append, run_on, said, settle, token_of, trace, turn}
 use Rattle.ion_tokens.proofs.histories.Ended.{stands_used}
 use Rattle.ion_tokens.proofs.runs.Runs.{next_used}
 use Rattle.ion_symtab.specs.laws.Promises.{first_refused}
@@ -9,10 +9,6 @@ use Rattle.ion_text.specs.laws.reading.ValuesKept.{pieces_values}
 use Rattle.ion_text.specs.laws.reading.complete.Accepts.{accepts}
 use Rattle.ion_text.specs.laws.reading.sound.Admits.{stood_accepted}
 use Rattle.ion_text.specs.laws.reading.sound.Steps.{Stood, StoodBehind, begun_stood, run_ran}
-
-end_offset : Result (Option Value) Refusal → ℕ → ℕ
-end_offset (Err r) d = r.offset
-end_offset (Ok v) d = d
 
 module _ (g : Catalog) (l : Limits) where
   -- a state that stands for octets has used just these
@@ -67,20 +63,14 @@ module _ (g : Catalog) (l : Limits) where
   pub stop_of : (u : List ℕ) (r : Refusal) → (run g l 0 begun u).now ≡ Err r → Stop u r
   stop_of u r e = stop_from u [] begun r refl e
 
-  offset_in : Result State Refusal → ℕ → ℕ
-  offset_in (Err r) d = r.offset
-  offset_in (Ok m) d = d
-
   -- one octet is refused where it ends
   one_offset : (to o : ℕ) (r : Refusal) (x : Effect) → (run_on to (λ n. eats g l n o) (λ n. run g l (to + 1) n []) x).now ≡ Err r → r.offset ≡ to + 1
-  unfolding offset_in
-  one_offset to o r (fails y) e = sym (ap (λ z. offset_in z 0) e)
+  one_offset to o r (fails y) e = cc
   one_offset to o r (leaves v n) e = by (eats g l n o) e
     where
       by : (x : Effect) → (once_more to (λ n. run g l (to + 1) n []) x).now ≡ Err r → r.offset ≡ to + 1
-      by (leaves w k) e = sym (ap (λ z. offset_in z 0) e)
-      by (fails y) e = sym (ap (λ z. offset_in z 0) e)
-      by _ e = absurd cc
+      by (leaves w k) e = cc
+      by _ e = cc
   one_offset to o r _ e = absurd cc
 
   pub stop_offset : (u : List ℕ) (r : Refusal) (p : Stop u r) → r.offset ≡ length p.before + 1
@@ -134,52 +124,42 @@ module _ (g : Catalog) (l : Limits) where
 
   -- what the end refuses is at the octets used
   late_offset : (used : ℕ) (e : Reason) (r : Refusal) → end_late used e ≡ Err r → r.offset ≡ used
-  unfolding end_offset
-  late_offset used Reason.Depth r h = sym (ap (λ z. end_offset z 0) h)
-  late_offset used _ r h = sym (ap (λ z. end_offset z 0) h)
+  late_offset used Reason.Depth r h = cc
+  late_offset used _ r h = cc
 
   fresh_offset : (used : ℕ) (b : Bool) (r : Refusal) → (if b then Ok None else cut_short used) ≡ Err r → r.offset ≡ used
-  unfolding end_offset
   fresh_offset used true r h = absurd cc
-  fresh_offset used false r h = sym (ap (λ z. end_offset z 0) h)
+  fresh_offset used false r h = cc
 
   settled_offset : (used : ℕ) (t : Turn) (r : Refusal) → end_settled used t ≡ Err r → r.offset ≡ used
-  unfolding end_offset
   settled_offset used (goes n) r h = fresh_offset used (is_fresh n) r h
-  settled_offset used (gives v n) r h = absurd cc
-  settled_offset used (refuses e) r h = sym (ap (λ z. end_offset z 0) h)
   settled_offset used (late e n) r h = late_offset used e r h
+  settled_offset used _ r h = cc
 
   turned_offset : (used : ℕ) (t : Turn) (r : Refusal) → end_turned g l used t ≡ Err r → r.offset ≡ used
-  unfolding end_offset
   turned_offset used (goes n) r h = settled_offset used (settle g l n) r h
-  turned_offset used (gives v n) r h = absurd cc
-  turned_offset used (refuses e) r h = sym (ap (λ z. end_offset z 0) h)
   turned_offset used (late e n) r h = late_offset used e r h
+  turned_offset used _ r h = cc
 
   said_offset : (used : ℕ) (n : Reading) (x : Lexeme) (c : Result Content Reason) (r : Refusal) → end_said g l used n x c ≡ Err r → r.offset ≡ used
-  unfolding end_offset
   said_offset used n x (Ok c) r h = turned_offset used (turn g l n (token_of x c)) r h
-  said_offset used n x (Err e) r h = sym (ap (λ z. end_offset z 0) h)
+  said_offset used n x (Err e) r h = cc
 
   waiting_offset : (used : ℕ) (x : Result (Option Lexeme) Reason) (t : Turn) (r : Refusal) → end_waiting g l used x t ≡ Err r → r.offset ≡ used
-  unfolding end_offset
   waiting_offset used (Ok None) t r h = settled_offset used t r h
   waiting_offset used (Ok (Some x)) (late e n) r h = late_offset used e r h
   waiting_offset used (Err y) (late e n) r h = late_offset used e r h
-  waiting_offset used _ _ r h = sym (ap (λ z. end_offset z 0) h)
+  waiting_offset used _ _ r h = cc
 
   ready_offset : (used : ℕ) (n : Reading) (x : Result (Option Lexeme) Reason) (r : Refusal) → end_ready g l used n x ≡ Err r → r.offset ≡ used
-  unfolding end_offset
   ready_offset used n (Ok None) r h = fresh_offset used (is_fresh n) r h
   ready_offset used n (Ok (Some x)) r h = said_offset used n x (said x.kind x.octets) r h
-  ready_offset used n (Err y) r h = sym (ap (λ z. end_offset z 0) h)
+  ready_offset used n (Err y) r h = cc
 
   now_offset : (used : ℕ) (n : Reading) (x : Result (Option Lexeme) Reason) (now : Now) (r : Refusal) → end_now g l used n x now ≡ Err r → r.offset ≡ used
-  unfolding end_offset
   now_offset used n x (Now.Pending k e) r h = waiting_offset used x (settle g l n) r h
   now_offset used n x (Now.Long w e) r h = waiting_offset used x (settle g l n) r h
-  now_offset used n x (Now.LongName w) r h = sym (ap (λ z. end_offset z 0) h)
+  now_offset used n x (Now.LongName w) r h = cc
   now_offset used n x _ r h = ready_offset used n x r h
 
   unfinished_now : (u : List ℕ) (given : List (Value × ℕ)) (now : Result State Refusal) (r : Refusal)

@@ -1,27 +1,15 @@
-use Rattle.std.proofs.Common.{ap, sym, ◌∙◌, subst}
-use Rattle.ion_text.specs.Names.{EndsBy, is_name, number_payload}
+use Rattle.std.proofs.Common.{ap, ◌∙◌}
+use Rattle.ion_text.specs.Names.{is_name, number_payload}
 use Rattle.ion_text.proofs.LastTokens.{value_answer}
 use Rattle.ion_text.proofs.SaidThere.{number_begins}
-use Rattle.ion_text.specs.laws.deciding.Turns.{flat_number}
 use Rattle.ion_text.proofs.Strides.{value_place}
+use Rattle.ion_text.specs.laws.deciding.Turns.{flat_number}
 use Rattle.ion_text.proofs.walk.TextWalk.tell_this_number.Goals as goal
 
 pub returns : goal.returns
 returns g c =
-    let old = c.args.self.now in
-    let new = c.whole_number.new.self in
-    let rest = c.args.rest.now in
-    let after = c.past_token.result in
-    let octets = c.args.octets.now in
-    let a = c.args.visitor.now in
-    let b = c.whole_number.new.visitor in
-    let token = c.args.token in
-    let number = c.args.number in
-    let here = c.place-here.result in
-    subst (λ x. EndsBy g.V.Visitor.takes old new rest after octets x a b) (sym c.value_took.ensures)
-    (value_answer g.V.Visitor.takes old new rest after octets a b c.begun_at-self.result c.whole_number.ensures.setting c.begun_at-self.ensures here
-    c.place-here.ensures c.requires.takes (number_payload number) (λ fs ss h top. flat_number number) token c.whole_number.result c.past_token.ensures
-    c.requires.within
-    (λ fs ss h. number_begins here rest octets token number
-    (c.requires.found here rest (ap is_name (c.place-here.ensures fs ss h) ∙ value_place old fs ss c.requires.takes.stage h)))
+    rw c.value_took.ensures
+    (value_answer _ _ _ _ _ _ _ _ _ c.whole_number.ensures.setting c.begun_at-self.ensures _ c.place-here.ensures c.requires.takes
+    (number_payload c.args.number) (λ fs ss h top. flat_number c.args.number) c.args.token c.whole_number.result c.past_token.ensures c.requires.within
+    (λ fs ss h. number_begins _ _ _ _ _ (c.requires.found _ _ (ap is_name (c.place-here.ensures fs ss h) ∙ value_place c.args.self.now fs ss c.requires.takes.stage h)))
     c.whole_number.ensures.does)

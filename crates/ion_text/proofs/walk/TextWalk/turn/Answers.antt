@@ -1,8 +1,8 @@
-use Rattle.std.proofs.Common.{[], sym, subst, ◌∙◌}
+use Rattle.std.proofs.Common.{◌≡◌, [], ap, sym, subst, ◌∙◌}
 use Rattle.ion_text.specs.Names.{Does, Now, TextWalk, calm, on_long_name, on_pending, reading_of, setting_of, told, turn, turn_now}
 use Rattle.ion_tokens.specs.Bodies.{content}
 use Rattle.ion_text.specs.machine.Views.{token_in}
-use Rattle.ion_text.proofs.Ended.{IsBare, bare_does, holds_calm}
+use Rattle.ion_text.proofs.Ended.{bare_does, holds_calm}
 use Rattle.ion_text.proofs.Taking.{does_alone}
 use Rattle.ion_text.proofs.walk.TextWalk.turn.Goals as goal
 
@@ -24,7 +24,7 @@ returns-in-LongName-clause-does g c =
     let e = sym c.take_stage.ensures.stage ∙ c.in-LongName.is in
     let k = c.take_stage.ensures.calm in
     bare_does (λ fs ss. Does g.V.Visitor.takes (told fs ss) (turn r.catalog.now r.limits (reading_of r fs ss) (token_in c.args.token)) c.on_long_name.result
-    c.on_long_name.new.self c.args.visitor.now c.args.visitor.now) r c.take_stage.new.self k (subst (λ n. IsBare (calm n)) (sym e) tt)
+    c.on_long_name.new.self c.args.visitor.now c.args.visitor.now) r c.take_stage.new.self k (λ i. let n : Now.Name ≡ Now.Ready = ap calm (sym e) ∙ i in cc)
     (λ fs h.
     subst (λ (n : Now). Does g.V.Visitor.takes (told fs []) (turn_now (setting_of r) (reading_of r fs []) (token_in c.args.token) n)
     c.on_long_name.result c.on_long_name.new.self c.args.visitor.now c.args.visitor.now) (sym e)

@@ -2,14 +2,13 @@
 use Rattle.std.proofs.Common.{◌≡◌, ℕ, ◌+◌, ◌≤◌, ◌==◌, List, [], ◌∷◌, ◌++◌, Bool, true, false, ◌&&◌, ◌||◌, Ok, Option, Some, None, refl, ap, sym, ◌∙◌, subst, arith, option_to_list, if◌then◌else◌, ◌⊎◌, inl, inr}
 use Rattle.std.proofs.lemmas.Bool.{and_right, true_from_ne_false}
 use Rattle.ion_text.specs.Names.{Catalog, Content, Document, Effect, Frame, Given, IsBody, IsLastBlank, Known, Leading, Left, Lexeme, Limits, Long, Mark, Mark', Mode, Next, Now, Outcome, Place, Placed, Reading, Reason, Run, Slot, Spot, State, Streams, Symbols, TokenKind, Turn, Value, at, at_end, behind_given, behind_left, continues, continues_now, cut_short, eats, end_now, end_of, end_ready, end_said, end_settled, end_turned, end_waiting, ended, ends_of, feed, follow, fresh, gives, goes, initial, is_colons, is_fresh, is_idle, is_quoted, is_quoting, is_sane, is_segment, is_sexp, is_top, is_two_quotes, on_said, on_scan, on_settled, once_more, place, plain, refuses, run, run_on, said, said_body, settle, settle_same, settle_still, start_of, system_slots, takes, tells, token_at, token_of, trace, turn, turn_now, under, unsettled, uses, waits, waits_now, with_scan, with_value}
-use Rattle.ion_model.specs.declared.value.Payload.TheVariants as payloads
 use Rattle.ion_tokens.proofs.runs.Runs.{feed_used, given_used}
 use Rattle.ion_text.specs.machine.Run.{ends}
 use Rattle.ion_text.specs.machine.Ways.{SettledWay, ValueWay, settled_free, settled_held, settled_marker, settled_name, settled_text, settled_way, value_given, value_refused, value_table}
 use Rattle.ion_text.specs.laws.reading.complete.Exact.{Exact, Exactly, feed_exact}
 use Rattle.ion_text.specs.laws.reading.complete.Found.{finds_met, lexes_finds, lexes_operators}
 use Rattle.ion_text.specs.laws.reading.complete.Fuel.{Leaving, UsedHere, eats_stays, feed_leaves, more_same, twice_fuel}
-use Rattle.ion_text.specs.laws.reading.complete.Going.{Direct, Going, InsideNext, Operators, TopOk, TurnEnds, TurnGoes, closed, closes_kind, gives_top, going_ends, going_said, going_settle, going_turn, inside_end, inside_token, no_operator, stays, top_place}
+use Rattle.ion_text.specs.laws.reading.complete.Going.{Direct, Going, Operators, TopOk, TurnEnds, TurnGoes, closes_kind, gives_top, going_ends, going_said, going_settle, going_turn, inside_end, next_inside, no_operator, top_place}
 pub use Rattle.ion_text.specs.laws.reading.complete.Going.{ready_still}
 use Rattle.ion_text.specs.laws.reading.complete.Meets.{IdleLeft, Meets, at_blank, at_token, end_spans, finely_as, follows_as, goes_on, idle_left, in_blank, is_given, is_left, meets_next}
 use Rattle.ion_text.specs.laws.reading.complete.Pieces.{pieces_read}
@@ -468,12 +467,9 @@ module _ (g : Catalog) (l : Limits) where
     ends_here = ap (λ p. at_end p s) (sym said_here.0) ∙ e
 
     top_here : is_top r.frames ≡ true
-    top_here = true_from_ne_false (is_top r.frames) (λ h. inside (inside_token g l r t said_here.1 [] all h d said_here.2))
-      where
-        inside : InsideNext g l r.start t said_here.1 [] → ⊥
-        inside (stays m rest a b x) = inside_end g l m rest a x
-        inside (closed a b) = let n : true ≡ false = sym (closes_kind t.lexeme.kind t.lexeme.octets said_here.1 b body_here)
-            ∙ (at_end_fine t.place s t.lexeme e).3 in cc
+    top_here = true_from_ne_false (is_top r.frames) (λ h.
+        next_inside g l r t [] all h d (λ m rest a b x. inside_end g l m rest a x)
+        (λ a b. let n : true ≡ false = sym b ∙ (at_end_fine t.place s t.lexeme e).3 in cc))
 
     ok_here : TopOk g l r
     ok_here = calm_ok g l s r calm

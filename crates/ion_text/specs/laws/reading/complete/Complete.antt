@@ -1,5 +1,5 @@
 -- The tokens of a value lead the reader to that value.
-use Rattle.std.proofs.Common.{◌≡◌, ◌≢◌, ℕ, suc, max, ◌+◌, ◌≤◌, ◌<◌, List, [], ◌∷◌, ◌++◌, length, map, Bool, true, false, ◌&&◌, ◌||◌, Ok, Option, Some, None, refl, ap, sym, ◌∙◌, subst, arith, append_assoc, if◌then◌else◌, ◌⊎◌, inl, inr, codes}
+use Rattle.std.proofs.Common.{◌≡◌, ℕ, suc, max, ◌+◌, ◌≤◌, ◌<◌, List, [], ◌∷◌, ◌++◌, length, map, Bool, true, false, ◌&&◌, ◌||◌, Ok, Option, Some, None, refl, ap, sym, ◌∙◌, subst, arith, append_assoc, if◌then◌else◌, ◌⊎◌, inl, inr, codes}
 use Rattle.std.proofs.lemmas.Bool.{cond-false, cond-true, false_from_ne_true, lt-ltb}
 use Rattle.std.specs.Str.{bytes_eq}
 use Rattle.ion_text.specs.Names.{Annotations, Blob, Bracket, Catalog, Clob, Content, Elements, Field, Frame, Held, Id, IsBody, IsName, IsScalar, IsSymbol, IsWordBody, Kind, Limits, Listing, Long, Mark, Mark', Means, Members, Now, Number', Operator, Payload, Place, Placed, Plain, Quoted, Reading, Row, Says, Segments, Short, Slot, Symbols, Token, TokenKind, Turn, TypedNull, Value, Word, adds_none, annotated, at, begins_long, begun_at, behind_waiting, by_long, by_short, by_symbol, close_place, comma, continues, continues_now, depth, done, element, ended, ends_long, field, field_comma, field_of, first_now, first_token, goes, greatest, held_payload, held_symbol, held_word, id_of, is_false, is_id, is_keyword, is_list, is_null, is_segment, is_struct, is_symbol, is_top, is_true, is_typed_null, is_version, is_version_word, is_word, item, joined, kind_named, long_at, long_string, means, name_at, no_annotation, no_element, no_field, no_item, noted, null_of, on_name, on_ready, on_turn, one_annotation, one_token, open_mark, opened, paid, pending_at, place, place_in, reads, reads-append, released, resolved, segment, settle, spot_at, the_marker, then_walk, token_of, turn, under}

@@ -1,15 +1,14 @@
 -- The scanner meets the tokens that octets are.
 use Rattle.std.proofs.Common.{◌≡◌, ℕ, ◌+◌, ◌-◌, Bool, true, false, List, [], ◌∷◌, ◌++◌, length, drop, refl, sym, ap, ◌∙◌, subst, arith, Ok, Some, None, ◌⊎◌, inl, inr}
-use Rattle.ion_text.specs.Names.{Catalog, Content, Given, IsLexeme, Known, Leading, Left, Lexeme, Lexes, LexesBefore, Limits, Next, Outcome, Place, Placed, Reading, TokenKind, Turn, Value, at_end, continues, feed, follow, followed, gives, goes, initial, is_sexp, is_top, said, said_body, scan as run, settle, settle_still, token_of, turn}
+use Rattle.ion_text.specs.Names.{Catalog, Given, IsLexeme, Known, Leading, Left, Lexeme, Lexes, LexesBefore, Limits, Mode, Next, Outcome, Place, Placed, Reading, TokenKind, Turn, Value, at_end, continues, feed, follow, followed, gives, goes, initial, is_idle, is_sane, is_sexp, is_top, scan as run, settle, settle_still, token_of, turn}
 use Rattle.ion_tokens.specs.machine.Told.{Begun}
 use Rattle.ion_tokens.proofs.complete.Found as found
 use Rattle.ion_tokens.proofs.histories.Histories.{behind_front, stands_finds}
-use Rattle.ion_tokens.proofs.runs.Runs.{feed_used, given_used, left_used}
-use Rattle.ion_tokens.proofs.runs.Splits.{given_split, left_split}
-use Rattle.ion_text.specs.laws.reading.complete.Going.{Going, InsideNext, Operators, TurnGoes, closed, closes_kind, going_said, going_settle, going_turn, inside_end, inside_token, stays, top_place}
-use Rattle.ion_text.specs.laws.reading.complete.Meets.{Meets, at_blank, at_token, goes_on, in_blank, is_given, is_left}
+use Rattle.ion_tokens.proofs.runs.Runs.{feed_used}
+use Rattle.ion_tokens.proofs.runs.Splits.{given_one, given_split, left_one, left_split}
+use Rattle.ion_text.specs.laws.reading.complete.Going.{Going, Operators, TurnGoes, going_said, going_settle, going_turn, inside_end, next_inside, top_place}
+use Rattle.ion_text.specs.laws.reading.complete.Meets.{Meets, at_blank, at_token, follows_as, goes_on, in_blank, is_given, is_left}
 use Rattle.ion_text.specs.laws.reading.sound.Quotes.{is_close}
-use Rattle.ion_text.specs.laws.reading.sound.Spans.{IsClose}
 
 -- What the scanner finds in octets up to the end of the input. An operator before a last word that begins as `inf` is told by neither.
 pub data Finds : Known → List ℕ → List Placed → Type 0 where
@@ -24,11 +23,23 @@ pub data Finds : Known → List ℕ → List Placed → Type 0 where
 
 -- where the same outcome goes on, the scanner knows the same
 pub next_is : (s t : Known) → Next s ≡ Next t → s ≡ t
-next_is s t e = ap (state_in s) e
-  where
-    state_in : Known → Outcome → Known
-    state_in d (Next x) = x
-    state_in d _ = d
+next_is s t e = cc
+
+-- what each octet keeps that goes on, octets keep that go on
+pub run_keeps : (P : Mode → Type 0) → ((p : Place) (s t : Known) (o : ℕ) → is_sane s.mode ≡ true → feed p s o ≡ Next t → P s.mode → P t.mode)
+    → (p : Place) (os : List ℕ) (s t : Known) → is_sane s.mode ≡ true → P s.mode → run p os s ≡ Next t → P t.mode
+run_keeps P keeps p [] s t sane h e = subst (λ (x : Known). P x.mode) (next_is s t e) h
+run_keeps P keeps p (o ∷ os) s t sane h e =
+    let f = followed (feed p s o) (λ k. run p os k) t e in
+    run_keeps P keeps p os f.0 t (follows_as p s o (Next f.0) sane f.1).0 (keeps p s f.0 o sane f.1 h) f.2
+
+pub run_sane : (p : Place) (os : List ℕ) (s t : Known) → is_sane s.mode ≡ true → run p os s ≡ Next t → is_sane t.mode ≡ true
+run_sane p os s t sane e =
+    run_keeps (λ m. is_sane m ≡ true) (λ p s t o sane e h. (follows_as p s o (Next t) sane e).0) p os s t sane sane e
+
+-- a token that has begun isn't forgotten
+pub begun_stays : (p : Place) (s t : Known) (o : ℕ) → is_sane s.mode ≡ true → feed p s o ≡ Next t → is_idle s.mode ≡ false → is_idle t.mode ≡ false
+begun_stays p s t o sane e h = (follows_as p s o (Next t) sane e).1 h
 
 -- Behind letters of a word, at the end of the input, there is no token, or that word alone.
 pub alone_word : (letters : List ℕ) (colon : Bool) (start used : ℕ) (ts : List Placed) → found.Finds (found.in_word letters colon start used) [] ts → (ts ≡ [])
@@ -76,38 +87,50 @@ pub no_more : (os : List ℕ) → length os ≡ 0 → os ≡ []
 no_more [] h = refl
 no_more (o ∷ os) h = absurd (omega arith)
 
+-- what holds of the octets from the last one of a token on holds of them all, where it goes on over each before
+module _ (t : Placed) (P : Known → List ℕ → Type 0)
+    (on : (s : Known) (o : ℕ) (os : List ℕ) (k : Known) → feed t.place s o ≡ Next k → P k os → P s (o ∷ os)) where
+  -- up to the octet with which it ends
+  pub given_so : (os rest : List ℕ) (s s' : Known) → run t.place os s ≡ Given t.lexeme s' → s'.used ≡ s.used + length os
+      → ((k : Known) (o : ℕ) → feed t.place k o ≡ Given t.lexeme s' → P k (o ∷ rest)) → P s (os ++ rest)
+  given_so [] rest s s' e n q = absurd cc
+  given_so (o ∷ os) rest s s' e n q = go (feed t.place s o) refl e (λ k i m. given_so os rest k s' i m q)
+    where
+      go : (x : Outcome) → feed t.place s o ≡ x → follow x (λ k. run t.place os k) ≡ Given t.lexeme s'
+          → ((k : Known) → run t.place os k ≡ Given t.lexeme s' → s'.used ≡ k.used + length os → P k (os ++ rest)) → P s (o ∷ os ++ rest)
+      go (Next k) f h more = on s o (os ++ rest) k f (more k h (let u = feed_used t.place s k o f in omega (arith, u, n)))
+      go (Given x k) f h more =
+          let u = given_one t.place o s s' t.lexeme (f ∙ h) in
+          let none : os ≡ [] = no_more os (omega (arith, u, n)) in
+          subst (λ y. P s (o ∷ y ++ rest)) (sym none) (q s o (f ∙ h))
+      go _ f h more = absurd cc
+
+  -- up to the octet before which it ended
+  pub left_so : (os : List ℕ) (x : ℕ) (rest : List ℕ) (s s' : Known) → run t.place (os ++ x ∷ []) s ≡ Left t.lexeme s' → s'.used ≡ s.used + length os
+      → ((k : Known) → feed t.place k x ≡ Left t.lexeme s' → P k (x ∷ rest)) → P s (os ++ x ∷ rest)
+  left_so [] x rest s s' e n q = go (feed t.place s x) refl e
+    where
+      go : (y : Outcome) → feed t.place s x ≡ y → follow y (λ k. Next k) ≡ Left t.lexeme s' → P s (x ∷ rest)
+      go (Left l k) f h = q s (f ∙ h)
+      go _ f h = absurd cc
+  left_so (o ∷ os) x rest s s' e n q = go (feed t.place s o) refl e (λ k i m. left_so os x rest k s' i m q)
+    where
+      go : (y : Outcome) → feed t.place s o ≡ y → follow y (λ k. run t.place (os ++ x ∷ []) k) ≡ Left t.lexeme s'
+          → ((k : Known) → run t.place (os ++ x ∷ []) k ≡ Left t.lexeme s' → s'.used ≡ k.used + length os → P k (os ++ x ∷ rest))
+          → P s (o ∷ os ++ x ∷ rest)
+      go (Next k) f h more = on s o (os ++ x ∷ rest) k f (more k h (let u = feed_used t.place s k o f in omega (arith, u, n)))
+      go (Left l k) f h more = let u = left_one t.place o s s' t.lexeme (f ∙ h) in absurd (omega (arith, u, n))
+      go _ f h more = absurd cc
+
 given_met : (os rest : List ℕ) (s s' : Known) (t : Placed) (ts : List Placed) → run t.place os s ≡ Given t.lexeme s' → s'.used ≡ s.used + length os
     → Meets s' rest ts → Meets s (os ++ rest) (t ∷ ts)
-given_met [] rest s s' t ts e n m = absurd cc
-given_met (o ∷ os) rest s s' t ts e n m = go (feed t.place s o) refl e (λ k f i. given_met os rest k s' t ts f i m)
-  where
-    go : (x : Outcome) → feed t.place s o ≡ x → follow x (λ k. run t.place os k) ≡ Given t.lexeme s'
-        → ((k : Known) → run t.place os k ≡ Given t.lexeme s' → s'.used ≡ k.used + length os → Meets k (os ++ rest) (t ∷ ts))
-        → Meets s (o ∷ os ++ rest) (t ∷ ts)
-    go (Next k) f h more = goes_on s o (os ++ rest) t ts k f (more k h (let u = feed_used t.place s k o f in omega (arith, u, n)))
-    go (Given x k) f h more =
-        let u = given_used t.place (o ∷ []) s s' t.lexeme (sym (ap (λ y. follow y (λ k. Next k)) (f ∙ h))) in
-        let none : os ≡ [] = no_more os (omega (arith, u.1, n)) in
-        is_given s o (os ++ rest) t ts s' (f ∙ h) (subst (λ y. Meets s' (y ++ rest) ts) (sym none) m)
-    go _ f h more = absurd cc
+given_met os rest s s' t ts e n m =
+    given_so t (λ k us. Meets k us (t ∷ ts)) (λ k o us k' f. goes_on k o us t ts k' f) os rest s s' e n (λ k o f. is_given k o rest t ts s' f m)
 
 left_met : (os : List ℕ) (x : ℕ) (rest : List ℕ) (s s' : Known) (t : Placed) (ts : List Placed) → run t.place (os ++ x ∷ []) s ≡ Left t.lexeme s'
     → s'.used ≡ s.used + length os → Meets s' (x ∷ rest) ts → Meets s (os ++ x ∷ rest) (t ∷ ts)
-left_met [] x rest s s' t ts e n m = go (feed t.place s x) refl e
-  where
-    go : (y : Outcome) → feed t.place s x ≡ y → follow y (λ k. Next k) ≡ Left t.lexeme s' → Meets s (x ∷ rest) (t ∷ ts)
-    go (Left l k) f h = is_left s x rest t ts s' (f ∙ h) m
-    go _ f h = absurd cc
-left_met (o ∷ os) x rest s s' t ts e n m = go (feed t.place s o) refl e (λ k f i. left_met os x rest k s' t ts f i m)
-  where
-    go : (y : Outcome) → feed t.place s o ≡ y → follow y (λ k. run t.place (os ++ x ∷ []) k) ≡ Left t.lexeme s'
-        → ((k : Known) → run t.place (os ++ x ∷ []) k ≡ Left t.lexeme s' → s'.used ≡ k.used + length os → Meets k (os ++ x ∷ rest) (t ∷ ts))
-        → Meets s (o ∷ os ++ x ∷ rest) (t ∷ ts)
-    go (Next k) f h more = goes_on s o (os ++ x ∷ rest) t ts k f (more k h (let u = feed_used t.place s k o f in omega (arith, u, n)))
-    go (Left l k) f h more =
-        let u = left_used t.place (o ∷ []) s s' t.lexeme (sym (ap (λ y. follow y (λ k. Next k)) (f ∙ h))) in
-        absurd (omega (arith, u.1, n))
-    go _ f h more = absurd cc
+left_met os x rest s s' t ts e n m =
+    left_so t (λ k us. Meets k us (t ∷ ts)) (λ k o us k' f. goes_on k o us t ts k' f) os x rest s s' e n (λ k f. is_left k x rest t ts s' f m)
 
 module _ (g : Catalog) (l : Limits) where
   -- some reading from which the tokens go on
@@ -139,20 +162,15 @@ module _ (g : Catalog) (l : Limits) where
   pub never_unclosed : (t w : Placed) → Operators (t ∷ w ∷ []) → t.lexeme.kind ≡ TokenKind.Operator → w.lexeme.kind ≡ TokenKind.Word → Goes (t ∷ w ∷ []) → ⊥
   never_unclosed t w ops k j (r, all, d) = by (is_top r.frames) refl
     where
-      no_close : (x : Placed) (c : Content) → said x.lexeme.kind x.lexeme.octets ≡ Ok c → is_close x.lexeme.kind ≡ false → IsClose false c → ⊥
-      no_close x c e f i = let n : true ≡ false = sym (closes_kind x.lexeme.kind x.lexeme.octets c i (said_body x.lexeme.kind x.lexeme.octets c e)) ∙ f in cc
-
-      second : (start : ℕ) (c : Content) → InsideNext g l start t c (w ∷ []) → said t.lexeme.kind t.lexeme.octets ≡ Ok c → ⊥
-      second start c (closed a b) e = no_close t c e (ap is_close k) b
-      second start c (stays m rest a b d) e = let p = going_said g l m w [] rest d in third m.start p.1 (inside_token g l m w p.1 [] rest a d p.2) p.2
-        where
-          third : (start : ℕ) (c : Content) → InsideNext g l start w c [] → said w.lexeme.kind w.lexeme.octets ≡ Ok c → ⊥
-          third start c (closed a b) e = no_close w c e (ap is_close j) b
-          third start c (stays m rest a b d) e = inside_end g l m rest a d
+      no_close : (x : Placed) → is_close x.lexeme.kind ≡ false → is_close x.lexeme.kind ≡ true → ⊥
+      no_close x f i = let n : true ≡ false = sym i ∙ f in cc
 
       by : (b : Bool) → is_top r.frames ≡ b → ⊥
       by true h = let p = going_said g l r t (w ∷ []) all d in let n : true ≡ false = sym (ops.0 k) ∙ ap is_sexp (p.0 ∙ top_place r.frames r.now h) in cc
-      by false h = let p = going_said g l r t (w ∷ []) all d in second r.start p.1 (inside_token g l r t p.1 (w ∷ []) all h d p.2) p.2
+      by false h =
+          next_inside g l r t (w ∷ []) all h d
+          (λ m rest a i x. next_inside g l m w [] rest a x (λ n others b i y. inside_end g l n others b y) (λ e i. no_close w (ap is_close j) i))
+          (λ e i. no_close t (ap is_close k) i)
 
   -- Of a document the scanner meets the tokens octet by octet.
   pub finds_met : (s : Known) (os : List ℕ) (ts : List Placed) → Finds s os ts → Operators ts → Goes ts → Meets s os ts

@@ -25,7 +25,7 @@ abbrev pub Leaving : ℕ → Outcome → Type 0
 Leaving o (Left x s) = (UsedHere s o ⊎ (x.kind ≡ TokenKind.Operator)) × Twice s o
 Leaving o _ = Unit {0}
 
-used_then : (o : ℕ) (x : Outcome) → IsUsed x → UsedThen o x
+pub used_then : (o : ℕ) (x : Outcome) → IsUsed x → UsedThen o x
 used_then o (Left x t) u = absurd u
 used_then o _ u = tt
 

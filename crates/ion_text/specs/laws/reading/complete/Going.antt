@@ -1,7 +1,7 @@
 -- Tokens that go on to the end of a document, read one by one, and that the reader of octets has no reason to refuse before.
 use Rattle.std.proofs.Common.{◌≡◌, ℕ, ◌+◌, ◌≤◌, List, [], ◌∷◌, ◌++◌, Bool, true, false, Result, Ok, refl, ap, sym, ◌∙◌, subst, arith, ◌⊎◌, inl, inr}
 use Rattle.std.proofs.lemmas.Bool.{cond-false}
-use Rattle.ion_text.specs.Names.{Catalog, Content, Frame, Given, IsBody, Known, Leading, Left, Lexeme, Limits, Long, Mark, Mark', Mode, Next, Now, Operator, Place, Placed, Reading, Reason, Says, Slot, Symbols, Token, TokenKind, Turn, Value, Walk, adds_values, at, begun_at, continues, done, end_of, feed, first_token, follow, fresh, gives, goes, in_place, is_fresh, is_idle, is_sexp, is_top, on_judged, on_placed, on_turn, place, place_in, reads, said, said_body, same_is, same_place, settle, settle_same, settle_still, stopped, token_of, turn}
+use Rattle.ion_text.specs.Names.{Catalog, Content, Frame, Given, IsBody, Known, Leading, Left, Lexeme, Limits, Mark, Mark', Mode, Next, Now, Place, Placed, Reading, Reason, Says, Slot, Symbols, Token, TokenKind, Turn, Value, Walk, adds_values, at, begun_at, continues, done, end_of, feed, first_token, follow, fresh, gives, goes, in_place, is_fresh, is_idle, is_sexp, is_top, on_judged, on_placed, on_turn, place, place_in, reads, said, said_body, same_is, same_place, settle, settle_same, settle_still, stopped, token_of, turn}
 use Rattle.ion_tokens.proofs.runs.Runs.{feed_used, left_used}
 use Rattle.ion_text.specs.machine.TokenLists.{walked}
 use Rattle.ion_text.specs.laws.reading.complete.Complete.{body_kind}
@@ -228,35 +228,34 @@ module _ (g : Catalog) (l : Limits) where
   one_left : (p : Place) (s s' : Known) (o : ℕ) (x : Lexeme) → feed p s o ≡ Left x s' → s.used ≤ s'.used
   one_left p s s' o x e = let k = left_used p (o ∷ []) s s' x (sym (ap (λ y. follow y (λ t. Next t)) e)) in k.0
 
+  -- so what follows in both cases follows; what closes a container is a close
+  pub next_inside : {P : Type 0} (r : Reading) (t : Placed) (ts : List Placed) (all : List Value) → is_top r.frames ≡ false → Going r (t ∷ ts) all
+      → ((m : Reading) (others : List Value) → is_top m.frames ≡ false → m.start ≡ r.start → Going m ts others → P)
+      → (t.lexeme.end ≤ r.start + l.item → is_close t.lexeme.kind ≡ true → P) → P
+  next_inside {P = P} r t ts all h d more last = go (inside_token r t (going_said r t ts all d).1 ts all h d (going_said r t ts all d).2)
+    where
+      go : InsideNext r.start t (going_said r t ts all d).1 ts → P
+      go (stays m others k i x) = more m others k i x
+      go (closed k i) = last k (closes_kind t.lexeme.kind t.lexeme.octets (going_said r t ts all d).1 i
+          (said_body t.lexeme.kind t.lexeme.octets (going_said r t ts all d).1 (going_said r t ts all d).2))
+
   -- Where a container is open, the octets used are within the limit of the item.
   pub used_inside : (s : Known) (os : List ℕ) (ts : List Placed) → Meets s os ts → Fine s → (r : Reading) (all : List Value) → is_top r.frames ≡ false
       → Going r ts all → s.used ≤ r.start + l.item
-  used_inside _ _ _ (at_token s t e) f r all h d = go (inside_token r t (going_said r t [] all d).1 [] all h d (going_said r t [] all d).2)
-    where
-      go : InsideNext r.start t (going_said r t [] all d).1 [] → s.used ≤ r.start + l.item
-      go (stays m rest k i j) = absurd (inside_end m rest k j)
-      go (closed k i) = let x = end_spans s (end_of t.place s.mode) t.lexeme e in omega (arith, x.1, k)
+  used_inside _ _ _ (at_token s t e) f r all h d =
+      next_inside r t [] all h d (λ m rest k i j. absurd (inside_end m rest k j))
+      (λ k i. let x = end_spans s (end_of t.place s.mode) t.lexeme e in omega (arith, x.1, k))
   used_inside _ _ _ (goes_on s o os t ts s' e m) f r all h d = let k = used_inside s' os (t ∷ ts) m (finely_as t.place s o (Next s') f e) r all h d in
       omega (arith, k, feed_used t.place s s' o e)
   used_inside _ _ _ (is_given s o os t ts s' e m) f r all h d =
-      go (inside_token r t (going_said r t ts all d).1 ts all h d (going_said r t ts all d).2)
-      (λ n rest k j. used_inside s' os ts m (finely_as t.place s o (Given t.lexeme s') f e).0 n rest k j)
-    where
-      go : InsideNext r.start t (going_said r t ts all d).1 ts
-          → ((n : Reading) (rest : List Value) → is_top n.frames ≡ false → Going n ts rest → s'.used ≤ n.start + l.item) → s.used ≤ r.start + l.item
-      go (stays n rest k i j) more = omega (arith, more n rest k j, i, one_given t.place s s' o t.lexeme e)
-      go (closed k i) more = omega (arith, (finely_as t.place s o (Given t.lexeme s') f e).4, k, one_given t.place s s' o t.lexeme e)
+      let fine = finely_as t.place s o (Given t.lexeme s') f e in
+      let used = one_given t.place s s' o t.lexeme e in
+      next_inside r t ts all h d (λ n rest k i j. omega (arith, used_inside s' os ts m fine.0 n rest k j, i, used)) (λ k i. omega (arith, fine.4, k, used))
   used_inside _ _ _ (is_left s o os t ts s' e m) f r all h d =
-      go (inside_token r t (going_said r t ts all d).1 ts all h d (going_said r t ts all d).2)
-      (λ n rest k j. used_inside s' (o ∷ os) ts m (finely_as t.place s o (Left t.lexeme s') f e).0 n rest k j)
-    where
-      go : InsideNext r.start t (going_said r t ts all d).1 ts
-          → ((n : Reading) (rest : List Value) → is_top n.frames ≡ false → Going n ts rest → s'.used ≤ n.start + l.item) → s.used ≤ r.start + l.item
-      go (stays n rest k i j) more = omega (arith, more n rest k j, i, one_left t.place s s' o t.lexeme e)
-      go (closed k i) more =
-          let c = closes_kind t.lexeme.kind t.lexeme.octets (going_said r t ts all d).1 i
-          (said_body t.lexeme.kind t.lexeme.octets (going_said r t ts all d).1 (going_said r t ts all d).2) in
-          absurd (let n : true ≡ false = sym c ∙ (finely_as t.place s o (Left t.lexeme s') f e).5 in cc)
+      let fine = finely_as t.place s o (Left t.lexeme s') f e in
+      let used = one_left t.place s s' o t.lexeme e in
+      next_inside r t ts all h d (λ n rest k i j. omega (arith, used_inside s' (o ∷ os) ts m fine.0 n rest k j, i, used))
+      (λ k i. absurd (let n : true ≡ false = sym i ∙ fine.5 in cc))
   used_inside _ _ _ _ f r all h d = absurd (inside_end r all h d)
 
   -- at the top level a value or an annotation may come, or something waits

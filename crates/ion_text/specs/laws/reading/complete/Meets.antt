@@ -1,7 +1,7 @@
 -- The tokens that a scanner meets in octets, octet by octet.
-use Rattle.std.proofs.Common.{◌≡◌, ℕ, ◌+◌, ◌-◌, ◌≤◌, Bool, true, false, List, [], ◌∷◌, refl, sym, ap, ◌∙◌, subst, arith, Result, Ok, Option, Some, None, ◌⊎◌, inl, inr}
+use Rattle.std.proofs.Common.{◌≡◌, ℕ, ◌+◌, ◌-◌, ◌≤◌, Bool, true, false, List, [], ◌∷◌, refl, sym, ap, ◌∙◌, subst, arith, Ok, Option, Some, None, ◌⊎◌, inl, inr}
 use Rattle.std.specs.Prelude.{◌||◌, not}
-use Rattle.ion_text.specs.Names.{Action, End, Follows, Given, Known, Left, Lexeme, Mark, Mode, Next, Outcome, Place, Placed, Reason, Refused, Style, TokenKind, Within, acts, at_end, behind, blob_ends, blob_of, end_of, ends_at, feed, follow, in_text, is_closing, is_idle, is_mark, is_sane, is_segment, is_sexp, is_two_quotes, raw, start_of}
+use Rattle.ion_text.specs.Names.{Action, End, Follows, Given, Known, Left, Lexeme, Mark, Mode, Next, Outcome, Place, Placed, Refused, Style, TokenKind, Within, acts, at_end, behind, blob_ends, blob_of, end_of, ends_at, feed, follow, in_text, is_closing, is_idle, is_mark, is_sane, is_segment, is_sexp, is_two_quotes, raw, start_of}
 use Rattle.ion_tokens.specs.machine.Table.{next}
 use Rattle.ion_tokens.specs.laws.ByRows.{by_rows_where}
 use Rattle.ion_tokens.specs.laws.Follows.{feed_follows}
@@ -159,11 +159,7 @@ begun_apart _ _ (next_left s o t s' e) h f k = let b = finely_as t.place s o (Le
 -- where the end ends a token
 pub end_spans : (s : Known) (e : End) (x : Lexeme) → ends_at s e ≡ Ok (Some x) → (x.start ≡ start_of s.mode s.start s.used) × (x.end ≡ s.used)
 end_spans s End.Blank x h = absurd (let n : Ok None ≡ Ok (Some x) = h in cc)
-end_spans s (End.Token kind k) x h = (sym (ap (λ y. (lexeme_in y x).start) h), sym (ap (λ y. (lexeme_in y x).end) h))
-  where
-    lexeme_in : Result (Option Lexeme) Reason → Lexeme → Lexeme
-    lexeme_in (Ok (Some y)) d = y
-    lexeme_in _ d = d
+end_spans s (End.Token kind k) x h = (cc, cc)
 end_spans s (End.Refuse e) x h = absurd cc
 
 one_reaches : (p : Place) (s : Known) (o start end : ℕ) (x : Outcome) → Reaches start end (Next s) → feed p s o ≡ x → Reaches start end (follow x (λ t. Next t))

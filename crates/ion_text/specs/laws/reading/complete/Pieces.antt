@@ -2,7 +2,7 @@
 use Rattle.std.proofs.Common.{◌≡◌, ℕ, ◌+◌, ◌-◌, ◌≤◌, ◌==◌, nat_le, List, [], ◌∷◌, ◌++◌, Bool, true, false, ◌&&◌, ◌||◌, Ok, refl, ap, sym, ◌∙◌, subst, arith, append-nil, if◌then◌else◌, ◌⊎◌, inl, inr}
 use Rattle.std.proofs.lemmas.Bool.{cond-false, cond-true, false_from_ne_true}
 use Rattle.std.proofs.lemmas.Bool.Decides.{nat_tests}
-use Rattle.ion_text.specs.Names.{Annotations, Catalog, Content, IsBody, Leading, Limits, Long, Mark, Mark', Means, Now, Pieces, Place, Placed, Quoted, Reading, Says, Slot, Symbols, Token, TokenKind, Turn, Value, Walk, Word, adds_adds, adds_none, adds_values, annotated, at, begins, begins_as_long, continues, done, ends_long, first_token, fresh, gives, goes, held_word, holds, in_place, is_segment, is_table, is_top, is_two_quotes, is_version_word, marked, means, no_annotation, on_judged, on_turn, one_annotation, place, reads, reads-append, released, said, said_ok, settle, settle_same, span, spot_at, stopped, system_slots, the_marker, then_walk, token_of, turn, turned, turns, under}
+use Rattle.ion_text.specs.Names.{Annotations, Catalog, Content, IsBody, Leading, Limits, Long, Mark, Mark', Means, Now, Pieces, Place, Placed, Quoted, Reading, Says, Slot, Symbols, Token, TokenKind, Turn, Value, Walk, Word, adds_adds, adds_none, adds_values, annotated, at, begins, begins_as_long, continues, done, ends_long, first_token, fresh, gives, goes, held_word, holds, in_place, is_segment, is_table, is_top, is_two_quotes, is_version_word, marked, means, no_annotation, on_judged, on_turn, one_annotation, place, reads, reads-append, released, said, said_ok, settle, settle_same, span, spot_at, system_slots, the_marker, then_walk, token_of, turn, turned, turns, under}
 use Rattle.ion_text.specs.Grammar.{end_of}
 use Rattle.ion_text.specs.machine.TokenLists.{walked}
 use Rattle.ion_text.specs.laws.reading.complete.Complete.{body_kind, Begins, LeadsToTurn, at_once, by_held, by_long', means_begins, means_read, pending_goes, segment_kind, starts, word_token}
@@ -34,15 +34,7 @@ module _ (g : Catalog) (l : Limits) where
 
   -- walks that are the same gave the same values, and led to the same reading
   pub walked_now : (vs ws : List Value) (r n : Reading) → walked vs r ≡ walked ws n → (vs ≡ ws) × (r ≡ n)
-  walked_now vs ws r n e = (ap (values_of vs) e, ap (reading_of r) e)
-    where
-      values_of : List Value → Walk → List Value
-      values_of d (walked vs r) = vs
-      values_of d stopped = d
-
-      reading_of : Reading → Walk → Reading
-      reading_of d (walked vs r) = r
-      reading_of d stopped = d
+  walked_now vs ws r n e = (cc, cc)
 
   -- what waited comes first, and then the reader goes on
   pub settled_first : (x : Turn) (later : List Value) (n : Reading) (f : Reading → Walk) → on_turn x done ≡ walked later n

@@ -2,7 +2,7 @@
 use Rattle.std.proofs.Common.{◌≡◌, ℕ, ◌+◌, ◌-◌, ◌==◌, List, Bool, true, false, cond, ◌&&◌, ◌||◌, Ok, Err, Some, refl, ap, sym, ◌∙◌, subst, arith, inl, inr}
 use Rattle.std.proofs.lemmas.Bool.{and_right, or_from, or_parts}
 use Rattle.std.proofs.lemmas.Bool.Decides.{nat_tests}
-use Rattle.ion_text.specs.Names.{Action, Content, Frame, Given, Held, IsBody, Keep, Known, Left, Lexeme, Long, Mark, Mark', Mode, Next, Now, Outcome, Place, Placed, Quoted, Reason, Style, TokenKind, Within, acts, at_end, before, continues_now, end_of, ends_at, feed, in_text, is_closing, is_colons, is_idle, is_quoted, is_quoting, is_sane, is_segment, is_top, is_two_quotes, raw, start_of, token_of, waits_now}
+use Rattle.ion_text.specs.Names.{Action, Content, Frame, Given, Held, IsBody, Keep, Known, Left, Lexeme, Long, Mark, Mark', Mode, Next, Now, Place, Placed, Quoted, Reason, Style, TokenKind, Within, acts, at_end, before, continues_now, end_of, ends_at, feed, in_text, is_closing, is_colons, is_idle, is_quoted, is_quoting, is_sane, is_segment, is_top, is_two_quotes, raw, start_of, token_of, waits_now}
 use Rattle.ion_tokens.specs.machine.Table.{next}
 use Rattle.ion_text.specs.laws.reading.complete.Complete.{body_kind, kind_said, segment_kind}
 use Rattle.ion_text.specs.laws.reading.complete.Exact.{Exact, exact}
@@ -100,15 +100,10 @@ text_no_left : (long : Bool) (p : Place) (s s' : Known) (o : ℕ) (x : Lexeme) (
 text_no_left long p s s' o x (Action.Go m k) h e = cc
 text_no_left long p s s' o x _ h e = cc
 
-lexeme_in : Lexeme → Outcome → Lexeme
-lexeme_in d (Left x s) = x
-lexeme_in d _ = d
-
 abbrev pub IsEmptyQuotes : Known → Lexeme → Type 0
 IsEmptyQuotes s x = (x.kind ≡ TokenKind.QuotedSymbol) × (x.end ≡ x.start + 2)
 
 quotes_left : (p : Place) (s s' : Known) (o : ℕ) (x : Lexeme) → Exact s → s.mode ≡ Mode.Quotes → feed p s o ≡ Left x s' → IsEmptyQuotes s x
-unfolding lexeme_in
 quotes_left p s s' o x f e h = go (o == 39) (sym (ap (λ m. acts p s o (next p s.colon m o)) e) ∙ h)
   where
     span : s.used ≡ s.start + 2
@@ -121,10 +116,9 @@ quotes_left p s s' o x f e h = go (o == 39) (sym (ap (λ m. acts p s o (next p s
         → IsEmptyQuotes s x
     go true k = absurd cc
     go false k =
-        let same = ap (lexeme_in x) k in
-        let kind : TokenKind.QuotedSymbol ≡ x.kind = ap (λ (y : Lexeme). y.kind) same in
-        let from : start_of s.mode s.start s.used ≡ x.start = ap (λ (y : Lexeme). y.start) same in
-        let to : s.used - 0 ≡ x.end = ap (λ (y : Lexeme). y.end) same in
+        let kind : TokenKind.QuotedSymbol ≡ x.kind = cc in
+        let from : start_of s.mode s.start s.used ≡ x.start = cc in
+        let to : s.used - 0 ≡ x.end = cc in
         (sym kind, omega (arith, from, to, span, starts))
 
 -- a token that is left where quotes are open is `''`

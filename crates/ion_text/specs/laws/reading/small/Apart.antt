@@ -8,7 +8,9 @@ use Rattle.ion_text.specs.machine.TokenLists.{walked}
 use Rattle.ion_text.specs.laws.reading.complete.Complete.{Begins}
 use Rattle.ion_text.specs.laws.reading.complete.Going.{Going, TurnGoes, added, going_said, going_settle, going_turn, mark_kind}
 use Rattle.ion_text.specs.laws.reading.complete.Pieces.{ReadSoFar, more_read, pieces_read, walked_now}
+use Rattle.ion_text.specs.laws.reading.small.Nodes.{tokens_far}
 use Rattle.ion_text.specs.laws.reading.small.Sizes.{Weighs, open_nodes, settle_weighs, turn_weighs, wait_end}
+use Rattle.ion_text.specs.laws.showing.shown.OpenRests.{lexed_end}
 use Rattle.ion_text.specs.laws.showing.shown.Opened.{blank_token, colons_token, long_token, quoted_token, segment_is}
 use Rattle.ion_text.specs.laws.showing.tokens.Compare.{Compared, Found', begins_after, compare, lexes_once}
 use Rattle.ion_text.specs.laws.showing.tokens.Cuts.{Parted, parted}
@@ -89,19 +91,6 @@ module _ (g : Catalog) (l : Limits) where
 
 -- 2. More tokens behind whole pieces.
 
--- tokens end behind an octet of each of them
-tokens_far : (ts : List Placed) (colon : Bool) (before : ℕ) (octets : List ℕ) (after : Bool) (end : ℕ) (rest : List ℕ)
-    → LexesTo colon before octets ts after end rest → before + length ts ≤ end
-tokens_far [] colon before octets after end rest (c, b, o) = omega arith
-tokens_far (t ∷ ts) colon before octets after end rest (q, b, h) =
-    omega (
-      arith,
-      tokens_far ts (colon_behind t) t.lexeme.end q after end rest h,
-      b.start,
-      b.end,
-      some_token t.place colon b.token q t.lexeme.kind t.lexeme.octets b.is,
-    )
-
 module _ (g : Catalog) (l : Limits) (front following : List ℕ) (s : List Value) (w : Whole g l front following s) (y : Placed) (ys : List Placed) (after : Bool)
     (end : ℕ) (rest : List ℕ) (lexed : LexesTo false 0 (front ++ following) (w.tokens ++ y ∷ ys) after end rest) (top : y.place ≡ Place.Top) where
   parts : Parted false 0 (front ++ following) w.tokens (y ∷ ys) after end rest
@@ -120,7 +109,8 @@ module _ (g : Catalog) (l : Limits) (front following : List ℕ) (s : List Value
       let starts = begins_after parts.flag parts.mid parts.left y (parts.second).0 w.blank following token plain w.is_blank one.2 in
       let some = some_token y.place parts.flag token.token (parts.second).0 y.lexeme.kind y.lexeme.octets token.is in
       let far = tokens_far ys (colon_behind y) y.lexeme.end (parts.second).0 after end rest (parts.second).2 in
-      omega (arith, starts, one.1, whole_ends g l front following s w, some, token.start, token.end, far)
+      let last = lexed_end ys (colon_behind y) y.lexeme.end (parts.second).0 after end rest (parts.second).2 in
+      omega (arith, starts, one.1, whole_ends g l front following s w, some, token.start, token.end, far.0, last)
 
   -- they don't go on with the last of the pieces
   module _ (all : List Value) (d : Going g l (fresh system_slots) (w.tokens ++ y ∷ ys) all) where

@@ -33,11 +33,7 @@ quote_kept p colon k _ kept start since e h = absurd cc
 
 module _ (g : Catalog) (l : Limits) (u : List ℕ) (vs : List Value) (m : State) (b : Stood g l u vs m) (within : Within g l m) (looked : ℕ)
     (steady : IsSteady m.scan looked) where
-  abbrev s : Known
-  s = m.scan
-
-  abbrev r : Reading
-  r = m.reading
+  open m use {scan as s, reading as r}
 
   abbrev p : Place
   p = place m.reading

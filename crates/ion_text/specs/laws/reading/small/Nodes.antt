@@ -72,34 +72,19 @@ mutual
       )
   members_nodes c _ _ _ (field_comma ts ms t d i) = omega (arith, members_nodes c ts ms _ d, length-append ts (t ∷ []))
 
--- tokens end behind an octet of each of them
-ends_far : (ts : List Placed) (colon : Bool) (before : ℕ) (octets : List ℕ) (after : Bool) (end : ℕ) (rest : List ℕ)
-    → LexesTo colon before octets ts after end rest → before + length ts ≤ end_of before ts
-ends_far [] colon before octets after end rest h = omega arith
-ends_far (t ∷ ts) colon before octets after end rest (q, b, h) =
-    omega (
-      arith,
-      ends_far ts (colon_behind t) t.lexeme.end q after end rest h,
-      b.start,
-      b.end,
-      some_token t.place colon b.token q t.lexeme.kind t.lexeme.octets b.is,
-    )
-
--- tokens span an octet of each of them
-span_long : (ts : List Placed) (colon : Bool) (before : ℕ) (octets : List ℕ) (after : Bool) (end : ℕ) (rest : List ℕ)
-    → LexesTo colon before octets ts after end rest → length ts ≤ span ts
-span_long [] colon before octets after end rest h = omega arith
-span_long (t ∷ ts) colon before octets after end rest (q, b, h) =
-    omega (
-      arith,
-      ends_far ts (colon_behind t) t.lexeme.end q after end rest h,
-      b.start,
-      b.end,
-      some_token t.place colon b.token q t.lexeme.kind t.lexeme.octets b.is,
-    )
+-- tokens end behind an octet of each of them, and span these
+pub tokens_far : (ts : List Placed) (colon : Bool) (before : ℕ) (octets : List ℕ) (after : Bool) (end : ℕ) (rest : List ℕ)
+    → LexesTo colon before octets ts after end rest → (before + length ts ≤ end_of before ts) × (length ts ≤ span ts)
+tokens_far [] colon before octets after end rest h = (omega arith, omega arith)
+tokens_far (t ∷ ts) colon before octets after end rest (q, b, h) =
+    let far = (tokens_far ts (colon_behind t) t.lexeme.end q after end rest h).0 in
+    let start = b.start in
+    let behind = b.end in
+    let some = some_token t.place colon b.token q t.lexeme.kind t.lexeme.octets b.is in
+    (omega arith, omega arith)
 
 -- a value has at most as many nodes as its tokens span octets
 pub value_nodes : (c : List Slot) (p : Place) (ts : List Placed) (v : Value) (colon : Bool) (before : ℕ) (octets : List ℕ) (after : Bool) (end : ℕ)
     (rest : List ℕ)
     → Means c p ts v → LexesTo colon before octets ts after end rest → nodes v ≤ span ts
-value_nodes c p ts v colon before octets after end rest m h = omega (arith, means_nodes c p ts v m, span_long ts colon before octets after end rest h)
+value_nodes c p ts v colon before octets after end rest m h = omega (arith, means_nodes c p ts v m, (tokens_far ts colon before octets after end rest h).1)

@@ -41,14 +41,9 @@ end_fine p Mode.Quotes = (refl, (λ e. absurd cc), (λ e. refl), refl, (λ e. ab
 end_fine p Mode.Brace = (refl, (λ e. refl), (λ e. refl), refl, (λ e. absurd cc), (λ e. absurd cc))
 end_fine p _ = tt
 
-kind_in : Result (Option Lexeme) Reason → TokenKind → TokenKind
-kind_in (Ok (Some x)) k = x.kind
-kind_in _ k = k
-
 token_fine : (m : Mode) (s : Known) (e : End) (x : Lexeme) → EndFine m e → ends_at s e ≡ Ok (Some x) → KindFine m x.kind
-unfolding kind_in
 token_fine m s End.Blank x f h = absurd (let n : Ok None ≡ Ok (Some x) = h in cc)
-token_fine m s (End.Token kind k) x f h = subst (KindFine m) (ap (λ y. kind_in y x.kind) h) f
+token_fine m s (End.Token kind k) x f h = let same : kind ≡ x.kind = cc in subst (KindFine m) same f
 token_fine m s (End.Refuse e) x f h = absurd cc
 
 -- a token that the end ends is no segment and no close, and quoted only where quotes are open

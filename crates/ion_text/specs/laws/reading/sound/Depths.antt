@@ -1,5 +1,5 @@
 -- What the reader gives is no deeper than the limit.
-use Rattle.std.proofs.Common.{◌≡◌, ℕ, suc, ◌+◌, ◌<◌, ◌≤◌, List, [], ◌∷◌, ◌++◌, length, refl, ◌∙◌, arith}
+use Rattle.std.proofs.Common.{◌≡◌, ℕ, suc, ◌+◌, ◌<◌, ◌≤◌, List, [], ◌∷◌, length, refl, ◌∙◌, arith}
 use Rattle.ion_text.specs.Names.{Bracket, Catalog, Frame, Limits, Now, Payload, Reading, Spot, Symbols, Token, Turn, Value, annotated, depth, field_of, gives, goes, opened, settle, turn, under}
 use Rattle.ion_model.specs.declared.value.Payload.TheVariants as payloads
 use Rattle.ion_model.specs.laws.Measures.{deepest-more, depth-at}

@@ -286,7 +286,7 @@ module _ (g : Catalog) (l : Limits) where
   sounds_read S u vs s ahead A c front item start end (refuses e) p h deep first last scanned apart long sane fine = tt
   sounds_read S u vs s ahead A c front item start end (late e r) p h deep first last scanned apart long sane fine = tt
 
-  any_turn : (P : Reading → Type 0) → ((r : Reading) → P r) → (t : Turn) → Leading g l P t
+  pub any_turn : (P : Reading → Type 0) → ((r : Reading) → P r) → (t : Turn) → Leading g l P t
   any_turn P h (goes r) = h r
   any_turn P h (gives v r) = h r
   any_turn P h _ = tt

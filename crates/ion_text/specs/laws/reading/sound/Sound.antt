@@ -47,30 +47,13 @@ module _ (g : Catalog) (l : Limits) where
       subst (λ x. Sounds c start end (x ++ us) (ended (under g l) (spot_at end start c) [] v)) (sym o)
       (top_sounds c us v start end (is_table v) (next c v g) m refl refl (n refl) (q refl))
   ended_sounds c (Frame.Items Listing.List ss vs ∷ fs) front us v start end o r m a n q =
-      inl (
-        (
-          refl,
-          (
-            more_around c fs ss Bracket.List (Items c Listing.List vs true) (Items c Listing.List (vs ++ v ∷ []) false) front us o
-                (element o.body us vs v o.items m),
-            refl,
-            tt,
-          ),
-        ),
-        refl,
-        tt,
-      )
+      let around = more_around c fs ss Bracket.List (Items c Listing.List vs true) (Items c Listing.List (vs ++ v ∷ []) false) front us o
+      (element o.body us vs v o.items m) in
+      inl ((refl, (around, refl, tt)), refl, tt)
   ended_sounds c (Frame.Items Listing.Sexp ss vs ∷ fs) front us v start end o r m a n q =
-      inl (
-        (
-          refl,
-          nothing_noted c (Frame.Items Listing.Sexp ss (vs ++ v ∷ []) ∷ fs) (front ++ us)
-              (more_around c fs ss Bracket.Sexp (Items c Listing.Sexp vs true) (Items c Listing.Sexp (vs ++ v ∷ []) true) front us o
-              (item o.body us vs v o.items m a)) tt,
-        ),
-        refl,
-        tt,
-      )
+      let around = more_around c fs ss Bracket.Sexp (Items c Listing.Sexp vs true) (Items c Listing.Sexp (vs ++ v ∷ []) true) front us o
+      (item o.body us vs v o.items m a) in
+      inl ((refl, nothing_noted c (Frame.Items Listing.Sexp ss (vs ++ v ∷ []) ∷ fs) (front ++ us) around tt), refl, tt)
   ended_sounds c (Frame.Named ss ms s ∷ fs) front us v start end o r m a n q =
       inl (
         (
@@ -172,24 +155,12 @@ module _ (g : Catalog) (l : Limits) where
       → ReadyFor c fs ss ts → Says (value_place fs) t (Mark' (open_mark bracket)) → Sounds c start end (ts ++ t ∷ [])
       (if b then goes (at start c (opened bracket ss ∷ fs) [] (first_now bracket)) else
       beyond_depth bracket (at start c (opened bracket ss ∷ fs) [] (first_now bracket)))
-  opens_sounds Bracket.List c fs ss ts t start end true d i = inl (
-    (
-      refl,
-      nothing_noted c (Frame.Items Listing.List ss [] ∷ fs) (ts ++ t ∷ [])
-          (opened_around c fs ss Bracket.List (Items c Listing.List [] true) ts t d i no_element) tt,
-    ),
-    refl,
-    tt,
-  )
-  opens_sounds Bracket.Sexp c fs ss ts t start end true d i = inl (
-    (
-      refl,
-      nothing_noted c (Frame.Items Listing.Sexp ss [] ∷ fs) (ts ++ t ∷ [])
-          (opened_around c fs ss Bracket.Sexp (Items c Listing.Sexp [] true) ts t d i no_item) tt,
-    ),
-    refl,
-    tt,
-  )
+  opens_sounds Bracket.List c fs ss ts t start end true d i =
+      let around = opened_around c fs ss Bracket.List (Items c Listing.List [] true) ts t d i no_element in
+      inl ((refl, nothing_noted c (Frame.Items Listing.List ss [] ∷ fs) (ts ++ t ∷ []) around tt), refl, tt)
+  opens_sounds Bracket.Sexp c fs ss ts t start end true d i =
+      let around = opened_around c fs ss Bracket.Sexp (Items c Listing.Sexp [] true) ts t d i no_item in
+      inl ((refl, nothing_noted c (Frame.Items Listing.Sexp ss [] ∷ fs) (ts ++ t ∷ []) around tt), refl, tt)
   opens_sounds Bracket.Fields c fs ss ts t start end true d i =
       inl ((refl, (opened_around c fs ss Bracket.Fields (λ body. Members c body [] true) ts t d i no_field, tt)), refl, tt)
   opens_sounds _ c fs ss ts t start end _ d i = tt
@@ -349,27 +320,13 @@ module _ (g : Catalog) (l : Limits) where
   -- behind an element or a field
   pub after_sounds : (c : List Slot) (fs : List Frame) (ts : List Placed) (t : Placed) (said : Content) (start end : ℕ) → Deep l.depth fs → Opened c fs ts false
       → Says (place_in fs Now.After) t said → Sounds c start end (ts ++ t ∷ []) (on_after (under g l) (spot_at end start c) fs said)
-  after_sounds c (Frame.Items Listing.List ss vs ∷ fs) ts t (Mark' Mark.Comma) start end dd o i = inl (
-    (
-      refl,
-      nothing_noted c (Frame.Items Listing.List ss vs ∷ fs) (ts ++ t ∷ [])
-          (more_around c fs ss Bracket.List (Items c Listing.List vs false) (Items c Listing.List vs true) ts (t ∷ []) o (comma o.body vs t o.items i)) tt,
-    ),
-    refl,
-    tt,
-  )
-  after_sounds c (Frame.Fields ss ms ∷ fs) ts t (Mark' Mark.Comma) start end dd o i = inl (
-    (
-      refl,
-      (
-        more_around c fs ss Bracket.Fields (λ body. Members c body ms false) (λ body. Members c body ms true) ts (t ∷ []) o
-            (field_comma o.body ms t o.items i),
-        tt,
-      ),
-    ),
-    refl,
-    tt,
-  )
+  after_sounds c (Frame.Items Listing.List ss vs ∷ fs) ts t (Mark' Mark.Comma) start end dd o i =
+      let around = more_around c fs ss Bracket.List (Items c Listing.List vs false) (Items c Listing.List vs true) ts (t ∷ []) o (comma o.body vs t o.items i) in
+      inl ((refl, nothing_noted c (Frame.Items Listing.List ss vs ∷ fs) (ts ++ t ∷ []) around tt), refl, tt)
+  after_sounds c (Frame.Fields ss ms ∷ fs) ts t (Mark' Mark.Comma) start end dd o i =
+      let around = more_around c fs ss Bracket.Fields (λ body. Members c body ms false) (λ body. Members c body ms true) ts (t ∷ []) o
+      (field_comma o.body ms t o.items i) in
+      inl ((refl, (around, tt)), refl, tt)
   after_sounds c fs ts t (Mark' Mark.ListClose) start end dd o i =
       close_sounds Bracket.List c fs ts t Now.After false start end (λ ss ms fs. refl) dd o i
   after_sounds c fs ts t (Mark' Mark.FieldsClose) start end dd o i =

@@ -1,9 +1,8 @@
 -- Where the end of the octets would give a value, the next octet isn't used to give one: what shows that a value has ended isn't part of it.
-use Rattle.std.proofs.Common.{◌≡◌, ℕ, ◌+◌, Bool, true, false, ◌&&◌, not, nat_lt, List, [], ◌∷◌, Result, Ok, Err, Option, Some, None, refl, sym, ap, ◌∙◌, subst, ◌⊎◌, inl, inr, if◌then◌else◌}
+use Rattle.std.proofs.Common.{◌≡◌, ℕ, Bool, true, false, ◌&&◌, not, nat_lt, List, [], ◌∷◌, Result, Ok, Err, Option, Some, None, refl, sym, ap, ◌∙◌, subst, ◌⊎◌, inl, inr, if◌then◌else◌}
 use Rattle.std.proofs.lemmas.Bool.{cond_both}
 use Rattle.std.specs.Prelude.{◌==◌, bytes_eq, codes}
-use Rattle.ion_text.specs.Names.{Action, Bracket, Catalog, Content, Effect, Frame, Given, Known, Left, Lexeme, Limits, Long, Mark, Mark', Mode, Next, Now, Outcome, Place, Placed, Reading, Reason, Refused, Slot, Spot, State, Symbols, Token, TokenKind, Turn, Value, acts, at, at_end, begun_at, blob_ends, blob_of, cut_short, end_of, end_ready, end_said, end_settled, end_turned, end_waiting, ends_at, feed, first_now, gives, goes, is_fresh, is_mark, is_top, late, open_mark, opened, place, refuses, said, said_body, settle, takes, tells, token_at, token_of, turn, under}
-use Rattle.ion_model.specs.declared.value.Payload.TheVariants as payloads
+use Rattle.ion_text.specs.Names.{Action, Bracket, Catalog, Content, Effect, Frame, Given, Known, Left, Lexeme, Limits, Mark, Mark', Mode, Next, Now, Outcome, Place, Placed, Reading, Reason, Refused, Slot, Spot, State, Symbols, Token, TokenKind, Turn, Value, acts, at, at_end, begun_at, blob_ends, blob_of, cut_short, end_of, end_ready, end_said, end_settled, end_turned, end_waiting, ends_at, feed, first_now, gives, goes, is_fresh, is_mark, is_top, late, open_mark, opened, place, refuses, said, said_body, settle, takes, tells, token_at, token_of, turn, under}
 use Rattle.ion_tokens.specs.machine.Table.{next}
 use Rattle.ion_tokens.specs.laws.ByRows.{by_rows_where}
 use Rattle.ion_text.specs.machine.Run.{ends}
@@ -207,17 +206,13 @@ blank_plain p s h = go s.mode h
     go (Mode.Lob b) e = absurd cc
     go _ e = refl
 
-abbrev kind_in : Result (Option Lexeme) Reason → TokenKind → TokenKind
-kind_in (Ok (Some x)) k = x.kind
-kind_in _ k = k
-
 token_plain : (p : Place) (s : Known) (x : Lexeme) → at_end p s ≡ Ok (Some x) → (is_plain s.mode ≡ true) ⊎ (x.kind ≡ TokenKind.Mark Mark.FieldsOpen)
 token_plain p s x h = go s.mode h
   where
     go : (m : Mode) → ends_at s (end_of p m) ≡ Ok (Some x) → (is_plain m ≡ true) ⊎ (x.kind ≡ TokenKind.Mark Mark.FieldsOpen)
     go Mode.Quote e = absurd cc
     go (Mode.Text t w) e = absurd cc
-    go Mode.Brace e = inr (sym (ap (λ y. kind_in y x.kind) e))
+    go Mode.Brace e = inr cc
     go (Mode.Lob b) e = absurd cc
     go _ e = inl refl
 

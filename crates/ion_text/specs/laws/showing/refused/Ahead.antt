@@ -6,7 +6,7 @@ use Rattle.ion_tokens.specs.machine.Table.{go as go_on}
 use Rattle.ion_tokens.proofs.complete.Moves.{at}
 use Rattle.ion_tokens.proofs.complete.TakesBlanks.{passes_blank}
 use Rattle.ion_tokens.proofs.complete.Wholes.{run_behind}
-use Rattle.ion_text.specs.laws.reading.complete.Found.{next_is}
+use Rattle.ion_text.specs.laws.reading.complete.Found.{next_is, run_keeps}
 use Rattle.ion_text.specs.laws.reading.complete.Meets.{LongOn, follows_as, is_long_text}
 use Rattle.ion_text.specs.laws.reading.complete.Segments.{never}
 use Rattle.ion_text.specs.laws.reading.sound.Held.{NoLongText, NoSegment}
@@ -45,11 +45,7 @@ last_fed p xs o s t u e f =
 
 -- a token that has begun and isn't one in quotes stays so
 open_kept : (p : Place) (os : List ℕ) (s t : Known) → is_sane s.mode ≡ true → NoLongText s.mode → run p os s ≡ Next t → NoLongText t.mode
-open_kept p [] s t h i e = subst (λ (x : Known). NoLongText x.mode) (next_is s t e) i
-open_kept p (o ∷ os) s t h i e =
-    let x = followed (feed p s o) (λ n. run p os n) t e in
-    let f = follows_as p s o (Next x.0) h x.1 in
-    open_kept p os x.0 t f.0 (f.1 i.0, f.2 i.0 i.1) x.2
+open_kept = run_keeps NoLongText (λ p s t o sane e i. let f = follows_as p s o (Next t) sane e in (f.1 i.0, f.2 i.0 i.1))
 
 module _ (p : Place) (k : ℕ) (since : List ℕ) (s : Known) (o : ℕ) (sane : is_sane s.mode ≡ true) where
   -- Of two such octets behind a blank, where the first one leads there, this octet is neither, and both don't stand before it.

@@ -1,11 +1,10 @@
 -- Where an octet is refused and something waits, the tokens that it waits behind are the last of no piece that remains one.
 use Rattle.std.proofs.Common.{◌≡◌, ℕ, ◌+◌, ◌≤◌, Bool, true, false, ◌&&◌, ◌||◌, List, [], ◌∷◌, ◌++◌, refl, sym, ap, ◌∙◌, subst, append-nil, inl, inr, codes}
-use Rattle.ion_text.specs.Names.{BlankThen, Catalog, Frame, Given, Held, Known, Left, Limits, Next, Now, Outcome, Place, Placed, Reading, Refused, Turn, Value, Whole, ends_long, feed, goes, in_segment, is_quoted, is_top, late, place, place_in, refuses, settle, unsettled, waits, waits_now}
+use Rattle.ion_text.specs.Names.{BlankThen, Catalog, Frame, Given, Held, Left, Limits, Next, Now, Outcome, Place, Placed, Reading, Refused, Turn, Value, Whole, ends_long, feed, goes, in_segment, is_quoted, is_top, late, place, place_in, refuses, settle, unsettled, waits, waits_now}
 use Rattle.ion_text.specs.laws.reading.complete.Complete.{ends_behind, segments_long}
 use Rattle.ion_text.specs.laws.reading.complete.Going.{Going, TurnEnds, going_ends, settled_bound}
 use Rattle.ion_text.specs.laws.reading.complete.Meets.{is_long_text}
 use Rattle.ion_text.specs.laws.reading.complete.Segments.{in_text}
-use Rattle.ion_text.specs.laws.reading.sound.Held.{ApartAt}
 use Rattle.ion_text.specs.laws.reading.sound.Spans.{IsWaiting, settle_spans}
 use Rattle.ion_text.specs.laws.reading.sound.StandsOpen.{LongFor, NowStands, end_of_now}
 use Rattle.ion_text.specs.laws.showing.refused.Halting.{follows}
@@ -17,17 +16,10 @@ use Rattle.ion_text.specs.laws.showing.tokens.Cuts.{OpenBehind, behind_tokens}
 
 module _ (g : Catalog) (l : Limits) (u : List ℕ) (o : ℕ) (vs : List Value) (h : Halted g l u o vs) (x : Placed) (xs : List Placed)
     (some : h.b.item ≡ x ∷ xs) where
-  abbrev s : Known
-  s = h.s
-
-  abbrev r : Reading
-  r = h.r
+  open h use {s, r}
 
   abbrev p : Place
   p = place h.r
-
-  abbrev A : Type 0
-  A = ApartAt o h.s h.r
 
   abbrev k : OpenBehind p s u (h.b.front ++ h.b.item) h.ahead
   k = behind_tokens p s u (h.b.front ++ h.b.item) h.ahead h.b.scanned
@@ -35,7 +27,7 @@ module _ (g : Catalog) (l : Limits) (u : List ℕ) (o : ℕ) (vs : List Value) (
   module _ (following : List ℕ) (v rest : List ℕ) (t : List Value) (cut : u ≡ v ++ rest) (w : Whole g l v (rest ++ o ∷ following) t)
       (e : w.tokens ≡ h.b.front ++ h.b.item) where
     there : IsWaiting g l r.now × (Place.Top ≡ p)
-    there = waits_there g l u vs s r h.ahead A h.b (used g l u o vs h x xs some) x xs some (o ∷ following) (follows g l u o vs h following) v rest t cut w e
+    there = waits_there g l u vs s r h.ahead _ h.b (used g l u o vs h x xs some) x xs some (o ∷ following) (follows g l u o vs h following) v rest t cut w e
 
     none_open : r.frames ≡ []
     none_open = go r.frames refl
@@ -46,7 +38,7 @@ module _ (g : Catalog) (l : Limits) (u : List ℕ) (o : ℕ) (vs : List Value) (
 
     on : (all : List Value) × Going g l r [] all
     on =
-        let m = going_behind g l u vs s r h.ahead A h.b (used g l u o vs h x xs some) x xs some (o ∷ following) (follows g l u o vs h following) v rest t cut w
+        let m = going_behind g l u vs s r h.ahead _ h.b (used g l u o vs h x xs some) x xs some (o ∷ following) (follows g l u o vs h following) v rest t cut w
         [] (e ∙ sym (append-nil (h.b.front ++ h.b.item))) in
         (m.0, subst (λ n. Going g l n [] m.0) (waited g l u o vs h x xs some there.0) m.1)
 
@@ -59,11 +51,11 @@ module _ (g : Catalog) (l : Limits) (u : List ℕ) (o : ℕ) (vs : List Value) (
         (settle_spans g l r.start r.context r.frames r.notes r.now 0 there.0) (inr ends)
 
     shuts_colons : k.colon ≡ true → BlankThen (codes "::") (k.since ++ o ∷ following) → ⊥
-    shuts_colons = no_colons g l u vs s r h.ahead A h.b (used g l u o vs h x xs some) x xs some (o ∷ following) (follows g l u o vs h following) v rest t cut w
+    shuts_colons = no_colons g l u vs s r h.ahead _ h.b (used g l u o vs h x xs some) x xs some (o ∷ following) (follows g l u o vs h following) v rest t cut w
         e
 
     shuts_quotes : ends_long (h.b.front ++ h.b.item) ≡ true → BlankThen (codes "''") (k.since ++ o ∷ following) → ⊥
-    shuts_quotes = no_quotes g l u vs s r h.ahead A h.b (used g l u o vs h x xs some) x xs some (o ∷ following) (follows g l u o vs h following) v rest t cut w
+    shuts_quotes = no_quotes g l u vs s r h.ahead _ h.b (used g l u o vs h x xs some) x xs some (o ∷ following) (follows g l u o vs h following) v rest t cut w
         e
 
     -- a symbol waits

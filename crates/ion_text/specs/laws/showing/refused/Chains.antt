@@ -13,7 +13,7 @@ use Rattle.ion_text.specs.laws.reading.sound.Admits.{no_item}
 use Rattle.ion_text.specs.laws.reading.sound.Held.{ApartAt, IsLongNow, NoLongText, Reads, or_parts, settled_read}
 use Rattle.ion_text.specs.laws.reading.sound.StandsOpen.{IsStruct, NowStands}
 use Rattle.ion_text.specs.laws.reading.sound.Steps.{Stood, open_at}
-use Rattle.ion_text.specs.laws.showing.refused.Halts.{Before, Chain, ChainsAgain, Enough, GaveBefore, Kept, NotColons, TurnRefuses, idle_colon, idle_no_text, mark_colons, quoting_no_text, scan_chain, symbol_colons, worse_chain}
+use Rattle.ion_text.specs.laws.showing.refused.Halts.{Before, Chain, ChainsAgain, Enough, GaveBefore, Halted, Kept, NotColons, TurnRefuses, idle_colon, idle_no_text, mark_colons, quoting_no_text, scan_chain, symbol_colons, worse_chain}
 use Rattle.ion_text.specs.laws.showing.shown.Symbols.{HasBegun}
 use Rattle.ion_text.specs.laws.showing.tokens.Cuts.{behind_tokens}
 use Rattle.ion_text.specs.laws.showing.tokens.Exacts.{behind_used, exact_at, long_colon, top_none}
@@ -34,6 +34,18 @@ module _ (g : Catalog) (l : Limits) where
           colons : is_top r.frames ≡ true → s.colon ≡ true → NotColons (feed (place r) s o)
           bare : is_top r.frames ≡ true → is_long_text s.mode ≡ false
           colon : is_top r.frames ≡ true → (y : Lexeme) (t : Known) → feed (place r) s o ≡ Left y t → y.kind ≡ TokenKind.Mark Mark.Colon
+
+        -- what waited is refused
+        halted : (z : Turn) → settle g l r ≡ z → TurnRefuses g l z → Halted g l u o vs
+        halted z f refused = record {
+          s = s;
+          r = r;
+          ahead = ahead;
+          next = next;
+          b = b;
+          kept = kept;
+          stops = inr (shut, subst (TurnRefuses g l) (sym f) refused);
+        }
 
         settled : ShownAtTop → (z : Turn) → settle g l r ≡ z → Reads g l Scanned u vs s ahead (λ n. ApartAt o s n) z
             → Leading g l (λ n. (place n ≡ place r) × (is_top n.frames ≡ is_top r.frames)) z
@@ -61,19 +73,8 @@ module _ (g : Catalog) (l : Limits) where
               fresh = h.1;
               colon = λ y t e. sh.colon top y t (ap (λ p. feed p s o) (sym i.0) ∙ e);
             }
-        settled sh (refuses z) f h i j q = record {
-          s = s;
-          r = r;
-          ahead = ahead;
-          next = next;
-          b = b;
-          kept = kept;
-          stops =
-              inr (shut, subst (TurnRefuses g l) (sym f) tt);
-        }
-        settled sh (late z m) f h i j q =
-            worse_chain g l u o vs z (on_scan g l (λ k. takes g l n k o) m (feed (place r) s o))
-            (record { s = s; r = r; ahead = ahead; next = next; b = b; kept = kept; stops = inr (shut, subst (TurnRefuses g l) (sym f) tt) })
+        settled sh (refuses z) f h i j q = halted (refuses z) f tt
+        settled sh (late z m) f h i j q = worse_chain g l u o vs z (on_scan g l (λ k. takes g l n k o) m (feed (place r) s o)) (halted (late z m) f tt)
 
         waited : ShownAtTop → Chain g l u o vs (on_settled g l (λ k. takes g l n k o) s (feed (place r) s o) (settle g l r))
         waited sh =

@@ -1,6 +1,6 @@
 -- Where an octet is refused: the whole pieces in front of it and of what follows, and octets behind it that show what has ended.
 use Rattle.std.proofs.Common.{◌≡◌, ℕ, ◌≤◌, Bool, List, [], ◌∷◌, ◌++◌, refl, ap, ◌∙◌, subst, arith, append-nil, ◌⊎◌, inl, inr}
-use Rattle.ion_text.specs.Names.{AreOctets, Catalog, Continues, Given, Known, Left, Lexeme, Limits, Mode, Next, Outcome, Place, Reading, Refused, Scanned, Value, ends_long, feed, follow, is_top, place, scan as run}
+use Rattle.ion_text.specs.Names.{AreOctets, Catalog, Continues, Given, Known, Left, Lexeme, Limits, Mode, Next, Outcome, Place, Refused, Scanned, Value, ends_long, feed, follow, is_top, place, scan as run}
 use Rattle.ion_tokens.proofs.complete.Moves.{at}
 use Rattle.ion_tokens.proofs.histories.Escapes.{escape}
 use Rattle.ion_tokens.proofs.runs.Runs.{feed_used}
@@ -17,11 +17,7 @@ use Rattle.ion_text.specs.laws.showing.tokens.Cuts.{Is, OpenBehind, behind_token
 use Rattle.ion_text.specs.laws.showing.tokens.Froms.{fresh_parts}
 
 module _ (g : Catalog) (l : Limits) (u : List ℕ) (o : ℕ) (vs : List Value) (h : Halted g l u o vs) where
-  abbrev s : Known
-  s = h.s
-
-  abbrev r : Reading
-  r = h.r
+  open h use {s, r}
 
   abbrev p : Place
   p = place h.r

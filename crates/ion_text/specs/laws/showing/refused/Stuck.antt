@@ -1,7 +1,7 @@
 -- Where an octet is refused and no item is open, no whole pieces go on behind the tokens told before it.
 use Rattle.std.proofs.Common.{◌≡◌, ℕ, Bool, true, false, ◌&&◌, List, [], ◌∷◌, ◌++◌, Ok, refl, sym, ap, ◌∙◌, subst, append-nil, ◌⊎◌, inl, inr}
 use Rattle.std.proofs.lemmas.Bool.{false_from_ne_true}
-use Rattle.ion_text.specs.Names.{Catalog, Content, IsBody, Known, Left, Limits, Long, Mark, Mark', Now, Place, Placed, Quoted, Reading, Slot, Turn, Value, Whole, at, continues, done, ends_long, feed, fresh, gives, goes, is_colons, is_fresh, is_quoted, is_segment, is_top, late, on_turn, place, reads, refuses, said, said_body, settle, system_slots, token_of, turn, unsettled}
+use Rattle.ion_text.specs.Names.{Catalog, Content, IsBody, Known, Left, Limits, Long, Mark, Mark', Now, Place, Placed, Quoted, Slot, Turn, Value, Whole, at, continues, done, ends_long, feed, fresh, gives, goes, is_colons, is_fresh, is_quoted, is_segment, is_top, late, on_turn, place, reads, refuses, said, said_body, settle, system_slots, token_of, turn, unsettled}
 use Rattle.ion_text.specs.machine.TokenLists.{walked}
 use Rattle.ion_text.specs.laws.reading.complete.Complete.{segment_kind}
 use Rattle.ion_text.specs.laws.reading.complete.Going.{Going, TurnGoes, going_said, going_settle, going_turn, mark_kind}
@@ -31,11 +31,7 @@ module _ (g : Catalog) (l : Limits) where
   settled_fresh _ later c ts all e d = absurd d
 
   module _ (u : List ℕ) (o : ℕ) (vs : List Value) (h : Halted g l u o vs) where
-    abbrev s : Known
-    s = h.s
-
-    abbrev r : Reading
-    r = h.r
+    open h use {s, r}
 
     abbrev p : Place
     p = place h.r

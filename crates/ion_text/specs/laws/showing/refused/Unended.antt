@@ -1,6 +1,6 @@
 -- Where an octet is refused and an item is open, no whole pieces go on behind the tokens told before it.
 use Rattle.std.proofs.Common.{◌≡◌, ℕ, ◌≤◌, Bool, true, false, ◌||◌, List, [], ◌∷◌, ◌++◌, length, Ok, Some, refl, sym, ap, ◌∙◌, subst, arith, append_assoc, length-append, ◌⊎◌, inl, inr}
-use Rattle.ion_text.specs.Names.{BeginsWith, Catalog, Content, Frame, Known, Leading, Left, LexesTo, Limits, Mode, Next, Now, Place, Placed, Reading, Turn, Value, Whole, at, colon_behind, continues, continues_now, feed, follow, goes, in_segment, is_fresh, is_top, place, place_in, said, said_body, scan as run, settle, takes_colon, token_of, turn, unsettled, waits}
+use Rattle.ion_text.specs.Names.{BeginsWith, Catalog, Content, Frame, Known, Leading, Left, LexesTo, Limits, Mode, Next, Now, Place, Placed, Turn, Value, Whole, at, colon_behind, continues, continues_now, feed, follow, goes, in_segment, is_fresh, is_top, place, place_in, said, said_body, scan as run, settle, takes_colon, token_of, turn, unsettled, waits}
 use Rattle.ion_tokens.proofs.complete.Moves.{at as scanning}
 use Rattle.ion_tokens.proofs.histories.Histories.{begins_completes}
 use Rattle.ion_tokens.proofs.runs.Runs.{left_used}
@@ -11,7 +11,6 @@ use Rattle.ion_text.specs.laws.reading.complete.Going.{Going, InsideNext, Operat
 use Rattle.ion_text.specs.laws.reading.complete.Meets.{finely_as}
 use Rattle.ion_text.specs.laws.reading.complete.Segments.{NotRefused, never, unsettled_waits}
 use Rattle.ion_text.specs.laws.reading.complete.Tokens.{left_agrees, left_colons, left_two}
-use Rattle.ion_text.specs.laws.reading.sound.Held.{ApartAt}
 use Rattle.ion_text.specs.laws.reading.sound.Quotes.{Finely, is_close}
 use Rattle.ion_text.specs.laws.reading.sound.Spans.{IsWaiting}
 use Rattle.ion_text.specs.laws.reading.sound.StandsOpen.{NowStands}
@@ -29,33 +28,26 @@ use Rattle.ion_text.specs.laws.showing.tokens.Stays.{Arrived}
 
 module _ (g : Catalog) (l : Limits) (u : List ℕ) (o : ℕ) (vs : List Value) (h : Halted g l u o vs) (x : Placed) (xs : List Placed)
     (some : h.b.item ≡ x ∷ xs) where
-  abbrev s : Known
-  s = h.s
-
-  abbrev r : Reading
-  r = h.r
+  open h use {s, r}
 
   abbrev p : Place
   p = place h.r
 
-  abbrev A : Type 0
-  A = ApartAt o h.s h.r
-
   -- the scanner has used the octets before the refused one, and no more
   pub used : s.used ≡ length u
-  used = behind_used g l u vs s r h.ahead A h.b
+  used = behind_used g l u vs s r h.ahead _ h.b
 
   abbrev k : OpenBehind p s u (h.b.front ++ h.b.item) h.ahead
   k = behind_tokens p s u (h.b.front ++ h.b.item) h.ahead h.b.scanned
 
   abbrev pub a : Arrived g l r.context r.frames r.notes r.now h.b.item
-  a = arrival g l u vs s r h.ahead A h.b used x xs some
+  a = arrival g l u vs s r h.ahead _ h.b used x xs some
 
   new : is_fresh r ≡ false
-  new = unfresh g l u vs s r h.ahead A h.b used x xs some
+  new = unfresh g l u vs s r h.ahead _ h.b used x xs some
 
   started : starts g l 0 [] h.b.item ≡ r.start
-  started = item_begins g l u vs s r h.ahead A h.b used x xs some
+  started = item_begins g l u vs s r h.ahead _ h.b used x xs some
 
   -- the tokens lead to the reading itself where something waits
   pub waited : IsWaiting g l r.now → a.r ≡ r
@@ -95,7 +87,7 @@ module _ (g : Catalog) (l : Limits) (u : List ℕ) (o : ℕ) (vs : List Value) (
     -- a token that is left before the octet
     module _ (z : Placed) (zs : List Placed) (e : w.tokens ≡ (h.b.front ++ h.b.item) ++ z ∷ zs) (n : Known) (left : feed p s o ≡ Left z.lexeme n) where
       on : (all : List Value) × Going g l a.r (z ∷ zs) all
-      on = going_behind g l u vs s r h.ahead A h.b used x xs some (o ∷ following) (follows g l u o vs h following) v rest t cut w (z ∷ zs) e
+      on = going_behind g l u vs s r h.ahead _ h.b used x xs some (o ∷ following) (follows g l u o vs h following) v rest t cut w (z ∷ zs) e
 
       abbrev says : (z.place ≡ place a.r) × (c : Content) × (said z.lexeme.kind z.lexeme.octets ≡ Ok c)
       says = going_said g l a.r z zs on.0 on.1
@@ -196,11 +188,11 @@ module _ (g : Catalog) (l : Limits) (u : List ℕ) (o : ℕ) (vs : List Value) (
           cut' =
               parted (h.b.front ++ h.b.item) (z ∷ zs) false 0 (u ++ o ∷ following) w.colon w.end (w.blank ++ (rest ++ o ∷ following))
               (subst (λ y. LexesTo false 0 (u ++ o ∷ following) y w.colon w.end (w.blank ++ (rest ++ o ∷ following))) e
-              (theirs g l u vs s r h.ahead A h.b used x xs some (o ∷ following) (follows g l u o vs h following) v rest t cut w))
+              (theirs g l u vs s r h.ahead _ h.b used x xs some (o ∷ following) (follows g l u o vs h following) v rest t cut w))
 
           one : (cut'.flag ≡ k.colon) × (cut'.mid ≡ k.end) × (cut'.left ≡ k.since ++ o ∷ following)
           one = lexes_once (h.b.front ++ h.b.item) false 0 (u ++ o ∷ following) cut'.flag k.colon cut'.mid k.end cut'.left (k.since ++ o ∷ following) cut'.first
-              (ours g l u vs s r h.ahead A h.b used x xs some (o ∷ following) (follows g l u o vs h following) v rest t cut w)
+              (ours g l u vs s r h.ahead _ h.b used x xs some (o ∷ following) (follows g l u o vs h following) v rest t cut w)
 
           here : z.place ≡ p
           here = says.0 ∙ a.here
@@ -249,8 +241,8 @@ module _ (g : Catalog) (l : Limits) (u : List ℕ) (o : ℕ) (vs : List Value) (
           bound : w.end ≤ length u
           bound = omega (
             arith,
-            size g l u vs s r h.ahead A h.b used x xs some (o ∷ following) (follows g l u o vs h following) v rest t cut w,
-            long g l u vs s r h.ahead A h.b used x xs some (o ∷ following) (follows g l u o vs h following) v rest t cut w,
+            size g l u vs s r h.ahead _ h.b used x xs some (o ∷ following) (follows g l u o vs h following) v rest t cut w,
+            long g l u vs s r h.ahead _ h.b used x xs some (o ∷ following) (follows g l u o vs h following) v rest t cut w,
           )
 
           by : InsideNext g l (a.r).start z d zs → ⊥

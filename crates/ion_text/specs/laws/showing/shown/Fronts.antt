@@ -1,6 +1,6 @@
 -- Behind octets that aren't refused, whole pieces of a document stand in front of the open item, whatever follows.
 use Rattle.std.proofs.Common.{◌≡◌, ℕ, ◌+◌, Bool, true, false, List, [], ◌∷◌, ◌++◌, length, refl, sym, ap, ◌∙◌, subst, arith, append_assoc, append-nil, length-append, ◌⊎◌, inl, inr, if◌then◌else◌}
-use Rattle.std.proofs.lemmas.Bool.{false_from_ne_true}
+use Rattle.std.proofs.lemmas.Bool.{and_from, false_from_ne_true}
 use Rattle.std.specs.Prelude.{◌&&◌, codes}
 use Rattle.ion_text.specs.Names.{BeginsWith, BlankThen, Catalog, Continues, Frame, Known, Lexeme, LexesTo, Limits, Mark, Next, Now, Place, Placed, Reading, Scanned, Slot, State, Symbols, TokenKind, Value, Whole, at, begins_as_long, ends_long, is_fresh, place, scan as run, start_of}
 use Rattle.ion_tokens.proofs.complete.Moves.{blank}
@@ -21,10 +21,6 @@ pub fresh_is : (start : ℕ) (c : List Slot) (fs : List Frame) (ss : Symbols) (n
     ≡ true
 fresh_is start c fs ss now a b d = ap (λ x. is_fresh (at start c x ss now)) a
     ∙ (ap (λ x. is_fresh (at start c [] x now)) b ∙ ap (λ x. is_fresh (at start c [] [] x)) d)
-
-both_true : (a b : Bool) → a ≡ true → b ≡ true → (a && b) ≡ true
-both_true true b h k = k
-both_true false b h k = absurd cc
 
 first_as_long : (t : Placed) (ts : List Placed) → begins_as_long (t ∷ []) ≡ true → begins_as_long (t ∷ ts) ≡ true
 first_as_long t ts h = h
@@ -193,7 +189,7 @@ module _ (g : Catalog) (l : Limits) where
         open_quotes following h (w, rest, is, e) =
             let x = quotes_first (cutting following).flag (cutting following).mid (cutting following).left w rest t (rest_of following) (token_of following)
             (λ i. let n : true ≡ false = sym opens ∙ ap opens_item i in cc) is (left_is following ∙ (e ∙ append_assoc w (codes "''") rest)) in
-            let n : true ≡ false = sym (both_true (ends_long b.front) (begins_as_long (t ∷ ts)) h (first_as_long t ts x))
+            let n : true ≡ false = sym (and_from (ends_long b.front) (begins_as_long (t ∷ ts)) h (first_as_long t ts x))
             ∙ subst (λ y. (ends_long b.front && begins_as_long y) ≡ false) some b.first in cc
 
         open_front : Fronted (u ++ more) vs s r

@@ -2,7 +2,7 @@
 use Rattle.std.proofs.Common.{◌≡◌, ℕ, ◌+◌, ◌-◌, ◌≤◌, Bool, true, false, List, [], ◌∷◌, ◌++◌, length, Option, Some, None, refl, sym, ap, ◌∙◌, subst, arith, append_assoc, append-nil, length-append, ◌⊎◌, inl, inr, if◌then◌else◌}
 use Rattle.std.proofs.lemmas.Bool.{false_from_ne_true}
 use Rattle.std.specs.Prelude.{codes, ◌||◌}
-use Rattle.ion_text.specs.Names.{Begun, BegunSo, Catalog, Form, Frame, HasBegun, IsBlank, IsFirstColon, Known, LexesTo, Limits, LineComment, MayComment, Next, Now, OpenRest, Place, Placed, Reading, Scanned, ShowsBegun, State, Symbols, Value, begun_in, behind, colon_behind, form_of, is_fresh, is_idle, is_long_begun, is_long_form, is_top, longest_top, place, reaches, scan as run, start_of}
+use Rattle.ion_text.specs.Names.{Begun, BegunSo, Catalog, Form, Frame, HasBegun, IsBlank, IsFirstColon, LexesTo, Limits, LineComment, MayComment, Next, Now, OpenRest, Place, Placed, Scanned, ShowsBegun, State, Symbols, Value, begun_in, behind, colon_behind, form_of, is_fresh, is_idle, is_long_begun, is_long_form, is_top, longest_top, place, reaches, scan as run, start_of}
 use Rattle.ion_tokens.proofs.complete.Moves.{blank}
 use Rattle.ion_tokens.proofs.complete.TakesBlanks.{passes_blank}
 use Rattle.ion_tokens.proofs.foreseen.Begins.{begun_right}
@@ -33,7 +33,7 @@ blank_follows w x a b =
     k.mode.1
 
 -- tokens end where the last one does
-lexed_end : (ts : List Placed) (colon : Bool) (before : ℕ) (octets : List ℕ) (after : Bool) (end : ℕ) (rest : List ℕ)
+pub lexed_end : (ts : List Placed) (colon : Bool) (before : ℕ) (octets : List ℕ) (after : Bool) (end : ℕ) (rest : List ℕ)
     → LexesTo colon before octets ts after end rest → end ≡ end_of before ts
 lexed_end [] colon before octets after end rest (c, b, o) = sym b
 lexed_end (t ∷ ts) colon before octets after end rest (q, b, h) = lexed_end ts (colon_behind t) t.lexeme.end q after end rest h
@@ -162,11 +162,7 @@ module _ (l : Limits) where
 
 module _ (g : Catalog) (l : Limits) (u : List ℕ) (vs : List Value) (m : State) (b : Stood g l u vs m) (within : Within g l m) (front rest : List ℕ)
     (parts : u ≡ front ++ rest) (ends : length front ≡ front_end m.scan m.reading) where
-  abbrev s : Known
-  s = m.scan
-
-  abbrev r : Reading
-  r = m.reading
+  open m use {scan as s, reading as r}
 
   abbrev p : Place
   p = place m.reading

@@ -1,9 +1,9 @@
 -- Behind a symbol that no longer waits at the top level, a token has begun.
-use Rattle.std.proofs.Common.{◌≡◌, ℕ, ◌+◌, List, [], ◌∷◌, ◌++◌, Bool, true, false, ◌&&◌, Result, Ok, Err, Option, Some, None, refl, sym, ap, ◌∙◌, subst, if◌then◌else◌, inl, inr}
+use Rattle.std.proofs.Common.{◌≡◌, ℕ, ◌+◌, List, [], ◌∷◌, ◌++◌, Bool, true, false, Result, Ok, Err, Option, Some, None, refl, sym, ap, ◌∙◌, subst, if◌then◌else◌, inl, inr}
 use Rattle.ion_text.specs.Names.{Blob, Catalog, Clob, Content, Effect, Follows, Frame, Given, Held, Id, IsBody, IsWordBody, Known, Leading, Left, Lexeme, Limits, Long, Mark', Next, Now, Number', Operator, Outcome, Place, Quoted, Reading, Reason, Refusal, Refused, Short, Slot, State, Symbols, TokenKind, Turn, TypedNull, Value, Word, at, begun_at, eats, fails, feed, gives, goes, held_word, id_of, in_segment, is_fresh, is_idle, is_keyword, is_name, is_quoting, is_sane, is_top, keyed, kind_named, late, leaves, long_waits, null_of, once_more, place, place_in, resolve, resolved, run, run_on, said, said_body, settle, settle_same, symbol_waits, takes, takes_colon, tells, token_at, token_of, turn, turn_now, under, uses, waits, waits_now}
 use Rattle.ion_tokens.specs.laws.Follows.{feed_follows}
 use Rattle.ion_text.specs.laws.reading.complete.Segments.{never}
-use Rattle.ion_text.specs.laws.reading.sound.Held.{map_turn, or_parts}
+use Rattle.ion_text.specs.laws.reading.sound.Held.{any_turn, map_turn, or_parts}
 use Rattle.ion_text.specs.laws.reading.Effects.{GivesSo, LeavesSo, ScansSo, SettlesSo, takes_each}
 use Rattle.ion_text.specs.laws.reading.sound.Spans.{IsClose, Spans, turn_spans}
 use Rattle.ion_text.specs.laws.reading.sound.StandsOpen.{start_now, symbol_said}
@@ -74,11 +74,6 @@ module _ (g : Catalog) (l : Limits) where
   symbol_unfresh begin end start c fs ss (Mark' w) now h = absurd cc
   symbol_unfresh begin end start c fs ss _ _ h = tt
 
-  any_turn : (P : Reading → Type 0) → ((r : Reading) → P r) → (t : Turn) → Leading g l P t
-  any_turn P h (goes r) = h r
-  any_turn P h (gives v r) = h r
-  any_turn P h _ = tt
-
   -- a token that closes nothing ends no item in a container
   inside_open : (c : Content) (item start end : ℕ) (t : Turn) → (IsClose false c → ⊥) → Spans false c item start end t → Unfresh t
   inside_open c item start end (goes n) k (inl (inl h, from, to)) = inside_unfresh n h
@@ -105,7 +100,7 @@ module _ (g : Catalog) (l : Limits) where
       symbol h = none (symbol_unfresh x.start x.end r.start r.context r.frames r.notes c r.now h)
 
       free : takes_colon (place r) x.kind ≡ false → NoColon (place r) x t
-      free h = any_turn (λ n. is_fresh n ≡ true → takes_colon (place r) x.kind ≡ false) (λ n f. h) t
+      free h = any_turn g l (λ n. is_fresh n ≡ true → takes_colon (place r) x.kind ≡ false) (λ n f. h) t
 
       name : (IsClose false c → ⊥) → (b : Bool) → is_name (place r) ≡ b → takes_colon (place r) x.kind ≡ b → NoColon (place r) x t
       name k false e f = free f

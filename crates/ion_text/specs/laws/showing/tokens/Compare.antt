@@ -1,13 +1,13 @@
 -- Two lists of tokens that go on from one reading, in the same octets, and one of them to the end of a document: one is the front of the
 -- other.
 use Rattle.std.proofs.Common.{◌≡◌, ℕ, ◌+◌, ◌-◌, ◌≤◌, Bool, true, false, List, [], ◌∷◌, ◌++◌, length, drop, refl, sym, ap, ◌∙◌, subst, arith, length-append, Ok, Some, ◌⊎◌, inl, inr}
-use Rattle.ion_text.specs.Names.{BeginsWith, Catalog, Content, Given, IsBlank, Known, Leading, Left, Lexeme, LexesTo, Limits, Mode, Next, Outcome, Place, Placed, Reading, Refused, TokenKind, Turn, Value, at_end, colon_behind, continues, end_of, feed, follow, gives, goes, is_top, place, said, said_body, scan as run, settle, settle_still, start_of, token_of, turn}
+use Rattle.ion_text.specs.Names.{BeginsWith, Catalog, Content, Given, IsBlank, Known, Leading, Left, Lexeme, LexesTo, Limits, Mode, Next, Outcome, Place, Placed, Reading, Refused, TokenKind, Turn, Value, at_end, colon_behind, continues, end_of, feed, follow, gives, goes, is_top, place, said, scan as run, settle, settle_still, start_of, token_of, turn}
 use Rattle.ion_tokens.proofs.complete.Found.{FindsUpTo, Gives, Last, Leaves, Nothing, Unclosed, in_word}
 use Rattle.ion_tokens.proofs.complete.Moves.{at, blank}
 use Rattle.ion_tokens.proofs.complete.TakesBlanks.{passes_blank}
 use Rattle.ion_tokens.proofs.runs.Runs.{feed_used}
 use Rattle.ion_text.specs.laws.reading.complete.Found.{never_unclosed, next_is}
-use Rattle.ion_text.specs.laws.reading.complete.Going.{Going, InsideNext, Operators, TurnGoes, closed, closes_kind, going_said, going_settle, going_turn, inside_end, inside_token, no_operator, stays, top_place}
+use Rattle.ion_text.specs.laws.reading.complete.Going.{Going, Operators, TurnGoes, going_said, going_settle, going_turn, inside_end, next_inside, no_operator, top_place}
 use Rattle.ion_text.specs.laws.reading.complete.Meets.{end_spans, finely_as}
 use Rattle.ion_text.specs.laws.reading.sound.Quotes.{Fine, is_close}
 use Rattle.ion_text.specs.laws.showing.tokens.Cuts.{Is, Keeps, feed_keeps, one_found, parts_same}
@@ -146,17 +146,10 @@ module _ (R : Known → List ℕ → Type 0) where
     one_operator : (t : Placed) (r : Reading) (a : List Value) → Operators (t ∷ []) → t.lexeme.kind ≡ TokenKind.Operator → Going g l r (t ∷ []) a → ⊥
     one_operator t r a ops k d = by (is_top r.frames) refl
       where
-        c : (t.place ≡ place r) × (c : Content) × (said t.lexeme.kind t.lexeme.octets ≡ Ok c)
-        c = going_said g l r t [] a d
-
-        inside : InsideNext g l r.start t c.1 [] → ⊥
-        inside (stays m rest i j x) = inside_end g l m rest i x
-        inside (closed i j) = let n : true ≡ false = sym (closes_kind t.lexeme.kind t.lexeme.octets c.1 j (said_body t.lexeme.kind t.lexeme.octets c.1 c.2))
-            ∙ ap is_close k in cc
-
         by : (b : Bool) → is_top r.frames ≡ b → ⊥
-        by true h = no_operator g l r t h c.0 ops.0 k
-        by false h = inside (inside_token g l r t c.1 [] a h d c.2)
+        by true h = no_operator g l r t h (going_said g l r t [] a d).0 ops.0 k
+        by false h =
+            next_inside g l r t [] a h d (λ m rest i j x. inside_end g l m rest i x) (λ e i. let n : true ≡ false = sym i ∙ ap is_close k in cc)
 
     -- in a word behind which no octets come, this word is the one token, or there is none
     pub alone : (letters : List ℕ) (colon : Bool) (start used : ℕ) (ts : List Placed) → Found' (in_word letters colon start used) [] ts → (ts ≡ [])

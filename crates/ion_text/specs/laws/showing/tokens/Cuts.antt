@@ -1,5 +1,5 @@
 -- Where tokens end in octets, where the blank behind them ends, and what may stand there.
-use Rattle.std.proofs.Common.{◌≡◌, ℕ, ◌+◌, Bool, true, false, List, [], ◌∷◌, ◌++◌, length, refl, sym, ap, ◌∙◌, subst, arith, append_assoc, append-nil, length-append, Result, Ok, Err, Option, Some, None, ◌⊎◌, inl, inr}
+use Rattle.std.proofs.Common.{◌≡◌, ℕ, ◌+◌, Bool, true, false, List, [], ◌∷◌, ◌++◌, length, refl, sym, ap, ◌∙◌, subst, arith, append_assoc, append-nil, length-append, Ok, Err, Option, Some, None, ◌⊎◌, inl, inr}
 use Rattle.std.proofs.lemmas.Bool.{cond_both}
 use Rattle.std.specs.Prelude.{◌==◌, ◌&&◌, bytes_eq, codes}
 use Rattle.ion_text.specs.Names.{Action, BeginsWith, Continues, Given, IsAhead, IsBlank, Known, Left, Lexeme, LexesTo, Mode, Next, Outcome, Place, Placed, Reason, Refused, Scanned, TokenKind, acts, at_end, blob_ends, blob_of, colon_behind, feed, followed, is_idle, is_sane, scan as run, start_of, takes_colon}
@@ -12,8 +12,7 @@ use Rattle.ion_tokens.proofs.histories.Histories.{begins_completes}
 use Rattle.ion_tokens.proofs.sound.Holds.{Holds, InMode, Sound, blank_behind, blank_none}
 use Rattle.ion_tokens.proofs.sound.SoundHistories.{stands_tells}
 use Rattle.ion_tokens.proofs.sound.Sounds.{RunSound, feed_sound, run_sound}
-use Rattle.ion_text.specs.laws.reading.complete.Found.{next_is}
-use Rattle.ion_text.specs.laws.reading.complete.Meets.{follows_as}
+use Rattle.ion_text.specs.laws.reading.complete.Found.{begun_stays, next_is, run_keeps}
 
 -- tokens in two parts: where the first ones end, and the octets from there
 pub record Parted (colon : Bool) (before : ℕ) (octets : List ℕ) (ts us : List Placed) (after : Bool) (end : ℕ) (rest : List ℕ) : Type 0 where
@@ -191,13 +190,8 @@ finds_is R B _ _ _ _ (Gives s octets t ts s' e f) = subst (Is t.place t.lexeme) 
 finds_is R B _ _ _ _ (Leaves s octets t ts s' e f) = subst (Is t.place t.lexeme) (sym e) refl
 finds_is R B _ _ _ _ (Unclosed s octets t ts s' colon letters bare e f first operator rest) = subst (Is t.place t.lexeme) (sym e) (inr (f, operator))
 
-lexeme_in : Lexeme → Result (Option Lexeme) Reason → Lexeme
-lexeme_in d (Ok (Some x)) = x
-lexeme_in d _ = d
-
 is_once : (p : Place) (x y : Lexeme) (o : Outcome) → Is p x o → Is p y o → (y.kind ≡ TokenKind.Operator → ⊥) → x ≡ y
-unfolding lexeme_in
-is_once p x y (Next s) (inl a) (inl b) n = ap (lexeme_in x) (sym a ∙ b)
+is_once p x y (Next s) (inl a) (inl b) n = cc
 is_once p x y (Next s) (inr a) (inl b) n = absurd (let k : Err Reason.Incomplete ≡ Ok (Some y) = sym a.0 ∙ b in cc)
 is_once p x y (Next s) a (inr b) n = absurd (n b.1)
 is_once p x y (Refused n e) a b m = absurd a
@@ -218,11 +212,7 @@ begins_once colon k octets t t' r r' a b e n =
 
 -- a token that has begun isn't forgotten
 pub begun_kept : (p : Place) (os : List ℕ) (s t : Known) → is_sane s.mode ≡ true → is_idle s.mode ≡ false → run p os s ≡ Next t → is_idle t.mode ≡ false
-begun_kept p [] s t h i e = subst (λ (x : Known). is_idle x.mode ≡ false) (next_is s t e) i
-begun_kept p (o ∷ os) s t h i e =
-    let x = followed (feed p s o) (λ n. run p os n) t e in
-    let f = follows_as p s o (Next x.0) h x.1 in
-    begun_kept p os x.0 t f.0 (f.1 i) x.2
+begun_kept = run_keeps (λ m. is_idle m ≡ false) begun_stays
 
 -- what is left of octets behind a blank at their front, where a token has begun in them
 pub record PastBlank (p : Place) (colon : Bool) (used : ℕ) (s : Known) (r more : List ℕ) : Type 0 where

@@ -1,8 +1,7 @@
 -- With what an open item begins, and with which octets none does.
-use Rattle.std.proofs.Common.{◌≡◌, ℕ, ◌+◌, ◌-◌, Bool, true, false, List, [], ◌∷◌, ◌++◌, length, refl, sym, ap, ◌∙◌, subst, arith, Result, Ok, Option, Some, inl, inr, if◌then◌else◌}
+use Rattle.std.proofs.Common.{◌≡◌, ℕ, ◌+◌, ◌-◌, Bool, true, false, List, [], ◌∷◌, ◌++◌, length, refl, sym, ap, ◌∙◌, subst, arith, Ok, Option, Some, inl, inr, if◌then◌else◌}
 use Rattle.std.specs.Prelude.{◌==◌, ◌||◌}
-use Rattle.std.proofs.lemmas.Bool.Decides.{nat_tests}
-use Rattle.ion_text.specs.Names.{Annotations, BeginsWith, Bracket, Content, Frame, Given, Id, IsBlank, IsBody, IsSymbol, Known, Left, Lexeme, Long, Mark, Mark', Mode, Next, Now, Outcome, Place, Placed, Quoted, Reason, Refused, Says, Segments, Slot, Style, Symbols, TokenKind, TypedNull, Within, Word, acts, before, begins_as_long, end_of, ends_at, feed, follow, is_id, is_idle, is_quoting, is_segment, is_two_quotes, is_word, joined, no_annotation, one_annotation, open_mark, scan as run, segment}
+use Rattle.ion_text.specs.Names.{Annotations, BeginsWith, Bracket, Content, Frame, Given, Id, IsBlank, IsBody, IsSymbol, Known, Left, Lexeme, Long, Mark, Mark', Mode, Next, Now, Outcome, Place, Placed, Quoted, Refused, Says, Segments, Slot, Style, Symbols, TokenKind, TypedNull, Within, Word, acts, before, begins_as_long, end_of, ends_at, feed, follow, is_id, is_idle, is_quoting, is_segment, is_two_quotes, is_word, joined, no_annotation, one_annotation, open_mark, scan as run, segment}
 use Rattle.ion_tokens.specs.machine.Table.{go as go_on}
 use Rattle.ion_tokens.proofs.complete.Moves.{at, blank}
 use Rattle.ion_tokens.proofs.complete.TakesBlanks.{passes_blank}
@@ -12,6 +11,7 @@ use Rattle.ion_text.specs.laws.reading.complete.Found.{next_is}
 use Rattle.ion_text.specs.laws.reading.complete.Going.{mark_kind}
 use Rattle.ion_text.specs.laws.reading.complete.Meets.{LongOn, is_long_text, long_feed}
 use Rattle.ion_text.specs.laws.reading.complete.Segments.{long_quoting}
+use Rattle.ion_text.specs.laws.reading.complete.Tokens.{two_test}
 use Rattle.ion_text.specs.laws.reading.sound.Held.{name_some}
 use Rattle.ion_text.specs.laws.reading.sound.StandsOpen.{Around, NowStands, Opened, ReadyFor, symbol_said, value_place}
 use Rattle.ion_text.specs.laws.showing.tokens.Cuts.{Is, one_found}
@@ -118,10 +118,6 @@ now_first c fs ss _ ts d = subst OpensItem (sym d.whole)
 
 -- 2. Octets with which a token begins.
 
-abbrev lexeme_of : Lexeme → Result (Option Lexeme) Reason → Lexeme
-lexeme_of d (Ok (Some x)) = x
-lexeme_of d _ = d
-
 -- a run over octets in a long string goes on with it, ends the segment or is refused
 pub long_run : (p : Place) (os : List ℕ) (s : Known) → is_long_text s.mode ≡ true → LongOn (run p os s)
 long_run p [] s h = h
@@ -208,14 +204,11 @@ quotes_first colon k octets w more t r b plain blanks e = by more (subst (Is t.p
     run_is : run p octets (at Mode.Blank [] colon k k) ≡ run p more two
     run_is = ap (λ o. run p o (at Mode.Blank [] colon k k)) e ∙ (passes_blank p colon w blanks k k).1 (39 ∷ 39 ∷ more)
 
-    same : (a b : ℕ) → b ≡ a + 2 → (b == a + 2) ≡ true
-    same a b h = grind (arith, nat_tests)
-
     wide : (y : Lexeme) → y.kind ≡ TokenKind.QuotedSymbol → y.start ≡ used → y.end ≡ used + 2 → y ≡ x → begins_as_long (t ∷ []) ≡ true
     wide y a b d f =
         let kind : x.kind ≡ TokenKind.QuotedSymbol = sym (ap (λ (z : Lexeme). z.kind) f) ∙ a in
         let span : x.end ≡ x.start + 2 = omega (arith, b, d, ap (λ (z : Lexeme). z.start) f, ap (λ (z : Lexeme). z.end) f) in
-        ap (λ z. is_segment z || is_two_quotes z x.start x.end) kind ∙ same x.start x.end span
+        ap (λ z. is_segment z || is_two_quotes z x.start x.end) kind ∙ two_test x.start x.end span
 
     segment_is : is_segment x.kind ≡ true → begins_as_long (t ∷ []) ≡ true
     segment_is h = ap (λ z. z || is_two_quotes x.kind x.start x.end) h
@@ -234,6 +227,6 @@ quotes_first colon k octets w more t r b plain blanks e = by more (subst (Is t.p
     third o os false i = wide (record { start = used; end = used + 1 + 1 - 0; kind = TokenKind.QuotedSymbol; octets = [] }) refl refl (omega arith) i
 
     by : (more : List ℕ) → Is p x (run p more two) → begins_as_long (t ∷ []) ≡ true
-    by [] (inl i) = wide (record { start = used; end = used + 1 + 1; kind = TokenKind.QuotedSymbol; octets = [] }) refl refl (omega arith) (ap (lexeme_of x) i)
+    by [] (inl i) = wide (record { start = used; end = used + 1 + 1; kind = TokenKind.QuotedSymbol; octets = [] }) refl refl (omega arith) (cc)
     by [] (inr i) = absurd (plain i.1)
     by (o ∷ os) i = third o os (o == 39) i

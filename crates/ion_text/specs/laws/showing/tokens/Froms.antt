@@ -1,5 +1,5 @@
 -- Where a reading's open item begins, behind tokens that begin no earlier; and what the scanner may hold while something waits.
-use Rattle.std.proofs.Common.{◌≡◌, ℕ, ◌+◌, ◌≤◌, Bool, true, false, ◌&&◌, ◌||◌, List, [], ◌∷◌, ◌++◌, refl, sym, ap, ◌∙◌, subst, arith, Result, Ok, Err, ◌⊎◌, inl, inr, if◌then◌else◌}
+use Rattle.std.proofs.Common.{◌≡◌, ℕ, ◌+◌, ◌≤◌, Bool, true, false, ◌||◌, List, [], ◌∷◌, ◌++◌, refl, sym, ap, ◌∙◌, subst, arith, Result, Ok, Err, ◌⊎◌, inl, inr, if◌then◌else◌}
 use Rattle.ion_text.specs.Names.{Catalog, Content, Effect, Frame, Given, Known, Leading, Left, Limits, Listing, Next, Now, Outcome, Placed, Reading, Reason, Refusal, Refused, Slot, Spot, State, Symbols, Token, Turn, Value, Walk, adds_values, at, continues, eats, fails, feed, gives, goes, is_fresh, is_idle, is_quoting, is_top, late, leaves, on_judged, on_placed, on_turn, once_more, place, reads, refuses, run, run_on, said, same_place, settle, settle_same, spot_at, stopped, takes, tells, token_of, turn, under, uses, waits, waits_now}
 use Rattle.ion_text.specs.machine.TokenLists.{walked}
 use Rattle.ion_text.specs.machine.Ways.{SettledWay, ValueWay, settled_free, settled_held, settled_marker, settled_name, settled_text, settled_way, value_given, value_item, value_refused, value_table}

@@ -1,10 +1,10 @@
 -- Tokens that close the open container end behind the octets before which they are looked for.
 use Rattle.std.proofs.Common.{◌≡◌, ℕ, ◌+◌, ◌-◌, ◌≤◌, ◌<◌, Bool, true, false, List, [], ◌∷◌, length, drop, sym, ◌∙◌, subst, arith, ◌⊎◌, inl, inr}
 use Rattle.std.proofs.lemmas.List.{length-drop}
-use Rattle.ion_text.specs.Names.{Catalog, Given, Known, Left, LexesTo, Limits, Next, Outcome, Place, Placed, Reading, Refused, Value, colon_behind, end_of, feed, follow, is_top, said_body, scan as run}
+use Rattle.ion_text.specs.Names.{Catalog, Given, Known, Left, LexesTo, Limits, Next, Outcome, Place, Placed, Reading, Refused, Value, colon_behind, end_of, feed, follow, is_top, scan as run}
 use Rattle.ion_tokens.proofs.complete.Found.{Gives, Last, Leaves, Nothing, Unclosed}
 use Rattle.ion_tokens.proofs.runs.Runs.{given_used, left_used, next_used}
-use Rattle.ion_text.specs.laws.reading.complete.Going.{Going, InsideNext, Operators, closed, closes_kind, going_said, inside_end, inside_token, stays}
+use Rattle.ion_text.specs.laws.reading.complete.Going.{Going, Operators, inside_end, next_inside}
 use Rattle.ion_text.specs.laws.reading.complete.Meets.{end_spans}
 use Rattle.ion_text.specs.laws.reading.sound.Quotes.{Fine, Finely, feed_fine, is_close}
 use Rattle.ion_text.specs.laws.showing.tokens.Compare.{Found', unclosed_never}
@@ -46,43 +46,21 @@ module _ (R : Known → List ℕ → Type 0) (g : Catalog) (l : Limits) (n : ℕ
       → (r : Reading) (all : List Value) → is_top r.frames ≡ false → Going g l r ts all → PastIn n ts
   closes_past _ _ _ (Nothing s octets h) f ops a b r all top d = absurd (inside_end g l r all top d)
   closes_past _ _ _ (Last s octets t s' ran at) f ops a b r all top d =
-      go (inside_token g l r t (going_said g l r t [] all d).1 [] all top d (going_said g l r t [] all d).2)
-    where
-      go : InsideNext g l r.start t (going_said g l r t [] all d).1 [] → PastIn n (t ∷ [])
-      go (stays m rest k i x) = absurd (inside_end g l m rest k x)
-      go (closed k i) = let x = end_spans s' (end_of t.place s'.mode) t.lexeme at in inl (omega (arith, x.1, next_used t.place octets s s' (sym ran), b))
+      next_inside g l r t [] all top d (λ m rest k i x. absurd (inside_end g l m rest k x))
+      (λ k i. let x = end_spans s' (end_of t.place s'.mode) t.lexeme at in inl (omega (arith, x.1, next_used t.place octets s s' (sym ran), b)))
   closes_past _ _ _ (Gives s octets t ts s' ran rest) f ops a b r all top d =
-      go (inside_token g l r t (going_said g l r t ts all d).1 ts all top d (going_said g l r t ts all d).2)
-      (λ m others k x. closes_past s' (drop (s'.used - s.used) octets) ts rest fine.0 ops.1 (omega (arith, a, used.0))
-      (omega (arith, b, used.0, used.1, length-drop (s'.used - s.used) octets)) m others k x)
-    where
-      fine : Fine s' × (t.lexeme.end ≡ s'.used)
-      fine = subst RunFine ran (run_fine t.place octets s f)
-
-      used : (s.used < s'.used) × (s'.used ≤ s.used + length octets)
-      used = given_used t.place octets s s' t.lexeme (sym ran)
-
-      go : InsideNext g l r.start t (going_said g l r t ts all d).1 ts
-          → ((m : Reading) (others : List Value) → is_top m.frames ≡ false → Going g l m ts others → PastIn n ts) → PastIn n (t ∷ ts)
-      go (stays m others k i x) more = inr (more m others k x)
-      go (closed k i) more = inl (omega (arith, fine.1, used.0, a))
+      let fine : Fine s' × (t.lexeme.end ≡ s'.used) = subst RunFine ran (run_fine t.place octets s f) in
+      let used = given_used t.place octets s s' t.lexeme (sym ran) in
+      next_inside g l r t ts all top d
+      (λ m others k i x. inr (closes_past s' (drop (s'.used - s.used) octets) ts rest fine.0 ops.1 (omega (arith, a, used.0))
+      (omega (arith, b, used.0, used.1, length-drop (s'.used - s.used) octets)) m others k x))
+      (λ k i. inl (omega (arith, fine.1, used.0, a)))
   closes_past _ _ _ (Leaves s octets t ts s' ran rest) f ops a b r all top d =
-      go (inside_token g l r t (going_said g l r t ts all d).1 ts all top d (going_said g l r t ts all d).2)
-      (λ m others k x. closes_past s' (drop (s'.used - s.used) octets) ts rest fine.0 ops.1 (omega (arith, a, used.0))
-      (omega (arith, b, used.0, used.1, length-drop (s'.used - s.used) octets)) m others k x)
-    where
-      fine : Fine s' × (is_close t.lexeme.kind ≡ false)
-      fine = subst RunFine ran (run_fine t.place octets s f)
-
-      used : (s.used ≤ s'.used) × (s'.used < s.used + length octets)
-      used = left_used t.place octets s s' t.lexeme (sym ran)
-
-      go : InsideNext g l r.start t (going_said g l r t ts all d).1 ts
-          → ((m : Reading) (others : List Value) → is_top m.frames ≡ false → Going g l m ts others → PastIn n ts) → PastIn n (t ∷ ts)
-      go (stays m others k i x) more = inr (more m others k x)
-      go (closed k i) more =
-          let c = closes_kind t.lexeme.kind t.lexeme.octets (going_said g l r t ts all d).1 i
-          (said_body t.lexeme.kind t.lexeme.octets (going_said g l r t ts all d).1 (going_said g l r t ts all d).2) in
-          absurd (let never : true ≡ false = sym c ∙ fine.1 in cc)
+      let fine : Fine s' × (is_close t.lexeme.kind ≡ false) = subst RunFine ran (run_fine t.place octets s f) in
+      let used = left_used t.place octets s s' t.lexeme (sym ran) in
+      next_inside g l r t ts all top d
+      (λ m others k i x. inr (closes_past s' (drop (s'.used - s.used) octets) ts rest fine.0 ops.1 (omega (arith, a, used.0))
+      (omega (arith, b, used.0, used.1, length-drop (s'.used - s.used) octets)) m others k x))
+      (λ k i. absurd (let never : true ≡ false = sym i ∙ fine.1 in cc))
   closes_past _ _ _ (Unclosed s octets t ts s' colon letters bare ran at first operator rest) f ops a b r all top d =
       absurd (unclosed_never R g l t ts letters colon t.lexeme.end s'.used r all operator rest ops d)
