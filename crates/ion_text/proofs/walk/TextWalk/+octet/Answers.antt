@@ -41,9 +41,8 @@ scan_octet-returns-in-Err-clause-did g t c = λ fs ss h.
 pub scan_octet-returns-in-Ok-default-Uses-clause-did : goal.scan_octet-returns-in-Ok-default-Uses-clause-did
 scan_octet-returns-in-Ok-default-Uses-clause-did g t c = λ fs ss h.
     let r = c.args.self.now in
-    uses_octet g.V.Visitor.takes r.catalog.now r.limits c.args.tokens c.args.octet (told fs ss) (reading_of r fs ss) c.args.place (scanned r.scanner)
-    c.in-Ok-default-Uses.field-0-1 c.meet.new.self c.args.visitor.now c.meet.new.visitor c.in-Ok-default-Uses.field-0-1-is
-    (c.in-Ok-default-Uses.ensures.met c.requires.fine fs ss h)
+    uses_octet _ r.catalog.now r.limits c.args.tokens c.args.octet _ (reading_of r fs ss) c.args.place (scanned r.scanner) _ _ _ _
+    c.in-Ok-default-Uses.field-0-1-is (c.in-Ok-default-Uses.ensures.met c.requires.fine fs ss h)
 
 pub scan_octet-returns-in-Ok-default-Uses-clause-used : goal.scan_octet-returns-in-Ok-default-Uses-clause-used
 scan_octet-returns-in-Ok-default-Uses-clause-used g t c =
@@ -54,9 +53,8 @@ scan_octet-returns-in-Ok-default-Uses-clause-used g t c =
 pub scan_octet-returns-in-Ok-default-Tells-clause-did : goal.scan_octet-returns-in-Ok-default-Tells-clause-did
 scan_octet-returns-in-Ok-default-Tells-clause-did g t c = λ fs ss h.
     let r = c.args.self.now in
-    tells_octet g.V.Visitor.takes r.catalog.now r.limits c.args.tokens c.args.octet (told fs ss) (reading_of r fs ss) c.args.place (scanned r.scanner)
-    c.in-Ok-default-Tells.field-0-1 c.meet.new.self c.args.visitor.now c.meet.new.visitor c.in-Ok-default-Tells.field-0-1-is
-    (c.in-Ok-default-Tells.ensures.met c.requires.fine fs ss h)
+    tells_octet _ r.catalog.now r.limits c.args.tokens c.args.octet _ (reading_of r fs ss) c.args.place (scanned r.scanner) _ _ _ _
+    c.in-Ok-default-Tells.field-0-1-is (c.in-Ok-default-Tells.ensures.met c.requires.fine fs ss h)
 
 pub scan_octet-returns-in-Ok-default-Tells-clause-used : goal.scan_octet-returns-in-Ok-default-Tells-clause-used
 scan_octet-returns-in-Ok-default-Tells-clause-used g t c =
@@ -67,9 +65,8 @@ scan_octet-returns-in-Ok-default-Tells-clause-used g t c =
 pub scan_octet-returns-in-Ok-default-Leaves-clause-did : goal.scan_octet-returns-in-Ok-default-Leaves-clause-did
 scan_octet-returns-in-Ok-default-Leaves-clause-did g t c = λ fs ss h.
     let r = c.args.self.now in
-    leaves_octet g.V.Visitor.takes r.catalog.now r.limits c.args.tokens c.args.octet (told fs ss) (reading_of r fs ss) c.args.place (scanned r.scanner)
-    c.in-Ok-default-Leaves.field-0-1 c.meet.new.self c.args.visitor.now c.meet.new.visitor c.in-Ok-default-Leaves.field-0-1-is
-    (c.in-Ok-default-Leaves.ensures.met c.requires.fine fs ss h)
+    leaves_octet _ r.catalog.now r.limits c.args.tokens c.args.octet _ (reading_of r fs ss) c.args.place (scanned r.scanner) _ _ _ _
+    c.in-Ok-default-Leaves.field-0-1-is (c.in-Ok-default-Leaves.ensures.met c.requires.fine fs ss h)
 
 pub scan_octet-returns-in-Ok-default-Leaves-clause-used : goal.scan_octet-returns-in-Ok-default-Leaves-clause-used
 scan_octet-returns-in-Ok-default-Leaves-clause-used g t c =

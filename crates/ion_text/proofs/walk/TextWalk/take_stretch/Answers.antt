@@ -1,31 +1,29 @@
-use Rattle.std.proofs.Common.{Ok, ap, ◌∙◌, arith}
+use Rattle.std.proofs.Common.{◌<◌, Ok, ap, ◌∙◌, arith, length}
 use Rattle.ion_text.specs.Names.{comes_again, reading_of, scanned, told}
 use Rattle.ion_text.proofs.Reaching.{again_leaves_reached, again_refused_reached, again_tells_reached, again_uses_reached, late_reached, leaves_reached, left_within, refused_reached, tells_reached, used_within, uses_reached}
 use Rattle.ion_text.proofs.walk.TextWalk.take_stretch.Goals as goal
 
 pub bounds-piece-count : goal.bounds-piece-count
 bounds-piece-count g c =
-    left_within c.place-place.result c.args.piece.now (scanned c.args.self.now.scanner) c.in-Ok-default-Again.field-0-1 c.meet.new.self
-    c.in-Ok-default-Again.count (c.in-Ok-default-Again.ensures.behind c.requires.fine) c.in-Ok-default-Again.ensures.used
+    left_within _ _ _ _ c.meet.new.self _ (c.in-Ok-default-Again.ensures.behind c.requires.fine) c.in-Ok-default-Again.ensures.used
     (ap comes_again c.in-Ok-default-Again.field-0-1-is)
 
 pub bounds-piece-count-in-Ok-default-Late : goal.bounds-piece-count-in-Ok-default-Late
 bounds-piece-count-in-Ok-default-Late g c =
-    left_within c.place-place.result c.args.piece.now (scanned c.args.self.now.scanner) c.in-Ok-default-Late.field-0-1 c.meet.new.self
-    c.in-Ok-default-Late.count (c.in-Ok-default-Late.ensures.behind c.requires.fine) c.in-Ok-default-Late.ensures.used
+    left_within _ _ _ _ c.meet.new.self _ (c.in-Ok-default-Late.ensures.behind c.requires.fine) c.in-Ok-default-Late.ensures.used
     (ap comes_again c.in-Ok-default-Late.field-0-1-is)
 
 pub take_octet-requires-clause-room : goal.take_octet-requires-clause-room
 take_octet-requires-clause-room g c =
-    let inside = left_within c.place-place.result c.args.piece.now (scanned c.args.self.now.scanner) c.in-Ok-default-Again.field-0-1 c.meet.new.self
-    c.in-Ok-default-Again.count (c.in-Ok-default-Again.ensures.behind c.requires.fine) c.in-Ok-default-Again.ensures.used
+    let inside : c.in-Ok-default-Again.count < length c.args.piece.now =
+    left_within _ _ _ _ c.meet.new.self _ (c.in-Ok-default-Again.ensures.behind c.requires.fine) c.in-Ok-default-Again.ensures.used
     (ap comes_again c.in-Ok-default-Again.field-0-1-is) in
     omega (arith, c.in-Ok-default-Again.ensures.used, c.requires.room)
 
 pub take_octet-again-requires-clause-room : goal.take_octet-again-requires-clause-room
 take_octet-again-requires-clause-room g c =
-    let inside = left_within c.place-place.result c.args.piece.now (scanned c.args.self.now.scanner) c.in-Ok-default-Late.field-0-1 c.meet.new.self
-    c.in-Ok-default-Late.count (c.in-Ok-default-Late.ensures.behind c.requires.fine) c.in-Ok-default-Late.ensures.used
+    let inside : c.in-Ok-default-Late.count < length c.args.piece.now =
+    left_within _ _ _ _ c.meet.new.self _ (c.in-Ok-default-Late.ensures.behind c.requires.fine) c.in-Ok-default-Late.ensures.used
     (ap comes_again c.in-Ok-default-Late.field-0-1-is) in
     omega (arith, c.in-Ok-default-Late.ensures.used, c.requires.room)
 
@@ -39,23 +37,20 @@ returns-in-Err-clause-took g c = λ fs ss h.
 pub returns-in-Ok-default-Uses-clause-took : goal.returns-in-Ok-default-Uses-clause-took
 returns-in-Ok-default-Uses-clause-took g c = λ fs ss h.
     let r = c.args.self.now in
-    uses_reached g.V.Visitor.takes r.catalog.now r.limits (told fs ss) (reading_of r fs ss) c.requires.calm (scanned r.scanner) c.args.piece.now
-    c.requires.high (c.requires.fits fs ss h) c.requires.some c.place-place.result (c.place-place.ensures fs ss h) c.in-Ok-default-Uses.field-0-1
-    c.meet.new.self c.in-Ok-default-Uses.count c.args.visitor.now c.meet.new.visitor (c.in-Ok-default-Uses.ensures.met c.requires.fine fs ss h)
+    uses_reached _ r.catalog.now r.limits _ (reading_of r fs ss) c.requires.calm (scanned r.scanner) _ c.requires.high (c.requires.fits fs ss h)
+    c.requires.some _ (c.place-place.ensures fs ss h) _ _ _ _ _ (c.in-Ok-default-Uses.ensures.met c.requires.fine fs ss h)
     (c.in-Ok-default-Uses.ensures.behind c.requires.fine) c.in-Ok-default-Uses.ensures.used c.in-Ok-default-Uses.field-0-1-is
 
 pub returns-in-Ok-default-Uses-clause-within : goal.returns-in-Ok-default-Uses-clause-within
 returns-in-Ok-default-Uses-clause-within g c =
-    used_within c.place-place.result c.args.piece.now (scanned c.args.self.now.scanner) c.in-Ok-default-Uses.field-0-1 c.meet.new.self
-    c.in-Ok-default-Uses.count (c.in-Ok-default-Uses.ensures.behind c.requires.fine) c.in-Ok-default-Uses.ensures.used
+    used_within _ _ _ _ c.meet.new.self _ (c.in-Ok-default-Uses.ensures.behind c.requires.fine) c.in-Ok-default-Uses.ensures.used
     (ap comes_again c.in-Ok-default-Uses.field-0-1-is) c.requires.some
 
 pub returns-in-Ok-default-Tells-clause-took : goal.returns-in-Ok-default-Tells-clause-took
 returns-in-Ok-default-Tells-clause-took g c = λ fs ss h.
     let r = c.args.self.now in
-    tells_reached g.V.Visitor.takes r.catalog.now r.limits (told fs ss) (reading_of r fs ss) c.requires.calm (scanned r.scanner) c.args.piece.now
-    c.requires.high (c.requires.fits fs ss h) c.requires.some c.place-place.result (c.place-place.ensures fs ss h) c.in-Ok-default-Tells.field-0-1
-    c.meet.new.self c.in-Ok-default-Tells.count c.args.visitor.now c.meet.new.visitor (c.in-Ok-default-Tells.ensures.met c.requires.fine fs ss h)
+    tells_reached _ r.catalog.now r.limits _ (reading_of r fs ss) c.requires.calm (scanned r.scanner) _ c.requires.high (c.requires.fits fs ss h)
+    c.requires.some _ (c.place-place.ensures fs ss h) _ _ _ _ _ (c.in-Ok-default-Tells.ensures.met c.requires.fine fs ss h)
     (c.in-Ok-default-Tells.ensures.behind c.requires.fine) c.in-Ok-default-Tells.ensures.used c.in-Ok-default-Tells.field-0-1-is
 
 pub returns-in-Ok-default-Tells-clause-within : goal.returns-in-Ok-default-Tells-clause-within
@@ -64,67 +59,56 @@ returns-in-Ok-default-Tells-clause-within g c = c.in-Ok-default-Tells.ensures.wi
 pub returns-in-Ok-default-Leaves-clause-took : goal.returns-in-Ok-default-Leaves-clause-took
 returns-in-Ok-default-Leaves-clause-took g c = λ fs ss h.
     let r = c.args.self.now in
-    leaves_reached g.V.Visitor.takes r.catalog.now r.limits (told fs ss) (reading_of r fs ss) c.requires.calm (scanned r.scanner) c.args.piece.now
-    c.requires.high (c.requires.fits fs ss h) c.requires.some c.place-place.result (c.place-place.ensures fs ss h) c.in-Ok-default-Leaves.field-0-1
-    c.meet.new.self c.in-Ok-default-Leaves.count c.args.visitor.now c.meet.new.visitor (c.in-Ok-default-Leaves.ensures.met c.requires.fine fs ss h)
+    leaves_reached _ r.catalog.now r.limits _ (reading_of r fs ss) c.requires.calm (scanned r.scanner) _ c.requires.high (c.requires.fits fs ss h)
+    c.requires.some _ (c.place-place.ensures fs ss h) _ _ _ _ _ (c.in-Ok-default-Leaves.ensures.met c.requires.fine fs ss h)
     (c.in-Ok-default-Leaves.ensures.behind c.requires.fine) c.in-Ok-default-Leaves.ensures.used c.in-Ok-default-Leaves.field-0-1-is
 
 pub returns-in-Ok-default-Leaves-clause-within : goal.returns-in-Ok-default-Leaves-clause-within
 returns-in-Ok-default-Leaves-clause-within g c =
-    left_within c.place-place.result c.args.piece.now (scanned c.args.self.now.scanner) c.in-Ok-default-Leaves.field-0-1 c.meet.new.self
-    c.in-Ok-default-Leaves.count (c.in-Ok-default-Leaves.ensures.behind c.requires.fine) c.in-Ok-default-Leaves.ensures.used
+    left_within _ _ _ _ c.meet.new.self _ (c.in-Ok-default-Leaves.ensures.behind c.requires.fine) c.in-Ok-default-Leaves.ensures.used
     (ap comes_again c.in-Ok-default-Leaves.field-0-1-is)
 
 pub returns-in-Ok-Uses-clause-took : goal.returns-in-Ok-Uses-clause-took
 returns-in-Ok-Uses-clause-took g c = λ fs ss h.
     let r = c.args.self.now in
-    again_uses_reached g.V.Visitor.takes r.catalog.now r.limits (told fs ss) (reading_of r fs ss) c.requires.calm (scanned r.scanner) c.args.piece.now
-    c.requires.high (c.requires.fits fs ss h) c.requires.some c.place-place.result (c.place-place.ensures fs ss h) c.in-Ok-default-Again.field-0-1
-    c.meet.new.self c.in-Ok-default-Again.count c.args.visitor.now c.meet.new.visitor (c.in-Ok-default-Again.ensures.met c.requires.fine fs ss h)
+    again_uses_reached _ r.catalog.now r.limits _ (reading_of r fs ss) c.requires.calm (scanned r.scanner) _ c.requires.high (c.requires.fits fs ss h)
+    c.requires.some _ (c.place-place.ensures fs ss h) _ _ _ _ _ (c.in-Ok-default-Again.ensures.met c.requires.fine fs ss h)
     (c.in-Ok-default-Again.ensures.behind c.requires.fine) c.in-Ok-default-Again.ensures.used
-    (ap (λ (b : _). b.now) c.in-Ok-default-Again.ensures.same.catalog) c.in-Ok-default-Again.ensures.same.limits
-    c.take_octet.result c.take_octet.new.self c.take_octet.new.visitor c.take_octet.ensures.did c.in-Ok-default-Again.field-0-1-is
-    (c.in-Ok-Uses.is ∙ ap Ok c.in-Ok-Uses.field-0-is)
+    (ap (λ (b : _). b.now) c.in-Ok-default-Again.ensures.same.catalog) c.in-Ok-default-Again.ensures.same.limits _ _ _ c.take_octet.ensures.did
+    c.in-Ok-default-Again.field-0-1-is (c.in-Ok-Uses.is ∙ ap Ok c.in-Ok-Uses.field-0-is)
 
 pub returns-in-Ok-Tells-clause-took : goal.returns-in-Ok-Tells-clause-took
 returns-in-Ok-Tells-clause-took g c = λ fs ss h.
     let r = c.args.self.now in
-    again_tells_reached g.V.Visitor.takes r.catalog.now r.limits (told fs ss) (reading_of r fs ss) c.requires.calm (scanned r.scanner) c.args.piece.now
-    c.requires.high (c.requires.fits fs ss h) c.requires.some c.place-place.result (c.place-place.ensures fs ss h) c.in-Ok-default-Again.field-0-1
-    c.meet.new.self c.in-Ok-default-Again.count c.args.visitor.now c.meet.new.visitor (c.in-Ok-default-Again.ensures.met c.requires.fine fs ss h)
+    again_tells_reached _ r.catalog.now r.limits _ (reading_of r fs ss) c.requires.calm (scanned r.scanner) _ c.requires.high (c.requires.fits fs ss h)
+    c.requires.some _ (c.place-place.ensures fs ss h) _ _ _ _ _ (c.in-Ok-default-Again.ensures.met c.requires.fine fs ss h)
     (c.in-Ok-default-Again.ensures.behind c.requires.fine) c.in-Ok-default-Again.ensures.used
-    (ap (λ (b : _). b.now) c.in-Ok-default-Again.ensures.same.catalog) c.in-Ok-default-Again.ensures.same.limits
-    c.take_octet.result c.take_octet.new.self c.take_octet.new.visitor c.take_octet.ensures.did c.in-Ok-default-Again.field-0-1-is
-    (c.in-Ok-Tells.is ∙ ap Ok c.in-Ok-Tells.field-0-is)
+    (ap (λ (b : _). b.now) c.in-Ok-default-Again.ensures.same.catalog) c.in-Ok-default-Again.ensures.same.limits _ _ _ c.take_octet.ensures.did
+    c.in-Ok-default-Again.field-0-1-is (c.in-Ok-Tells.is ∙ ap Ok c.in-Ok-Tells.field-0-is)
 
 pub returns-in-Ok-Leaves-clause-took : goal.returns-in-Ok-Leaves-clause-took
 returns-in-Ok-Leaves-clause-took g c = λ fs ss h.
     let r = c.args.self.now in
-    again_leaves_reached g.V.Visitor.takes r.catalog.now r.limits (told fs ss) (reading_of r fs ss) c.requires.calm (scanned r.scanner) c.args.piece.now
-    c.requires.high (c.requires.fits fs ss h) c.requires.some c.place-place.result (c.place-place.ensures fs ss h) c.in-Ok-default-Again.field-0-1
-    c.meet.new.self c.in-Ok-default-Again.count c.args.visitor.now c.meet.new.visitor (c.in-Ok-default-Again.ensures.met c.requires.fine fs ss h)
+    again_leaves_reached _ r.catalog.now r.limits _ (reading_of r fs ss) c.requires.calm (scanned r.scanner) _ c.requires.high (c.requires.fits fs ss h)
+    c.requires.some _ (c.place-place.ensures fs ss h) _ _ _ _ _ (c.in-Ok-default-Again.ensures.met c.requires.fine fs ss h)
     (c.in-Ok-default-Again.ensures.behind c.requires.fine) c.in-Ok-default-Again.ensures.used
-    (ap (λ (b : _). b.now) c.in-Ok-default-Again.ensures.same.catalog) c.in-Ok-default-Again.ensures.same.limits
-    c.take_octet.result c.take_octet.new.self c.take_octet.new.visitor c.take_octet.ensures.did c.in-Ok-default-Again.field-0-1-is
-    (c.in-Ok-Leaves.is ∙ ap Ok c.in-Ok-Leaves.field-0-is)
+    (ap (λ (b : _). b.now) c.in-Ok-default-Again.ensures.same.catalog) c.in-Ok-default-Again.ensures.same.limits _ _ _ c.take_octet.ensures.did
+    c.in-Ok-default-Again.field-0-1-is (c.in-Ok-Leaves.is ∙ ap Ok c.in-Ok-Leaves.field-0-is)
 
 pub returns-in-Err-take_octet-clause-took : goal.returns-in-Err-take_octet-clause-took
 returns-in-Err-take_octet-clause-took g c = λ fs ss h.
     let r = c.args.self.now in
-    again_refused_reached g.V.Visitor.takes r.catalog.now r.limits (told fs ss) (reading_of r fs ss) c.requires.calm (scanned r.scanner) c.args.piece.now
-    c.requires.high (c.requires.fits fs ss h) c.requires.some c.place-place.result (c.place-place.ensures fs ss h) c.in-Ok-default-Again.field-0-1
-    c.meet.new.self c.in-Ok-default-Again.count c.args.visitor.now c.meet.new.visitor (c.in-Ok-default-Again.ensures.met c.requires.fine fs ss h)
+    again_refused_reached _ r.catalog.now r.limits _ (reading_of r fs ss) c.requires.calm (scanned r.scanner) _ c.requires.high (c.requires.fits fs ss h)
+    c.requires.some _ (c.place-place.ensures fs ss h) _ _ _ _ _ (c.in-Ok-default-Again.ensures.met c.requires.fine fs ss h)
     (c.in-Ok-default-Again.ensures.behind c.requires.fine) c.in-Ok-default-Again.ensures.used
-    (ap (λ (b : _). b.now) c.in-Ok-default-Again.ensures.same.catalog) c.in-Ok-default-Again.ensures.same.limits
-    c.take_octet.result c.take_octet.new.self c.take_octet.new.visitor c.take_octet.ensures.did c.in-Ok-default-Again.field-0-1-is
-    _ c.in-Err-take_octet.reason (omega (arith, c.used-offset.ensures)) c.in-Err-take_octet.is
+    (ap (λ (b : _). b.now) c.in-Ok-default-Again.ensures.same.catalog) c.in-Ok-default-Again.ensures.same.limits _ _ _ c.take_octet.ensures.did
+    c.in-Ok-default-Again.field-0-1-is _ c.in-Err-take_octet.reason (omega (arith, c.used-offset.ensures)) c.in-Err-take_octet.is
 
 pub returns-in-Ok-default-Late-clause-took : goal.returns-in-Ok-default-Late-clause-took
 returns-in-Ok-default-Late-clause-took g c = λ fs ss h.
     let r = c.args.self.now in
-    late_reached g.V.Visitor.takes r.catalog.now r.limits (told fs ss) (reading_of r fs ss) c.requires.calm (scanned r.scanner) c.args.piece.now
-    c.requires.high (c.requires.fits fs ss h) c.requires.some c.place-place.result (c.place-place.ensures fs ss h) c.in-Ok-default-Late.field-0-1
-    c.meet.new.self c.in-Ok-default-Late.count c.args.visitor.now c.meet.new.visitor (c.in-Ok-default-Late.ensures.met c.requires.fine fs ss h)
+    late_reached _ r.catalog.now r.limits _ (reading_of r fs ss) c.requires.calm (scanned r.scanner) _ c.requires.high (c.requires.fits fs ss h)
+    c.requires.some _ (c.place-place.ensures fs ss h) _ _ _ _ _ (c.in-Ok-default-Late.ensures.met c.requires.fine fs ss h)
     (c.in-Ok-default-Late.ensures.behind c.requires.fine) c.in-Ok-default-Late.ensures.used
     (ap (λ (b : _). b.now) c.in-Ok-default-Late.ensures.same.catalog) c.in-Ok-default-Late.ensures.same.limits
     c.take_octet-again.result c.take_octet-again.new.self c.take_octet-again.new.visitor c.take_octet-again.ensures.did
@@ -132,21 +116,21 @@ returns-in-Ok-default-Late-clause-took g c = λ fs ss h.
 
 pub returns-in-Ok-Uses-clause-within : goal.returns-in-Ok-Uses-clause-within
 returns-in-Ok-Uses-clause-within g c =
-    let inside = left_within c.place-place.result c.args.piece.now (scanned c.args.self.now.scanner) c.in-Ok-default-Again.field-0-1 c.meet.new.self
-    c.in-Ok-default-Again.count (c.in-Ok-default-Again.ensures.behind c.requires.fine) c.in-Ok-default-Again.ensures.used
+    let inside : c.in-Ok-default-Again.count < length c.args.piece.now =
+    left_within _ _ _ _ c.meet.new.self _ (c.in-Ok-default-Again.ensures.behind c.requires.fine) c.in-Ok-default-Again.ensures.used
     (ap comes_again c.in-Ok-default-Again.field-0-1-is) in
     (omega arith, omega (arith, inside))
 
 pub returns-in-Ok-Tells-clause-within : goal.returns-in-Ok-Tells-clause-within
 returns-in-Ok-Tells-clause-within g c =
-    let inside = left_within c.place-place.result c.args.piece.now (scanned c.args.self.now.scanner) c.in-Ok-default-Again.field-0-1 c.meet.new.self
-    c.in-Ok-default-Again.count (c.in-Ok-default-Again.ensures.behind c.requires.fine) c.in-Ok-default-Again.ensures.used
+    let inside : c.in-Ok-default-Again.count < length c.args.piece.now =
+    left_within _ _ _ _ c.meet.new.self _ (c.in-Ok-default-Again.ensures.behind c.requires.fine) c.in-Ok-default-Again.ensures.used
     (ap comes_again c.in-Ok-default-Again.field-0-1-is) in
     omega (arith, inside)
 
 pub returns-in-Ok-Leaves-clause-within : goal.returns-in-Ok-Leaves-clause-within
 returns-in-Ok-Leaves-clause-within g c =
-    let inside = left_within c.place-place.result c.args.piece.now (scanned c.args.self.now.scanner) c.in-Ok-default-Again.field-0-1 c.meet.new.self
-    c.in-Ok-default-Again.count (c.in-Ok-default-Again.ensures.behind c.requires.fine) c.in-Ok-default-Again.ensures.used
+    let inside : c.in-Ok-default-Again.count < length c.args.piece.now =
+    left_within _ _ _ _ c.meet.new.self _ (c.in-Ok-default-Again.ensures.behind c.requires.fine) c.in-Ok-default-Again.ensures.used
     (ap comes_again c.in-Ok-default-Again.field-0-1-is) in
     inside
