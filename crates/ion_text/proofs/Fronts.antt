@@ -14,13 +14,14 @@ use Rattle.ion_text.specs.laws.reading.complete.Found.{next_is}
 
 blob_start : (s t : Known) (b : Option (List ℕ)) → blob_ends s b ≡ Next t → t.start ≡ floor s
 blob_start s t None e = cc
-blob_start s t _ e = cc
+blob_start s t (Some b) e = sym (ap (λ (x : Known). x.start) (next_is _ t e))
 
 acts_start : (p : Place) (s t : Known) (o : ℕ) (a : Action) → acts p s o a ≡ Next t → t.start ≡ floor s
+acts_start p s t o (Action.Go m k) e = sym (ap (λ (x : Known). x.start) (next_is _ t e))
 acts_start p s t o Action.EndWord e = sym (one ((o == 46) && bytes_eq s.kept (codes "null")) e) where
   one : (b : Bool) → cond b (Next (go_to s Mode.KindName [])) (Left (cut s TokenKind.Word s.kept s.used) (past p TokenKind.Word Mode.Blank [] s.used s.used)) ≡ Next t
       → floor s ≡ t.start
-  one true h = cc
+  one true h = ap (λ (x : Known). x.start) (next_is _ t h)
   one false h = cc
 acts_start p s t o Action.EndBlob e = blob_start s t (blob_of s.kept) e
 acts_start p s t o _ e = cc
