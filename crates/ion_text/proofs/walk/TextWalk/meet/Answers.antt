@@ -11,50 +11,50 @@ returns-in-Err-clause-met g c = λ fine fs ss h.
 pub returns-in-Ok-notice-clause-met : goal.returns-in-Ok-notice-clause-met
 returns-in-Ok-notice-clause-met g c = λ fine fs ss h.
     let r = c.args.self.now in
-    no_token_meets _ r.catalog.now r.limits _ (reading_of r fs ss) _ _ _ _ (c.in-Ok.ensures.answers fine) _ fs ss _ (cc (c.in-Ok.token-is, c.in-None.is)) refl h (c.in-Ok-notice.ensures fs ss h)
+    no_token_meets _ r.catalog.now r.limits _ (reading_of r fs ss) _ _ _ _ (c.in-Ok.ensures.answers fine) _ fs ss _ c.in-None.is refl h (c.in-Ok-notice.ensures fs ss h)
 
 pub returns-in-Ok-notice-clause-behind : goal.returns-in-Ok-notice-clause-behind
 returns-in-Ok-notice-clause-behind g c = λ fine.
-    no_token_met _ _ _ _ (c.in-Ok.ensures.answers fine) (with_scanner c.args.self.now c.step.new.self) refl (cc (c.in-Ok.token-is, c.in-None.is))
+    no_token_met _ _ _ _ (c.in-Ok.ensures.answers fine) (with_scanner c.args.self.now c.step.new.self) refl c.in-None.is
 
 pub returns-in-Err-notice-clause-met : goal.returns-in-Err-notice-clause-met
 returns-in-Err-notice-clause-met g c = λ fine fs ss h.
     let r = c.args.self.now in
-    blank_refused r.catalog.now r.limits (reading_of r fs ss) _ _ _ _ c.refused.result c.in-Err-notice.reason (c.in-Ok.ensures.answers fine) (cc (c.in-Ok.token-is, c.in-None.is))
+    blank_refused r.catalog.now r.limits (reading_of r fs ss) _ _ _ _ c.refused.result c.in-Err-notice.reason (c.in-Ok.ensures.answers fine) c.in-None.is
     (c.in-Err-notice.ensures fs ss h) c.refused.ensures
 
 pub returns-in-Ok-meet_left-clause-met : goal.returns-in-Ok-meet_left-clause-met
 returns-in-Ok-meet_left-clause-met g c = λ fine fs ss h.
     let r = c.args.self.now in
-    token_meets _ r.catalog.now r.limits _ (reading_of r fs ss) _ _ _ _ (c.in-Ok.ensures.answers fine) true c.in-Some.token (Ok c.in-Ok-meet_left.met) _ _ _ (cc (c.in-Ok.token-is, c.in-Some.is))
+    token_meets _ r.catalog.now r.limits _ (reading_of r fs ss) _ _ _ _ (c.in-Ok.ensures.answers fine) true c.in-Some.token (Ok c.in-Ok-meet_left.met) _ _ _ c.in-Some.is
     (sym c.left.ensures ∙ c.if-left.true) (c.in-Ok-meet_left.ensures.did fs ss h)
 
 pub returns-in-Ok-meet_left-clause-behind : goal.returns-in-Ok-meet_left-clause-behind
 returns-in-Ok-meet_left-clause-behind g c = λ fine.
     token_met _ _ _ _ (c.in-Ok.ensures.answers fine) c.meet_left.new.self (ap scanned c.in-Ok-meet_left.ensures.setting.scanner) true c.in-Some.token _
-    (cc (c.in-Ok.token-is, c.in-Some.is)) (sym c.left.ensures ∙ c.if-left.true) c.in-Ok-meet_left.ensures.again
+    c.in-Some.is (sym c.left.ensures ∙ c.if-left.true) c.in-Ok-meet_left.ensures.again
 
 pub returns-in-Err-meet_left-clause-met : goal.returns-in-Err-meet_left-clause-met
 returns-in-Err-meet_left-clause-met g c = λ fine fs ss h.
     let r = c.args.self.now in
     token_refused r.catalog.now r.limits (reading_of r fs ss) true _ _ _ c.in-Some.token _ c.refused-in-Err-meet_left.result c.in-Err-meet_left.reason _ (c.in-Ok.ensures.answers fine)
-    (cc (c.in-Ok.token-is, c.in-Some.is)) (sym c.left.ensures ∙ c.if-left.true) (c.in-Err-meet_left.ensures.did fs ss h)
+    c.in-Some.is (sym c.left.ensures ∙ c.if-left.true) (c.in-Err-meet_left.ensures.did fs ss h)
     (ap (λ s. (scanned s).used) c.in-Err-meet_left.ensures.setting.scanner) c.refused-in-Err-meet_left.ensures
 
 pub returns-in-Ok-meet_given-clause-met : goal.returns-in-Ok-meet_given-clause-met
 returns-in-Ok-meet_given-clause-met g c = λ fine fs ss h.
     let r = c.args.self.now in
-    token_meets _ r.catalog.now r.limits _ (reading_of r fs ss) _ _ _ _ (c.in-Ok.ensures.answers fine) false c.in-Some.token (Ok c.in-Ok-meet_given.met) _ _ _ (cc (c.in-Ok.token-is, c.in-Some.is))
+    token_meets _ r.catalog.now r.limits _ (reading_of r fs ss) _ _ _ _ (c.in-Ok.ensures.answers fine) false c.in-Some.token (Ok c.in-Ok-meet_given.met) _ _ _ c.in-Some.is
     (sym c.left.ensures ∙ c.if-left.false) (c.in-Ok-meet_given.ensures.did fs ss h)
 
 pub returns-in-Ok-meet_given-clause-behind : goal.returns-in-Ok-meet_given-clause-behind
 returns-in-Ok-meet_given-clause-behind g c = λ fine.
     token_met _ _ _ _ (c.in-Ok.ensures.answers fine) c.meet_given.new.self (ap scanned c.in-Ok-meet_given.ensures.setting.scanner) false c.in-Some.token _
-    (cc (c.in-Ok.token-is, c.in-Some.is)) (sym c.left.ensures ∙ c.if-left.false) c.in-Ok-meet_given.ensures.ends
+    c.in-Some.is (sym c.left.ensures ∙ c.if-left.false) c.in-Ok-meet_given.ensures.ends
 
 pub returns-in-Err-meet_given-clause-met : goal.returns-in-Err-meet_given-clause-met
 returns-in-Err-meet_given-clause-met g c = λ fine fs ss h.
     let r = c.args.self.now in
     token_refused r.catalog.now r.limits (reading_of r fs ss) false _ _ _ c.in-Some.token _ c.refused-in-Err-meet_given.result c.in-Err-meet_given.reason _ (c.in-Ok.ensures.answers fine)
-    (cc (c.in-Ok.token-is, c.in-Some.is)) (sym c.left.ensures ∙ c.if-left.false) (c.in-Err-meet_given.ensures.did fs ss h)
+    c.in-Some.is (sym c.left.ensures ∙ c.if-left.false) (c.in-Err-meet_given.ensures.did fs ss h)
     (ap (λ s. (scanned s).used) c.in-Err-meet_given.ensures.setting.scanner) c.refused-in-Err-meet_given.ensures
