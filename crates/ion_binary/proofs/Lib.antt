@@ -17,6 +17,7 @@ pub mod Giving
 pub mod Beginning
 pub mod Judged
 pub mod OneDigit
+pub mod FewDigits
 pub mod Shells
 pub mod VarUInts
 pub mod WalkRuns

@@ -2,4 +2,5 @@
 pub mod Later
 pub mod Puts
 pub mod Names
+pub mod Texts
 pub mod Calls

@@ -6,13 +6,13 @@ ghost use Rattle.ion_symtab.specs.declared.fault.Fault.TheVariants as faults;
 ghost use Rattle.ion_binary.specs.visiting.BinaryOut.{counted_behind, no_octets, of_values, with_begun, with_body, with_end, with_ended, with_frame, with_id, with_part, without_begun, without_whole};
 
 use crate::writer::framing::{
-    code_of, frame, insert_length, put_decimal_value, put_framed, put_id, put_null, put_symbol,
+    code_of, frame, insert_length, put_decimal_value, put_digits, put_framed, put_null, put_symbol,
     put_timestamp_value, put_truth, put_whole,
 };
+use crate::writer::name::Name;
 use crate::writer::names::Names;
 use crate::writer::put_front;
 use crate::writer::recent_ids::{Guesses, place_of};
-use ion_model::Symbol;
 use ion_scalar::Number;
 use ion_symtab::Fault;
 use ion_visiting::{Bracket, Part, Visitor, number_kept, part_kept, text_kept};
@@ -257,8 +257,8 @@ impl<S: BuildHasher + Drop> BinaryOut<S> {
             id ≡ id_of later (Some text.now)) }
         ensures small { IfOk result (λ id. id < 2 ^ 63) }
     {
-        let symbol = Symbol::known(self.alloc, text).map_err(|_| Fault::Memory)?;
-        let id = self.names.add(symbol)?;
+        let name = Name::known(self.alloc, text)?;
+        let id = self.names.add(name)?;
         self.guesses.note(place, id);
         Ok(id as u64)
     }
@@ -273,7 +273,7 @@ impl<S: BuildHasher + Drop> BinaryOut<S> {
         ensures kept { IsText (option_map (λ t. t.now) text.entry) }
     {
         match text {
-            None => match self.names.add(Symbol::unknown()) {
+            None => match self.names.add(Name::unknown()) {
                 Ok(id) => Some(id as u64),
                 Err(_) => None,
             },
@@ -295,7 +295,7 @@ impl<S: BuildHasher + Drop> BinaryOut<S> {
     {
         match self.symbol_id(text) {
             None => false,
-            Some(id) => put_id(id, &mut self.value).is_ok(),
+            Some(id) => put_digits(id, &mut self.value).is_ok(),
         }
     }
 

@@ -15,6 +15,7 @@ use std::marker::Model;
 use table::put_table;
 
 pub(crate) mod framing;
+pub(crate) mod name;
 pub(crate) mod names;
 pub(crate) mod recent_ids;
 mod table;

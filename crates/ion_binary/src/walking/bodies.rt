@@ -66,26 +66,12 @@ impl BinaryWalk<'_> {
         ensures moves { Moves self.old self.new self.old.used }
     {
         match form {
-            Form::Pad => self.begin_pad(size, visitor),
+            Form::Pad => self.on_pad(size, visitor),
             Form::Scalar(scalar) => self.begin_scalar(scalar, size, visitor),
             Form::Listing(listing) => self.begin_listing(listing, size, visitor),
             Form::Struct | Form::OrderedStruct => self.begin_struct(size, visitor),
             Form::Wrapper => self.begin_wrapper(size, visitor),
         }
-    }
-
-    fn begin_pad<V: Visitor>(&mut self, size: u64, visitor: &mut V) -> Result<Effect, Reason>
-        ensures does { (fs : List AnyFrame) → Holds self.old fs →
-            Does V.takes (told fs)
-            (begin (setting_of self.old) (spot_of self.old) fs forms.Pad size)
-            result self.new visitor.old visitor.new }
-        ensures moves { Moves self.old self.new self.old.used }
-    {
-        if size == 0 {
-            return self.proceed(visitor);
-        }
-        self.phase = Phase::InPad(size - 1);
-        Ok(Effect::Goes)
     }
 
     fn begin_scalar<V: Visitor>(
@@ -194,7 +180,7 @@ impl BinaryWalk<'_> {
         }
     }
 
-    /// Takes up an octet of a pad.
+    /// Goes on before so many octets of a pad.
     pub(super) fn on_pad<V: Visitor>(
         &mut self,
         missing: u64,

@@ -34,7 +34,7 @@ pub(crate) fn put_framed(code: u8, body: &[u8], out: &mut Vec<u8>) -> Result<(),
         out.push(code * 16 + body.len() as u8)?;
     } else {
         out.push(code * 16 + 14)?;
-        put_length(body.len(), out)?;
+        put_digits(body.len() as u64, out)?;
     }
     out.extend_from_slice(body)?;
     Ok(())
@@ -78,25 +78,24 @@ pub(crate) fn insert_length(place: usize, length: usize, out: &mut Vec<u8>) -> R
     Ok(())
 }
 
-fn put_length(length: usize, out: &mut Vec<u8>) -> Result<(), Fault>
-    requires { length < 2 ^ 63 }
-    ensures ok { OnOk result (out.new.items ≡ out.old.items ++ var_uint_octets length) }
+/// Appends the digits of a VarUInt. Most are few.
+pub(crate) fn put_digits(number: u64, out: &mut Vec<u8>) -> Result<(), Fault>
+    requires { number < 2 ^ 63 }
+    ensures ok { OnOk result (out.new.items ≡ out.old.items ++ var_uint_octets number) }
     ensures memory { IsOkUnless result faults.Memory }
 {
-    put_var_uint(length as u64, out).map_err(|_| Fault::Memory)
-}
-
-/// Appends the id of a symbol as a VarUInt.
-pub(crate) fn put_id(id: u64, out: &mut Vec<u8>) -> Result<(), Fault>
-    requires { id < 2 ^ 63 }
-    ensures ok { OnOk result (out.new.items ≡ out.old.items ++ var_uint_octets id) }
-    ensures memory { IsOkUnless result faults.Memory }
-{
-    if id < 128 {
-        out.push(128 + id as u8)?;
-        return Ok(());
+    let last = 128 + (number % 0x80) as u8;
+    let second = (number / 0x80 % 0x80) as u8;
+    if number < 0x80 {
+        out.extend_from_slice(&[last])?;
+    } else if number < 0x4000 {
+        out.extend_from_slice(&[second, last])?;
+    } else if number < 0x20_0000 {
+        out.extend_from_slice(&[(number / 0x4000) as u8, second, last])?;
+    } else {
+        put_var_uint(number, out).map_err(|_| Fault::Memory)?;
     }
-    put_var_uint(id, out).map_err(|_| Fault::Memory)
+    Ok(())
 }
 
 /// Appends the null of a kind.
@@ -146,16 +145,40 @@ fn put_magnitude(code: u8, magnitude: u128, out: &mut Vec<u8>) -> Result<(), Fau
         ++ framed code (uint_octets magnitude)) }
     ensures memory { IsOkUnless result faults.Memory }
 {
-    // most have one octet
-    if magnitude > 0 && magnitude < 256 {
-        out.push(code * 16 + 1)?;
-        out.push(magnitude as u8)?;
-        return Ok(());
+    // most have few octets
+    if magnitude > 0 && magnitude < 1 << 32 {
+        return put_few(code, magnitude as u32, out);
     }
     let place = out.len();
     out.push(0)?;
     put_uint(magnitude, out).map_err(|_| Fault::Memory)?;
     frame(code, place, out)
+}
+
+// The same of a magnitude of one to four octets, which are written at once.
+#[inline(always)]
+fn put_few(code: u8, magnitude: u32, out: &mut Vec<u8>) -> Result<(), Fault>
+    requires code { code < 16 }
+    requires some { 0 < magnitude }
+    ensures ok { OnOk result (out.new.items ≡ out.old.items
+        ++ framed code (uint_octets magnitude)) }
+    ensures memory { IsOkUnless result faults.Memory }
+{
+    let front = code * 16;
+    let last = (magnitude % 0x100) as u8;
+    let second = (magnitude / 0x100 % 0x100) as u8;
+    let third = (magnitude / 0x1_0000 % 0x100) as u8;
+    if magnitude < 0x100 {
+        out.extend_from_slice(&[front + 1, last])?;
+    } else if magnitude < 0x1_0000 {
+        out.extend_from_slice(&[front + 2, second, last])?;
+    } else if magnitude < 0x100_0000 {
+        out.extend_from_slice(&[front + 3, third, second, last])?;
+    } else {
+        let first = (magnitude / 0x100_0000) as u8;
+        out.extend_from_slice(&[front + 4, first, third, second, last])?;
+    }
+    Ok(())
 }
 
 /// Appends an int, of which the type code has the sign.

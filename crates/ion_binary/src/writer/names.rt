@@ -3,8 +3,8 @@ ghost use Rattle.std.specs.Prelude.{◌≡◌, ◌<◌, ◌≤◌, ◌^◌, Some
 ghost use Rattle.ion_binary.specs.Names.{IsLater, Names as SymbolsById, NeedsLargeId, greatest_id, id_of, symbol_same, system_names, with_name, with_names};
 ghost use Rattle.ion_symtab.specs.declared.fault.Fault.TheVariants as faults;
 
+use super::name::Name;
 use indexmap::IndexSet;
-use ion_model::Symbol;
 use ion_symtab::{Fault, GREATEST_ID, SYSTEM_TEXTS};
 use std::alloc::Global;
 use std::hash::BuildHasher;
@@ -14,7 +14,7 @@ use std::marker::Model;
 /// and a text has one id, whatever the hasher.
 #[derive(Drop)]
 pub(crate) struct Names<S: BuildHasher> {
-    symbols: IndexSet<Symbol, S>,
+    symbols: IndexSet<Name, S>,
 }
 
 impl<S: BuildHasher> Model for Names<S> {
@@ -34,7 +34,7 @@ impl<S: BuildHasher + Drop> Names<S> {
         let mut names = Names {
             symbols: IndexSet::with_hasher(alloc, hasher),
         };
-        let _unknown = names.insert(Symbol::unknown())?;
+        let _unknown = names.insert(Name::unknown())?;
         names.insert_texts(alloc, &SYSTEM_TEXTS)?;
         Ok(names)
     }
@@ -45,8 +45,8 @@ impl<S: BuildHasher + Drop> Names<S> {
             ≡ with_names self.old (map (λ t. Some t.now) texts.now)) (λ f. f ≡ faults.Memory) }
     {
         for text in texts {
-            let symbol = Symbol::known(alloc, text).map_err(|_| Fault::Memory)?;
-            let _id = self.insert(symbol)?;
+            let name = Name::known(alloc, text)?;
+            let _id = self.insert(name)?;
         }
         Ok(())
     }
@@ -80,19 +80,19 @@ impl<S: BuildHasher + Drop> Names<S> {
 
     /// The id of a symbol, which is the next one where it had none, however great. It stays the
     /// symbol's id. The only fault is `Memory`.
-    pub(crate) fn add(&mut self, symbol: Symbol) -> Result<usize, Fault>
-        ensures ok { MatchResult result (λ _. self.new ≡ with_name self.old symbol)
+    pub(crate) fn add(&mut self, name: Name) -> Result<usize, Fault>
+        ensures ok { MatchResult result (λ _. self.new ≡ with_name self.old name)
             (λ f. f ≡ faults.Memory) }
         ensures id { IfOk result (λ id. (later : SymbolsById) → IsLater self.new later →
-            id ≡ id_of later symbol) }
+            id ≡ id_of later name) }
         ensures small { IfOk result (λ id. id < 2 ^ 63) }
     {
-        let id = self.insert(symbol)?;
+        let id = self.insert(name)?;
         Ok(id)
     }
 
     // The same, whose id is told of the symbols as they are now.
-    fn insert(&mut self, key: Symbol) -> Result<usize, Fault>
+    fn insert(&mut self, key: Name) -> Result<usize, Fault>
         ensures ok { MatchResult result (λ _. self.new ≡ with_name self.old key)
             (λ f. f ≡ faults.Memory) }
         ensures id { IfOk result (λ id. id ≡ id_of self.new key) }
@@ -112,7 +112,7 @@ impl<S: BuildHasher + Drop> Names<S> {
             (λ f. f ≡ faults.Memory) }
         ensures small { IfOk result (λ id. id < 2 ^ 63) }
     {
-        let key = Symbol::known(alloc, text).map_err(|_| Fault::Memory)?;
+        let key = Name::known(alloc, text)?;
         let count = self.len();
         Ok(self.symbols.get_index_of(&key).unwrap_or(count) as u64)
     }
@@ -125,7 +125,7 @@ impl<S: BuildHasher + Drop> Names<S> {
     }
 
     /// The symbols from an id on, in the order of their ids.
-    pub(crate) fn from(&self, id: usize) -> &[Symbol]
+    pub(crate) fn from(&self, id: usize) -> &[Name]
         requires { id ≤ length self.now }
         ensures { result.now ≡ drop id self.now }
     {
@@ -135,10 +135,10 @@ impl<S: BuildHasher + Drop> Names<S> {
 
 // Whether a symbol has this text.
 #[inline(always)]
-fn is_of_text(symbol: &Symbol, text: &str) -> bool
-    ensures { result ≡ symbol_same (Some text.now) symbol.now }
+fn is_of_text(name: &Name, text: &str) -> bool
+    ensures { result ≡ symbol_same (Some text.now) name.now }
 {
-    match symbol.text() {
+    match name.text() {
         None => false,
         Some(other) => text == other,
     }

@@ -6,9 +6,9 @@ ghost use Rattle.std.specs.List.{flat_map};
 ghost use Rattle.ion_binary.specs.Names.{framed, name_text, named_octets, table_value, uint_octets, value_octets, var_uint_octets, with_count};
 ghost use Rattle.ion_symtab.specs.declared.fault.Fault.TheVariants as faults;
 
-use super::framing::{frame, insert_length, put_framed, put_id, put_symbol};
+use super::framing::{frame, insert_length, put_digits, put_framed, put_symbol};
+use super::name::Name;
 use super::names::Names;
-use ion_model::Symbol;
 use ion_symtab::Fault;
 use std::alloc::Global;
 use std::hash::BuildHasher;
@@ -41,7 +41,7 @@ fn put_counted(id: u64, out: &mut Vec<u8>) -> Result<(), Fault>
     ensures memory { IsOkUnless result faults.Memory }
 {
     let place = out.len();
-    put_id(id, out)?;
+    put_digits(id, out)?;
     insert_length(place, out.len() - place, out)
 }
 
@@ -64,23 +64,23 @@ fn put_table_fields<S: BuildHasher + Drop>(
     let symbols = names.id_of_text(alloc, "symbols")?;
     let place = out.len();
     out.push(0)?;
-    put_id(imports, out)?;
+    put_digits(imports, out)?;
     put_symbol(base, out)?;
-    put_id(symbols, out)?;
+    put_digits(symbols, out)?;
     put_texts(names.from(first), out)?;
     frame(13, place, out)
 }
 
 // The texts as a list of strings.
-fn put_texts(symbols: &[Symbol], out: &mut Vec<u8>) -> Result<(), Fault>
+fn put_texts(names: &[Name], out: &mut Vec<u8>) -> Result<(), Fault>
     ensures ok { OnOk result (out.new.items ≡
-        out.old.items ++ framed 11 (flat_map (λ s. framed 8 (name_text s)) symbols.now)) }
+        out.old.items ++ framed 11 (flat_map (λ s. framed 8 (name_text s)) names.now)) }
     ensures memory { IsOkUnless result faults.Memory }
 {
     let place = out.len();
     out.push(0)?;
-    for symbol in symbols {
-        put_framed(8, symbol.text().unwrap_or("").as_bytes(), out)?;
+    for name in names {
+        put_framed(8, name.text().unwrap_or("").as_bytes(), out)?;
     }
     frame(11, place, out)
 }

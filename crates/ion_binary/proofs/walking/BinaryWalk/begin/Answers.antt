@@ -6,8 +6,8 @@ use Rattle.ion_binary.proofs.walking.BinaryWalk.begin.Goals as goal
 pub returns-in-Pad-clause-does : goal.returns-in-Pad-clause-does
 returns-in-Pad-clause-does g c = λ fs h may.
     let r = c.args.self.now in
-    does_same g.V.Visitor.takes (told fs) _ _ c.begin_pad.result c.begin_pad.new.self c.args.visitor.now c.begin_pad.new.visitor
-    (ap (λ f. begin (setting_of r) (spot_of r) fs f c.args.size) c.in-Pad.is) (c.begin_pad.ensures.does fs h)
+    does_same g.V.Visitor.takes (told fs) _ _ c.on_pad.result c.on_pad.new.self c.args.visitor.now c.on_pad.new.visitor
+    (ap (λ f. begin (setting_of r) (spot_of r) fs f c.args.size) c.in-Pad.is) (c.on_pad.ensures.does fs h)
 
 pub returns-in-Scalar-clause-does : goal.returns-in-Scalar-clause-does
 returns-in-Scalar-clause-does g c = λ fs h may.
