@@ -1,5 +1,5 @@
 -- Numbers of few octets, as they are written at once.
-use Rattle.std.proofs.Common.{◌≡◌, ℕ, ◌+◌, ◌-◌, ◌*◌, ◌/◌, ◌%◌, ◌<◌, ◌≤◌, List, [], ◌∷◌, ◌++◌, length, ap, ap₂, sym, ◌∙◌, refl, arith, div-lt_iff_lt-mul, mod-eq_of_lt}
+use Rattle.std.proofs.Common.{◌≡◌, ℕ, ◌+◌, ◌*◌, ◌/◌, ◌%◌, ◌<◌, ◌≤◌, List, [], ◌∷◌, ◌++◌, ap, ap₂, sym, ◌∙◌, refl, arith, mod-eq_of_lt, append_assoc}
 use Rattle.std.proofs.lemmas.Int.Digits.{digits_of_step}
 use Rattle.std.specs.Int.Digits.{digits_of}
 use Rattle.ion_binary.specs.Names.{framed, uint_octets, var_uint_octets}
@@ -63,3 +63,29 @@ framed_four code m great small =
     let next : m / 65536 % 256 ≡ m / 256 / 256 % 256 = omega arith in
     framed_by code 4 m _ _ (ap₂ (λ (a b : ℕ). a ∷ b ∷ m / 256 % 256 ∷ m % 256 ∷ []) high next) refl
     (one_more 256 m _ (omega arith) (omega arith) (three_digits (m / 256) (omega arith) (omega arith)))
+
+-- 3. Octets that are pushed one behind the other.
+
+one_pushed : (old w0 w1 : List ℕ) (a : ℕ) → w0 ≡ old → w1 ≡ w0 ++ a ∷ [] → w1 ≡ old ++ a ∷ []
+one_pushed old w0 w1 a h e = e ∙ ap (λ w. w ++ a ∷ []) h
+
+-- one more behind these
+one_behind : (old front w new : List ℕ) (d : ℕ) → w ≡ old ++ front → new ≡ w ++ d ∷ [] → new ≡ old ++ (front ++ d ∷ [])
+one_behind old front w new d h e = e ∙ (ap (λ w. w ++ d ∷ []) h ∙ append_assoc old front (d ∷ []))
+
+pub two_pushed : (old w0 w1 w2 : List ℕ) (a b : ℕ) → w0 ≡ old → w1 ≡ w0 ++ a ∷ [] → w2 ≡ w1 ++ b ∷ [] → w2 ≡ old ++ a ∷ b ∷ []
+two_pushed old w0 w1 w2 a b h e f = one_behind old (a ∷ []) w1 w2 b (one_pushed old w0 w1 a h e) f
+
+pub three_pushed : (old w0 w1 w2 w3 : List ℕ) (a b c : ℕ) → w0 ≡ old → w1 ≡ w0 ++ a ∷ [] → w2 ≡ w1 ++ b ∷ [] → w3 ≡ w2 ++ c ∷ []
+    → w3 ≡ old ++ a ∷ b ∷ c ∷ []
+three_pushed old w0 w1 w2 w3 a b c h e f g = one_behind old (a ∷ b ∷ []) w2 w3 c (two_pushed old w0 w1 w2 a b h e f) g
+
+pub four_pushed : (old w0 w1 w2 w3 w4 : List ℕ) (a b c d : ℕ) → w0 ≡ old → w1 ≡ w0 ++ a ∷ [] → w2 ≡ w1 ++ b ∷ [] → w3 ≡ w2 ++ c ∷ [] → w4 ≡ w3 ++ d ∷ []
+    → w4 ≡ old ++ a ∷ b ∷ c ∷ d ∷ []
+four_pushed old w0 w1 w2 w3 w4 a b c d h e f g i =
+    one_behind old (a ∷ b ∷ c ∷ []) w3 w4 d (three_pushed old w0 w1 w2 w3 a b c h e f g) i
+
+pub five_pushed : (old w0 w1 w2 w3 w4 w5 : List ℕ) (a b c d x : ℕ) → w0 ≡ old → w1 ≡ w0 ++ a ∷ [] → w2 ≡ w1 ++ b ∷ [] → w3 ≡ w2 ++ c ∷ []
+    → w4 ≡ w3 ++ d ∷ [] → w5 ≡ w4 ++ x ∷ [] → w5 ≡ old ++ a ∷ b ∷ c ∷ d ∷ x ∷ []
+five_pushed old w0 w1 w2 w3 w4 w5 a b c d x h e f g i j =
+    one_behind old (a ∷ b ∷ c ∷ d ∷ []) w4 w5 x (four_pushed old w0 w1 w2 w3 w4 a b c d h e f g i) j

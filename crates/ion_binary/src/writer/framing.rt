@@ -84,17 +84,24 @@ pub(crate) fn put_digits(number: u64, out: &mut Vec<u8>) -> Result<(), Fault>
     ensures ok { OnOk result (out.new.items ≡ out.old.items ++ var_uint_octets number) }
     ensures memory { IsOkUnless result faults.Memory }
 {
+    if number >= 0x20_0000 {
+        return put_var_uint(number, out).map_err(|_| Fault::Memory);
+    }
     let last = 128 + (number % 0x80) as u8;
     let second = (number / 0x80 % 0x80) as u8;
+    out.reserve(3)?;
     if number < 0x80 {
-        out.extend_from_slice(&[last])?;
-    } else if number < 0x4000 {
-        out.extend_from_slice(&[second, last])?;
-    } else if number < 0x20_0000 {
-        out.extend_from_slice(&[(number / 0x4000) as u8, second, last])?;
-    } else {
-        put_var_uint(number, out).map_err(|_| Fault::Memory)?;
+        out.push_reserved(last);
+        return Ok(());
     }
+    if number < 0x4000 {
+        out.push_reserved(second);
+        out.push_reserved(last);
+        return Ok(());
+    }
+    out.push_reserved((number / 0x4000) as u8);
+    out.push_reserved(second);
+    out.push_reserved(last);
     Ok(())
 }
 
@@ -168,16 +175,30 @@ fn put_few(code: u8, magnitude: u32, out: &mut Vec<u8>) -> Result<(), Fault>
     let last = (magnitude % 0x100) as u8;
     let second = (magnitude / 0x100 % 0x100) as u8;
     let third = (magnitude / 0x1_0000 % 0x100) as u8;
+    out.reserve(5)?;
     if magnitude < 0x100 {
-        out.extend_from_slice(&[front + 1, last])?;
-    } else if magnitude < 0x1_0000 {
-        out.extend_from_slice(&[front + 2, second, last])?;
-    } else if magnitude < 0x100_0000 {
-        out.extend_from_slice(&[front + 3, third, second, last])?;
-    } else {
-        let first = (magnitude / 0x100_0000) as u8;
-        out.extend_from_slice(&[front + 4, first, third, second, last])?;
+        out.push_reserved(front + 1);
+        out.push_reserved(last);
+        return Ok(());
     }
+    if magnitude < 0x1_0000 {
+        out.push_reserved(front + 2);
+        out.push_reserved(second);
+        out.push_reserved(last);
+        return Ok(());
+    }
+    if magnitude < 0x100_0000 {
+        out.push_reserved(front + 3);
+        out.push_reserved(third);
+        out.push_reserved(second);
+        out.push_reserved(last);
+        return Ok(());
+    }
+    out.push_reserved(front + 4);
+    out.push_reserved((magnitude / 0x100_0000) as u8);
+    out.push_reserved(third);
+    out.push_reserved(second);
+    out.push_reserved(last);
     Ok(())
 }
 
