@@ -4,4 +4,5 @@ pub mod Sought
 pub mod Taped
 pub mod Trees
 pub mod Twins
+pub mod Words
 mod ToldItems

@@ -9,4 +9,5 @@ pub mod Tapes
 pub mod Twins
 pub mod Following
 pub mod laws
+pub mod Octets
 pub mod Names

@@ -9,6 +9,7 @@ mod building;
 mod count;
 mod following;
 pub mod laws;
+mod octets;
 mod outlining;
 mod part;
 mod payloads;

@@ -8,6 +8,7 @@ ghost use Rattle.ion_visiting.specs.declared.table_filter.Table.TheVariants as t
 use crate::bracket::Bracket;
 use crate::building::Building;
 use crate::part::Part;
+use crate::telling::{tell_annotation, tell_annotations, tell_name, tell_symbol};
 use crate::visitor::Visitor;
 use ion_model::{Kind, Sequence, Symbol, Value};
 use ion_scalar::Number;
@@ -38,40 +39,6 @@ pub struct TableFilter {
     /// The annotations of what may be a table.
     notes: Sequence<Symbol>,
     tables: Building,
-}
-
-// Tells annotations.
-fn tell_notes<V: Visitor>(notes: &[Symbol], visitor: &mut V) -> bool
-    ensures { result ≡ true → Led V.takes (map annotation notes.now) visitor.old visitor.new }
-{
-    for note in notes {
-        if !tell_note(note, visitor) {
-            return false;
-        }
-    }
-    true
-}
-
-fn tell_note<V: Visitor>(note: &Symbol, visitor: &mut V) -> bool
-    ensures { result ≡ true → V.takes visitor.old (annotation note.now) visitor.new }
-{
-    visitor.annotation(note.text())
-}
-
-fn tell_name<V: Visitor>(symbol: &Symbol, visitor: &mut V) -> bool
-    ensures { result ≡ true → V.takes visitor.old (name symbol.now) visitor.new }
-{
-    visitor.name(symbol.text())
-}
-
-fn tell_symbol<V: Visitor>(symbol: &Symbol, visitor: &mut V) -> bool
-    ensures { result ≡ true →
-        V.takes visitor.old (part (payloads.Symbol symbol.now)) visitor.new }
-{
-    match symbol.text() {
-        None => visitor.unknown_symbol(),
-        Some(text) => visitor.part(&Part::Symbol(text)),
-    }
 }
 
 // Whether a part is the null of structs.
@@ -139,7 +106,7 @@ impl TableFilter {
             IsTable self.new es × (heard es ≡ []) }
     {
         let notes = mem::replace(&mut self.notes, Sequence::new(self.alloc));
-        let told = tell_notes(notes.as_slice(), &mut self.tables);
+        let told = tell_annotations(notes.as_slice(), &mut self.tables);
         drop(notes);
         self.table = Table::Yes;
         told
@@ -170,7 +137,7 @@ impl TableFilter {
             LetsPass self.new × Hears V.takes (heard es) es visitor.old visitor.new }
     {
         let notes = mem::replace(&mut self.notes, Sequence::new(self.alloc));
-        let told = tell_notes(notes.as_slice(), visitor);
+        let told = tell_annotations(notes.as_slice(), visitor);
         drop(notes);
         self.table = Table::No;
         told
@@ -274,7 +241,7 @@ impl TableFilter {
             Table::No => self.pass_note(symbol, visitor),
             Table::Noted => self.keep(symbol),
             Table::Yes => {
-                let told = tell_note(&symbol, &mut self.tables);
+                let told = tell_annotation(&symbol, &mut self.tables);
                 drop(symbol);
                 told
             }
@@ -288,7 +255,7 @@ impl TableFilter {
             LetsPass self.new
             × Hears V.takes (heard es) (es ++ annotation symbol ∷ []) visitor.old visitor.new }
     {
-        let told = self.let_pass(visitor) && tell_note(&symbol, visitor);
+        let told = self.let_pass(visitor) && tell_annotation(&symbol, visitor);
         drop(symbol);
         told
     }

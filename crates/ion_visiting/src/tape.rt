@@ -6,6 +6,7 @@ ghost use Rattle.ion_visiting.specs.Names.{Led, closes, number_payload, opens, p
 ghost use Rattle.ion_visiting.specs.Tapes.{Grows, IsBlank, Rests, Writes, events_before, events_in, symbol_event, text_at, text_event, told};
 
 use crate::bracket::Bracket;
+use crate::octets::are_same;
 use crate::part::Part;
 use crate::visitor::Visitor;
 use ion_atoms::{Decimal, Whole};
@@ -104,6 +105,22 @@ impl Tape {
         ensures rests { Rests self.old self.new }
         ensures opened { self.new.opened ≡ self.old.opened }
     {
+        if self.entries.len() < self.entries.capacity() {
+            self.entries.push_reserved(entry);
+            return true;
+        }
+        self.put_in_more(entry)
+    }
+
+    // The same where the entries have to be moved.
+    #[cold]
+    #[inline(never)]
+    fn put_in_more(&mut self, entry: Entry) -> bool
+        ensures entries { result ≡ true →
+            self.new.entries.items ≡ self.old.entries.items ++ entry ∷ [] }
+        ensures rests { Rests self.old self.new }
+        ensures opened { self.new.opened ≡ self.old.opened }
+    {
         self.entries.push(entry).is_ok()
     }
 
@@ -187,8 +204,11 @@ impl Tape {
     fn has_text(&self, range: Range, text: &[u8]) -> bool
         ensures { result ≡ true → text_at self.now range ≡ Some text.now }
     {
+        if range.count as usize != text.len() {
+            return false;
+        }
         match self.text(range) {
-            Some(own) => own == text,
+            Some(own) => are_same(own, text),
             None => false,
         }
     }

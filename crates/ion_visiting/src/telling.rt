@@ -19,7 +19,8 @@ pub fn tell<V: Visitor>(value: &Value, visitor: &mut V) -> bool
     tell_annotations(value.annotations.as_slice(), visitor) && tell_payload(&value.payload, visitor)
 }
 
-fn tell_annotations<V: Visitor>(symbols: &[Symbol], visitor: &mut V) -> bool
+/// Tells a visitor annotations.
+pub(crate) fn tell_annotations<V: Visitor>(symbols: &[Symbol], visitor: &mut V) -> bool
     ensures { result ≡ true → Led V.takes (map annotation symbols.now) visitor.old visitor.new }
 {
     for symbol in symbols {
@@ -30,13 +31,13 @@ fn tell_annotations<V: Visitor>(symbols: &[Symbol], visitor: &mut V) -> bool
     true
 }
 
-fn tell_annotation<V: Visitor>(symbol: &Symbol, visitor: &mut V) -> bool
+pub(crate) fn tell_annotation<V: Visitor>(symbol: &Symbol, visitor: &mut V) -> bool
     ensures { result ≡ true → V.takes visitor.old (annotation symbol.now) visitor.new }
 {
     visitor.annotation(symbol.text())
 }
 
-fn tell_name<V: Visitor>(symbol: &Symbol, visitor: &mut V) -> bool
+pub(crate) fn tell_name<V: Visitor>(symbol: &Symbol, visitor: &mut V) -> bool
     ensures { result ≡ true → V.takes visitor.old (name symbol.now) visitor.new }
 {
     visitor.name(symbol.text())
@@ -63,7 +64,7 @@ fn tell_payload<V: Visitor>(payload: &Payload, visitor: &mut V) -> bool
     }
 }
 
-fn tell_symbol<V: Visitor>(symbol: &Symbol, visitor: &mut V) -> bool
+pub(crate) fn tell_symbol<V: Visitor>(symbol: &Symbol, visitor: &mut V) -> bool
     ensures { result ≡ true →
         V.takes visitor.old (part (payloads.Symbol symbol.now)) visitor.new }
 {

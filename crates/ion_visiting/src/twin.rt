@@ -66,14 +66,19 @@ impl Twin {
 
     /// Writes the second down, where that wasn't done as it was told; `false` where the second tape
     /// answered so.
-    #[inline(never)]
-    #[tactic(auto, using(crate::proofs::Twins::told_apart))]
+    #[inline(always)]
     pub fn part_ways(&mut self) -> bool
         ensures { result ≡ true → IsApart self.old self.new }
     {
-        if self.parted {
-            return true;
-        }
+        self.parted || self.part_now()
+    }
+
+    #[inline(never)]
+    #[tactic(auto, using(crate::proofs::Twins::told_apart))]
+    fn part_now(&mut self) -> bool
+        requires { self.old.parted ≡ false }
+        ensures { result ≡ true → IsApart self.old self.new }
+    {
         self.second.clear();
         self.parted = true;
         self.first.tell_front(self.at, &mut self.second)

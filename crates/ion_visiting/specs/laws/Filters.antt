@@ -1,8 +1,8 @@
 -- What a filter of local symbol tables was told, and what a visitor heard.
-use Rattle.std.proofs.Common.{◌≡◌, ℕ, ◌+◌, ◌<◌, length, take, get_or, List, [], ◌∷◌, ◌++◌, map, Bool, true, false, Option, Some, None, refl, ap, sym, subst, ◌∙◌}
+use Rattle.std.proofs.Common.{◌≡◌, ℕ, List, [], ◌∷◌, ◌++◌, map, Bool, true, false, Option, Some, None, refl, ap, sym, subst, ◌∙◌}
 use Rattle.std.specs.Prelude.{◌&&◌, if◌then◌else◌}
 use Rattle.std.specs.List.{flat_map}
-use Rattle.std.proofs.lemmas.List.{append-nil, append_assoc, map-append, take_more}
+use Rattle.std.proofs.lemmas.List.{append-nil, append_assoc, map-append}
 use Rattle.ion_visiting.specs.Names.{Bracket, Built, Event, Kind, Layer, Led, Number, Payload-F, Table, TableFilter, Value, annotation, builds, closes, events_of, field_events, fresh, is_fields, is_table, is_table_of, layer_events, layer_kind, names_table, number_payload, out-Payload, part, value_in, without_value}
 use Rattle.ion_model.specs.declared.value.Payload.TheVariants as payloads
 use Rattle.ion_visiting.specs.Tables.{AreKept, Hears, IsTable, LetsPass, Symbols, WasTold, begins_struct, heard, heard_by, is_null_struct, is_of_table, table_after, table_behind, table_by, table_of}
@@ -287,12 +287,3 @@ module _ (v : Value) (f : TableFilter) (h : WasTold f (events_of v)) where
 
   pub noted_ends : f.table ≡ Table.Noted → ⊥
   noted_ends is = noted_nowhere (is_table v) (sym is ∙ known)
-
--- 7. Annotations that were kept are told one by one.
-
-pub notes_next : {V : Type 0} (takes : V → Event → V → Type 0) (ss : Symbols) (i : ℕ) (s : Option (List ℕ)) (a m b : V) → i < length ss
-    → s ≡ get_or ss i s → Led takes (map annotation (take i ss)) a m → takes m (annotation s) b → Led takes (map annotation (take (i + 1) ss)) a b
-notes_next takes ss i s a m b small is before one =
-    let cut : take (i + 1) ss ≡ take i ss ++ s ∷ [] = take_more ss i s small ∙ ap (λ y. take i ss ++ y ∷ []) (sym is) in
-    subst (λ es. Led takes es a b) (sym (ap (map annotation) cut ∙ map-append annotation (take i ss) (s ∷ [])))
-    (led_more takes (map annotation (take i ss)) (annotation s) a m b before one)

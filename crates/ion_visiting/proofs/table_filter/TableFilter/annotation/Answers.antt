@@ -16,4 +16,4 @@ returns-in-Noted g c = λ is.
 
 pub returns-in-Yes : goal.returns-in-Yes
 returns-in-Yes g c = λ is.
-    yes_noted g.V.Visitor.takes c.args.symbol c.args.self.now _ c.args.visitor.now c.in-Yes.is refl refl (c.tell_note-told.ensures is)
+    yes_noted g.V.Visitor.takes c.args.symbol c.args.self.now _ c.args.visitor.now c.in-Yes.is refl refl (c.tell_annotation-told.ensures is)
