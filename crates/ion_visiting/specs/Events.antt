@@ -25,20 +25,24 @@ pub data Event : Type 0 where
 abbrev pub within : Bracket → List Event → List Event
 within x es = opens x ∷ (es ++ closes x ∷ [])
 
--- of one level, in which each value inside, and each field, is its events already
+-- what is told of one level, where `field` says what of each field and `item` what of each value inside
+abbrev pub level_events : {P F V : Type 0} → (F → List Event) → (V → List Event) → Payload-F P F V → List Event
+level_events field item (Payload-F.Null k) = part (payloads.Null k) ∷ []
+level_events field item (Payload-F.Truth b) = part (payloads.Truth b) ∷ []
+level_events field item (Payload-F.Int z) = part (payloads.Int z) ∷ []
+level_events field item (Payload-F.Decimal d) = part (payloads.Decimal d) ∷ []
+level_events field item (Payload-F.Timestamp t) = part (payloads.Timestamp t) ∷ []
+level_events field item (Payload-F.Symbol s) = part (payloads.Symbol s) ∷ []
+level_events field item (Payload-F.Str w) = part (payloads.Str w) ∷ []
+level_events field item (Payload-F.Clob w) = part (payloads.Clob w) ∷ []
+level_events field item (Payload-F.Blob w) = part (payloads.Blob w) ∷ []
+level_events field item (Payload-F.List vs) = within Bracket.List (flat_map item vs)
+level_events field item (Payload-F.Sexp vs) = within Bracket.Sexp (flat_map item vs)
+level_events field item (Payload-F.Fields fs) = within Bracket.Fields (flat_map field fs)
+
+-- where each value inside, and each field, is its events already
 abbrev pub events_step : Payload-F (List Event) (List Event) (List Event) → List Event
-events_step (Payload-F.Null k) = part (payloads.Null k) ∷ []
-events_step (Payload-F.Truth b) = part (payloads.Truth b) ∷ []
-events_step (Payload-F.Int z) = part (payloads.Int z) ∷ []
-events_step (Payload-F.Decimal d) = part (payloads.Decimal d) ∷ []
-events_step (Payload-F.Timestamp t) = part (payloads.Timestamp t) ∷ []
-events_step (Payload-F.Symbol s) = part (payloads.Symbol s) ∷ []
-events_step (Payload-F.Str w) = part (payloads.Str w) ∷ []
-events_step (Payload-F.Clob w) = part (payloads.Clob w) ∷ []
-events_step (Payload-F.Blob w) = part (payloads.Blob w) ∷ []
-events_step (Payload-F.List es) = within Bracket.List (flat_map (λ e. e) es)
-events_step (Payload-F.Sexp es) = within Bracket.Sexp (flat_map (λ e. e) es)
-events_step (Payload-F.Fields es) = within Bracket.Fields (flat_map (λ e. e) es)
+events_step d = level_events (λ e. e) (λ e. e) d
 
 -- what is told of a value: its annotations, and then its payload, a list, s-expression or struct between its brackets
 unfoldable pub events_of : Value → List Event
@@ -51,18 +55,7 @@ field_events f = name f.name ∷ events_of f.value
 
 -- what is told of a payload, by one level
 abbrev pub layer_events : Layer → List Event
-layer_events (Payload-F.Null k) = part (payloads.Null k) ∷ []
-layer_events (Payload-F.Truth b) = part (payloads.Truth b) ∷ []
-layer_events (Payload-F.Int z) = part (payloads.Int z) ∷ []
-layer_events (Payload-F.Decimal d) = part (payloads.Decimal d) ∷ []
-layer_events (Payload-F.Timestamp t) = part (payloads.Timestamp t) ∷ []
-layer_events (Payload-F.Symbol s) = part (payloads.Symbol s) ∷ []
-layer_events (Payload-F.Str w) = part (payloads.Str w) ∷ []
-layer_events (Payload-F.Clob w) = part (payloads.Clob w) ∷ []
-layer_events (Payload-F.Blob w) = part (payloads.Blob w) ∷ []
-layer_events (Payload-F.List vs) = within Bracket.List (flat_map events_of vs)
-layer_events (Payload-F.Sexp vs) = within Bracket.Sexp (flat_map events_of vs)
-layer_events (Payload-F.Fields fs) = within Bracket.Fields (flat_map field_events fs)
+layer_events d = level_events field_events events_of d
 
 -- what is told of values of the top level, each of which ends
 abbrev pub stream_events : List Value → List Event
