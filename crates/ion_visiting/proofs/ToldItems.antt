@@ -3,7 +3,7 @@ use Rattle.std.proofs.Common.{◌≡◌, ℕ, ◌+◌, ◌<◌, ◌≤◌, List,
 use Rattle.std.specs.List.{flat_map}
 use Rattle.std.specs.Option.{is_some, option_to_list}
 use Rattle.std.proofs.lemmas.Grind.{flat_map-append}
-use Rattle.std.proofs.lemmas.List.{get_or_default, take_all, take_more}
+use Rattle.std.proofs.lemmas.List.{take_all, take_more}
 use Rattle.ion_visiting.specs.Names.{Event, Led, closes, opens, within}
 use Rattle.ion_visiting.specs.laws.Led.{led_both, led_more}
 
@@ -31,8 +31,8 @@ entry_told takes (Some e) a b h k = (b, k, refl)
 entry_told takes None a b h k = cc
 
 pub entry_next : {S X : Type 0} (takes : S → Event → S → Type 0) (f : X → Option Event) (xs : List X) (i : ℕ) (x : X) (a m b : S) → i < length xs
-    → Led takes (flat_map (λ e. option_to_list (f e)) (take i xs)) a m → is_some (f (get_or xs i x)) ≡ true → IfSome (f (get_or xs i x)) (λ e. takes m e b)
+    → x ≡ get_or xs i x → Led takes (flat_map (λ e. option_to_list (f e)) (take i xs)) a m → is_some (f x) ≡ true → IfSome (f x) (λ e. takes m e b)
     → Led takes (flat_map (λ e. option_to_list (f e)) (take (i + 1) xs)) a b
-entry_next takes f xs i x a m b small before some is =
-    told_next takes (flat_map (λ e. option_to_list (f e))) (flat_map-append (λ e. option_to_list (f e))) xs i (get_or xs i x) a m b small
-    (get_or_default xs i x (get_or xs i x) small) before (entry_told takes (f (get_or xs i x)) m b some is)
+entry_next takes f xs i x a m b small at before some is =
+    told_next takes (flat_map (λ e. option_to_list (f e))) (flat_map-append (λ e. option_to_list (f e))) xs i x a m b small at before
+    (entry_told takes (f x) m b some is)

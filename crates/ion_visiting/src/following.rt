@@ -1,11 +1,12 @@
 //! Finding on one tape the value of another, the fields of a struct in any order.
-ghost use Rattle.std.specs.Prelude.{◌≡◌, ◌+◌, ◌<◌, ◌^◌, ℕ, true, IfSome, Some, option_map};
+ghost use Rattle.std.specs.Prelude.{◌≡◌, ◌+◌, ◌<◌, ◌^◌, ℕ, true, IfSome, Some, option_map, slice_get};
 ghost use Rattle.std.specs.Option.{is_some};
-ghost use Rattle.ion_visiting.specs.Names.{Led, closes, name, number_payload, opens, part};
-ghost use Rattle.ion_visiting.specs.Following.{Behind, IsField, Seeks, Skips, StartsOn, Takes, behind_payload, follows, is_annotation};
+ghost use Rattle.ion_visiting.specs.Names.{Led, closes, name, number_payload, opens, part, payload_of};
+ghost use Rattle.ion_visiting.specs.Following.{Behind, IsField, Seeks, Skips, StartsOn, Takes, behind_payload, follows, is_annotation, is_name};
 ghost use Rattle.ion_visiting.specs.Tapes.{Tells, events_in, symbol_event, text_event, told};
 
 use crate::bracket::Bracket;
+use crate::part::Part;
 use crate::tape::{Entry, Form, Role, Tape};
 use ion_scalar::Number;
 use std::alloc::Global;
@@ -88,27 +89,27 @@ impl<'a> Following<'a> {
     }
 }
 
-// Whether the name of a field stands there.
 #[inline(always)]
-fn is_field(tape: &Tape, place: usize) -> bool
-    ensures { result ≡ true → IsField tape.now place }
+fn is_name(entry: Entry) -> bool
+    ensures { result ≡ is_name entry }
 {
-    match tape.entries.get(place) {
-        Some(Entry::Symbol(Role::Name, _)) => true,
-        Some(Entry::Unknown(Role::Name)) => true,
+    match entry {
+        Entry::Symbol(Role::Name, _) => true,
+        Entry::Word(Role::Name, _) => true,
+        Entry::Unknown(Role::Name) => true,
         _ => false,
     }
 }
 
-// Whether this name stands there.
+// The name of the field that begins there.
 #[inline(always)]
-fn is_name(tape: &Tape, place: usize, text: Option<&[u8]>) -> bool
-    ensures { result ≡ true →
-        Tells tape.now place (name (option_map (λ t. t.now) text.entry)) }
+fn field_at(tape: &Tape, place: usize) -> Option<Entry>
+    ensures there { IfSome result (λ entry. slice_get tape.now.entries.items place ≡ Some entry) }
+    ensures field { IfSome result (λ _. IsField tape.now place) }
 {
     match tape.entries.get(place) {
-        Some(entry) => tape.tells_symbol(*entry, Role::Name, text),
-        None => false,
+        Some(entry) if is_name(*entry) => Some(*entry),
+        _ => None,
     }
 }
 
@@ -118,6 +119,7 @@ fn is_annotation(entry: Entry) -> bool
 {
     match entry {
         Entry::Symbol(Role::Annotation, _) => true,
+        Entry::Word(Role::Annotation, _) => true,
         Entry::Unknown(Role::Annotation) => true,
         _ => false,
     }
@@ -137,8 +139,20 @@ fn behind_payload(entry: Entry, place: usize) -> usize
 
 // Behind the value there.
 #[inline(always)]
-#[tactic(auto, using(crate::proofs::Sought::past_annotation, crate::proofs::Sought::past_payload, crate::proofs::Sought::past_none))]
+#[tactic(auto, using(crate::proofs::Sought::past_payload))]
 fn behind_value(tape: &Tape, from: usize) -> usize
+    ensures { (j : ℕ) → Behind tape.now from j → result ≡ j }
+{
+    match tape.entries.get(from) {
+        Some(entry) if !is_annotation(*entry) => behind_payload(*entry, from),
+        _ => behind_annotated(tape, from),
+    }
+}
+
+// The same, also where annotations stand in front.
+#[inline(never)]
+#[tactic(auto, using(crate::proofs::Sought::past_annotation, crate::proofs::Sought::past_payload, crate::proofs::Sought::past_none))]
+fn behind_annotated(tape: &Tape, from: usize) -> usize
     ensures { (j : ℕ) → Behind tape.now from j → result ≡ j }
 {
     let mut at = from;
@@ -164,11 +178,11 @@ fn seek(tape: &Tape, frame: Frame, text: Option<&[u8]>) -> Option<(usize, u64)>
     let mut others = frame.taken;
     let mut bit: u64 = 1;
     for _ in 0..64 {
-        if others % 2 == 0 && is_name(tape, place, text) {
-            return Some((place, bit));
-        }
-        if !is_field(tape, place) {
+        let Some(entry) = field_at(tape, place) else {
             return None;
+        };
+        if others % 2 == 0 && tape.tells_symbol(entry, Role::Name, text) {
+            return Some((place, bit));
         }
         place = behind_value(tape, place + 1);
         others /= 2;
@@ -189,9 +203,9 @@ fn skip_taken(tape: &Tape, frame: Frame) -> Option<Frame>
         if taken % 2 == 0 {
             break;
         }
-        if !is_field(tape, free) {
+        let Some(_) = field_at(tape, free) else {
             return None;
-        }
+        };
         free = behind_value(tape, free + 1);
         taken /= 2;
     }
@@ -227,6 +241,7 @@ impl Following<'_> {
                 Some(text) => self.finds_symbol(role, Some(text)),
                 None => false,
             },
+            Entry::Word(role, short) => self.finds_symbol(role, Some(short.text())),
             Entry::Text(form, range) => match other.text(range) {
                 Some(octets) => self.finds_text(form, octets),
                 None => false,
@@ -237,7 +252,25 @@ impl Following<'_> {
             },
             Entry::Open(bracket, _) => self.finds_open(bracket),
             Entry::Close(bracket) => self.finds_close(bracket),
-            plain => self.take() == Some(plain),
+            Entry::Null(kind) => self.finds_part(&Part::Null(kind)),
+            Entry::Truth(truth) => self.finds_part(&Part::Truth(truth)),
+            Entry::Int(value) => matches!(self.take(), Some(Entry::Int(own)) if own == value),
+            Entry::Decimal(negative, exponent, magnitude) => {
+                let Some(Entry::Decimal(sign, power, size)) = self.take() else {
+                    return false;
+                };
+                sign == negative && power == exponent && size == magnitude
+            }
+        }
+    }
+
+    #[inline(always)]
+    fn finds_part(&mut self, said: &Part<'_>) -> bool
+        ensures { result ≡ true → follows self.old (part (payload_of said.now)) self.new }
+    {
+        match self.take() {
+            Some(entry) => self.tape.tells_part(entry, said),
+            None => false,
         }
     }
 

@@ -14,6 +14,7 @@ mod outlining;
 mod part;
 mod payloads;
 mod recent_symbols;
+mod short;
 mod table_filter;
 mod tape;
 mod telling;

@@ -76,6 +76,9 @@ impl TableFilter {
     fn is_table(&self, begins: bool) -> bool
         ensures { result ≡ is_of_table self.now.table begins }
     {
+        if let Table::No = self.table {
+            return false;
+        }
         match self.table {
             Table::Yes => true,
             Table::Noted => begins,

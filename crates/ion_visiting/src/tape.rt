@@ -8,6 +8,7 @@ ghost use Rattle.ion_visiting.specs.Tapes.{Grows, IsBlank, Rests, Writes, events
 use crate::bracket::Bracket;
 use crate::octets::are_same;
 use crate::part::Part;
+use crate::short::Short;
 use crate::visitor::Visitor;
 use ion_atoms::{Decimal, Whole};
 use ion_model::Kind;
@@ -16,7 +17,7 @@ use std::alloc::Global;
 use std::str;
 
 /// Where a text stands among the octets of a tape.
-#[derive(Clone, Copy, PartialEq, Eq)]
+#[derive(Clone, Copy)]
 pub(crate) struct Range {
     from: u32,
     count: u32,
@@ -38,8 +39,9 @@ pub(crate) enum Form {
     Blob,
 }
 
-/// An event as it is written down. Texts stand beside the entries, and numbers that don't fit one.
-#[derive(Clone, Copy, PartialEq, Eq)]
+/// An event as it is written down. Longer texts stand beside the entries, and numbers that don't fit
+/// one.
+#[derive(Clone, Copy)]
 pub(crate) enum Entry {
     Null(Kind),
     Truth(bool),
@@ -51,6 +53,7 @@ pub(crate) enum Entry {
     /// A symbol of unknown text.
     Unknown(Role),
     Symbol(Role, Range),
+    Word(Role, Short),
     Text(Form, Range),
     /// With the entry behind the close, once that is there.
     Open(Bracket, u32),
@@ -60,8 +63,9 @@ pub(crate) enum Entry {
 const _: () = prove!(size_of::<Entry>() == 16);
 
 /// The visitor that writes down what it is told, to be told again or to be found there by
-/// `Following`. An event takes 16 octets, its text as many as it has. A timestamp takes 40 more, and
-/// so does an int outside of 64 bits or a decimal whose magnitude is.
+/// `Following`. An event takes 16 octets, and the text of a string, a lob or a symbol of more than 12
+/// octets as many as it has. A timestamp takes 40 more, and so does an int outside of 64 bits or a
+/// decimal whose magnitude is.
 ///
 /// It answers `false` where memory was refused, and beyond 2^32-1 events, numbers or octets of
 /// texts; `clear` begins anew.
@@ -150,6 +154,9 @@ impl Tape {
         let Some(text) = text else {
             return self.put(Entry::Unknown(role));
         };
+        if let Some(short) = Short::of(text.as_bytes()) {
+            return self.put(Entry::Word(role, short));
+        }
         match self.put_text(text.as_bytes()) {
             Some(range) => self.put(Entry::Symbol(role, range)),
             None => false,
@@ -221,6 +228,7 @@ impl Tape {
     {
         match (entry, text) {
             (Entry::Unknown(own), None) => own == role,
+            (Entry::Word(own, short), Some(text)) => own == role && are_same(short.text(), text),
             (Entry::Symbol(own, range), Some(text)) => own == role && self.has_text(range, text),
             _ => false,
         }
@@ -243,8 +251,8 @@ impl Tape {
         ensures { result ≡ true → told self.now entry ≡ Some (part (payload_of said.now)) }
     {
         match said {
-            Part::Null(kind) => entry == Entry::Null(*kind),
-            Part::Truth(truth) => entry == Entry::Truth(*truth),
+            Part::Null(kind) => matches!(entry, Entry::Null(own) if own == *kind),
+            Part::Truth(truth) => matches!(entry, Entry::Truth(own) if own == *truth),
             Part::Symbol(text) => self.tells_symbol(entry, Role::Value, Some(text.as_bytes())),
             Part::Str(text) => self.tells_text(entry, Form::Str, text.as_bytes()),
             Part::Clob(octets) => self.tells_text(entry, Form::Clob, octets),
@@ -257,8 +265,10 @@ impl Tape {
     pub(crate) fn tells_number(&self, entry: Entry, number: &Number) -> bool
         ensures { result ≡ true → told self.now entry ≡ Some (part (number_payload number.now)) }
     {
+        if let (Entry::Int(own), Number::Int(whole)) = (entry, number) {
+            return whole.get() == i128::from(own);
+        }
         match (entry, number) {
-            (Entry::Int(own), Number::Int(whole)) => whole.get() == i128::from(own),
             (Entry::Decimal(negative, exponent, magnitude), Number::Decimal(decimal)) => {
                 decimal.magnitude() == u128::from(magnitude)
                     && decimal.exponent() == exponent
@@ -357,12 +367,10 @@ impl Tape {
             },
             Entry::Unknown(role) => tell_symbol(role, None, visitor),
             Entry::Symbol(role, range) => match self.text(range) {
-                Some(octets) => match str::from_utf8(octets) {
-                    Ok(text) => tell_symbol(role, Some(text), visitor),
-                    Err(_) => false,
-                },
+                Some(octets) => tell_known(role, octets, visitor),
                 None => false,
             },
+            Entry::Word(role, short) => tell_known(role, short.text(), visitor),
             Entry::Text(form, range) => match self.text(range) {
                 Some(octets) => tell_text(form, octets, visitor),
                 None => false,
@@ -410,6 +418,18 @@ fn tell_symbol<V: Visitor>(role: Role, text: Option<&str>, visitor: &mut V) -> b
         },
         Role::Annotation => visitor.annotation(text),
         Role::Name => visitor.name(text),
+    }
+}
+
+// A symbol whose text these octets are.
+#[inline(always)]
+fn tell_known<V: Visitor>(role: Role, octets: &[u8], visitor: &mut V) -> bool
+    ensures { result ≡ true → V.takes visitor.old
+        (symbol_event role (Some octets.now)) visitor.new }
+{
+    match str::from_utf8(octets) {
+        Ok(text) => tell_symbol(role, Some(text), visitor),
+        Err(_) => false,
     }
 }
 

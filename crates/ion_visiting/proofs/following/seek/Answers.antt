@@ -11,7 +11,7 @@ loop-preserved c =
     let before = c.loop.invariant in
     record {
       k = suc before.k;
-      steps = one_step before.k c.loop.place c.loop.others c.behind_value-place.result before.steps (c.is_field.ensures c.if-not-is_field.false)
+      steps = one_step before.k c.loop.place c.loop.others c.behind_value-place.result before.steps c.in-Some.ensures.field
           c.behind_value-place.ensures;
       bit = grind (arith, common_steps, before.bit);
     }

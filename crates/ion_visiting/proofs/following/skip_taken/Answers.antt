@@ -8,5 +8,5 @@ loop-init c = none_skipped
 pub loop-preserved : goal.loop-preserved
 loop-preserved c =
     let is_taken : c.loop.taken % 2 ≡ 1 = omega (arith, c.if-taken-eq0.false) in
-    one_skipped c.loop.free c.loop.taken c.behind_value-free.result c.loop.invariant (c.is_field.ensures c.if-not-is_field.false) is_taken
+    one_skipped c.loop.free c.loop.taken c.behind_value-free.result c.loop.invariant c.in-Some.ensures.field is_taken
     c.behind_value-free.ensures
