@@ -7,6 +7,7 @@ ghost use Rattle.ion_visiting.specs.Tapes.{Tells, events_in, symbol_event, text_
 
 use crate::bracket::Bracket;
 use crate::part::Part;
+use crate::pushing::push;
 use crate::tape::{Entry, Form, Role, Tape};
 use ion_scalar::Number;
 use std::alloc::Global;
@@ -341,7 +342,7 @@ impl Following<'_> {
         };
         let outer = self.frame;
         self.frame = frame;
-        own == bracket && self.outer.push(outer).is_ok()
+        own == bracket && push(&mut self.outer, outer)
     }
 
     #[inline(always)]

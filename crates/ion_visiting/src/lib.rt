@@ -13,6 +13,7 @@ mod octets;
 mod outlining;
 mod part;
 mod payloads;
+mod pushing;
 mod recent_symbols;
 mod short;
 mod table_filter;

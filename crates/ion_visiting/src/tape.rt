@@ -8,6 +8,7 @@ ghost use Rattle.ion_visiting.specs.Tapes.{Grows, IsBlank, Rests, Writes, events
 use crate::bracket::Bracket;
 use crate::octets::are_same;
 use crate::part::Part;
+use crate::pushing::push;
 use crate::short::Short;
 use crate::visitor::Visitor;
 use ion_atoms::{Decimal, Whole};
@@ -109,23 +110,7 @@ impl Tape {
         ensures rests { Rests self.old self.new }
         ensures opened { self.new.opened ≡ self.old.opened }
     {
-        if self.entries.len() < self.entries.capacity() {
-            self.entries.push_reserved(entry);
-            return true;
-        }
-        self.put_in_more(entry)
-    }
-
-    // The same where the entries have to be moved.
-    #[cold]
-    #[inline(never)]
-    fn put_in_more(&mut self, entry: Entry) -> bool
-        ensures entries { result ≡ true →
-            self.new.entries.items ≡ self.old.entries.items ++ entry ∷ [] }
-        ensures rests { Rests self.old self.new }
-        ensures opened { self.new.opened ≡ self.old.opened }
-    {
-        self.entries.push(entry).is_ok()
+        push(&mut self.entries, entry)
     }
 
     // Where this text stands now.
@@ -179,7 +164,7 @@ impl Tape {
         ensures { result ≡ true → Writes self.old self.new (part (number_payload number)) }
     {
         let place = self.numbers.len();
-        if place > u32::MAX as usize || !self.numbers.push(number).is_ok() {
+        if place > u32::MAX as usize || !push(&mut self.numbers, number) {
             return false;
         }
         self.put(Entry::Number(place as u32))
@@ -491,7 +476,7 @@ impl Visitor for Tape {
     fn open(&mut self, bracket: Bracket) -> bool {
         let place = self.entries.len();
         place <= u32::MAX as usize
-            && self.opened.push(place as u32).is_ok()
+            && push(&mut self.opened, place as u32)
             && self.put(Entry::Open(bracket, 0))
     }
 
