@@ -91,8 +91,8 @@ impl<'a> Following<'a> {
 }
 
 #[inline(always)]
-fn is_name(entry: Entry) -> bool
-    ensures { result ≡ is_name entry }
+fn is_name(entry: &Entry) -> bool
+    ensures { result ≡ is_name entry.now }
 {
     match entry {
         Entry::Symbol(Role::Name, _) => true,
@@ -104,12 +104,13 @@ fn is_name(entry: Entry) -> bool
 
 // The name of the field that begins there.
 #[inline(always)]
-fn field_at(tape: &Tape, place: usize) -> Option<Entry>
-    ensures there { IfSome result (λ entry. slice_get tape.now.entries.items place ≡ Some entry) }
+fn field_at(tape: &Tape, place: usize) -> Option<&Entry>
+    ensures there { IfSome result (λ entry.
+        slice_get tape.now.entries.items place ≡ Some entry.now) }
     ensures field { IfSome result (λ _. IsField tape.now place) }
 {
     match tape.entries.get(place) {
-        Some(entry) if is_name(*entry) => Some(*entry),
+        Some(entry) if is_name(entry) => Some(entry),
         _ => None,
     }
 }
@@ -305,7 +306,7 @@ impl Following<'_> {
             return self.finds_name(text);
         }
         match self.take() {
-            Some(entry) => self.tape.tells_symbol(entry, role, text),
+            Some(entry) => self.tape.tells_symbol(&entry, role, text),
             None => false,
         }
     }

@@ -207,14 +207,14 @@ impl Tape {
 
     /// Whether this entry tells this symbol.
     #[inline(always)]
-    pub(crate) fn tells_symbol(&self, entry: Entry, role: Role, text: Option<&[u8]>) -> bool
-        ensures { result ≡ true → told self.now entry
+    pub(crate) fn tells_symbol(&self, entry: &Entry, role: Role, text: Option<&[u8]>) -> bool
+        ensures { result ≡ true → told self.now entry.now
             ≡ Some (symbol_event role (option_map (λ t. t.now) text.entry)) }
     {
         match (entry, text) {
-            (Entry::Unknown(own), None) => own == role,
-            (Entry::Word(own, short), Some(text)) => own == role && are_same(short.text(), text),
-            (Entry::Symbol(own, range), Some(text)) => own == role && self.has_text(range, text),
+            (Entry::Unknown(own), None) => *own == role,
+            (Entry::Word(own, short), Some(text)) => *own == role && are_same(short.text(), text),
+            (Entry::Symbol(own, range), Some(text)) => *own == role && self.has_text(*range, text),
             _ => false,
         }
     }
@@ -238,7 +238,7 @@ impl Tape {
         match said {
             Part::Null(kind) => matches!(entry, Entry::Null(own) if own == *kind),
             Part::Truth(truth) => matches!(entry, Entry::Truth(own) if own == *truth),
-            Part::Symbol(text) => self.tells_symbol(entry, Role::Value, Some(text.as_bytes())),
+            Part::Symbol(text) => self.tells_symbol(&entry, Role::Value, Some(text.as_bytes())),
             Part::Str(text) => self.tells_text(entry, Form::Str, text.as_bytes()),
             Part::Clob(octets) => self.tells_text(entry, Form::Clob, octets),
             Part::Blob(octets) => self.tells_text(entry, Form::Blob, octets),

@@ -116,7 +116,7 @@ impl Twin {
             (symbol_event role (option_map (λ t. t.now) text.entry)) self.new }
     {
         match self.next() {
-            Some(entry) if self.first.tells_symbol(entry, role, octets_of(text)) => self.pass(),
+            Some(entry) if self.first.tells_symbol(&entry, role, octets_of(text)) => self.pass(),
             _ => self.other_symbol(role, text),
         }
     }
