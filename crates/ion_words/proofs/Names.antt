@@ -5,7 +5,7 @@ use Rattle.std.specs.Str.{bytes_eq}
 use Rattle.clap.specs.Lexer.{long_of, long_of_rest, short_of, short_of_rest, strip_byte}
 use Rattle.clap.specs.Kinds.{Kinds, or_else}
 use Rattle.clap.specs.declared.error.ErrorKind.TheVariants as kind
-use Rattle.clap.specs.Walk.{Held, Rule, Step, Waiting, Walk, after_step, answers_to, finished, idle, is_empty, nothing_held, option, plain_word, positional, settled, subcommand_met, walk_from, walked, word_met}
+use Rattle.clap.specs.Walk.{Held, Rule, Step, Waiting, Walk, after_step, answers_to, finished, idle, is_empty, nothing_held, plain_word, settled, subcommand_met, walk_from, walked, word_met}
 use Rattle.clap.specs.Faults.{check_fault, defaults_fault, entered_fault, settle_fault, step_fault, walk_fault, word_fault}
 use Rattle.clap.specs.Simple.{Shape, built, entered, label_of, names_of}
 use Rattle.clap.specs.Words.{Text}
@@ -34,8 +34,7 @@ no_short (x ∷ name) plain = ap (λ b. option_and_then short_of_rest (if b then
 
 none_met : (waiting : Waiting) (word : Text) → subcommand_met [] waiting word ≡ None
 none_met idle word = refl
-none_met (option id) word = refl
-none_met positional word = refl
+none_met _ word = refl
 
 plain_met : (c : List Rule) (waiting : Waiting) (position : ℕ) (name : Text) (held : Held) → IsPlain name → word_met c [] false waiting position name held
     ≡ plain_word c waiting name held

@@ -7,8 +7,11 @@ use clap::builder::ValueParser;
 use clap::{Arg, Command};
 use std::alloc::{AllocError, Global};
 
+/// A command, where there was memory for it.
+type Made<'a> = Result<Command<'a>, AllocError>;
+
 /// The program with its commands.
-pub fn command_line<'a>(alloc: Global) -> Result<Command<'a>, AllocError>
+pub fn command_line<'a>(alloc: Global) -> Made<'a>
     ensures { IfOk result (λ command. app_of command ≡ program) }
 {
     let program = with_command(bare(alloc), over_one(alloc, "check"))?;
@@ -27,10 +30,7 @@ fn bare<'a>(alloc: Global) -> Command<'a>
 }
 
 /// The program with one more command, where there was memory for it.
-fn with_command<'a>(
-    program: Command<'a>,
-    command: Result<Command<'a>, AllocError>,
-) -> Result<Command<'a>, AllocError>
+fn with_command<'a>(program: Command<'a>, command: Made<'a>) -> Made<'a>
     ensures { IfOk result (λ r. IsOkAnd command.entry (λ added. (app_of added).top.is_plain ≡ true →
         app_of r ≡ with_subcommand (app_of program.entry) (app_of added).top)) }
 {
@@ -38,7 +38,7 @@ fn with_command<'a>(
 }
 
 /// A command over one document.
-fn over_one<'a>(alloc: Global, name: &'a str) -> Result<Command<'a>, AllocError>
+fn over_one<'a>(alloc: Global, name: &'a str) -> Made<'a>
     ensures { IfOk result (λ command. app_of command ≡ over_one name.now) }
 {
     let command = with_place(alloc, Command::new(alloc, name), "FILE")?;
@@ -46,7 +46,7 @@ fn over_one<'a>(alloc: Global, name: &'a str) -> Result<Command<'a>, AllocError>
 }
 
 /// The command that writes a document anew.
-fn converting<'a>(alloc: Global) -> Result<Command<'a>, AllocError>
+fn converting<'a>(alloc: Global) -> Made<'a>
     ensures { IfOk result (λ command. app_of command ≡ converting) }
 {
     let command = with_place(alloc, Command::new(alloc, "convert"), "FILE")?;
@@ -55,7 +55,7 @@ fn converting<'a>(alloc: Global) -> Result<Command<'a>, AllocError>
 }
 
 /// The command over two documents.
-fn comparing<'a>(alloc: Global) -> Result<Command<'a>, AllocError>
+fn comparing<'a>(alloc: Global) -> Made<'a>
     ensures { IfOk result (λ command. app_of command ≡ comparing) }
 {
     let command = with_place(alloc, Command::new(alloc, "compare"), "LEFT")?;
@@ -64,7 +64,7 @@ fn comparing<'a>(alloc: Global) -> Result<Command<'a>, AllocError>
 }
 
 /// The command with the options that each command takes.
-fn with_options<'a>(alloc: Global, command: Command<'a>) -> Result<Command<'a>, AllocError>
+fn with_options<'a>(alloc: Global, command: Command<'a>) -> Made<'a>
     ensures { IfOk result (λ r. app_of r ≡ with_options (app_of command.entry)) }
 {
     let command = with_option(alloc, command, "catalog")?;
@@ -73,34 +73,21 @@ fn with_options<'a>(alloc: Global, command: Command<'a>) -> Result<Command<'a>, 
 }
 
 /// The command with a name that must be given, by its place.
-fn with_place<'a>(
-    alloc: Global,
-    command: Command<'a>,
-    id: &'a str,
-) -> Result<Command<'a>, AllocError>
+fn with_place<'a>(alloc: Global, command: Command<'a>, id: &'a str) -> Made<'a>
     ensures { IfOk result (λ r. app_of r ≡ with_rule (app_of command.entry) (place id.now)) }
 {
     command.arg(Arg::new(alloc, id).required(true))
 }
 
 /// The command with `--id VALUE`, which may be given.
-fn with_option<'a>(
-    alloc: Global,
-    command: Command<'a>,
-    id: &'a str,
-) -> Result<Command<'a>, AllocError>
+fn with_option<'a>(alloc: Global, command: Command<'a>, id: &'a str) -> Made<'a>
     ensures { IfOk result (λ r. app_of r ≡ with_rule (app_of command.entry) (option id.now)) }
 {
     command.arg(Arg::new(alloc, id).long(id))
 }
 
 /// The command with `--id N`, which may be given, a whole number from 1 to `most`.
-fn with_number<'a>(
-    alloc: Global,
-    command: Command<'a>,
-    id: &'a str,
-    most: u64,
-) -> Result<Command<'a>, AllocError>
+fn with_number<'a>(alloc: Global, command: Command<'a>, id: &'a str, most: u64) -> Made<'a>
     ensures { IfOk result (λ r.
         app_of r ≡ with_rule (app_of command.entry) (number_option most id.now)) }
 {
@@ -109,11 +96,7 @@ fn with_number<'a>(
 }
 
 /// The command with `--id VALUE`, which must be given.
-fn with_needed_option<'a>(
-    alloc: Global,
-    command: Command<'a>,
-    id: &'a str,
-) -> Result<Command<'a>, AllocError>
+fn with_needed_option<'a>(alloc: Global, command: Command<'a>, id: &'a str) -> Made<'a>
     ensures { IfOk result (λ r. app_of r ≡ with_rule (app_of command.entry)
         (needed_option id.now)) }
 {

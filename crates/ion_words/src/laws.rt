@@ -6,6 +6,7 @@ ghost use Rattle.ion_words.specs.Asked.{IsPlain, asked, check, show, convert, co
 ghost use Rattle.ion_words.specs.Lines.{words_in};
 
 /// What some command lines ask for.
+#[tactic(auto, unfolding(clap::proofs::OnLiterals::clap_on_literals))]
 pub fn rows_asked()
     ensures no_words { asked [] ≡ Some (usual (show (codes "-"))) }
     ensures check_row { asked (words_in (codes "check a")) ≡ Some (usual (check (codes "a"))) }
@@ -29,6 +30,7 @@ pub fn rows_asked()
 {}
 
 /// Some command lines that ask for nothing.
+#[tactic(auto, unfolding(clap::proofs::OnLiterals::clap_on_literals))]
 pub fn rows_refused()
     ensures no_command { asked (words_in (codes "frob")) ≡ None }
     ensures no_name { asked (words_in (codes "check")) ≡ None }
@@ -73,6 +75,7 @@ pub fn plain_names()
 {}
 
 /// Behind `--` any word is a name.
+#[tactic(auto, unfolding(clap::proofs::OnLiterals::clap_on_literals))]
 pub fn names_behind_hyphens()
     ensures check { (name : Text) →
         asked (codes "check" ∷ codes "--" ∷ name ∷ []) ≡ Some (usual (check name)) }
