@@ -23,7 +23,7 @@ pub use Rattle.ion_tokens.specs.machine.Said.{says}
 unfoldable pub use Rattle.ion_tokens.specs.machine.Said.{said}
 pub use Rattle.ion_tokens.specs.machine.Scanned.{AllSay, BegunSo, Continues, Covers, EndsFor, EndsSo, Goes, GoesWith, HasBegun, IsAhead, IsFirstColon, IsForm, MayComment, NoDocument, NoEnd, RefusesAt, Scanned, ShowsBegun, Tells}
 pub use Rattle.ion_tokens.specs.machine.Scanning.{Given, Known, Left, Next, Outcome, Refused, acts, at_end, blob_ends, cut, ends_at, feed, follow, go_to, initial, kept_after, left_of, past, run, split_at, start_of}
-pub use Rattle.ion_tokens.specs.machine.Steps.{Answers, GivesToken, IsToken, IsWithin, RefusesToken, Stepped, answered, deciding, is_end_reason, is_step_reason, passed, stepped}
+pub use Rattle.ion_tokens.specs.machine.Steps.{Answers, GivesToken, IsToken, IsWithin, RefusesToken, Stepped, answered, deciding, is_end_reason, is_octet_reason, is_step_reason, passed, stepped}
 pub use Rattle.ion_tokens.specs.machine.Table.{add, after_digits, after_long, after_short, before, begins_value, character, close, close_long, digit_behind, end_of, give, go, grow, in_blank, in_blob, in_block_star, in_brace, in_colon, in_escape, in_hexadecimal, in_infinity, in_kind_name, in_lob, in_number, in_number_slash, in_operator, in_operator_slash, in_quote, in_quotes, in_slash, in_text, in_utf8, in_word, is_high, is_low, is_other, lead, lob_start, meant, operator_end, raw, refused, run_ending, second_brace, stands, third_quote, with_digit}
 pub use Rattle.ion_tokens.specs.machine.Told.{Gave, Leaved, Stands}
 pub use Rattle.ion_tokens.specs.machine.Traces.{AnswersTrace, EndsTrace, IsTraced, Leads, Places, Stops, Told, Trace, Trail, comes, end_judged, judged, last_judged, last_of, left_by, over, over_pieces, takes, then_by, told_as, told_by, told_there, trace, traced}

@@ -43,13 +43,10 @@ unfolding IsFair
 refused_fair p os s at e h = not_memory e (subst (λ (x : Outcome). IsFair x) (sym h) (run_fair p os s))
 
 step_reason : (e : Reason) → is_octet_reason e ≡ true → is_step_reason e ≡ true
-step_reason Reason.Float h = refl
-step_reason Reason.BadEscape h = refl
-step_reason Reason.BadUtf8 h = refl
-step_reason Reason.BadBase64 h = refl
-step_reason Reason.Ambiguous h = refl
-step_reason Reason.Unexpected h = refl
-step_reason _ h = cc
+step_reason Reason.Memory h = refl
+step_reason Reason.TooLarge h = refl
+step_reason Reason.Malformed h = refl
+step_reason _ h = h
 
 unless_memory : (e : Reason) → (e ≢ Reason.Memory → is_step_reason e ≡ true) → is_step_reason e ≡ true
 unless_memory Reason.Memory h = refl

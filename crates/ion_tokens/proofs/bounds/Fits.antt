@@ -3,7 +3,8 @@ use Rattle.std.proofs.Common.{◌≡◌, ℕ, suc, ◌+◌, ◌-◌, ◌≤◌, 
 use Rattle.std.specs.Prelude.{◌&&◌, ◌||◌, not, nat_le, nat_lt}
 use Rattle.std.specs.List.{list_all}
 use Rattle.std.proofs.lemmas.Bool.Decides.{nat_tests}
-use Rattle.ion_tokens.specs.Names.{Action, Digits, Keep, Mode, Place, Reason, Style, Within, debt, is_idle, is_sexp, unkept}
+use Rattle.ion_tokens.specs.Names.{Action, Digits, Keep, Mode, Place, Style, Within, debt, is_idle, is_sexp, unkept}
+pub use Rattle.ion_tokens.specs.machine.Steps.{is_octet_reason}
 use Rattle.ion_tokens.specs.machine.Rows.{Taken, digit_rows, infinity_rows}
 use Rattle.ion_tokens.specs.machine.Table.{next}
 use Rattle.ion_tokens.specs.laws.ByRows.{by_mode, by_rows_where}
@@ -25,16 +26,6 @@ abbrev pub is_fresh : Mode → Bool
 is_fresh Mode.Blank = true
 is_fresh Mode.Slash = true
 is_fresh _ = false
-
--- the reasons that an octet alone may give
-abbrev pub is_octet_reason : Reason → Bool
-is_octet_reason Reason.Float = true
-is_octet_reason Reason.BadEscape = true
-is_octet_reason Reason.BadUtf8 = true
-is_octet_reason Reason.BadBase64 = true
-is_octet_reason Reason.Ambiguous = true
-is_octet_reason Reason.Unexpected = true
-is_octet_reason _ = false
 
 -- an action in a mode with so many octets unkept and in debt
 abbrev pub fits : ℕ → ℕ → Bool → Action → Bool

@@ -34,21 +34,18 @@ white_first p colon o h = rw h
 passes_white : (p : Place) (colon : Bool) (o : ℕ) → is_white o ≡ true → PassesBlank p colon (o ∷ [])
 passes_white p colon o h start used = (used, λ r. ap (λ a. follow (acts p (blank colon start used) o a) (λ t. run p r t)) (white_first p colon o h))
 
+opened : (p : Place) (colon : Bool) (m : Mode) (used : ℕ) (r : List ℕ)
+    → run p r (at m [] colon ((used + 1) - 1) ((used + 1) + 1)) ≡ run p r (at m [] colon used (used + 2))
+opened p colon m used r =
+    let two : (used + 1) + 1 ≡ used + 2 = omega arith in
+    let one : (used + 1) - 1 ≡ used = omega arith in
+    λ i. run p r (at m [] colon (one i) (two i))
+
 opens_line : (p : Place) (colon : Bool) → Opens p colon (codes "//") Mode.LineComment []
-opens_line p colon = record {
-  on = λ start used r.
-      let two : (used + 1) + 1 ≡ used + 2 = omega arith in
-      let one : (used + 1) - 1 ≡ used = omega arith in
-      λ i. run p r (at Mode.LineComment [] colon (one i) (two i));
-}
+opens_line p colon = record { on = λ start used r. opened p colon Mode.LineComment used r }
 
 opens_block : (p : Place) (colon : Bool) → Opens p colon (codes "/*") Mode.BlockComment []
-opens_block p colon = record {
-  on = λ start used r.
-      let two : (used + 1) + 1 ≡ used + 2 = omega arith in
-      let one : (used + 1) - 1 ≡ used = omega arith in
-      λ i. run p r (at Mode.BlockComment [] colon (one i) (two i));
-}
+opens_block p colon = record { on = λ start used r. opened p colon Mode.BlockComment used r }
 
 line_on : (o : ℕ) → not (is_line_end o) ≡ true → (c : Bool) (p : Place) → next p c Mode.LineComment o ≡ Action.Go Mode.LineComment Keep.Nothing
 line_on o h c p = rw (not-true (is_line_end o) h)

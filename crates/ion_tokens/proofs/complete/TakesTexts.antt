@@ -5,7 +5,7 @@ use Rattle.std.specs.List.{flat_map, AllByRecursion}
 use Rattle.std.proofs.lemmas.Bool.{false≢true, ne_eqb}
 use lib.Utf8.{encode, scalar_cases}
 use Rattle.std.proofs.Math.Seq.{take-append_seam}
-use Rattle.ion_tokens.specs.Names.{Action, Element, Hidden, IsElement, IsQuoted, Keep, Known, Lf, Mode, Outcome, Place, Raw, RawLine, Style, TokenKind, Within, acts, begins, follow, go, in_text, is_long, kept_after, raw, run, spelling}
+use Rattle.ion_tokens.specs.Names.{Action, Element, IsElement, IsQuoted, Keep, Known, Mode, Outcome, Place, Raw, RawLine, Style, TokenKind, Within, acts, begins, follow, go, in_text, is_long, kept_after, raw, run, spelling}
 use Rattle.ion_tokens.specs.machine.Table.{next}
 use Rattle.ion_tokens.proofs.complete.Moves.{Moves, Opens, Takes, at, moves_one, moves_then, opens_one, opens_then, takes_end, takes_left, takes_now}
 use Rattle.ion_tokens.proofs.texts.Encodings.{Encoding, encoding, four_octets, one_octet, three_octets, two_octets}
@@ -55,7 +55,6 @@ raw_other c n (four_octets x y z v l u f g h t e) = rw e ((λ f. cc), (λ i. ome
 element_other : (e : Element) → IsElement Style.QuotedSymbol e → (spelling e ≢ []) × BeginsOther (spelling e)
 element_other (Raw c) i = raw_other c (⊎_elim (λ l. absurd (false≢true l)) (λ n. n) i.2) (encoding c (scalar_cases c i.0))
 element_other (RawLine e) i = absurd (false≢true i)
-element_other (Hidden Lf) i = ((λ f. cc), (λ i. omega arith))
 element_other _ i = ((λ f. cc), (λ i. omega arith))
 
 elements_other : (es : List Element) → AllByRecursion (IsElement Style.QuotedSymbol) es → BeginsOther (flat_map spelling es)

@@ -23,9 +23,8 @@ at_most_one s u ts ahead _ = omega arith
 -- the front of octets that begin with at most one
 pub begins_front : (left octets rest more : List ℕ) → length left ≤ 1 → 1 ≤ length octets → octets ++ rest ≡ left ++ more → Continues octets left
 begins_front [] octets rest more h k e = (octets, refl)
-begins_front (y ∷ []) [] rest more h k e = absurd (omega arith)
 begins_front (y ∷ []) (z ∷ zs) rest more h k e = let same : z ≡ y = ap (λ l. Rattle.std.specs.Prelude.slice_index l 0) e in (zs, ap (λ (x : ℕ). x ∷ zs) same)
-begins_front (y ∷ z ∷ ys) octets rest more h k e = absurd (omega arith)
+begins_front _ _ rest more h k e = absurd (omega arith)
 
 -- where tokens aren't refused when they are judged, nor is one more, none of them all is
 pub pass_more : (ts : List Placed) (t : Placed) → AllPass ts → Passes t.lexeme.kind t.lexeme.octets → AllPass (ts ++ t ∷ [])

@@ -1,7 +1,7 @@
 -- How octets in memory show that a blob or a clob stands whole at their front.
 use Rattle.std.proofs.Common.{◌≡◌, ℕ, ◌+◌, ◌<◌, suc, false, List, [], ◌∷◌, ◌++◌, length, length-append, length-drop, take, drop, drop-cons, add-one, refl, sym, ap, ◌∙◌, subst, arith, append_assoc, append-nil, cond, take-append-drop}
 use Rattle.std.specs.Prelude.{not, slice_index, codes, Some}
-use Rattle.std.specs.List.{take_while, filter}
+use Rattle.std.specs.List.{take_while}
 use Rattle.std.proofs.Math.Seq.{take-add, take-append_seam}
 use Rattle.std.proofs.lemmas.List.{get_or-drop, length-take-le}
 use Rattle.std.proofs.lemmas.List.Elements.{filter-append}

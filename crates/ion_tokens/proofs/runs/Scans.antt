@@ -1,5 +1,5 @@
 -- What one octet makes of what a scanner stands for. Crates above cite these names.
-use Rattle.std.proofs.Common.{◌≡◌, ℕ, ◌+◌, List, [], ◌∷◌, ◌++◌, length, sym, ap, subst, arith, append-nil, length-append}
+use Rattle.std.proofs.Common.{◌≡◌, ℕ, List, [], ◌∷◌, ◌++◌, sym, ap, subst, arith, append-nil, length-append}
 use Rattle.ion_tokens.specs.Names.{Continues, Gave, Given, Known, Leaved, Left, Lexeme, Next, Outcome, Passes, Place, Placed, Scanned, Stands, feed, follow, run}
 use Rattle.ion_tokens.proofs.histories.Stepped.{behind_since, from_left, goes_on, since_used, told_more}
 use Rattle.ion_tokens.proofs.runs.Splits.{given_one, left_one}

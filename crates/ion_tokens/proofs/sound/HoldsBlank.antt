@@ -54,40 +54,17 @@ module _ (p : Place) (colon : Bool) (k : ℕ) (start used : ℕ) (since : List �
   blank_turned (Action.Refuse e) b h = tt
   blank_turned a b h = absurd h
 
+  -- a comment that this octet opened has no content yet
+  opened : (front : List ℕ) (x : ℕ) → since ≡ front ++ 47 ∷ [] → o ≡ x → since ++ o ∷ [] ≡ (front ++ 47 ∷ x ∷ []) ++ []
+  opened front x e i = (λ j. e j ++ i j ∷ []) ∙ append_assoc front (47 ∷ []) (x ∷ []) ∙ sym (append-nil (front ++ 47 ∷ x ∷ []))
+
   -- what an action makes of an octet behind a blank and a `/` is so, if the action fits both
   pub slash_turned : (a : Action) (front : List ℕ) → IsBlank front → since ≡ front ++ 47 ∷ [] → Second p colon o a
       → Sound p colon k since o (acts p (at Mode.Slash [] colon start used) o a)
-  slash_turned (Action.Go Mode.LineComment k') front b e (i, n) = record {
-    flag = refl;
-    used = used_more;
-    mode = (
-      n,
-      record {
-        front = front;
-        octets = [];
-        blank = b;
-        one_line = tt;
-        cut = (λ j. e j ++ i j ∷ []) ∙ append_assoc front (47 ∷ []) (47 ∷ [])
-            ∙ sym (append-nil (front ++ codes "//"));
-      },
-    );
-  }
-  slash_turned (Action.Go Mode.BlockComment k') front b e (i, n) = record {
-    flag = refl;
-    used = used_more;
-    mode = (
-      n,
-      record {
-        front = front;
-        octets = [];
-        blank = b;
-        no_close = tt;
-        last = refl;
-        cut = (λ j. e j ++ i j ∷ []) ∙ append_assoc front (47 ∷ []) (42 ∷ [])
-            ∙ sym (append-nil (front ++ codes "/*"));
-      },
-    );
-  }
+  slash_turned (Action.Go Mode.LineComment k') front b e (i, n) =
+      record { flag = refl; used = used_more; mode = (n, record { front = front; octets = []; blank = b; one_line = tt; cut = opened front 47 e i }) }
+  slash_turned (Action.Go Mode.BlockComment k') front b e (i, n) =
+      record { flag = refl; used = used_more; mode = (n, record { front = front; octets = []; blank = b; no_close = tt; last = refl; cut = opened front 42 e i }) }
   slash_turned (Action.Go m k') front b e h =
       let size : used - 1 ≡ k + length front = omega (arith, uses, ap length e, length-append front (47 ∷ [])) in
       record {

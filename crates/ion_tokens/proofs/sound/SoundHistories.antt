@@ -59,15 +59,8 @@ begins_with p colon k octets ahead after l s r t j = record {
 
 -- What was told of octets so far is so.
 pub stands_tells : (s : Known) (u : List ℕ) (ts : List Placed) (ahead : List ℕ) → Stands s u ts ahead → AllPass ts → HasTold s u ts ahead
-stands_tells s u ts ahead Begun pass = record {
-  colon = false;
-  end = 0;
-  since = [];
-  holds = λ q. blank_behind q false 0;
-  again =
-      λ q. refl;
-  lexes = λ r more e. (refl, refl, refl);
-}
+stands_tells s u ts ahead Begun pass =
+    record { colon = false; end = 0; since = []; holds = λ q. blank_behind q false 0; again = λ q. refl; lexes = λ r more e. (refl, refl, refl) }
 stands_tells s u ts ahead (Gave s0 u0 ts0 ahead0 t octets more0 s' h e f n) pass =
     by (stands_tells s0 u0 ts0 ahead0 h (pass_front ts0 t pass).0)
   where

@@ -142,34 +142,13 @@ opens_scalar s e = grind (arith, nat_tests)
 
 hex_kind : (s : Style) (letter n : ℕ) → (IsTrue (is_clob s) → letter ≡ 120) → ((letter ≡ 120) × (n ≡ 2))
     ⊎ (((letter ≡ 117) × (n ≡ 4)) ⊎ ((letter ≡ 85) × (n ≡ 8))) → HexKind s letter n
-hex_kind s letter n h (inl (l, e)) = record {
-  kind = Digits.Octet;
-  opened =
-      ap (in_escape s) l ∙ ap (λ (n : ℕ). Action.Go (Mode.Text s (Within.Hexadecimal Digits.Octet n 0)) Keep.Nothing) (sym e);
-  some = omega arith;
-  means =
-      λ c e k. octet_means s c e;
-}
+hex_kind s letter n h (inl (l, e)) = record { kind = Digits.Octet; opened = rw (l, e) refl; some = omega arith; means = λ c e k. octet_means s c e }
 hex_kind s letter n h (inr (inl (l, e))) =
     let text : is_clob s ≡ false = no_clob_letter s letter h (λ i. omega arith) in
-    record {
-      kind = Digits.Unit;
-      opened = ap (in_escape s) l ∙ opens_unit s text
-          ∙ ap (λ (n : ℕ). Action.Go (Mode.Text s (Within.Hexadecimal Digits.Unit n 0)) Keep.Nothing) (sym e);
-      some = omega arith;
-      means =
-          λ c e k. after_unit s c e k ∙ in_text_style s c text;
-    }
+    record { kind = Digits.Unit; opened = rw (l, e) (opens_unit s text); some = omega arith; means = λ c e k. after_unit s c e k ∙ in_text_style s c text }
 hex_kind s letter n h (inr (inr (l, e))) =
     let text : is_clob s ≡ false = no_clob_letter s letter h (λ i. omega arith) in
-    record {
-      kind = Digits.Scalar;
-      opened = ap (in_escape s) l ∙ opens_scalar s text
-          ∙ ap (λ (n : ℕ). Action.Go (Mode.Text s (Within.Hexadecimal Digits.Scalar n 0)) Keep.Nothing) (sym e);
-      some = omega arith;
-      means =
-          λ c e k. char_is s c e ∙ in_text_style s c text;
-    }
+    record { kind = Digits.Scalar; opened = rw (l, e) (opens_scalar s text); some = omega arith; means = λ c e k. char_is s c e ∙ in_text_style s c text }
 
 -- behind a backslash
 pub goes_slash : {p : Place} {s : Style} {w v : Within} {os kept kept' : List ℕ} → Admits w 92 → GoesInText p s Within.Escape kept os v kept'

@@ -18,9 +18,6 @@ use Rattle.ion_tokens.proofs.runs.Splits.{given_one, left_one}
 -- no more than two octets may be taken up again before another is used
 pub debt_small : (m : Mode) → debt m < 3
 debt_small Mode.Blank = omega arith
-debt_small Mode.NumberSlash = omega arith
-debt_small Mode.OperatorSlash = omega arith
-debt_small (Mode.Infinity _) = omega arith
 debt_small _ = omega arith
 
 -- an octet that is left leaves fewer to be taken up again
@@ -260,17 +257,16 @@ module _ (p : Place) (s : Known) where
   pub end_traced : (x : Result (Option Lexeme) Reason) (r : Result (Option Token) Refusal) → at_end p s ≡ x → Ends s.used x r → EndsTrace p s r
   end_traced (Ok None) (Ok token) e a = λ places u ts h place. ends places u ts h place (Ok None) e
       ∙ (λ i. record { told = ts; refused = None; ends = Ok (last_of (sym a i) s.used) })
-  end_traced (Ok (Some l)) (Ok None) e a = absurd a
   end_traced (Ok (Some l)) (Ok (Some t)) e a = λ places u ts h place. ends places u ts h place (Ok (Some l)) e
       ∙ (λ i. record { told = ts; refused = None; ends = last_judged l s.used (said_so l t a i) })
       ∙ (λ i. record { told = ts; refused = None; ends = Ok (Some (told_is l t s.used a i)) })
-  end_traced (Err reason) (Ok token) e a = absurd a
   end_traced (Ok None) (Err r) e a = λ n. absurd (a n)
   end_traced (Ok (Some l)) (Err r) e a = λ n places u ts h place. ends places u ts h place (Ok (Some l)) e
       ∙ (λ i. record { told = ts; refused = None; ends = last_judged l s.used (refused_so l s.used r (a n) i) })
       ∙ (λ i. record { told = ts; refused = None; ends = Err (record { offset = sym (a n).offset i; reason = r.reason }) })
   end_traced (Err reason) (Err r) e a = λ n places u ts h place. ends places u ts h place (Err reason) e
       ∙ (λ i. record { told = ts; refused = None; ends = Err (sym (a n) i) })
+  end_traced _ _ e a = absurd a
 
 -- before any octet
 pub begins_traced : (places : Places) (s : Known) → s ≡ initial → IsTraced places s [] [] []

@@ -78,18 +78,22 @@ Ends used (Ok None) (Err r) = r.reason ≢ Reason.Memory → ⊥
 Ends used (Ok (Some l)) (Err r) = r.reason ≢ Reason.Memory → RefusesToken l used r
 Ends used (Err reason) (Err r) = r.reason ≢ Reason.Memory → r ≡ record { offset = used; reason = reason }
 
+-- the reasons that an octet alone may give
+abbrev pub is_octet_reason : Reason → Bool
+is_octet_reason Reason.Float = true
+is_octet_reason Reason.BadEscape = true
+is_octet_reason Reason.BadUtf8 = true
+is_octet_reason Reason.BadBase64 = true
+is_octet_reason Reason.Ambiguous = true
+is_octet_reason Reason.Unexpected = true
+is_octet_reason _ = false
+
 -- the reasons for which a step refuses; `Incomplete` is none of them
 abbrev pub is_step_reason : Reason → Bool
 is_step_reason Reason.Memory = true
 is_step_reason Reason.TooLarge = true
 is_step_reason Reason.Malformed = true
-is_step_reason Reason.Float = true
-is_step_reason Reason.BadEscape = true
-is_step_reason Reason.BadUtf8 = true
-is_step_reason Reason.BadBase64 = true
-is_step_reason Reason.Ambiguous = true
-is_step_reason Reason.Unexpected = true
-is_step_reason _ = false
+is_step_reason reason = is_octet_reason reason
 
 -- the reasons for which the end of octets that a scanner used refuses them
 abbrev pub is_end_reason : Reason → Bool

@@ -11,10 +11,8 @@ loop-at-init c = record {
 
 pub loop-at-preserved : goal.loop-at-preserved
 loop-at-preserved c =
-    let octets = c.args.octets.now in
-    let at = c.loop-at.at in
-    let rest = take_rest octets at in
+    let rest = take_rest c.args.octets.now c.loop-at.at in
     record {
-      within = let same = ap length rest in let l = length-drop at octets in let k = c.in_ok-at.ensures.within in omega arith;
-      leads = leads_then c.args.style octets _ _ _ _ at c.in_ok-at.field-0 rest c.loop-at.invariant.leads c.in_ok-at.ensures.leads;
+      within = let same = ap length rest in let l = length-drop c.loop-at.at c.args.octets.now in let k = c.in_ok-at.ensures.within in omega arith;
+      leads = leads_then c.args.style c.args.octets.now _ _ _ _ c.loop-at.at c.in_ok-at.field-0 rest c.loop-at.invariant.leads c.in_ok-at.ensures.leads;
     }

@@ -8,10 +8,8 @@ loop-at-init c = record { within = omega arith; adds = none_adds c.args.kept.now
 
 pub loop-at-preserved : goal.loop-at-preserved
 loop-at-preserved c =
-    let octets = c.args.octets.now in
-    let at = c.loop-at.at in
-    let rest = take_rest octets at in
+    let rest = take_rest c.args.octets.now c.loop-at.at in
     record {
-      within = let same = ap length rest in let l = length-drop at octets in let k = c.in_ok-at.ensures.within in omega arith;
-      adds = adds_then octets _ _ _ _ at c.in_ok-at.field-0 rest c.loop-at.invariant.adds c.in_ok-at.ensures.adds;
+      within = let same = ap length rest in let l = length-drop c.loop-at.at c.args.octets.now in let k = c.in_ok-at.ensures.within in omega arith;
+      adds = adds_then c.args.octets.now _ _ _ _ c.loop-at.at c.in_ok-at.field-0 rest c.loop-at.invariant.adds c.in_ok-at.ensures.adds;
     }

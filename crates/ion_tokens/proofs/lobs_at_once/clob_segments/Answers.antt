@@ -5,10 +5,8 @@ use Rattle.ion_tokens.proofs.lobs_at_once.clob_segments.Goals as goal
 
 pub loop-at-preserved : goal.loop-at-preserved
 loop-at-preserved c =
-    let octets = c.args.octets.now in
-    let at = c.loop-at.at in
-    let rest = take_rest octets at in
+    let rest = take_rest c.args.octets.now c.loop-at.at in
     record {
-      within = let same = ap length rest in let l = length-drop at octets in let k = c.in_ok-at-2.ensures.within in omega arith;
-      adds = segments_then octets _ _ _ _ at c.in_ok-at-2.field-0 rest c.loop-at.invariant.adds c.in_ok-at-2.ensures.adds;
+      within = let same = ap length rest in let l = length-drop c.loop-at.at c.args.octets.now in let k = c.in_ok-at-2.ensures.within in omega arith;
+      adds = segments_then c.args.octets.now _ _ _ _ c.loop-at.at c.in_ok-at-2.field-0 rest c.loop-at.invariant.adds c.in_ok-at-2.ensures.adds;
     }
