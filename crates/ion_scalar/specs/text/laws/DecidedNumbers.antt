@@ -13,9 +13,8 @@ digits base (c ∷ d ∷ os) = both (dec_lt (digit_value c) base) (either (digit
 -- 1. Ints.
 
 one_zero : (os : List ℕ) → Dec (os ≡ 48 ∷ [])
-one_zero [] = no (λ e. cc)
 one_zero (c ∷ []) = map_dec (λ e. ap (λ x. x ∷ []) e) (λ e. let h : c ≡ 48 = cc in h) (ℕ_discrete c 48)
-one_zero (c ∷ d ∷ os) = no (λ e. cc)
+one_zero _ = no (λ e. cc)
 
 whole : (os : List ℕ) → Dec (IsWholePart os)
 whole os = either (one_zero os) (both (digits 10 os) (not_so (ℕ_discrete (slice_index os 0) 48)))

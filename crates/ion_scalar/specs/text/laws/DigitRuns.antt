@@ -8,30 +8,24 @@ use Rattle.std.proofs.lemmas.List.Elements.{filter-append}
 use Rattle.std.proofs.Math.Nat.{mul-le-mul_left, mul-le-mul_right}
 use Rattle.ion_scalar.specs.Names.{BeginsWithNone, GoesNotOn, IsDigits, continued, digits_in, positional, positional_push}
 
--- a run of digits with a digit more is a run of digits
-pub digits_push : (base : ℕ) (os : List ℕ) (c : ℕ) → IsDigits base os → digit_value c < base → IsDigits base (os ++ c ∷ [])
-digits_push base [] c h d = d
-digits_push base (a ∷ []) c h d = (h, inl d)
-digits_push base (a ∷ b ∷ os) c h d = (
+digits_more : (base : ℕ) (more : List ℕ) → ((a : ℕ) → digit_value a < base → IsDigits base (a ∷ more)) → (os : List ℕ) → IsDigits base os
+    → IsDigits base (os ++ more)
+digits_more base more last [] h = absurd h
+digits_more base more last (a ∷ []) h = last a h
+digits_more base more last (a ∷ b ∷ os) h = (
   h.0,
   elim (h.1) [
-    | inl more ↦ inl (digits_push base (b ∷ os) c more d)
-    | inr skip ↦ inr
-        (skip.0, digits_push base os c skip.1 d)
+    | inl on ↦ inl (digits_more base more last (b ∷ os) on)
+    | inr skip ↦ inr (skip.0, digits_more base more last os skip.1)
   ],
 )
 
+-- a run of digits with a digit more is a run of digits
+pub digits_push : (base : ℕ) (os : List ℕ) (c : ℕ) → IsDigits base os → digit_value c < base → IsDigits base (os ++ c ∷ [])
+digits_push base os c h d = digits_more base (c ∷ []) (λ a first. (first, inl d)) os h
+
 pub digits_skip : (base : ℕ) (os : List ℕ) (c : ℕ) → IsDigits base os → digit_value c < base → IsDigits base (os ++ 95 ∷ c ∷ [])
-digits_skip base [] c h d = absurd h
-digits_skip base (a ∷ []) c h d = (h, inr (refl, d))
-digits_skip base (a ∷ b ∷ os) c h d = (
-  h.0,
-  elim (h.1) [
-    | inl more ↦ inl (digits_skip base (b ∷ os) c more d)
-    | inr skip ↦ inr
-        (skip.0, digits_skip base os c skip.1 d)
-  ],
-)
+digits_skip base os c h d = digits_more base (95 ∷ c ∷ []) (λ a first. (first, inr (refl, d))) os h
 
 -- what stands for no digit is left out
 pub digits_in-append : (xs ys : List ℕ) → digits_in (xs ++ ys) ≡ digits_in xs ++ digits_in ys
