@@ -58,8 +58,7 @@ items_gone : (rest : List Part) (Leads : Value → Value → Type 0) (vs ws : Li
     → ⊥
 items_gone rest Leads [] [] zero e f h = h
 items_gone rest Leads [] [] (suc k) e f h = h
-items_gone rest Leads [] (w ∷ ws) k e f h = cc
-items_gone rest Leads (v ∷ vs) ws k e f h = cc
+items_gone rest Leads _ _ k e f h = cc
 
 fields_gone : (fs gs : List Field) (s : Option (List ℕ)) → fs ≡ [] → gs ≡ [] → LeastParting fs gs s → ⊥
 fields_gone fs gs s e f l = l.parted (ap (λ hs. field_count same hs l.field) (e ∙ sym f))

@@ -12,9 +12,8 @@ use Rattle.ion_model.specs.laws.Order.{order-agrees}
 -- the order of symbols has no ties but those of the same symbols
 pub symbol_ties : (s t : Option (List ℕ)) → symbol_same s t ≡ is_eq (symbol_cmp s t)
 symbol_ties None None = refl
-symbol_ties None (Some t) = refl
-symbol_ties (Some s) None = refl
 symbol_ties (Some s) (Some t) = sym (is_eq-slice_cmp s t)
+symbol_ties _ _ = refl
 
 -- the order of symbols is total
 pub symbol_cmp-total : IsTotalOrder symbol_cmp

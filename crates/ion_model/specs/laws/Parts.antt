@@ -1,28 +1,23 @@
 -- Parts of a payload that agree are equal, and so are parts that tie in the order.
-use Rattle.std.proofs.Common.{◌≡◌, ℕ, ◌<◌, suc, length, get_or, List, [], ◌∷◌, Bool, true, Ordering, Equal, Option, Some, None, nat_eq, refl, arith, ap, sym, subst, true≢false}
+use Rattle.std.proofs.Common.{◌≡◌, ℕ, ◌<◌, suc, length, get_or, List, [], ◌∷◌, Bool, true, Ordering, Equal, Option, Some, None, nat_eq, refl, arith, ap, sym, subst, ◌∙◌, true≢false}
 use Rattle.std.specs.Bool.{beq}
 use Rattle.std.specs.Cmp.Lexicographic.{slice_cmp}
-use Rattle.std.specs.Ordering.{nat_cmp, int_cmp, int_eq, bool_cmp}
+use Rattle.std.specs.Ordering.{nat_cmp, int_cmp, int_eq, bool_cmp, is_eq}
 use Rattle.std.proofs.lemmas.Bool.{eqb-true}
 use Rattle.std.proofs.lemmas.Cmp.{tied_itself}
 use Rattle.std.proofs.lemmas.Slice.Eq.{bytes_eq-Decides}
 use lib.Pointwise.{pointwise}
 use Rattle.ion_model.specs.Names.{Scalar, decimal_cmp, decimal_same, scalar_cmp, scalar_same, symbol_cmp, symbol_same, text_cmp, text_same, timestamp_cmp, timestamp_same}
 use Rattle.ion_atoms.specs.laws.Tests.{both, first, second}
-use Rattle.ion_atoms.specs.laws.Ties.{bool_from, bool_is, decimal_from, decimal_is, int_from, int_is, nat_back, nat_is, then_first, then_second, then_tie, timestamp_from, timestamp_is}
+use Rattle.ion_atoms.specs.laws.Ties.{bool_from, bool_is, decimal_from, decimal_is, int_from, int_is, nat_is, then_first, then_second, then_tie, timestamp_from, timestamp_is}
 use Rattle.ion_model.specs.laws.Equivalence.{scalar_same-equiv, symbol_same-equiv}
-use Rattle.ion_model.specs.laws.OrderTotal.{scalar_cmp-total, symbol_cmp-total}
-
-text_back : (s t : List ℕ) → text_cmp s t ≡ Equal → text_same s t ≡ true
-text_back [] [] h = refl
-text_back (x ∷ xs) (y ∷ ys) h = both _ _ (nat_back x y (then_first _ _ h)) (text_back xs ys (then_second (nat_cmp x y) _ h))
-text_back _ _ h = cc
+use Rattle.ion_model.specs.laws.OrderTotal.{scalar_cmp-total, symbol_cmp-total, symbol_ties}
 
 text_from : (s t : List ℕ) → text_same s t ≡ true → s ≡ t
 text_from s t h = (bytes_eq-Decides s t).0 h
 
 text_is : (s t : List ℕ) → text_cmp s t ≡ Equal → s ≡ t
-text_is s t h = text_from s t (text_back s t h)
+text_is s t h = text_from s t (symbol_ties (Some s) (Some t) ∙ ap is_eq h)
 
 -- symbols that are the same are equal
 pub symbol_from : (s t : Option (List ℕ)) → symbol_same s t ≡ true → s ≡ t
@@ -32,9 +27,7 @@ symbol_from _ _ h = cc
 
 -- symbols that tie in the order are equal
 pub symbol_is : (s t : Option (List ℕ)) → symbol_cmp s t ≡ Equal → s ≡ t
-symbol_is None None h = refl
-symbol_is (Some s) (Some t) h = ap Some (text_is s t h)
-symbol_is _ _ h = cc
+symbol_is s t h = symbol_from s t (symbol_ties s t ∙ ap is_eq h)
 
 -- scalars that agree in every part are equal
 pub scalar_from : (s t : Scalar) → scalar_same s t ≡ true → s ≡ t

@@ -32,25 +32,14 @@ tidy_fields-returns-clause-inner t c =
     c.in_ok-tidy_rows.ensures.inner) (always_ok c.sort_rows.result)
 
 pub tidy_rows-loop-i-init : goal.tidy_rows-loop-i-init
-tidy_rows-loop-i-init t c = record {
-  long = refl;
-  same = (lists_equiv (field_same-equiv same same-equiv)).refl c.args.rows.now.items;
-  later =
-      λ k d h. refl;
-  normal = λ k d h. absurd (omega arith);
-}
+tidy_rows-loop-i-init t c =
+    record { long = refl; same = (lists_equiv (field_same-equiv same same-equiv)).refl c.args.rows.now.items; later = λ k d h. refl; normal = λ k d h. absurd (omega arith) }
 
 pub tidy_rows-tidy-requires : goal.tidy_rows-tidy-requires
 tidy_rows-tidy-requires t c =
-    let lt : c.loop-i.i < length c.args.rows.now.items = omega (arith, c.args.rows.now.ok.0) in (
-      omega (
-        arith,
-        c.decreases,
-        greatest-at (λ f. depth f.value) c.args.rows.now.items c.loop-i.i c.index_mut.result.now lt
-            (c.index_mut.ensures.value ∙ c.loop-i.invariant.later c.loop-i.i c.index_mut.result.now (omega arith)),
-      ),
-      tt,
-    )
+    let lt : c.loop-i.i < length c.args.rows.now.items = omega (arith, c.args.rows.now.ok.0) in
+    let at = c.index_mut.ensures.value ∙ c.loop-i.invariant.later c.loop-i.i c.index_mut.result.now (omega arith) in
+    (omega (arith, c.decreases, greatest-at (λ f. depth f.value) c.args.rows.now.items c.loop-i.i c.index_mut.result.now lt at), tt)
 
 pub tidy_rows-returns-in_err-tidy-clause-same : goal.tidy_rows-returns-in_err-tidy-clause-same
 tidy_rows-returns-in_err-tidy-clause-same t c =
@@ -72,25 +61,14 @@ tidy_rows-loop-i-preserved t c =
     }
 
 pub tidy_values-loop-i-init : goal.tidy_values-loop-i-init
-tidy_values-loop-i-init t c = record {
-  long = refl;
-  same = (lists_equiv same-equiv).refl c.args.values.now.items;
-  later =
-      λ k d h. refl;
-  normal = λ k d h. absurd (omega arith);
-}
+tidy_values-loop-i-init t c =
+    record { long = refl; same = (lists_equiv same-equiv).refl c.args.values.now.items; later = λ k d h. refl; normal = λ k d h. absurd (omega arith) }
 
 pub tidy_values-tidy-requires : goal.tidy_values-tidy-requires
 tidy_values-tidy-requires t c =
-    let lt : c.loop-i.i < length c.args.values.now.items = omega (arith, c.args.values.now.ok.0) in (
-      omega (
-        arith,
-        c.decreases,
-        greatest-at depth c.args.values.now.items c.loop-i.i c.index_mut.result.now lt
-            (c.index_mut.ensures.value ∙ c.loop-i.invariant.later c.loop-i.i c.index_mut.result.now (omega arith)),
-      ),
-      tt,
-    )
+    let lt : c.loop-i.i < length c.args.values.now.items = omega (arith, c.args.values.now.ok.0) in
+    let at = c.index_mut.ensures.value ∙ c.loop-i.invariant.later c.loop-i.i c.index_mut.result.now (omega arith) in
+    (omega (arith, c.decreases, greatest-at depth c.args.values.now.items c.loop-i.i c.index_mut.result.now lt at), tt)
 
 pub tidy_values-returns-in_err-tidy-clause-same : goal.tidy_values-returns-in_err-tidy-clause-same
 tidy_values-returns-in_err-tidy-clause-same t c =

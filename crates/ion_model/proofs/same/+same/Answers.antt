@@ -1,8 +1,6 @@
-use Rattle.std.proofs.Common.{◌≡◌, ◌<◌, suc, map, length, Bool, true, false, ◌&&◌, refl, arith, ap, sym, ◌∙◌}
-use Rattle.std.specs.Bool.{beq}
-use lib.Pointwise.{pointwise}
-use Rattle.ion_model.specs.Names.{Layer, Payload, decimal_same, depth, greatest, layer_same, out-Payload, outs-Blob, outs-Clob, outs-Decimal, outs-Fields, outs-List, outs-Sexp, outs-Str, outs-Symbol, outs-Timestamp, outs-Truth, same, symbol_same, text_same, timestamp_same}
-use Rattle.ion_model.specs.laws.Measures.{depth-at-Fields, depth-at-List, depth-at-Sexp, greatest-at}
+use Rattle.std.proofs.Common.{◌<◌, length, arith, sym, ◌∙◌}
+use Rattle.ion_model.specs.Names.{depth, same}
+use Rattle.ion_model.specs.laws.Measures.{greatest-at}
 use Rattle.ion_model.specs.laws.Same.{counts_agree_fails, counts_agree_more, same-is}
 use Rattle.ion_model.proofs.same.+same.Goals as goal
 
