@@ -1,14 +1,15 @@
 //! What unquoted words are (Ion 1.0, "Symbols" and "Ion Text Encoding").
-ghost use Rattle.std.specs.Prelude.{◌≡◌, ◌-◌, ◌^◌, min, false, MatchResult, if◌then◌else◌, Some, None};
+ghost use Rattle.std.specs.Prelude.{◌≡◌, false, MatchResult};
 ghost use Rattle.std.specs.List.{list_all};
-ghost use Rattle.ion_text.specs.Names.{held_word, id_of, is_digit, is_keyword, is_version, number_in, some_digits, version_parts};
+ghost use Rattle.ion_text.specs.Names.{held_word, is_digit, is_keyword, is_version, some_digits, version_parts};
 ghost use Rattle.ion_atoms.specs.declared.refusal.Reason.TheVariants as reasons;
 
 use crate::state::Held;
 use ion_model::{Kind, Reason};
 use ion_visiting::RecentSymbols;
 
-fn is_digit(octet: u8) -> bool
+/// Whether an octet is a digit.
+pub(crate) fn is_digit(octet: u8) -> bool
     ensures { result ≡ is_digit octet }
 {
     b'0' <= octet && octet <= b'9'
@@ -25,33 +26,6 @@ fn some_digits(octets: &[u8]) -> bool
     ensures { result ≡ some_digits octets.now }
 {
     !octets.is_empty() && are_digits(octets)
-}
-
-// The number of these octets, if all are digits; 2^64-1 stands for every larger one.
-fn number_in(octets: &[u8]) -> Option<u64>
-    ensures { result ≡ if list_all is_digit octets.now
-        then Some (min (number_in 0 octets.now) (2 ^ 64 - 1)) else None }
-{
-    let mut number: u64 = 0;
-    for octet in octets {
-        if !is_digit(*octet) {
-            return None;
-        }
-        number = number
-            .saturating_mul(10)
-            .saturating_add(u64::from(octet.saturating_sub(b'0')));
-    }
-    Some(number)
-}
-
-/// The symbol id that a word is, `$` and digits; 2^64-1 stands for every larger one.
-pub(crate) fn symbol_id(word: &[u8]) -> Option<u64>
-    ensures { result ≡ id_of word.now }
-{
-    match word.split_first() {
-        Some((b'$', digits)) if !digits.is_empty() => number_in(digits),
-        _ => None,
-    }
 }
 
 /// Whether these are digits, `_` and digits.

@@ -2,8 +2,8 @@
 //! stands for no symbol is left to the octets, and so is an annotation of an item of the top level.
 #![tactic(auto)]
 
-ghost use Rattle.std.specs.Prelude.{◌≡◌, ◌+◌, ◌<◌, IfSome};
-ghost use Rattle.ion_text.specs.Names.{EndsBy, Id, IsHere, Place as AnyPlace, Rest as AnyRest, SaysThere, SymbolThere, Takes};
+ghost use Rattle.std.specs.Prelude.{◌≡◌, ◌≢◌, ◌+◌, ◌<◌, get_or, length, IfSome, false, true};
+ghost use Rattle.ion_text.specs.Names.{EndsBy, Id, IsHere, Place as AnyPlace, Rest as AnyRest, SaysThere, SymbolThere, Takes, begins_word};
 ghost use Rattle.ion_tokens.specs.declared.mode.TokenKind.TheVariants as kinds;
 ghost use Rattle.ion_text.specs.declared.state.Now.TheVariants as nows;
 
@@ -11,29 +11,60 @@ use super::stride::{only_goes, value_took};
 use super::{TextWalk, heard};
 use crate::state::{Now, Taken};
 use crate::tokens::symbols::{behind_annotation, behind_name, behind_waiting};
-use crate::words::symbol_id;
+use crate::words::is_digit;
 use ion_model::{Reason, Symbol};
-use ion_tokens::{FoundToken, Mark, Place, Rest, TokenKind, word};
+use ion_tokens::{FoundToken, Mark, Place, Rest, TokenKind};
 use ion_visiting::Visitor;
 
-// The symbol id there.
+// A tenth of the greatest id that a symbol may have.
+const TENTH_OF_IDS: u64 = 214_748_364;
+
+// Whether an octet that is no digit shows the end of a symbol id: no word goes on with it.
+#[inline(always)]
+fn ends_id(octet: u8) -> bool
+    ensures { result ≡ true → (begins_word octet ≡ false) × (octet ≢ 46) }
+{
+    if octet < 64 {
+        return octet != b'$' && octet != b'.';
+    }
+    !matches!(octet, b'A'..=b'Z' | b'_' | b'a'..=b'z')
+}
+
+// The symbol id behind the `$` there, if it isn't greater than any symbol's.
 #[inline(always)]
 fn id_at(octets: &[u8]) -> Option<(FoundToken, u64)>
+    requires dollar { get_or octets.now 0 0 ≡ 36 }
+    requires more { 1 < length octets.now }
     ensures says { IfSome result (λ found. (here : AnyPlace) (rest : AnyRest) →
         SaysThere here rest octets.now found.0 (Id found.1)) }
     ensures word { IfSome result (λ found. found.0.kind ≡ kinds.Word) }
 {
-    let count = word(octets)?;
-    if count >= octets.len() {
+    let first = octets[1];
+    if !is_digit(first) {
         return None;
     }
-    let id = symbol_id(&octets[..count])?;
-    let token = FoundToken {
-        kind: TokenKind::Word,
-        count,
-        left: true,
-    };
-    Some((token, id))
+    let mut id = u64::from(first - b'0');
+    let mut count = 2;
+    while count < octets.len() {
+        let octet = octets[count];
+        if !is_digit(octet) {
+            if !ends_id(octet) {
+                return None;
+            }
+            let token = FoundToken {
+                kind: TokenKind::Word,
+                count,
+                left: true,
+            };
+            return Some((token, id));
+        }
+        if id > TENTH_OF_IDS {
+            return None;
+        }
+        id = id * 10 + u64::from(octet - b'0');
+        count += 1;
+    }
+    None
 }
 
 impl TextWalk<'_> {
@@ -48,6 +79,7 @@ impl TextWalk<'_> {
     ) -> Result<Taken, Reason>
         requires takes { Takes nows.Ready self.old rest.old octets.now }
         requires here { IsHere self.old here }
+        requires dollar { get_or octets.now 0 0 ≡ 36 }
         ensures { EndsBy V.takes self.old self.new rest.old rest.new octets.now result
             visitor.old visitor.new }
     {
@@ -134,7 +166,8 @@ impl TextWalk<'_> {
         octets: &[u8],
         visitor: &mut V,
     ) -> Result<Taken, Reason>
-        requires { Takes nows.Name self.old rest.old octets.now }
+        requires takes { Takes nows.Name self.old rest.old octets.now }
+        requires dollar { get_or octets.now 0 0 ≡ 36 }
         ensures { EndsBy V.takes self.old self.new rest.old rest.new octets.now result
             visitor.old visitor.new }
     {

@@ -29,9 +29,9 @@ returns g c =
     key_answer g.V.Visitor.takes old new rest c.past_token-2.result octets a b same token m s (Ok Goes)
     (c.past_token-2.ensures
     ∙ ap (λ r. past_token Place.Name r (TokenKind.Mark Mark.Colon) 1) (c.past_blank.ensures ∙ ap (λ r. past_blank r m) c.past_token.ensures))
-    behind.ensures.within c.requires
+    behind.ensures.within c.requires.takes
     (id_names old.context rest octets token c.in-Some.id s c.in-Some.ensures.word c.in-Ok.ensures (c.in-Some.ensures.says Place.Name rest))
     behind.ensures.passed behind.ensures.colon behind.ensures.one
-    (names_does g.V.Visitor.takes old new s a b c.requires.stage (ap (λ (w : TextWalk). w.frames) e) (ap (λ (w : TextWalk). w.noted) e)
+    (names_does g.V.Visitor.takes old new s a b c.requires.takes.stage (ap (λ (w : TextWalk). w.frames) e) (ap (λ (w : TextWalk). w.noted) e)
     (ap (λ (w : TextWalk). w.stage) e) (ap (λ (w : TextWalk). w.start) e) (ap (λ (w : TextWalk). w.context) e)
     (subst (λ f. Tells g.V.Visitor.takes (name s) old.filter f a b) (sym (ap (λ (w : TextWalk). w.filter) e)) (c.name.ensures c.in_ok-heard.ensures.ok)))
