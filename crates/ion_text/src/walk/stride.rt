@@ -174,20 +174,19 @@ impl TextWalk<'_> {
         ensures { EndsBy V.takes self.old self.new rest.old rest.new octets.now result
             visitor.old visitor.new }
     {
+        let first = rest.used;
         let mut at = 0;
-        for _ in 0..octets.len() {
-            let before = rest.used;
+        loop {
             let taken = self.take_next(rest, &octets[at..], visitor)?;
-            let count = (rest.used - before) as usize;
-            if count == 0 {
+            let now = (rest.used - first) as usize;
+            if now == at {
                 return Ok(taken);
             }
             match taken {
-                Taken::Uses => at += count,
+                Taken::Uses => at = now,
                 _ => return Ok(taken),
             }
         }
-        Ok(Taken::Uses)
     }
 
     /// A blank, and the token behind it.

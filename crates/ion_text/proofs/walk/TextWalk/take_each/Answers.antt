@@ -1,40 +1,62 @@
-use Rattle.std.proofs.Common.{◌≡◌, ◌-◌, Ok, List, ℕ, length, take, drop, arith, ap, ◌∙◌, length-drop}
+use Rattle.std.proofs.Common.{◌≡◌, ◌+◌, ◌-◌, Ok, List, ℕ, length, take, drop, arith, ap, ◌∙◌, subst, length-drop}
 use Rattle.std.proofs.lemmas.List.{take_rest}
-use Rattle.ion_text.specs.Names.{Taken}
-use Rattle.ion_text.proofs.Strides.{moved_by, settings_none, settings_on, strode_none, strode_on}
+use Rattle.ion_text.specs.Names.{Ended, Strode}
+use Rattle.ion_text.proofs.Strides.{settings_none, settings_on, strode_none, strode_on}
 use Rattle.ion_text.proofs.LastTokens.{ends_on}
 use Rattle.ion_text.proofs.walk.TextWalk.take_each.Goals as goal
 
-pub loop-init : goal.loop-init
-loop-init g c = (strode_none _ _ _ _ _, settings_none _)
+pub loop-taken-init : goal.loop-taken-init
+loop-taken-init g c = (strode_none g.V.Visitor.takes c.args.self.now c.args.rest.now c.args.octets.now c.args.visitor.now, settings_none c.args.self.now)
 
 pub take_next-requires : goal.take_next-requires
 take_next-requires g c =
     let octets = c.args.octets.now in
-    let at = c.loop.at in
+    let at = c.loop-taken.at in
     let size : length (take (length octets - at) (drop at octets)) ≡ length octets - at =
     ap (λ (w : List ℕ). length w) (take_rest octets at) ∙ length-drop at octets in
-    let within = c.loop.invariant.0.within in
-    let used = c.loop.invariant.0.used in
+    let within = c.loop-taken.invariant.0.within in
+    let used = c.loop-taken.invariant.0.used in
     let room = c.requires in
     omega arith
 
-pub loop-preserved : goal.loop-preserved
-loop-preserved g c =
-    let two = c.in_ok-taken.ensures in (
-      strode_on _ _ _ _ _ _ _ _ _ _ _ _ _ _ (take_rest c.args.octets.now c.loop.at) c.loop.invariant.1 c.loop.invariant.0 (rw c.in-Uses.is at two.ended),
-      settings_on _ _ _ c.loop.invariant.1 two.same,
+pub loop-taken-preserved : goal.loop-taken-preserved
+loop-taken-preserved g c =
+    let octets = c.args.octets.now in
+    let at = c.loop-taken.at in
+    let two = c.in_ok-taken.ensures in
+    let moved = c.take_next.new.rest.used - c.loop-taken.rest.used in
+    let y = subst (λ t. Ended g.V.Visitor.takes c.loop-taken.self c.take_next.new.self c.loop-taken.rest c.take_next.new.rest
+    (take (length octets - at) (drop at octets)) (moved, t) c.loop-taken.visitor c.take_next.new.visitor) c.in-Uses.is two.ended in
+    let now : at + moved ≡ c.take_next.new.rest.used - c.args.rest.now.used = omega (arith, c.loop-taken.invariant.0.used, y.used) in (
+      subst (λ (n : ℕ). Strode g.V.Visitor.takes c.args.self.now c.take_next.new.self c.args.rest.now c.take_next.new.rest octets n
+          c.args.visitor.now c.take_next.new.visitor) now
+          (strode_on g.V.Visitor.takes c.args.self.now c.loop-taken.self c.take_next.new.self c.args.rest.now c.loop-taken.rest c.take_next.new.rest octets
+          (take (length octets - at) (drop at octets)) at moved c.args.visitor.now c.loop-taken.visitor c.take_next.new.visitor (take_rest octets at)
+          c.loop-taken.invariant.1 c.loop-taken.invariant.0 y),
+      settings_on c.args.self.now c.loop-taken.self c.take_next.new.self c.loop-taken.invariant.1 two.same,
     )
 
-pub returns-then-count-eq0 : goal.returns-then-count-eq0
-returns-then-count-eq0 g c =
-    ends_on _ _ _ _ _ _ _ _ _ _ _ _ _ (take_rest c.args.octets.now c.loop.at) c.loop.invariant.1 c.loop.invariant.0 (Ok c.in_ok-taken.taken)
-    c.in_ok-taken.ensures
+pub loop-taken-smaller : goal.loop-taken-smaller
+loop-taken-smaller g c =
+    let octets = c.args.octets.now in
+    let at = c.loop-taken.at in
+    let size : length (take (length octets - at) (drop at octets)) ≡ length octets - at =
+    ap (λ (w : List ℕ). length w) (take_rest octets at) ∙ length-drop at octets in
+    let two = c.in_ok-taken.ensures.ended in
+    omega (arith, size, c.loop-taken.invariant.0.used, c.loop-taken.invariant.0.within, two.used, two.within, c.if-now-at.false)
+
+pub returns-then-now-at : goal.returns-then-now-at
+returns-then-now-at g c =
+    let octets = c.args.octets.now in
+    let at = c.loop-taken.at in
+    ends_on g.V.Visitor.takes c.args.self.now c.loop-taken.self c.take_next.new.self c.args.rest.now c.loop-taken.rest c.take_next.new.rest octets
+    (take (length octets - at) (drop at octets)) at c.args.visitor.now c.loop-taken.visitor c.take_next.new.visitor (take_rest octets at)
+    c.loop-taken.invariant.1 c.loop-taken.invariant.0 (Ok c.in_ok-taken.taken) c.in_ok-taken.ensures
 
 pub returns-in_default : goal.returns-in_default
 returns-in_default g c =
-    ends_on _ _ _ _ _ _ _ _ _ _ _ _ _ (take_rest c.args.octets.now c.loop.at) c.loop.invariant.1 c.loop.invariant.0 (Ok c.in_ok-taken.taken)
-    c.in_ok-taken.ensures
-
-pub returns : goal.returns
-returns g c = moved_by _ _ _ _ _ _ c.loop.at Taken.Uses _ _ c.loop.invariant.0 c.loop.invariant.1
+    let octets = c.args.octets.now in
+    let at = c.loop-taken.at in
+    ends_on g.V.Visitor.takes c.args.self.now c.loop-taken.self c.take_next.new.self c.args.rest.now c.loop-taken.rest c.take_next.new.rest octets
+    (take (length octets - at) (drop at octets)) at c.args.visitor.now c.loop-taken.visitor c.take_next.new.visitor (take_rest octets at)
+    c.loop-taken.invariant.1 c.loop-taken.invariant.0 (Ok c.in_ok-taken.taken) c.in_ok-taken.ensures
