@@ -2,11 +2,12 @@
 use Rattle.std.proofs.Common.{◌≡◌, ◌≢◌, ℕ, zero, suc, ◌+◌, ◌-◌, ◌<◌, ◌≤◌, Bool, true, false, List, [], ◌∷◌, length, take, drop, get_or, Option, Some, None, Result, Ok, Err, refl, ap, sym, ◌∙◌, subst, arith, length-drop}
 use Rattle.std.proofs.lemmas.Grind.{common_steps}
 use Rattle.std.proofs.lemmas.List.{get_or-drop}
+use Rattle.std.specs.Prelude.{IfOk}
 use Rattle.std.specs.Option.{is_some}
-use Rattle.ion_text.specs.Names.{Advances, Catalog, DidTake, Event, Frame, Holds, LeavesBehind, LedLeaving, Limits, Memory, Reached, Reason, Refusal, Run, State, Strides, Symbols, Taken, TextWalk, TookFront, TookSo, Value, WentOn, eats, heard, leaves, led, place, reading_of, resumed, run, run_on, scanned, state_of, told}
+use Rattle.ion_text.specs.Names.{Advances, Catalog, DidTake, Event, Frame, Holds, LeavesBehind, LedLeaving, Limits, Memory, Reached, Reason, Refusal, Run, State, Strides, Symbols, Taken, TextWalk, TookFront, TookSo, Value, WentOn, count_of, eats, heard, leaves, led, place, reading_of, resumed, run, run_on, scanned, state_of, told}
 use Rattle.ion_tokens.specs.laws.Again.{blank_uses}
 use Rattle.ion_visiting.specs.laws.Filters.{hears_none}
-use Rattle.ion_text.specs.walk.Advances.{AdvancesBy}
+use Rattle.ion_text.specs.walk.Advances.{AdvancesBy, gone, with_count}
 use Rattle.ion_text.specs.laws.reading.complete.Fuel.{NotLeaves, eats_stays}
 use Rattle.ion_text.proofs.Leading.{LeadsFromStart, leads_by, leads_to_end, leads_to_given, leads_to_left, leads_to_refused, leads_to_second}
 use Rattle.ion_text.proofs.Prefixes.{front_of, octet_of, refused_of, size}
@@ -50,6 +51,13 @@ module _ {V : Type 0} (takes : V → Event → V → Type 0) (es : List Event) (
     prefix_took (Ok took) r a b h = prefix_reached took.0 took.1 r a b h
     prefix_took (Err refusal) r a b h = λ other. refused_of g l to m piece n within refusal (h other)
 
+  -- what so many octets did is what those did that the scanner has moved
+  pub over_gone : (k : ℕ) (t : Taken) (old r : TextWalk) (a b : V) → (scanned r.scanner).used ≡ (scanned old.scanner).used + k
+      → Reached takes es g l to m piece k t r a b → Reached takes es g l to m piece (gone old r) t r a b
+  over_gone k t old r a b e h =
+      let n : k ≡ gone old r = omega (arith, e) in
+      subst (λ (i : ℕ). Reached takes es g l to m piece i t r a b) n h
+
   -- octets over which what waits goes on to wait
   pub lull_reached : (count : ℕ) (fs : List Frame) (ss : Symbols) (r : TextWalk) (a : V) → 0 < count → count ≤ length piece → Holds r fs ss → told fs ss ≡ es
       → run g l to m (take count piece) ≡ led (state_of r fs ss) → Reached takes es g l to m piece count Taken.Uses r a a
@@ -66,7 +74,7 @@ module _ {V : Type 0} (takes : V → Event → V → Type 0) (es : List Event) (
     all [] h = absurd (omega arith)
     all (o ∷ os) h = refl
 
-    pub octet_uses : (r : TextWalk) (a b : V) → DidTake takes es (eats g l m (get_or piece 0 0)) (Ok Taken.Uses) r a b
+    octet_uses : (r : TextWalk) (a b : V) → DidTake takes es (eats g l m (get_or piece 0 0)) (Ok Taken.Uses) r a b
         → Reached takes es g l to m piece 1 Taken.Uses r a b
     octet_uses r a b d = (
       d.0,
@@ -75,7 +83,7 @@ module _ {V : Type 0} (takes : V → Event → V → Type 0) (es : List Event) (
       d.3,
     )
 
-    pub octet_tells : (r : TextWalk) (a b : V) → DidTake takes es (eats g l m (get_or piece 0 0)) (Ok Taken.Tells) r a b
+    octet_tells : (r : TextWalk) (a b : V) → DidTake takes es (eats g l m (get_or piece 0 0)) (Ok Taken.Tells) r a b
         → Reached takes es g l to m piece 1 Taken.Tells r a b
     octet_tells r a b d = (
       d.0,
@@ -83,9 +91,16 @@ module _ {V : Type 0} (takes : V → Event → V → Type 0) (es : List Event) (
       d.2,
     )
 
-    pub octet_leaves : (r : TextWalk) (a b : V) → DidTake takes es (eats g l m (get_or piece 0 0)) (Ok Taken.Leaves) r a b
+    octet_leaves : (r : TextWalk) (a b : V) → DidTake takes es (eats g l m (get_or piece 0 0)) (Ok Taken.Leaves) r a b
         → Reached takes es g l to m piece 0 Taken.Leaves r a b
     octet_leaves r a b d = (d.0, record { within = some; before = m; ran = refl; left = d.1 }, d.2)
+
+    module _ (old r : TextWalk) where
+      pub octet_took : (t : Taken) (a b : V) → (scanned r.scanner).used ≡ (scanned old.scanner).used + count_of t
+          → DidTake takes es (eats g l m (get_or piece 0 0)) (Ok t) r a b → Reached takes es g l to m piece (gone old r) t r a b
+      octet_took Taken.Uses a b e d = over_gone 1 Taken.Uses old r a b e (octet_uses r a b d)
+      octet_took Taken.Tells a b e d = over_gone 1 Taken.Tells old r a b e (octet_tells r a b d)
+      octet_took Taken.Leaves a b e d = over_gone 0 Taken.Leaves old r a b e (octet_leaves r a b d)
 
     pub octet_refused : (reason : Reason) (offset : ℕ) (r : TextWalk) (a b : V) → offset ≡ to + 1
         → DidTake takes es (eats g l m (get_or piece 0 0)) (Err reason) r a b → reason ≢ Memory
@@ -219,6 +234,15 @@ module _ {V : Type 0} (takes : V → Event → V → Type 0) (old mid : TextWalk
       → run g l to first piece ≡ record { given = []; now = Err refusal }
   both_refused refusal e =
       h.passes piece refl ∙ (ap (run g l (scanned mid.scanner).used middle) (sym is) ∙ (run_so rest ∙ e))
+
+  -- what was taken up behind them, they and it did
+  pub both_took : (result : Result Taken Refusal) (new : TextWalk) (b : V) → IfOk result (λ _. (scanned mid.scanner).used ≤ (scanned new.scanner).used)
+      → TookFront takes (told h.frames h.notes) mid.catalog.now mid.limits (scanned mid.scanner).used middle rest (with_count (gone mid new) result) new m b
+      → TookFront takes (told fs ss) g l to first piece (with_count (gone old new) result) new a b
+  both_took (Ok t) new b on y =
+      let n : k + gone mid new ≡ gone old new = omega arith in
+      subst (λ (i : ℕ). Reached takes (told fs ss) g l to first piece i t new a b) n (both_reached new b (gone mid new) t y)
+  both_took (Err refusal) new b on y = λ other. both_refused refusal (y other)
 
 -- tokens that ended a value
 module _ {V : Type 0} (takes : V → Event → V → Type 0) (old new : TextWalk) (fs : List Frame) (ss : Symbols) (piece : List ℕ) (k : ℕ) (a b : V)

@@ -1,9 +1,9 @@
 //! Walks over pieces.
-ghost use Rattle.std.specs.Prelude.{◌≡◌, ◌≢◌, ◌+◌, ◌<◌, ◌≤◌, ◌^◌, ℕ, List, [], ◌∷◌, Some, None, Err, false, true, length, drop, IfOk, IfErr, IfSome, IsSome, IsNone};
+ghost use Rattle.std.specs.Prelude.{◌≡◌, ◌≢◌, ◌+◌, ◌-◌, ◌<◌, ◌≤◌, ◌^◌, ℕ, List, [], ◌∷◌, Some, None, Err, false, true, length, drop, IfOk, IfErr, IfSome, IsSome, IsNone};
 ghost use Rattle.std.specs.Option.{is_some};
 ghost use Rattle.ion_text.specs.Names.{Answers, Event, Frame, Holds, IsFine, IsWithin, Memory, RefusesBy, SameReader, StaysSteady, StepsOver, Symbols, Told, TookFront, Value as AnyValue, WalksOn, failed, if_ended, octets_used, pending, scanned, state_of, told, trace};
 ghost use Rattle.ion_text.specs.machine.Progress.{BeginsWith};
-ghost use Rattle.ion_text.specs.walk.Advances.{DidAdvance, SameSettings};
+ghost use Rattle.ion_text.specs.walk.Advances.{DidAdvance, SameSettings, gone, with_count};
 ghost use Rattle.ion_symtab.specs.Walks.{DoesWalk, answer_of};
 ghost use Rattle.ion_symtab.specs.declared.items.Went.TheVariants as wents;
 
@@ -33,64 +33,66 @@ fn within_piece(before: u64, length: usize, refusal: Refusal) -> Refusal
 }
 
 impl TextWalk<'_> {
+    /// How many octets the scanner has moved from where so many were used.
+    #[inline(always)]
+    fn gone(&self, before: u64) -> usize
+        requires { before ≤ (scanned self.now.scanner).used }
+        ensures { result ≡ (scanned self.now.scanner).used - before }
+    {
+        (self.scanner.used() - before) as usize
+    }
+
     /// Takes up octets at the front of a piece, up to the next token or what waits over them, or
     /// one.
     #[inline(never)]
-    fn take_front<V: Visitor>(
-        &mut self,
-        piece: &[u8],
-        visitor: &mut V,
-    ) -> Result<(usize, Taken), Refusal>
+    fn take_front<V: Visitor>(&mut self, piece: &[u8], visitor: &mut V) -> Result<Taken, Refusal>
         requires fine { IsFine self.old }
         requires room { (scanned self.old.scanner).used + length piece.now < 2 ^ 63 }
         requires some { 0 < length piece.now }
         ensures took { (fs : List Frame) (ss : Symbols) → Holds self.old fs ss →
             TookFront V.takes (told fs ss) self.old.catalog.now self.old.limits
             (scanned self.old.scanner).used (state_of self.old fs ss) piece.now
-            result self.new visitor.old visitor.new }
-        ensures used { IfOk result (λ took.
-            (scanned self.new.scanner).used ≡ (scanned self.old.scanner).used + took.0) }
-        ensures within { IfOk result (λ took. IsWithin (length piece.now) took.0 took.1) }
+            (with_count (gone self.old self.new) result) self.new visitor.old visitor.new }
+        ensures on { IfOk result (λ _.
+            (scanned self.old.scanner).used ≤ (scanned self.new.scanner).used) }
+        ensures within { IfOk result (IsWithin (length piece.now) (gone self.old self.new)) }
         ensures fine { IfOk result (λ _. IsFine self.new) }
         ensures steady { IfOk result (λ _. StaysSteady self.old self.new) }
         ensures same { SameReader self.old self.new }
     {
         let stretch = self.stretch(piece);
         if stretch > 0 {
-            return self.take_stretch(&piece[..stretch], visitor);
+            return match self.take_stretch(&piece[..stretch], visitor) {
+                Ok((_count, taken)) => Ok(taken),
+                Err(refusal) => Err(refusal),
+            };
         }
         let lull = self.lull(piece);
         if lull > 0 {
             self.take_lull(&piece[..lull])?;
-            return Ok((lull, Taken::Uses));
+            return Ok(Taken::Uses);
         }
         let offset = self.scanner.used() + 1;
         match self.take_octet(3, piece[0], visitor) {
+            Ok(taken) => Ok(taken),
             Err(reason) => Err(Refusal { offset, reason }),
-            Ok(Taken::Uses) => Ok((1, Taken::Uses)),
-            Ok(Taken::Tells) => Ok((1, Taken::Tells)),
-            Ok(Taken::Leaves) => Ok((0, Taken::Leaves)),
         }
     }
 
     /// Takes up octets at the front of a piece: the tokens that lie whole there, and some behind
     /// them.
     #[inline(always)]
-    fn take_up<V: Visitor>(
-        &mut self,
-        piece: &[u8],
-        visitor: &mut V,
-    ) -> Result<(usize, Taken), Refusal>
+    fn take_up<V: Visitor>(&mut self, piece: &[u8], visitor: &mut V) -> Result<Taken, Refusal>
         requires fine { IsFine self.old }
         requires room { (scanned self.old.scanner).used + length piece.now < 2 ^ 63 }
         requires some { 0 < length piece.now }
         ensures took { (fs : List Frame) (ss : Symbols) → Holds self.old fs ss →
             TookFront V.takes (told fs ss) self.old.catalog.now self.old.limits
             (scanned self.old.scanner).used (state_of self.old fs ss) piece.now
-            result self.new visitor.old visitor.new }
-        ensures used { IfOk result (λ took.
-            (scanned self.new.scanner).used ≡ (scanned self.old.scanner).used + took.0) }
-        ensures within { IfOk result (λ took. IsWithin (length piece.now) took.0 took.1) }
+            (with_count (gone self.old self.new) result) self.new visitor.old visitor.new }
+        ensures on { IfOk result (λ _.
+            (scanned self.old.scanner).used ≤ (scanned self.new.scanner).used) }
+        ensures within { IfOk result (IsWithin (length piece.now) (gone self.old self.new)) }
         ensures fine { IfOk result (λ _. IsFine self.new) }
         ensures steady { IfOk result (λ _. StaysSteady self.old self.new) }
         ensures same { SameReader self.old self.new }
@@ -103,12 +105,12 @@ impl TextWalk<'_> {
                 offset: rest.used,
                 reason,
             }),
-            Ok((count, Taken::Uses)) => {
-                let (more, taken) = self.take_front(&piece[count..], visitor)?;
-                Ok((count + more, taken))
+            Ok(Taken::Uses) => {
+                let count = self.gone(rest.used);
+                self.take_front(&piece[count..], visitor)
             }
-            Ok((count, Taken::Tells)) => Ok((count, Taken::Tells)),
-            Ok((count, Taken::Leaves)) => Ok((count, Taken::Leaves)),
+            Ok(Taken::Tells) => Ok(Taken::Tells),
+            Ok(Taken::Leaves) => Ok(Taken::Leaves),
         }
     }
 
@@ -149,15 +151,15 @@ impl TextWalk<'_> {
         while i < piece.len() {
             match self.take_up(&piece[i..], visitor) {
                 Err(refusal) => return Err(within_piece(before, piece.len(), refusal)),
-                Ok((count, Taken::Uses)) => i += count,
-                Ok((count, Taken::Tells)) => {
+                Ok(Taken::Uses) => i = self.gone(before),
+                Ok(Taken::Tells) => {
                     return Ok(Walked {
-                        used: i + count,
+                        used: self.gone(before),
                         ended: true,
                     });
                 }
-                Ok((count, Taken::Leaves)) => {
-                    let used = i + count;
+                Ok(Taken::Leaves) => {
+                    let used = self.gone(before);
                     if again && used == 0 {
                         return Err(Refusal {
                             offset: before + 1,

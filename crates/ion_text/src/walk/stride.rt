@@ -9,6 +9,7 @@
 
 ghost use Rattle.std.specs.Prelude.{◌≡◌, ℕ, ◌+◌, ◌-◌, ◌<◌, ◌≤◌, ◌^◌, List, [], ◌∷◌, ◌++◌, length, get_or, take, drop, false, true, Some, IfOk, IfErr, IfSome, OnOk};
 ghost use Rattle.ion_text.specs.Names.{BeginsName, Does, EndsBy, FoundNumber, FoundPart, FoundSymbol, Frame, Holds, IsFine, IsHere, IsStill, MayClose, Memory, OpensAt, Place as AnyPlace, Rest as AnyRest, RestsBehind, SamePlace, SameReader, SameSetting, StaysSteady, Symbols, Takes, TookSo, WentOn, begun_at, calm, close_octet, closes, ends_symbol, is_name, is_null_struct, is_top, named, names_table, only_goes, past_blank, past_token, payload_of, resting, scanned, told, value_took};
+ghost use Rattle.ion_text.specs.walk.Advances.{gone};
 ghost use Rattle.ion_tokens.specs.declared.mode.Place.TheVariants as places;
 ghost use Rattle.ion_text.specs.declared.state.Now.TheVariants as nows;
 
@@ -94,26 +95,26 @@ pub(super) fn value_took(effect: Result<Effect, Reason>, left: bool) -> Result<T
 
 impl TextWalk<'_> {
     /// Takes up the tokens at the front of a piece that lie whole there, up to the end of a value of
-    /// the top level, and tells a visitor their events: how many octets they have, and what they
-    /// did. The scanner rests before them, and behind them again where they ended no value. The only
-    /// refusal is `Memory`.
+    /// the top level, and tells a visitor their events: what they did. How many octets they have is
+    /// how far the scanner has moved, which rests before them, and behind them again where they
+    /// ended no value. The only refusal is `Memory`.
     #[inline(always)]
     pub(super) fn stride<V: Visitor>(
         &mut self,
         first: Rest,
         piece: &[u8],
         visitor: &mut V,
-    ) -> Result<(usize, Taken), Reason>
+    ) -> Result<Taken, Reason>
         requires rests { scanned self.old.scanner ≡ resting first }
         requires still { IsStill self.old.stage }
         requires fine { IsFine self.old }
         requires room { (scanned self.old.scanner).used + length piece.now < 2 ^ 63 }
-        ensures took { IfOk result (λ took. (fs : List Frame) (ss : Symbols) →
-            Holds self.old fs ss → TookSo V.takes fs ss self.old self.new piece.now took.0
-            visitor.old visitor.new took.1) }
-        ensures within { IfOk result (λ took. took.0 ≤ length piece.now - 1) }
-        ensures used { IfOk result (λ took.
-            (scanned self.new.scanner).used ≡ (scanned self.old.scanner).used + took.0) }
+        ensures took { IfOk result (λ taken. (fs : List Frame) (ss : Symbols) →
+            Holds self.old fs ss → TookSo V.takes fs ss self.old self.new piece.now
+            (gone self.old self.new) visitor.old visitor.new taken) }
+        ensures within { IfOk result (λ _. gone self.old self.new ≤ length piece.now - 1) }
+        ensures on { IfOk result (λ _.
+            (scanned self.old.scanner).used ≤ (scanned self.new.scanner).used) }
         ensures memory { IfErr result (λ reason. reason ≡ Memory) }
         ensures fine { IfOk result (λ _. IsFine self.new) }
         ensures steady { IfOk result (λ _. StaysSteady self.old self.new) }
@@ -121,12 +122,12 @@ impl TextWalk<'_> {
     {
         let octets = self.within(piece, first.used);
         if octets.len() < 2 {
-            return Ok((0, Taken::Uses));
+            return Ok(Taken::Uses);
         }
         let mut rest = first;
         let taken = self.take_each(&mut rest, octets, visitor)?;
         self.scanner.move_to(rest);
-        Ok(((rest.used - first.used) as usize, taken))
+        Ok(taken)
     }
 
     /// Where the scanner rests, if tokens may be taken up at once: none has begun, and nothing

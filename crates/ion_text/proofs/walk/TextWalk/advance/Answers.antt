@@ -1,9 +1,11 @@
-use Rattle.std.proofs.Common.{rules, ◌≡◌, ◌-◌, ◌+◌, ◌<◌, ℕ, suc, List, true, Err, length, take, drop, [], arith, ap, sym, ◌∙◌, subst, refl, length-drop}
+use Rattle.std.proofs.Common.{rules, ◌≡◌, ◌-◌, ◌+◌, ◌<◌, ℕ, suc, List, Some, true, Err, length, take, drop, [], arith, ap, sym, ◌∙◌, subst, refl, length-drop}
 use Rattle.std.proofs.lemmas.List.{take_rest}
 use Rattle.std.proofs.Math.Seq.{drop-cons}
+use Rattle.std.specs.Prelude.{slice_index}
 use Rattle.std.specs.Option.{is_some}
-use Rattle.ion_text.specs.Names.{IsWithin, Reached, Reason, Refusal, Taken, scanned, state_of, told}
-use Rattle.ion_text.proofs.Advancing.{led_end, led_leaves, led_none, led_on, led_refused, led_second, led_tells}
+use Rattle.ion_text.specs.Names.{IsWithin, Reached, Reason, Refusal, Taken, TextWalk, scanned, state_of, told}
+use Rattle.ion_text.specs.walk.Advances.{AdvancesBy, gone}
+use Rattle.ion_text.proofs.Advancing.{LedSo, led_end, led_leaves, led_none, led_on, led_refused, led_second, led_tells}
 use Rattle.ion_text.proofs.Leading.{begins_some, onward_where}
 use Rattle.ion_text.proofs.WalkRuns.{still_pending}
 use Rattle.ion_text.proofs.walk.TextWalk.advance.Goals as goal
@@ -29,46 +31,54 @@ loop-i-preserved g c =
     let n = c.take_up.new.self in
     let piece = c.args.piece.now in
     let i = c.loop-i.i in
-    let k = c.in-Ok-default-Uses.count in
+    let k = gone m n in
+    let next = c.gone-i.result in
     let rest = take (length piece - i) (drop i piece) in
+    let size : length rest ≡ length piece - i = ap (λ (w : List ℕ). length w) (take_rest piece i) ∙ length-drop i piece in
     let h = c.loop-i.invariant in
-    let used = c.in-Ok-default-Uses.ensures.used in
+    let on = c.in-Ok-Uses.ensures.on in
     let had = h.used in
-    let within = subst (λ (t : Taken). IsWithin (length rest) k t) c.in-Ok-default-Uses.field-0-1-is c.in-Ok-default-Uses.ensures.within in
+    let onward : next ≡ i + k = omega (arith, c.gone-i.ensures, c.used-before.ensures) in
+    let within = subst (λ (t : Taken). IsWithin (length rest) k t) c.in-Ok-Uses.field-0-is c.in-Ok-Uses.ensures.within in
     record {
-      i = search rules;
+      i = omega (arith, within.1);
       ran =
           λ fs ss holds.
           let x = h.ran fs ss holds in
-          led_on g.V.Visitor.takes first m piece i fs ss c.args.visitor.now c.loop-i.visitor x (ap (λ (b : _). b.now) h.setting.catalog) h.setting.limits
+          subst (λ (j : ℕ). LedSo g.V.Visitor.takes fs ss first n piece j c.args.visitor.now c.take_up.new.visitor) (sym onward)
+          (led_on g.V.Visitor.takes first m piece i fs ss c.args.visitor.now c.loop-i.visitor x (ap (λ (b : _). b.now) h.setting.catalog) h.setting.limits
           h.used n c.take_up.new.visitor k
           (subst (λ (t : Taken). Reached g.V.Visitor.takes (told x.frames x.notes) m.catalog.now m.limits (scanned m.scanner).used
-          (state_of m x.frames x.notes) rest k t n c.loop-i.visitor c.take_up.new.visitor) c.in-Ok-default-Uses.field-0-1-is
-          (c.in-Ok-default-Uses.ensures.took x.frames x.notes x.went.holds));
+          (state_of m x.frames x.notes) rest k t n c.loop-i.visitor c.take_up.new.visitor) c.in-Ok-Uses.field-0-is
+          (c.in-Ok-Uses.ensures.took x.frames x.notes x.went.holds)));
       used = omega arith;
-      none = c.in-Ok-default-Uses.ensures.same.awaited ∙ h.none;
+      none = c.in-Ok-Uses.ensures.same.awaited ∙ h.none;
       still = λ none. absurd (omega (arith, none, within.0));
-      fine = c.in-Ok-default-Uses.ensures.fine;
-      steady = λ x. c.in-Ok-default-Uses.ensures.steady (h.steady x);
+      fine = c.in-Ok-Uses.ensures.fine;
+      steady = λ x. c.in-Ok-Uses.ensures.steady (h.steady x);
       setting = search rules;
     }
 
-pub returns-in-Ok-default-Tells-clause-does : goal.returns-in-Ok-default-Tells-clause-does
-returns-in-Ok-default-Tells-clause-does g c = λ fs ss holds.
+pub returns-in-Ok-Tells-clause-does : goal.returns-in-Ok-Tells-clause-does
+returns-in-Ok-Tells-clause-does g c = λ fs ss holds.
     let first = c.args.self.now in
     let m = c.loop-i.self in
     let n = c.take_up.new.self in
     let piece = c.args.piece.now in
     let i = c.loop-i.i in
-    let k = c.in-Ok-default-Tells.count in
+    let k = gone m n in
     let rest = take (length piece - i) (drop i piece) in
     let h = c.loop-i.invariant in
+    let on = c.in-Ok-Tells.ensures.on in
+    let onward : i + k ≡ c.gone.result = omega (arith, h.used, c.gone.ensures, c.used-before.ensures) in
     let x = h.ran fs ss holds in
-    led_tells g.V.Visitor.takes first m piece i fs ss c.args.visitor.now c.loop-i.visitor x (ap (λ (b : _). b.now) h.setting.catalog) h.setting.limits
-    h.used n c.take_up.new.visitor k h.i (c.in-Ok-default-Tells.ensures.same.awaited ∙ h.none)
+    subst (λ (j : ℕ). AdvancesBy g.V.Visitor.takes (told fs ss) first.catalog.now first.limits (is_some first.awaited) (scanned first.scanner).used
+    (state_of first fs ss) piece j true n c.args.visitor.now c.take_up.new.visitor) onward
+    (led_tells g.V.Visitor.takes first m piece i fs ss c.args.visitor.now c.loop-i.visitor x (ap (λ (b : _). b.now) h.setting.catalog) h.setting.limits
+    h.used n c.take_up.new.visitor k h.i (c.in-Ok-Tells.ensures.same.awaited ∙ h.none)
     (subst (λ (t : Taken). Reached g.V.Visitor.takes (told x.frames x.notes) m.catalog.now m.limits (scanned m.scanner).used
-    (state_of m x.frames x.notes) rest k t n c.loop-i.visitor c.take_up.new.visitor) c.in-Ok-default-Tells.field-0-1-is
-    (c.in-Ok-default-Tells.ensures.took x.frames x.notes x.went.holds))
+    (state_of m x.frames x.notes) rest k t n c.loop-i.visitor c.take_up.new.visitor) c.in-Ok-Tells.field-0-is
+    (c.in-Ok-Tells.ensures.took x.frames x.notes x.went.holds)))
 
 pub returns-in-Err-clause-does : goal.returns-in-Err-clause-does
 returns-in-Err-clause-does g c = λ fs ss holds other.
@@ -89,35 +99,42 @@ returns-then-used-eq0-clause-does g c = λ fs ss holds other.
     let n = c.take_up.new.self in
     let piece = c.args.piece.now in
     let i = c.loop-i.i in
-    let k = c.in-Ok-default-Leaves.count in
+    let k = gone m n in
     let rest = take (length piece - i) (drop i piece) in
     let h = c.loop-i.invariant in
     let x = h.ran fs ss holds in
+    let on = c.in-Ok-Leaves.ensures.on in
+    let none : i + k ≡ 0 = omega (arith, h.used, c.gone-used.ensures, c.used-before.ensures, c.if-used-eq0.true) in
     led_second g.V.Visitor.takes first m piece i fs ss c.args.visitor.now c.loop-i.visitor x (ap (λ (b : _). b.now) h.setting.catalog) h.setting.limits
-    h.used n c.take_up.new.visitor k (sym c.is_some-again.ensures ∙ c.if-again.true) (omega (arith, c.if-used-eq0.true))
+    h.used n c.take_up.new.visitor k (sym c.is_some-again.ensures ∙ c.if-again.true) none
     (subst (λ (t : Taken). Reached g.V.Visitor.takes (told x.frames x.notes) m.catalog.now m.limits (scanned m.scanner).used
-    (state_of m x.frames x.notes) rest k t n c.loop-i.visitor c.take_up.new.visitor) c.in-Ok-default-Leaves.field-0-1-is
-    (c.in-Ok-default-Leaves.ensures.took x.frames x.notes x.went.holds))
+    (state_of m x.frames x.notes) rest k t n c.loop-i.visitor c.take_up.new.visitor) c.in-Ok-Leaves.field-0-is
+    (c.in-Ok-Leaves.ensures.took x.frames x.notes x.went.holds))
     ∙ ap (λ j. record { given = []; now = Err (record { offset = j + 1; reason = Reason.Unexpected }) }) (sym c.used-before.ensures)
 
-pub returns-in-Ok-default-Leaves-clause-does : goal.returns-in-Ok-default-Leaves-clause-does
-returns-in-Ok-default-Leaves-clause-does g c = λ fs ss holds.
+pub returns-in-Ok-Leaves-clause-does : goal.returns-in-Ok-Leaves-clause-does
+returns-in-Ok-Leaves-clause-does g c = λ fs ss holds.
     let first = c.args.self.now in
     let m = c.loop-i.self in
     let n = c.take_up.new.self in
     let piece = c.args.piece.now in
     let i = c.loop-i.i in
-    let k = c.in-Ok-default-Leaves.count in
+    let k = gone m n in
     let rest = take (length piece - i) (drop i piece) in
     let h = c.loop-i.invariant in
     let x = h.ran fs ss holds in
+    let on = c.in-Ok-Leaves.ensures.on in
+    let all : i + k ≡ c.gone-used.result = omega (arith, h.used, c.gone-used.ensures, c.used-before.ensures) in
     let onward : is_some first.awaited ≡ true → 0 < i + k =
-    λ a. onward_where c.is_some-again.result (i + k) c.else-again.either (c.is_some-again.ensures ∙ a) in
+    λ a. subst (λ (j : ℕ). 0 < j) (sym all) (onward_where c.is_some-again.result c.gone-used.result c.else-again.either (c.is_some-again.ensures ∙ a)) in
     let y = subst (λ (t : Taken). Reached g.V.Visitor.takes (told x.frames x.notes) m.catalog.now m.limits (scanned m.scanner).used
-    (state_of m x.frames x.notes) rest k t n c.loop-i.visitor c.take_up.new.visitor) c.in-Ok-default-Leaves.field-0-1-is
-    (c.in-Ok-default-Leaves.ensures.took x.frames x.notes x.went.holds) in
-    led_leaves g.V.Visitor.takes first m piece i fs ss c.args.visitor.now c.loop-i.visitor x (ap (λ (b : _). b.now) h.setting.catalog) h.setting.limits
-    h.used n c.take_up.new.visitor k _ h.i onward refl y.2.holds refl y
+    (state_of m x.frames x.notes) rest k t n c.loop-i.visitor c.take_up.new.visitor) c.in-Ok-Leaves.field-0-is
+    (c.in-Ok-Leaves.ensures.took x.frames x.notes x.went.holds) in
+    let last : TextWalk = record n { awaited = Some (slice_index piece c.gone-used.result) } in
+    subst (λ (j : ℕ). AdvancesBy g.V.Visitor.takes (told fs ss) first.catalog.now first.limits (is_some first.awaited) (scanned first.scanner).used
+    (state_of first fs ss) piece j true last c.args.visitor.now c.take_up.new.visitor) all
+    (led_leaves g.V.Visitor.takes first m piece i fs ss c.args.visitor.now c.loop-i.visitor x (ap (λ (b : _). b.now) h.setting.catalog) h.setting.limits
+    h.used n c.take_up.new.visitor k last h.i onward refl y.2.holds (ap (λ (j : ℕ). Some (slice_index piece j)) (sym all)) y)
 
 pub returns-clause-does : goal.returns-clause-does
 returns-clause-does g c = λ fs ss holds.
@@ -136,12 +153,14 @@ returns-clause-still g c = λ none.
     let same = h.still at in
     still_pending c.args.self.now c.loop-i.self c.args.piece.now c.requires.begins none same.0 same.1 h.none
 
-pub returns-in-Ok-default-Leaves-clause-next : goal.returns-in-Ok-default-Leaves-clause-next
-returns-in-Ok-default-Leaves-clause-next g c =
+pub returns-in-Ok-Leaves-clause-next : goal.returns-in-Ok-Leaves-clause-next
+returns-in-Ok-Leaves-clause-next g c =
     let piece = c.args.piece.now in
     let i = c.loop-i.i in
-    let k = c.in-Ok-default-Leaves.count in
+    let k = gone c.loop-i.self c.take_up.new.self in
     let rest = take (length piece - i) (drop i piece) in
     let size : length rest ≡ length piece - i = ap (λ (w : List ℕ). length w) (take_rest piece i) ∙ length-drop i piece in
-    let within = subst (λ (t : Taken). IsWithin (length rest) k t) c.in-Ok-default-Leaves.field-0-1-is c.in-Ok-default-Leaves.ensures.within in
-    (drop (suc (i + k)) piece, drop-cons piece (i + k) 0 (omega (arith, size, within)))
+    let within = subst (λ (t : Taken). IsWithin (length rest) k t) c.in-Ok-Leaves.field-0-is c.in-Ok-Leaves.ensures.within in
+    let on = c.in-Ok-Leaves.ensures.on in
+    let all : i + k ≡ c.gone-used.result = omega (arith, c.loop-i.invariant.used, c.gone-used.ensures, c.used-before.ensures) in
+    (drop (suc c.gone-used.result) piece, drop-cons piece c.gone-used.result 0 (omega (arith, size, within, all)))
