@@ -2,7 +2,8 @@
 use Rattle.std.specs.Prelude.{◌≡◌, nat_le, ℕ, List, ◌++◌, length, drop, if◌then◌else◌}
 use Rattle.ion_memory.specs.Endings.{status_of, number_of, whose_of, reason_of}
 use Rattle.ion_memory.specs.declared.ending.Ending.{Ending}
-use Rattle.ion_memory.specs.Outcomes.{IsOutcome, IsCompared}
+use Rattle.ion_memory.specs.Outcomes.{IsOutcome, IsCompared, IsRight}
+use Rattle.ion_c.specs.declared.Options.{Options}
 use Rattle.ion_c.specs.declared.pairs.Pair.{Pair}
 use Rattle.ion_c.specs.declared.answer.Answer.{Answer}
 
@@ -17,6 +18,11 @@ pub record Tells (ending : Ending) (text : List ℕ) (answer : Answer) : Type 0 
   pub whose : answer.whose ≡ whose_of ending
   pub reason : answer.reason ≡ reason_of ending
   pub all : answer.length ≡ length text
+
+-- an answer and a status tell an outcome of this text, which is right under the catalog and the limits that were asked for
+abbrev pub IsTold : Options → IsRight → List ℕ → Answer → ℕ → Type 0
+IsTold options Right text answer status = (e : Ending) × IsOutcome options.catalog.now options.depth options.item Right e text × Tells e text answer
+    × (status ≡ answer.status)
 
 -- a pair's answer is right under the catalog and the limits that were asked for
 abbrev pub IsAnsweredPair : List ℕ → ℕ → ℕ → Pair → Answer → Type 0

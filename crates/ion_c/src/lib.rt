@@ -17,8 +17,7 @@ ghost use Rattle.ion_atoms.specs.Reasons.{reason_number, reason_name};
 ghost use Rattle.ion_atoms.specs.declared.refusal.Reason.{Reason as AnyReason};
 ghost use Rattle.ion_symtab.specs.declared.target.Target.TheVariants.{Text, Binary};
 ghost use Rattle.ion_memory.specs.Outcomes.{IsOutcome, IsChecked, IsShown, IsCompared, IsConverted};
-ghost use Rattle.ion_memory.specs.declared.ending.Ending.{Ending};
-ghost use Rattle.ion_c.specs.Telling.{IsAnsweredPair, Tells, laid};
+ghost use Rattle.ion_c.specs.Telling.{IsAnsweredPair, IsTold, Tells, laid};
 ghost use Rattle.ion_c.specs.declared.answer.Answer.{Answer as AnAnswer};
 ghost use Rattle.ion_c.specs.declared.pairs.Pair.{Pair as APair};
 
@@ -57,10 +56,7 @@ pub extern "C" fn pureefjord_check(
     options: &Options<'_>,
     answer: &mut Answer,
 ) -> u32
-    ensures { (e : Ending) × (text : List ℕ)
-        × IsOutcome options.now.catalog.now options.now.depth options.now.item
-        (IsChecked input.now) e text
-        × Tells e text answer.new × (result ≡ answer.new.status) }
+    ensures { (text : List ℕ) × IsTold options.now (IsChecked input.now) text answer.new result }
 {
     let outcome = checked(alloc, input, options.catalog, options.depth, options.item);
     tell(&outcome, answer)
@@ -76,15 +72,11 @@ pub extern "C" fn pureefjord_show(
     buffer: &mut [u8],
     answer: &mut Answer,
 ) -> u32
-    ensures { (e : Ending) × (text : List ℕ)
-        × IsOutcome options.now.catalog.now options.now.depth options.now.item
-        (IsShown input.now) e text
-        × Tells e text answer.new × (result ≡ answer.new.status)
+    ensures { (text : List ℕ) × IsTold options.now (IsShown input.now) text answer.new result
         × (buffer.new ≡ laid text buffer.old) }
 {
     let outcome = shown(alloc, input, options.catalog, options.depth, options.item);
-    lay(outcome.text.as_slice(), buffer);
-    tell(&outcome, answer)
+    tell_whole(&outcome, buffer, answer)
 }
 
 /// Whether two documents have equivalent streams, and else where they part: the number of the
@@ -98,16 +90,12 @@ pub extern "C" fn pureefjord_compare(
     buffer: &mut [u8],
     answer: &mut Answer,
 ) -> u32
-    ensures { (e : Ending) × (text : List ℕ)
-        × IsOutcome options.now.catalog.now options.now.depth options.now.item
-        (IsCompared left.now right.now) e text
-        × Tells e text answer.new × (result ≡ answer.new.status)
+    ensures { (text : List ℕ) × IsTold options.now (IsCompared left.now right.now) text answer.new result
         × (buffer.new ≡ laid text buffer.old) }
 {
     let (catalog, depth, item) = (options.catalog, options.depth, options.item);
     let outcome = compared(alloc, left, right, catalog, depth, item);
-    lay(outcome.text.as_slice(), buffer);
-    tell(&outcome, answer)
+    tell_whole(&outcome, buffer, answer)
 }
 
 /// Compares as many of the pairs as there is room for answers, under one catalog, and answers how
@@ -138,15 +126,11 @@ pub extern "C" fn pureefjord_to_text(
     buffer: &mut [u8],
     answer: &mut Answer,
 ) -> u32
-    ensures { (e : Ending) × (text : List ℕ)
-        × IsOutcome options.now.catalog.now options.now.depth options.now.item
-        (IsConverted Text input.now) e text
-        × Tells e text answer.new × (result ≡ answer.new.status)
+    ensures { (text : List ℕ) × IsTold options.now (IsConverted Text input.now) text answer.new result
         × (buffer.new ≡ laid text buffer.old) }
 {
     let outcome = converted_by(alloc, input, Target::Text, options);
-    lay(outcome.text.as_slice(), buffer);
-    tell(&outcome, answer)
+    tell_whole(&outcome, buffer, answer)
 }
 
 /// A binary document of the same stream.
@@ -158,15 +142,21 @@ pub extern "C" fn pureefjord_to_binary(
     buffer: &mut [u8],
     answer: &mut Answer,
 ) -> u32
-    ensures { (e : Ending) × (text : List ℕ)
-        × IsOutcome options.now.catalog.now options.now.depth options.now.item
-        (IsConverted Binary input.now) e text
-        × Tells e text answer.new × (result ≡ answer.new.status)
+    ensures { (text : List ℕ) × IsTold options.now (IsConverted Binary input.now) text answer.new result
         × (buffer.new ≡ laid text buffer.old) }
 {
     let outcome = converted_by(alloc, input, Target::Binary, options);
+    tell_whole(&outcome, buffer, answer)
+}
+
+/// Tells an outcome, and lays its text into the buffer.
+fn tell_whole(outcome: &Outcome, buffer: &mut [u8], answer: &mut Answer) -> u32
+    ensures told { Tells outcome.now.ending outcome.now.text.items answer.new }
+    ensures status { result ≡ answer.new.status }
+    ensures text { buffer.new ≡ laid outcome.now.text.items buffer.old }
+{
     lay(outcome.text.as_slice(), buffer);
-    tell(&outcome, answer)
+    tell(outcome, answer)
 }
 
 /// A document of the same stream, with the hasher of the seed that is asked for.

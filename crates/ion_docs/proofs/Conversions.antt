@@ -38,9 +38,7 @@ pub put_cause : (E : Encoding) (WasRead : List Value → Type 0) (failed : Bool)
 put_cause E WasRead failed s Memory r h = tt
 put_cause E WasRead failed s Write r h = h
 put_cause E WasRead failed s TooLarge r h = (s, r, h)
-put_cause E WasRead failed s Read r h = absurd h
-put_cause E WasRead failed s TooManyReads r h = absurd h
-put_cause E WasRead failed s Open r h = absurd h
+put_cause E WasRead failed s _ r h = absurd h
 
 module _ {S X Y : Type 0} (takes : Y → Event → Y → Type 0) (R : Inlet S) (I : Items X) (g : Catalog) (l : Limits) (first now : S) where
   -- the values without their totals
@@ -98,5 +96,4 @@ module _ {S X T : Type 0} (R : Inlet S) (I : Items X) (W : Outlet T) (E : Encodi
       → Stood R (telling I []) g l first now place s → Took W.took W.written old new (E.document s) →
       WritesKept R W E (format_of I g l) first now old new (answered place values)
   kept_at first now old new (Standing.Open source) s values closed kept h took = absurd closed
-  kept_at first now old new Standing.Ended s values closed kept h took = (s, h, kept, took)
-  kept_at first now old new (Standing.Refused refusal) s values closed kept h took = (s, h, kept, took)
+  kept_at first now old new _ s values closed kept h took = (s, h, kept, took)

@@ -60,8 +60,6 @@ describes_each given tables e =
 catalogued : (given : List (Value × ℕ)) (before tables : List Table) → map shared_table (plain given) ≡ map Ok tables → AreApart before tables
     → catalog_of before given ≡ Ok (before ++ tables)
 catalogued [] before [] e apart = ap Ok (sym (append-nil before))
-catalogued [] before (t ∷ tables) e apart = absurd cc
-catalogued (x ∷ given) before [] e apart = absurd cc
 catalogued (x ∷ given) before (t ∷ tables) e apart =
     let first : shared_table x.0 ≡ Ok t = cc in
     let rest : map shared_table (plain given) ≡ map Ok tables = cc in
@@ -69,6 +67,7 @@ catalogued (x ∷ given) before (t ∷ tables) e apart =
     ap (λ r. and_then r (with_table before)) first ∙ ap (λ o. if is_some o then Err DuplicateTable else Ok (before ++ t ∷ [])) apart.0 in
     ap (λ r. then_at x.1 r (λ more. catalog_of more given)) one
     ∙ (catalogued given (before ++ t ∷ []) tables rest apart.1 ∙ ap Ok (append_assoc before (t ∷ []) tables))
+catalogued _ before _ e apart = absurd cc
 
 -- tables that the values describe are their catalog, where no name and version comes twice
 pub described_each : (given : List (Value × ℕ)) (tables : List Table) → map shared_table (plain given) ≡ map Ok tables → AreApart [] tables

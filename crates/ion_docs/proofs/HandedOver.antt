@@ -16,6 +16,11 @@ use Rattle.ion_docs.specs.laws.Encodings.{behind_one}
 pub took_none : {T : Type 0} (W : Outlet T) (out : T) (front added octets : List ℕ) → front ++ added ≡ octets → TookSomeBehind W out out front octets
 took_none W out front added octets e = (added, e, Front-none W.took W.written out added)
 
+-- and one that was written to took what was written, which is what the value adds
+pub took_added : (P : List ℕ → Type 0) (front added octets wrote : List ℕ) → front ++ added ≡ octets → wrote ≡ added → P wrote
+    → (rest : List ℕ) × (front ++ rest ≡ octets) × P rest
+took_added P front added octets wrote e is h = (added, e, subst P is h)
+
 -- 1. In binary.
 
 -- these values were handed over

@@ -12,9 +12,8 @@ use Rattle.ion_docs.specs.laws.Documents.{promised}
 -- what stands at a place of two streams differs: two values that aren't the same, or one that the other lacks
 abbrev Apart : Option Value → Option Value → Type 0
 Apart (Some v) (Some w) = same v w ≡ false
-Apart (Some v) None = Unit {0}
-Apart None (Some w) = Unit {0}
 Apart None None = ⊥
+Apart _ _ = Unit {0}
 
 -- they part there first
 record Parted (index : ℕ) (s t : List Value) : Type 0 where
@@ -42,9 +41,8 @@ parted_on v w s t index false e rest k = let n : index ≡ 0 + 1 = cc in record 
 
 parted : (s t : List Value) (index : ℕ) → parts s t ≡ Some index → Parted index s t
 parted [] [] index h = absurd cc
-parted [] (w ∷ t) index h = let e : index ≡ 0 + 1 = cc in record { before = 0; number = e; agree = refl; apart = tt }
-parted (v ∷ s) [] index h = let e : index ≡ 0 + 1 = cc in record { before = 0; number = e; agree = refl; apart = tt }
 parted (v ∷ s) (w ∷ t) index h = parted_on v w s t index (same v w) refl (λ m k. parted s t m k) h
+parted _ _ index h = let e : index ≡ 0 + 1 = cc in record { before = 0; number = e; agree = refl; apart = tt }
 
 parts_by : (b : Bool) (rest : Option ℕ) (p : ℕ) → b ≡ true → rest ≡ Some p → cond b (option_map (λ n. n + 1) rest) (Some 1) ≡ Some (p + 1)
 parts_by b rest p e h = rw (e, h)
@@ -60,9 +58,7 @@ both_second false b h = absurd cc
 parts_at : (before : ℕ) (s t : List Value) → pointwise same (take before s) (take before t) ≡ true → Apart (slice_get s before) (slice_get t before)
     → parts s t ≡ Some (before + 1)
 parts_at before [] [] agree apart = absurd apart
-parts_at zero [] (w ∷ t) agree apart = refl
 parts_at (suc before) [] (w ∷ t) agree apart = absurd cc
-parts_at zero (v ∷ s) [] agree apart = refl
 parts_at (suc before) (v ∷ s) [] agree apart = absurd cc
 parts_at zero (v ∷ s) (w ∷ t) agree apart = rw apart
 parts_at (suc before) (v ∷ s) (w ∷ t) agree apart =
@@ -71,25 +67,23 @@ parts_at (suc before) (v ∷ s) (w ∷ t) agree apart =
     let h = parts_by (same v w) (parts s t) (before + 1) first (parts_at before s t rest apart) in
     let e : suc before + 1 ≡ before + 1 + 1 = omega arith in
     h ∙ ap Some (sym e)
+parts_at zero _ _ agree apart = refl
 
 -- the path within the place
 there : (path : List Part) (v w : Option Value) → Apart v w → IsPathOf path v w → PartThere path v w
 there path (Some v) (Some w) apart p = (apart, p)
-there path (Some v) None apart p = p
-there path None (Some w) apart p = p
 there path None None apart p = apart
+there path _ _ apart p = p
 
 apart_there : (path : List Part) (v w : Option Value) → PartThere path v w → Apart v w
 apart_there path (Some v) (Some w) h = h.0
-apart_there path (Some v) None h = tt
-apart_there path None (Some w) h = tt
 apart_there path None None h = h
+apart_there path _ _ h = tt
 
 path_there : (path : List Part) (v w : Option Value) → PartThere path v w → IsPathOf path v w
 path_there path (Some v) (Some w) h = h.1
-path_there path (Some v) None h = h
-path_there path None (Some w) h = h
 path_there path None None h = absurd h
+path_there path _ _ h = h
 
 before_it : (index before : ℕ) → index ≡ before + 1 → index - 1 ≡ before
 before_it index before e = omega arith
@@ -125,9 +119,8 @@ none_parted_on true rest p h k = h (no_next p k)
 
 none_parted : (s t : List Value) → parts s t ≡ None → pointwise same s t ≡ true
 none_parted [] [] h = refl
-none_parted [] (w ∷ t) h = absurd cc
-none_parted (v ∷ s) [] h = absurd cc
 none_parted (v ∷ s) (w ∷ t) h = none_parted_on (same v w) (pointwise same s t) (parts s t) (none_parted s t) h
+none_parted _ _ h = absurd cc
 
 -- 2. Octets are a document or refused.
 module _ (g : Catalog) (k : Limits) where
@@ -152,9 +145,8 @@ module _ (g : Catalog) (k : Limits) where
   module _ (some_path : (v w : Value) → same v w ≡ false → (path : List Part) × IsPath path v w) where
     path_of : (v w : Option Value) → Apart v w → (path : List Part) × PartThere path v w
     path_of (Some v) (Some w) apart = let p = some_path v w apart in (p.0, (apart, p.1))
-    path_of (Some v) None apart = ([], refl)
-    path_of None (Some w) apart = ([], refl)
     path_of None None apart = absurd apart
+    path_of _ _ apart = ([], refl)
 
     of_streams : (l r : List ℕ) (s t : List Value) → Denotes g k l s → Denotes g k r t → (p : Option ℕ) → parts s t ≡ p → (v : Verdict) × IsVerdictOn g k l r v
     of_streams l r s t d e None is = (Equivalent (length s), record { s = s; t = t; left = d; right = e; streams = (none_parted s t is, refl) })

@@ -123,13 +123,12 @@ found_apart before (u ∷ tables) apart t (suc k) h e =
 value_of_table : (s : List Value) (tables : List Table) → map shared_table s ≡ map Ok tables → (t : Table) (k : ℕ) → k < length tables → get_or tables k t ≡ t
     → (v : Value) × Contains s v × (shared_table v ≡ Ok t)
 value_of_table [] [] each t k h e = absurd (omega arith)
-value_of_table [] (u ∷ tables) each t k h e = absurd cc
-value_of_table (v ∷ s) [] each t k h e = absurd cc
 value_of_table (v ∷ s) (u ∷ tables) each t zero h e = let same : u ≡ t = e in let first : shared_table v ≡ Ok t = cc in (v, (0, omega arith, refl), first)
 value_of_table (v ∷ s) (u ∷ tables) each t (suc k) h e =
     let rest : map shared_table s ≡ map Ok tables = cc in
     let found = value_of_table s tables rest t k (omega arith) e in
     (found.0, Contains-append_right (v ∷ []) s found.0 found.1, found.2)
+value_of_table _ _ each t k h e = absurd cc
 
 -- and what a value describes is one of the tables
 table_of_value : (s : List Value) (tables : List Table) → map shared_table s ≡ map Ok tables → (v : Value) (k : ℕ) → k < length s → get_or s k v ≡ v

@@ -10,9 +10,8 @@ same_none false r p h k = absurd cc
 -- streams that are equivalent don't part
 none_parts : (s t : List Value) → pointwise same s t ≡ true → parts s t ≡ None
 none_parts [] [] h = refl
-none_parts [] (w ∷ t) h = absurd cc
-none_parts (v ∷ s) [] h = absurd cc
 none_parts (v ∷ s) (w ∷ t) h = same_none (same v w) (pointwise same s t) (parts s t) h (none_parts s t)
+none_parts _ _ h = absurd cc
 
 -- octets give one refusal
 pub one_refusal : (t : Trace) (p q : Refusal) → SaysRefusal t p → SaysRefusal t q → p ≡ q
@@ -25,8 +24,7 @@ one_refusal t p q (inr a) (inr b) = let c = a.1 in let d = b.1 in cc
 path_of_one : (one : (p q : List Part) (v w : Value) → IsPath p v w → IsPath q v w → p ≡ q) (p q : List Part) (v w : Option Value) → IsPathOf p v w
     → IsPathOf q v w → p ≡ q
 path_of_one one p q (Some v) (Some w) a b = one p q v w a b
-path_of_one one p q (Some v) None a b = a ∙ sym b
-path_of_one one p q None w a b = a ∙ sym b
+path_of_one one p q _ _ a b = a ∙ sym b
 
 module _ (F G : Format) (one_path : (p q : List Part) (v w : Value) → IsPath p v w → IsPath q v w → p ≡ q)
     (left_one : (w : List ℕ) (s t : List Value) → F.denotes w s → F.denotes w t → s ≡ t) (right_one : (w : List ℕ) (s t : List Value) → G.denotes w s
@@ -43,7 +41,6 @@ module _ (F G : Format) (one_path : (p q : List Part) (v w : Value) → IsPath p
   pub verdicts_agree : (l r : List ℕ) (v w : Verdict) → IsVerdict F G l r v → IsVerdict F G l r w → v ≡ w
   verdicts_agree l r (Equivalent m) (Equivalent n) a b = ap Equivalent (sym a.streams.1 ∙ (ap length (left_one l a.s b.s a.left b.left) ∙ b.streams.1))
   verdicts_agree l r (Equivalent m) (Different j q) a b = absurd (clash l r m j q a b)
-  verdicts_agree l r (Equivalent m) (Refused Left q) a b = absurd (b.1.none a.s a.left)
   verdicts_agree l r (Equivalent m) (Refused Right q) a b = absurd (b.1.1.none a.t a.right)
   verdicts_agree l r (Different i p) (Equivalent n) a b = absurd (clash l r n i p b a)
   verdicts_agree l r (Different i p) (Different j q) a b =
@@ -54,7 +51,6 @@ module _ (F G : Format) (one_path : (p q : List Part) (v w : Value) → IsPath p
       let within : IsPathOf p (slice_get b.s (j - 1)) (slice_get b.t (j - 1)) = rw (same_left, same_right, place) at a.streams.within in
       let path : p ≡ q = path_of_one one_path p q (slice_get b.s (j - 1)) (slice_get b.t (j - 1)) within b.streams.within in
       cc
-  verdicts_agree l r (Different i _) (Refused Left q) a b = absurd (b.1.none a.s a.left)
   verdicts_agree l r (Different i _) (Refused Right q) a b = absurd (b.1.1.none a.t a.right)
   verdicts_agree l r (Refused Left p) (Equivalent n) a b = absurd (a.1.none b.s b.left)
   verdicts_agree l r (Refused Left p) (Different j _) a b = absurd (a.1.none b.s b.left)
@@ -65,3 +61,4 @@ module _ (F G : Format) (one_path : (p q : List Part) (v w : Value) → IsPath p
   verdicts_agree l r (Refused Right p) (Refused Left q) a b = absurd (b.1.none a.0.0 a.0.1)
   verdicts_agree l r (Refused Right p) (Refused Right q) a b =
       ap (λ (x : Refusal). Refused Right x) (one_refusal (G.trace r) p q a.1.1.by_octets b.1.1.by_octets)
+  verdicts_agree l r _ (Refused Left q) a b = absurd (b.1.none a.s a.left)

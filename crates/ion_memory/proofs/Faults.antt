@@ -23,18 +23,14 @@ module _ {S : Type 0} (R : Inlet S) (some : (device : S) → (rest : List ℕ) �
   read_fault large Memory h = tt
   read_fault large Read h = let e : true ≡ false = sym h ∙ never now in absurd cc
   read_fault large TooManyReads h = reads_whole R some l.reads first now w h only
-  read_fault large Write h = absurd h
-  read_fault large TooLarge h = absurd h
-  read_fault large Open h = absurd h
+  read_fault large _ h = absurd h
 
   -- the same, where a write that fails is want of memory
   told_fault : (large : Type 0) (fault : Fault) → IsReadCause R l.reads first now fault → IsFaultInMemory l w large (fault_in_memory fault)
   told_fault large Memory h = tt
   told_fault large Read h = read_fault large Read h
   told_fault large TooManyReads h = read_fault large TooManyReads h
-  told_fault large Write h = absurd h
-  told_fault large TooLarge h = absurd h
-  told_fault large Open h = absurd h
+  told_fault large _ h = absurd h
 
   -- a fault of showing
   pub shown_fault : {T : Type 0} (W : Outlet T) (new : T) (fault : Fault) → IsReadCause R l.reads first now fault ⊎ IsWriteCause W new fault
@@ -42,10 +38,7 @@ module _ {S : Type 0} (R : Inlet S) (some : (device : S) → (rest : List ℕ) �
   shown_fault W new fault (inl h) = told_fault ⊥ fault h
   shown_fault W new Memory (inr h) = tt
   shown_fault W new Write (inr h) = tt
-  shown_fault W new Read (inr h) = absurd h
-  shown_fault W new TooManyReads (inr h) = absurd h
-  shown_fault W new TooLarge (inr h) = absurd h
-  shown_fault W new Open (inr h) = absurd h
+  shown_fault W new _ (inr h) = absurd h
 
   module _ {X : Type 0} (I : Items X) (g : Catalog)
       (given_so_far : (r : X) (u : List ℕ) (s : List (Value × ℕ)) → I.stands r u s → IsNone (I.awaits r) → (I.trace (I.catalog r) (I.limits r) u).given ≡ s)
@@ -76,6 +69,4 @@ module _ {S : Type 0} (R : Inlet S) (some : (device : S) → (rest : List ℕ) �
     converted_fault E failed Memory (inr h) = tt
     converted_fault E failed Write (inr h) = tt
     converted_fault E failed TooLarge (inr (s, read, large)) = (s, were_read s read, large)
-    converted_fault E failed Read (inr h) = absurd h
-    converted_fault E failed TooManyReads (inr h) = absurd h
-    converted_fault E failed Open (inr h) = absurd h
+    converted_fault E failed _ (inr h) = absurd h

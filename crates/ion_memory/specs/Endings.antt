@@ -27,8 +27,7 @@ abbrev pub number_of : Ending → ℕ
 number_of (Accepted values) = values
 number_of (Different index) = index
 number_of (Refused whose refusal) = refusal.offset
-number_of WrongLimits = 0
-number_of (Faulted fault) = 0
+number_of _ = 0
 
 -- which input: 1 the only document, 2 the left one, 3 the right one, 4 the catalog
 abbrev pub whose_number : Whose → ℕ
@@ -39,11 +38,8 @@ whose_number Catalog = 4
 
 -- the number of the input that was refused, or 0 where none was
 abbrev pub whose_of : Ending → ℕ
-whose_of (Accepted values) = 0
-whose_of (Different index) = 0
 whose_of (Refused whose refusal) = whose_number whose
-whose_of WrongLimits = 0
-whose_of (Faulted fault) = 0
+whose_of _ = 0
 
 -- the number of a fault
 abbrev pub fault_number : Fault → ℕ
@@ -56,8 +52,6 @@ fault_number Open = 6
 
 -- the number of the reason or of the fault for which a call ended, or 0
 abbrev pub reason_of : Ending → ℕ
-reason_of (Accepted values) = 0
-reason_of (Different index) = 0
 reason_of (Refused whose refusal) = reason_number refusal.reason
-reason_of WrongLimits = 0
 reason_of (Faulted fault) = fault_number fault
+reason_of _ = 0

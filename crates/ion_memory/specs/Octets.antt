@@ -41,9 +41,7 @@ abbrev pub IsFaultInMemory : Limits → List ℕ → Type 0 → Fault → Type 0
 IsFaultInMemory l octets large Memory = ⊤
 IsFaultInMemory l octets large TooManyReads = l.reads ≤ length octets
 IsFaultInMemory l octets large TooLarge = large
-IsFaultInMemory l octets large Read = ⊥
-IsFaultInMemory l octets large Write = ⊥
-IsFaultInMemory l octets large Open = ⊥
+IsFaultInMemory l octets large _ = ⊥
 
 -- a write to memory fails where a growth was refused
 abbrev pub fault_in_memory : Fault → Fault

@@ -49,30 +49,23 @@ first_of_names name names = (0, omega arith, refl)
 pub behind_first : (before name : Name) (names : List Name) → Contains names name → Contains (before ∷ names) name
 behind_first before name names h = Contains-append_right (before ∷ []) names name h
 
+-- of two names the second is one
+pub second_of_names : (left right : Name) → Contains (left ∷ right ∷ []) right
+second_of_names left right = behind_first left right (right ∷ []) (first_of_names right [])
+
 module _ {X : Type 0} (R : Inlet X) (gives : Name → X → Type 0) (refuses : Name → Type 0) (l : Limits) (names : List Name) (lacking large : Type 0) where
   pub stopped_reading : (failed : Bool) (name : Name) → Contains names name → (first now : X) → gives name first → (fault : Fault)
       → IsReadCause R l.reads first now fault → IsStopped R gives refuses l names lacking large failed fault
   stopped_reading failed name within first now given Memory h = tt
   stopped_reading failed name within first now given Read h = inl (name, within, first, now, given, h)
-  stopped_reading failed name within first now given Write h = absurd h
   stopped_reading failed name within first now given TooManyReads h = (name, within, first, now, given, h)
-  stopped_reading failed name within first now given TooLarge h = absurd h
-  stopped_reading failed name within first now given Open h = absurd h
+  stopped_reading failed name within first now given _ h = absurd h
 
   pub stopped_writing : {T : Type 0} (W : Outlet T) (new : T) (fault : Fault) → IsWriteCause W new fault
       → IsStopped R gives refuses l names lacking large (W.has_failed new) fault
   stopped_writing W new Memory h = tt
-  stopped_writing W new Read h = absurd h
   stopped_writing W new Write h = h
-  stopped_writing W new TooManyReads h = absurd h
-  stopped_writing W new TooLarge h = absurd h
-  stopped_writing W new Open h = absurd h
-
-  -- a fault of reading the one document or of writing is why the command was stopped
-  pub stopped_once : (name : Name) → Contains names name → (first now : X) → gives name first → {T : Type 0} (W : Outlet T) (new : T) (fault : Fault)
-      → IsReadCause R l.reads first now fault ⊎ IsWriteCause W new fault → IsStopped R gives refuses l names lacking large (W.has_failed new) fault
-  stopped_once name within first now given W new fault (inl h) = stopped_reading (W.has_failed new) name within first now given fault h
-  stopped_once name within first now given W new fault (inr h) = stopped_writing W new fault h
+  stopped_writing W new _ h = absurd h
 
   -- a fault of reading either document or of writing is why the comparison was stopped
   pub stopped_comparing : (left right : Name) → Contains names left → Contains names right → (l_first l_now r_first r_now : X) → gives left l_first
@@ -89,11 +82,9 @@ module _ {X : Type 0} (R : Inlet X) (gives : Name → X → Type 0) (refuses : N
       → {T : Type 0} (W : Outlet T) (new : T) (fault : Fault) → IsConvertCause E WasRead (W.has_failed new) fault
       → IsStopped R gives refuses l names lacking large (W.has_failed new) fault
   stopped_putting E WasRead needs W new Memory h = tt
-  stopped_putting E WasRead needs W new Read h = absurd h
   stopped_putting E WasRead needs W new Write h = h
-  stopped_putting E WasRead needs W new TooManyReads h = absurd h
   stopped_putting E WasRead needs W new TooLarge h = needs h.0 h.1 h.2
-  stopped_putting E WasRead needs W new Open h = absurd h
+  stopped_putting E WasRead needs W new _ h = absurd h
 
   -- a conversion was stopped
   pub stopped_converting : (name : Name) → Contains names name → (first now : X) → gives name first → (E : Encoding) (WasRead : List Value → Type 0)
@@ -121,6 +112,14 @@ module _ {X : Type 0} (R : Inlet X) (gives : Name → X → Type 0) (refuses : N
   IsStopped-kept gave refused more scarcer larger failed failed_too Open within kept none lacking_too large_too fails h =
       (h.0, within h.0 h.1, none h.0 h.1 h.2)
 
+-- a fault of reading the one document or of writing is why the command was stopped
+pub stopped_once : {X T : Type 0} (R : Inlet X) (gives : Name → X → Type 0) (refuses : Name → Type 0) (l : Limits) (lacking large : Type 0) (name : Name)
+    (first now : X) → gives name first → (W : Outlet T) (new : T) (fault : Fault) → IsReadCause R l.reads first now fault ⊎ IsWriteCause W new fault
+    → IsStopped R gives refuses l (name ∷ []) lacking large (W.has_failed new) fault
+stopped_once R gives refuses l lacking large name first now given W new fault (inl h) =
+    stopped_reading R gives refuses l (name ∷ []) lacking large (W.has_failed new) name (first_of_names name []) first now given fault h
+stopped_once R gives refuses l lacking large name first now given W new fault (inr h) = stopped_writing R gives refuses l (name ∷ []) lacking large W new fault h
+
 -- what was done with readers that names gave later was done with ones that they gave before
 module _ {X T : Type 0} (R : Inlet X) (gives gave : Name → X → Type 0) (W : Outlet T) (old new : T) (g : the_catalog) (l : Limits) (ending : Ending) where
   pub IsDone-kept : (job : Job) → ((name : Name) (input : X) → Contains (names_of_job job) name → gives name input → gave name input)
@@ -128,25 +127,14 @@ module _ {X T : Type 0} (R : Inlet X) (gives gave : Name → X → Type 0) (W : 
   IsDone-kept (check file) kept h = (h.0, h.1, kept file h.0 (first_of_names file []) h.2, h.3, h.4, h.5)
   IsDone-kept (show file) kept h = (h.0, h.1, kept file h.0 (first_of_names file []) h.2, h.3, h.4, h.5)
   IsDone-kept (convert file to) kept h = (h.0, h.1, kept file h.0 (first_of_names file []) h.2, h.3, h.4, h.5, h.6)
-  IsDone-kept (compare left right) kept h = (
-    h.0,
-    h.1,
-    kept left h.0 (first_of_names left (right ∷ [])) h.2,
-    h.3,
-    h.4,
-    kept right h.3 (behind_first left right (right ∷ []) (first_of_names right [])) h.5,
-    h.6,
-    h.7,
-    h.8,
-  )
+  IsDone-kept (compare left right) kept h =
+      (h.0, h.1, kept left h.0 (first_of_names left _) h.2, h.3, h.4, kept right h.3 (second_of_names left right) h.5, h.6, h.7, h.8)
 
 module _ {X Y : Type 0} (R : Inlet X) (gives gave : Name → X → Type 0) (I : Items Y) (g : the_catalog) (l : Limits) where
   pub NeedsLarge-kept : (job : Job) → ((name : Name) (input : X) → Contains (names_of_job job) name → gives name input → gave name input)
       → NeedsLarge R gives I job g l → NeedsLarge R gave I job g l
-  NeedsLarge-kept (check file) kept h = h
-  NeedsLarge-kept (show file) kept h = h
   NeedsLarge-kept (convert file to) kept h = (h.0, h.1, kept file h.0 (first_of_names file []) h.2, h.3, h.4, h.5)
-  NeedsLarge-kept (compare left right) kept h = h
+  NeedsLarge-kept _ kept h = h
 
 -- what went out before a fault
 module _ {X T : Type 0} (R : Inlet X) (gives : Name → X → Type 0) (W : Outlet T) (old new : T) (g : the_catalog) (l : Limits) where
@@ -174,17 +162,8 @@ module _ {X Y T : Type 0} (R : Inlet X) (gives gave : Name → X → Type 0) (I 
   WroteFront-kept (check file) kept h = (h.0, h.1, kept file h.0 (first_of_names file []) h.2, h.3, h.4, h.5)
   WroteFront-kept (show file) kept h = (h.0, h.1, kept file h.0 (first_of_names file []) h.2, h.3)
   WroteFront-kept (convert file to) kept h = (h.0, h.1, kept file h.0 (first_of_names file []) h.2, h.3)
-  WroteFront-kept (compare left right) kept h = (
-    h.0,
-    h.1,
-    kept left h.0 (first_of_names left (right ∷ [])) h.2,
-    h.3,
-    h.4,
-    kept right h.3 (behind_first left right (right ∷ []) (first_of_names right [])) h.5,
-    h.6,
-    h.7,
-    h.8,
-  )
+  WroteFront-kept (compare left right) kept h =
+      (h.0, h.1, kept left h.0 (first_of_names left _) h.2, h.3, h.4, kept right h.3 (second_of_names left right) h.5, h.6, h.7, h.8)
 
 none_within : {X : Type 0} (x : X) → Contains [] x → ⊥
 none_within x h = omega (arith, h.1)

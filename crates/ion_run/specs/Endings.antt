@@ -21,6 +21,11 @@ verdict_line (Verdict.Equivalent values) = equivalent_line values
 verdict_line (Verdict.Different index path) = different_line index path
 verdict_line (Verdict.Refused side refusal) = []
 
+-- how a command ends with this answer of its only document
+abbrev pub ending_with : Result ℕ the_refusal → Ending
+ending_with (Ok values) = Accepted
+ending_with (Err refusal) = Refused Only refusal
+
 module _ {T : Type 0} (W : Outlet T) where
   -- all that a device took was passed on
   abbrev pub IsPassedOn : T → Type 0
@@ -28,8 +33,7 @@ module _ {T : Type 0} (W : Outlet T) where
 
   -- `show` and `convert` end so with this answer; what they write was passed on before, on a refusal too
   abbrev pub EndsShown : T → Result ℕ the_refusal → Ending → Type 0
-  EndsShown new (Ok values) ending = (ending ≡ Accepted) × IsPassedOn new
-  EndsShown new (Err refusal) ending = (ending ≡ Refused Only refusal) × IsPassedOn new
+  EndsShown new answer ending = (ending ≡ ending_with answer) × IsPassedOn new
 
   -- `check` ends so with this answer: with the line of an accepted document, passed on, and with nothing of a refused one
   abbrev pub EndsChecked : T → T → Result ℕ the_refusal → Ending → Type 0

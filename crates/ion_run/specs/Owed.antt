@@ -65,11 +65,9 @@ module _ {X : Type 0} (R : Inlet X) (gives : Name → X → Type 0) where
   module _ {Y : Type 0} (I : Items Y) where
     -- the job is a conversion, and values read of its document need an id above 2^31-1 in the encoding
     abbrev pub NeedsLarge : Job → the_catalog → Limits → Type 0
-    NeedsLarge (check file) g l = ⊥
-    NeedsLarge (show file) g l = ⊥
     NeedsLarge (convert file to) g l = (first : X) × (now : X) × gives file first
         × (s : List Value) × ReadSoFar R I g l first now s × (encoding_of to).needs_large_id s
-    NeedsLarge (compare left right) g l = ⊥
+    NeedsLarge _ g l = ⊥
 
   module _ {T : Type 0} (W : Outlet T) (old new : T) where
     -- the job was done under this catalog and within these limits, and ended so
@@ -115,10 +113,8 @@ LacksHasher none Target.Binary = none
 
 -- the job is a conversion to binary, and no hasher can be had
 abbrev pub JobLacksHasher : Type 0 → Job → Type 0
-JobLacksHasher none (check file) = ⊥
-JobLacksHasher none (show file) = ⊥
 JobLacksHasher none (convert file to) = LacksHasher none to
-JobLacksHasher none (compare left right) = ⊥
+JobLacksHasher none _ = ⊥
 
 -- and that a name may give none
 module _ {X : Type 0} (R : Inlet X) (gives : Name → X → Type 0) (refuses : Name → Type 0) where
@@ -143,9 +139,8 @@ module _ {X : Type 0} (R : Inlet X) (gives : Name → X → Type 0) (refuses : N
 
 -- what is told on the errors where a command ended so: whose refusal it was, or nothing
 abbrev pub TellsErrors : {D : Type 0} → Outlet D → D → D → Ending → Type 0
-TellsErrors V err err_now Accepted = Took V.took V.written err err_now []
-TellsErrors V err err_now Different = Took V.took V.written err err_now []
 TellsErrors V err err_now (Refused whose refusal) = Reports V err err_now (refusal_line whose refusal)
+TellsErrors V err err_now _ = Took V.took V.written err err_now []
 
 module _ {X Y T D : Type 0} (R : Inlet X) (gives : Name → X → Type 0) (refuses : Name → Type 0) (opens : List Name → Type 0) (none : Type 0) (I : Items Y)
     (W : Outlet T) (V : Outlet D) where

@@ -13,7 +13,7 @@ ghost use Rattle.ion_docs.specs.Conversion.{KeepsStream};
 ghost use Rattle.ion_docs.specs.Converted.{IsConverted, IsConvertCause, ReadSoFar, ConvertsSoFar};
 ghost use Rattle.ion_words.specs.Asked.{asked, told, names_of, names_of_job, names_with, NamesInputOnce};
 ghost use Rattle.ion_run.specs.Lines.{fault_line, refusal_line, usage_line, Reports};
-ghost use Rattle.ion_run.specs.Endings.{answer_line, verdict_line, EndsChecked, EndsShown, EndsCompared, PassesOn};
+ghost use Rattle.ion_run.specs.Endings.{answer_line, verdict_line, ending_with, EndsChecked, EndsShown, EndsCompared, PassesOn};
 ghost use Rattle.ion_run.specs.Names.{Keeps, Opens, OpensUpTo};
 ghost use Rattle.ion_run.specs.Owed.{code_of, IsCatalog, IsStopped, NeedsLarge, IsDone, IsAnswered, IsStoppedAt, WroteFront, WroteSoFar, LacksHasher, JobLacksHasher, Owes, OwesWithHasher};
 
@@ -324,12 +324,11 @@ fn shown<R: Inlet, O: Outlet>(
         fault
         ⊎ IsWriteCause O.Outlet out.new fault) }
 {
-    match show(alloc, reader, out, catalog, limits)? {
-        Ok(_) => Ok(Ending::Accepted),
-        Err(refusal) => Ok(Ending::Refused(Whose::Only, refusal)),
-    }
+    let answer = show(alloc, reader, out, catalog, limits)?;
+    Ok(ending_with(answer))
 }
 
+/// A hasher is asked for where the target is binary.
 fn converted<H: Hashers, R: Inlet, O: Outlet>(
     alloc: Global,
     hashers: &H,
@@ -356,43 +355,26 @@ fn converted<H: Hashers, R: Inlet, O: Outlet>(
         (O.has_failed out.new) fault
         ⊎ (fault ≡ Fault.Read) × LacksHasher (H.refuses hashers.now) target) }
 {
-    match conversion(alloc, hashers, reader, out, target, catalog, limits)? {
-        Ok(_) => Ok(Ending::Accepted),
-        Err(refusal) => Ok(Ending::Refused(Whose::Only, refusal)),
+    match target {
+        Target::Text => {
+            let answer = convert(alloc, reader, out, target, catalog, limits)?;
+            Ok(ending_with(answer))
+        }
+        Target::Binary => {
+            let hasher = hashers.hasher()?;
+            let answer = convert_with_hasher(alloc, hasher, reader, out, target, catalog, limits)?;
+            Ok(ending_with(answer))
+        }
     }
 }
 
-/// The answer of `convert`. A hasher is asked for where the target is binary.
-fn conversion<H: Hashers, R: Inlet, O: Outlet>(
-    alloc: Global,
-    hashers: &H,
-    reader: &mut R,
-    out: &mut O,
-    target: Target,
-    catalog: &Catalog,
-    limits: Limits,
-) -> Result<Result<u64, Refusal>, Fault>
-    ensures same { IfOk result (KeepsStream R.Inlet O.Outlet (encoding_of target)
-        catalog.now limits reader.old reader.new out.old out.new) }
-    ensures converted { IfOk result (IsConverted R.Inlet O.Outlet (encoding_of target)
-        (documents catalog.now limits) reader.old reader.new out.old out.new) }
-    ensures passed_on { OnOk result (O.passed out.new ≡ O.written out.new) }
-    ensures so_far { OnErr result (ConvertsSoFar (encoding_of target)
-        (ReadSoFar R.Inlet ⟦<DocReader<'static> as Items>⟧ catalog.now limits reader.old reader.new)
-        O.Outlet out.old out.new) }
-    ensures cause { IfErr result (λ fault. IsReadCause R.Inlet limits.reads reader.old reader.new
-        fault
-        ⊎ IsConvertCause (encoding_of target)
-        (ReadSoFar R.Inlet ⟦<DocReader<'static> as Items>⟧ catalog.now limits reader.old reader.new)
-        (O.has_failed out.new) fault
-        ⊎ (fault ≡ Fault.Read) × LacksHasher (H.refuses hashers.now) target) }
+/// How `show` and `convert` end with this answer; their lines went out before.
+fn ending_with(answer: Result<u64, Refusal>) -> Ending
+    ensures { result ≡ ending_with answer }
 {
-    match target {
-        Target::Text => convert(alloc, reader, out, Target::Text, catalog, limits),
-        Target::Binary => {
-            let hasher = hashers.hasher()?;
-            convert_with_hasher(alloc, hasher, reader, out, Target::Binary, catalog, limits)
-        }
+    match answer {
+        Ok(_) => Ending::Accepted,
+        Err(refusal) => Ending::Refused(Whose::Only, refusal),
     }
 }
 

@@ -1,12 +1,4 @@
-use Rattle.std.proofs.Common.{rules}
 use Rattle.ion_c.proofs.pureefjord_to_binary.Goals as goal
 
 pub returns : goal.returns
-returns c = (
-  c.converted_by-outcome.result.ending,
-  c.converted_by-outcome.result.text.items,
-  c.converted_by-outcome.ensures,
-  c.tell.ensures.told,
-  search rules,
-  search rules,
-)
+returns c = (_, (_, c.converted_by-outcome.ensures, c.tell_whole.ensures.told, c.tell_whole.ensures.status), c.tell_whole.ensures.text)

@@ -133,8 +133,7 @@ module _ (g : Catalog) (l : Limits) where
   -- the pieces of no octets are of no octets
   no_front : (front rest : List ℕ) → [] ≡ front ++ rest → (front ≡ []) × (rest ≡ [])
   no_front [] [] e = (refl, refl)
-  no_front [] (x ∷ rest) e = cc
-  no_front (x ∷ front) rest e = cc
+  no_front _ _ e = cc
 
   shows_nothing : Shows (text.Whole g l) (λ front rest. text.OpenRest l rest) [] [] → Shows (Pieces g l) (OpenAfter l) [] []
   shows_nothing h =

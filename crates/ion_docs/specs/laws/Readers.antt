@@ -45,8 +45,7 @@ doc_bounded d u s h = (doc_told d u s h.0 h.1).bounded
 begun_nothing : (w : DocWalk) (e : Encoding) (es : List Event) → EncodingTold w e [] [] es → EncodingTold w e [] [] []
 begun_nothing w Encoding.Unbegun es h = (refl, refl, refl)
 begun_nothing w (Encoding.Refused refusal) es h = absurd h
-begun_nothing w (Encoding.Binary r) es h = absurd h.1
-begun_nothing w (Encoding.Text r) es h = absurd h.1
+begun_nothing w _ es h = absurd h.1
 
 pub doc_nothing_told : (d : DocReader) → DocStands d [] [] → Told d [] [] []
 doc_nothing_told d h = begun_nothing d.walk d.walk.encoding h.0 h.1

@@ -10,51 +10,30 @@ use Rattle.ion.proofs.position.position_of.Goals as goal
 pub position-requires : goal.position-requires
 position-requires g c =
     let i = c.loop-left.invariant in
-    let fit = (spot_fits c.loop-left.spot i.0 i.2).3 in
-    let all = i.3 in
-    omega (arith, fit, all, c.ranges.offset.fits)
+    omega (arith, (spot_fits c.loop-left.spot i.0 i.2).3, i.3, c.ranges.offset.fits)
 
 pub position-requires-2 : goal.position-requires-2
 position-requires-2 g c =
     let i = c.loop-left.invariant in
-    let fit = (spot_fits c.loop-left.spot i.0 i.2).3 in
-    let all = i.3 in
-    omega (arith, fit, all, c.ranges.offset.fits)
+    omega (arith, (spot_fits c.loop-left.spot i.0 i.2).3, i.3, c.ranges.offset.fits)
 
 -- what a read gave of the octets that are left
 few : (count wanted left : ℕ) (piece behind : List ℕ) → wanted ≡ min left 4096 → length piece ≤ wanted → count ≤ length piece
     → length (take count (piece ++ behind)) ≤ left
 few count wanted left piece behind is long within = omega (arith, is, long, within, length-take count (piece ++ behind))
 
-pub pass-requires-clause-lines : goal.pass-requires-clause-lines
-pass-requires-clause-lines g c =
+pub pass-requires : goal.pass-requires
+pass-requires g c =
     let i = c.loop-left.invariant in
-    let fit = (spot_fits c.loop-left.spot i.0 i.2).0 in
-    let all = i.3 in
+    let fit = spot_fits c.loop-left.spot i.0 i.2 in
     let long : length c.read.new.piece ≤ c.min-wanted.result = omega (arith, c.read.auto.piece, length-take c.min-wanted.result c.loop-left.piece) in
     let more = few c.in-Ok.count c.min-wanted.result c.loop-left.left c.read.new.piece (drop c.min-wanted.result c.loop-left.piece) c.min-wanted.ensures long
     c.in-Ok.ensures.within in
-    omega (arith, fit, all, more, c.ranges.offset.fits)
-
-pub pass-requires-clause-octets : goal.pass-requires-clause-octets
-pass-requires-clause-octets g c =
-    let i = c.loop-left.invariant in
-    let fit = (spot_fits c.loop-left.spot i.0 i.2).1 in
-    let all = i.3 in
-    let long : length c.read.new.piece ≤ c.min-wanted.result = omega (arith, c.read.auto.piece, length-take c.min-wanted.result c.loop-left.piece) in
-    let more = few c.in-Ok.count c.min-wanted.result c.loop-left.left c.read.new.piece (drop c.min-wanted.result c.loop-left.piece) c.min-wanted.ensures long
-    c.in-Ok.ensures.within in
-    omega (arith, fit, all, more, c.ranges.offset.fits)
-
-pub pass-requires-clause-characters : goal.pass-requires-clause-characters
-pass-requires-clause-characters g c =
-    let i = c.loop-left.invariant in
-    let fit = (spot_fits c.loop-left.spot i.0 i.2).2 in
-    let all = i.3 in
-    let long : length c.read.new.piece ≤ c.min-wanted.result = omega (arith, c.read.auto.piece, length-take c.min-wanted.result c.loop-left.piece) in
-    let more = few c.in-Ok.count c.min-wanted.result c.loop-left.left c.read.new.piece (drop c.min-wanted.result c.loop-left.piece) c.min-wanted.ensures long
-    c.in-Ok.ensures.within in
-    omega (arith, fit, all, more, c.ranges.offset.fits)
+    record {
+      lines = omega (arith, fit.0, i.3, more, c.ranges.offset.fits);
+      octets = omega (arith, fit.1, i.3, more, c.ranges.offset.fits);
+      characters = omega (arith, fit.2, i.3, more, c.ranges.offset.fits);
+    }
 
 pub loop-left-preserved : goal.loop-left-preserved
 loop-left-preserved g c =
@@ -68,14 +47,12 @@ loop-left-preserved g c =
     let long : length piece ≤ c.min-wanted.result = omega (arith, c.read.auto.piece, length-take c.min-wanted.result c.loop-left.piece) in
     let most : count ≤ c.loop-left.left = omega (arith, long, read.within, c.min-wanted.ensures) in
     let taken : length more ≡ count = length-take-le count piece read.within in
-    let all = i.3 in
-    let calls = i.4 in
     let grown = length-append i.0 more in (
       i.0 ++ more,
       Heard-trans g.R.Inlet c.args.reader.now c.loop-left.reader c.read.new.self i.0 more false i.1 (record { told = read.told; answered = read.going some }),
       rw front at (c.pass.ensures i.0 i.2),
-      omega (arith, grown, taken, all, most),
-      omega (arith, grown, taken, calls, read.calls, some),
+      omega (arith, grown, taken, i.3, most),
+      omega (arith, grown, taken, i.4, read.calls, some),
       omega (
         arith,
         length-append piece (drop c.min-wanted.result c.loop-left.piece),
@@ -97,29 +74,18 @@ returns-in-Ok-eq0-clause-position g c =
     let i = c.loop-left.invariant in
     let read = c.in-Ok-eq0.ensures in
     let zero = c.in-Ok-eq0.field-0-test in
-    let long = i.5 in
-    let left = c.loop-left-test.true in
-    let some : 0 < length c.read.new.piece = omega (
-      arith,
-      c.read.auto.piece,
-      c.min-wanted.ensures,
-      long,
-      left,
-      length-take c.min-wanted.result c.loop-left.piece,
-    ) in
+    let some : 0 < length c.read.new.piece =
+    omega (arith, c.read.auto.piece, c.min-wanted.ensures, i.5, c.loop-left-test.true, length-take c.min-wanted.result c.loop-left.piece) in
     let told = rw zero at read.told in
     let heard = Heard-trans g.R.Inlet c.args.reader.now c.loop-left.reader c.read.new.self i.0 [] true i.1
     (record { told = told; answered = (read.ended zero some, read.end zero some) }) in
-    let all = i.3 in
     there g.R.Inlet c.args.reader.now c.read.new.self c.args.offset c.position.result i.0 true (rw append-nil at heard) (λ no. absurd (false≢true (sym no)))
-    (omega (arith, all)) (c.position.ensures i.0 i.2)
+    (omega (arith, i.3)) (c.position.ensures i.0 i.2)
 
 pub returns-clause-position : goal.returns-clause-position
 returns-clause-position g c =
     let i = c.loop-left.invariant in
-    let all = i.3 in
-    let none = c.loop-left-test.false in
-    there g.R.Inlet c.args.reader.now c.loop-left.reader c.args.offset c.position-2.result i.0 false i.1 (λ _. omega (arith, all, none)) (omega (arith, all))
+    there g.R.Inlet c.args.reader.now c.loop-left.reader c.args.offset c.position-2.result i.0 false i.1 (λ _. omega (arith, i.3, c.loop-left-test.false)) (omega (arith, i.3))
     (c.position-2.ensures i.0 i.2)
 
 -- how many octets a device has handed over, once it told these
@@ -132,8 +98,7 @@ returns-in-Err-clause-few_octets g c =
     let i = c.loop-left.invariant in
     let first = handed_length g.R.Inlet c.args.reader.now c.loop-left.reader i.0 i.1.told in
     let more = handed_length g.R.Inlet c.loop-left.reader c.read.new.self [] c.in-Err.ensures.kept in
-    let all = i.3 in
-    omega (arith, first, more, all)
+    omega (arith, first, more, i.3)
 
 pub returns-in-Ok-eq0-clause-few_octets : goal.returns-in-Ok-eq0-clause-few_octets
 returns-in-Ok-eq0-clause-few_octets g c =
@@ -141,12 +106,10 @@ returns-in-Ok-eq0-clause-few_octets g c =
     let zero = c.in-Ok-eq0.field-0-test in
     let first = handed_length g.R.Inlet c.args.reader.now c.loop-left.reader i.0 i.1.told in
     let more = handed_length g.R.Inlet c.loop-left.reader c.read.new.self [] (rw zero at c.in-Ok-eq0.ensures.told) in
-    let all = i.3 in
-    omega (arith, first, more, all)
+    omega (arith, first, more, i.3)
 
 pub returns-clause-few_octets : goal.returns-clause-few_octets
 returns-clause-few_octets g c =
     let i = c.loop-left.invariant in
     let first = handed_length g.R.Inlet c.args.reader.now c.loop-left.reader i.0 i.1.told in
-    let all = i.3 in
-    omega (arith, first, all)
+    omega (arith, first, i.3)

@@ -5,50 +5,38 @@ use Rattle.ion_docs.proofs.documents.convert_with_hasher.Goals as goal
 
 pub returns-in-Ok-clause-same : goal.returns-in-Ok-clause-same
 returns-in-Ok-clause-same g c =
-    let under : c.unread-items.result.walk.catalog.now ≡ c.args.catalog.now = search rules in
-    let within : c.unread-items.result.walk.limits ≡ c.args.limits = search rules in
     let kept : IfOk c.convert_items.result (WritesKept g.R.Inlet g.W.Outlet (encoding_of c.args.target) (documents c.args.catalog.now c.args.limits)
     c.args.reader.now c.convert_items.new.reader c.args.writer.now c.convert_items.new.writer) =
-    rw (c.in-Binary.is, ← under, ← within) c.convert_items.ensures.kept in
+    rw (c.in-Binary.is, ← c.unread-items.ensures.catalog, ← c.unread-items.ensures.limits) c.convert_items.ensures.kept in
     keeps_if g.R.Inlet g.W.Outlet c.args.catalog.now c.args.limits c.args.reader.now c.convert_items.new.reader c.args.writer.now c.convert_items.new.writer
     c.args.target c.convert_items.result kept
 
 pub returns-in-Ok-clause-converted : goal.returns-in-Ok-clause-converted
 returns-in-Ok-clause-converted g c =
-    let under : c.unread-items.result.walk.catalog.now ≡ c.args.catalog.now = search rules in
-    let within : c.unread-items.result.walk.limits ≡ c.args.limits = search rules in
-    rw (c.in-Binary.is, ← under, ← within) c.convert_items.ensures.converted
+    rw (c.in-Binary.is, ← c.unread-items.ensures.catalog, ← c.unread-items.ensures.limits) c.convert_items.ensures.converted
 
 pub returns-in-Text-clause-same : goal.returns-in-Text-clause-same
 returns-in-Text-clause-same g c =
-    let under : c.unread-items.result.walk.catalog.now ≡ c.args.catalog.now = search rules in
-    let within : c.unread-items.result.walk.limits ≡ c.args.limits = search rules in
     let kept : IfOk c.convert_items-in-Text.result (WritesKept g.R.Inlet g.W.Outlet (encoding_of c.args.target) (documents c.args.catalog.now c.args.limits)
     c.args.reader.now c.convert_items-in-Text.new.reader c.args.writer.now c.convert_items-in-Text.new.writer) =
-    rw (c.in-Text.is, ← under, ← within) c.convert_items-in-Text.ensures.kept in
+    rw (c.in-Text.is, ← c.unread-items.ensures.catalog, ← c.unread-items.ensures.limits) c.convert_items-in-Text.ensures.kept in
     keeps_if g.R.Inlet g.W.Outlet c.args.catalog.now c.args.limits c.args.reader.now c.convert_items-in-Text.new.reader c.args.writer.now
     c.convert_items-in-Text.new.writer c.args.target c.convert_items-in-Text.result kept
 
 pub returns-in-Text-clause-converted : goal.returns-in-Text-clause-converted
 returns-in-Text-clause-converted g c =
-    let under : c.unread-items.result.walk.catalog.now ≡ c.args.catalog.now = search rules in
-    let within : c.unread-items.result.walk.limits ≡ c.args.limits = search rules in
-    rw (c.in-Text.is, ← under, ← within) c.convert_items-in-Text.ensures.converted
+    rw (c.in-Text.is, ← c.unread-items.ensures.catalog, ← c.unread-items.ensures.limits) c.convert_items-in-Text.ensures.converted
 
 pub returns-in-Ok-clause-cause : goal.returns-in-Ok-clause-cause
 returns-in-Ok-clause-cause g c =
-    let under : c.unread-items.result.walk.catalog.now ≡ c.args.catalog.now = search rules in
-    let within : c.unread-items.result.walk.limits ≡ c.args.limits = search rules in
     let asked : c.reads-reads.result ≡ c.args.limits.reads = search rules in
-    let few : c.reads-reads.result ≡ c.unread-items.result.walk.limits.reads = rw within asked in
+    let few : c.reads-reads.result ≡ c.unread-items.result.walk.limits.reads = rw c.unread-items.ensures.limits asked in
     let cause = rw few at c.convert_items.ensures.cause in
-    rw (c.in-Binary.is, ← under, ← within) cause
+    rw (c.in-Binary.is, ← c.unread-items.ensures.catalog, ← c.unread-items.ensures.limits) cause
 
 pub returns-in-Text-clause-cause : goal.returns-in-Text-clause-cause
 returns-in-Text-clause-cause g c =
-    let under : c.unread-items.result.walk.catalog.now ≡ c.args.catalog.now = search rules in
-    let within : c.unread-items.result.walk.limits ≡ c.args.limits = search rules in
     let asked : c.reads-reads.result ≡ c.args.limits.reads = search rules in
-    let few : c.reads-reads.result ≡ c.unread-items.result.walk.limits.reads = rw within asked in
+    let few : c.reads-reads.result ≡ c.unread-items.result.walk.limits.reads = rw c.unread-items.ensures.limits asked in
     let cause = rw few at c.convert_items-in-Text.ensures.cause in
-    rw (c.in-Text.is, ← under, ← within) cause
+    rw (c.in-Text.is, ← c.unread-items.ensures.catalog, ← c.unread-items.ensures.limits) cause

@@ -1,18 +1,29 @@
-use Rattle.std.proofs.Common.{Ok, Err, refl}
+use Rattle.std.proofs.lemmas.Result.{err_from_is_err_and}
+use Rattle.ion_run.proofs.Owing.{or_more}
 use Rattle.ion_run.proofs.command.converted.Goals as goal
 
-pub returns-in-Ok-clause-ending : goal.returns-in-Ok-clause-ending
-returns-in-Ok-clause-ending g c = (
-  Ok _,
-  rw c.in-Ok.is at c.in_ok-conversion.ensures.converted,
-  rw c.in-Ok.is at c.in_ok-conversion.ensures.same,
-  (refl, c.in_ok-conversion.ensures.passed_on),
+pub returns-in_ok-answer-in-Text-clause-ending : goal.returns-in_ok-answer-in-Text-clause-ending
+returns-in_ok-answer-in-Text-clause-ending g c = (
+  _,
+  c.in_ok-answer-in-Text.ensures.converted,
+  c.in_ok-answer-in-Text.ensures.same,
+  (c.ending_with.ensures, c.in_ok-answer-in-Text.ensures.passed_on),
 )
 
-pub returns-in-Err-clause-ending : goal.returns-in-Err-clause-ending
-returns-in-Err-clause-ending g c = (
-  Err c.in-Err.refusal,
-  rw c.in-Err.is at c.in_ok-conversion.ensures.converted,
-  rw c.in-Err.is at c.in_ok-conversion.ensures.same,
-  (refl, c.in_ok-conversion.ensures.passed_on),
+pub returns-in_ok-answer-in-Binary-clause-ending : goal.returns-in_ok-answer-in-Binary-clause-ending
+returns-in_ok-answer-in-Binary-clause-ending g c = (
+  _,
+  c.in_ok-answer-in-Binary.ensures.converted,
+  c.in_ok-answer-in-Binary.ensures.same,
+  (c.ending_with-in-Binary.ensures, c.in_ok-answer-in-Binary.ensures.passed_on),
 )
+
+pub returns-in_err-answer-in-Text-clause-cause : goal.returns-in_err-answer-in-Text-clause-cause
+returns-in_err-answer-in-Text-clause-cause g c =
+    let e = err_from_is_err_and c.from_residual-in_err-answer-in-Text.result c.from_residual-in_err-answer-in-Text.ensures.1 in
+    rw (e.1, e.2) (or_more c.in_err-answer-in-Text.ensures.cause)
+
+pub returns-in_err-answer-in-Binary-clause-cause : goal.returns-in_err-answer-in-Binary-clause-cause
+returns-in_err-answer-in-Binary-clause-cause g c =
+    let e = err_from_is_err_and c.from_residual-in_err-answer-in-Binary.result c.from_residual-in_err-answer-in-Binary.ensures.1 in
+    rw (e.1, e.2) (or_more c.in_err-answer-in-Binary.ensures.cause)

@@ -2,7 +2,7 @@ use Rattle.std.proofs.Common.{◌∷◌, [], inr}
 use Rattle.std.proofs.lemmas.Result.{IfOk-weaker, IfErr-weaker, on_err_weaker}
 use Rattle.ion_docs.specs.Encodings.{encoding_of}
 use Rattle.ion_words.specs.Asked.{NamesInputOnce}
-use Rattle.ion_run.proofs.Owing.{first_of_names, behind_first, free_behind, stopped_once, stopped_converting, stopped_comparing, front_checking, front_comparing}
+use Rattle.ion_run.proofs.Owing.{first_of_names, second_of_names, free_behind, stopped_once, stopped_converting, stopped_comparing, front_checking, front_comparing}
 use Rattle.ion_run.proofs.command.ending_of.Goals as goal
 
 pub returns-in_ok-source-in-Check-clause-done : goal.returns-in_ok-source-in-Check-clause-done
@@ -23,18 +23,15 @@ returns-in_ok-source-in-Convert-clause-done g c =
 
 pub returns-in_ok-source-in-Check-clause-stopped : goal.returns-in_ok-source-in-Check-clause-stopped
 returns-in_ok-source-in-Check-clause-stopped g c =
-    rw c.in-Check.is (IfErr-weaker c.checked.result _ _ (λ fault caused. stopped_once g.N.Input.Inlet (g.N.Sources.gives c.args.sources.now)
-    (g.N.Sources.refuses c.args.sources.now) c.args.request.now.limits (c.in-Check.name.now ∷ []) _ _ c.in-Check.name.now
-    (first_of_names c.in-Check.name.now [])
-    c.in_ok-source-in-Check.field-0 c.checked.new.reader c.in_ok-source-in-Check.ensures.given g.O.Outlet c.checked.new.out fault caused)
-    c.checked.ensures.cause)
+    rw c.in-Check.is (IfErr-weaker c.checked.result _ _ (stopped_once g.N.Input.Inlet (g.N.Sources.gives c.args.sources.now)
+    (g.N.Sources.refuses c.args.sources.now) c.args.request.now.limits _ _ c.in-Check.name.now c.in_ok-source-in-Check.field-0
+    c.checked.new.reader c.in_ok-source-in-Check.ensures.given g.O.Outlet c.checked.new.out) c.checked.ensures.cause)
 
 pub returns-in_ok-source-in-Show-clause-stopped : goal.returns-in_ok-source-in-Show-clause-stopped
 returns-in_ok-source-in-Show-clause-stopped g c =
-    rw c.in-Show.is (IfErr-weaker c.shown.result _ _ (λ fault caused. stopped_once g.N.Input.Inlet (g.N.Sources.gives c.args.sources.now)
-    (g.N.Sources.refuses c.args.sources.now) c.args.request.now.limits (c.in-Show.name.now ∷ []) _ _ c.in-Show.name.now
-    (first_of_names c.in-Show.name.now [])
-    c.in_ok-source-in-Show.field-0 c.shown.new.reader c.in_ok-source-in-Show.ensures.given g.O.Outlet c.shown.new.out fault caused) c.shown.ensures.cause)
+    rw c.in-Show.is (IfErr-weaker c.shown.result _ _ (stopped_once g.N.Input.Inlet (g.N.Sources.gives c.args.sources.now)
+    (g.N.Sources.refuses c.args.sources.now) c.args.request.now.limits _ _ c.in-Show.name.now c.in_ok-source-in-Show.field-0
+    c.shown.new.reader c.in_ok-source-in-Show.ensures.given g.O.Outlet c.shown.new.out) c.shown.ensures.cause)
 
 pub returns-in_ok-source-in-Convert-clause-stopped : goal.returns-in_ok-source-in-Convert-clause-stopped
 returns-in_ok-source-in-Convert-clause-stopped g c =
@@ -57,7 +54,7 @@ returns-in_ok-right-in-Compare-clause-stopped g c =
     (free_behind left right (right ∷ []) once (first_of_names right [])) c.in_ok-right-in-Compare.ensures.given in
     rw c.in-Compare.is (IfErr-weaker c.compared.result _ _ (λ fault caused. stopped_comparing g.N.Input.Inlet (g.N.Sources.gives c.args.sources.now)
     (g.N.Sources.refuses c.args.sources.now) c.args.request.now.limits (left ∷ right ∷ []) _ _ left right (first_of_names left (right ∷ []))
-    (behind_first left right (right ∷ []) (first_of_names right []))
+    (second_of_names left right)
     c.in_ok-left-in-Compare.left c.compared.new.left c.in_ok-right-in-Compare.right c.compared.new.right c.in_ok-left-in-Compare.ensures.given given g.O.Outlet
     c.compared.new.out fault caused) c.compared.ensures.cause)
 
