@@ -41,7 +41,7 @@ contracts: Cargo doesn't build it. From C, Python and Rust there are [bindings](
 `tools/vendor.sh . >> crates.txt` copies the crates into a repository; a crate that lists `ion` then proves them once for a machine.
 
 Each block of lines is run by `tests/api.py --run`. `crates/ion_example` has more, proved: a file that an argument names is read there,
-and its decimals are summed (`src/summing.rt`). Three things that all calls share:
+and its decimals are summed (`src/uses/summing.rt`). Three things that all calls share:
 
 - `alloc: Global` is where memory comes from: `let alloc = rt.alloc();` of `main(rt: HostRuntime)`.
 - Calls over devices answer `Result<Result<_, Refusal>, Fault>`: the fault of a device outside, the refusal of a document inside. `??`

@@ -1,7 +1,7 @@
 -- The values that a document gave so far are the front of the stream of what was heard.
 use Rattle.std.proofs.Common.{◌≡◌, ℕ, List, [], ◌∷◌, ◌++◌, refl, ap, sym, subst, ◌∙◌, true, Option, Some, None, IsNone, IfSome, option_to_list, append_assoc, append-nil, ◌↔◌}
 use Rattle.std.proofs.lemmas.List.{map-append}
-use Rattle.ion.specs.Names.{Begins, Catalog, Grows, Inlet, Items, Limits, Reads, Source, Streams, ToldDocument, Trace, Value, format_of, left_of, plain}
+use Rattle.ion.specs.Names.{Begins, Catalog, Grows, Inlet, Items, Limits, PieceReader, Reads, Streams, ToldDocument, Trace, Value, format_of, left_of, plain}
 use Rattle.ion_symtab.specs.Trace as traces
 use Rattle.ion.specs.Given.{GivesFront, IsFront}
 
@@ -41,7 +41,7 @@ module _ {S X : Type 0} (R : Inlet S) (I : Items X) (g : Catalog) (l : Limits)
       (front_more given (I.trace g l (u ++ o ∷ [])).given _ some (grows (u ++ o ∷ []) (begins.0 ++ more)).given)
 
   -- the values of a document that is open still are the front of the stream of what was heard
-  pub front_open : (exact : (u : List ℕ) (s : List Value) → Streams (I.trace g l u) s ↔ I.denotes g l u s) (first now : S) (source : Source X) (s : List Value)
+  pub front_open : (exact : (u : List ℕ) (s : List Value) → Streams (I.trace g l u) s ↔ I.denotes g l u s) (first now : S) (source : PieceReader X) (s : List Value)
       → Begins (I.awaits source.items) (left_of source) → Reads R I g l first now source s → GivesFront R (format_of I g l) first now s
   front_open exact first now source s begins h =
       let each = h.each in

@@ -1,6 +1,6 @@
 -- What the values of a document give as an iterator.
 use Rattle.std.specs.Prelude.{◌≡◌, ℕ, ◌+◌, ◌*◌, ◌≤◌, List, [], ◌∷◌, ◌++◌, length, Bool, true, false, Option, Some, None, Result, Ok, Err}
-use Rattle.ion.specs.Names.{Catalog, Fault, Inlet, Items, Limits, NoReadFailed, Standing, Stop, Value, reads_of}
+use Rattle.ion.specs.Names.{Catalog, Fault, Inlet, Items, Limits, NoReadFailed, ReadState, Stop, Value, reads_of}
 use Rattle.ion.specs.Given.{HasGiven, IfAnswered, IsNext, settled}
 
 -- one more item may come where it wasn't stopped
@@ -27,8 +27,8 @@ stops_at (Some (Ok value)) = false
 stops_at (Some (Err stop)) = true
 
 -- An item tells the answer of `next`. Behind a stop and behind the end nothing comes, and the device isn't asked any more.
-pub record EachGives {S X : Type 0} (R : Inlet S) (I : Items X) (before : S) (place : Standing X) (fault : Option Fault) (stopped : Bool)
-    (item : Option (Result Value Stop)) (now : S) (place_now : Standing X) (fault_now : Option Fault) (stopped_now : Bool) : Type 0 where
+pub record EachGives {S X : Type 0} (R : Inlet S) (I : Items X) (before : S) (place : ReadState X) (fault : Option Fault) (stopped : Bool)
+    (item : Option (Result Value Stop)) (now : S) (place_now : ReadState X) (fault_now : Option Fault) (stopped_now : Bool) : Type 0 where
   pub fused : stopped ≡ true → (item ≡ None) × (stopped_now ≡ true)
   pub stays : stopped ≡ true → (now ≡ before) × (place_now ≡ place) × (fault_now ≡ fault)
   pub stops : stopped ≡ false → stopped_now ≡ stops_at item

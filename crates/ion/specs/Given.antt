@@ -1,6 +1,6 @@
 -- What is known of a document whose values are asked for one by one.
 use Rattle.std.specs.Prelude.{◌≡◌, ℕ, List, [], ◌∷◌, ◌++◌, Bool, IsSome, Option, Some, None, Result, Ok, Err, option_to_list}
-use Rattle.ion.specs.Names.{Catalog, Fault, Format, GaveSoFar, Heard, IfOpen, Inlet, IsReadCause, IsWithin, Items, Limits, MayFollow, Standing, Stood, Stop, ToldDocument, ToldRefused, Value, format_of}
+use Rattle.ion.specs.Names.{Catalog, Fault, Format, GaveSoFar, Heard, IfOpen, Inlet, IsReadCause, IsWithin, Items, Limits, MayFollow, ReadState, Stood, Stop, ToldDocument, ToldRefused, Value, format_of}
 
 -- the first values stand in front of the others
 abbrev pub IsFront : List Value → List Value → Type 0
@@ -23,29 +23,29 @@ module _ {S : Type 0} (R : Inlet S) where
   IsNext I g l first now s (Err (Stop.Fault fault)) = GaveSoFar R I g l first now s × IsReadCause R l.reads first now fault
 
   -- From first to now the document gave the values s, and stands there; or it did up to this fault.
-  abbrev pub HasGiven : {X : Type 0} → Items X → Catalog → Limits → S → S → Standing X → Option Fault → List Value → Type 0
+  abbrev pub HasGiven : {X : Type 0} → Items X → Catalog → Limits → S → S → ReadState X → Option Fault → List Value → Type 0
   HasGiven I g l first now place None s = Stood R I g l first now place s × IfOpen place (IsWithin R l.reads first now)
   HasGiven I g l first now place (Some fault) s = GaveSoFar R I g l first now s × IsReadCause R l.reads first now fault
 
 -- it was found to be no document
-abbrev pub IsRefused : {X : Type 0} → Standing X → Type 0
-IsRefused (Standing.Open source) = ⊥
-IsRefused Standing.Ended = ⊥
-IsRefused (Standing.Refused refusal) = Unit {0}
+abbrev pub IsRefused : {X : Type 0} → ReadState X → Type 0
+IsRefused (ReadState.Open source) = ⊥
+IsRefused ReadState.Ended = ⊥
+IsRefused (ReadState.Refused refusal) = Unit {0}
 
 -- From first to now a document that had given s gave this, and stands there: s and it are the front of the stream of what was heard, and a document that was
 -- refused gave nothing more.
-pub record WentOn {S X : Type 0} (R : Inlet S) (I : Items X) (g : Catalog) (l : Limits) (first now : S) (place : Standing X) (s : List Value)
+pub record WentOn {S X : Type 0} (R : Inlet S) (I : Items X) (g : Catalog) (l : Limits) (first now : S) (place : ReadState X) (s : List Value)
     (value : Option Value) : Type 0 where
   pub stood : Stood R I g l first now place (s ++ option_to_list value)
   pub front : IsSome value → GivesFront R (format_of I g l) first now (s ++ option_to_list value)
   pub refused : IsRefused place → value ≡ None
 
 -- the answer where a document gave this, and stands there
-abbrev pub answer_of : {X : Type 0} → Standing X → Option Value → Result (Option Value) Stop
-answer_of (Standing.Open source) value = Ok value
-answer_of Standing.Ended value = Ok value
-answer_of (Standing.Refused refusal) value = Err (Stop.Refused refusal)
+abbrev pub answer_of : {X : Type 0} → ReadState X → Option Value → Result (Option Value) Stop
+answer_of (ReadState.Open source) value = Ok value
+answer_of ReadState.Ended value = Ok value
+answer_of (ReadState.Refused refusal) value = Err (Stop.Refused refusal)
 
 -- the value that an answer gives, if it gives one
 abbrev pub given_by : Result (Option Value) Stop → List Value
@@ -59,8 +59,8 @@ IfAnswered (Err (Stop.Refused refusal)) P = P
 IfAnswered (Err (Stop.Fault fault)) P = Unit {0}
 
 -- the answer of a document that isn't read on, which stays
-abbrev pub settled : {X : Type 0} → Standing X → Option Fault → Option (Result (Option Value) Stop)
+abbrev pub settled : {X : Type 0} → ReadState X → Option Fault → Option (Result (Option Value) Stop)
 settled place (Some fault) = Some (Err (Stop.Fault fault))
-settled (Standing.Open source) None = None
-settled Standing.Ended None = Some (Ok None)
-settled (Standing.Refused refusal) None = Some (Err (Stop.Refused refusal))
+settled (ReadState.Open source) None = None
+settled ReadState.Ended None = Some (Ok None)
+settled (ReadState.Refused refusal) None = Some (Err (Stop.Refused refusal))

@@ -6,11 +6,11 @@ pub use Rattle.ion.specs.declared.stop.Stop.{Stop}
 pub use Rattle.ion_model.specs.declared.value.Value.{Value}
 pub use Rattle.ion_streams.specs.Formats.{Format, format_of}
 pub use Rattle.ion_streams.specs.Outcomes.{ToldDocument, ToldRefused}
-pub use Rattle.ion_streams.specs.declared.source.Source.{Source}
-pub use Rattle.ion_streams.specs.declared.source.Standing.{Standing}
-pub use Rattle.ion_streams.specs.declared.source.Standing.TheVariants.{Ended, Open, Refused}
+pub use Rattle.ion_streams.specs.declared.piece_reader.PieceReader.{PieceReader}
+pub use Rattle.ion_streams.specs.declared.piece_reader.ReadState.{ReadState}
+pub use Rattle.ion_streams.specs.declared.piece_reader.ReadState.TheVariants.{Ended, Open, Refused}
 pub use Rattle.ion_streams.specs.reading.Read.{Begins, GaveSoFar, IsFresh, IsReady, IsWithin, NoReadFailed, Reads, left_of}
-pub use Rattle.ion_streams.specs.reading.Standing.{IfClosed, IfOpen, IfRefused, Stood, reads_of, work_of}
+pub use Rattle.ion_streams.specs.reading.ReadState.{IfClosed, IfOpen, IfRefused, Stood, reads_of, work_of}
 pub use Rattle.ion_symtab.specs.Cause.{IsReadCause}
 pub use Rattle.ion_symtab.specs.Heard.{Heard, MayFollow}
 pub use Rattle.ion_symtab.specs.Trace.{Grows, Streams, Trace, plain}

@@ -1,6 +1,6 @@
 -- What a document that can be read on keeps between two calls, as a fact that has one proof.
 use Rattle.std.specs.Prelude.{◌≡◌, ℕ, ◌+◌, ◌-◌, ◌*◌, ◌<◌, ◌≤◌, ◌^◌, ◌==◌, List, [], ◌∷◌, length, Bool, true, false, Option, Some, None}
-use Rattle.ion.specs.Names.{Items, Open, Source, Standing, left_of}
+use Rattle.ion.specs.Names.{Items, Open, PieceReader, ReadState, left_of}
 
 -- the octets begin with the one that is awaited, if one is
 abbrev pub begins_with : Option ℕ → List ℕ → Bool
@@ -9,7 +9,7 @@ begins_with (Some octet) [] = false
 begins_with (Some octet) (first ∷ rest) = first == octet
 
 -- what `IsReady` of the streams says
-pub record IsReadable {X : Type 0} (I : Items X) (source : Source X) : Type 0 where
+pub record IsReadable {X : Type 0} (I : Items X) (source : PieceReader X) : Type 0 where
   pub within : source.at ≤ source.end
   pub fits : source.end ≤ length source.piece.items
   pub piece : 4096 ≤ length source.piece.items
@@ -18,5 +18,5 @@ pub record IsReadable {X : Type 0} (I : Items X) (source : Source X) : Type 0 wh
   pub counted : I.taken source.items ≡ source.used
 
 -- so it is, where it can be read on
-abbrev pub CanGoOn : {X : Type 0} → Items X → Standing X → Type 0
-CanGoOn {X} I place = (source : Source X) → place ≡ Open source → IsReadable I source
+abbrev pub CanGoOn : {X : Type 0} → Items X → ReadState X → Type 0
+CanGoOn {X} I place = (source : PieceReader X) → place ≡ Open source → IsReadable I source

@@ -18,7 +18,7 @@ impl<'r, I: Items + Drop, R: Inlet> Iterator for Each<'r, I, R> {
 
     ghost use Rattle.std.specs.Prelude.{◌+◌};
     ghost use Rattle.std.specs.Iterator.{at_most};
-    ghost use Rattle.ion_streams.specs.reading.Standing.{work_of};
+    ghost use Rattle.ion_streams.specs.reading.ReadState.{work_of};
     ghost use Rattle.ion.specs.Each.{EachGives, still_one};
 
     ghost remaining = { λ e. at_most (work_of I.Items e.values.place + still_one e.stopped) };

@@ -7,7 +7,7 @@ ghost use Rattle.ion.specs.Given.{HasGiven, IfAnswered, IsNext, WentOn, answer_o
 use crate::each::Each;
 use crate::stop::Stop;
 use ion_model::Value;
-use ion_streams::{Source, Standing};
+use ion_streams::{PieceReader, ReadState};
 use ion_symtab::{Fault, Inlet, Items};
 use std::alloc::Global;
 
@@ -18,7 +18,7 @@ pub struct Values<'r, I: Items, R> {
     /// The device that the octets come from.
     pub(crate) reader: &'r mut R,
     /// Where the document stands.
-    pub(crate) place: Standing<I>,
+    pub(crate) place: ReadState<I>,
     /// The fault at which reading ended, if it did.
     pub(crate) fault: Option<Fault>,
     ghost ready: { CanGoOn I.Items place },
@@ -44,10 +44,10 @@ pub fn values_by<'r, I: Items + Drop, R: Inlet>(
     ensures reads { IfOk result (λ values. reads_of values.place ≡ reads) }
     ensures cause { IfErr result (λ fault. fault ≡ Fault.Memory) }
 {
-    let source = Source::new(alloc, items, reads)?;
+    let source = PieceReader::new(alloc, items, reads)?;
     Ok(Values {
         reader,
-        place: Standing::Open(source),
+        place: ReadState::Open(source),
         fault: None,
     })
 }
@@ -115,11 +115,11 @@ impl<'r, I: Items + Drop, R: Inlet> Values<'r, I, R> {
 }
 
 /// What is answered of a document that gave this, and stands there.
-fn answer_of<I>(place: &Standing<I>, value: Option<Value>) -> Result<Option<Value>, Stop>
+fn answer_of<I>(place: &ReadState<I>, value: Option<Value>) -> Result<Option<Value>, Stop>
     ensures { result ≡ answer_of place.now value }
 {
     match place {
-        Standing::Refused(refusal) => {
+        ReadState::Refused(refusal) => {
             drop(value);
             Err(Stop::Refused(*refusal))
         }
@@ -132,7 +132,7 @@ fn answer_of<I>(place: &Standing<I>, value: Option<Value>) -> Result<Option<Valu
 ///
 /// Faults are `Memory`, `Read` and `TooManyReads`.
 fn go_on<I: Items + Drop, R: Inlet>(
-    place: &mut Standing<I>,
+    place: &mut ReadState<I>,
     reader: &mut R,
 ) -> Result<Option<Value>, Fault>
     requires { IfOpen place.old (IsReady I.Items) }

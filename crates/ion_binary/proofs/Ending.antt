@@ -3,7 +3,7 @@ use Rattle.std.proofs.Common.{◌≡◌, ◌≢◌, ℕ, List, [], ◌∷◌, �
 use Rattle.std.specs.Prelude.{◌==◌, if◌then◌else◌}
 use Rattle.std.proofs.lemmas.List.{reverse-append}
 use Rattle.std.proofs.lemmas.Bool.Decides.{nat_tests}
-use Rattle.ion_binary.specs.Names.{AreAround, AreOpen, BinaryWalk, Bracket, Closes, Container, Does, DoesAlone, Effect, EndedIn, Event, Field, Frame, Goes, Hears, HoldsNoWrapper, InNumber, IsBareIn, IsBehind, IsInside, IsNamedBy, Listing, Outcome, Payload, Phase, Purpose, Ready, Reason, Setting, Spot, Tells, Value, WasTold, annotated, at, bare, bracket_of, closes, container_of, containers_of, deliver, events_of, field_of, goes, heard, listed, machine_of, name_of, open_containers, proceed, setting_of, spot_of, told}
+use Rattle.ion_binary.specs.Names.{AreAround, AreOpen, BinaryWalk, Bracket, Closes, Container, Does, DoesAlone, Effect, EndedIn, Event, Field, Frame, Goes, Hears, HoldsNoWrapper, InNumber, IsBareIn, IsBehind, IsInside, IsNamedBy, ListOrSexp, Outcome, Payload, Phase, Purpose, Ready, Reason, Setting, Spot, Tells, Value, WasTold, annotated, at, bare, bracket_of, closes, container_of, containers_of, deliver, events_of, field_of, goes, heard, listed, machine_of, name_of, open_containers, proceed, setting_of, spot_of, told}
 use Rattle.ion_model.specs.declared.value.Payload.TheVariants as payloads
 use Rattle.ion_visiting.specs.laws.Filters.{hears_none}
 use Rattle.ion_binary.specs.machine.Frames as frames
@@ -86,7 +86,7 @@ module _ {V : Type 0} (takes : V → Event → V → Type 0) where
         → IsBareIn (f ∷ fs) v → WasTold r.filter (told_in (f ∷ fs) ++ events_of v)
         → Closes takes (told_in (f ∷ fs) ++ events_of v) (deliver s t (f ∷ fs) v) result new a b
 
-    pub items_behind : (end : ℕ) (x : Listing) → k ≡ Container.Items end x
+    pub items_behind : (end : ℕ) (x : ListOrSexp) → k ≡ Container.Items end x
         → ((fs : List Frame) (vs : List Value) → open_containers r ≡ containers_of fs → AreAround fs
         → WasTold r.filter (told_in (frames.Items end x vs ∷ fs))
         → Closes takes (told_in (frames.Items end x vs ∷ fs)) (proceed s t (frames.Items end x vs ∷ fs)) result new a b)

@@ -1,5 +1,5 @@
 pub mod Scalars
-pub mod Leading
+pub mod PieceEnds
 pub mod Building
 pub mod Levels
 pub mod Inserted

@@ -79,7 +79,7 @@ unwrapped_open _ h = tt
 begins_open : (fs : List Frame) (form : Form) → AreOpen fs → stray fs form ≡ None → nameless fs form ≡ None → MayBegin form fs
 begins_open fs Form.Pad h fits named = tt
 begins_open fs (Form.Scalar t) h fits named = around_open fs (Form.Scalar t) h refl named
-begins_open fs (Form.Listing x) h fits named = around_open fs (Form.Listing x) h refl named
+begins_open fs (Form.ListOrSexp x) h fits named = around_open fs (Form.ListOrSexp x) h refl named
 begins_open fs Form.Struct h fits named = around_open fs Form.Struct h refl named
 begins_open fs Form.OrderedStruct h fits named = around_open fs Form.OrderedStruct h refl named
 begins_open fs Form.Wrapper h fits named = (unwrapped_open fs fits, around_open fs Form.Wrapper h refl named)

@@ -3,7 +3,7 @@ use Rattle.std.proofs.Common.{◌≡◌, ℕ, List, [], ◌∷◌, ◌++◌, map
 use Rattle.std.specs.List.{flat_map}
 use Rattle.std.proofs.lemmas.List.{append-nil, append_assoc, map-append}
 use Rattle.std.proofs.lemmas.Grind.{flat_map-append}
-use Rattle.ion_binary.specs.Names.{BinaryWalk, Bracket, Closes, Does, DoesAlone, Effect, Event, Field, Frame, GaveOut, Gives, Goes, Hears, Listing, Outcome, Payload, Reason, Value, WentOn, annotated, annotation, bare, bracket_of, closes, events_of, field_events, field_of, heard, layer_events, listed, name, out-Payload, outs-Fields, outs-List, outs-Sexp, part, told, within}
+use Rattle.ion_binary.specs.Names.{BinaryWalk, Bracket, Closes, Does, DoesAlone, Effect, Event, Field, Frame, GaveOut, Gives, Goes, Hears, ListOrSexp, Outcome, Payload, Reason, Value, WentOn, annotated, annotation, bare, bracket_of, closes, events_of, field_events, field_of, heard, layer_events, listed, name, out-Payload, outs-Fields, outs-List, outs-Sexp, part, told, within}
 use Rattle.ion_model.specs.declared.value.Payload.TheVariants as payloads
 use Rattle.ion_visiting.specs.Events.{opens}
 use Rattle.ion_visiting.specs.laws.Filters.{hears_both, hears_none}
@@ -17,7 +17,7 @@ flat_one : {X : Type 0} (f : X → List Event) (xs : List X) (x : X) → flat_ma
 flat_one f xs x = flat_map-append f xs (x ∷ []) ∙ ap (λ es. flat_map f xs ++ es) (append-nil (f x))
 
 -- a value ends among items
-pub item_told : (end : ℕ) (x : Listing) (fs : List Frame) (vs : List Value) (v : Value)
+pub item_told : (end : ℕ) (x : ListOrSexp) (fs : List Frame) (vs : List Value) (v : Value)
     → told_in (frames.Items end x vs ∷ fs) ++ events_of v ≡ told_in (frames.Items end x (vs ++ v ∷ []) ∷ fs)
 item_told end x fs vs v =
     append_assoc (told_in fs) (opens (bracket_of x) ∷ flat_map events_of vs) (events_of v)
@@ -46,15 +46,15 @@ wrapped_told end ss fs v h =
     (ap (λ es. map annotation ss ++ es) (unnoted v h) ∙ sym (events_out (annotated ss v.payload)))
 
 -- a container closes, and is a value
-pub items_told : (end : ℕ) (x : Listing) (fs : List Frame) (vs : List Value)
+pub items_told : (end : ℕ) (x : ListOrSexp) (fs : List Frame) (vs : List Value)
     → told_in (frames.Items end x vs ∷ fs) ++ closes (bracket_of x) ∷ [] ≡ told_in fs ++ events_of (bare (listed x vs))
 items_told end x fs vs =
     append_assoc (told_in fs) (opens (bracket_of x) ∷ flat_map events_of vs) (closes (bracket_of x) ∷ [])
     ∙ ap (λ es. told_in fs ++ es) (sym (inside x))
   where
-    inside : (x : Listing) → events_of (bare (listed x vs)) ≡ within (bracket_of x) (flat_map events_of vs)
-    inside Listing.List = bare_events (payloads.List vs) ∙ ap layer_events (outs-List vs)
-    inside Listing.Sexp = bare_events (payloads.Sexp vs) ∙ ap layer_events (outs-Sexp vs)
+    inside : (x : ListOrSexp) → events_of (bare (listed x vs)) ≡ within (bracket_of x) (flat_map events_of vs)
+    inside ListOrSexp.List = bare_events (payloads.List vs) ∙ ap layer_events (outs-List vs)
+    inside ListOrSexp.Sexp = bare_events (payloads.Sexp vs) ∙ ap layer_events (outs-Sexp vs)
 
 pub fields_told : (end : ℕ) (fs : List Frame) (ms : List Field)
     → told_in (frames.Fields end ms ∷ fs) ++ closes Bracket.Fields ∷ [] ≡ told_in fs ++ events_of (bare (payloads.Fields ms))

@@ -9,7 +9,7 @@ use Rattle.ion_binary.specs.machine.EachOctet.{moved}
 use Rattle.ion_binary.specs.walking.Holds.{Name}
 use Rattle.ion_binary.specs.walking.Runs.{Led, Took}
 use Rattle.ion_binary.proofs.Insides.{body_ends, refused_whole}
-use Rattle.ion_binary.proofs.Leading.{LeadsFromStart, leads_by, leads_to_end, leads_to_value, whole_rest, within_rest}
+use Rattle.ion_binary.proofs.PieceEnds.{LeadsFromStart, leads_by, leads_to_end, leads_to_value, whole_rest, within_rest}
 use Rattle.ion_binary.proofs.Shells.{emptied, shells_of}
 use Rattle.ion_binary.proofs.Tellings.{gave_behind, went_behind}
 

@@ -2,7 +2,7 @@
 -- stand under it. A row says what stands open behind some octets (`Open`: whole pieces of the grammar, then containers that have begun),
 -- and which octets come next. Nothing here speaks of reading.
 use Rattle.std.specs.Prelude.{◌≡◌, ◌≢◌, ◌⊎◌, ℕ, suc, ◌+◌, ◌*◌, ◌^◌, ◌<◌, ◌≤◌, ◌||◌, Bool, true, false, List, [], ◌∷◌, ◌++◌, length, Option, Ok, Err}
-use Rattle.ion_binary.specs.Names.Below.{Catalog, Depth, Digits128, Field, Follows, Form, ItemTooLong, Kind, Known, Limits, Listing, Malformed, Marker, Null, Reason, Refused, Scalar, Size, Sized, Slot, TooLarge, Truth, Value, VarUInt, Version, depth, is_table, next, positional, reason_number, resolve, seven_bits}
+use Rattle.ion_binary.specs.Names.Below.{Catalog, Depth, Digits128, Field, Follows, Form, ItemTooLong, Kind, Known, Limits, ListOrSexp, Malformed, Marker, Null, Reason, Refused, Scalar, Size, Sized, Slot, TooLarge, Truth, Value, VarUInt, Version, depth, is_table, next, positional, reason_number, resolve, seven_bits}
 use Rattle.ion_binary.specs.Depths.{depths, field_depths}
 use Rattle.ion_binary.specs.Grammar.{Binary, Fields, Header, Ids, Pieces, Sequence}
 use Rattle.ion_binary.specs.Judge.{judge}
@@ -92,10 +92,10 @@ Open g l c start (Items end ∷ ks) u =
     record {
       front : List ℕ;
       body : List ℕ;
-      listing : Listing;
+      listing : ListOrSexp;
       items : List Value;
       parts : u ≡ front ++ body;
-      headed : Headed l c start (Open g l c start ks) ks (Form.Listing listing) end front;
+      headed : Headed l c start (Open g l c start ks) ks (Form.ListOrSexp listing) end front;
       come : Sequence c body items;
       deep : depths items + suc (container_levels ks) ≤ l.depth;
       more : length u < end;
@@ -200,7 +200,7 @@ module _ (g : Catalog) (l : Limits) (c : List Slot) (start : ℕ) where
 
 -- a list, an s-expression or a struct
 abbrev pub IsContainer : Form → Type 0
-IsContainer (Form.Listing x) = Unit {0}
+IsContainer (Form.ListOrSexp x) = Unit {0}
 IsContainer form = IsStruct form
 
 -- 3. The rows.

@@ -1,7 +1,7 @@
 -- What binary documents are (Ion 1.0, "Ion Binary Encoding"). Nothing here speaks of reading.
 use Rattle.std.specs.Prelude.{◌≡◌, ℕ, Bool, true, false, pos, neg_ℤ, ◌^◌, ◌<◌, ◌≤◌, List, [], ◌∷◌, ◌++◌, length, Option, Ok}
 use Rattle.std.specs.Str.{IsUtf8}
-use Rattle.ion_binary.specs.Names.Below.{Catalog, DecimalParts, Digits128, Field, Follows, Form, IsDecimal, IsDecimalField, IsTimestampBody, Kind, Known, Limits, Listing, Null, Payload, Scalar, Sized, Slot, TimestampParts, Truth, Value, VarUInt, annotated, bare, depth, field_of, is_table, next, positional, resolve, system_slots}
+use Rattle.ion_binary.specs.Names.Below.{Catalog, DecimalParts, Digits128, Field, Follows, Form, IsDecimal, IsDecimalField, IsTimestampBody, Kind, Known, Limits, ListOrSexp, Null, Payload, Scalar, Sized, Slot, TimestampParts, Truth, Value, VarUInt, annotated, bare, depth, field_of, is_table, next, positional, resolve, system_slots}
 use Rattle.ion_model.specs.declared.value.Payload.TheVariants as payloads
 use Rattle.ion_binary.specs.Opening.{opening_of}
 
@@ -33,9 +33,9 @@ pub data Ids (c : List Slot) : List ℕ → List (Option (List ℕ)) → Type 0 
       → Ids c (us ++ w) (ss ++ s ∷ [])
 
 -- a list or an s-expression of these items
-abbrev pub listed : Listing → List Value → Payload
-listed Listing.List vs = payloads.List vs
-listed Listing.Sexp vs = payloads.Sexp vs
+abbrev pub listed : ListOrSexp → List Value → Payload
+listed ListOrSexp.List vs = payloads.List vs
+listed ListOrSexp.Sexp vs = payloads.Sexp vs
 
 mutual
   -- these octets are a value of this payload without annotations
@@ -43,7 +43,7 @@ mutual
     is_null : (b : ℕ) (k : Kind) → opening_of b ≡ Null k → Plain c (b ∷ []) (payloads.Null k)
     is_truth : (b : ℕ) (t : Bool) → opening_of b ≡ Truth t → Plain c (b ∷ []) (payloads.Truth t)
     is_scalar : (h body : List ℕ) (t : Scalar) (p : Payload) → Header (Form.Scalar t) (length body) h → IsScalar c body t p → Plain c (h ++ body) p
-    is_listing : (h body : List ℕ) (x : Listing) (vs : List Value) → Header (Form.Listing x) (length body) h → Sequence c body vs
+    is_listing : (h body : List ℕ) (x : ListOrSexp) (vs : List Value) → Header (Form.ListOrSexp x) (length body) h → Sequence c body vs
         → Plain c (h ++ body) (listed x vs)
     is_struct : (h body : List ℕ) (ms : List Field) → Header Form.Struct (length body) h → Fields c body ms → Plain c (h ++ body) (payloads.Fields ms)
     is_ordered : (h body : List ℕ) (ms : List Field) → Header Form.OrderedStruct (length body) h → 0 < length body → Fields c body ms

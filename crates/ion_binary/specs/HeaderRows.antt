@@ -1,7 +1,7 @@
 -- The descriptor and the length of a body, by type codes and length codes (Ion 1.0, "Ion Binary Encoding", typed value formats): the type code is the
 -- high four bits of the descriptor, the length code the low four.
 use Rattle.std.specs.Prelude.{◌≡◌, ◌≢◌, ◌⊎◌, ℕ, ◌+◌, ◌*◌, ◌<◌, ◌≤◌, List, [], ◌∷◌}
-use Rattle.ion_binary.specs.Names.Below.{Form, Listing, Scalar, VarUInt}
+use Rattle.ion_binary.specs.Names.Below.{Form, ListOrSexp, Scalar, VarUInt}
 
 -- the type code by which a form is told
 abbrev pub type_code : Form → ℕ
@@ -14,8 +14,8 @@ type_code (Form.Scalar Scalar.Symbol) = 7
 type_code (Form.Scalar Scalar.Str) = 8
 type_code (Form.Scalar Scalar.Clob) = 9
 type_code (Form.Scalar Scalar.Blob) = 10
-type_code (Form.Listing Listing.List) = 11
-type_code (Form.Listing Listing.Sexp) = 12
+type_code (Form.ListOrSexp ListOrSexp.List) = 11
+type_code (Form.ListOrSexp ListOrSexp.Sexp) = 12
 type_code Form.Struct = 13
 type_code Form.OrderedStruct = 13
 type_code Form.Wrapper = 14

@@ -1,6 +1,6 @@
 -- What a descriptor octet opens (Ion 1.0, "Ion Binary Encoding", typed value formats).
 use Rattle.std.specs.Prelude.{ℕ, Bool, true, false, ◌==◌, if◌then◌else◌, Result, Ok, Err}
-use Rattle.ion_binary.specs.Names.Below.{Descriptor, Follows, Form, Known, Listing, Malformed, Marker, Null, Opening, Reason, Refused, Scalar, Size, Sized, Truth, descriptor_of}
+use Rattle.ion_binary.specs.Names.Below.{Descriptor, Follows, Form, Known, ListOrSexp, Malformed, Marker, Null, Opening, Reason, Refused, Scalar, Size, Sized, Truth, descriptor_of}
 
 -- a scalar that no body without octets is
 abbrev pub with_octets : Scalar → Size → Opening
@@ -18,8 +18,8 @@ body_of code size =
     else if code == 8 then Sized (Form.Scalar Scalar.Str) size
     else if code == 9 then Sized (Form.Scalar Scalar.Clob) size
     else if code == 10 then Sized (Form.Scalar Scalar.Blob) size
-    else if code == 11 then Sized (Form.Listing Listing.List) size
-    else if code == 12 then Sized (Form.Listing Listing.Sexp) size
+    else if code == 11 then Sized (Form.ListOrSexp ListOrSexp.List) size
+    else if code == 12 then Sized (Form.ListOrSexp ListOrSexp.Sexp) size
     else if code == 13 then Sized Form.Struct size
     else if code == 14 then Sized Form.Wrapper size
     else Refused Malformed

@@ -22,7 +22,7 @@ pub enum Scalar {
 
 /// The two kinds of values that are items one behind the other.
 #[derive(Clone, Copy, PartialEq, Eq)]
-pub enum Listing {
+pub enum ListOrSexp {
     List,
     Sexp,
 }
@@ -32,7 +32,7 @@ pub enum Listing {
 pub enum Form {
     Pad,
     Scalar(Scalar),
-    Listing(Listing),
+    ListOrSexp(ListOrSexp),
     Struct,
     /// A struct that announces the order of its fields; it has at least one.
     OrderedStruct,
@@ -115,8 +115,8 @@ fn body_of(code: u8, size: Size) -> Opening
         8 => Opening::Sized(Form::Scalar(Scalar::Str), size),
         9 => Opening::Sized(Form::Scalar(Scalar::Clob), size),
         10 => Opening::Sized(Form::Scalar(Scalar::Blob), size),
-        11 => Opening::Sized(Form::Listing(Listing::List), size),
-        12 => Opening::Sized(Form::Listing(Listing::Sexp), size),
+        11 => Opening::Sized(Form::ListOrSexp(ListOrSexp::List), size),
+        12 => Opening::Sized(Form::ListOrSexp(ListOrSexp::Sexp), size),
         13 => Opening::Sized(Form::Struct, size),
         14 => Opening::Sized(Form::Wrapper, size),
         _ => Opening::Refused(Reason::Malformed),
@@ -136,12 +136,12 @@ fn with_octets(scalar: Scalar, size: Size) -> Opening
 
 /// The brackets around the items of a listing.
 #[inline(always)]
-pub fn bracket_of(listing: Listing) -> Bracket
+pub fn bracket_of(listing: ListOrSexp) -> Bracket
     ensures { result ≡ bracket_of listing }
 {
     match listing {
-        Listing::List => Bracket::List,
-        Listing::Sexp => Bracket::Sexp,
+        ListOrSexp::List => Bracket::List,
+        ListOrSexp::Sexp => Bracket::Sexp,
     }
 }
 

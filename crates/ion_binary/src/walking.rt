@@ -4,7 +4,7 @@ ghost use Rattle.ion_binary.specs.Names.{AreAround, Does, DoesAlone, Frame as An
 ghost use Rattle.ion_binary.specs.declared.state.Phase.TheVariants as phases;
 ghost use Rattle.ion_binary.specs.walking.Holds.{told_in};
 
-use crate::form::{Form, Listing, Opening};
+use crate::form::{Form, ListOrSexp, Opening};
 use crate::state::{Effect, Mark, Phase};
 use ion_model::{Reason, Refusal};
 use ion_scalar::Size;
@@ -26,7 +26,7 @@ mod whole_headers;
 #[derive(Clone, Copy)]
 pub(crate) enum Container {
     /// A list or an s-expression.
-    Items { end: u64, listing: Listing },
+    Items { end: u64, listing: ListOrSexp },
     /// A struct, where the name of a field comes next.
     Fields { end: u64 },
     /// A struct, where the value of a field comes next.

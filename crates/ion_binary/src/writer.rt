@@ -107,7 +107,7 @@ impl<S: BuildHasher + Drop> BinaryWriter<S> {
             return Err(fault);
         }
         let answer = self.put_next(out, value);
-        self.note_fault(answer)
+        self.remember_fault(answer)
     }
 
     /// Writes the version marker where no value was put, and makes the device pass on all that it
@@ -137,7 +137,7 @@ impl<S: BuildHasher + Drop> BinaryWriter<S> {
 
     // Keeps a fault for the later calls.
     #[inline(always)]
-    fn note_fault(&mut self, answer: Result<(), Fault>) -> Result<(), Fault>
+    fn remember_fault(&mut self, answer: Result<(), Fault>) -> Result<(), Fault>
         ensures answer { result ≡ answer }
         ensures failed { IfErr result (λ fault. self.new.failed ≡ Some fault) }
         ensures kept { OnOk result (self.new ≡ self.old) }

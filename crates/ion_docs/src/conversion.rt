@@ -4,7 +4,7 @@ ghost use Rattle.ion_docs.specs.Names.{AtOneEnd, ConvertsSoFar, IsConvertCause, 
 
 use crate::writers::Encoder;
 use ion_model::Refusal;
-use ion_streams::{Source, Standing};
+use ion_streams::{PieceReader, ReadState};
 use ion_symtab::{Fault, Inlet, Items, Outlet};
 use std::alloc::Global;
 
@@ -47,8 +47,8 @@ pub fn convert_items<E: Encoder + Drop, I: Items + Drop, R: Inlet, W: Outlet>(
         (ReadSoFar R.Inlet I.Items (I.catalog items) (I.limits items) reader.old reader.new)
         (W.has_failed writer.new) fault) }
 {
-    let source = Source::new(alloc, items, reads)?;
-    let mut place = Standing::Open(source);
+    let source = PieceReader::new(alloc, items, reads)?;
+    let mut place = ReadState::Open(source);
     let mut encoder = encoder;
     let mut values: u64 = 0;
     while let Some(_) = place.advance_by::<E, R>(reader, &mut encoder)? {

@@ -4,7 +4,7 @@ use Rattle.std.specs.List.{sum_by}
 use Rattle.std.proofs.lemmas.List.Sums.{sum_by-cons}
 use Rattle.ion_visiting.specs.Events.{Event, Led}
 use Rattle.ion_example.specs.Strings.{counts, is_string}
-use Rattle.ion_example.specs.declared.counting.Strings.{Strings}
+use Rattle.ion_example.specs.declared.uses.counting.Strings.{Strings}
 
 -- what events add to the count
 pub counted : (es : List Event) (a b : Strings) → Led counts es a b → b.count ≡ a.count + sum_by is_string es

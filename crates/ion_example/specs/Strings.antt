@@ -4,7 +4,7 @@ use Rattle.std.specs.List.{sum_by}
 use Rattle.ion_model.specs.declared.value.Value.{Value}
 use Rattle.ion_model.specs.declared.value.Payload.TheVariants as payloads
 use Rattle.ion_visiting.specs.Events.{Event, part, stream_events}
-use Rattle.ion_example.specs.declared.counting.Strings.{Strings}
+use Rattle.ion_example.specs.declared.uses.counting.Strings.{Strings}
 
 abbrev pub is_string : Event → ℕ
 is_string (part (payloads.Str text)) = 1

@@ -3,16 +3,13 @@
 //! `ion_example FIELD FILE` sums the numbers in a field of the values of a file.
 #![tactic(auto)]
 
-mod building;
-mod catalogs;
-mod comparing;
-mod counting;
-mod summing;
+mod uses;
 
 use anyhow::{Context, Result, bail};
 use ion::{Catalog, FromRead, Limits, Target};
 use std::env;
 use std::fs::File;
+use uses::{catalogs, comparing, counting, summing, writing};
 
 const LEFT: &[u8] = b"{name: \"a\", tags: [1, 2]}";
 
@@ -55,13 +52,13 @@ fn shown(rt: &HostRuntime) -> Result<()> {
         &catalog,
         Limits::usual(),
     );
-    drop(catalog); // before the `?`, as in `comparing.rt`
+    drop(catalog); // before the `?`, as in `uses/comparing.rt`
     let strings = strings??;
     println!(rt; "{strings} strings")?;
-    let text = building::spelled(alloc)?;
+    let text = writing::spelled(alloc)?;
     println!(rt; "{text}")?;
     for target in [Target::Text, Target::Binary] {
-        let octets = building::written(alloc, target)?;
+        let octets = writing::written(alloc, target)?;
         println!(rt; "{} octets", octets.len())?;
     }
     let count = catalogs::counted(alloc, TABLES, USES)?;

@@ -128,7 +128,7 @@ module _ {X T : Type 0} (R : Inlet X) (gives gave : Name → X → Type 0) (W : 
   IsDone-kept (show file) kept h = (h.0, h.1, kept file h.0 (first_of_names file []) h.2, h.3, h.4, h.5)
   IsDone-kept (convert file to) kept h = (h.0, h.1, kept file h.0 (first_of_names file []) h.2, h.3, h.4, h.5, h.6)
   IsDone-kept (compare left right) kept h =
-      (h.0, h.1, kept left h.0 (first_of_names left _) h.2, h.3, h.4, kept right h.3 (second_of_names left right) h.5, h.6, h.7, h.8)
+      (h.0, h.1, kept left h.0 (first_of_names left (right ∷ [])) h.2, h.3, h.4, kept right h.3 (second_of_names left right) h.5, h.6, h.7, h.8)
 
 module _ {X Y : Type 0} (R : Inlet X) (gives gave : Name → X → Type 0) (I : Items Y) (g : the_catalog) (l : Limits) where
   pub NeedsLarge-kept : (job : Job) → ((name : Name) (input : X) → Contains (names_of_job job) name → gives name input → gave name input)
@@ -163,7 +163,7 @@ module _ {X Y T : Type 0} (R : Inlet X) (gives gave : Name → X → Type 0) (I 
   WroteFront-kept (show file) kept h = (h.0, h.1, kept file h.0 (first_of_names file []) h.2, h.3)
   WroteFront-kept (convert file to) kept h = (h.0, h.1, kept file h.0 (first_of_names file []) h.2, h.3)
   WroteFront-kept (compare left right) kept h =
-      (h.0, h.1, kept left h.0 (first_of_names left _) h.2, h.3, h.4, kept right h.3 (second_of_names left right) h.5, h.6, h.7, h.8)
+      (h.0, h.1, kept left h.0 (first_of_names left (right ∷ [])) h.2, h.3, h.4, kept right h.3 (second_of_names left right) h.5, h.6, h.7, h.8)
 
 none_within : {X : Type 0} (x : X) → Contains [] x → ⊥
 none_within x h = omega (arith, h.1)

@@ -8,7 +8,7 @@ use crate::digits::all_digits;
 use crate::ints::split_sign;
 use crate::short_number::short_number_of;
 use crate::timestamps::{is_short, stamp_of};
-use crate::usual_token::{rare_timestamp, usual_timestamp};
+use crate::usual_token::{unusual_timestamp, usual_timestamp};
 use ion_atoms::{Decimal, Reason, Timestamp, Whole};
 
 /// A number, as a token spells it.
@@ -63,7 +63,7 @@ fn dated_answer(token: &[u8]) -> Result<Number, Reason>
 {
     match usual_timestamp(token) {
         Some(timestamp) => Ok(Number::Timestamp(timestamp)),
-        None => match rare_timestamp(token) {
+        None => match unusual_timestamp(token) {
             Some(timestamp) => Ok(Number::Timestamp(timestamp)),
             None => unusual_answer(token),
         },

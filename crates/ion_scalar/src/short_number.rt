@@ -98,7 +98,7 @@ fn short_body(negative: bool, body: &[u8]) -> Option<ShortNumber>
         return Some(short_int(negative, whole.value));
     }
     if body[whole.used] != b'.' {
-        return rare_body(negative, body, whole);
+        return unusual_body(negative, body, whole);
     }
     let behind = &body[whole.used + 1..];
     let fraction = plain_digits(behind, whole.value);
@@ -159,7 +159,7 @@ fn short_whole(body: &[u8]) -> Option<PlainDigits>
 
 // What has something else than a point behind its first digits.
 #[inline(always)]
-fn rare_body(negative: bool, body: &[u8], whole: PlainDigits) -> Option<ShortNumber>
+fn unusual_body(negative: bool, body: &[u8], whole: PlainDigits) -> Option<ShortNumber>
     requires run { PlainRun body.now 0 whole.used whole.value }
     requires whole { IsWholePart (take whole.used body.now) }
     requires more { whole.used < length body.now }
@@ -169,7 +169,7 @@ fn rare_body(negative: bool, body: &[u8], whole: PlainDigits) -> Option<ShortNum
 {
     match body[whole.used] {
         b'd' | b'D' => scaled_decimal(negative, whole.value, 0, &body[whole.used..]),
-        _ => match rare_magnitude(body, whole) {
+        _ => match unusual_magnitude(body, whole) {
             Some(magnitude) => Some(short_int(negative, magnitude)),
             None => None,
         },
@@ -275,7 +275,7 @@ fn exponent_sign(octets: &[u8]) -> (bool, &[u8])
 
 /// The number of an int that has `_` between its digits, or hexadecimal ones behind `0x`.
 #[inline(never)]
-fn rare_magnitude(body: &[u8], first: PlainDigits) -> Option<u64>
+fn unusual_magnitude(body: &[u8], first: PlainDigits) -> Option<u64>
     requires few { length body.now ≤ 19 }
     requires run { PlainRun body.now 0 first.used first.value }
     ensures { IfSome result (λ n. IsMagnitude body.now n) }

@@ -71,7 +71,7 @@ fn usual_second(token: &[u8]) -> Option<Timestamp>
 
 /// The timestamp of another form that a whole token spells, with few fraction digits or none.
 #[inline(never)]
-pub fn rare_timestamp(token: &[u8]) -> Option<Timestamp>
+pub fn unusual_timestamp(token: &[u8]) -> Option<Timestamp>
     ensures { IfSome result (λ t. IsTimestampToken token.now t × IsTimestamp t) }
 {
     match short_stamp(token) {

@@ -2,7 +2,7 @@
 use Rattle.std.proofs.Common.{◌≡◌, ℕ, zero, suc, ◌+◌, ◌-◌, ◌<◌, ◌≤◌, ◌⊎◌, inl, inr, MatchBool, List, [], ◌∷◌, ◌++◌, length, slice_get, refl, ap, sym, subst, ◌∙◌, arith, Bool, true, false, ◌&&◌, cond, Option, Some, None, option_map, option_to_list, append_assoc, append-nil, length-append}
 use Rattle.std.proofs.lemmas.Option.{slice_get_past}
 use lib.Pointwise.{pointwise}
-use Rattle.ion_streams.specs.Names.{Alike, Catalog, Course, Format, Heard, IfAlike, IfClosed, IfOpen, Inlet, IsMet, IsOpen, Items, Left, Limits, MayFollow, MetBoth, Parted, Refusal, Standing, Stood, ToldRefused, Value, Verdict, format_of, left_of, same, verdict_of, verdict_on, work_of}
+use Rattle.ion_streams.specs.Names.{Alike, Catalog, Course, Format, Heard, IfAlike, IfClosed, IfOpen, Inlet, IsMet, IsOpen, Items, Left, Limits, MayFollow, MetBoth, Parted, ReadState, Refusal, Stood, ToldRefused, Value, Verdict, format_of, left_of, same, verdict_of, verdict_on, work_of}
 use Rattle.ion_streams.specs.Compared.{IsCompared, IsVerdict, PartAt, parts}
 
 -- what a course says of the streams whole, of which the second two are still to come
@@ -11,7 +11,7 @@ Onward (Alike values) s t later_s later_t = parts s t ≡ option_map (λ n. n + 
 Onward (Parted index path) s t later_s later_t = PartAt index path s t
 
 -- s and t compared so, and nothing follows behind a document that is closed
-pub record Meets {X Y : Type 0} (course : Course) (left : Standing X) (right : Standing Y) (s t : List Value) : Type 0 where
+pub record Meets {X Y : Type 0} (course : Course) (left : ReadState X) (right : ReadState Y) (s t : List Value) : Type 0 where
   pub onward : (s' t' : List Value) → IfClosed left (s' ≡ []) → IfClosed right (t' ≡ []) → Onward course (s ++ s') (t ++ t') s' t'
   pub counted : IfAlike course (λ values. (length s ≡ values) × (length t ≡ values))
 
@@ -90,18 +90,18 @@ counted_more (Alike n) after (Some v) (Some w) s t h met = counted_both n v w af
 counted_more _ after _ _ s t h met = rw met tt
 
 -- nothing followed behind a document that is closed, and without a value it is closed
-closed_before : {X : Type 0} (before after : Standing X) (v : Option Value) (s : List Value) → IfClosed before ((after ≡ before) × (v ≡ None))
+closed_before : {X : Type 0} (before after : ReadState X) (v : Option Value) (s : List Value) → IfClosed before ((after ≡ before) × (v ≡ None))
     → IfClosed after (s ≡ []) → IfClosed before (option_to_list v ++ s ≡ [])
-closed_before (Standing.Open source) after v s h k = tt
-closed_before _ after v s h k = ap (λ (x : Option Value). option_to_list x ++ s) h.1 ∙ subst (λ (x : Standing _). IfClosed x (s ≡ [])) h.0 k
+closed_before (ReadState.Open source) after v s h k = tt
+closed_before _ after v s h k = ap (λ (x : Option Value). option_to_list x ++ s) h.1 ∙ subst (λ (x : ReadState _). IfClosed x (s ≡ [])) h.0 k
 
-closed_after : {X : Type 0} (after : Standing X) (v : Option Value) (s : List Value) → (v ≡ None → IfOpen after (λ source. ⊥)) → IfClosed after (s ≡ [])
+closed_after : {X : Type 0} (after : ReadState X) (v : Option Value) (s : List Value) → (v ≡ None → IfOpen after (λ source. ⊥)) → IfClosed after (s ≡ [])
     → v ≡ None → s ≡ []
-closed_after (Standing.Open source) v s h k none = absurd (h none)
+closed_after (ReadState.Open source) v s h k none = absurd (h none)
 closed_after _ v s h k none = k
 
 -- with the next value of each, or its end, two streams compare as the course behind it says
-pub meets_more : {X Y : Type 0} (course after : Course) (left left' : Standing X) (right right' : Standing Y) (s t : List Value) (v w : Option Value)
+pub meets_more : {X Y : Type 0} (course after : Course) (left left' : ReadState X) (right right' : ReadState Y) (s t : List Value) (v w : Option Value)
     → IsMet course v w after → Meets course left right s t →
     IfClosed left ((left' ≡ left) × (v ≡ None)) → IfClosed right ((right' ≡ right) × (w ≡ None)) → (v ≡ None → IfOpen left' (λ source. ⊥))
     → (w ≡ None → IfOpen right' (λ source. ⊥)) →
@@ -137,17 +137,17 @@ ended_all P octets more none h = subst P (sym (ap (λ x. octets ++ x) (none refl
 
 module _ {S X T Y : Type 0} (L : Inlet S) (I : Items X) (R : Inlet T) (J : Items Y) (g h : Catalog) (k l : Limits) where
   -- both are closed and the left is no refused one
-  pub closed_verdict : (left left_now : S) (right right_now : T) (left_place : Standing X) (right_place : Standing Y) (course : Course) (s t : List Value) →
+  pub closed_verdict : (left left_now : S) (right right_now : T) (left_place : ReadState X) (right_place : ReadState Y) (course : Course) (s t : List Value) →
       Stood L I g k left left_now left_place s → Stood R J h l right right_now right_place t →
-      Meets course left_place right_place s t → ((refusal : Refusal) → left_place ≡ Standing.Refused refusal → ⊥) → IfOpen left_place (λ source. ⊥)
+      Meets course left_place right_place s t → ((refusal : Refusal) → left_place ≡ ReadState.Refused refusal → ⊥) → IfOpen left_place (λ source. ⊥)
       → IfOpen right_place (λ source. ⊥) →
       IsCompared L R (format_of I g k) (format_of J h l) left left_now right right_now (verdict_of right_place course)
-  closed_verdict left left_now right right_now (Standing.Open source) right_place course s t a b meets kept closed_left closed_right = absurd closed_left
-  closed_verdict left left_now right right_now (Standing.Refused refusal) right_place course s t a b meets kept closed_left closed_right =
+  closed_verdict left left_now right right_now (ReadState.Open source) right_place course s t a b meets kept closed_left closed_right = absurd closed_left
+  closed_verdict left left_now right right_now (ReadState.Refused refusal) right_place course s t a b meets kept closed_left closed_right =
       absurd (kept refusal refl)
-  closed_verdict left left_now right right_now Standing.Ended (Standing.Open source) course s t a b meets kept closed_left closed_right =
+  closed_verdict left left_now right right_now ReadState.Ended (ReadState.Open source) course s t a b meets kept closed_left closed_right =
       absurd closed_right
-  closed_verdict left left_now right right_now Standing.Ended (Standing.Refused refusal) course s t a b meets kept closed_left closed_right =
+  closed_verdict left left_now right right_now ReadState.Ended (ReadState.Refused refusal) course s t a b meets kept closed_left closed_right =
       record {
         l = a.octets;
         left_ended = true;
@@ -157,7 +157,7 @@ module _ {S X T Y : Type 0} (L : Inlet S) (I : Items X) (R : Inlet T) (J : Items
         heard_right = b.heard;
         decided = λ more_l more_r none_l none_r. ((s, ended_all (λ x. I.denotes g k x s) a.octets more_l none_l a.denoted), (t, b.refused more_r none_r));
       }
-  closed_verdict left left_now right right_now Standing.Ended Standing.Ended course s t a b meets kept closed_left closed_right =
+  closed_verdict left left_now right right_now ReadState.Ended ReadState.Ended course s t a b meets kept closed_left closed_right =
       record {
         l = a.octets;
         left_ended = true;
@@ -172,14 +172,14 @@ module _ {S X T Y : Type 0} (L : Inlet S) (I : Items X) (R : Inlet T) (J : Items
       }
 
   -- what was heard of a device, wherever its document stands
-  stood_heard : (right right_now : T) (right_place : Standing Y) (t : List Value) → Stood R J h l right right_now right_place t → (octets : List ℕ)
+  stood_heard : (right right_now : T) (right_place : ReadState Y) (t : List Value) → Stood R J h l right right_now right_place t → (octets : List ℕ)
       × (ended : Bool) × Heard R right right_now octets ended
-  stood_heard right right_now (Standing.Open source) t b = (b.each.u ++ left_of source, source.ended, b.each.heard)
-  stood_heard right right_now Standing.Ended t b = (b.octets, true, b.heard)
-  stood_heard right right_now (Standing.Refused refusal) t b = (b.octets, b.ended, b.heard)
+  stood_heard right right_now (ReadState.Open source) t b = (b.each.u ++ left_of source, source.ended, b.each.heard)
+  stood_heard right right_now ReadState.Ended t b = (b.octets, true, b.heard)
+  stood_heard right right_now (ReadState.Refused refusal) t b = (b.octets, b.ended, b.heard)
 
   -- the left is refused, wherever the right stands
-  pub left_refused : (left left_now : S) (right right_now : T) (right_place : Standing Y) (s t : List Value) (refusal : Refusal)
+  pub left_refused : (left left_now : S) (right right_now : T) (right_place : ReadState Y) (s t : List Value) (refusal : Refusal)
       → ToldRefused L (format_of I g k) left left_now s refusal →
       Stood R J h l right right_now right_place t → IsCompared L R (format_of I g k) (format_of J h l) left left_now right right_now
       (Verdict.Refused Left refusal)
@@ -195,18 +195,18 @@ module _ {S X T Y : Type 0} (L : Inlet S) (I : Items X) (R : Inlet T) (J : Items
         decided = λ more_l more_r none_l none_r. (s, a.refused more_l none_l);
       }
 
-work_kept : {X : Type 0} (I : Items X) (before after : Standing X) (P : Type 0) → IfOpen before (λ source. work_of I after < work_of I before)
+work_kept : {X : Type 0} (I : Items X) (before after : ReadState X) (P : Type 0) → IfOpen before (λ source. work_of I after < work_of I before)
     → IfClosed before ((after ≡ before) × P) → work_of I after ≤ work_of I before
-work_kept I (Standing.Open source) after P h k = omega (arith, h)
-work_kept I _ after P h k = let e = ap (λ (x : Standing _). work_of I x) k.0 in omega (arith, e)
+work_kept I (ReadState.Open source) after P h k = omega (arith, h)
+work_kept I _ after P h k = let e = ap (λ (x : ReadState _). work_of I x) k.0 in omega (arith, e)
 
-work_open : {X : Type 0} (I : Items X) (before after : Standing X) → IsOpen before → IfOpen before (λ source. work_of I after < work_of I before)
+work_open : {X : Type 0} (I : Items X) (before after : ReadState X) → IsOpen before → IfOpen before (λ source. work_of I after < work_of I before)
     → work_of I after < work_of I before
-work_open I (Standing.Open source) after opened h = h
+work_open I (ReadState.Open source) after opened h = h
 work_open I _ after opened h = absurd opened
 
 -- where one document at least is still being read, a step of both leaves less work
-pub works_less : {X Y : Type 0} (I : Items X) (J : Items Y) (left left' : Standing X) (right right' : Standing Y) (P Q : Type 0) → IsOpen left ⊎ IsOpen right →
+pub works_less : {X Y : Type 0} (I : Items X) (J : Items Y) (left left' : ReadState X) (right right' : ReadState Y) (P Q : Type 0) → IsOpen left ⊎ IsOpen right →
     IfOpen left (λ source. work_of I left' < work_of I left) → IfClosed left ((left' ≡ left) × P) →
     IfOpen right (λ source. work_of J right' < work_of J right) → IfClosed right ((right' ≡ right) × Q) →
     work_of I left' + work_of J right' < work_of I left + work_of J right

@@ -2,20 +2,20 @@
 use Rattle.std.proofs.Common.{◌≡◌, ℕ, List, [], ◌∷◌, ◌++◌, length, false, Option, Some, None, inr, append-nil, ap, sym, subst, ◌∙◌}
 use Rattle.std.proofs.lemmas.Grind.{flat_map-append}
 use Rattle.std.proofs.lemmas.List.{length-map, map-append}
-use Rattle.ion_streams.specs.Names.{Catalog, Ended, Event, IfOpen, Inlet, IsReady, IsWithin, Items, Led, Limits, NoReadFailed, NoneFailed, Open, Refused, Source, Standing, ToldNext, Value, answered, ended, events_of, format_of, plain, stream_events, telling}
+use Rattle.ion_streams.specs.Names.{Catalog, Ended, Event, IfOpen, Inlet, IsReady, IsWithin, Items, Led, Limits, NoReadFailed, NoneFailed, Open, PieceReader, ReadState, Refused, ToldNext, Value, answered, ended, events_of, format_of, plain, stream_events, telling}
 use Rattle.ion_visiting.specs.laws.Led.{led_both, led_more}
 use Rattle.ion_streams.specs.Checked.{IsVisited}
 use Rattle.ion_streams.proofs.Steps.{stood_plain}
 use Rattle.ion_streams.proofs.Unfailed.{StandsHeard, stands_heard}
 
 -- it can be read on where it is open, no read failed, and so many calls of read were to be made at most
-pub record Driven {S X : Type 0} (R : Inlet S) (I : Items X) (reads : ℕ) (first now : S) (place : Standing X) : Type 0 where
+pub record Driven {S X : Type 0} (R : Inlet S) (I : Items X) (reads : ℕ) (first now : S) (place : ReadState X) : Type 0 where
   pub ready : IfOpen place (IsReady I)
   pub heard : StandsHeard I R place now
   pub within : IfOpen place (IsWithin R reads first now)
 
--- what `Source::new` gives
-pub record IsNew {X : Type 0} (items : X) (reads : ℕ) (source : Source X) : Type 0 where
+-- what `PieceReader::new` gives
+pub record IsNew {X : Type 0} (items : X) (reads : ℕ) (source : PieceReader X) : Type 0 where
   pub same : source.items ≡ items
   pub nothing : (source.at ≡ 0) × (source.end ≡ 0) × (source.used ≡ 0)
   pub piece : length source.piece.items ≡ 4096
@@ -24,7 +24,7 @@ pub record IsNew {X : Type 0} (items : X) (reads : ℕ) (source : Source X) : Ty
 
 module _ {S X : Type 0} (R : Inlet S) (I : Items X) where
   -- it was read on
-  pub driven_on : (reads : ℕ) (first old now : S) (place after : Standing X) → Driven R I reads first old place → IfOpen after (IsReady I)
+  pub driven_on : (reads : ℕ) (first old now : S) (place after : ReadState X) → Driven R I reads first old place → IfOpen after (IsReady I)
       → NoReadFailed R old now → IfOpen place (λ source. NoneFailed R I old source → R.has_failed now ≡ false) →
       ((first : S) (reads : ℕ) → IfOpen place (IsWithin R reads first old) → IfOpen after (IsWithin R reads first now)) → Driven R I reads first now after
   driven_on reads first old now place after d ready unasked answered within =
@@ -48,7 +48,7 @@ module _ {V : Type 0} (takes : V → Event → V → Type 0) where
       subst (λ (es : List Event). Led takes es a b) (sym values) all
 
   -- what is answered of a document that can't be read on
-  pub visited_at : {S X : Type 0} (R : Inlet S) (I : Items X) (g : Catalog) (l : Limits) (first now : S) (place : Standing X) (given : List (Value × ℕ)) (found : Option ℕ)
+  pub visited_at : {S X : Type 0} (R : Inlet S) (I : Items X) (g : Catalog) (l : Limits) (first now : S) (place : ReadState X) (given : List (Value × ℕ)) (found : Option ℕ)
       (values : ℕ) (a m b : V) → found ≡ None → IfOpen place (λ source. ⊥) → length given ≡ values → Led takes (stream_events (plain given)) a m
       → ToldNext takes I R g l first now place given found m b → IsVisited takes R (format_of I g l) first now a b (answered place values)
   visited_at R I g l first now place given (Some used) values a m b none closed count heard h = absurd cc

@@ -1,7 +1,7 @@
 -- What a writer took, one line after another.
 use Rattle.std.proofs.Common.{◌≡◌, ℕ, ◌+◌, List, [], ◌∷◌, ◌++◌, length, ap, sym, ◌∙◌, arith, append-nil, append_assoc}
 use Rattle.std.proofs.lemmas.List.{map-append, length-map}
-use Rattle.ion_streams.specs.Names.{Catalog, Event, GaveSoFar, Inlet, Items, Limits, Outlet, Outline, ShowsSoFar, Standing, Stood, TookFront, Value, accepted_line, at_end, at_refusal, in_reading, left_of, line_of, lines_from, lines_of, outline_of, plain, telling}
+use Rattle.ion_streams.specs.Names.{Catalog, Event, GaveSoFar, Inlet, Items, Limits, Outlet, Outline, ReadState, ShowsSoFar, Stood, TookFront, Value, accepted_line, at_end, at_refusal, in_reading, left_of, line_of, lines_from, lines_of, outline_of, plain, telling}
 use Rattle.ion_symtab.specs.laws.Took.{Front-more}
 
 lines_more : (index : ℕ) (s t : List Value) → lines_from index (s ++ t) ≡ lines_from index s ++ lines_from (index + length s) t
@@ -46,9 +46,9 @@ gave_told R I g l first now s es stands h =
 
 module _ {S X T : Type 0} (R : Inlet S) (I : Items X) (W : Outlet T) (g : Catalog) (l : Limits) (stands : OneStands I) where
   -- a front of the lines so far, wherever the document stands between two values
-  pub so_far : (first now : S) (old new : T) (place : Standing X) (s : List Value) → Stood R (telling I []) g l first now place s
+  pub so_far : (first now : S) (old new : T) (place : ReadState X) (s : List Value) → Stood R (telling I []) g l first now place s
       → TookFront W.took W.written old new (lines_of s) → ShowsSoFar R I W g l first now old new
-  so_far first now old new (Standing.Open source) s h front =
+  so_far first now old new (ReadState.Open source) s h front =
       in_reading s (gave_told R I g l first now s [] stands (record { items = source.items; left = left_of source; ended = source.ended; gave = h })) front
-  so_far first now old new (Standing.Refused refusal) s h front = at_refusal s refusal h front
-  so_far first now old new Standing.Ended s h front = at_end s h (Front-more W.took W.written old new (lines_of s) (accepted_line (length s)) front)
+  so_far first now old new (ReadState.Refused refusal) s h front = at_refusal s refusal h front
+  so_far first now old new ReadState.Ended s h front = at_end s h (Front-more W.took W.written old new (lines_of s) (accepted_line (length s)) front)

@@ -1,6 +1,6 @@
 -- Catalogs that are loaded value by value.
 use Rattle.std.proofs.Common.{◌≡◌, ℕ, List, [], ◌∷◌, ◌++◌, length, refl, ap, sym, subst, ◌∙◌, Option, Some, None, IfSome, IsNone, Result, Ok, Err, inl, true, append_assoc, append-nil}
-use Rattle.ion_streams.specs.Names.{Begins, Catalog, Grows, IfOpen, Inlet, IsCatalog, IsFront, IsLoaded, IsReady, Items, Limits, MayFollow, Reason, Refusal, Standing, StoodEach, Table, Trace, Value, added, catalog_of, format_of, given_last, left_of, then_at}
+use Rattle.ion_streams.specs.Names.{Begins, Catalog, Grows, IfOpen, Inlet, IsCatalog, IsFront, IsLoaded, IsReady, Items, Limits, MayFollow, ReadState, Reason, Refusal, StoodEach, Table, Trace, Value, added, catalog_of, format_of, given_last, left_of, then_at}
 
 -- values behind others that describe tables
 ok_behind : (r : Result (List Table) Reason) (total : ℕ) (f g : List Table → Result (List Table) Refusal) (h : List Table → Result (List Table) Refusal)
@@ -55,10 +55,10 @@ module _ {S X : Type 0} (R : Inlet S) (I : Items X) (g : Catalog) (l : Limits) w
       ((r : X) (u : List ℕ) (given : List (Value × ℕ)) → I.stands r u given → IsNone (I.awaits r) → (I.trace (I.catalog r) (I.limits r) u).given ≡ given) →
       ((r : X) (u : List ℕ) (given : List (Value × ℕ)) → I.stands r u given
       → IfSome (I.awaits r) (λ octet. IsFront given (I.trace (I.catalog r) (I.limits r) (u ++ octet ∷ [])).given)) →
-      (first now : S) (place : Standing X) (given : List (Value × ℕ)) (refusal : Refusal) → StoodEach R I g l first now place given → IfOpen place (IsReady I)
+      (first now : S) (place : ReadState X) (given : List (Value × ℕ)) (refusal : Refusal) → StoodEach R I g l first now place given → IfOpen place (IsReady I)
       → catalog_of [] given ≡ Err refusal →
       IsLoaded R (format_of I g l) first now (Err refusal)
-  value_refused settled so_far with_next first now (Standing.Open source) given refusal h ready e =
+  value_refused settled so_far with_next first now (ReadState.Open source) given refusal h ready e =
       record {
         octets = h.u ++ left_of source;
         ended = source.ended;
@@ -70,12 +70,12 @@ module _ {S X : Type 0} (R : Inlet S) (I : Items X) (g : Catalog) (l : Limits) w
             let last = given_last (I.trace g l w).ends (length w) in
             inl (catalog_err [] (I.trace g l w).given last refusal (ap (λ x. catalog_of [] x) front.1 ∙ catalog_err [] given front.0 refusal e));
       }
-  value_refused settled so_far with_next first now Standing.Ended given refusal h ready e =
+  value_refused settled so_far with_next first now ReadState.Ended given refusal h ready e =
       record {
         octets = h.octets;
         ended = true;
         heard = h.heard;
         decided = λ more none. ended_all (λ x. IsCatalog (format_of I g l) x (Err refusal)) h.octets more none (inl (ap (λ x. catalog_of [] x) h.ends.all ∙ e));
       }
-  value_refused settled so_far with_next first now (Standing.Refused early) given refusal h ready e =
+  value_refused settled so_far with_next first now (ReadState.Refused early) given refusal h ready e =
       record { octets = h.octets; ended = h.ended; heard = h.heard; decided = λ more may. inl (ap (λ x. catalog_of [] x) (h.ends more may).all ∙ e) }

@@ -1,7 +1,7 @@
 -- Pieces of octets that are used from the front.
 use Rattle.std.proofs.Common.{◌≡◌, ℕ, ◌+◌, ◌-◌, ◌≤◌, List, [], ◌++◌, take, drop, refl, ap, sym, subst, ◌∙◌, arith, Option, Some, None, IsNone, append_assoc}
 use Rattle.std.proofs.lemmas.List.{take-append-drop, drop-take, drop-drop}
-use Rattle.ion_streams.specs.Names.{Begins, Items, Source, Value, Went, between, given_at, left_of}
+use Rattle.ion_streams.specs.Names.{Begins, Items, PieceReader, Value, Went, between, given_at, left_of}
 
 pub between_drop : (piece : List ℕ) (at end used : ℕ) → used ≤ end - at → drop used (between piece at end) ≡ between piece (at + used) end
 between_drop piece at end used h =
@@ -19,7 +19,7 @@ pub between_nil : (piece : List ℕ) (at end : ℕ) → end ≤ at → between p
 between_nil piece at end h = let e : end - at ≡ 0 = omega arith in ap (λ n. take n (drop at piece)) e
 
 -- octets used from the front of what is left of a piece lead on, with the value that they gave
-pub went : {X : Type 0} (I : Items X) (u : List ℕ) (given : List (Value × ℕ)) (piece : List ℕ) (at end used total : ℕ) (after : Source X) (value : Option Value)
+pub went : {X : Type 0} (I : Items X) (u : List ℕ) (given : List (Value × ℕ)) (piece : List ℕ) (at end used total : ℕ) (after : PieceReader X) (value : Option Value)
     →
     used ≤ end - at → left_of after ≡ between piece (at + used) end → total ≡ after.used
     → I.stands after.items (u ++ take used (between piece at end)) (given ++ given_at value total) → Went I u given (between piece at end) after value

@@ -3,7 +3,7 @@ use Rattle.std.proofs.Common.{◌≡◌, ℕ, ◌+◌, ◌-◌, ◌≤◌, ◌<�
 use Rattle.std.proofs.lemmas.List.{drop-take, take-take, drop-append-le, take-append-le, length-take-le}
 use Rattle.std.proofs.lemmas.Bool.Decides.{nat_tests}
 use Rattle.std.proofs.Math.Seq.{take-append-add}
-use Rattle.ion_streams.specs.Names.{AnsweredEnd, HasToAsk, Heard, Inlet, Items, NoReadFailed, NoneFailed, Source, between}
+use Rattle.ion_streams.specs.Names.{AnsweredEnd, HasToAsk, Heard, Inlet, Items, NoReadFailed, NoneFailed, PieceReader, between}
 use Rattle.ion_symtab.specs.Told.{Told}
 
 cut_front : (piece : List ℕ) (at end : ℕ) → at ≤ end → drop at (take end piece) ≡ between piece at end
@@ -61,12 +61,12 @@ module _ {S : Type 0} (R : Inlet S) (old new : S) where
 
 module _ {S X : Type 0} (R : Inlet S) (I : Items X) where
   -- a device whose end was answered before isn't asked again
-  pub ended_unasked : (old now new : S) (source : Source X) → NoReadFailed R old now → (R.has_failed new ≡ false) ⊎ ((new ≡ now) × (source.ended ≡ true))
+  pub ended_unasked : (old now new : S) (source : PieceReader X) → NoReadFailed R old now → (R.has_failed new ≡ false) ⊎ ((new ≡ now) × (source.ended ≡ true))
       → NoReadFailed R old new
   ended_unasked old now new source before (inl fine) = record { either = inr fine }
   ended_unasked old now new source before (inr both) = subst (λ x. NoReadFailed R old x) (sym both.0) before
 
-  pub ended_heard : (now new : S) (source : Source X) → NoneFailed R I now source → (R.has_failed new ≡ false) ⊎ ((new ≡ now) × (source.ended ≡ true))
+  pub ended_heard : (now new : S) (source : PieceReader X) → NoneFailed R I now source → (R.has_failed new ≡ false) ⊎ ((new ≡ now) × (source.ended ≡ true))
       → R.has_failed new ≡ false
   ended_heard now new source before (inl fine) = fine
   ended_heard now new source before (inr both) = ap (λ x. R.has_failed x) both.0 ∙ go before.either

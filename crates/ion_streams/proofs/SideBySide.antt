@@ -1,13 +1,13 @@
 -- Two documents that are read in turn, and the values that are written down of both.
 use Rattle.std.proofs.Common.{◌≡◌, ◌⊎◌, ℕ, ◌+◌, ◌*◌, ◌<◌, ◌≤◌, ◌^◌, List, [], ◌∷◌, ◌++◌, length, refl, sym, subst, ◌∙◌, append-nil, Bool, true, false, Result, Ok, Option, Some, None, IfSome, IsNone, is_some, option_to_list}
-use Rattle.ion_streams.specs.Names.{AreHeld, AtOneEnd, Catalog, Course, Ended, Fault, Grows, HandedOn, HasTold, HeldNext, IfAlike, IfClosed, IfOpen, Inlet, IsFront, IsInTurn, IsMet, IsOpen, IsReady, IsWithin, Items, Limits, Open, Refused, Sought, Standing, Stood, StoodEach, Value, count_of, format_of, reads_of, telling, work_of}
+use Rattle.ion_streams.specs.Names.{AreHeld, AtOneEnd, Catalog, Course, Ended, Fault, Grows, HandedOn, HasTold, HeldNext, IfAlike, IfClosed, IfOpen, Inlet, IsFront, IsInTurn, IsMet, IsOpen, IsReady, IsWithin, Items, Limits, Open, ReadState, Refused, Sought, Stood, StoodEach, Value, count_of, format_of, reads_of, telling, work_of}
 use Rattle.ion_streams.proofs.Courses.{Meets, meets_more}
 use Rattle.ion_streams.proofs.Steps.{plain_next, stood_plain}
 use Rattle.ion_streams.proofs.Turns.{Turn, WasAsked, ahead, in_turn, left_on, level_on, right_on, stood_end}
 use Rattle.ion_streams.proofs.Unfailed.{StandsHeard, StandsHeardSince}
 
 -- what is answered of a document that is closed: no more, and all is as it was
-abbrev pub Closed : {S X : Type 0} → S → S → Standing X → Standing X → Option ℕ → Type 0
+abbrev pub Closed : {S X : Type 0} → S → S → ReadState X → ReadState X → Option ℕ → Type 0
 Closed old now place after found = IfClosed place ((◌≡◌ {A = Result (Option ℕ) Fault} (Ok found) (Ok None)) × (now ≡ old) × (after ≡ place))
 
 -- where no value was told, none was found
@@ -20,18 +20,18 @@ none_told None None is none = refl
 none_told _ _ is none = absurd cc
 
 -- a document that is closed stays as it is, and tells nothing
-pub closed_same : {S X : Type 0} (old now : S) (place after : Standing X) (found : Option ℕ) (v : Option Value) → is_some v ≡ is_some found
+pub closed_same : {S X : Type 0} (old now : S) (place after : ReadState X) (found : Option ℕ) (v : Option Value) → is_some v ≡ is_some found
     → Closed old now place after found → IfClosed place ((after ≡ place) × (v ≡ None))
 closed_same old now (Open source) after found v is h = tt
 closed_same old now _ after found v is h = let none : found ≡ None = let e = h.0 in cc in (h.2, none_told found v is none)
 
-pub closed_kept : {S X : Type 0} (old now : S) (place after : Standing X) (found : Option ℕ) → Closed old now place after found
+pub closed_kept : {S X : Type 0} (old now : S) (place after : ReadState X) (found : Option ℕ) → Closed old now place after found
     → IfClosed place ((after ≡ place) × (now ≡ old))
 closed_kept old now (Open source) after found h = tt
 closed_kept old now _ after found h = (h.2, h.1)
 
 -- where two values are told of streams that didn't part, they were to be compared, and the tapes hold them
-pub are_held : {X Y : Type 0} (course : Course) (left left' : Standing X) (right right' : Standing Y) (compared : Bool) (P Q : Value → Type 0) (v w : Option Value)
+pub are_held : {X Y : Type 0} (course : Course) (left left' : ReadState X) (right right' : ReadState Y) (compared : Bool) (P Q : Value → Type 0) (v w : Option Value)
     → (compared ≡ false → IfAlike course (λ n. IfOpen left (λ source. IfOpen right (λ source. ⊥)))) → IfClosed left ((left' ≡ left) × (v ≡ None))
     → IfClosed right ((right' ≡ right) × (w ≡ None)) → IfSome v (λ x. compared ≡ true → P x) → IfSome w (λ x. compared ≡ true → Q x)
     → IfAlike course (λ n. AreHeld P Q v w)
@@ -44,20 +44,20 @@ are_held (Course.Alike n) (Refused r) left' right right' false P Q (Some v) (Som
 are_held _ left left' right right' compared P Q _ _ not a b h k = tt
 
 -- a document that can be read on can be walked on
-pub ready_told : {X : Type 0} (I : Items X) (place : Standing X) → IfOpen place (IsReady I) → IfOpen place (IsReady (telling I []))
+pub ready_told : {X : Type 0} (I : Items X) (place : ReadState X) → IfOpen place (IsReady I) → IfOpen place (IsReady (telling I []))
 ready_told I (Open source) h = record { within = h.within; fits = h.fits; piece = h.piece; room = h.room; begins = h.begins; counted = h.counted }
 ready_told I _ h = tt
 
 module _ {S X : Type 0} (R : Inlet S) (I : Items X) (g : Catalog) (l : Limits) (first : S) where
   -- Behind s one more was told or none, as was found, and this is so of it.
-  pub record NextHeld (P : Value → Type 0) (found : Option ℕ) (now : S) (after : Standing X) (s : List Value) : Type 0 where
+  pub record NextHeld (P : Value → Type 0) (found : Option ℕ) (now : S) (after : ReadState X) (s : List Value) : Type 0 where
     pub value : Option Value
     pub is : is_some value ≡ is_some found
     pub there : IfSome value P
     pub stood : Stood R (telling I []) g l first now after (s ++ option_to_list value)
 
   -- a document that was read on
-  pub taped : (old now : S) (place after : Standing X) (s : List Value) (P : Value → Type 0) (found : Option ℕ) → Closed old now place after found
+  pub taped : (old now : S) (place after : ReadState X) (s : List Value) (P : Value → Type 0) (found : Option ℕ) → Closed old now place after found
       → ((given : List (Value × ℕ)) → StoodEach R (telling I []) g l first old place given → HeldNext P R I g l first now after given found)
       → Stood R (telling I []) g l first old place s → NextHeld P found now after s
   taped old now (Open source) after s P found closed tells h = go found (tells h.given h.each)
@@ -85,10 +85,10 @@ module _ {S X : Type 0} (R : Inlet S) (I : Items X) (g : Catalog) (l : Limits) (
           let none : found ≡ None = cc in
           rw none (record { value = None; is = refl; there = tt; stood = rw (same, kept, append-nil s) h })
 
-module _ {S T X Y : Type 0} (L : Inlet S) (R : Inlet T) (I : Items X) (J : Items Y) (first_left : S) (first_right : T) (left_begun : Standing X)
-    (right_begun : Standing Y) where
+module _ {S T X Y : Type 0} (L : Inlet S) (R : Inlet T) (I : Items X) (J : Items Y) (first_left : S) (first_right : T) (left_begun : ReadState X)
+    (right_begun : ReadState Y) where
   -- how far both were read, and how they compare so far
-  pub record SideBySide (course : Course) (left : S) (right : T) (left_place : Standing X) (right_place : Standing Y) : Type 0 where
+  pub record SideBySide (course : Course) (left : S) (right : T) (left_place : ReadState X) (right_place : ReadState Y) : Type 0 where
     pub left_ready : IfOpen left_place (IsReady I)
     pub right_ready : IfOpen right_place (IsReady J)
     pub left_within : (reads : ℕ) → IfOpen left_begun (IsWithin L reads first_left first_left) → IfOpen left_place (IsWithin L reads first_left left)
@@ -109,7 +109,7 @@ module _ {S T X Y : Type 0} (L : Inlet S) (R : Inlet T) (I : Items X) (J : Items
         × Turn L R (telling I []) (telling J []) left_catalog right_catalog left_limits right_limits first_left first_right left_place left right s t
 
   -- the left was read on, and told a value or its end
-  pub record LeftOn (g h : Catalog) (k l : Limits) (course : Course) (left : S) (right : T) (left_place left_after : Standing X) (right_place : Standing Y)
+  pub record LeftOn (g h : Catalog) (k l : Limits) (course : Course) (left : S) (right : T) (left_place left_after : ReadState X) (right_place : ReadState Y)
       (P : Value → Type 0) (found : Option ℕ) : Type 0 where
     pub s : List Value
     pub t : List Value
@@ -120,12 +120,12 @@ module _ {S T X Y : Type 0} (L : Inlet S) (R : Inlet T) (I : Items X) (J : Items
     pub asked : WasAsked L R (telling I []) (telling J []) g h k l first_left first_right left_after left right
 
   -- and then the right
-  pub record BothOn (g h : Catalog) (k l : Limits) (left : S) (right : T) (left_after : Standing X) (right_after : Standing Y) (P : Value → Type 0)
+  pub record BothOn (g h : Catalog) (k l : Limits) (left : S) (right : T) (left_after : ReadState X) (right_after : ReadState Y) (P : Value → Type 0)
       (found : Option ℕ) (s t : List Value) : Type 0 where
     pub next : NextHeld R J h l first_right P found right right_after t
     pub turn : Turn L R (telling I []) (telling J []) g h k l first_left first_right left_after left right s (t ++ option_to_list next.value)
 
-  module _ {g h : Catalog} {k l : Limits} {course : Course} {left_now : S} {right : T} {left_place left_after : Standing X} {right_place : Standing Y}
+  module _ {g h : Catalog} {k l : Limits} {course : Course} {left_now : S} {right : T} {left_place left_after : ReadState X} {right_place : ReadState Y}
       {P : Value → Type 0} {found : Option ℕ} where
     -- they were asked in turn, and each answered one end at most
     pub left_in_turn : LeftOn g h k l course left_now right left_place left_after right_place P found
@@ -139,7 +139,7 @@ module _ {S T X Y : Type 0} (L : Inlet S) (R : Inlet T) (I : Items X) (J : Items
       ),
     )
 
-    pub both_in_turn : {right_now : T} {right_after : Standing Y} {Q : Value → Type 0} {other : Option ℕ}
+    pub both_in_turn : {right_now : T} {right_after : ReadState Y} {Q : Value → Type 0} {other : Option ℕ}
         → (on : LeftOn g h k l course left_now right left_place left_after right_place P found)
         → BothOn g h k l left_now right_now left_after right_after Q other (on.s ++ option_to_list on.next.value) on.t
         → IsInTurn L R (format_of I g k) (format_of J h l) first_left left_now first_right right_now
@@ -153,7 +153,7 @@ module _ {S T X Y : Type 0} (L : Inlet S) (R : Inlet T) (I : Items X) (J : Items
     )
 
   module _ (settled : (g : Catalog) (k : Limits) (u w : List ℕ) → Grows (I.trace g k u) (I.trace g k (u ++ w))) where
-    pub left_goes : (course : Course) (left left_now : S) (right : T) (left_place left_after : Standing X) (right_place : Standing Y)
+    pub left_goes : (course : Course) (left left_now : S) (right : T) (left_place left_after : ReadState X) (right_place : ReadState Y)
         (P : Value → Type 0) (found : Option ℕ) → SideBySide course left right left_place right_place
         → Closed left left_now left_place left_after found →
         ((g : Catalog) (k : Limits) (first : S) (given : List (Value × ℕ)) → StoodEach L (telling I []) g k first left left_place given
@@ -180,7 +180,7 @@ module _ {S T X Y : Type 0} (L : Inlet S) (R : Inlet T) (I : Items X) (J : Items
         → (I.trace (I.catalog r) (I.limits r) u).given ≡ given) →
         ((r : X) (u : List ℕ) (given : List (Value × ℕ)) → I.told r u given []
         → IfSome (I.awaits r) (λ octet. IsFront given (I.trace (I.catalog r) (I.limits r) (u ++ octet ∷ [])).given)) →
-        (course : Course) (left : S) (right right_now : T) (left_place left_after : Standing X) (right_place right_after : Standing Y)
+        (course : Course) (left : S) (right right_now : T) (left_place left_after : ReadState X) (right_place right_after : ReadState Y)
         (P Q : Value → Type 0) (left_found found : Option ℕ) → IfOpen left_after (IsReady I)
         → ((refusal : _) → left_after ≡ Refused refusal → ⊥) → Closed right right_now right_place right_after found →
         ((h : Catalog) (l : Limits) (first : T) (given : List (Value × ℕ)) → StoodEach R (telling J []) h l first right right_place given
@@ -203,7 +203,7 @@ module _ {S T X Y : Type 0} (L : Inlet S) (R : Inlet T) (I : Items X) (J : Items
         }
 
     -- with the next value of each, or its end, two streams compare as the course behind it says
-    pub both_met : (course after : Course) (left left_now : S) (right right_now : T) (left_place left_after : Standing X) (right_place right_after : Standing Y)
+    pub both_met : (course after : Course) (left left_now : S) (right right_now : T) (left_place left_after : ReadState X) (right_place right_after : ReadState Y)
         (compared : Bool) (P Q : Value → Type 0) (found other : Option ℕ) (gave other_gave : Bool)
         → (compared ≡ false → IfAlike course (λ n. IfOpen left_place (λ source. IfOpen right_place (λ source. ⊥)))) →
         ((v w : Option Value) → is_some v ≡ gave → is_some w ≡ other_gave → IfAlike course (λ n. AreHeld P Q v w) → IsMet course v w after) →

@@ -1,7 +1,7 @@
 -- How far a document has been read, step by step.
 use Rattle.std.proofs.Common.{◌≡◌, ◌⊎◌, inl, inr, ℕ, ◌+◌, ◌^◌, ◌≤◌, List, [], ◌∷◌, ◌++◌, length, refl, ap, sym, subst, ◌∙◌, arith, Bool, true, false, Option, Some, None, option_map, option_to_list, append-nil, append_assoc, Result, Ok, Err, OnErr}
 use Rattle.std.proofs.lemmas.List.{map-append}
-use Rattle.ion_streams.specs.Names.{Begins, Catalog, EndsRefused, Fills, GaveEach, GaveSoFar, Heard, IfRefused, Inlet, IsReady, IsWithin, Items, Limits, MatchClosed, Reads, ReadsEach, Refills, Refusal, Source, Standing, Stood, StoodEach, ToldEach, ToldRefusedEach, Value, Went, format_of, given_at, left_of, plain}
+use Rattle.ion_streams.specs.Names.{Begins, Catalog, EndsRefused, Fills, GaveEach, GaveSoFar, Heard, IfRefused, Inlet, IsReady, IsWithin, Items, Limits, MatchClosed, PieceReader, ReadState, Reads, ReadsEach, Refills, Refusal, Stood, StoodEach, ToldEach, ToldRefusedEach, Value, Went, format_of, given_at, left_of, plain}
 use Rattle.ion_symtab.specs.laws.Causes.{WereMade-nil}
 use Rattle.ion_symtab.specs.laws.Heard.{Heard-end, Heard-nil, Heard-trans}
 use Rattle.ion_streams.specs.Outcomes.{EndsWell}
@@ -25,7 +25,7 @@ plain_next given found value s values same =
 
 module _ {S X : Type 0} (R : Inlet S) (I : Items X) (g : Catalog) (l : Limits) where
   -- some octets were used; of the reader something else may be known behind them
-  pub reads_by : (J : Items X) (first now : S) (source after : Source X) (given : List (Value × ℕ)) (value : Option Value)
+  pub reads_by : (J : Items X) (first now : S) (source after : PieceReader X) (given : List (Value × ℕ)) (value : Option Value)
       (h : ReadsEach R I g l first now source given) → Went J h.u given (left_of source) after value →
       J.catalog after.items ≡ I.catalog source.items → J.limits after.items ≡ I.limits source.items → after.ended ≡ source.ended
       → ReadsEach R J g l first now after (given ++ given_at value after.used)
@@ -40,7 +40,7 @@ module _ {S X : Type 0} (R : Inlet S) (I : Items X) (g : Catalog) (l : Limits) w
       }
 
   -- behind octets that were used, a document gave the value that they gave
-  pub reads_went : (first now : S) (source after : Source X) (given : List (Value × ℕ)) (value : Option Value) → ReadsEach R I g l first now source given →
+  pub reads_went : (first now : S) (source after : PieceReader X) (given : List (Value × ℕ)) (value : Option Value) → ReadsEach R I g l first now source given →
       ((u : List ℕ) (given : List (Value × ℕ)) → I.stands source.items u given → Went I u given (left_of source) after value) →
       I.catalog after.items ≡ I.catalog source.items → I.limits after.items ≡ I.limits source.items → after.ended ≡ source.ended
       → ReadsEach R I g l first now after (given ++ given_at value after.used)
@@ -48,7 +48,7 @@ module _ {S X : Type 0} (R : Inlet S) (I : Items X) (g : Catalog) (l : Limits) w
       reads_by I first now source after given value h (go h.u given h.stood) under within ended
 
   -- the device was asked again, and more octets stand behind those that were left
-  pub reads_filled : (first now new : S) (source after : Source X) (more : List ℕ) (ended : Bool) (given : List (Value × ℕ))
+  pub reads_filled : (first now new : S) (source after : PieceReader X) (more : List ℕ) (ended : Bool) (given : List (Value × ℕ))
       → ReadsEach R I g l first now source given → source.ended ≡ false → Heard R now new more ended →
       left_of after ≡ left_of source ++ more → after.items ≡ source.items → GaveEach R I g l first new after.items (left_of after) ended given
   reads_filled first now new source after more ended given h going heard rest same =
@@ -63,7 +63,7 @@ module _ {S X : Type 0} (R : Inlet S) (I : Items X) (g : Catalog) (l : Limits) w
       }
 
   -- the device told nothing more
-  pub reads_kept : (first now new : S) (source : Source X) (given : List (Value × ℕ)) → ReadsEach R I g l first now source given → source.ended ≡ false
+  pub reads_kept : (first now new : S) (source : PieceReader X) (given : List (Value × ℕ)) → ReadsEach R I g l first now source given → source.ended ≡ false
       → Heard R now new [] false → GaveEach R I g l first new source.items (left_of source) false given
   reads_kept first now new source given h going heard =
       reads_filled first now new source source [] false given h going heard (sym (append-nil (left_of source))) refl
@@ -75,13 +75,13 @@ module _ {S X : Type 0} (R : Inlet S) (I : Items X) (g : Catalog) (l : Limits) w
       record { items = items; left = left; ended = ended; gave = record { given = given; each = each; values = values } }
 
   -- where the device told nothing more, the same values were given so far
-  pub kept_so_far : (first now new : S) (source : Source X) (s : List Value) → Reads R I g l first now source s → source.ended ≡ false
+  pub kept_so_far : (first now new : S) (source : PieceReader X) (s : List Value) → Reads R I g l first now source s → source.ended ≡ false
       → Heard R now new [] false → GaveSoFar R I g l first new s
   kept_so_far first now new source s h going heard =
       gave_so_far first new source.items (left_of source) false h.given s h.values (reads_kept first now new source h.given h.each going heard)
 
   -- the device may have been asked again
-  pub reads_refilled : (first old now : S) (before after : Source X) (given : List (Value × ℕ)) → Refills R old now before after
+  pub reads_refilled : (first old now : S) (before after : PieceReader X) (given : List (Value × ℕ)) → Refills R old now before after
       → ReadsEach R I g l first old before given → ReadsEach R I g l first now after given
   reads_refilled first old now before after given h reads = go h.either
     where
@@ -90,7 +90,7 @@ module _ {S X : Type 0} (R : Inlet S) (I : Items X) (g : Catalog) (l : Limits) w
       go (inr f) = reads_filled first old now before after f.more after.ended given reads f.going f.heard f.left f.items
 
   -- a step refused
-  pub reads_failed : (first now : S) (source : Source X) (given : List (Value × ℕ)) (r : Refusal) → ReadsEach R I g l first now source given →
+  pub reads_failed : (first now : S) (source : PieceReader X) (given : List (Value × ℕ)) (r : Refusal) → ReadsEach R I g l first now source given →
       ((u : List ℕ) (given : List (Value × ℕ)) → I.stands source.items u given → (more : List ℕ)
       → EndsRefused (format_of I g l) ((u ++ left_of source) ++ more) given r) → ToldRefusedEach R (format_of I g l) first now given r
   reads_failed first now source given r h refused =
@@ -118,7 +118,7 @@ module _ {S X : Type 0} (R : Inlet S) (I : Items X) (g : Catalog) (l : Limits) w
       }
 
   -- some octets were used, and gave no value
-  pub reads_none : (first now : S) (source after : Source X) (given : List (Value × ℕ)) → ReadsEach R I g l first now source given →
+  pub reads_none : (first now : S) (source after : PieceReader X) (given : List (Value × ℕ)) → ReadsEach R I g l first now source given →
       ((u : List ℕ) (given : List (Value × ℕ)) → I.stands source.items u given → Went I u given (left_of source) after None) →
       I.catalog after.items ≡ I.catalog source.items → I.limits after.items ≡ I.limits source.items → after.ended ≡ source.ended
       → ReadsEach R I g l first now after given
@@ -126,36 +126,36 @@ module _ {S X : Type 0} (R : Inlet S) (I : Items X) (g : Catalog) (l : Limits) w
       rw append-nil at (reads_went first now source after given None h go under within ended)
 
   -- the end of a document whose octets were all used
-  pub last_gives : (first now : S) (source : Source X) (given : List (Value × ℕ)) (place : Standing X) (last : Option (Value × ℕ)) → left_of source ≡ [] →
+  pub last_gives : (first now : S) (source : PieceReader X) (given : List (Value × ℕ)) (place : ReadState X) (last : Option (Value × ℕ)) → left_of source ≡ [] →
       (h : GaveEach R I g l first now source.items (left_of source) true given) →
       MatchClosed place (EndsWell (format_of I (I.catalog source.items) (I.limits source.items)) h.u (given ++ option_to_list last))
       (λ r. (last ≡ None) × EndsRefused (format_of I (I.catalog source.items) (I.limits source.items)) h.u given r) →
       StoodEach R I g l first now place (given ++ option_to_list last)
-  last_gives first now source given (Standing.Open after) last empty h ends = absurd ends
-  last_gives first now source given Standing.Ended last empty h ends =
+  last_gives first now source given (ReadState.Open after) last empty h ends = absurd ends
+  last_gives first now source given ReadState.Ended last empty h ends =
       reads_ended first now source.items (left_of source) given (given ++ option_to_list last) h empty (rw (h.under, h.within) at ends)
-  last_gives first now source given (Standing.Refused r) last empty h ends =
+  last_gives first now source given (ReadState.Refused r) last empty h ends =
       let nothing : option_to_list last ≡ [] = ap (λ (x : Option (Value × ℕ)). option_to_list x) ends.0 in
       subst (λ (x : List (Value × ℕ)). ToldRefusedEach R (format_of I g l) first now x r) (sym (ap (λ x. given ++ x) nothing ∙ append-nil given))
       (reads_stopped first now source.items (left_of source) given r h empty (rw (h.under, h.within) at ends.1))
 
   -- one that is refused gives nothing
-  pub last_refused : (u : List ℕ) (source : Source X) (given : List (Value × ℕ)) (place : Standing X) (last : Option (Value × ℕ)) →
+  pub last_refused : (u : List ℕ) (source : PieceReader X) (given : List (Value × ℕ)) (place : ReadState X) (last : Option (Value × ℕ)) →
       MatchClosed place (EndsWell (format_of I (I.catalog source.items) (I.limits source.items)) u (given ++ option_to_list last))
       (λ r. (last ≡ None) × EndsRefused (format_of I (I.catalog source.items) (I.limits source.items)) u given r) → IfRefused place (last ≡ None)
-  last_refused u source given (Standing.Refused r) last ends = ends.0
+  last_refused u source given (ReadState.Refused r) last ends = ends.0
   last_refused u source given _ last ends = tt
 
   -- the values alone, wherever the document stands
-  pub stood_plain : (first now : S) (place : Standing X) (given : List (Value × ℕ)) → StoodEach R I g l first now place given
+  pub stood_plain : (first now : S) (place : ReadState X) (given : List (Value × ℕ)) → StoodEach R I g l first now place given
       → Stood R I g l first now place (plain given)
-  stood_plain first now (Standing.Open source) given h = record { given = given; each = h; values = refl }
-  stood_plain first now Standing.Ended given h = record { octets = h.octets; told = h.told; heard = h.heard; denoted = h.ends.denoted }
-  stood_plain first now (Standing.Refused refusal) given h =
+  stood_plain first now (ReadState.Open source) given h = record { given = given; each = h; values = refl }
+  stood_plain first now ReadState.Ended given h = record { octets = h.octets; told = h.told; heard = h.heard; denoted = h.ends.denoted }
+  stood_plain first now (ReadState.Refused refusal) given h =
       record { octets = h.octets; ended = h.ended; heard = h.heard; refused = λ more may. (h.ends more may).refused }
 
 -- nothing was read yet
-pub each_begun : {S X : Type 0} (R : Inlet S) (I : Items X) (now : S) (source : Source X) (items : X) → I.stands items [] [] → source.items ≡ items
+pub each_begun : {S X : Type 0} (R : Inlet S) (I : Items X) (now : S) (source : PieceReader X) (items : X) → I.stands items [] [] → source.items ≡ items
     → left_of source ≡ [] → source.ended ≡ false →
     ReadsEach R I (I.catalog items) (I.limits items) now now source []
 each_begun R I now source items stood same empty going =
@@ -168,13 +168,13 @@ each_begun R I now source items stood same empty going =
     }
 
 -- a document of which nothing was read gave no value
-pub reads_begun : {S X : Type 0} (R : Inlet S) (I : Items X) (now : S) (source : Source X) (items : X) → I.stands items [] [] → source.items ≡ items
+pub reads_begun : {S X : Type 0} (R : Inlet S) (I : Items X) (now : S) (source : PieceReader X) (items : X) → I.stands items [] [] → source.items ≡ items
     → left_of source ≡ [] → source.ended ≡ false →
     Reads R I (I.catalog items) (I.limits items) now now source []
 reads_begun R I now source items stood same empty going = record { given = []; each = each_begun R I now source items stood same empty going; values = refl }
 
 -- a document of which nothing was read is ready to be read
-pub ready_begun : {X : Type 0} (I : Items X) (source : Source X) (items : X) → I.taken items ≡ 0 → I.awaits items ≡ None → source.items ≡ items
+pub ready_begun : {X : Type 0} (I : Items X) (source : PieceReader X) (items : X) → I.taken items ≡ 0 → I.awaits items ≡ None → source.items ≡ items
     → (source.at ≡ 0) × (source.end ≡ 0) × (source.used ≡ 0) → length source.piece.items ≡ 4096 → source.reads ≤ 2 ^ 32 →
     IsReady I source
 ready_begun I source items none free same empty piece few =
@@ -189,11 +189,11 @@ ready_begun I source items none free same empty piece few =
     }
 
 -- before any read of the device, all of them may still be made
-pub within_begun : {S X : Type 0} (R : Inlet S) (now : S) (source : Source X) (reads : ℕ) → source.reads ≡ reads → IsWithin R reads now now source
+pub within_begun : {S X : Type 0} (R : Inlet S) (now : S) (source : PieceReader X) (reads : ℕ) → source.reads ≡ reads → IsWithin R reads now now source
 within_begun R now source reads e = record { made = 0; were = λ going. WereMade-nil R now; rest = omega arith }
 
 -- a device that wasn't asked
-pub within_kept : {S X : Type 0} (R : Inlet S) (reads : ℕ) (first now : S) (source after : Source X) → after.reads ≡ source.reads → after.ended ≡ source.ended
+pub within_kept : {S X : Type 0} (R : Inlet S) (reads : ℕ) (first now : S) (source after : PieceReader X) → after.reads ≡ source.reads → after.ended ≡ source.ended
     → IsWithin R reads first now source → IsWithin R reads first now after
 within_kept R reads first now source after e ended w =
     record { made = w.made; were = λ going. w.were (sym ended ∙ going); rest = ap (λ (n : ℕ). w.made + n) e ∙ w.rest }

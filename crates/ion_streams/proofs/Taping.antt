@@ -1,7 +1,7 @@
 -- What is made of values that tapes hold.
 use Rattle.std.proofs.Common.{◌≡◌, ℕ, ◌+◌, ◌++◌, [], List, true, false, Option, Some, None, is_some, refl, ap, sym, subst, ◌∙◌}
 use Rattle.std.proofs.lemmas.Option.{same_Some}
-use Rattle.ion_streams.specs.Names.{Alike, AreHeld, AreOnTapes, Built, Catalog, Course, Event, HeldNext, Holds, IfAlike, Inlet, IsApart, IsBegun, IsBlank, IsMet, IsParting, IsPath, Items, Led, Limits, MetBoth, Part, Parted, Standing, Tape, TellsSecond, ToldNext, Twin, Value, WasTold, builds, events_in, events_of, fresh, same, tapes, value_in}
+use Rattle.ion_streams.specs.Names.{Alike, AreHeld, AreOnTapes, Built, Catalog, Course, Event, HeldNext, Holds, IfAlike, Inlet, IsApart, IsBegun, IsBlank, IsMet, IsParting, IsPath, Items, Led, Limits, MetBoth, Part, Parted, ReadState, Tape, TellsSecond, ToldNext, Twin, Value, WasTold, builds, events_in, events_of, fresh, same, tapes, value_in}
 use Rattle.ion_model.specs.laws.Equivalence.{same-equiv}
 use Rattle.ion_visiting.specs.Following.{StartsOn, follows}
 use Rattle.ion_visiting.specs.declared.following.Following.{Following}
@@ -43,7 +43,7 @@ on_tapes _ blank a b _ _ none new held = tt
 
 -- what is so of a value that a visitor was told
 pub held_next : {S X V : Type 0} (takes : V → Event → V → Type 0) (P : Value → Type 0) (R : Inlet S) (I : Items X) (g : Catalog) (l : Limits)
-    (first now : S) (place : Standing X) (given : List (Value × ℕ)) (found : Option ℕ) (a b : V) → ((v : Value) → Led takes (events_of v) a b → P v)
+    (first now : S) (place : ReadState X) (given : List (Value × ℕ)) (found : Option ℕ) (a b : V) → ((v : Value) → Led takes (events_of v) a b → P v)
     → ToldNext takes I R g l first now place given found a b → HeldNext P R I g l first now place given found
 held_next takes P R I g l first now place given None a b so told = told.0
 held_next takes P R I g l first now place given (Some used) a b so told = (told.0, so told.0 told.1, told.2, told.3)

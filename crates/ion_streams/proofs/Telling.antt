@@ -1,7 +1,7 @@
 -- What was told of a document that is read by walks.
 use Rattle.std.proofs.Common.{◌≡◌, ℕ, ◌+◌, ◌-◌, ◌≤◌, List, [], ◌∷◌, ◌++◌, length, take, Bool, true, false, Option, Some, None, Ok, ap, sym, subst, ◌∙◌, append-nil}
 use Rattle.std.proofs.lemmas.Option.{same_Some}
-use Rattle.ion_streams.specs.Names.{AValue, Catalog, End, Ended, EndsBy, EndsOn, EndsRefused, Event, Format, GaveSoFar, Grows, HasTold, Heard, Hears, Inlet, IsReady, Items, LastAskedFor, Led, Limits, Open, ReachesBy, ReadsEach, Refills, Refusal, Refused, Source, Standing, StoodEach, Streams, ToldNext, ToldRefusedEach, Value, WalksOn, WentBy, between, events_of, format_of, given_at, given_last, left_of, plain, telling}
+use Rattle.ion_streams.specs.Names.{AValue, Catalog, End, Ended, EndsBy, EndsOn, EndsRefused, Event, Format, GaveSoFar, Grows, HasTold, Heard, Hears, Inlet, IsReady, Items, LastAskedFor, Led, Limits, Open, PieceReader, ReachesBy, ReadState, ReadsEach, Refills, Refusal, Refused, StoodEach, Streams, ToldNext, ToldRefusedEach, Value, WalksOn, WentBy, between, events_of, format_of, given_at, given_last, left_of, plain, telling}
 use Rattle.ion_visiting.specs.laws.Filters.{hears_both}
 use Rattle.ion_streams.specs.Outcomes.{EndsWell}
 use Rattle.ion_streams.proofs.Pieces.{went}
@@ -15,7 +15,7 @@ led_by takes fs a b h = subst (λ (x : List Event). Led takes x a b) (sym h.is) 
 
 module _ {V X : Type 0} (takes : V → Event → V → Type 0) (I : Items X) where
   -- a walk over octets at the front of what is left of a piece
-  pub went_by : (u : List ℕ) (given : List (Value × ℕ)) (es : List Event) (piece : List ℕ) (at end used : ℕ) (after : Source X) (ended : Bool)
+  pub went_by : (u : List ℕ) (given : List (Value × ℕ)) (es : List Event) (piece : List ℕ) (at end used : ℕ) (after : PieceReader X) (ended : Bool)
       (a b : V) → used ≤ end - at → left_of after ≡ between piece (at + used) end → length u + used ≡ after.used
       → WalksOn takes I.told u given es (between piece at end) used ended after.items a b
       → WentBy takes I u given es (between piece at end) after ended a b
@@ -30,11 +30,11 @@ module _ {V X : Type 0} (takes : V → Event → V → Type 0) (I : Items X) whe
 
 module _ {S V X : Type 0} (takes : V → Event → V → Type 0) (R : Inlet S) (I : Items X) (g : Catalog) (l : Limits) where
   -- From first to now the document told these values; a visitor that had heard es has heard all that was told of the one that is open.
-  abbrev pub TellsOn : S → S → Source X → List (Value × ℕ) → List Event → V → V → Type 0
+  abbrev pub TellsOn : S → S → PieceReader X → List (Value × ℕ) → List Event → V → V → Type 0
   TellsOn first now source given es a b = (fs : List Event) × Hears takes es fs a b × ReadsEach R (telling I fs) g l first now source given
 
   -- some octets were used, and ended no value
-  pub tells_more : (first now : S) (source after : Source X) (given : List (Value × ℕ)) (es : List Event) (found : Bool) (a m b : V) → found ≡ false
+  pub tells_more : (first now : S) (source after : PieceReader X) (given : List (Value × ℕ)) (es : List Event) (found : Bool) (a m b : V) → found ≡ false
       → TellsOn first now source given es a m →
       ((u : List ℕ) (given : List (Value × ℕ)) (fs : List Event) → I.told source.items u given fs
       → WentBy takes I u given fs (left_of source) after found m b) →
@@ -48,7 +48,7 @@ module _ {S V X : Type 0} (takes : V → Event → V → Type 0) (R : Inlet S) (
       )
 
   -- they ended one
-  pub tells_value : (first now : S) (source after : Source X) (given : List (Value × ℕ)) (es : List Event) (found : Bool) (a m b : V) → found ≡ true
+  pub tells_value : (first now : S) (source after : PieceReader X) (given : List (Value × ℕ)) (es : List Event) (found : Bool) (a m b : V) → found ≡ true
       → TellsOn first now source given es a m →
       ((u : List ℕ) (given : List (Value × ℕ)) (fs : List Event) → I.told source.items u given fs
       → WentBy takes I u given fs (left_of source) after found m b) →
@@ -62,13 +62,13 @@ module _ {S V X : Type 0} (takes : V → Event → V → Type 0) (R : Inlet S) (
       )
 
   -- the device may have been asked again
-  pub tells_refilled : (first old now : S) (before after : Source X) (given : List (Value × ℕ)) (es : List Event) (a b : V)
+  pub tells_refilled : (first old now : S) (before after : PieceReader X) (given : List (Value × ℕ)) (es : List Event) (a b : V)
       → Refills R old now before after → TellsOn first old before given es a b → TellsOn first now after given es a b
   tells_refilled first old now before after given es a b refills h =
       (h.0, h.1, reads_refilled R (telling I h.0) g l first old now before after given refills h.2)
 
   -- a step refused
-  pub tells_failed : (first now : S) (source : Source X) (given : List (Value × ℕ)) (es : List Event) (a b : V) (r : Refusal)
+  pub tells_failed : (first now : S) (source : PieceReader X) (given : List (Value × ℕ)) (es : List Event) (a b : V) (r : Refusal)
       → TellsOn first now source given es a b →
       ((u : List ℕ) (given : List (Value × ℕ)) (fs : List Event) → I.told source.items u given fs → (more : List ℕ)
       → EndsRefused (format_of I g l) ((u ++ left_of source) ++ more) given r) → ToldRefusedEach R (format_of I g l) first now given r
@@ -76,27 +76,27 @@ module _ {S V X : Type 0} (takes : V → Event → V → Type 0) (R : Inlet S) (
       reads_failed R (telling I h.0) g l first now source given r h.2 (λ u given stood. refused u given h.0 stood)
 
   -- what was told so far at a fault
-  pub tells_so_far : (first now : S) (source : Source X) (given : List (Value × ℕ)) (s : List Value) (es : List Event) (a b : V) → plain given ≡ s
+  pub tells_so_far : (first now : S) (source : PieceReader X) (given : List (Value × ℕ)) (s : List Value) (es : List Event) (a b : V) → plain given ≡ s
       → TellsOn first now source given es a b → (fs : List Event) × GaveSoFar R (telling I fs) g l first now s
   tells_so_far first now source given s es a b values h =
       (h.0, gave_so_far R (telling I h.0) g l first now source.items (left_of source) source.ended given s values h.2)
 
   -- the same where the device was asked and told nothing more
-  pub tells_kept : (first now new : S) (source : Source X) (given : List (Value × ℕ)) (s : List Value) (es : List Event) (a b : V) → plain given ≡ s
+  pub tells_kept : (first now new : S) (source : PieceReader X) (given : List (Value × ℕ)) (s : List Value) (es : List Event) (a b : V) → plain given ≡ s
       → TellsOn first now source given es a b → source.ended ≡ false → Heard R now new [] false
       → (fs : List Event) × GaveSoFar R (telling I fs) g l first new s
   tells_kept first now new source given s es a b values h going heard =
       (h.0, kept_so_far R (telling I h.0) g l first now new source s (record { given = given; each = h.2; values = values }) going heard)
 
   -- the end of a document whose octets were all used
-  pub tells_end : (first now : S) (source : Source X) (given : List (Value × ℕ)) (place : Standing X) (found : Option ℕ) (a m b : V)
+  pub tells_end : (first now : S) (source : PieceReader X) (given : List (Value × ℕ)) (place : ReadState X) (found : Option ℕ) (a m b : V)
       → left_of source ≡ [] → ReachesBy takes I R g l first now source given [] End a m →
       ((u : List ℕ) (given : List (Value × ℕ)) (fs : List Event) → I.told source.items u given fs
       → EndsBy takes (format_of I (I.catalog source.items) (I.limits source.items)) u given fs place found m b)
       → ToldNext takes I R g l first now place given found a b
   tells_end first now source given place found a m b empty h go = at_end place found (rw (h.2.under, h.2.within) at (go h.2.u given h.0 h.2.stood))
     where
-      at_end : (place : Standing X) (found : Option ℕ) → EndsBy takes (format_of I g l) h.2.u given h.0 place found m b
+      at_end : (place : ReadState X) (found : Option ℕ) → EndsBy takes (format_of I g l) h.2.u given h.0 place found m b
           → ToldNext takes I R g l first now place given found a b
       at_end (Open after) None ends = absurd ends
       at_end Ended None ends = (
@@ -114,13 +114,13 @@ module _ {S V X : Type 0} (takes : V → Event → V → Type 0) (R : Inlet S) (
       at_end (Refused r) (Some used) ends = absurd ends.2
 
   -- no more was told
-  pub told_none : (first now : S) (place : Standing X) (given : List (Value × ℕ)) (found : Option ℕ) (a b : V) → found ≡ None
+  pub told_none : (first now : S) (place : ReadState X) (given : List (Value × ℕ)) (found : Option ℕ) (a b : V) → found ≡ None
       → ToldNext takes I R g l first now place given found a b → StoodEach R (telling I []) g l first now place given
   told_none first now place given None a b none h = h.0
   told_none first now place given (Some used) a b none h = absurd cc
 
   -- one value more was told
-  pub told_some : (first now : S) (place : Standing X) (given : List (Value × ℕ)) (found : Option ℕ) (used : ℕ) (a b : V) → found ≡ Some used
+  pub told_some : (first now : S) (place : ReadState X) (given : List (Value × ℕ)) (found : Option ℕ) (used : ℕ) (a b : V) → found ≡ Some used
       → ToldNext takes I R g l first now place given found a b
       → (v : Value) × Led takes (events_of v) a b × StoodEach R (telling I []) g l first now place (given ++ (v, used) ∷ [])
   told_some first now place given None used a b is h = absurd cc
@@ -132,7 +132,7 @@ module _ {S V X : Type 0} (takes : V → Event → V → Type 0) (R : Inlet S) (
       (has_told : (r : X) (u : List ℕ) (s : List (Value × ℕ)) (es : List Event) → I.told r u s es
       → HasTold I.taken I.kept I.failed I.awaits (I.trace (I.catalog r) (I.limits r)) (I.limits r).item r u s) where
     -- with all octets used and no value more, the device is asked for the next one
-    pub tells_asked : (first now new : S) (source : Source X) (given : List (Value × ℕ)) (s : List Value) (es : List Event) (a b : V)
+    pub tells_asked : (first now new : S) (source : PieceReader X) (given : List (Value × ℕ)) (s : List Value) (es : List Event) (a b : V)
         → plain given ≡ s → TellsOn first now source given es a b → IsReady I source → source.at ≡ source.end
         → R.calls_made new ≤ R.calls_made now + 1
         → LastAskedFor R (format_of I g l) first new (length s + 1)

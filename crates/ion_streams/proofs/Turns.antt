@@ -1,7 +1,7 @@
 -- When devices were asked, and how often they answered an end.
 use Rattle.std.proofs.Common.{◌≡◌, ◌⊎◌, inl, inr, ℕ, ◌+◌, ◌<◌, ◌≤◌, List, [], ◌∷◌, ◌++◌, length, refl, ap, sym, subst, ◌∙◌, arith, Bool, true, false, Option, Some, None, IfSome, IsNone, option_to_list, append-nil, append_assoc, length-append}
 use Rattle.std.proofs.lemmas.List.{length-map}
-use Rattle.ion_streams.specs.Names.{AnsweredEnd, AtOneEnd, Catalog, Ended, Format, GaveSoFar, Grows, HandedOn, Heard, IfClosed, IfOpen, Inlet, IsFront, IsInTurn, IsReady, Items, LastAskedFor, Limits, Open, Reads, Refused, Sought, Source, Standing, Stood, StoodEach, Value, behind_end, behind_values, format_of, left_of, plain, unasked}
+use Rattle.ion_streams.specs.Names.{AnsweredEnd, AtOneEnd, Catalog, Ended, Format, GaveSoFar, Grows, HandedOn, Heard, IfClosed, IfOpen, Inlet, IsFront, IsInTurn, IsReady, Items, LastAskedFor, Limits, Open, PieceReader, ReadState, Reads, Refused, Sought, Stood, StoodEach, Value, behind_end, behind_values, format_of, left_of, plain, unasked}
 use Rattle.ion_streams.proofs.Loads.{front_of}
 use Rattle.ion_streams.proofs.Pieces.{between_nil, none_awaited}
 use Rattle.ion_streams.proofs.Steps.{stood_plain}
@@ -23,12 +23,12 @@ module _ {S : Type 0} (R : Inlet S) where
 
   module _ {X : Type 0} (I : Items X) (g : Catalog) (l : Limits) (first now : S) where
     -- wherever a document stands, its device answered one end at most
-    pub stood_end : (place : Standing X) (s : List Value) → Stood R I g l first now place s → AtOneEnd R first now
+    pub stood_end : (place : ReadState X) (s : List Value) → Stood R I g l first now place s → AtOneEnd R first now
     stood_end (Open source) s h = heard_end first now (h.each.u ++ left_of source) source.ended h.each.heard
     stood_end Ended s h = heard_end first now h.octets true h.heard
     stood_end (Refused refusal) s h = heard_end first now h.octets h.ended h.heard
 
-    pub each_end : (place : Standing X) (given : List (Value × ℕ)) → StoodEach R I g l first now place given → AtOneEnd R first now
+    pub each_end : (place : ReadState X) (given : List (Value × ℕ)) → StoodEach R I g l first now place given → AtOneEnd R first now
     each_end place given h = stood_end place (plain given) (stood_plain R I g l first now place given h)
 
     -- the same at a fault
@@ -48,7 +48,7 @@ module _ {X : Type 0} (I : Items X) (g : Catalog) (l : Limits) (settled : (u w :
     (so_far : (r : X) (u : List ℕ) (given : List (Value × ℕ)) → I.stands r u given → IsNone (I.awaits r)
     → (I.trace (I.catalog r) (I.limits r) u).given ≡ given) where
   -- with all octets used and no value more, the device is asked for the next one
-  pub asked_next : {S : Type 0} (R : Inlet S) (first now new : S) (source : Source X) (s : List Value) → Reads R I g l first now source s → IsReady I source
+  pub asked_next : {S : Type 0} (R : Inlet S) (first now new : S) (source : PieceReader X) (s : List Value) → Reads R I g l first now source s → IsReady I source
       → source.at ≡ source.end → R.calls_made new ≤ R.calls_made now + 1 → LastAskedFor R (format_of I g l) first new (length s + 1)
   asked_next R first now new source s h ready used_up once =
       let empty : left_of source ≡ [] = between_nil source.piece.items source.at source.end (omega (arith, used_up)) in
@@ -67,7 +67,7 @@ module _ {X : Type 0} (I : Items X) (g : Catalog) (l : Limits) (settled : (u w :
   module _ (with_next : (r : X) (u : List ℕ) (given : List (Value × ℕ)) → I.stands r u given
       → IfSome (I.awaits r) (λ octet. IsFront given (I.trace (I.catalog r) (I.limits r) (u ++ octet ∷ [])).given)) where
     -- the octets that were handed over give the values that were given
-    pub given_by : {S : Type 0} (R : Inlet S) (first now : S) (source : Source X) (s : List Value) (h : Reads R I g l first now source s) → IsReady I source
+    pub given_by : {S : Type 0} (R : Inlet S) (first now : S) (source : PieceReader X) (s : List Value) (h : Reads R I g l first now source s) → IsReady I source
         → length s ≤ length (I.trace g l (h.each.u ++ left_of source)).given
     given_by R first now source s h ready =
         let front = front_of (λ u. I.trace g l u) settled (I.awaits source.items) h.each.u (left_of source) [] h.given ready.begins
@@ -79,25 +79,25 @@ module _ {X : Type 0} (I : Items X) (g : Catalog) (l : Limits) (settled : (u w :
         omega (arith, fits, count, same)
 
 -- where nothing is open, anything is so of what is
-none_open : {X : Type 0} (place : Standing X) (P : Source X → Type 0) → IfOpen place (λ source. ⊥) → IfOpen place P
+none_open : {X : Type 0} (place : ReadState X) (P : PieceReader X → Type 0) → IfOpen place (λ source. ⊥) → IfOpen place P
 none_open (Open source) P h = absurd h
 none_open _ P h = tt
 
 -- a document that is read on and stays open gave a value more
-one_more : {X : Type 0} (after : Standing X) (s t : List Value) (v : Option Value) → length t ≤ length s → (v ≡ None → IfOpen after (λ source. ⊥))
+one_more : {X : Type 0} (after : ReadState X) (s t : List Value) (v : Option Value) → length t ≤ length s → (v ≡ None → IfOpen after (λ source. ⊥))
     → IfOpen after (λ source. length t < length (s ++ option_to_list v))
 one_more after s t None level ends = none_open after (λ source. length t < length (s ++ option_to_list None)) (ends refl)
 one_more (Open source) s t (Some v) level ends = omega (arith, level, length-append s (v ∷ []))
 one_more _ s t (Some v) level ends = tt
 
 -- the left stays ahead, as long as it is open
-pub ahead : {X : Type 0} (place after : Standing X) (s t : List Value) (v : Option Value) → IfOpen place (λ source. length t ≤ length s)
+pub ahead : {X : Type 0} (place after : ReadState X) (s t : List Value) (v : Option Value) → IfOpen place (λ source. length t ≤ length s)
     → IfClosed place ((after ≡ place) × (v ≡ None)) → (v ≡ None → IfOpen after (λ source. ⊥)) → IfOpen after (λ source. length t < length (s ++ option_to_list v))
 ahead (Open source) after s t v level closed ends = one_more after s t v level ends
 ahead _ after s t v level closed ends = subst (λ x. IfOpen x (λ source. length t < length (s ++ option_to_list v))) (sym closed.0) tt
 
 -- behind the next value of the right, if there was one, it is as far at least
-pub level_on : {X : Type 0} (place : Standing X) (s t : List Value) (w : Option Value) → IfOpen place (λ source. length t < length s)
+pub level_on : {X : Type 0} (place : ReadState X) (s t : List Value) (w : Option Value) → IfOpen place (λ source. length t < length s)
     → IfOpen place (λ source. length (t ++ option_to_list w) ≤ length s)
 level_on (Open source) s t None level = let same = ap length (append-nil t) in omega (arith, level, same)
 level_on (Open source) s t (Some w) level = omega (arith, level, length-append t (w ∷ []))
@@ -111,11 +111,11 @@ module _ {S T X Y : Type 0} (L : Inlet S) (R : Inlet T) (I : Items X) (J : Items
     pub asked : LastAskedFor R (format_of J h l) first_right right (length (I.trace g k octets).given)
 
   -- the same, or the left has ended, or the right wasn't asked
-  abbrev pub WasAsked : Standing X → S → T → Type 0
+  abbrev pub WasAsked : ReadState X → S → T → Type 0
   WasAsked place left right = (right ≡ first_right) ⊎ ((place ≡ Ended) ⊎ ByValues left right)
 
   -- The left gave s and the right gave t, in turn.
-  pub record Turn (place : Standing X) (left : S) (right : T) (s t : List Value) : Type 0 where
+  pub record Turn (place : ReadState X) (left : S) (right : T) (s t : List Value) : Type 0 where
     pub level : IfOpen place (λ source. length t ≤ length s)
     pub asked : WasAsked place left right
 
@@ -132,7 +132,7 @@ module _ {S T X Y : Type 0} (L : Inlet S) (R : Inlet T) (I : Items X) (J : Items
         }
 
     -- the left was read on
-    pub left_on : (place after : Standing X) (left left_now : S) (right : T) (P : Type 0) → IfClosed place (P × (left_now ≡ left) × (after ≡ place))
+    pub left_on : (place after : ReadState X) (left left_now : S) (right : T) (P : Type 0) → IfClosed place (P × (left_now ≡ left) × (after ≡ place))
         → HandedOn L left left_now → WasAsked place left right → WasAsked after left_now right
     left_on place after left left_now right P closed on (inl same) = inl same
     left_on Ended after left left_now right P closed on (inr (inl ended)) = inr (inl closed.2)
@@ -140,7 +140,7 @@ module _ {S T X Y : Type 0} (L : Inlet S) (R : Inlet T) (I : Items X) (J : Items
     left_on _ after left left_now right P closed on (inr (inl ended)) = absurd cc
 
     -- the left was read on, which ended at a fault
-    pub left_failed : (place after : Standing X) (left left_now : S) (right : T) (P : Type 0) → (P → ⊥) → IfClosed place (P × (left_now ≡ left) × (after ≡ place))
+    pub left_failed : (place after : ReadState X) (left left_now : S) (right : T) (P : Type 0) → (P → ⊥) → IfClosed place (P × (left_now ≡ left) × (after ≡ place))
         → HandedOn L left left_now → WasAsked place left right → IsInTurn L R (format_of I g k) (format_of J h l) first_left left_now first_right right
     left_failed place after left left_now right P none closed on (inl same) = unasked same
     left_failed Ended after left left_now right P none closed on (inr (inl ended)) = absurd (none closed.0)
@@ -154,7 +154,7 @@ module _ {S T X Y : Type 0} (L : Inlet S) (R : Inlet T) (I : Items X) (J : Items
         → (I.trace (I.catalog r) (I.limits r) u).given ≡ given) →
         ((r : X) (u : List ℕ) (given : List (Value × ℕ)) → I.stands r u given
         → IfSome (I.awaits r) (λ octet. IsFront given (I.trace (I.catalog r) (I.limits r) (u ++ octet ∷ [])).given)) →
-        (place : Standing X) (left : S) (right right_now : T) (s t : List Value) → Stood L I g k first_left left place s → IfOpen place (IsReady I)
+        (place : ReadState X) (left : S) (right right_now : T) (s t : List Value) → Stood L I g k first_left left place s → IfOpen place (IsReady I)
         → ((refusal : _) → place ≡ Refused refusal → ⊥) → IfOpen place (λ source. length t < length s)
         → Sought R (format_of J h l) first_right right right_now (length t) → WasAsked place left right → WasAsked place left right_now
     right_on so_far with_next place left right right_now s t stood ready kept level (inl same) was = subst (λ x. WasAsked place left x) (sym same) was
@@ -169,7 +169,7 @@ module _ {S T X Y : Type 0} (L : Inlet S) (R : Inlet T) (I : Items X) (J : Items
     right_on so_far with_next (Refused refusal) left right right_now s t stood ready kept level (inr asked) was = absurd (kept refusal refl)
 
   -- what is said of both devices, wherever the left stands
-  pub in_turn : (place : Standing X) (left : S) (right : T) (s : List Value) → Stood L I g k first_left left place s → WasAsked place left right
+  pub in_turn : (place : ReadState X) (left : S) (right : T) (s : List Value) → Stood L I g k first_left left place s → WasAsked place left right
       → IsInTurn L R (format_of I g k) (format_of J h l) first_left left first_right right
   in_turn place left right s stood (inl same) = unasked same
   in_turn Ended left right s stood (inr (inl ended)) = behind_end s stood

@@ -1,6 +1,6 @@
 -- Reads of a device that were all answered.
 use Rattle.std.proofs.Common.{◌≡◌, ◌⊎◌, inl, inr, ap, sym, ◌∙◌, false, Option, Some, None, IsNone, IsSome, refl}
-use Rattle.ion_streams.specs.Names.{HasToAsk, IfOpen, Inlet, Items, NoReadFailed, NoneFailed, Open, Source, Standing, StandsUnread}
+use Rattle.ion_streams.specs.Names.{HasToAsk, IfOpen, Inlet, Items, NoReadFailed, NoneFailed, Open, PieceReader, ReadState, StandsUnread}
 
 -- what can't be there is none
 pub none_there : {A : Type 0} (found : Option A) → (IsSome found → ⊥) → found ≡ None
@@ -14,7 +14,7 @@ none_failed (Some r) h = absurd cc
 
 module _ {S X : Type 0} (R : Inlet S) (I : Items X) (now : S) where
   -- something came of the document
-  pub was_asked : (source : Source X) → (HasToAsk I source → ⊥) → NoneFailed R I now source → R.has_failed now ≡ false
+  pub was_asked : (source : PieceReader X) → (HasToAsk I source → ⊥) → NoneFailed R I now source → R.has_failed now ≡ false
   was_asked source came h = go h.either
     where
       go : (R.has_failed now ≡ false) ⊎ HasToAsk I source → R.has_failed now ≡ false
@@ -22,31 +22,31 @@ module _ {S X : Type 0} (R : Inlet S) (I : Items X) (now : S) where
       go (inr asks) = absurd (came asks)
 
   -- where something was found, no read of the device has failed
-  pub gave_some : {A : Type 0} (source : Source X) (found : Option A) (v : A) → found ≡ Some v → (HasToAsk I source → found ≡ None) → NoneFailed R I now source
+  pub gave_some : {A : Type 0} (source : PieceReader X) (found : Option A) (v : A) → found ≡ Some v → (HasToAsk I source → found ≡ None) → NoneFailed R I now source
       → R.has_failed now ≡ false
   gave_some source found v is nothing h = was_asked source (λ asks. let none = sym is ∙ nothing asks in absurd cc) h
 
 module _ {X : Type 0} (I : Items X) where
   -- a document of which nothing was read has to ask its device first
-  pub asks_begun : (source : Source X) (items : X) → I.failed items ≡ None → I.pending items ≡ 0 → source.items ≡ items → (source.at ≡ 0) × (source.end ≡ 0)
+  pub asks_begun : (source : PieceReader X) (items : X) → I.failed items ≡ None → I.pending items ≡ 0 → source.items ≡ items → (source.at ≡ 0) × (source.end ≡ 0)
       × (source.used ≡ 0) → source.ended ≡ false → HasToAsk I source
   asks_begun source items fine owes same empty going =
       record { going = going; used_up = empty.0 ∙ sym empty.1; owes = ap (λ x. I.pending x) same ∙ owes; not_failed = ap (λ x. I.failed x) same ∙ fine }
 
   -- where it stands, its device has to be asked first, or no read has failed
-  pub record StandsHeard {S : Type 0} (R : Inlet S) (place : Standing X) (now : S) : Type 0 where
+  pub record StandsHeard {S : Type 0} (R : Inlet S) (place : ReadState X) (now : S) : Type 0 where
     pub either : (StandsUnread I place) ⊎ (R.has_failed now ≡ false)
 
   -- the same of a device that isn't asked before the first value is sought
-  pub record StandsHeardSince {S : Type 0} (R : Inlet S) (place : Standing X) (first now : S) : Type 0 where
+  pub record StandsHeardSince {S : Type 0} (R : Inlet S) (place : ReadState X) (first now : S) : Type 0 where
     pub either : (StandsUnread I place × (now ≡ first)) ⊎ (R.has_failed now ≡ false)
 
   -- where a document is read on, and its device hasn't failed or has to be asked first
-  pub stands_heard : {S : Type 0} (R : Inlet S) (old now : S) (place : Standing X) → StandsHeard R place old → NoReadFailed R old now →
+  pub stands_heard : {S : Type 0} (R : Inlet S) (old now : S) (place : ReadState X) → StandsHeard R place old → NoReadFailed R old now →
       IfOpen place (λ source. NoneFailed R I old source → R.has_failed now ≡ false) → R.has_failed now ≡ false
   stands_heard R old now place h unasked answered = go place h.either unasked.either answered
     where
-      go : (place : Standing X) → (StandsUnread I place) ⊎ (R.has_failed old ≡ false) → (now ≡ old) ⊎ (R.has_failed now ≡ false)
+      go : (place : ReadState X) → (StandsUnread I place) ⊎ (R.has_failed old ≡ false) → (now ≡ old) ⊎ (R.has_failed now ≡ false)
           → IfOpen place (λ source. NoneFailed R I old source → R.has_failed now ≡ false) → R.has_failed now ≡ false
       go place h (inr fine) answered = fine
       go place (inr fine) (inl same) answered = ap (λ x. R.has_failed x) same ∙ fine
@@ -54,7 +54,7 @@ module _ {X : Type 0} (I : Items X) where
       go _ (inl asks) (inl same) answered = absurd asks
 
   -- the same of a device that wasn't asked at all
-  pub heard_alone : {S : Type 0} (R : Inlet S) (place : Standing X) (first now : S) → StandsHeardSince R place first now → StandsHeard R place now
+  pub heard_alone : {S : Type 0} (R : Inlet S) (place : ReadState X) (first now : S) → StandsHeardSince R place first now → StandsHeard R place now
   heard_alone R place first now h = record { either = go h.either }
     where
       go : (StandsUnread I place × (now ≡ first)) ⊎ (R.has_failed now ≡ false) → (StandsUnread I place) ⊎ (R.has_failed now ≡ false)
@@ -62,7 +62,7 @@ module _ {X : Type 0} (I : Items X) where
       go (inr fine) = inr fine
 
   -- the device wasn't asked since, or no read of it has failed
-  pub heard_since : {S : Type 0} (R : Inlet S) (place : Standing X) (first now : S) → StandsHeardSince R place first now → (now ≡ first)
+  pub heard_since : {S : Type 0} (R : Inlet S) (place : ReadState X) (first now : S) → StandsHeardSince R place first now → (now ≡ first)
       ⊎ (R.has_failed now ≡ false)
   heard_since R place first now h = go h.either
     where

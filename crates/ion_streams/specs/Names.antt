@@ -10,5 +10,5 @@ pub use Rattle.ion_streams.specs.Outcomes.{AtOneEnd, EndsRefused, IsRefused, Tol
 pub use Rattle.ion_streams.specs.reading.Courses.{AreHeld, AreOnTapes, IfAlike, IsMet, MetBoth, count_of, verdict_of, verdict_on}
 pub use Rattle.ion_streams.specs.reading.Read.{Begins, GaveEach, GaveSoFar, HandedOn, HasToAsk, IsFresh, IsReady, IsWithin, NoReadFailed, NoneFailed, Reads, ReadsEach, Sought, Went, between, left_of, work}
 pub use Rattle.ion_streams.specs.reading.Refilled.{Fills, Refills}
-pub use Rattle.ion_streams.specs.reading.Standing.{GaveNext, IfClosed, IfOpen, IfRefused, IsOpen, MatchClosed, StandsUnread, Stood, StoodEach, answered, reads_of, work_of}
+pub use Rattle.ion_streams.specs.reading.ReadState.{GaveNext, IfClosed, IfOpen, IfRefused, IsOpen, MatchClosed, StandsUnread, Stood, StoodEach, answered, reads_of, work_of}
 pub use Rattle.ion_streams.specs.reading.Telling.{EndsBy, HeldNext, ReachesBy, ToldNext, WentBy, telling}

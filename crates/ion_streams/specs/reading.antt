@@ -1,6 +1,6 @@
 -- How far documents were read.
 pub mod Read
-pub mod Standing
+pub mod ReadState
 pub mod Refilled
 pub mod Reached
 pub mod Courses

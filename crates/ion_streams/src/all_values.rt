@@ -3,7 +3,7 @@ ghost use Rattle.std.specs.Prelude.{◌≡◌, ◌≢◌, ◌+◌, ◌^◌, ◌<
 ghost use Rattle.ion_streams.specs.Names.{AtOneEnd, IsFresh, IsReadCause, IsRefused, ToldDocument, ToldRefused, Value, format_of};
 ghost use Rattle.ion_atoms.specs.declared.refusal.Reason.TheVariants as reasons;
 
-use crate::source::{Source, Standing};
+use crate::piece_reader::{PieceReader, ReadState};
 use ion_model::{Reason, Refusal, Value};
 use ion_symtab::{Fault, Inlet, Items};
 use std::alloc::Global;
@@ -32,8 +32,8 @@ pub fn read_items<I: Items + Drop, R: Inlet>(
     ensures no_read_failed { OnOk result (R.has_failed reader.new ≡ false) }
     ensures cause { IfErr result (IsReadCause R.Inlet reads reader.old reader.new) }
 {
-    let source = Source::new(alloc, items, reads)?;
-    let mut place = Standing::Open(source);
+    let source = PieceReader::new(alloc, items, reads)?;
+    let mut place = ReadState::Open(source);
     let mut values = Vec::new(alloc);
     while let Some((value, _)) = place.advance(reader)? {
         values.push(value)?;

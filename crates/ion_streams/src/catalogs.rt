@@ -3,7 +3,7 @@ ghost use Rattle.std.specs.Prelude.{◌≡◌, ◌⊎◌, ◌+◌, ◌^◌, ◌�
 ghost use Rattle.ion_streams.specs.Names.{AtOneEnd, IsFresh, IsLoaded, IsReadCause, added, catalog_of, format_of};
 ghost use Rattle.ion_atoms.specs.declared.refusal.Reason.TheVariants as reasons;
 
-use crate::source::{Source, Standing};
+use crate::piece_reader::{PieceReader, ReadState};
 use ion_model::{Reason, Refusal, Value};
 use ion_symtab::{Catalog, Fault, Inlet, Items, SharedTable};
 use std::alloc::Global;
@@ -28,8 +28,8 @@ pub fn load_items<I: Items + Drop, R: Inlet>(
     ensures no_read_failed { OnOk result (R.has_failed reader.new ≡ false) }
     ensures cause { IfErr result (IsReadCause R.Inlet reads reader.old reader.new) }
 {
-    let source = Source::new(alloc, items, reads)?;
-    let mut place = Standing::Open(source);
+    let source = PieceReader::new(alloc, items, reads)?;
+    let mut place = ReadState::Open(source);
     let mut catalog = Catalog::new(alloc);
     while let Some((value, offset)) = place.advance(reader)? {
         if let Err(refusal) = add_value(alloc, &mut catalog, value, offset)? {

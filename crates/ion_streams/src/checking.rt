@@ -3,7 +3,7 @@ ghost use Rattle.std.specs.Prelude.{◌+◌, ◌^◌, ◌≤◌, false, ◌≡�
 ghost use Rattle.ion_streams.specs.Names.{AtOneEnd, IsFresh, IsReadCause, format_of};
 ghost use Rattle.ion_streams.specs.Checked.{IsChecked, IsVisited};
 
-use crate::source::{Source, Standing};
+use crate::piece_reader::{PieceReader, ReadState};
 use ion_model::Refusal;
 use ion_symtab::{Fault, Inlet, Items};
 use ion_visiting::{Count, Visitor};
@@ -35,8 +35,8 @@ pub fn visit_items<I: Items + Drop, R: Inlet, V: Visitor>(
     ensures no_read_failed { OnOk result (R.has_failed reader.new ≡ false) }
     ensures cause { IfErr result (IsReadCause R.Inlet reads reader.old reader.new) }
 {
-    let source = Source::new(alloc, items, reads)?;
-    let mut place = Standing::Open(source);
+    let source = PieceReader::new(alloc, items, reads)?;
+    let mut place = ReadState::Open(source);
     let mut values: u64 = 0;
     while let Some(_) = place.advance_by::<V, R>(reader, visitor)? {
         if !visitor.ended() {

@@ -3,7 +3,7 @@ ghost use Rattle.std.specs.Prelude.{◌≡◌, ℕ, ◌+◌, ◌*◌, ◌^◌, �
 ghost use Rattle.ion_streams.specs.Names.{AreOnTapes, AtOneEnd, Catalog, Event, GaveSoFar, HandedOn, HeldNext, Holds, IfAlike, IfClosed, IfOpen, IsFresh, IsInTurn, IsMet, IsOpen, IsParting, IsReadCause, IsReady, IsWithin, Led, Limits, NoReadFailed, NoneFailed, Sought, StandsUnread, Stood, StoodEach, Value, WasTold, count_of, events_of, format_of, fresh, reads_of, same, telling, verdict_of, work_of};
 ghost use Rattle.ion_streams.specs.Compared.{IsCompared};
 
-use crate::source::{Source, Standing};
+use crate::piece_reader::{PieceReader, ReadState};
 use ion_model::{Path, Refusal, Value, parting};
 use ion_symtab::{Fault, Inlet, Items};
 use ion_visiting::{Building, Count, Following, Frames, Tape, Twin, Visitor};
@@ -94,11 +94,11 @@ impl Course {
 
     /// The verdict where the left side is a document, and the right one ended so; the path is taken
     /// out.
-    fn verdict<J>(&mut self, right: &Standing<J>) -> Verdict
+    fn verdict<J>(&mut self, right: &ReadState<J>) -> Verdict
         ensures { result ≡ verdict_of right.now self.old }
     {
         match right {
-            Standing::Refused(refusal) => Verdict::Refused {
+            ReadState::Refused(refusal) => Verdict::Refused {
                 side: Side::Right,
                 refusal: *refusal,
             },
@@ -219,7 +219,7 @@ fn build(tape: &Tape, building: &mut Building) -> Result<Value, Fault>
 
 /// Whether the next values of both documents are compared: not where the streams parted, and not
 /// where one has ended or was refused.
-fn compares<I: Drop, J: Drop>(course: &Course, left: &Standing<I>, right: &Standing<J>) -> bool
+fn compares<I: Drop, J: Drop>(course: &Course, left: &ReadState<I>, right: &ReadState<J>) -> bool
     ensures { result ≡ false → IfAlike course.now (λ _. IfOpen left.now (λ _.
         IfOpen right.now (λ _. ⊥))) }
 {
@@ -229,10 +229,10 @@ fn compares<I: Drop, J: Drop>(course: &Course, left: &Standing<I>, right: &Stand
     }
 }
 
-/// Reads on as `Standing::advance_by` does, and tells the next value where it is compared. Else it is
+/// Reads on as `ReadState::advance_by` does, and tells the next value where it is compared. Else it is
 /// kept nowhere.
 fn read_next<I: Items + Drop, R: Inlet, V: Visitor>(
-    place: &mut Standing<I>,
+    place: &mut ReadState<I>,
     reader: &mut R,
     compared: bool,
     visitor: &mut V,
@@ -280,9 +280,9 @@ fn read_next<I: Items + Drop, R: Inlet, V: Visitor>(
 fn compare_places<I: Items + Drop, J: Items + Drop, L: Inlet, R: Inlet>(
     alloc: Global,
     course: &mut Course,
-    left_place: &mut Standing<I>,
+    left_place: &mut ReadState<I>,
     left: &mut L,
-    right_place: &mut Standing<J>,
+    right_place: &mut ReadState<J>,
     right: &mut R,
 ) -> Result<Verdict, Fault>
     requires begun { course.old ≡ Course.Alike 0 }
@@ -324,7 +324,7 @@ fn compare_places<I: Items + Drop, J: Items + Drop, L: Inlet, R: Inlet>(
         tapes.clear();
         let compared = compares(course, left_place, right_place);
         let found = read_next(left_place, left, compared, &mut tapes.first)?;
-        if let Standing::Refused(refusal) = left_place {
+        if let ReadState::Refused(refusal) = left_place {
             return Ok(Verdict::Refused {
                 side: Side::Left,
                 refusal: *refusal,
@@ -379,10 +379,10 @@ pub fn compare_items<I: Items + Drop, J: Items + Drop, L: Inlet, R: Inlet>(
         IsReadCause L.Inlet reads left.old left.new fault
         ⊎ IsReadCause R.Inlet reads right.old right.new fault) }
 {
-    let left_source = Source::new(alloc, left_items, reads)?;
-    let right_source = Source::new(alloc, right_items, reads)?;
-    let mut left_place = Standing::Open(left_source);
-    let mut right_place = Standing::Open(right_source);
+    let left_source = PieceReader::new(alloc, left_items, reads)?;
+    let right_source = PieceReader::new(alloc, right_items, reads)?;
+    let mut left_place = ReadState::Open(left_source);
+    let mut right_place = ReadState::Open(right_source);
     let mut course = Course::Alike { values: 0 };
     let verdict = compare_places(
         alloc,

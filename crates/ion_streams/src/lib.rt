@@ -7,11 +7,11 @@ mod catalogs;
 mod checking;
 mod comparison;
 mod listing;
-mod source;
+mod piece_reader;
 
 pub use all_values::{read_items, read_octets};
 pub use catalogs::load_items;
 pub use checking::{check_items, visit_items};
 pub use comparison::{Side, Verdict, compare_items};
 pub use listing::show_items;
-pub use source::{Source, Standing};
+pub use piece_reader::{PieceReader, ReadState};

@@ -3,7 +3,7 @@ ghost use Rattle.std.specs.Prelude.{◌≡◌, ℕ, ◌+◌, ◌^◌, ◌<◌, �
 ghost use Rattle.std.specs.Fmt.{decimal};
 ghost use Rattle.ion_streams.specs.Names.{AtOneEnd, IsFresh, IsReadCause, IsShown, IsWriteCause, ShowsSoFar, Took, TookFront, Value, accepted_line, format_of, line_of, lines_from};
 
-use crate::source::{Source, Standing};
+use crate::piece_reader::{PieceReader, ReadState};
 use ion_model::{Outline, Refusal};
 use ion_symtab::{Fault, Inlet, Items, Outlet, flushed, write_whole};
 use ion_visiting::Outlining;
@@ -114,8 +114,8 @@ pub fn show_items<I: Items + Drop, R: Inlet, W: Outlet>(
         IsReadCause R.Inlet reads reader.old reader.new fault
         ⊎ IsWriteCause W.Outlet writer.new fault) }
 {
-    let source = Source::new(alloc, items, reads)?;
-    let mut place = Standing::Open(source);
+    let source = PieceReader::new(alloc, items, reads)?;
+    let mut place = ReadState::Open(source);
     let mut text = String::new(alloc);
     let mut visitor = Outlining::new();
     let mut values: u64 = 0;

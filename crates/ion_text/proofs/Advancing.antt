@@ -9,8 +9,8 @@ use Rattle.ion_tokens.specs.laws.Again.{blank_uses}
 use Rattle.ion_visiting.specs.laws.Filters.{hears_none}
 use Rattle.ion_text.specs.walk.Advances.{AdvancesBy, gone, with_count}
 use Rattle.ion_text.specs.laws.reading.complete.Fuel.{NotLeaves, eats_stays}
-use Rattle.ion_text.proofs.Leading.{LeadsFromStart, leads_by, leads_to_end, leads_to_given, leads_to_left, leads_to_refused, leads_to_second}
-use Rattle.ion_text.proofs.Prefixes.{front_of, octet_of, refused_of, size}
+use Rattle.ion_text.proofs.PieceEnds.{LeadsFromStart, leads_by, leads_to_end, leads_to_given, leads_to_left, leads_to_refused, leads_to_second}
+use Rattle.ion_text.proofs.PieceFronts.{front_of, octet_of, refused_of, size}
 use Rattle.ion_text.proofs.Striding.{still_settles}
 use Rattle.ion_text.proofs.Taking.{gave_behind, went_behind}
 
@@ -59,9 +59,9 @@ module _ {V : Type 0} (takes : V → Event → V → Type 0) (es : List Event) (
       subst (λ (i : ℕ). Reached takes es g l to m piece i t r a b) n h
 
   -- octets over which what waits goes on to wait
-  pub lull_reached : (count : ℕ) (fs : List Frame) (ss : Symbols) (r : TextWalk) (a : V) → 0 < count → count ≤ length piece → Holds r fs ss → told fs ss ≡ es
+  pub waiting_reached : (count : ℕ) (fs : List Frame) (ss : Symbols) (r : TextWalk) (a : V) → 0 < count → count ≤ length piece → Holds r fs ss → told fs ss ≡ es
       → run g l to m (take count piece) ≡ led (state_of r fs ss) → Reached takes es g l to m piece count Taken.Uses r a a
-  lull_reached count fs ss r a some within h same ran =
+  waiting_reached count fs ss r a some within h same ran =
       (fs, ss, (some, within, ran), record { holds = h; hears = hears_none takes (heard es) (heard (told fs ss)) a (ap heard same) })
 
   -- one octet

@@ -1,7 +1,7 @@
 -- What a token does to a reader that holds no values: what stages, ends, opens and closes.
 use Rattle.std.proofs.Common.{◌≡◌, ◌≢◌, ℕ, ◌+◌, List, [], ◌∷◌, ◌++◌, Bool, true, false, Option, Some, None, Result, Ok, refl, ap, sym, subst, ◌∙◌}
 use Rattle.std.specs.Prelude.{if◌then◌else◌, nat_le}
-use Rattle.ion_text.specs.Names.{AreAround, AreOpen, Bracket, Does, DoesAlone, Event, Frame, Gives, Goes, Hears, Holds, IsShape, Listing, Now, Payload, Reason, Setting, Spot, Symbols, TableFilter, TextWalk, Turn, Turned, Value, WasTold, annotated, at, behind_value, brackets_of, calm, ended, events_of, field_of, fresh, gives, goes, has_notes, heard, heard_by, is_inside, is_table, layer_events, next, open_brackets, out-Payload, part, reading_of, refuses, setting_of, spot_of, table_of, told, turned, within}
+use Rattle.ion_text.specs.Names.{AreAround, AreOpen, Bracket, Does, DoesAlone, Event, Frame, Gives, Goes, Hears, Holds, IsShape, ListOrSexp, Payload, Reason, Setting, Spot, Stage, Symbols, TableFilter, TextWalk, Turn, Turned, Value, WasTold, annotated, at, behind_value, brackets_of, calm, ended, events_of, field_of, fresh, gives, goes, has_notes, heard, heard_by, is_inside, is_table, layer_events, next, open_brackets, out-Payload, part, reading_of, refuses, setting_of, spot_of, table_of, told, turned, within}
 use Rattle.ion_visiting.specs.declared.table_filter.Table.{Table}
 use Rattle.ion_visiting.specs.laws.Filters.{table_told}
 use Rattle.ion_text.specs.walk.Holds.{told_in}
@@ -11,12 +11,12 @@ use Rattle.ion_text.proofs.Taking.{does_behind}
 -- 1. Where nothing is told.
 
 -- a reader of another stage, whose containers and annotations are those of before
-abbrev pub staged : TextWalk → Now → TextWalk
+abbrev pub staged : TextWalk → Stage → TextWalk
 staged r s = record r { stage = s }
 
-pub stages : (r new : TextWalk) (fs : List Frame) (ss : Symbols) (s : Now) → new ≡ staged r s → calm s ≡ calm r.stage → Holds r fs ss
+pub staged_same : (r new : TextWalk) (fs : List Frame) (ss : Symbols) (s : Stage) → new ≡ staged r s → calm s ≡ calm r.stage → Holds r fs ss
     → DoesAlone (told fs ss) (goes (at r.start r.context fs ss s)) (Ok Goes) new
-stages r new fs ss s is same h =
+staged_same r new fs ss s is same h =
     subst (λ n. DoesAlone (told fs ss) (goes (at r.start r.context fs ss s)) (Ok Goes) n) (sym is)
     (fs, ss, refl, (subst (λ n. IsShape (open_brackets r) r.noted n fs ss) (sym same) h.0, h.1), refl)
 
@@ -31,7 +31,7 @@ top_ends E bs f result new none at_top [] v same around told = at_top v told
 top_ends E bs f result new none at_top (x ∷ fs) v same around told = let inside = ap is_inside same in absurd cc
 
 -- a reader behind a value in an open container
-abbrev pub behind_in : TextWalk → Now → TextWalk
+abbrev pub behind_in : TextWalk → Stage → TextWalk
 behind_in r s = record r { noted = false; stage = s }
 
 module _ (r : TextWalk) (end : ℕ) where
@@ -39,7 +39,7 @@ module _ (r : TextWalk) (end : ℕ) where
   Ends fs v new = DoesAlone (told_in fs ++ events_of v) (ended (setting_of r) (spot_of r end) fs v) (Ok Goes) new
 
   -- it is put into a frame
-  put : (f g : Frame) (fs : List Frame) (v : Value) (n : Now) → ended (setting_of r) (spot_of r end) (f ∷ fs) v ≡ goes (at r.start r.context (g ∷ fs) [] n)
+  put : (f g : Frame) (fs : List Frame) (v : Value) (n : Stage) → ended (setting_of r) (spot_of r end) (f ∷ fs) v ≡ goes (at r.start r.context (g ∷ fs) [] n)
       → open_brackets r ≡ brackets_of (g ∷ fs) → AreOpen (g ∷ fs) [] (calm n) → told (g ∷ fs) [] ≡ told_in (f ∷ fs) ++ events_of v
       → WasTold r.filter (told_in (f ∷ fs) ++ events_of v) → Ends (f ∷ fs) v (behind_in r n)
   put f g fs v n does same around e was =
@@ -47,12 +47,12 @@ module _ (r : TextWalk) (end : ℕ) where
 
   ends_at : (f : Frame) (fs : List Frame) (v : Value) → open_brackets r ≡ brackets_of (f ∷ fs) → AreAround (f ∷ fs)
       → WasTold r.filter (told_in (f ∷ fs) ++ events_of v) → Ends (f ∷ fs) v (behind_in r (behind_value (brackets_of (f ∷ fs))))
-  ends_at (Frame.Items Listing.List ss vs) fs v same around was =
-      put (Frame.Items Listing.List ss vs) (Frame.Items Listing.List ss (vs ++ v ∷ [])) fs v Now.After refl same around (item_told Listing.List fs ss vs v) was
-  ends_at (Frame.Items Listing.Sexp ss vs) fs v same around was =
-      put (Frame.Items Listing.Sexp ss vs) (Frame.Items Listing.Sexp ss (vs ++ v ∷ [])) fs v Now.Ready refl same around (item_told Listing.Sexp fs ss vs v) was
+  ends_at (Frame.Items ListOrSexp.List ss vs) fs v same around was =
+      put (Frame.Items ListOrSexp.List ss vs) (Frame.Items ListOrSexp.List ss (vs ++ v ∷ [])) fs v Stage.After refl same around (item_told ListOrSexp.List fs ss vs v) was
+  ends_at (Frame.Items ListOrSexp.Sexp ss vs) fs v same around was =
+      put (Frame.Items ListOrSexp.Sexp ss vs) (Frame.Items ListOrSexp.Sexp ss (vs ++ v ∷ [])) fs v Stage.Ready refl same around (item_told ListOrSexp.Sexp fs ss vs v) was
   ends_at (Frame.Named ss ms s) fs v same around was =
-      put (Frame.Named ss ms s) (Frame.Fields ss (ms ++ field_of s v ∷ [])) fs v Now.After refl same around (field_told fs ss ms s v) was
+      put (Frame.Named ss ms s) (Frame.Fields ss (ms ++ field_of s v ∷ [])) fs v Stage.After refl same around (field_told fs ss ms s v) was
   ends_at (Frame.Fields ss ms) fs v same around was = absurd around
 
   -- in an open container
@@ -77,7 +77,7 @@ a_table v t true e n = (sym e, cc)
 a_table v t false e n = absurd cc
 
 module _ (setting : Setting) (spot : Spot) (f : TableFilter) (new : TextWalk) (o : Option Value)
-    (none : open_brackets new ≡ []) (noted : new.noted ≡ false) (stage : new.stage ≡ Now.Ready) (start : new.start ≡ 0)
+    (none : open_brackets new ≡ []) (noted : new.noted ≡ false) (stage : new.stage ≡ Stage.Ready) (start : new.start ≡ 0)
     (fits : nat_le spot.end (spot.start + setting.limits.item) ≡ true)
     (told_end : (v : Value) → WasTold f (events_of v) → (o ≡ table_of v) × WasTold new.filter []) where
   holds_none : (v : Value) → WasTold f (events_of v) → Holds new [] []
@@ -87,7 +87,7 @@ module _ (setting : Setting) (spot : Spot) (f : TableFilter) (new : TextWalk) (o
   )
 
   fresh_reading : fresh new.context ≡ reading_of new [] []
-  fresh_reading = ap (λ x. at x new.context [] [] Now.Ready) (sym start) ∙ ap (λ x. at new.start new.context [] [] x) (sym stage)
+  fresh_reading = ap (λ x. at x new.context [] [] Stage.Ready) (sym start) ∙ ap (λ x. at new.start new.context [] [] x) (sym stage)
 
   pub gives_out : new.context ≡ spot.context → o ≡ None → (v : Value) → WasTold f (events_of v)
       → DoesAlone (events_of v) (ended setting spot [] v) (Ok Gives) new
@@ -122,7 +122,7 @@ module _ (setting : Setting) (spot : Spot) (f : TableFilter) (new : TextWalk) (o
 
 module _ {V : Type 0} (leads : V → Event → V → Type 0) where
   pub whole_does : (E : List Frame → Value → Turn) (r : TextWalk) (p : Payload) (g : TableFilter) (result : Result Turned Reason) (new : TextWalk) (a b : V)
-      → r.stage ≡ Now.Ready → layer_events (out-Payload p) ≡ part p ∷ []
+      → r.stage ≡ Stage.Ready → layer_events (out-Payload p) ≡ part p ∷ []
       → ((es : List Event) → WasTold r.filter es → WasTold g (es ++ part p ∷ []) × Hears leads (heard es) (heard (es ++ part p ∷ [])) a b)
       → ((fs : List Frame) (v : Value) → open_brackets r ≡ brackets_of fs → AreAround fs → WasTold g (told_in fs ++ events_of v)
       → DoesAlone (told_in fs ++ events_of v) (E fs v) result new)
@@ -136,8 +136,8 @@ module _ {V : Type 0} (leads : V → Event → V → Type 0) where
 
 -- 5. What a token does, where this was expected.
 
-calm_twice : (now : Now) → calm (calm now) ≡ calm now
-calm_twice Now.Ready = refl
+calm_twice : (now : Stage) → calm (calm now) ≡ calm now
+calm_twice Stage.Ready = refl
 calm_twice _ = refl
 
 -- a reader in which nothing waits any more stands for what it stood for
@@ -146,15 +146,15 @@ holds_calm r mid is fs ss h = subst (λ w. Holds w fs ss) (sym is)
     (subst (λ n. IsShape (open_brackets r) r.noted n fs ss) (sym (calm_twice r.stage)) h.0, h.1)
 
 -- where no value may come no annotations were read
-pub open_bare : (fs : List Frame) (ss : Symbols) (now : Now) → AreOpen fs ss now → now ≢ Now.Ready → ss ≡ []
-open_bare fs ss Now.Ready h other = absurd (other refl)
-open_bare (Frame.Items Listing.List ns vs ∷ fs) [] Now.After h other = refl
-open_bare (Frame.Fields ns ms ∷ fs) [] Now.After h other = refl
-open_bare (Frame.Fields ns ms ∷ fs) [] Now.Name h other = refl
+pub open_bare : (fs : List Frame) (ss : Symbols) (now : Stage) → AreOpen fs ss now → now ≢ Stage.Ready → ss ≡ []
+open_bare fs ss Stage.Ready h other = absurd (other refl)
+open_bare (Frame.Items ListOrSexp.List ns vs ∷ fs) [] Stage.After h other = refl
+open_bare (Frame.Fields ns ms ∷ fs) [] Stage.After h other = refl
+open_bare (Frame.Fields ns ms ∷ fs) [] Stage.Name h other = refl
 open_bare _ _ _ h other = absurd h
 
 -- what a method does where there are no annotations, it does for whatever the reader stood for
-pub bare_does : (P : List Frame → Symbols → Type 0) (r mid : TextWalk) → mid ≡ staged r (calm r.stage) → calm r.stage ≢ Now.Ready
+pub bare_does : (P : List Frame → Symbols → Type 0) (r mid : TextWalk) → mid ≡ staged r (calm r.stage) → calm r.stage ≢ Stage.Ready
     → ((fs : List Frame) → Holds mid fs [] → P fs []) → (fs : List Frame) (ss : Symbols) → Holds r fs ss → P fs ss
 bare_does P r mid is bare does fs ss h =
     let none = open_bare fs ss (calm r.stage) h.0.open_there bare in

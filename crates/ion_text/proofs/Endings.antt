@@ -1,6 +1,6 @@
 -- What the end of the octets shows.
 use Rattle.std.proofs.Common.{◌≡◌, ◌≢◌, ℕ, List, Option, Some, None, Result, Ok, Err, refl, sym, ap, ◌∙◌, subst}
-use Rattle.ion_text.specs.Names.{Catalog, DidEnd, Found, Held, Lexeme, Limits, Memory, Now, Reading, Reason, Refusal, Turn, end_now, end_ready, end_said, end_settled, end_turned, end_waiting, goes, said, says, settle, turn}
+use Rattle.ion_text.specs.Names.{Catalog, DidEnd, Found, Held, Lexeme, Limits, Memory, Reading, Reason, Refusal, Stage, Turn, end_now, end_ready, end_said, end_settled, end_turned, end_waiting, goes, said, says, settle, turn}
 use Rattle.ion_tokens.specs.machine.Steps.{Ends}
 use Rattle.ion_tokens.proofs.runs.Cutting.{one_body}
 use Rattle.ion_text.specs.machine.Views.{token_in}
@@ -62,9 +62,9 @@ module _ (g : Catalog) (l : Limits) (used : ℕ) where
       ap (end_turned g l used) e ∙ (ap (λ x. end_settled used (settle x l r)) (sym i) ∙ ap (λ x. end_settled used (settle h x r)) (sym j))
 
   -- where nothing waits
-  pub now_ready : (r : Reading) (x : Result (Option Lexeme) Reason) (n : Now) → ((h : Held) (end : ℕ) → n ≡ Now.Pending h end → ⊥)
-      → ((w : List ℕ) (end : ℕ) → n ≡ Now.Long w end → ⊥) → ((w : List ℕ) → n ≡ Now.LongName w → ⊥) → end_now g l used r x n ≡ end_ready g l used r x
-  now_ready r x (Now.Pending h end) p q s = absurd (p h end refl)
-  now_ready r x (Now.Long w end) p q s = absurd (q w end refl)
-  now_ready r x (Now.LongName w) p q s = absurd (s w refl)
+  pub now_ready : (r : Reading) (x : Result (Option Lexeme) Reason) (n : Stage) → ((h : Held) (end : ℕ) → n ≡ Stage.Pending h end → ⊥)
+      → ((w : List ℕ) (end : ℕ) → n ≡ Stage.Long w end → ⊥) → ((w : List ℕ) → n ≡ Stage.LongName w → ⊥) → end_now g l used r x n ≡ end_ready g l used r x
+  now_ready r x (Stage.Pending h end) p q s = absurd (p h end refl)
+  now_ready r x (Stage.Long w end) p q s = absurd (q w end refl)
+  now_ready r x (Stage.LongName w) p q s = absurd (s w refl)
   now_ready r x _ p q s = refl

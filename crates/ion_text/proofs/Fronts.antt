@@ -4,7 +4,7 @@ use Rattle.std.proofs.lemmas.Bool.{le-leb}
 use Rattle.std.specs.Prelude.{◌==◌, ◌&&◌, not, nat_le, bytes_eq, codes, if◌then◌else◌}
 use Rattle.std.proofs.Math.Seq.{take-append-add, take-append_seam}
 use Rattle.std.proofs.lemmas.List.{get_or-append-add, take_all}
-use Rattle.ion_text.specs.Names.{Action, Begun, Catalog, Effect, Frame, Given, GivesOver, IsBehind, IsCalm, Known, LeadsOver, LeavesBehind, Left, Limits, Mode, Next, Now, OnNext, Outcome, Place, Quiet, Reading, Reason, Refusal, Refused, Setting, Slot, State, Symbols, TokenKind, Value, acts, at, base, begun_in, behind, blob_ends, blob_of, cut, decided, drive, eats, failed_at, fails, feed, floor, follow, form_of, go_to, goes, is_idle, is_left, is_long_begun, leaves, led, longest_top, noticed, on_scan, on_settled, or_worse, past, place, reaches, run, run-append, run_on, settle, settled, shut, start_of, takes, tells, then_run, under, unsettled, uses, with_scan}
+use Rattle.ion_text.specs.Names.{Action, Begun, Catalog, Effect, Frame, Given, GivesOver, IsBehind, IsCalm, Known, LeadsOver, LeavesBehind, Left, Limits, Mode, Next, OnNext, Outcome, Place, Quiet, Reading, Reason, Refusal, Refused, Setting, Slot, Stage, State, Symbols, TokenKind, Value, acts, at, base, begun_in, behind, blob_ends, blob_of, cut, decided, drive, eats, failed_at, fails, feed, floor, follow, form_of, go_to, goes, is_idle, is_left, is_long_begun, leaves, led, longest_top, noticed, on_scan, on_settled, or_worse, past, place, reaches, run, run-append, run_on, settle, settled, shut, start_of, takes, tells, then_run, under, unsettled, uses, with_scan}
 use Rattle.ion_tokens.specs.machine.Scanning as scanning
 use Rattle.ion_tokens.specs.machine.Table.{next}
 use Rattle.ion_tokens.proofs.runs.LastOctets.{IsLast, last_octet, refused_here}
@@ -43,14 +43,14 @@ floor_later p s t o e h =
     ∙ ap (start_of t.mode t.start) (sym used) in
     (omega (arith, start), subst (λ (k : ℕ). floor s ≤ k) same later.0, omega (arith, used, same, later.1))
 
-calm_open : (n : Now) → IsCalm n → shut n ≡ false
-calm_open Now.Ready h = refl
-calm_open Now.Name h = refl
+calm_open : (n : Stage) → IsCalm n → shut n ≡ false
+calm_open Stage.Ready h = refl
+calm_open Stage.Name h = refl
 calm_open _ h = absurd h
 
 top_span : (idle : Bool) (s : Known) (from lo : ℕ) → lo ≤ s.start → (b : Option Begun)
     → b ≡ (if idle then None else Some (record { start = s.start; end = s.used - behind s.mode; form = form_of s.mode })) → (n : ℕ)
-    → longest_top from s.used Now.Ready [] b n ≤ s.used - lo
+    → longest_top from s.used Stage.Ready [] b n ≤ s.used - lo
 top_span true s from lo h None e n = omega arith
 top_span false s from lo h (Some b) e n =
     let start : b.start ≡ s.start = cc in
@@ -63,24 +63,24 @@ reach_bound : (r : Reading) (s : Known) (lo : ℕ) → IsCalm r.now → lo ≤ s
     → reaches fs r s ≤ s.used - base fs ss r.start lo
 reach_bound r s lo calm h [] [] e = by r.now calm
   where
-    by : (n : Now) → IsCalm n → longest_top r.start s.used n r.notes (begun_in s) (is_long_begun (begun_in s)) ≤ s.used - lo
-    by Now.Ready c = subst (λ (ss : Symbols). longest_top r.start s.used Now.Ready ss (begun_in s) (is_long_begun (begun_in s)) ≤ s.used - lo) (sym e)
+    by : (n : Stage) → IsCalm n → longest_top r.start s.used n r.notes (begun_in s) (is_long_begun (begun_in s)) ≤ s.used - lo
+    by Stage.Ready c = subst (λ (ss : Symbols). longest_top r.start s.used Stage.Ready ss (begun_in s) (is_long_begun (begun_in s)) ≤ s.used - lo) (sym e)
         (top_span (is_idle s.mode) s r.start lo h (begun_in s) refl (is_long_begun (begun_in s)))
-    by Now.Name c = omega arith
+    by Stage.Name c = omega arith
     by _ c = absurd c
 reach_bound r s lo calm h [] (x ∷ xs) e = by r.now calm
   where
     noted : (idle : Bool) (b : Option Begun) → b ≡ (if idle then None else Some
         (record { start = s.start; end = s.used - behind s.mode; form = form_of s.mode })) → (n : ℕ)
-        → longest_top r.start s.used Now.Ready (x ∷ xs) b n ≤ s.used - r.start
+        → longest_top r.start s.used Stage.Ready (x ∷ xs) b n ≤ s.used - r.start
     noted true None i n = omega arith
     noted false (Some b) i n = let end : b.end ≡ s.used - behind s.mode = cc in omega arith
     noted _ _ i n = absurd cc
 
-    by : (n : Now) → IsCalm n → longest_top r.start s.used n r.notes (begun_in s) (is_long_begun (begun_in s)) ≤ s.used - r.start
-    by Now.Ready c = subst (λ (ss : Symbols). longest_top r.start s.used Now.Ready ss (begun_in s) (is_long_begun (begun_in s)) ≤ s.used - r.start) (sym e)
+    by : (n : Stage) → IsCalm n → longest_top r.start s.used n r.notes (begun_in s) (is_long_begun (begun_in s)) ≤ s.used - r.start
+    by Stage.Ready c = subst (λ (ss : Symbols). longest_top r.start s.used Stage.Ready ss (begun_in s) (is_long_begun (begun_in s)) ≤ s.used - r.start) (sym e)
         (noted (is_idle s.mode) (begun_in s) refl (is_long_begun (begun_in s)))
-    by Now.Name c = omega arith
+    by Stage.Name c = omega arith
     by _ c = absurd c
 reach_bound r s lo calm h (f ∷ fs) ss e = omega arith
 
@@ -106,10 +106,10 @@ module _ (g : Catalog) (l : Limits) (r : Reading) (lo : ℕ) (calm : IsCalm r.no
           (fits_noticed t (omega arith), more t (omega arith) later.2 (omega (arith, used)))
       by _ e more = tt
 
-calm_settled : (setting : Setting) (start : ℕ) (c : List Slot) (fs : List Frame) (ss : Symbols) (n : Now) → IsCalm n → settled setting start c fs ss n
+calm_settled : (setting : Setting) (start : ℕ) (c : List Slot) (fs : List Frame) (ss : Symbols) (n : Stage) → IsCalm n → settled setting start c fs ss n
     ≡ goes (at start c fs ss n)
-calm_settled setting start c fs ss Now.Ready h = refl
-calm_settled setting start c fs ss Now.Name h = refl
+calm_settled setting start c fs ss Stage.Ready h = refl
+calm_settled setting start c fs ss Stage.Name h = refl
 calm_settled setting start c fs ss _ h = absurd h
 
 module _ (g : Catalog) (l : Limits) (r : Reading) (calm : IsCalm r.now) (s : Known) (piece : List ℕ) (high : floor s ≤ s.used)

@@ -3,7 +3,7 @@ use Rattle.std.proofs.Common.{◌≡◌, ℕ, List, [], ◌∷◌, ◌++◌, map
 use Rattle.std.specs.List.{flat_map}
 use Rattle.std.proofs.lemmas.List.{append-nil, append_assoc, map-append}
 use Rattle.std.proofs.lemmas.Grind.{flat_map-append}
-use Rattle.ion_text.specs.Names.{Bracket, Event, Frame, Listing, Number, Part, Payload, Symbols, Value, annotated, annotation, bracket_for, events_of, field_events, field_of, layer_events, name, number_payload, opened, opens, out-Payload, part, payload_of, told}
+use Rattle.ion_text.specs.Names.{Bracket, Event, Frame, ListOrSexp, Number, Part, Payload, Symbols, Value, annotated, annotation, bracket_for, events_of, field_events, field_of, layer_events, name, number_payload, opened, opens, out-Payload, part, payload_of, told}
 use Rattle.ion_model.specs.declared.value.Payload.TheVariants as payloads
 use Rattle.ion_model.specs.declared.value.Payload.TheViews as views
 use Rattle.ion_visiting.specs.Events.{closes, within}
@@ -53,13 +53,13 @@ within_told x before notes inside =
     ∙ (append_assoc before (notes ++ opens x ∷ inside) (closes x ∷ []) ∙ ap (λ es. before ++ es) (append_assoc notes (opens x ∷ inside) (closes x ∷ [])))
 
 -- a container closes, and is a value
-pub list_told : (fs : List Frame) (ss : Symbols) (vs : List Value) → told (Frame.Items Listing.List ss vs ∷ fs) [] ++ closes Bracket.List ∷ []
+pub list_told : (fs : List Frame) (ss : Symbols) (vs : List Value) → told (Frame.Items ListOrSexp.List ss vs ∷ fs) [] ++ closes Bracket.List ∷ []
     ≡ told_in fs ++ events_of (annotated ss (payloads.List vs))
 list_told fs ss vs =
     within_told Bracket.List (told_in fs) (map annotation ss) (flat_map events_of vs)
     ∙ ap (λ es. told_in fs ++ es) (sym (events_out (annotated ss (payloads.List vs)) ∙ ap (λ d. map annotation ss ++ layer_events d) (views.outs-List vs)))
 
-pub sexp_told : (fs : List Frame) (ss : Symbols) (vs : List Value) → told (Frame.Items Listing.Sexp ss vs ∷ fs) [] ++ closes Bracket.Sexp ∷ []
+pub sexp_told : (fs : List Frame) (ss : Symbols) (vs : List Value) → told (Frame.Items ListOrSexp.Sexp ss vs ∷ fs) [] ++ closes Bracket.Sexp ∷ []
     ≡ told_in fs ++ events_of (annotated ss (payloads.Sexp vs))
 sexp_told fs ss vs =
     within_told Bracket.Sexp (told_in fs) (map annotation ss) (flat_map events_of vs)
@@ -93,7 +93,7 @@ joined before notes e inside more all is =
     ∙ (sym (behind before notes e inside more) ∙ ap (λ es. es ++ more) (append-nil (before ++ (notes ++ e ∷ inside))))
 
 -- a value ends among items
-pub item_told : (listing : Listing) (fs : List Frame) (ss : Symbols) (vs : List Value) (v : Value)
+pub item_told : (listing : ListOrSexp) (fs : List Frame) (ss : Symbols) (vs : List Value) (v : Value)
     → told (Frame.Items listing ss (vs ++ v ∷ []) ∷ fs) [] ≡ told_in (Frame.Items listing ss vs ∷ fs) ++ events_of v
 item_told listing fs ss vs v =
     joined (told_in fs) (map annotation ss) (opens (bracket_for listing)) (flat_map events_of vs) (events_of v) (flat_map events_of (vs ++ v ∷ []))

@@ -3,20 +3,20 @@ use Rattle.std.proofs.Common.{◌≡◌, ℕ, ◌+◌, ◌-◌, ◌<◌, ◌≤�
 use Rattle.std.specs.Prelude.{◌||◌, if◌then◌else◌, nat_le}
 use Rattle.std.proofs.lemmas.Grind.{common_steps}
 use Rattle.std.proofs.lemmas.List.{length-take, length-take-le}
-use Rattle.ion_text.specs.Names.{Ahead, BeginsValue, Bracket, Catalog, Content, Does, Effect, Ended, EndsAtOnce, EndsBy, EndsSo, Event, FoundToken, Frame, Gives, Goes, Held, Holds, IsCalm, IsFound, IsHere, IsStill, Known, Limits, Mark', Now, Part, Passes, Payload, Place, Quiet, Reading, Reason, Rest, RestsBehind, SameSetting, Scanner, Setting, Spot, State, Strode, StrodeFrom, Symbols, Taken, Takes, TextWalk, TokenKind, TookSo, Turn, Turned, Value, WaitsThere, annotated, at, begun_at, behind_left, close_mark, close_octet, closed, closes, drive, eats, ended, ends_symbol, feed, fresh, gives, go_on, goes, held_payload, is_fields, is_marker, is_null_struct, is_table, is_top, layer_kind, leaves, led, lexeme_at, next, on_said, on_scan, on_settled, paid, past_token, payload_of, place, place_in, reading_of, refuses, released, resting, resting_at, run, said, scanned, setting_of, settle, spot_at, spot_of, state_of, takes as takes_up, takes_colon, token_at, token_of, told, turn, turn_now, turned, under, unsettled, value_took, with_scan, within}
+use Rattle.ion_text.specs.Names.{Ahead, BeginsValue, Bracket, Catalog, Content, Does, Effect, Ended, EndsAtOnce, EndsBy, EndsSo, Event, FoundToken, Frame, Gives, Goes, Held, Holds, IsCalm, IsFound, IsHere, IsStill, Known, Limits, Mark', Part, Passes, Payload, Place, Quiet, Reading, Reason, Rest, RestsBehind, SameSetting, Scanner, Setting, Spot, Stage, State, Strode, StrodeFrom, Symbols, Taken, Takes, TextWalk, TokenKind, TookSo, Turn, Turned, Value, WaitsThere, annotated, at, begun_at, behind_left, close_mark, close_octet, closed, closes, drive, eats, ended, ends_symbol, feed, fresh, gives, go_on, goes, held_payload, is_fields, is_marker, is_null_struct, is_table, is_top, layer_kind, leaves, led, lexeme_at, next, on_said, on_scan, on_settled, paid, past_token, payload_of, place, place_in, reading_of, refuses, released, resting, resting_at, run, said, scanned, setting_of, settle, spot_at, spot_of, state_of, takes as takes_up, takes_colon, token_at, token_of, told, turn, turn_now, turned, under, unsettled, value_took, with_scan, within}
 use Rattle.ion_model.specs.declared.value.Payload.TheVariants as payloads
 use Rattle.ion_model.specs.declared.value.Payload.TheViews as views
 use Rattle.ion_text.specs.laws.deciding.Turns.{no_table}
 use Rattle.ion_text.specs.machine.LongStrings.{LongThere}
-use Rattle.ion_text.proofs.Arms.{begun_inner, ended_stays, found_passes, mark_says, ready_turns}
+use Rattle.ion_text.proofs.TokenSteps.{begun_inner, ended_stays, found_passes, mark_says, ready_turns}
 use Rattle.ion_text.proofs.LongStrings.{long_unsettled, settled_on}
 use Rattle.ion_text.proofs.Nested.{close_found, closing}
 use Rattle.ion_text.proofs.Passing.{NoticesNothing, blank_quiet, blank_waits}
-use Rattle.ion_text.proofs.Strides.{IsBegun, begun_with, ends_so, moved_by, settings_begun, settings_on, strode_on, token_leads, token_strode}
+use Rattle.ion_text.proofs.WholeTokens.{IsBegun, begun_with, ends_so, moved_by, settings_begun, settings_on, strode_on, token_leads, token_strode}
 use Rattle.ion_text.proofs.Striding.{still_settles}
 use Rattle.ion_text.proofs.Symbols.{ends_waits, symbol_passes}
 use Rattle.ion_text.proofs.Taking.{gave_behind, with_scanner}
-use Rattle.ion_text.proofs.Tops.{passes_then, token_gives, top_ended, top_quiet, waits_notices}
+use Rattle.ion_text.proofs.TopLevel.{passes_then, token_gives, top_ended, top_quiet, waits_notices}
 
 -- what is no version marker is paid where no container is open, whatever annotations were read
 released_top : (setting : Setting) (spot : Spot) (ss : Symbols) (h : Held) → is_marker h ≡ false → released setting spot [] ss h
@@ -119,7 +119,7 @@ module _ {V : Type 0} (leads : V → Event → V → Type 0) (old new : TextWalk
 
 -- where no container is open
 module _ {V : Type 0} (leads : V → Event → V → Type 0) (old new : TextWalk) (rest : Rest) (octets : List ℕ) (a b : V) (ss : Symbols)
-    (h : Ahead old [] ss rest (length octets)) (now : old.stage ≡ Now.Ready) where
+    (h : Ahead old [] ss rest (length octets)) (now : old.stage ≡ Stage.Ready) where
   abbrev g' : Catalog
   g' = old.catalog.now
 
@@ -168,7 +168,7 @@ module _ {V : Type 0} (leads : V → Event → V → Type 0) (old new : TextWalk
     n = token.count
 
     abbrev waiting : Reading
-    waiting = at begun old.context [] ss (Now.Pending held (rest.used + n))
+    waiting = at begun old.context [] ss (Stage.Pending held (rest.used + n))
 
     abbrev past_symbol : Rest
     past_symbol = past_token Place.Top rest token.kind n
@@ -226,7 +226,7 @@ module _ {V : Type 0} (leads : V → Event → V → Type 0) (old new : TextWalk
       let early = s.1 in
       let v = annotated ss (payloads.Str text) in
       let free = no_table ss (payloads.Str text) (text_flat text) in
-      let waiting = at begun old.context [] ss (Now.Long text s.0) in
+      let waiting = at begun old.context [] ss (Stage.Long text s.0) in
       let o = get_or octets count 0 in
       let known = feed (place waiting) (resting after) o in
       let again : State → Effect = λ m. takes_up g' l' 2 m o in
@@ -236,7 +236,7 @@ module _ {V : Type 0} (leads : V → Event → V → Type 0) (old new : TextWalk
         x.segments.some,
         does.0,
         with_scan (resting after) waiting,
-        subst (λ (k : Now). run g' l' rest.used (with_scan (resting rest) (at old.start old.context [] ss k)) (take count octets)
+        subst (λ (k : Stage). run g' l' rest.used (with_scan (resting rest) (at old.start old.context [] ss k)) (take count octets)
             ≡ led (with_scan (resting after) waiting)) (sym now) s.2,
         ap (λ b. if b then on_scan g' l' again waiting known else on_settled g' l' again (resting after) known (settle g' l' waiting))
             (long_unsettled g' l' waiting text s.0 refl after o x.ends)
@@ -268,7 +268,7 @@ module _ {V : Type 0} (leads : V → Event → V → Type 0) where
 
   -- a token with which a value ends, which begins an item where no container is open
   module _ (old new : TextWalk) (rest after : Rest) (octets : List ℕ) (a b : V) (k : ℕ) (s : SameSetting (begun_with old k) new) (begins : IsBegun old rest k)
-      (here : Place) (is : IsHere old here) (t : Takes Now.Ready old rest octets) (payload : Payload)
+      (here : Place) (is : IsHere old here) (t : Takes Stage.Ready old rest octets) (payload : Payload)
       (flat : (fs : List Frame) (ss : Symbols) → Holds old fs ss → is_top fs ≡ true → IsFlat payload) where
     abbrev Ends : ℕ → ℕ → List Frame → Symbols → Result Turned Reason → Type 0
     Ends end start fs ss x = EndsAt old new a b payload end start fs ss x
@@ -368,7 +368,7 @@ module _ {V : Type 0} (leads : V → Event → V → Type 0) where
 
   -- a long string
   pub long_answer : (old new : TextWalk) (rest after : Rest) (octets : List ℕ) (a b : V) (k : ℕ) (s : SameSetting (begun_with old k) new)
-      (begins : IsBegun old rest k) (here : Place) (is : IsHere old here) (t : Takes Now.Ready old rest octets) (count : ℕ) (text : List ℕ)
+      (begins : IsBegun old rest k) (here : Place) (is : IsHere old here) (t : Takes Stage.Ready old rest octets) (count : ℕ) (text : List ℕ)
       (x : Result Turned Reason) → LongThere here rest octets count after text
       → ((fs : List Frame) (ss : Symbols) → Holds old fs ss
       → EndsAt old new a b (payloads.Str text) after.used k fs ss x)

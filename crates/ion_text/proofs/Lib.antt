@@ -1,26 +1,26 @@
 mod Appended
 pub mod Versions
-pub mod Sights
+pub mod Foreseen
 pub mod Meetings
 pub mod Octets
-pub mod Pendings
-pub mod Leading
+pub mod ValuesLeft
+pub mod PieceEnds
 pub mod Endings
-pub mod Further
+pub mod AfterSteps
 pub mod Fronts
-pub mod Prefixes
-pub mod Lulls
+pub mod PieceFronts
+pub mod WhileWaiting
 pub mod Passing
 pub mod Striding
-pub mod Arms
+pub mod TokenSteps
 pub mod Nested
 pub mod Symbols
 pub mod Walks
 pub mod Walking
 pub mod LongStrings
 pub mod Keywords
-pub mod Notes
-pub mod Tops
+pub mod Annotations
+pub mod TopLevel
 mod Transcribed
 pub mod TextTold
 pub mod Calls
@@ -32,7 +32,7 @@ pub mod Reaching
 pub mod Ended
 pub mod Opened
 pub mod SaidThere
-pub mod Strides
+pub mod WholeTokens
 pub mod Untold
 pub mod LastTokens
 pub mod Advancing

@@ -3,19 +3,19 @@ use Rattle.std.proofs.Common.{◌≡◌, ℕ, ◌+◌, ◌-◌, ◌<◌, ◌≤�
 use Rattle.std.specs.Prelude.{◌||◌, not, if◌then◌else◌, ◌==◌}
 use Rattle.std.proofs.lemmas.Bool.{and_parts, not-true, or_from, or_parts}
 use Rattle.std.proofs.lemmas.List.{length-take-le}
-use Rattle.ion_text.specs.Names.{Catalog, Effect, Frame, Given, IsFound, Known, LeadsTo, Limits, Long, Mode, Next, Now, Outcome, Passes, Place, Quiet, Reading, Rest, Setting, Slot, State, Stays, Symbols, TokenKind, Value, Waiting, annotated, at, begun_at, behind_given, drive, eats, ended, ended_so_far, ends_symbol, feed, go_on, goes, in_segment, is_idle, is_quoting, is_sane, is_top, lexeme_at, long_at, long_waits, lulls, noticed, on_said, on_scan, on_settled, past_blank, past_token, place, place_in, rested, resting, said, settle, spot_at, takes, token_of, turn, turn_now, under, unsettled, uses, waits_now, with_scan}
+use Rattle.ion_text.specs.Names.{Catalog, Effect, Frame, Given, IsFound, Known, LeadsTo, Limits, Long, Mode, Next, Outcome, Passes, Place, Quiet, Reading, Rest, Setting, Slot, Stage, State, Stays, Symbols, TokenKind, Value, Waiting, annotated, at, begun_at, behind_given, drive, eats, ended, ended_so_far, ends_symbol, feed, go_on, goes, in_segment, is_idle, is_quoting, is_sane, is_top, lexeme_at, long_at, long_waits, noticed, on_said, on_scan, on_settled, past_blank, past_token, place, place_in, rested, resting, said, settle, spot_at, takes, token_of, turn, turn_now, under, unsettled, uses, waits_now, waits_over, with_scan}
 use Rattle.ion_model.specs.declared.value.Payload.TheVariants as payloads
 use Rattle.ion_tokens.specs.machine.Scanning as scanning
 use Rattle.ion_tokens.proofs.runs.Runs.{next_used}
 use Rattle.ion_text.specs.machine.LongStrings.{LongSoFar, LongThere, PassedSegment, ends_long}
 use Rattle.ion_text.specs.laws.reading.complete.Found.{run_sane}
 use Rattle.ion_text.specs.laws.reading.complete.Meets.{follows_as}
-use Rattle.ion_text.proofs.Arms.{at_drop, blank_used, ended_place, ended_stays}
-use Rattle.ion_text.proofs.Lulls.{lull_noticed}
+use Rattle.ion_text.proofs.TokenSteps.{at_drop, blank_used, ended_place, ended_stays}
+use Rattle.ion_text.proofs.WhileWaiting.{waiting_noticed}
 use Rattle.ion_text.proofs.Passing.{calm_quiet, leads_on, leads_one, passes_led, passes_none, passes_on, passes_same, quiet_as, waits_as}
 use Rattle.ion_text.proofs.Striding.{still_settles}
 use Rattle.ion_text.proofs.Symbols.{ends_shows}
-use Rattle.ion_text.proofs.Tops.{top_quiet}
+use Rattle.ion_text.proofs.TopLevel.{top_quiet}
 
 -- the mode of a blank, or of what may be a segment of a long string
 abbrev pub may_be_long : Mode → Bool
@@ -31,10 +31,10 @@ other_stays p s t o sane e h =
 -- Where a value may come, octets within the limit on items are no reason to refuse.
 ready_quiet : (g : Catalog) (l : Limits) (start : ℕ) (c : List Slot) (fs : List Frame) (ss : Symbols) (rest : Rest) (octets : List ℕ) (n : ℕ)
     → n ≤ length octets → rest.used + n ≤ l.item + begun_at start rest.used fs ss
-    → Quiet g l (at start c fs ss Now.Ready) (place_in fs Now.Ready) (resting rest) (take n octets)
+    → Quiet g l (at start c fs ss Stage.Ready) (place_in fs Stage.Ready) (resting rest) (take n octets)
 ready_quiet g l start c [] ss rest octets n within room = top_quiet g l start c ss rest octets n within room
 ready_quiet g l start c (f ∷ fs) ss rest octets n within room =
-    calm_quiet g l (at start c (f ∷ fs) ss Now.Ready) refl tt (resting rest) refl octets n within room
+    calm_quiet g l (at start c (f ∷ fs) ss Stage.Ready) refl tt (resting rest) refl octets n within room
 
 -- a segment leads the run behind it where it settles nothing that waits, and nothing is refused then
 module _ (g : Catalog) (l : Limits) (r q : Reading) (rest : Rest) (octets kept : List ℕ) (n : ℕ)
@@ -78,9 +78,9 @@ module _ (g : Catalog) (l : Limits) (r q : Reading) (rest : Rest) (octets kept :
         (ap (λ o. eats g l (with_scan found.known r) o) (at_drop (n - 1) octets) ∙ ends_it)))
 
 -- where a long string waits for more
-module _ (g : Catalog) (l : Limits) (r : Reading) (w : List ℕ) (end : ℕ) (now : r.now ≡ Now.Long w end) (early : end ≤ r.start + l.item) where
+module _ (g : Catalog) (l : Limits) (r : Reading) (w : List ℕ) (end : ℕ) (now : r.now ≡ Stage.Long w end) (early : end ≤ r.start + l.item) where
   long_noticed : (s : Known) → may_be_long s.mode ≡ true → s.used ≤ r.start + l.item → noticed l r s ≡ uses (with_scan s r)
-  long_noticed s long room = lull_noticed l r s (ap (λ n. lulls n s.mode) now ∙ long) (subst (λ n. ended_so_far n ≤ r.start + l.item) (sym now) early) room
+  long_noticed s long room = waiting_noticed l r s (ap (λ n. waits_over n s.mode) now ∙ long) (subst (λ n. ended_so_far n ≤ r.start + l.item) (sym now) early) room
 
   long_quiet : (p : Place) (os : List ℕ) (s t : Known) → is_sane s.mode ≡ true → may_be_long t.mode ≡ true → scanning.run p os s ≡ Next t
       → s.used + length os ≤ r.start + l.item → Quiet g l r p s os
@@ -102,7 +102,7 @@ module _ (g : Catalog) (l : Limits) (r : Reading) (w : List ℕ) (end : ℕ) (no
   module _ (rest : Rest) (octets kept : List ℕ) (n : ℕ) (found : IsFound (place r) rest octets TokenKind.LongString kept n false)
       (more : List ℕ) (says : said TokenKind.LongString kept ≡ Ok (Long more)) (room : rest.used + length octets ≤ r.start + l.item) where
     abbrev longer : Reading
-    longer = at r.start r.context r.frames r.notes (Now.Long (w ++ more) (rest.used + n))
+    longer = at r.start r.context r.frames r.notes (Stage.Long (w ++ more) (rest.used + n))
 
     abbrev last_octet : ℕ
     last_octet = get_or octets (n - 1) 0
@@ -137,7 +137,7 @@ module _ (g : Catalog) (l : Limits) (r : Reading) (w : List ℕ) (end : ℕ) (no
         let shown = found.shown in
         let size = length-take-le (n - 1) octets (omega arith) in
         let ends : rest.used + n ≤ r.start + l.item = omega arith in
-        segment_leads g l r longer rest octets kept n found more says turns_longer (inl waits_on) (lull_noticed l longer known_behind refl ends ends)
+        segment_leads g l r longer rest octets kept n found more says turns_longer (inl waits_on) (waiting_noticed l longer known_behind refl ends ends)
         (long_quiet (place r) (take (n - 1) octets) (resting rest) found.known refl is_long_mode found.ran (omega arith))
         (inr (long_waits_on (place r) (take (n - 1) octets) (resting rest) found.known refl is_long_mode found.ran))
 
@@ -145,7 +145,7 @@ module _ (g : Catalog) (l : Limits) (r : Reading) (w : List ℕ) (end : ℕ) (no
 long_ends : (top : Bool) (p : Place) (r : Rest) (o : ℕ) → ends_long o ≡ true → long_waits top (feed p (resting r) o) ≡ false
 long_ends top p r o h = let f = and_parts (ends_symbol o) (not (o == 39)) h in (ends_shows top p r o f.0).long (not-true (o == 39) f.1)
 
-module _ (g : Catalog) (l : Limits) (r : Reading) (w : List ℕ) (end : ℕ) (now : r.now ≡ Now.Long w end) where
+module _ (g : Catalog) (l : Limits) (r : Reading) (w : List ℕ) (end : ℕ) (now : r.now ≡ Stage.Long w end) where
   -- so nothing goes on there
   pub long_unsettled : (rest : Rest) (o : ℕ) → ends_long o ≡ true → unsettled (resting rest) r (feed (place r) (resting rest) o) ≡ false
   long_unsettled rest o ends =
@@ -185,10 +185,10 @@ ended_anywhere setting start c _ v i j h = refl
 module _ (g : Catalog) (l : Limits) (start : ℕ) (c : List Slot) (ss : Symbols) (fs : List Frame) where
   -- a long string waits
   abbrev waits_long : List ℕ → ℕ → Reading
-  waits_long w end = at start c fs ss (Now.Long w end)
+  waits_long w end = at start c fs ss (Stage.Long w end)
 
   module _ (p : Place) (before : Rest) (octets : List ℕ) (count : ℕ) (after : Rest) (old new : List ℕ)
-      (x : PassedSegment p before octets count after old new) (here : place_in fs Now.Ready ≡ p)
+      (x : PassedSegment p before octets count after old new) (here : place_in fs Stage.Ready ≡ p)
       (room : before.used + length octets ≤ l.item + start) where
     abbrev n : ℕ
     n = x.size
@@ -201,7 +201,7 @@ module _ (g : Catalog) (l : Limits) (start : ℕ) (c : List Slot) (ss : Symbols)
 
     -- behind the segment the blank is passed
     behind_it : (m : State) → m.scan.used ≡ before.used → LeadsTo g l m octets n (with_scan (resting mid) (waits_long text (before.used + n)))
-        → LeadsTo g l m octets count (rested after start c fs ss (Now.Long new (before.used + n)))
+        → LeadsTo g l m octets count (rested after start c fs ss (Stage.Long new (before.used + n)))
     behind_it m from h =
         let size = length-drop n octets in
         let total = x.total in
@@ -211,17 +211,17 @@ module _ (g : Catalog) (l : Limits) (start : ℕ) (c : List Slot) (ss : Symbols)
         let blank : LeadsTo g l (with_scan (resting mid) r) (drop n octets) x.blank (with_scan (resting (past_blank mid x.blank)) r) =
         long_blank g l r text end refl (omega arith) (resting mid) (resting (past_blank mid x.blank)) (drop n octets) x.blank (omega arith) refl
         refl (x.passed (place r) mid) (omega arith) in
-        subst (λ t. LeadsTo g l m octets count (rested after start c fs ss (Now.Long t end))) (sym x.segment.joined)
-        (subst (λ r. LeadsTo g l m octets count (rested r start c fs ss (Now.Long text end))) (sym x.rests)
-        (subst (λ k. LeadsTo g l m octets k (rested (past_blank mid x.blank) start c fs ss (Now.Long text end))) (sym x.total)
-        (leads_on g l m (with_scan (resting mid) r) (rested (past_blank mid x.blank) start c fs ss (Now.Long text end)) octets n x.blank
+        subst (λ t. LeadsTo g l m octets count (rested after start c fs ss (Stage.Long t end))) (sym x.segment.joined)
+        (subst (λ r. LeadsTo g l m octets count (rested r start c fs ss (Stage.Long text end))) (sym x.rests)
+        (subst (λ k. LeadsTo g l m octets k (rested (past_blank mid x.blank) start c fs ss (Stage.Long text end))) (sym x.total)
+        (leads_on g l m (with_scan (resting mid) r) (rested (past_blank mid x.blank) start c fs ss (Stage.Long text end)) octets n x.blank
         (omega arith) (omega arith) h blank)))
 
     -- the first segment, where a value may come of an item that begins there
     first_on : (s : ℕ) → begun_at s before.used fs ss ≡ start → old ≡ []
-        → LeadsTo g l (rested before s c fs ss Now.Ready) octets count (rested after start c fs ss (Now.Long new (before.used + n)))
+        → LeadsTo g l (rested before s c fs ss Stage.Ready) octets count (rested after start c fs ss (Stage.Long new (before.used + n)))
     first_on s begins none =
-        let r = at s c fs ss Now.Ready in
+        let r = at s c fs ss Stage.Ready in
         let f = x.segment in
         let some = f.found.some in
         let shown = f.found.shown in
@@ -231,50 +231,50 @@ module _ (g : Catalog) (l : Limits) (start : ℕ) (c : List Slot) (ss : Symbols)
         let found : IsFound (place r) before octets TokenKind.LongString f.kept n false =
         subst (λ p. IsFound p before octets TokenKind.LongString f.kept n false) (sym here) f.found in
         let turns : turn g l r (token_of (lexeme_at before TokenKind.LongString f.kept n) (Long f.more)) ≡ goes (waits_long f.more end) =
-        ap (λ s. goes (at s c fs ss (Now.Long f.more end))) begins in
+        ap (λ s. goes (at s c fs ss (Stage.Long f.more end))) begins in
         let one = segment_leads g l r (waits_long f.more end) before octets f.kept n found f.more f.says turns (inr refl)
-        (lull_noticed l (waits_long f.more end) (resting (past_token (place r) before TokenKind.LongString n)) refl early early)
+        (waiting_noticed l (waits_long f.more end) (resting (past_token (place r) before TokenKind.LongString n)) refl early early)
         (ready_quiet g l s c fs ss before octets (n - 1) (omega arith) (omega arith)) (inl refl) in
-        behind_it (rested before s c fs ss Now.Ready) refl
-        (subst (λ w. LeadsTo g l (rested before s c fs ss Now.Ready) octets n (with_scan (resting mid) (waits_long w end))) only
-        (subst (λ p. LeadsTo g l (rested before s c fs ss Now.Ready) octets n
+        behind_it (rested before s c fs ss Stage.Ready) refl
+        (subst (λ w. LeadsTo g l (rested before s c fs ss Stage.Ready) octets n (with_scan (resting mid) (waits_long w end))) only
+        (subst (λ p. LeadsTo g l (rested before s c fs ss Stage.Ready) octets n
         (with_scan (resting (past_token p before TokenKind.LongString n)) (waits_long f.more end))) here one))
 
     -- where a long string waits, a further one
-    further_on : (end : ℕ) → end ≤ before.used → LeadsTo g l (rested before start c fs ss (Now.Long old end)) octets count
-        (rested after start c fs ss (Now.Long new (before.used + n)))
+    further_on : (end : ℕ) → end ≤ before.used → LeadsTo g l (rested before start c fs ss (Stage.Long old end)) octets count
+        (rested after start c fs ss (Stage.Long new (before.used + n)))
     further_on end early =
         let r = waits_long old end in
         let f = x.segment in
         let there : place r ≡ p = long_at fs old end ∙ here in
         let found : IsFound (place r) before octets TokenKind.LongString f.kept n false =
         subst (λ p. IsFound p before octets TokenKind.LongString f.kept n false) (sym there) f.found in
-        behind_it (rested before start c fs ss (Now.Long old end)) refl
-        (subst (λ p. LeadsTo g l (rested before start c fs ss (Now.Long old end)) octets n
+        behind_it (rested before start c fs ss (Stage.Long old end)) refl
+        (subst (λ p. LeadsTo g l (rested before start c fs ss (Stage.Long old end)) octets n
         (with_scan (resting (past_token p before TokenKind.LongString n)) (waits_long text (before.used + n)))) there
         (segment_joined g l r old end refl (omega arith) before octets f.kept n found f.more f.says (omega arith)))
 
 -- behind a long string in an open container the octet shows that it is whole
 pub settled_on : (g : Catalog) (l : Limits) (start : ℕ) (c : List Slot) (ss : Symbols) (fs : List Frame) (p : Place) (before : Rest) (octets : List ℕ)
-    (count : ℕ) (after : Rest) (text : List ℕ) (x : LongThere p before octets count after text) → is_top fs ≡ false → place_in fs Now.Ready ≡ p
+    (count : ℕ) (after : Rest) (text : List ℕ) (x : LongThere p before octets count after text) → is_top fs ≡ false → place_in fs Stage.Ready ≡ p
     → before.used + length octets ≤ l.item + start → (end : ℕ) (q : Reading)
     → ended (under g l) (spot_at end start c) fs (annotated ss (payloads.Str text)) ≡ goes q
-    → Passes g l (rested before start c fs ss Now.Ready) octets count (with_scan (resting after) q)
+    → Passes g l (rested before start c fs ss Stage.Ready) octets count (with_scan (resting after) q)
 settled_on g l start c ss [] p before octets count after text x inner here room end q does = absurd cc
 settled_on g l start c ss (f ∷ fs) p before octets count after text x inner here room end q does =
     let s = x.segments.leads g l start c ss (f ∷ fs) here room in
-    let r = at start c (f ∷ fs) ss (Now.Long text s.0) in
+    let r = at start c (f ∷ fs) ss (Stage.Long text s.0) in
     let more = x.more in
     let size = length-drop count octets in
     let stays = ended_stays (under g l) (spot_at end start c) q (f ∷ fs) (annotated ss (payloads.Str text)) refl does in
     let none : count + 0 ≡ count = omega arith in
-    let up_to = passes_led g l (rested before start c (f ∷ fs) ss Now.Ready) (with_scan (resting after) r) octets count (omega arith) x.segments.used s.2 in
+    let up_to = passes_led g l (rested before start c (f ∷ fs) ss Stage.Ready) (with_scan (resting after) r) octets count (omega arith) x.segments.used s.2 in
     let whole : Passes g l (with_scan (resting after) r) (drop count octets) 0 (with_scan (resting after) q) =
     long_settled g l r text s.0 refl after (drop count octets) q (omega arith) (ap ends_long (at_drop count octets) ∙ x.ends)
     (ended_anywhere (under g l) start c (f ∷ fs) (annotated ss (payloads.Str text)) s.0 end refl ∙ does) (still_settles g l q stays.2)
     (ended_place (under g l) (spot_at end start c) q (f ∷ fs) (annotated ss (payloads.Str text)) refl does ∙ sym (long_at (f ∷ fs) text s.0)) in
-    subst (λ k. Passes g l (rested before start c (f ∷ fs) ss Now.Ready) octets k (with_scan (resting after) q)) none
-    (passes_on g l (rested before start c (f ∷ fs) ss Now.Ready) (with_scan (resting after) r) (with_scan (resting after) q) octets count 0 up_to whole)
+    subst (λ k. Passes g l (rested before start c (f ∷ fs) ss Stage.Ready) octets k (with_scan (resting after) q)) none
+    (passes_on g l (rested before start c (f ∷ fs) ss Stage.Ready) (with_scan (resting after) r) (with_scan (resting after) q) octets count 0 up_to whole)
 
 -- behind a segment and a blank so many octets are used
 segment_used : (p : Place) (before : Rest) (octets : List ℕ) (count : ℕ) (after : Rest) (old new : List ℕ) → PassedSegment p before octets count after old new
@@ -320,10 +320,10 @@ more_segments p before mid after octets behind i j old new is s x =
           let start' = begun_at start before.used fs ss in (
             mid.used + x.size,
             omega arith,
-            leads_on g l (rested before start c fs ss Now.Ready) (rested mid start' c fs ss (Now.Long old begun.0))
-                (rested after start' c fs ss (Now.Long new (mid.used + x.size))) octets i j first used begun.2
-                (subst (λ w. LeadsTo g l (rested mid start' c fs ss (Now.Long old begun.0)) w j
-                (rested after start' c fs ss (Now.Long new (mid.used + x.size)))) is
+            leads_on g l (rested before start c fs ss Stage.Ready) (rested mid start' c fs ss (Stage.Long old begun.0))
+                (rested after start' c fs ss (Stage.Long new (mid.used + x.size))) octets i j first used begun.2
+                (subst (λ w. LeadsTo g l (rested mid start' c fs ss (Stage.Long old begun.0)) w j
+                (rested after start' c fs ss (Stage.Long new (mid.used + x.size)))) is
                 (further_on g l start' c ss fs p mid behind j after old new x here (omega arith) begun.0 begun.1)),
           );
       some = omega arith;

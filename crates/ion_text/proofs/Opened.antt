@@ -3,7 +3,7 @@ use Rattle.std.proofs.Common.{◌≡◌, List, [], ◌∷◌, ◌++◌, reverse,
 use Rattle.std.specs.Prelude.{◌<◌, IsSome}
 use Rattle.std.specs.Option.{option_to_list}
 use Rattle.std.proofs.lemmas.List.{reverse-append}
-use Rattle.ion_text.specs.Names.{AreAround, AreOpen, Bracket, Does, DoesAlone, Enters, Event, Frame, Goes, Hears, Holds, Listing, MayClose, Now, Reason, Setting, Spot, Symbols, TableFilter, Tells, TextWalk, Turned, Value, WasTold, WentOn, annotated, annotation, at, behind_comma, bracket_of, brackets_of, calm, closed, closes_in, ended, events_of, first_now, goes, has_notes, heard, is_same, name, named, on_comma, open_brackets, opened, opens, told}
+use Rattle.ion_text.specs.Names.{AreAround, AreOpen, Bracket, Does, DoesAlone, Enters, Event, Frame, Goes, Hears, Holds, ListOrSexp, MayClose, Reason, Setting, Spot, Stage, Symbols, TableFilter, Tells, TextWalk, Turned, Value, WasTold, WentOn, annotated, annotation, at, behind_comma, bracket_of, brackets_of, calm, closed, closes_in, ended, events_of, first_now, goes, has_notes, heard, is_same, name, named, on_comma, open_brackets, opened, opens, told}
 use Rattle.ion_model.specs.declared.value.Payload.TheVariants as payloads
 use Rattle.ion_visiting.specs.Events.{closes}
 use Rattle.ion_text.specs.walk.Holds.{told_in}
@@ -27,7 +27,7 @@ pushed : (items : List Bracket) (b : Bracket) (fs : List Frame) (ss : Symbols) �
 pushed items b fs ss e =
     reverse-append items (b ∷ []) ∙ (ap (λ bs. b ∷ bs) e ∙ ap (λ x. x ∷ brackets_of fs) (sym (bracket_opened b ss)))
 
-pub entered : {V : Type 0} (leads : V → Event → V → Type 0) (r new : TextWalk) (b : Bracket) (a z : V) → r.stage ≡ Now.Ready
+pub entered : {V : Type 0} (leads : V → Event → V → Type 0) (r new : TextWalk) (b : Bracket) (a z : V) → r.stage ≡ Stage.Ready
     → new.frames.items ≡ r.frames.items ++ b ∷ [] → new.noted ≡ false → new.stage ≡ first_now b → new.start ≡ r.start → new.context ≡ r.context
     → Tells leads (opens b) r.filter new.filter a z
     → (fs : List Frame) (ss : Symbols) → Holds r fs ss → Enters leads b r new fs ss a z
@@ -56,7 +56,7 @@ noted_some : (ss : Symbols) (s : _) → true ≡ has_notes (ss ++ s ∷ [])
 noted_some [] s = refl
 noted_some (t ∷ ss) s = refl
 
-pub notes_went : {V : Type 0} (leads : V → Event → V → Type 0) (r new : TextWalk) (s : _) (a z : V) → r.stage ≡ Now.Ready
+pub notes_went : {V : Type 0} (leads : V → Event → V → Type 0) (r new : TextWalk) (s : _) (a z : V) → r.stage ≡ Stage.Ready
     → new.frames ≡ r.frames → new.noted ≡ true → new.stage ≡ r.stage
     → ((es : List Event) → WasTold r.filter es
     → WasTold new.filter (es ++ annotation s ∷ []) × Hears leads (heard es) (heard (es ++ annotation s ∷ [])) a z)
@@ -78,20 +78,20 @@ notes_went leads r new s a z ready same noted stage tells fs ss h =
 
 -- 3. The name of a field.
 
-pub names_does : {V : Type 0} (leads : V → Event → V → Type 0) (r new : TextWalk) (s : _) (a z : V) → r.stage ≡ Now.Name
-    → new.frames ≡ r.frames → new.noted ≡ r.noted → new.stage ≡ Now.Ready → new.start ≡ r.start → new.context ≡ r.context
+pub names_does : {V : Type 0} (leads : V → Event → V → Type 0) (r new : TextWalk) (s : _) (a z : V) → r.stage ≡ Stage.Name
+    → new.frames ≡ r.frames → new.noted ≡ r.noted → new.stage ≡ Stage.Ready → new.start ≡ r.start → new.context ≡ r.context
     → ((es : List Event) → WasTold r.filter es → WasTold new.filter (es ++ name s ∷ []) × Hears leads (heard es) (heard (es ++ name s ∷ [])) a z)
     → (fs : List Frame) → Holds r fs [] → Does leads (told fs []) (named r.start r.context fs s) (Ok Goes) new a z
 names_does leads r new s a z stage same noted now start context tells fs h = by fs h (subst (λ n. AreOpen fs [] (calm n)) stage h.0.open_there)
   where
-    by : (fs : List Frame) → Holds r fs [] → AreOpen fs [] Now.Name → Does leads (told fs []) (named r.start r.context fs s) (Ok Goes) new a z
+    by : (fs : List Frame) → Holds r fs [] → AreOpen fs [] Stage.Name → Does leads (told fs []) (named r.start r.context fs s) (Ok Goes) new a z
     by (Frame.Fields ss ms ∷ fs) h o =
         let i = tells (told (Frame.Fields ss ms ∷ fs) []) h.1 in
         let e = name_told fs ss ms s in (
           Frame.Named ss ms s ∷ fs,
           [],
-          ap (λ x. goes (at x r.context (Frame.Named ss ms s ∷ fs) [] Now.Ready)) (sym start)
-              ∙ (ap (λ x. goes (at new.start x (Frame.Named ss ms s ∷ fs) [] Now.Ready)) (sym context)
+          ap (λ x. goes (at x r.context (Frame.Named ss ms s ∷ fs) [] Stage.Ready)) (sym start)
+              ∙ (ap (λ x. goes (at new.start x (Frame.Named ss ms s ∷ fs) [] Stage.Ready)) (sym context)
               ∙ ap (λ x. goes (at new.start new.context (Frame.Named ss ms s ∷ fs) [] x)) (sym now)),
           record {
             holds = (
@@ -110,12 +110,12 @@ names_does leads r new s a z stage same noted now start context tells fs h = by 
 -- 4. A close.
 
 -- where a close may come, such containers are open around the one that it closes
-around_open : (f : Frame) (fs : List Frame) (now : Now) → AreOpen (f ∷ fs) [] now → AreAround fs
-around_open (Frame.Items listing ss vs) fs Now.Ready o = o
-around_open (Frame.Named ss ms s) fs Now.Ready o = o
-around_open (Frame.Items Listing.List ss vs) fs Now.After o = o
-around_open (Frame.Fields ss ms) fs Now.After o = o
-around_open (Frame.Fields ss ms) fs Now.Name o = o
+around_open : (f : Frame) (fs : List Frame) (now : Stage) → AreOpen (f ∷ fs) [] now → AreAround fs
+around_open (Frame.Items listing ss vs) fs Stage.Ready o = o
+around_open (Frame.Named ss ms s) fs Stage.Ready o = o
+around_open (Frame.Items ListOrSexp.List ss vs) fs Stage.After o = o
+around_open (Frame.Fields ss ms) fs Stage.After o = o
+around_open (Frame.Fields ss ms) fs Stage.Name o = o
 around_open _ fs _ o = absurd o
 
 -- a container of these brackets closes, where this may come next: the frames of the model are its frame and those around it
@@ -133,24 +133,24 @@ module _ {V : Type 0} (leads : V → Event → V → Type 0) (setting : Setting)
       does_behind leads (told before []) (told_in fs ++ events_of v) (ended setting spot fs v) result new a z
       (subst (λ es. Hears leads (heard (told before [])) (heard es) a z) there i.1) (ends fs v same around (subst (λ es. WasTold g es) there i.0))
 
-  by : (b' : Bracket) → b' ≡ b → (f : Frame) (fs : List Frame) (now : Now) → b ≡ bracket_of f → outer ≡ brackets_of fs → MayClose b' now
+  by : (b' : Bracket) → b' ≡ b → (f : Frame) (fs : List Frame) (now : Stage) → b ≡ bracket_of f → outer ≡ brackets_of fs → MayClose b' now
       → AreOpen (f ∷ fs) [] now → WasTold r.filter (told (f ∷ fs) [])
       → Does leads (told (f ∷ fs) []) (closed b' setting spot (f ∷ fs)) result new a z
-  by Bracket.List e (Frame.Items Listing.List ss vs) fs now i same m o was =
-      whole Bracket.List e fs (Frame.Items Listing.List ss vs ∷ fs) (annotated ss (payloads.List vs)) was same
-      (around_open (Frame.Items Listing.List ss vs) fs now o) (list_told fs ss vs)
-  by Bracket.Sexp e (Frame.Items Listing.Sexp ss vs) fs now i same m o was =
-      whole Bracket.Sexp e fs (Frame.Items Listing.Sexp ss vs ∷ fs) (annotated ss (payloads.Sexp vs)) was same
-      (around_open (Frame.Items Listing.Sexp ss vs) fs now o) (sexp_told fs ss vs)
+  by Bracket.List e (Frame.Items ListOrSexp.List ss vs) fs now i same m o was =
+      whole Bracket.List e fs (Frame.Items ListOrSexp.List ss vs ∷ fs) (annotated ss (payloads.List vs)) was same
+      (around_open (Frame.Items ListOrSexp.List ss vs) fs now o) (list_told fs ss vs)
+  by Bracket.Sexp e (Frame.Items ListOrSexp.Sexp ss vs) fs now i same m o was =
+      whole Bracket.Sexp e fs (Frame.Items ListOrSexp.Sexp ss vs ∷ fs) (annotated ss (payloads.Sexp vs)) was same
+      (around_open (Frame.Items ListOrSexp.Sexp ss vs) fs now o) (sexp_told fs ss vs)
   by Bracket.Fields e (Frame.Fields ss ms) fs now i same m o was =
       whole Bracket.Fields e fs (Frame.Fields ss ms ∷ fs) (annotated ss (payloads.Fields ms)) was same
       (around_open (Frame.Fields ss ms) fs now o) (fields_told fs ss ms)
   by Bracket.Fields e (Frame.Named ss ms s) fs now i same m o was = absurd (nowhere now m o)
     where
-      nowhere : (now : Now) → MayClose Bracket.Fields now → AreOpen (Frame.Named ss ms s ∷ fs) [] now → ⊥
-      nowhere Now.Ready m o = m
+      nowhere : (now : Stage) → MayClose Bracket.Fields now → AreOpen (Frame.Named ss ms s ∷ fs) [] now → ⊥
+      nowhere Stage.Ready m o = m
       nowhere _ m o = o
-  by Bracket.Fields e (Frame.Items Listing.List ss vs) fs now i same m o was = absurd cc
+  by Bracket.Fields e (Frame.Items ListOrSexp.List ss vs) fs now i same m o was = absurd cc
   by _ e _ fs now i same m o was = absurd cc
 
   pub closes_does : (fs : List Frame) → Holds r fs [] → Does leads (told fs []) (closed b setting spot fs) result new a z
@@ -175,21 +175,21 @@ popped b (y ∷ items) rest None e some h = let s = some (omega arith) in absurd
 
 -- 5. A comma.
 
-pub comma_goes : (r new : TextWalk) (s : Now) → behind_comma (open_brackets r) ≡ Some s → new ≡ staged r s → r.stage ≡ Now.After
+pub comma_goes : (r new : TextWalk) (s : Stage) → behind_comma (open_brackets r) ≡ Some s → new ≡ staged r s → r.stage ≡ Stage.After
     → (fs : List Frame) → Holds r fs [] → DoesAlone (told fs []) (on_comma r.start r.context fs) (Ok Goes) new
 comma_goes r new s behind is stage fs h =
     subst (λ n. DoesAlone (told fs []) (on_comma r.start r.context fs) (Ok Goes) n) (sym is)
     (by fs h (subst (λ n. AreOpen fs [] (calm n)) stage h.0.open_there) (ap behind_comma (sym h.0.frames) ∙ behind))
   where
-    by : (fs : List Frame) → Holds r fs [] → AreOpen fs [] Now.After → behind_comma (brackets_of fs) ≡ Some s
+    by : (fs : List Frame) → Holds r fs [] → AreOpen fs [] Stage.After → behind_comma (brackets_of fs) ≡ Some s
         → DoesAlone (told fs []) (on_comma r.start r.context fs) (Ok Goes) (staged r s)
-    by (Frame.Items Listing.List ss vs ∷ fs) h o e =
-        let now : Now.Ready ≡ s = cc in
-        subst (λ n. DoesAlone (told (Frame.Items Listing.List ss vs ∷ fs) []) (on_comma r.start r.context (Frame.Items Listing.List ss vs ∷ fs))
+    by (Frame.Items ListOrSexp.List ss vs ∷ fs) h o e =
+        let now : Stage.Ready ≡ s = cc in
+        subst (λ n. DoesAlone (told (Frame.Items ListOrSexp.List ss vs ∷ fs) []) (on_comma r.start r.context (Frame.Items ListOrSexp.List ss vs ∷ fs))
         (Ok Goes) (staged r n)) now
-        (Frame.Items Listing.List ss vs ∷ fs, [], refl, (record { frames = h.0.frames; notes = h.0.notes; open_there = o }, h.1), refl)
+        (Frame.Items ListOrSexp.List ss vs ∷ fs, [], refl, (record { frames = h.0.frames; notes = h.0.notes; open_there = o }, h.1), refl)
     by (Frame.Fields ss ms ∷ fs) h o e =
-        let now : Now.Name ≡ s = cc in
+        let now : Stage.Name ≡ s = cc in
         subst (λ n. DoesAlone (told (Frame.Fields ss ms ∷ fs) []) (on_comma r.start r.context (Frame.Fields ss ms ∷ fs)) (Ok Goes) (staged r n)) now
         (Frame.Fields ss ms ∷ fs, [], refl, (record { frames = h.0.frames; notes = h.0.notes; open_there = o }, h.1), refl)
     by _ h o e = absurd o

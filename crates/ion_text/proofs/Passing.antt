@@ -4,7 +4,7 @@ use Rattle.std.proofs.lemmas.Bool.{le-leb, true_from_ne_false}
 use Rattle.std.specs.Prelude.{◌&&◌, ◌||◌, not, nat_le, if◌then◌else◌}
 use Rattle.std.proofs.lemmas.Grind.{common_steps}
 use Rattle.std.proofs.lemmas.List.{length-take-le, take-append-drop, drop-take}
-use Rattle.ion_text.specs.Names.{Catalog, Content, Effect, Frame, Given, Held, IsCalm, Known, LeadsTo, Left, Lexeme, Limits, Mode, Next, Now, OnNext, Outcome, Passes, Place, Quiet, Reading, Reason, State, Stays, Symbols, Waiting, base, behind_given, behind_left, drive, eats, fails, feed, floor, followed, go_on, goes, in_segment, is_colons, is_idle, is_sane, is_top, led, noticed, on_said, on_scan, on_settled, place, reaches, run, run-append, run_on, said, settle, shut, symbol_waits, takes, then_run, token_of, turn, unsettled, uses, waits, waits_now, with_scan}
+use Rattle.ion_text.specs.Names.{Catalog, Content, Effect, Frame, Given, Held, IsCalm, Known, LeadsTo, Left, Lexeme, Limits, Mode, Next, OnNext, Outcome, Passes, Place, Quiet, Reading, Reason, Stage, State, Stays, Symbols, Waiting, base, behind_given, behind_left, drive, eats, fails, feed, floor, followed, go_on, goes, in_segment, is_colons, is_idle, is_sane, is_top, led, noticed, on_said, on_scan, on_settled, place, reaches, run, run-append, run_on, said, settle, shut, symbol_waits, takes, then_run, token_of, turn, unsettled, uses, waits, waits_now, with_scan}
 use Rattle.ion_tokens.specs.machine.Scanning as scanning
 use Rattle.ion_tokens.specs.laws.Again.{blank_uses}
 use Rattle.ion_tokens.proofs.runs.Runs.{feed_used, next_used}
@@ -179,7 +179,7 @@ inner_notices l r inner s idle room = idle_noticed l r s idle inner room
 
 module _ (g : Catalog) (l : Limits) (r : Reading) where
   -- a blank behind what may be a symbol goes on to wait
-  pub blank_waits : (h : Held) (end : ℕ) → r.now ≡ Now.Pending h end → (p : Place) (os : List ℕ) (s t : Known) → is_sane s.mode ≡ true → is_idle t.mode ≡ true
+  pub blank_waits : (h : Held) (end : ℕ) → r.now ≡ Stage.Pending h end → (p : Place) (os : List ℕ) (s t : Known) → is_sane s.mode ≡ true → is_idle t.mode ≡ true
       → scanning.run p os s ≡ Next t → Waiting g l r p s os
   blank_waits h end now = waits_as is_idle begun_stays g l r (λ k idle. ap (λ n. waits_now (is_top r.frames) n (Next k)) now ∙ idle)
 
@@ -203,7 +203,7 @@ module _ (g : Catalog) (l : Limits) (r : Reading) where
       passes_blank still = blank_led (inl still)
 
       -- a blank behind what may be a symbol
-      pub passes_waiting : (h : Held) (end : ℕ) → r.now ≡ Now.Pending h end → Passes g l (with_scan s r) octets n (with_scan t r)
+      pub passes_waiting : (h : Held) (end : ℕ) → r.now ≡ Stage.Pending h end → Passes g l (with_scan s r) octets n (with_scan t r)
       passes_waiting h end now = blank_led (inr (blank_waits h end now (place r) (take n octets) s t sane idle e))
 
 module _ (g : Catalog) (l : Limits) (r : Reading) (inner : is_top r.frames ≡ false) where
@@ -275,7 +275,7 @@ module _ (g : Catalog) (l : Limits) (r : Reading) where
 
 module _ (g : Catalog) (l : Limits) (r : Reading) where
   -- `::` behind what may be a symbol: its last octet, where the scanner knows this before it
-  pub passes_colons : (h : Held) (end : ℕ) → r.now ≡ Now.Pending h end → (k b : Known) (octets : List ℕ) (x : Lexeme) (c : Content) (q : Reading)
+  pub passes_colons : (h : Held) (end : ℕ) → r.now ≡ Stage.Pending h end → (k b : Known) (octets : List ℕ) (x : Lexeme) (c : Content) (q : Reading)
       → 0 < length octets → feed (place r) k (get_or octets 0 0) ≡ Given x b → is_colons x.kind ≡ true → said x.kind x.octets ≡ Ok c → turn g l r (token_of x c)
       ≡ goes q
       → is_idle b.mode ≡ true → b.used ≡ k.used + 1 → (most : ℕ) → NoticesNothing l q most → b.used ≤ most → Passes g l (with_scan k r) octets 1 (with_scan b q)
@@ -291,7 +291,7 @@ module _ (g : Catalog) (l : Limits) (r : Reading) where
       waits_on = ap (λ y. unsettled k r y) f ∙ (ap (λ n. waits_now (is_top r.frames) n (Given x b) || in_segment n k) now ∙ ap (λ b. b || false) colons)
 
   -- an octet that shows that what may be a symbol is none before `::`
-  pub passes_settled : (s : Known) (h : Held) (end : ℕ) (octets : List ℕ) (q : Reading) → 0 < length octets → r.now ≡ Now.Pending h end
+  pub passes_settled : (s : Known) (h : Held) (end : ℕ) (octets : List ℕ) (q : Reading) → 0 < length octets → r.now ≡ Stage.Pending h end
       → symbol_waits (feed (place r) s (get_or octets 0 0)) ≡ false → settle g l r ≡ goes q → settle g l q ≡ goes q → place q ≡ place r
       → Passes g l (with_scan s r) octets 0 (with_scan s q)
   passes_settled s h end octets q some now ends settles still same =
@@ -303,7 +303,7 @@ module _ (g : Catalog) (l : Limits) (r : Reading) where
           (λ m. takes g l 2 m (get_or octets 0 0)) s (feed (place r) s (get_or octets 0 0)) (settle g l r)) (free r.now now ∙ ends)
           ∙ ap (on_settled g l (λ m. takes g l 2 m (get_or octets 0 0)) s (feed (place r) s (get_or octets 0 0))) settles
         where
-          free : (n : Now) → n ≡ Now.Pending h end → (waits_now (is_top r.frames) n (feed (place r) s (get_or octets 0 0)) || in_segment n s)
+          free : (n : Stage) → n ≡ Stage.Pending h end → (waits_now (is_top r.frames) n (feed (place r) s (get_or octets 0 0)) || in_segment n s)
               ≡ symbol_waits (feed (place r) s (get_or octets 0 0))
           free n e = ap (λ k. waits_now (is_top r.frames) k (feed (place r) s (get_or octets 0 0)) || in_segment k s) e
               ∙ none (symbol_waits (feed (place r) s (get_or octets 0 0)))

@@ -1,7 +1,7 @@
 -- What tokens say that lie whole in a piece, for a reader that holds no values.
 use Rattle.std.specs.Prelude.{IfSome}
 use Rattle.std.proofs.Common.{◌≡◌, ℕ, Bool, true, false, List, Option, Some, Ok, refl, ap, sym, subst}
-use Rattle.ion_text.specs.Names.{BeginsName, BeginsValue, Content, FoundNumber, FoundPart, FoundSymbol, FoundToken, Held, Id, IsValue, NameThere, Now, Number, Number', Payload, Place, Rest, SaysThere, Scalar, Slot, TokenKind, WaitsThere, at, goes, held_of, held_payload, id_of, is_marker, keyed, number_payload, resolve, resolved, said, spot_at, takes_colon, word_said}
+use Rattle.ion_text.specs.Names.{BeginsName, BeginsValue, Content, FoundNumber, FoundPart, FoundSymbol, FoundToken, Held, Id, IsValue, NameThere, Number, Number', Payload, Place, Rest, SaysThere, Scalar, Slot, Stage, TokenKind, WaitsThere, at, goes, held_of, held_payload, id_of, is_marker, keyed, number_payload, resolve, resolved, said, spot_at, takes_colon, word_said}
 use Rattle.ion_text.proofs.Symbols.{held_in, name_colon, names_so, symbol_colon, waits_so}
 
 -- a part that was found is such a value
@@ -83,7 +83,7 @@ module _ (slots : List Slot) (r : Rest) (octets : List ℕ) (token : FoundToken)
     content = Id id;
     there = x;
     may = ap (takes_colon p) word;
-    waits = λ setting end start fs ss. ap (λ k. resolved k (λ s. goes (at start slots fs ss (Now.Pending (Held.Symbol s) end)))) is;
+    waits = λ setting end start fs ss. ap (λ k. resolved k (λ s. goes (at start slots fs ss (Stage.Pending (Held.Symbol s) end)))) is;
   }
 
   pub id_names : SaysThere Place.Name r octets token (Id id) → NameThere slots r octets token s

@@ -4,12 +4,12 @@ use Rattle.std.specs.Prelude.{◌==◌, ◌&&◌, if◌then◌else◌, IsUtf8}
 use Rattle.std.proofs.lemmas.Bool.Decides.{nat_tests}
 use Rattle.std.proofs.lemmas.Grind.{common_steps}
 use Rattle.std.proofs.lemmas.List.{length-take-le}
-use Rattle.ion_text.specs.Names.{Action, BeginsName, BeginsValue, Blob, Catalog, Clob, Content, FoundToken, Frame, Held, IsBody, IsCalm, IsFound, IsPassed, IsStill, Known, Limits, Long, Mark, Mark', Names, Next, Now, Number', Operator, Outcome, Passes, Payload, Pays, Place, Quiet, Quoted, Reading, Reason, Rest, RestsBehind, SaysNumber, Setting, Short, Slot, Spot, Symbols, TokenKind, TypedNull, Word, acts, annotated, at, begins_value, begins_word, ended, ends_symbol, feed, follow, goes, held_of, held_payload, held_symbol, held_word, in_blank, is_digit, is_idle, is_keyword, is_name, is_operator_octet, is_sexp, is_top, is_white, keyed, late, lexeme_at, long_waits, named, noted, on_name, on_ready, paid, past_blank, past_token, place, place_in, resting, said, says, settle, spot_in, symbol_waits, takes_colon, token_at, token_of, turn, turn_now, under, with_scan}
+use Rattle.ion_text.specs.Names.{Action, BeginsName, BeginsValue, Blob, Catalog, Clob, Content, FoundToken, Frame, Held, IsBody, IsCalm, IsFound, IsPassed, IsStill, Known, Limits, Long, Mark, Mark', Names, Next, Number', Operator, Outcome, Passes, Payload, Pays, Place, Quiet, Quoted, Reading, Reason, Rest, RestsBehind, SaysNumber, Setting, Short, Slot, Spot, Stage, Symbols, TokenKind, TypedNull, Word, acts, annotated, at, begins_value, begins_word, ended, ends_symbol, feed, follow, goes, held_of, held_payload, held_symbol, held_word, in_blank, is_digit, is_idle, is_keyword, is_name, is_operator_octet, is_sexp, is_top, is_white, keyed, late, lexeme_at, long_waits, named, noted, on_name, on_ready, paid, past_blank, past_token, place, place_in, resting, said, says, settle, spot_in, symbol_waits, takes_colon, token_at, token_of, turn, turn_now, under, with_scan}
 use Rattle.ion_model.specs.declared.value.Payload.TheVariants as payloads
 use Rattle.ion_tokens.specs.machine.Scanning as scanning
 use Rattle.ion_tokens.proofs.runs.Runs.{next_used}
 use Rattle.ion_tokens.proofs.runs.WholeTokens.{colon_found, colons_found}
-use Rattle.ion_text.proofs.Arms.{StaysIn, at_drop, blank_colon, blank_used, ended_place, ended_stays, first_of, found_passes, left_found, mark_says, name_place, ready_turns, released_inner, same_place_in, short_says, spelled_utf8, word_says}
+use Rattle.ion_text.proofs.TokenSteps.{StaysIn, at_drop, blank_colon, blank_used, ended_place, ended_stays, first_of, found_passes, left_found, mark_says, name_place, ready_turns, released_inner, same_place_in, short_says, spelled_utf8, word_says}
 use Rattle.ion_text.proofs.Passing.{NoticesNothing, blank_quiet, calm_quiet, inner_notices, passes_blank, passes_colons, passes_on, passes_settled, passes_waiting}
 use Rattle.ion_text.proofs.Striding.{still_settles}
 
@@ -23,14 +23,14 @@ ok_is a b e = cc
 
 -- what may be an annotation waits for `::` where a value may come
 pub waits_so : (setting : Setting) (spot : Spot) (fs : List Frame) (ss : Symbols) (c : Content) (h : Held) → held_of c ≡ Some h → on_ready setting spot fs ss c
-    ≡ goes (at spot.start spot.context fs ss (Now.Pending h spot.end))
+    ≡ goes (at spot.start spot.context fs ss (Stage.Pending h spot.end))
 waits_so setting spot fs ss c h e = go c e
   where
-    held : (a : Held) → Some a ≡ Some h → goes (at spot.start spot.context fs ss (Now.Pending a spot.end))
-        ≡ goes (at spot.start spot.context fs ss (Now.Pending h spot.end))
-    held a e = ap (λ x. goes (at spot.start spot.context fs ss (Now.Pending x spot.end))) (some_is a h e)
+    held : (a : Held) → Some a ≡ Some h → goes (at spot.start spot.context fs ss (Stage.Pending a spot.end))
+        ≡ goes (at spot.start spot.context fs ss (Stage.Pending h spot.end))
+    held a e = ap (λ x. goes (at spot.start spot.context fs ss (Stage.Pending x spot.end))) (some_is a h e)
 
-    go : (c : Content) → held_of c ≡ Some h → on_ready setting spot fs ss c ≡ goes (at spot.start spot.context fs ss (Now.Pending h spot.end))
+    go : (c : Content) → held_of c ≡ Some h → on_ready setting spot fs ss c ≡ goes (at spot.start spot.context fs ss (Stage.Pending h spot.end))
     go (Word w) e = held _ e
     go (Quoted w) e = held _ e
     go (TypedNull k) e = held _ e
@@ -171,17 +171,17 @@ colon_idle p b octets may colon k e = ap idle_in (sym e) ∙ by octets colon
         ∙ ap (λ c. idle_in (follow (acts p (resting b) 58 (in_blank p c 58)) (λ s. Next s))) may
 
 -- An annotation, wherever it may come, with the blank and `::` behind it.
-module _ (g : Catalog) (l : Limits) (r : Reading) (start : ℕ) (now : r.now ≡ Now.Ready) (still : settle g l r ≡ goes r) (rest : Rest) (octets : List ℕ)
+module _ (g : Catalog) (l : Limits) (r : Reading) (start : ℕ) (now : r.now ≡ Stage.Ready) (still : settle g l r ≡ goes r) (rest : Rest) (octets : List ℕ)
     (kind : TokenKind) (kept : List ℕ) (n m : ℕ) (left : Bool) (c : Content) (held : Held) (s : Option (List ℕ))
     (found : IsFound (place r) rest octets kind kept n left) (says : said kind kept ≡ Ok c) (may : takes_colon (place r) kind ≡ true)
     (symbol : held_symbol held ≡ Ok s)
     (passed : IsPassed (drop n octets) m)
     (within : n + m + 2 < length octets) (one : get_or octets (n + m) 0 ≡ 58) (two : get_or octets (n + m + 1) 0 ≡ 58) where
   abbrev pub held_back : Reading
-  held_back = at start r.context r.frames r.notes (Now.Pending held (rest.used + n))
+  held_back = at start r.context r.frames r.notes (Stage.Pending held (rest.used + n))
 
   abbrev pub with_note : Reading
-  with_note = at start r.context r.frames (r.notes ++ s ∷ []) Now.Ready
+  with_note = at start r.context r.frames (r.notes ++ s ∷ []) Stage.Ready
 
   abbrev past_symbol : Rest
   past_symbol = past_token (place r) rest kind n
@@ -249,7 +249,7 @@ module _ (g : Catalog) (l : Limits) (r : Reading) (start : ℕ) (now : r.now ≡
 
 -- The machine over such a token, the blank behind it, and what follows.
 
-named_place : (start : ℕ) (c : List Slot) (q : Reading) (fs : List Frame) (s : Option (List ℕ)) → named start c fs s ≡ goes q → is_name (place_in fs Now.Name)
+named_place : (start : ℕ) (c : List Slot) (q : Reading) (fs : List Frame) (s : Option (List ℕ)) → named start c fs s ≡ goes q → is_name (place_in fs Stage.Name)
     ≡ true
 named_place start c q (Frame.Fields ss ms ∷ fs) s e = refl
 named_place start c q _ s e = absurd cc
@@ -277,14 +277,14 @@ module _ (g : Catalog) (l : Limits) (r : Reading) (inner : is_top r.frames ≡ f
       (omega arith)
 
   -- where a value or an annotation may come
-  module _ (now : r.now ≡ Now.Ready) (held : Held) (may : takes_colon (place r) kind ≡ true)
+  module _ (now : r.now ≡ Stage.Ready) (held : Held) (may : takes_colon (place r) kind ≡ true)
       (waits : on_ready (under g l) (spot_in r (rest.used + n)) r.frames r.notes c
-      ≡ goes (at r.start r.context r.frames r.notes (Now.Pending held (rest.used + n)))) where
+      ≡ goes (at r.start r.context r.frames r.notes (Stage.Pending held (rest.used + n)))) where
     abbrev waiting : Reading
-    waiting = at r.start r.context r.frames r.notes (Now.Pending held (rest.used + n))
+    waiting = at r.start r.context r.frames r.notes (Stage.Pending held (rest.used + n))
 
     waits_there : place waiting ≡ place r
-    waits_there = same_place_in r.frames Now.Ready waiting.now refl held (rest.used + n) refl ∙ ap (place_in r.frames) (sym now)
+    waits_there = same_place_in r.frames Stage.Ready waiting.now refl held (rest.used + n) refl ∙ ap (place_in r.frames) (sym now)
 
     is_token : Passes g l (with_scan (resting rest) r) octets n (with_scan (resting behind_token) waiting)
     is_token =
@@ -333,7 +333,7 @@ module _ (g : Catalog) (l : Limits) (r : Reading) (inner : is_top r.frames ≡ f
         (one : get_or octets (n + m) 0 ≡ 58)
         (two : get_or octets (n + m + 1) 0 ≡ 58) where
       abbrev noting : Reading
-      noting = at r.start r.context r.frames (r.notes ++ s ∷ []) Now.Ready
+      noting = at r.start r.context r.frames (r.notes ++ s ∷ []) Stage.Ready
 
       -- an annotation in a container, a blank and `::` lead the run behind them
       pub note_passes : Passes g l (with_scan (resting rest) r) octets (n + m + 2)
@@ -344,7 +344,7 @@ module _ (g : Catalog) (l : Limits) (r : Reading) (inner : is_top r.frames ≡ f
           (λ k idle few. inner_notices l waiting inner k idle (omega arith)) (λ k idle few. inner_notices l noting inner k idle (omega arith))
 
   -- where a field's name may come, and its colon
-  module _ (now : r.now ≡ Now.Name) (q : Reading) (passed : IsPassed (drop n octets) m) (more : n + m + 1 < length octets) (name : Option (List ℕ))
+  module _ (now : r.now ≡ Stage.Name) (q : Reading) (passed : IsPassed (drop n octets) m) (more : n + m + 1 < length octets) (name : Option (List ℕ))
       (may : is_name (place r) ≡ true → takes_colon (place r) kind ≡ true)
       (names : on_name (under g l) (spot_in r (rest.used + n)) r.frames c ≡ goes (keyed r.start r.context r.frames name))
       (colon : get_or octets (n + m) 0 ≡ 58) (one : get_or octets (n + m + 1) 0 ≢ 58) (does : named r.start r.context r.frames name ≡ goes q) where

@@ -8,8 +8,8 @@ use Rattle.ion_text.specs.machine.Progress.{BeginsWith}
 use Rattle.ion_text.specs.machine.Run.{ends}
 use Rattle.ion_text.specs.walk.Advances.{AdvancesBy, DidAdvance}
 use Rattle.ion_text.specs.laws.reading.Stands.{none_is, ran_ends}
-use Rattle.ion_text.proofs.Further.{answers, ran_further}
-use Rattle.ion_text.proofs.Pendings.{few, nothing}
+use Rattle.ion_text.proofs.AfterSteps.{answers, ran_further}
+use Rattle.ion_text.proofs.ValuesLeft.{few, nothing}
 
 -- 1. What a walk leaves.
 

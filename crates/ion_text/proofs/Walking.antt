@@ -4,7 +4,7 @@ use Rattle.std.specs.Prelude.{if◌then◌else◌, nat_lt}
 use Rattle.std.proofs.lemmas.Bool.Decides.{nat_tests}
 use Rattle.ion_text.specs.Names.{Bracket, Catalog, Content, Frame, IsCalm, IsFound, IsStill, Limits, Mark', Passes, Quiet, Reading, Rest, Setting, Spot, Symbols, TokenKind, at, before_end, beyond_depth, first_now, goes, is_top, lexeme_at, on_ready, open_mark, opened, past_token, place, resting, said, token_of, turn, with_scan}
 use Rattle.ion_text.specs.laws.reading.Brackets.{open_turns}
-use Rattle.ion_text.proofs.Arms.{StaysIn, given_found, left_found}
+use Rattle.ion_text.proofs.TokenSteps.{StaysIn, given_found, left_found}
 use Rattle.ion_text.proofs.Passing.{calm_quiet, inner_notices}
 use Rattle.ion_text.proofs.Striding.{still_settles}
 

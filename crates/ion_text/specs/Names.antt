@@ -16,7 +16,7 @@ pub use Rattle.ion_text.specs.machine.Places.{Leading, long_at, name_at, pending
 pub use Rattle.ion_text.specs.machine.Progress.{Advances, DidEnd, GaveLast, LedLeaving, Ran, StopsBefore, is_quiet, or_first, pending_by, resumed}
 pub use Rattle.ion_text.specs.machine.Run.{Effect, Run, State, begun, behind_given, behind_left, cut_short, eats, end_fails, end_late, end_now, end_ready, end_said, end_settled, end_turned, end_waiting, ends_of, failed_at, fails, has_segment, in_segment, is_fresh, is_long_begun, is_top, leaves, lesser, longest_top, noticed, on_octet, on_said, on_scan, on_settled, once_more, or_worse, reaches, refused_of, run, run_on, shut, takes, tells, token_of, trace, trace_of, unsettled, uses, waits, waits_now, with_scan, with_value}
 pub use Rattle.ion_text.specs.machine.TokenLists.{Walk, adds_adds, adds_none, adds_values, behind_waiting, continues, continues_now, done, first_token, in_place, on_judged, on_placed, on_turn, reads, reads-append, said_ok, stopped, then_walk}
-pub use Rattle.ion_text.specs.machine.Views.{IsBehind, IsCalm, IsLull, Notices, base, comes_again, count_of, decided, ended_so_far, floor, goes_on_long, goes_on_symbol, is_left, lulls, worse}
+pub use Rattle.ion_text.specs.machine.Views.{IsBehind, IsCalm, MayWaitOver, Notices, base, comes_again, count_of, decided, ended_so_far, floor, goes_on_long, goes_on_symbol, is_left, waits_over, worse}
 pub use Rattle.ion_text.specs.machine.Walked.{FoundNote, behind_note, rested}
 pub use Rattle.ion_text.specs.visiting.Brackets.{bracket_close, octet_between, open_octet}
 pub use Rattle.ion_text.specs.visiting.TextOut.{Writes, Written, between, front, lines, no_text, with_begun, with_close, with_item, with_open, without_lines, wrote}
@@ -24,7 +24,7 @@ pub use Rattle.ion_text.specs.visiting.Walks.{FoundNumber, FoundPart, FoundSymbo
 pub use Rattle.ion_text.specs.walk.Ends.{EndedSo, FinishedSo, failed, octets_used}
 pub use Rattle.ion_text.specs.walk.Fronts.{GivesOver, IsWithin, LeadsOver, LeavesBehind, Reached, TookFront}
 pub use Rattle.ion_text.specs.walk.Holds.{AreAround, AreOpen, Does, DoesAlone, Enters, GaveOut, Holds, IsShape, MayClose, SamePlace, SameSetting, WentOn, behind_comma, behind_value, bracket_for, bracket_of, brackets_of, calm, closes_in, has_notes, is_inside, is_same, open_brackets, reading_of, setting_of, spot_of, state_of, told}
-pub use Rattle.ion_text.specs.walk.Rare.{NameThere, SaysThere, SymbolThere, WaitsThere}
+pub use Rattle.ion_text.specs.walk.Unusual.{NameThere, SaysThere, SymbolThere, WaitsThere}
 pub use Rattle.ion_text.specs.walk.Runs.{Begins, StandsFor, Told, octets_kept, pending}
-pub use Rattle.ion_text.specs.walk.Strides.{Ahead, Ended, EndsBy, EndsSo, IsHere, Strides, Strode, StrodeFrom, Takes, TookSo, is_null_struct, only_goes, resting_at, value_took}
+pub use Rattle.ion_text.specs.walk.WholeTokens.{Ahead, Ended, EndsBy, EndsSo, IsHere, Strides, Strode, StrodeFrom, Takes, TookSo, is_null_struct, only_goes, resting_at, value_took}
 pub use Rattle.ion_text.specs.walk.Takes.{DidMeet, DidTake, IsFine, IsMet, MeetsWith, SameReader, StaysSteady}

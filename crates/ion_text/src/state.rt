@@ -16,7 +16,7 @@ pub enum Held {
 
 /// What may come next.
 #[derive(Drop)]
-pub enum Now {
+pub enum Stage {
     /// A value, an annotation, or the close of a list or an s-expression.
     Ready,
     /// Behind an element of a list or a field: a comma or the close.
@@ -35,7 +35,7 @@ pub enum Now {
 
 /// What has items without names.
 #[derive(Clone, Copy)]
-pub enum Listing {
+pub enum ListOrSexp {
     List,
     Sexp,
 }
@@ -43,7 +43,7 @@ pub enum Listing {
 /// A container that isn't whole yet: its annotations, and what has come of it.
 #[derive(Drop)]
 pub enum Frame {
-    Items(Listing, Sequence<Symbol>, Sequence<Value>),
+    Items(ListOrSexp, Sequence<Symbol>, Sequence<Value>),
     /// A struct where no value is open.
     Fields(Sequence<Symbol>, Sequence<Field>),
     /// A struct, and the name of the field whose value is open.

@@ -2,10 +2,10 @@
 ghost use Rattle.std.specs.Prelude.{◌≡◌, ◌++◌, ◌∷◌, [], List, nat_lt, length, true, false, Ok, Err, OnOk, IfErr, ◌⊎◌};
 ghost use Rattle.ion_text.specs.Names.{AreAround, Does, DoesAlone, Frame, Holds, Memory, Payload, SameSetting, Symbols, Value as AnyValue, WasTold, annotated, begun_at, behind_value, brackets_of, calm, ended, events_of, is_inside, is_of_table, is_table, is_top, layer_events, next, number_payload, open_brackets, out-Payload, part, payload_of, place, reading_of, setting_of, spot_of, told};
 ghost use Rattle.ion_model.specs.declared.value.Payload.TheVariants as payloads;
-ghost use Rattle.ion_text.specs.declared.state.Now.TheVariants as nows;
+ghost use Rattle.ion_text.specs.declared.state.Stage.TheVariants as stages;
 ghost use Rattle.ion_text.specs.walk.Holds.{told_in};
 
-use crate::state::{Effect, Now};
+use crate::state::{Effect, Stage};
 use ion_model::{Reason, Refusal, Symbol, Value};
 use ion_scalar::Number;
 use ion_symtab::{Catalog, Context, Limits};
@@ -22,13 +22,13 @@ mod end_of_input;
 mod long_strings;
 mod octets;
 mod on_token;
-mod rare_tokens;
 mod running_out;
 mod settling;
-mod stride;
 mod symbol_ids;
 mod to_next_token;
 mod untold;
+mod unusual_tokens;
+mod whole_tokens;
 
 /// A reader of a text document that comes in pieces (Ion 1.0, "Ion Text Encoding"). It tells a
 /// visitor the values event by event, and holds none of them.
@@ -54,7 +54,7 @@ pub struct TextWalk<'a> {
     frames: Vec<Bracket>,
     /// Whether annotations were read of the value that is read now.
     noted: bool,
-    stage: Now,
+    stage: Stage,
     /// Keeps local symbol tables from the visitor.
     filter: TableFilter,
     /// The octet that showed the end of the value told last, and wasn't used.
@@ -80,13 +80,13 @@ fn heard(went_on: bool) -> Result<(), Reason>
 
 // What may come next where nothing waits any more.
 #[inline(always)]
-fn calm(stage: &Now) -> Now
+fn calm(stage: &Stage) -> Stage
     ensures { result ≡ calm stage.now }
 {
     match stage {
-        Now::Ready | Now::Pending(_, _) | Now::Long(_, _) => Now::Ready,
-        Now::After => Now::After,
-        Now::Name | Now::LongName(_) | Now::Keyed(_) => Now::Name,
+        Stage::Ready | Stage::Pending(_, _) | Stage::Long(_, _) => Stage::Ready,
+        Stage::After => Stage::After,
+        Stage::Name | Stage::LongName(_) | Stage::Keyed(_) => Stage::Name,
     }
 }
 
@@ -101,7 +101,7 @@ impl TextWalk<'_> {
             Some(Bracket::List) => Place::List,
             Some(Bracket::Sexp) => Place::Sexp,
             Some(Bracket::Fields) => match &self.stage {
-                Now::Name | Now::LongName(_) | Now::Keyed(_) => Place::Name,
+                Stage::Name | Stage::LongName(_) | Stage::Keyed(_) => Place::Name,
                 _ => Place::FieldValue,
             },
         }
@@ -128,12 +128,12 @@ impl TextWalk<'_> {
     }
 
     /// What may come behind a value in the innermost of the open containers.
-    fn behind_value(&self) -> Now
+    fn behind_value(&self) -> Stage
         ensures { result ≡ behind_value (open_brackets self.now) }
     {
         match self.frames.last() {
-            Some(Bracket::Sexp) => Now::Ready,
-            _ => Now::After,
+            Some(Bracket::Sexp) => Stage::Ready,
+            _ => Stage::After,
         }
     }
 
@@ -161,25 +161,25 @@ impl TextWalk<'_> {
 
     /// From now on this may come next.
     #[inline(always)]
-    fn set_stage(&mut self, stage: Now)
+    fn set_stage(&mut self, stage: Stage)
         ensures { self.new ≡ record self.old { stage = stage } }
     {
         match &self.stage {
             // Nothing waits, as most often, so that nothing is let go.
-            Now::Ready | Now::After | Now::Name => self.stage = stage,
+            Stage::Ready | Stage::After | Stage::Name => self.stage = stage,
             _ => self.replace_stage(stage),
         }
     }
 
     #[inline(never)]
-    fn replace_stage(&mut self, stage: Now)
+    fn replace_stage(&mut self, stage: Stage)
         ensures { self.new ≡ record self.old { stage = stage } }
     {
         drop(mem::replace(&mut self.stage, stage));
     }
 
     /// What may come, or waits; from now on nothing waits.
-    fn take_stage(&mut self) -> Now
+    fn take_stage(&mut self) -> Stage
         ensures stage { result ≡ self.old.stage }
         ensures calm { self.new ≡ record self.old { stage = calm self.old.stage } }
     {
@@ -195,7 +195,7 @@ impl TextWalk<'_> {
         end: u64,
         visitor: &mut V,
     ) -> Result<Effect, Reason>
-        requires { self.old.stage ≡ nows.Ready }
+        requires { self.old.stage ≡ stages.Ready }
         ensures does { (fs : List Frame) (ss : Symbols) → Holds self.old fs ss →
             Does V.takes (told fs ss)
             (ended (setting_of self.old) (spot_of self.old end) fs
@@ -204,20 +204,20 @@ impl TextWalk<'_> {
         ensures setting { SameSetting self.old self.new }
     {
         if self.needs_telling(visitor) {
-            return self.whole_told(said, end, visitor);
+            return self.told_scalar_ended(said, end, visitor);
         }
-        self.whole_untold(end, visitor)
+        self.untold_scalar_ended(end, visitor)
     }
 
     /// The same where it has to be told.
     #[inline(never)]
-    fn whole_told<V: Visitor>(
+    fn told_scalar_ended<V: Visitor>(
         &mut self,
         said: &Part<'_>,
         end: u64,
         visitor: &mut V,
     ) -> Result<Effect, Reason>
-        requires { self.old.stage ≡ nows.Ready }
+        requires { self.old.stage ≡ stages.Ready }
         ensures does { (fs : List Frame) (ss : Symbols) → Holds self.old fs ss →
             Does V.takes (told fs ss)
             (ended (setting_of self.old) (spot_of self.old end) fs
@@ -231,13 +231,13 @@ impl TextWalk<'_> {
 
     /// The same of a number.
     #[inline(always)]
-    fn whole_number<V: Visitor>(
+    fn number_ended<V: Visitor>(
         &mut self,
         number: Number,
         end: u64,
         visitor: &mut V,
     ) -> Result<Effect, Reason>
-        requires { self.old.stage ≡ nows.Ready }
+        requires { self.old.stage ≡ stages.Ready }
         ensures does { (fs : List Frame) (ss : Symbols) → Holds self.old fs ss →
             Does V.takes (told fs ss)
             (ended (setting_of self.old) (spot_of self.old end) fs
@@ -250,13 +250,13 @@ impl TextWalk<'_> {
     }
 
     /// The same of a symbol.
-    fn whole_symbol<V: Visitor>(
+    fn symbol_ended<V: Visitor>(
         &mut self,
         symbol: Symbol,
         end: u64,
         visitor: &mut V,
     ) -> Result<Effect, Reason>
-        requires { self.old.stage ≡ nows.Ready }
+        requires { self.old.stage ≡ stages.Ready }
         ensures does { (fs : List Frame) (ss : Symbols) → Holds self.old fs ss →
             Does V.takes (told fs ss)
             (ended (setting_of self.old) (spot_of self.old end) fs
@@ -281,8 +281,12 @@ impl TextWalk<'_> {
 
     /// A part ended at `end`, and with it a value; what it says needn't be told.
     #[inline(always)]
-    fn whole_untold<V: Visitor>(&mut self, end: u64, visitor: &mut V) -> Result<Effect, Reason>
-        requires now { self.old.stage ≡ nows.Ready }
+    fn untold_scalar_ended<V: Visitor>(
+        &mut self,
+        end: u64,
+        visitor: &mut V,
+    ) -> Result<Effect, Reason>
+        requires now { self.old.stage ≡ stages.Ready }
         requires plain { is_of_table self.old.filter.table true ≡ false }
         ensures does { (payload : Payload) →
             layer_events (out-Payload payload) ≡ part payload ∷ [] →
@@ -330,7 +334,7 @@ impl TextWalk<'_> {
             return self.give_table(end);
         }
         let last = self.start.saturating_add(self.limits.item);
-        self.set_stage(Now::Ready);
+        self.set_stage(Stage::Ready);
         self.start = 0;
         if end > last {
             return Err(Reason::ItemTooLong);
@@ -350,7 +354,7 @@ impl TextWalk<'_> {
         ensures setting { SameSetting self.old self.new }
     {
         let last = self.start.saturating_add(self.limits.item);
-        self.set_stage(Now::Ready);
+        self.set_stage(Stage::Ready);
         self.start = 0;
         match self.filter.end() {
             None => {

@@ -71,7 +71,7 @@ impl TextWriter {
             return Err(fault);
         }
         let answer = self.put_next(out, value);
-        self.note_fault(answer)
+        self.remember_fault(answer)
     }
 
     /// Ends the document behind the last line, and makes the device pass on all that it took.
@@ -93,7 +93,7 @@ impl TextWriter {
     }
 
     // Keeps a fault for the later calls.
-    fn note_fault(&mut self, answer: Result<(), Fault>) -> Result<(), Fault>
+    fn remember_fault(&mut self, answer: Result<(), Fault>) -> Result<(), Fault>
         ensures answer { result ≡ answer }
         ensures failed { IfErr result (λ fault. self.new ≡ Some fault) }
         ensures kept { OnOk result (self.new ≡ self.old) }

@@ -124,7 +124,7 @@ impl TableFilter {
     {
         match self.table {
             Table::No => true,
-            Table::Noted => self.pass_notes(visitor),
+            Table::Noted => self.pass_annotations(visitor),
             Table::Unknown => {
                 self.table = Table::No;
                 true
@@ -134,7 +134,7 @@ impl TableFilter {
     }
 
     #[inline(never)]
-    fn pass_notes<V: Visitor>(&mut self, visitor: &mut V) -> bool
+    fn pass_annotations<V: Visitor>(&mut self, visitor: &mut V) -> bool
         requires { self.old.table ≡ tables.Noted }
         ensures { result ≡ true → (es : List Event) → WasTold self.old es →
             LetsPass self.new × Hears V.takes (heard es) es visitor.old visitor.new }
@@ -239,9 +239,9 @@ impl TableFilter {
                     self.table = Table::Noted;
                     return self.keep(symbol);
                 }
-                self.pass_note(symbol, visitor)
+                self.pass_annotation(symbol, visitor)
             }
-            Table::No => self.pass_note(symbol, visitor),
+            Table::No => self.pass_annotation(symbol, visitor),
             Table::Noted => self.keep(symbol),
             Table::Yes => {
                 let told = tell_annotation(&symbol, &mut self.tables);
@@ -252,7 +252,7 @@ impl TableFilter {
     }
 
     // An annotation of what is no table.
-    fn pass_note<V: Visitor>(&mut self, symbol: Symbol, visitor: &mut V) -> bool
+    fn pass_annotation<V: Visitor>(&mut self, symbol: Symbol, visitor: &mut V) -> bool
         requires { is_of_table self.old.table true ≡ false }
         ensures { result ≡ true → (es : List Event) → WasTold self.old es →
             LetsPass self.new

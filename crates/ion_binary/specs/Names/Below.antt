@@ -9,7 +9,7 @@ pub use Rattle.ion_atoms.specs.declared.refusal.Reason.{Reason}
 pub use Rattle.ion_atoms.specs.declared.refusal.Reason.TheVariants.{BadUtf8, Depth, Float, ImportGap, Incomplete, ItemTooLong, Malformed, Memory, SymbolRange, TooLarge, Version}
 pub use Rattle.ion_atoms.specs.declared.refusal.Refusal.{Refusal}
 pub use Rattle.ion_binary.specs.declared.form.Form.{Form}
-pub use Rattle.ion_binary.specs.declared.form.Listing.{Listing}
+pub use Rattle.ion_binary.specs.declared.form.ListOrSexp.{ListOrSexp}
 pub use Rattle.ion_binary.specs.declared.form.Opening.{Opening}
 pub use Rattle.ion_binary.specs.declared.form.Opening.TheVariants.{Marker, Null, Refused, Sized, Truth}
 pub use Rattle.ion_binary.specs.declared.form.Scalar.{Scalar}

@@ -179,7 +179,7 @@ abbrev pub begin : Setting → Spot → List Frame → Form → ℕ → Outcome
 begin setting spot fs Form.Pad n = if n == 0 then proceed setting spot fs else goes (at spot fs (InPad (n - 1)))
 begin setting spot fs (Form.Scalar t) n =
     if n == 0 then judged setting spot fs (judge spot.context t []) else goes (in_body spot fs t (n - 1) [])
-begin setting spot fs (Form.Listing x) n =
+begin setting spot fs (Form.ListOrSexp x) n =
     deeper setting.limits.depth fs (proceed setting spot (frames.Items (spot.used + n) x [] ∷ fs))
 begin setting spot fs Form.Wrapper n =
     goes (at spot (frames.Annotated (spot.used + n) [] ∷ fs) (InNumber Purpose.AnnotationsLength 0))

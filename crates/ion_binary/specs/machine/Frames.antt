@@ -1,10 +1,10 @@
 -- The containers that the machine holds open: the octet at which one ends, and what has come of it.
 use Rattle.std.specs.Prelude.{ℕ, List, Option, Result}
-use Rattle.ion_binary.specs.Names.Below.{Field, Listing, Reason, Value}
+use Rattle.ion_binary.specs.Names.Below.{Field, ListOrSexp, Reason, Value}
 
 pub data Frame : Type 0 where
   -- the items of a list or an s-expression
-  Items : ℕ → Listing → List Value → Frame
+  Items : ℕ → ListOrSexp → List Value → Frame
   -- the fields of a struct, where the next begins
   Fields : ℕ → List Field → Frame
   -- the fields of a struct and the name of the next, or why its id is none

@@ -61,7 +61,7 @@ impl BinaryWalk<'_> {
 
     /// Takes up octets at the front of a piece: how many, and what the last of them did. Where they
     /// are refused, `used` counts the octet that decided, and nothing else is known of the machine.
-    fn take_up<V: Visitor>(
+    fn read_piece<V: Visitor>(
         &mut self,
         piece: &[u8],
         visitor: &mut V,
@@ -80,17 +80,17 @@ impl BinaryWalk<'_> {
         ensures setting { SameSetting self.old self.new }
     {
         if let Phase::Ready = self.phase {
-            return self.take_opening(piece, visitor);
+            return self.read_opening(piece, visitor);
         }
         if let Some((id, size)) = self.whole_name(piece) {
-            return self.take_field(id, size, piece, visitor);
+            return self.read_field(id, size, piece, visitor);
         }
         if let Some((scalar, size)) = self.ending(piece) {
-            let effect = self.take_end(scalar, &piece[..size], visitor)?;
+            let effect = self.read_end(scalar, &piece[..size], visitor)?;
             return Ok((size, effect));
         }
         if self.goes_on() {
-            let count = self.take_inside(piece)?;
+            let count = self.read_inside(piece)?;
             return Ok((count, Effect::Goes));
         }
         let effect = self.feed(piece[0], visitor)?;
@@ -116,7 +116,7 @@ impl BinaryWalk<'_> {
 
     /// Takes up the last octets of a scalar's body. A body without earlier octets is judged where
     /// it stands.
-    fn take_end<V: Visitor>(
+    fn read_end<V: Visitor>(
         &mut self,
         scalar: Scalar,
         octets: &[u8],
@@ -141,7 +141,7 @@ impl BinaryWalk<'_> {
 
     /// Takes up the octets at the front of a piece behind which a body or a pad goes on: how many.
     /// The only refusal is `Memory`.
-    fn take_inside(&mut self, piece: &[u8]) -> Result<usize, Reason>
+    fn read_inside(&mut self, piece: &[u8]) -> Result<usize, Reason>
         requires room { self.old.used + length piece.now < 2 ^ 63 }
         requires some { 0 < length piece.now }
         requires inside { goes_on self.old.phase ≡ true }
@@ -154,14 +154,14 @@ impl BinaryWalk<'_> {
         ensures setting { SameSetting self.old self.new }
     {
         match self.phase {
-            Phase::InBody(scalar, missing) => self.take_body(scalar, missing, piece),
-            Phase::InPad(missing) => Ok(self.take_pad(missing, piece)),
+            Phase::InBody(scalar, missing) => self.read_body(scalar, missing, piece),
+            Phase::InPad(missing) => Ok(self.read_pad(missing, piece)),
             _ => unreachable!(),
         }
     }
 
     /// Keeps the octets of a body that goes on behind them.
-    fn take_body(&mut self, scalar: Scalar, missing: u64, piece: &[u8]) -> Result<usize, Reason>
+    fn read_body(&mut self, scalar: Scalar, missing: u64, piece: &[u8]) -> Result<usize, Reason>
         requires phase { self.old.phase ≡ phases.InBody scalar missing }
         requires room { self.old.used + length piece.now < 2 ^ 63 }
         requires some { 0 < length piece.now }
@@ -182,7 +182,7 @@ impl BinaryWalk<'_> {
     }
 
     /// Skips the octets of a pad that goes on behind them.
-    fn take_pad(&mut self, missing: u64, piece: &[u8]) -> usize
+    fn read_pad(&mut self, missing: u64, piece: &[u8]) -> usize
         requires phase { self.old.phase ≡ phases.InPad missing }
         requires room { self.old.used + length piece.now < 2 ^ 63 }
         requires some { 0 < length piece.now }
@@ -222,7 +222,7 @@ impl BinaryWalk<'_> {
         let before = self.used;
         let mut i = 0;
         while i < piece.len() {
-            match self.take_up(&piece[i..], visitor) {
+            match self.read_piece(&piece[i..], visitor) {
                 Ok((count, Effect::Goes)) => i += count,
                 Ok((count, Effect::Gives)) => {
                     return Ok(Walked {

@@ -4,7 +4,7 @@ ghost use Rattle.ion_binary.specs.Names.{AreAround, Does, Frame as AnyFrame, Hol
 ghost use Rattle.ion_binary.specs.declared.form.Form.TheVariants as forms;
 
 use super::{BinaryWalk, Container, heard};
-use crate::form::{Form, Listing, Scalar, bracket_of, hollow};
+use crate::form::{Form, ListOrSexp, Scalar, bracket_of, hollow};
 use crate::state::{Effect, Phase, Purpose};
 use crate::walking::scalars::tell_scalar;
 use ion_model::Reason;
@@ -68,7 +68,7 @@ impl BinaryWalk<'_> {
         match form {
             Form::Pad => self.on_pad(size, visitor),
             Form::Scalar(scalar) => self.begin_scalar(scalar, size, visitor),
-            Form::Listing(listing) => self.begin_listing(listing, size, visitor),
+            Form::ListOrSexp(listing) => self.begin_listing(listing, size, visitor),
             Form::Struct | Form::OrderedStruct => self.begin_struct(size, visitor),
             Form::Wrapper => self.begin_wrapper(size, visitor),
         }
@@ -96,7 +96,7 @@ impl BinaryWalk<'_> {
 
     fn begin_listing<V: Visitor>(
         &mut self,
-        listing: Listing,
+        listing: ListOrSexp,
         size: u64,
         visitor: &mut V,
     ) -> Result<Effect, Reason>
@@ -104,7 +104,7 @@ impl BinaryWalk<'_> {
         requires size { size < 2 ^ 63 }
         ensures does { (fs : List AnyFrame) → Holds self.old fs → AreAround fs →
             Does V.takes (told fs)
-            (begin (setting_of self.old) (spot_of self.old) fs (forms.Listing listing) size)
+            (begin (setting_of self.old) (spot_of self.old) fs (forms.ListOrSexp listing) size)
             result self.new visitor.old visitor.new }
         ensures moves { Moves self.old self.new self.old.used }
     {

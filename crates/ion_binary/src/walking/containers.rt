@@ -7,7 +7,7 @@ ghost use Rattle.ion_binary.specs.machine.Frames as frames;
 ghost use Rattle.ion_binary.specs.walking.Holds.{told_in};
 
 use super::{BinaryWalk, Container, heard};
-use crate::form::{Listing, bracket_of};
+use crate::form::{ListOrSexp, bracket_of};
 use crate::state::{Effect, Phase, Purpose};
 use ion_model::{Reason, Value};
 use ion_visiting::{Bracket, Visitor};
@@ -174,7 +174,7 @@ impl BinaryWalk<'_> {
     fn close_items<V: Visitor>(
         &mut self,
         end: u64,
-        listing: Listing,
+        listing: ListOrSexp,
         visitor: &mut V,
     ) -> Result<bool, Reason>
         ensures does { (fs : List AnyFrame) (vs : List AnyValue) →

@@ -43,7 +43,7 @@ impl BinaryWalk<'_> {
     /// Takes up a field's name at the front of a piece, with the value if that is a scalar and is
     /// all there, too, and the name's id has a symbol.
     #[inline(always)]
-    pub(super) fn take_field<V: Visitor>(
+    pub(super) fn read_field<V: Visitor>(
         &mut self,
         id: u64,
         named: usize,
@@ -66,7 +66,7 @@ impl BinaryWalk<'_> {
         if let Some((scalar, front, to)) = self.named_scalar(named, piece) {
             if let Ok(symbol) = self.context.symbol(id) {
                 heard(self.filter.name(symbol, visitor))?;
-                let effect = self.take_named(scalar, to, &piece[front..to], visitor)?;
+                let effect = self.read_named(scalar, to, &piece[front..to], visitor)?;
                 return Ok((to, effect));
             }
         }
@@ -77,7 +77,7 @@ impl BinaryWalk<'_> {
 
     /// Takes up a field of so many octets, whose name was told and whose value's body these are.
     #[inline(always)]
-    fn take_named<V: Visitor>(
+    fn read_named<V: Visitor>(
         &mut self,
         scalar: Scalar,
         size: usize,

@@ -52,7 +52,7 @@ pub(super) fn scalar_in(form: Form, size: u64, there: usize) -> Option<Scalar>
 impl BinaryWalk<'_> {
     /// Takes up what is at the front of a piece where a descriptor comes.
     #[inline(always)]
-    pub(super) fn take_opening<V: Visitor>(
+    pub(super) fn read_opening<V: Visitor>(
         &mut self,
         piece: &[u8],
         visitor: &mut V,
@@ -74,7 +74,7 @@ impl BinaryWalk<'_> {
         let opening = opening_of(piece[0]);
         if let Some((form, front, size)) = header_at(opening, piece) {
             if let None = self.unfit(form, self.used + front as u64 + size) {
-                return self.take_header(form, front, size, piece, visitor);
+                return self.read_header(form, front, size, piece, visitor);
             }
         }
         self.used += 1;
@@ -84,7 +84,7 @@ impl BinaryWalk<'_> {
 
     /// Takes up a header that may stand here, with the body of a scalar that is all there, too.
     #[inline(always)]
-    fn take_header<V: Visitor>(
+    fn read_header<V: Visitor>(
         &mut self,
         form: Form,
         front: usize,

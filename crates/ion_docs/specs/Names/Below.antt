@@ -25,7 +25,7 @@ pub use Rattle.ion_streams.specs.declared.comparison.Side.TheVariants.{Left, Rig
 pub use Rattle.ion_streams.specs.declared.comparison.Verdict.{Verdict}
 pub use Rattle.ion_streams.specs.declared.comparison.Verdict.TheVariants.{Different, Equivalent, Refused}
 pub use Rattle.ion_streams.specs.reading.Read.{GaveSoFar, IsFresh, left_of}
-pub use Rattle.ion_streams.specs.reading.Standing.{IfOpen, Stood, StoodEach, answered, reads_of, work_of}
+pub use Rattle.ion_streams.specs.reading.ReadState.{IfOpen, Stood, StoodEach, answered, reads_of, work_of}
 pub use Rattle.ion_streams.specs.reading.Telling.{ToldNext, telling}
 pub use Rattle.ion_symtab.specs.Cause.{IsReadCause, WereMade}
 pub use Rattle.ion_symtab.specs.Promises.{BeginsNone, EndsValues, GivesNoTable, HasPieces, HasReasons, IsFirst, IsSmall, NoTables, Refuses, Shown, Shows}

@@ -12,11 +12,11 @@ pub use Rattle.ion_streams.specs.declared.comparison.Course.{Course}
 pub use Rattle.ion_streams.specs.declared.comparison.Course.TheVariants.{Alike, Parted}
 pub use Rattle.ion_streams.specs.declared.comparison.Side.TheVariants.{Left, Right}
 pub use Rattle.ion_streams.specs.declared.comparison.Verdict.{Verdict}
-pub use Rattle.ion_streams.specs.declared.source.Reached.{Reached}
-pub use Rattle.ion_streams.specs.declared.source.Reached.TheVariants.{End, Value as AValue}
-pub use Rattle.ion_streams.specs.declared.source.Source.{Source}
-pub use Rattle.ion_streams.specs.declared.source.Standing.{Standing}
-pub use Rattle.ion_streams.specs.declared.source.Standing.TheVariants.{Ended, Open, Refused}
+pub use Rattle.ion_streams.specs.declared.piece_reader.Reached.{Reached}
+pub use Rattle.ion_streams.specs.declared.piece_reader.Reached.TheVariants.{End, Value as AValue}
+pub use Rattle.ion_streams.specs.declared.piece_reader.PieceReader.{PieceReader}
+pub use Rattle.ion_streams.specs.declared.piece_reader.ReadState.{ReadState}
+pub use Rattle.ion_streams.specs.declared.piece_reader.ReadState.TheVariants.{Ended, Open, Refused}
 pub use Rattle.ion_symtab.specs.Cause.{IsReadCause, WereMade}
 pub use Rattle.ion_symtab.specs.Heard.{AnsweredEnd, Heard, MayFollow}
 pub use Rattle.ion_symtab.specs.Promises.{BeginsNone, HasReasons, IsReadersReason, Refuses, Shown, Shows}

@@ -1,6 +1,6 @@
 -- How two streams compare, as far as they were read.
 use Rattle.std.specs.Prelude.{◌≡◌, ℕ, ◌+◌, [], true, false, Option, Some, None}
-use Rattle.ion_streams.specs.Names.Below.{Alike, Course, Holds, IsPath, Parted, Right, Standing, Twin, Value, Verdict, WasTold, events_of, same}
+use Rattle.ion_streams.specs.Names.Below.{Alike, Course, Holds, IsPath, Parted, ReadState, Right, Twin, Value, Verdict, WasTold, events_of, same}
 use Rattle.ion_streams.specs.declared.comparison.Verdict.TheVariants.{Different, Equivalent, Refused}
 
 -- so of the values that were the same, where the streams didn't part so far
@@ -40,6 +40,6 @@ verdict_on (Alike values) = Equivalent values
 verdict_on (Parted index path) = Different index path
 
 -- the verdict where the left is a document
-abbrev pub verdict_of : {Y : Type 0} → Standing Y → Course → Verdict
-verdict_of (Standing.Refused refusal) course = Refused Right refusal
+abbrev pub verdict_of : {Y : Type 0} → ReadState Y → Course → Verdict
+verdict_of (ReadState.Refused refusal) course = Refused Right refusal
 verdict_of _ course = verdict_on course

@@ -45,9 +45,9 @@ pub use Rattle.ion_text.specs.declared.state.Effect.{Effect as Turned}
 pub use Rattle.ion_text.specs.declared.state.Effect.TheVariants.{Gives, Goes, Late}
 pub use Rattle.ion_text.specs.declared.state.Frame.{Frame}
 pub use Rattle.ion_text.specs.declared.state.Held.{Held}
-pub use Rattle.ion_text.specs.declared.state.Listing.{Listing}
+pub use Rattle.ion_text.specs.declared.state.ListOrSexp.{ListOrSexp}
 pub use Rattle.ion_text.specs.declared.state.Met.{Met}
-pub use Rattle.ion_text.specs.declared.state.Now.{Now}
+pub use Rattle.ion_text.specs.declared.state.Stage.{Stage}
 pub use Rattle.ion_text.specs.declared.state.Taken.{Taken}
 pub use Rattle.ion_text.specs.declared.tokens.finders.Scalar.{Scalar}
 pub use Rattle.ion_text.specs.declared.walk.TextWalk.{TextWalk}

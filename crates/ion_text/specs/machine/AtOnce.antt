@@ -1,6 +1,6 @@
 -- Octets that are taken up at once, up to one that is yet to be taken up.
 use Rattle.std.specs.Prelude.{◌≡◌, ℕ, ◌+◌, List, take, drop}
-use Rattle.ion_text.specs.Names.Below.{Catalog, Limits, Now}
+use Rattle.ion_text.specs.Names.Below.{Catalog, Limits, Stage}
 use Rattle.ion_text.specs.machine.Pieces.{led}
 use Rattle.ion_text.specs.machine.Run.{State, run}
 
@@ -13,9 +13,9 @@ abbrev pub LeadsTo : Catalog → Limits → State → List ℕ → ℕ → State
 LeadsTo g l m octets count n = run g l m.scan.used m (take count octets) ≡ led n
 
 -- nothing waits
-abbrev pub IsStill : Now → Type 0
-IsStill Now.Ready = Unit {0}
-IsStill Now.Name = Unit {0}
-IsStill Now.After = Unit {0}
-IsStill (Now.Keyed s) = Unit {0}
+abbrev pub IsStill : Stage → Type 0
+IsStill Stage.Ready = Unit {0}
+IsStill Stage.Name = Unit {0}
+IsStill Stage.After = Unit {0}
+IsStill (Stage.Keyed s) = Unit {0}
 IsStill _ = ⊥

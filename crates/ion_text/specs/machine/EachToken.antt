@@ -1,6 +1,6 @@
 -- The reader of tokens as a machine: what each token does.
 use Rattle.std.specs.Prelude.{ℕ, ◌+◌, true, false, List, [], ◌∷◌, ◌++◌, length, nat_lt, nat_le, if◌then◌else◌, Result, Ok, Err, Option, Some, None, codes, bytes_eq}
-use Rattle.ion_text.specs.Names.Below.{Blob, Bracket, Catalog, Clob, Content, Frame, Held, Id, Kind, Limits, Listing, Long, Mark, Mark', Now, Number', Operator, Payload, Place, Quoted, Reason, Short, Slot, TypedNull, Value, Word, annotated, field_of, is_table, next, number_payload, resolve, system_slots}
+use Rattle.ion_text.specs.Names.Below.{Blob, Bracket, Catalog, Clob, Content, Frame, Held, Id, Kind, Limits, ListOrSexp, Long, Mark, Mark', Number', Operator, Payload, Place, Quoted, Reason, Short, Slot, Stage, TypedNull, Value, Word, annotated, field_of, is_table, next, number_payload, resolve, system_slots}
 use Rattle.ion_model.specs.declared.value.Payload.TheVariants as payloads
 use Rattle.ion_text.specs.Grammar.{is_keyword, is_version, the_marker}
 
@@ -26,7 +26,7 @@ pub record Reading : Type 0 where
   pub context : List Slot
   pub frames : List Frame
   pub notes : Symbols
-  pub now : Now
+  pub now : Stage
 
 -- what a token leads to
 pub data Turn : Type 0 where
@@ -59,28 +59,28 @@ abbrev pub token_at : ℕ → ℕ → Content → Token
 token_at start end said = record { start = start; end = end; said = said }
 
 -- the reading with these open containers and annotations, of an item that begins at `start`
-abbrev pub at : ℕ → List Slot → List Frame → Symbols → Now → Reading
+abbrev pub at : ℕ → List Slot → List Frame → Symbols → Stage → Reading
 at start c fs ss now = record { start = start; context = c; frames = fs; notes = ss; now = now }
 
 -- no item is open
 abbrev pub fresh : List Slot → Reading
-fresh c = at 0 c [] [] Now.Ready
+fresh c = at 0 c [] [] Stage.Ready
 
 -- where the items of a list or an s-expression stand, and what may come behind one
-abbrev pub item_place : Listing → Place
-item_place Listing.List = Place.List
-item_place Listing.Sexp = Place.Sexp
+abbrev pub item_place : ListOrSexp → Place
+item_place ListOrSexp.List = Place.List
+item_place ListOrSexp.Sexp = Place.Sexp
 
 -- what may come behind an item: of a list a comma or the close
-abbrev pub behind_item : Listing → Now
-behind_item Listing.List = Now.After
-behind_item Listing.Sexp = Now.Ready
+abbrev pub behind_item : ListOrSexp → Stage
+behind_item ListOrSexp.List = Stage.After
+behind_item ListOrSexp.Sexp = Stage.Ready
 
 -- the place in which the next token is looked for
-abbrev pub place_in : List Frame → Now → Place
+abbrev pub place_in : List Frame → Stage → Place
 place_in [] now = Place.Top
 place_in (Frame.Items listing ss vs ∷ fs) now = item_place listing
-place_in (Frame.Fields ss ms ∷ fs) Now.After = Place.FieldValue
+place_in (Frame.Fields ss ms ∷ fs) Stage.After = Place.FieldValue
 place_in (Frame.Fields ss ms ∷ fs) _ = Place.Name
 place_in (Frame.Named ss ms name ∷ fs) now = Place.FieldValue
 
@@ -105,7 +105,7 @@ ended setting spot [] v =
 ended setting spot (Frame.Items listing ss vs ∷ fs) v =
     goes (at spot.start spot.context (Frame.Items listing ss (vs ++ v ∷ []) ∷ fs) [] (behind_item listing))
 ended setting spot (Frame.Named ss ms name ∷ fs) v =
-    goes (at spot.start spot.context (Frame.Fields ss (ms ++ field_of name v ∷ []) ∷ fs) [] Now.After)
+    goes (at spot.start spot.context (Frame.Fields ss (ms ++ field_of name v ∷ []) ∷ fs) [] Stage.After)
 ended setting spot (Frame.Fields ss ms ∷ fs) v = refuses Reason.Unexpected
 
 -- what a word is as a value, or as an annotation
@@ -144,10 +144,10 @@ released setting spot [] [] (Held.Version false s) = late Reason.Version (fresh 
 released setting spot fs ss h = paid setting spot fs ss (held_payload h)
 
 -- what waited for more is whole
-abbrev pub settled : Setting → ℕ → List Slot → List Frame → Symbols → Now → Turn
-settled setting start c fs ss (Now.Pending h end) = released setting (spot_at end start c) fs ss h
-settled setting start c fs ss (Now.Long w end) = ended setting (spot_at end start c) fs (annotated ss (payloads.Str w))
-settled setting start c fs ss (Now.LongName w) = goes (at start c fs ss (Now.Keyed (Some w)))
+abbrev pub settled : Setting → ℕ → List Slot → List Frame → Symbols → Stage → Turn
+settled setting start c fs ss (Stage.Pending h end) = released setting (spot_at end start c) fs ss h
+settled setting start c fs ss (Stage.Long w end) = ended setting (spot_at end start c) fs (annotated ss (payloads.Str w))
+settled setting start c fs ss (Stage.LongName w) = goes (at start c fs ss (Stage.Keyed (Some w)))
 settled setting start c fs ss now = goes (at start c fs ss now)
 
 -- what waits in a reading is whole
@@ -169,14 +169,14 @@ unexpected = refuses Reason.Unexpected
 
 -- a container behind its open, and what may come there
 abbrev pub opened : Bracket → Symbols → Frame
-opened Bracket.List ss = Frame.Items Listing.List ss []
-opened Bracket.Sexp ss = Frame.Items Listing.Sexp ss []
+opened Bracket.List ss = Frame.Items ListOrSexp.List ss []
+opened Bracket.Sexp ss = Frame.Items ListOrSexp.Sexp ss []
 opened Bracket.Fields ss = Frame.Fields ss []
 
 -- what may come behind an open: in a struct a name, else a value
-abbrev pub first_now : Bracket → Now
-first_now Bracket.Fields = Now.Name
-first_now _ = Now.Ready
+abbrev pub first_now : Bracket → Stage
+first_now Bracket.Fields = Stage.Name
+first_now _ = Stage.Ready
 
 -- a container beyond the limit on depth; the octet behind `{` shows that it is no `{{`, and may be refused for a smaller reason
 abbrev pub beyond_depth : Bracket → Reading → Turn
@@ -190,8 +190,8 @@ opening bracket depth start c fs ss = deeper depth fs (goes (at start c (opened 
 
 -- a close, where no annotation stands before it
 abbrev pub closed : Bracket → Setting → Spot → List Frame → Turn
-closed Bracket.List setting spot (Frame.Items Listing.List ss vs ∷ fs) = ended setting spot fs (annotated ss (payloads.List vs))
-closed Bracket.Sexp setting spot (Frame.Items Listing.Sexp ss vs ∷ fs) = ended setting spot fs (annotated ss (payloads.Sexp vs))
+closed Bracket.List setting spot (Frame.Items ListOrSexp.List ss vs ∷ fs) = ended setting spot fs (annotated ss (payloads.List vs))
+closed Bracket.Sexp setting spot (Frame.Items ListOrSexp.Sexp ss vs ∷ fs) = ended setting spot fs (annotated ss (payloads.Sexp vs))
 closed Bracket.Fields setting spot (Frame.Fields ss ms ∷ fs) = ended setting spot fs (annotated ss (payloads.Fields ms))
 closed _ setting spot _ = unexpected
 
@@ -202,12 +202,12 @@ bare_close (s ∷ ss) t = unexpected
 
 -- a value or an annotation may come, of an item that begins where the spot says
 abbrev pub on_ready : Setting → Spot → List Frame → Symbols → Content → Turn
-on_ready setting spot fs ss (Word w) = goes (at spot.start spot.context fs ss (Now.Pending (held_word w) spot.end))
+on_ready setting spot fs ss (Word w) = goes (at spot.start spot.context fs ss (Stage.Pending (held_word w) spot.end))
 on_ready setting spot fs ss (Id id) =
-    resolved (resolve spot.context id) (λ s. goes (at spot.start spot.context fs ss (Now.Pending (Held.Symbol s) spot.end)))
-on_ready setting spot fs ss (Quoted w) = goes (at spot.start spot.context fs ss (Now.Pending (Held.Symbol (Some w)) spot.end))
-on_ready setting spot fs ss (TypedNull k) = goes (at spot.start spot.context fs ss (Now.Pending (Held.Null k) spot.end))
-on_ready setting spot fs ss (Long w) = goes (at spot.start spot.context fs ss (Now.Long w spot.end))
+    resolved (resolve spot.context id) (λ s. goes (at spot.start spot.context fs ss (Stage.Pending (Held.Symbol s) spot.end)))
+on_ready setting spot fs ss (Quoted w) = goes (at spot.start spot.context fs ss (Stage.Pending (Held.Symbol (Some w)) spot.end))
+on_ready setting spot fs ss (TypedNull k) = goes (at spot.start spot.context fs ss (Stage.Pending (Held.Null k) spot.end))
+on_ready setting spot fs ss (Long w) = goes (at spot.start spot.context fs ss (Stage.Long w spot.end))
 on_ready setting spot fs ss (Short w) = ended setting spot fs (annotated ss (payloads.Str w))
 on_ready setting spot fs ss (Number' n) = ended setting spot fs (annotated ss (number_payload n))
 on_ready setting spot fs ss (Operator w) = ended setting spot fs (annotated ss (payloads.Symbol (Some w)))
@@ -222,8 +222,8 @@ on_ready setting spot fs ss (Mark' _) = unexpected
 
 -- behind what may be an annotation
 abbrev pub noted : ℕ → List Slot → List Frame → Symbols → Result (Option (List ℕ)) Reason → Turn
-noted start c fs ss (Ok s) = goes (at start c fs (ss ++ s ∷ []) Now.Ready)
-noted start c fs ss (Err e) = late e (at start c fs (ss ++ None ∷ []) Now.Ready)
+noted start c fs ss (Ok s) = goes (at start c fs (ss ++ s ∷ []) Stage.Ready)
+noted start c fs ss (Err e) = late e (at start c fs (ss ++ None ∷ []) Stage.Ready)
 
 -- `::` makes an annotation of what was held, and no other token may come
 abbrev pub on_pending : ℕ → List Slot → List Frame → Symbols → Held → Content → Turn
@@ -232,13 +232,13 @@ on_pending start c fs ss h _ = unexpected
 
 -- a further segment goes on with a long string, and no other token may come
 abbrev pub on_long : Spot → List Frame → Symbols → List ℕ → Content → Turn
-on_long spot fs ss v (Long w) = goes (at spot.start spot.context fs ss (Now.Long (v ++ w) spot.end))
+on_long spot fs ss v (Long w) = goes (at spot.start spot.context fs ss (Stage.Long (v ++ w) spot.end))
 on_long spot fs ss v _ = unexpected
 
 -- behind a comma the next element may come, or the next field's name
 abbrev pub on_comma : ℕ → List Slot → List Frame → Turn
-on_comma start c (Frame.Items Listing.List ss vs ∷ fs) = goes (at start c (Frame.Items Listing.List ss vs ∷ fs) [] Now.Ready)
-on_comma start c (Frame.Fields ss ms ∷ fs) = goes (at start c (Frame.Fields ss ms ∷ fs) [] Now.Name)
+on_comma start c (Frame.Items ListOrSexp.List ss vs ∷ fs) = goes (at start c (Frame.Items ListOrSexp.List ss vs ∷ fs) [] Stage.Ready)
+on_comma start c (Frame.Fields ss ms ∷ fs) = goes (at start c (Frame.Fields ss ms ∷ fs) [] Stage.Name)
 on_comma start c _ = unexpected
 
 -- behind an element or a field a comma or the close may come
@@ -250,7 +250,7 @@ on_after setting spot fs _ = unexpected
 
 -- a field's name was read, behind which its colon may come
 abbrev pub keyed : ℕ → List Slot → List Frame → Option (List ℕ) → Reading
-keyed start c fs s = at start c fs [] (Now.Keyed s)
+keyed start c fs s = at start c fs [] (Stage.Keyed s)
 
 -- a field's name may come, or the close of the struct
 abbrev pub on_name : Setting → Spot → List Frame → Content → Turn
@@ -261,18 +261,18 @@ on_name setting spot fs (TypedNull k) = late Reason.KeywordAsName (keyed spot.st
 on_name setting spot fs (Id id) = resolved (resolve spot.context id) (λ s. goes (keyed spot.start spot.context fs s))
 on_name setting spot fs (Quoted w) = goes (keyed spot.start spot.context fs (Some w))
 on_name setting spot fs (Short w) = goes (keyed spot.start spot.context fs (Some w))
-on_name setting spot fs (Long w) = goes (at spot.start spot.context fs [] (Now.LongName w))
+on_name setting spot fs (Long w) = goes (at spot.start spot.context fs [] (Stage.LongName w))
 on_name setting spot fs (Mark' Mark.FieldsClose) = closed Bracket.Fields setting spot fs
 on_name setting spot fs _ = unexpected
 
 -- a further segment goes on with a long name, and no other token may come
 abbrev pub on_long_name : ℕ → List Slot → List Frame → List ℕ → Content → Turn
-on_long_name start c fs v (Long w) = goes (at start c fs [] (Now.LongName (v ++ w)))
+on_long_name start c fs v (Long w) = goes (at start c fs [] (Stage.LongName (v ++ w)))
 on_long_name start c fs v _ = unexpected
 
 -- behind a field's name and its colon the value may come
 abbrev pub named : ℕ → List Slot → List Frame → Option (List ℕ) → Turn
-named start c (Frame.Fields ss ms ∷ fs) s = goes (at start c (Frame.Named ss ms s ∷ fs) [] Now.Ready)
+named start c (Frame.Fields ss ms ∷ fs) s = goes (at start c (Frame.Named ss ms s ∷ fs) [] Stage.Ready)
 named start c _ s = unexpected
 
 -- behind a field's name its colon may come
@@ -286,15 +286,15 @@ begun_at start begin [] [] = begin
 begun_at start begin _ _ = start
 
 -- what a token does where this is expected; where nothing waits, an item may begin with it
-abbrev pub turn_now : Setting → Reading → Token → Now → Turn
-turn_now setting r t Now.Ready =
+abbrev pub turn_now : Setting → Reading → Token → Stage → Turn
+turn_now setting r t Stage.Ready =
     on_ready setting (spot_at t.end (begun_at r.start t.start r.frames r.notes) r.context) r.frames r.notes t.said
-turn_now setting r t (Now.Pending h _) = on_pending r.start r.context r.frames r.notes h t.said
-turn_now setting r t (Now.Long w _) = on_long (spot_in r t.end) r.frames r.notes w t.said
-turn_now setting r t Now.After = on_after setting (spot_in r t.end) r.frames t.said
-turn_now setting r t Now.Name = on_name setting (spot_in r t.end) r.frames t.said
-turn_now setting r t (Now.LongName w) = on_long_name r.start r.context r.frames w t.said
-turn_now setting r t (Now.Keyed s) = on_keyed r.start r.context r.frames s t.said
+turn_now setting r t (Stage.Pending h _) = on_pending r.start r.context r.frames r.notes h t.said
+turn_now setting r t (Stage.Long w _) = on_long (spot_in r t.end) r.frames r.notes w t.said
+turn_now setting r t Stage.After = on_after setting (spot_in r t.end) r.frames t.said
+turn_now setting r t Stage.Name = on_name setting (spot_in r t.end) r.frames t.said
+turn_now setting r t (Stage.LongName w) = on_long_name r.start r.context r.frames w t.said
+turn_now setting r t (Stage.Keyed s) = on_keyed r.start r.context r.frames s t.said
 
 -- what a token does
 abbrev pub turn : Catalog → Limits → Reading → Token → Turn

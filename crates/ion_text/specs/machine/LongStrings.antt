@@ -1,6 +1,6 @@
 -- Long strings at the front of octets: segments, each with a blank behind it.
 use Rattle.std.specs.Prelude.{◌≡◌, ℕ, ◌+◌, ◌==◌, ◌&&◌, ◌<◌, ◌≤◌, Bool, true, false, not, List, ◌++◌, length, drop, get_or, Ok}
-use Rattle.ion_text.specs.Names.{Catalog, Frame, IsFound, IsPassed, LeadsTo, Limits, Long, Now, Place, Rest, Slot, Symbols, TokenKind, begun_at, ends_symbol, past_blank, past_token, place_in, rested, said}
+use Rattle.ion_text.specs.Names.{Catalog, Frame, IsFound, IsPassed, LeadsTo, Limits, Long, Place, Rest, Slot, Stage, Symbols, TokenKind, begun_at, ends_symbol, past_blank, past_token, place_in, rested, said}
 
 -- the octet shows that no segment of a long string follows: it is no blank and no quote, and begins no colon and no comment
 abbrev pub ends_long : ℕ → Bool
@@ -26,10 +26,10 @@ pub record PassedSegment (p : Place) (before : Rest) (octets : List ℕ) (count 
 
 -- where a value may come in such a place, so many octets lead to where a long string of this text waits for more
 pub record LongSoFar (p : Place) (before : Rest) (octets : List ℕ) (count : ℕ) (after : Rest) (text : List ℕ) : Type 0 where
-  pub leads : (g : Catalog) (l : Limits) (start : ℕ) (c : List Slot) (ss : Symbols) (fs : List Frame) → place_in fs Now.Ready ≡ p
+  pub leads : (g : Catalog) (l : Limits) (start : ℕ) (c : List Slot) (ss : Symbols) (fs : List Frame) → place_in fs Stage.Ready ≡ p
       → before.used + length octets ≤ l.item + begun_at start before.used fs ss
-      → (end : ℕ) × (end ≤ after.used) × LeadsTo g l (rested before start c fs ss Now.Ready) octets count
-      (rested after (begun_at start before.used fs ss) c fs ss (Now.Long text end))
+      → (end : ℕ) × (end ≤ after.used) × LeadsTo g l (rested before start c fs ss Stage.Ready) octets count
+      (rested after (begun_at start before.used fs ss) c fs ss (Stage.Long text end))
   pub some : 0 < count
   pub within : count ≤ length octets
   pub used : after.used ≡ before.used + count

@@ -1,11 +1,11 @@
 -- The marks that open a container and those that close one, and where they stand at the front of octets.
 use Rattle.std.specs.Prelude.{◌≡◌, ◌≢◌, ℕ, Bool, true, false, List, ◌∷◌, slice_index}
-use Rattle.ion_text.specs.Names.Below.{Bracket, Frame, Listing, Mark, Now}
+use Rattle.ion_text.specs.Names.Below.{Bracket, Frame, ListOrSexp, Mark, Stage}
 
 -- what stands around items
-abbrev pub bracket_in : Listing → Bracket
-bracket_in Listing.List = Bracket.List
-bracket_in Listing.Sexp = Bracket.Sexp
+abbrev pub bracket_in : ListOrSexp → Bracket
+bracket_in ListOrSexp.List = Bracket.List
+bracket_in ListOrSexp.Sexp = Bracket.Sexp
 
 -- the marks of a container
 abbrev pub open_mark : Bracket → Mark
@@ -32,10 +32,10 @@ close_octet Bracket.Sexp = 41
 close_octet Bracket.Fields = 125
 
 -- the close of such a container is that of the innermost one, and may come now
-abbrev pub closes : Bracket → List Frame → Now → Bool
-closes Bracket.List (Frame.Items Listing.List ss vs ∷ fs) Now.Ready = true
-closes Bracket.List (Frame.Items Listing.List ss vs ∷ fs) Now.After = true
-closes Bracket.Sexp (Frame.Items Listing.Sexp ss vs ∷ fs) Now.Ready = true
-closes Bracket.Fields (Frame.Fields ss ms ∷ fs) Now.Name = true
-closes Bracket.Fields (Frame.Fields ss ms ∷ fs) Now.After = true
+abbrev pub closes : Bracket → List Frame → Stage → Bool
+closes Bracket.List (Frame.Items ListOrSexp.List ss vs ∷ fs) Stage.Ready = true
+closes Bracket.List (Frame.Items ListOrSexp.List ss vs ∷ fs) Stage.After = true
+closes Bracket.Sexp (Frame.Items ListOrSexp.Sexp ss vs ∷ fs) Stage.Ready = true
+closes Bracket.Fields (Frame.Fields ss ms ∷ fs) Stage.Name = true
+closes Bracket.Fields (Frame.Fields ss ms ∷ fs) Stage.After = true
 closes _ _ _ = false

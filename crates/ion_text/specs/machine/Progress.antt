@@ -1,6 +1,6 @@
 -- Runs over pieces: what a walk over one does, and what is so behind it.
 use Rattle.std.specs.Prelude.{◌≡◌, ◌≢◌, ◌<◌, ◌≤◌, ℕ, ◌+◌, Bool, true, false, List, [], ◌∷◌, ◌++◌, length, take, drop, get_or, Option, Some, None, Result, Ok, Err, IfSome}
-use Rattle.ion_text.specs.Names.Below.{Catalog, Limits, Memory, Mode, Now, Reason, Refusal, Step, Value}
+use Rattle.ion_text.specs.Names.Below.{Catalog, Limits, Memory, Mode, Reason, Refusal, Stage, Step, Value}
 use Rattle.ion_text.specs.machine.Pieces.{led}
 use Rattle.ion_text.specs.machine.Run.{Run, State, begun, eats, leaves, once_more, run}
 use Rattle.ion_text.specs.machine.Views.{Told}
@@ -56,8 +56,8 @@ or_first None later = later
 or_first (Some refusal) later = Some refusal
 
 -- no value and no token has begun, so that no octet shows the end of one
-abbrev pub is_quiet : Now → Mode → Bool
-is_quiet Now.Ready Mode.Blank = true
+abbrev pub is_quiet : Stage → Mode → Bool
+is_quiet Stage.Ready Mode.Blank = true
 is_quiet _ _ = false
 
 -- how many values may come: none if an octet is awaited or nothing has begun, else one

@@ -1,6 +1,6 @@
 -- The reader of octets: the scanner, and behind it the reader of tokens; and whole runs of it.
 use Rattle.std.specs.Prelude.{ℕ, zero, suc, ◌+◌, ◌-◌, ◌==◌, Bool, true, false, ◌&&◌, ◌||◌, not, List, [], ◌∷◌, nat_lt, nat_le, if◌then◌else◌, Result, Ok, Err, Option, Some, None}
-use Rattle.ion_text.specs.Names.Below.{Begun, Catalog, Content, Form, Frame, Given, Known, Left, Lexeme, Limits, Next, Now, Outcome, Reason, Refusal, Refused, Trace, Value, at_end, begun_in, feed, initial, is_idle, is_long_form, long_waits, reason_number, said, symbol_waits, system_slots}
+use Rattle.ion_text.specs.Names.Below.{Begun, Catalog, Content, Form, Frame, Given, Known, Left, Lexeme, Limits, Next, Outcome, Reason, Refusal, Refused, Stage, Trace, Value, at_end, begun_in, feed, initial, is_idle, is_long_form, long_waits, reason_number, said, symbol_waits, system_slots}
 use Rattle.ion_text.specs.machine.EachToken.{Reading, Symbols, Token, Turn, fresh, gives, goes, late, place, refuses, settle, turn}
 
 -- what the scanner knows, and what the reader of tokens holds
@@ -36,10 +36,10 @@ has_segment (Some b) = of_form b.form where
   of_form _ = false
 
 -- what waits goes on to wait at the octet of which this comes; the Bool says whether at the top level
-abbrev pub waits_now : Bool → Now → Outcome → Bool
-waits_now top (Now.Pending h end) x = symbol_waits x
-waits_now top (Now.Long w end) x = long_waits top x
-waits_now top (Now.LongName w) x = long_waits false x
+abbrev pub waits_now : Bool → Stage → Outcome → Bool
+waits_now top (Stage.Pending h end) x = symbol_waits x
+waits_now top (Stage.Long w end) x = long_waits top x
+waits_now top (Stage.LongName w) x = long_waits false x
 waits_now top _ x = false
 
 -- what waits in a reading goes on to wait at the octet of which this comes
@@ -47,8 +47,8 @@ abbrev pub waits : Reading → Outcome → Bool
 waits r x = waits_now (is_top r.frames) r.now x
 
 -- behind a long string that waits a segment of it has begun, and what is refused is refused in it
-abbrev pub in_segment : Now → Known → Bool
-in_segment (Now.Long w end) s = has_segment (begun_in s)
+abbrev pub in_segment : Stage → Known → Bool
+in_segment (Stage.Long w end) s = has_segment (begun_in s)
 in_segment _ s = false
 
 -- nothing that waits is settled before the octet
@@ -56,21 +56,21 @@ abbrev pub unsettled : Known → Reading → Outcome → Bool
 unsettled s r x = waits r x || in_segment r.now s
 
 -- no token may begin but a mark of one octet
-abbrev pub shut : Now → Bool
-shut Now.After = true
-shut (Now.Keyed s) = true
+abbrev pub shut : Stage → Bool
+shut Stage.After = true
+shut (Stage.Keyed s) = true
 shut _ = false
 
 -- Where a container is open, or an annotation waits for its value, each octet is the item's. Else those of the token that has begun are,
 -- and those of what waits at the top level, up to the last token's end.
-abbrev pub longest_top : ℕ → ℕ → Now → Symbols → Option Begun → ℕ → ℕ
-longest_top start used Now.Ready [] None n = 0
-longest_top start used Now.Ready [] (Some b) n = b.end - b.start
-longest_top start used Now.Ready (s ∷ ss) None n = used - start
-longest_top start used Now.Ready (s ∷ ss) (Some b) n = b.end - start
-longest_top start used (Now.Pending h end) ss b n = end - start
-longest_top start used (Now.Long w end) ss None n = end - start
-longest_top start used (Now.Long w end) ss (Some b) n = if is_long_form b.form && not (n == 0) then b.end - start else end - start
+abbrev pub longest_top : ℕ → ℕ → Stage → Symbols → Option Begun → ℕ → ℕ
+longest_top start used Stage.Ready [] None n = 0
+longest_top start used Stage.Ready [] (Some b) n = b.end - b.start
+longest_top start used Stage.Ready (s ∷ ss) None n = used - start
+longest_top start used Stage.Ready (s ∷ ss) (Some b) n = b.end - start
+longest_top start used (Stage.Pending h end) ss b n = end - start
+longest_top start used (Stage.Long w end) ss None n = end - start
+longest_top start used (Stage.Long w end) ss (Some b) n = if is_long_form b.form && not (n == 0) then b.end - start else end - start
 longest_top start used _ ss b n = 0
 
 -- 1 where a segment of a long string has begun, else 0
@@ -194,8 +194,8 @@ module _ (g : Catalog) (l : Limits) where
 -- no item is open
 abbrev pub is_fresh : Reading → Bool
 is_fresh r = is_top r.frames && (no_notes r.notes && is_ready r.now) where
-  is_ready : Now → Bool
-  is_ready Now.Ready = true
+  is_ready : Stage → Bool
+  is_ready Stage.Ready = true
   is_ready _ = false
 
   no_notes : Symbols → Bool
@@ -248,10 +248,10 @@ module _ (g : Catalog) (l : Limits) where
   end_ready used r (Err e) = end_fails used e
 
   -- the end came where this waits, or nothing
-  abbrev pub end_now : ℕ → Reading → Result (Option Lexeme) Reason → Now → Result (Option Value) Refusal
-  end_now used r x (Now.Pending h end) = end_waiting used x (settle g l r)
-  end_now used r x (Now.Long w end) = end_waiting used x (settle g l r)
-  end_now used r x (Now.LongName w) = cut_short used
+  abbrev pub end_now : ℕ → Reading → Result (Option Lexeme) Reason → Stage → Result (Option Value) Refusal
+  end_now used r x (Stage.Pending h end) = end_waiting used x (settle g l r)
+  end_now used r x (Stage.Long w end) = end_waiting used x (settle g l r)
+  end_now used r x (Stage.LongName w) = cut_short used
   end_now used r x _ = end_ready used r x
 
   -- what the end answers in a state

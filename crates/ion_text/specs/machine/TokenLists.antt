@@ -1,6 +1,6 @@
 -- The reader of tokens over lists of tokens.
 use Rattle.std.proofs.Common.{◌≡◌, ◌+◌, ◌==◌, List, [], ◌∷◌, ◌++◌, Bool, true, false, ◌&&◌, Result, Ok, Err, refl, ap, sym, ◌∙◌, subst, append_assoc, if◌then◌else◌, ◌⊎◌, inl, inr}
-use Rattle.ion_text.specs.Names.Below.{Catalog, Content, Limits, Long, Mark, Mark', Now, Place, Placed, Quoted, Reason, Value, said, says}
+use Rattle.ion_text.specs.Names.Below.{Catalog, Content, Limits, Long, Mark, Mark', Place, Placed, Quoted, Reason, Stage, Value, said, says}
 use Rattle.ion_tokens.proofs.runs.Cutting.{one_body}
 use Rattle.ion_text.specs.Grammar.{Says}
 use Rattle.ion_text.specs.machine.EachToken.{Reading, Token, Turn, gives, goes, late, place, refuses, settle, turn}
@@ -34,19 +34,19 @@ then_walk (walked vs r) f = adds_values vs (f r)
 then_walk stopped f = stopped
 
 -- what waits goes on with the token
-abbrev pub continues_now : Bool → Now → Token → Bool
-continues_now top (Now.Pending h end) t = of_said t.said
+abbrev pub continues_now : Bool → Stage → Token → Bool
+continues_now top (Stage.Pending h end) t = of_said t.said
   where
     of_said : Content → Bool
     of_said (Mark' Mark.Colons) = true
     of_said _ = false
-continues_now top (Now.Long w end) t = of_said t.said
+continues_now top (Stage.Long w end) t = of_said t.said
   where
     of_said : Content → Bool
     of_said (Long v) = true
     of_said (Quoted v) = top && (t.end == t.start + 2)
     of_said _ = false
-continues_now top (Now.LongName w) t = of_said t.said
+continues_now top (Stage.LongName w) t = of_said t.said
   where
     of_said : Content → Bool
     of_said (Long v) = true

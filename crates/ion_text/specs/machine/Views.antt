@@ -1,6 +1,6 @@
 -- What methods of a reader do of the machine's work, each said of the part of its state that it sees.
 use Rattle.std.specs.Prelude.{◌≡◌, ◌+◌, ◌≤◌, ◌||◌, ℕ, List, [], Option, Some, None, Result, Ok, Err, Bool, true, false}
-use Rattle.ion_text.specs.Names.Below.{Foresight, Found, Frame, Given, Known, Left, Limits, Met, Mode, Next, Now, Outcome, Reason, Refused, Taken, Value, is_idle, is_quoting, start_of}
+use Rattle.ion_text.specs.Names.Below.{Foresight, Found, Frame, Given, Known, Left, Limits, Met, Mode, Next, Outcome, Reason, Refused, Stage, Taken, Value, is_idle, is_quoting, start_of}
 use Rattle.ion_tokens.specs.Bodies.{content}
 use Rattle.ion_text.specs.declared.state.Taken.TheVariants.{Leaves}
 use Rattle.ion_text.specs.machine.EachToken.{Reading, Symbols, Token}
@@ -73,9 +73,9 @@ abbrev pub floor : Known → ℕ
 floor s = start_of s.mode s.start s.used
 
 -- nothing waits, and tokens may begin
-abbrev pub IsCalm : Now → Type 0
-IsCalm Now.Ready = Unit {0}
-IsCalm Now.Name = Unit {0}
+abbrev pub IsCalm : Stage → Type 0
+IsCalm Stage.Ready = Unit {0}
+IsCalm Stage.Name = Unit {0}
 IsCalm _ = ⊥
 
 -- where the octets of the open item are counted from
@@ -85,22 +85,22 @@ base _ _ start floor = start
 
 -- while octets come with which a mode goes on as it is, this goes on to wait, or for a mark: those of a blank or a comment, and of a
 -- further segment of a long string
-abbrev pub lulls : Now → Mode → Bool
-lulls Now.After m = is_idle m
-lulls (Now.Keyed name) m = is_idle m
-lulls (Now.Pending held end) m = is_idle m
-lulls (Now.Long text end) m = is_idle m || is_quoting m
-lulls (Now.LongName text) m = is_idle m || is_quoting m
-lulls _ m = false
+abbrev pub waits_over : Stage → Mode → Bool
+waits_over Stage.After m = is_idle m
+waits_over (Stage.Keyed name) m = is_idle m
+waits_over (Stage.Pending held end) m = is_idle m
+waits_over (Stage.Long text end) m = is_idle m || is_quoting m
+waits_over (Stage.LongName text) m = is_idle m || is_quoting m
+waits_over _ m = false
 
 -- where what waits ended so far
-abbrev pub ended_so_far : Now → ℕ
-ended_so_far (Now.Pending held end) = end
-ended_so_far (Now.Long text end) = end
+abbrev pub ended_so_far : Stage → ℕ
+ended_so_far (Stage.Pending held end) = end
+ended_so_far (Stage.Long text end) = end
 ended_so_far _ = 0
 
 -- it waits over so many such octets, and the item stays within the limit
-pub record IsLull (l : Limits) (r : Reading) (s : Known) (count : ℕ) : Type 0 where
-  pub waits : lulls r.now s.mode ≡ true
+pub record MayWaitOver (l : Limits) (r : Reading) (s : Known) (count : ℕ) : Type 0 where
+  pub waits : waits_over r.now s.mode ≡ true
   pub ended : ended_so_far r.now ≤ r.start + l.item
   pub room : s.used + count ≤ r.start + l.item

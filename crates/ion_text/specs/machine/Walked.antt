@@ -1,6 +1,6 @@
 -- What stands at the front of octets: values of one token, and annotations.
 use Rattle.std.specs.Prelude.{◌≡◌, ℕ, true, false, List, Option, Ok}
-use Rattle.ion_text.specs.Names.Below.{Content, FoundToken, Frame, IsFound, Mark, Now, Payload, Place, Rest, Scalar, Slot, TokenKind, names_table, past_blank, past_token, resting, said}
+use Rattle.ion_text.specs.Names.Below.{Content, FoundToken, Frame, IsFound, Mark, Payload, Place, Rest, Scalar, Slot, Stage, TokenKind, names_table, past_blank, past_token, resting, said}
 use Rattle.ion_model.specs.declared.value.Payload.TheVariants as payloads
 use Rattle.ion_text.specs.machine.EachToken.{Symbols, at}
 use Rattle.ion_text.specs.machine.FrontTokens.{BeginsValue, IsValue}
@@ -16,7 +16,7 @@ pub record FoundScalar (p : Place) (r : Rest) (octets : List ℕ) (s : Scalar) :
   pub is : IsValue s.waits content payload
 
 -- a scanner that rests, and what the reader of tokens holds
-abbrev pub rested : Rest → ℕ → List Slot → List Frame → Symbols → Now → State
+abbrev pub rested : Rest → ℕ → List Slot → List Frame → Symbols → Stage → State
 rested r start c fs ss now = with_scan (resting r) (at start c fs ss now)
 
 -- the token at the front of octets is an annotation if `::` follows, and names no local symbol tables

@@ -1,7 +1,7 @@
 -- The tokens at the front of octets, with what they say: values, numbers and annotations.
 use Rattle.std.specs.Prelude.{true, ◌≡◌, ◌+◌, ◌<◌, ℕ, List, length, drop, get_or, Some, Ok}
 use Rattle.ion_text.specs.Names.Below.{FoundToken, IsFound, IsPassed, Number, Number', Payload, Place, Rest, Scalar, said}
-use Rattle.ion_text.specs.declared.tokens.annotations.Note.{Note}
+use Rattle.ion_text.specs.declared.tokens.annotations.Annotation.{Annotation}
 use Rattle.ion_text.specs.machine.FrontTokens.{IsFree}
 use Rattle.ion_text.specs.machine.Walked.{FoundNote, FoundScalar}
 
@@ -23,7 +23,7 @@ pub record FoundNumber (p : Place) (r : Rest) (octets : List ℕ) (token : Found
   pub says : said token.kind kept ≡ Ok (Number' number)
 
 -- octets begin with an annotation of this text, a blank of so many octets, and `::`
-pub record NoteThere (octets : List ℕ) (note : Note) : Type 0 where
+pub record NoteThere (octets : List ℕ) (note : Annotation) : Type 0 where
   pub token : FoundNote octets note.token
   pub is : token.name ≡ Some note.text.now
   pub passed : IsPassed (drop note.token.count octets) note.between

@@ -2,15 +2,15 @@
 -- was told.
 use Rattle.std.specs.Prelude.{◌≡◌, ◌≢◌, ℕ, Option, Some, None, List, [], ◌∷◌, ◌++◌, map, reverse, Result, Ok, Err, Bool, true, false}
 use Rattle.std.specs.List.{flat_map}
-use Rattle.ion_text.specs.Names.Below.{Bracket, Event, Frame, Gives, Goes, Hears, Late, Listing, Memory, Now, Reason, TextWalk, Turned, Value, WasTold, annotation, events_of, field_events, heard, name, opens, scanned}
+use Rattle.ion_text.specs.Names.Below.{Bracket, Event, Frame, Gives, Goes, Hears, Late, ListOrSexp, Memory, Reason, Stage, TextWalk, Turned, Value, WasTold, annotation, events_of, field_events, heard, name, opens, scanned}
 use Rattle.ion_text.specs.machine.EachToken.{Reading, Setting, Spot, Symbols, Turn, at, first_now, gives, goes, late, opened, refuses, spot_at, under}
 use Rattle.ion_text.specs.machine.Run.{State}
 
 -- the brackets of containers
 
-abbrev pub bracket_for : Listing → Bracket
-bracket_for Listing.List = Bracket.List
-bracket_for Listing.Sexp = Bracket.Sexp
+abbrev pub bracket_for : ListOrSexp → Bracket
+bracket_for ListOrSexp.List = Bracket.List
+bracket_for ListOrSexp.Sexp = Bracket.Sexp
 
 abbrev pub bracket_of : Frame → Bracket
 bracket_of (Frame.Items listing ss vs) = bracket_for listing
@@ -26,14 +26,14 @@ has_notes [] = false
 has_notes (s ∷ ss) = true
 
 -- what may come next, where nothing waits any more
-abbrev pub calm : Now → Now
-calm Now.Ready = Now.Ready
-calm (Now.Pending h end) = Now.Ready
-calm (Now.Long w end) = Now.Ready
-calm Now.After = Now.After
-calm Now.Name = Now.Name
-calm (Now.LongName w) = Now.Name
-calm (Now.Keyed s) = Now.Name
+abbrev pub calm : Stage → Stage
+calm Stage.Ready = Stage.Ready
+calm (Stage.Pending h end) = Stage.Ready
+calm (Stage.Long w end) = Stage.Ready
+calm Stage.After = Stage.After
+calm Stage.Name = Stage.Name
+calm (Stage.LongName w) = Stage.Name
+calm (Stage.Keyed s) = Stage.Name
 
 -- each of these containers is open around a value: of a struct the field's name came
 abbrev pub AreAround : List Frame → Type 0
@@ -43,11 +43,11 @@ AreAround (Frame.Named ss ms s ∷ fs) = AreAround fs
 AreAround (Frame.Fields ss ms ∷ fs) = ⊥
 
 -- where this may come next, such containers are open, and such annotations were read
-abbrev pub AreOpen : List Frame → Symbols → Now → Type 0
-AreOpen fs ss Now.Ready = AreAround fs
-AreOpen (Frame.Items Listing.List _ _ ∷ fs) [] Now.After = AreAround fs
-AreOpen (Frame.Fields _ _ ∷ fs) [] Now.After = AreAround fs
-AreOpen (Frame.Fields _ _ ∷ fs) [] Now.Name = AreAround fs
+abbrev pub AreOpen : List Frame → Symbols → Stage → Type 0
+AreOpen fs ss Stage.Ready = AreAround fs
+AreOpen (Frame.Items ListOrSexp.List _ _ ∷ fs) [] Stage.After = AreAround fs
+AreOpen (Frame.Fields _ _ ∷ fs) [] Stage.After = AreAround fs
+AreOpen (Frame.Fields _ _ ∷ fs) [] Stage.Name = AreAround fs
 AreOpen _ _ _ = ⊥
 
 -- what was told of open containers, the outermost first
@@ -62,7 +62,7 @@ abbrev pub told : List Frame → Symbols → List Event
 told fs ss = told_in fs ++ map annotation ss
 
 -- Such brackets are open and such annotations were read, where this may come next.
-pub record IsShape (bs : List Bracket) (noted : Bool) (now : Now) (fs : List Frame) (ss : Symbols) : Type 0 where
+pub record IsShape (bs : List Bracket) (noted : Bool) (now : Stage) (fs : List Frame) (ss : Symbols) : Type 0 where
   pub frames : bs ≡ brackets_of fs
   pub notes : noted ≡ has_notes ss
   pub open_there : AreOpen fs ss now
@@ -140,13 +140,13 @@ is_inside [] = false
 is_inside (b ∷ bs) = true
 
 -- what may come behind a value in the innermost of these containers
-abbrev pub behind_value : List Bracket → Now
-behind_value (Bracket.Sexp ∷ bs) = Now.Ready
-behind_value _ = Now.After
+abbrev pub behind_value : List Bracket → Stage
+behind_value (Bracket.Sexp ∷ bs) = Stage.Ready
+behind_value _ = Stage.After
 
 -- where this may come next, a close of such a container may come, if one is open
-abbrev pub MayClose : Bracket → Now → Type 0
-MayClose Bracket.Fields Now.Ready = ⊥
+abbrev pub MayClose : Bracket → Stage → Type 0
+MayClose Bracket.Fields Stage.Ready = ⊥
 MayClose _ _ = Unit {0}
 
 abbrev pub is_same : Bracket → Bracket → Bool
@@ -161,7 +161,7 @@ closes_in b [] = false
 closes_in b (x ∷ xs) = is_same b x
 
 -- what may come behind a comma, where one may stand behind a value
-abbrev pub behind_comma : List Bracket → Option Now
-behind_comma (Bracket.List ∷ bs) = Some Now.Ready
-behind_comma (Bracket.Fields ∷ bs) = Some Now.Name
+abbrev pub behind_comma : List Bracket → Option Stage
+behind_comma (Bracket.List ∷ bs) = Some Stage.Ready
+behind_comma (Bracket.Fields ∷ bs) = Some Stage.Name
 behind_comma _ = None

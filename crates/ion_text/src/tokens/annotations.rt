@@ -8,7 +8,7 @@ use ion_tokens::{FoundToken, TokenKind, quoted_symbol, word};
 
 /// An annotation at the front of octets, behind which `::` stands.
 #[derive(Clone, Copy)]
-pub(crate) struct Note<'a> {
+pub(crate) struct Annotation<'a> {
     pub token: FoundToken,
     pub text: &'a str,
     /// How many octets of a blank stand before the `::`.
@@ -17,7 +17,7 @@ pub(crate) struct Note<'a> {
 
 // The word there, if it is an annotation where `::` follows. One that begins with `$` may be a
 // symbol's id, or name local symbol tables.
-fn word_note(octets: &[u8]) -> Option<(FoundToken, &str)>
+fn word_annotation(octets: &[u8]) -> Option<(FoundToken, &str)>
     ensures { IfSome result (λ found. (note : FoundNote octets.now found.0)
         × (note.name ≡ Some found.1.now)) }
 {
@@ -38,7 +38,7 @@ fn word_note(octets: &[u8]) -> Option<(FoundToken, &str)>
 }
 
 // The quoted symbol there, which begins with no `$`.
-fn quoted_note(octets: &[u8]) -> Option<(FoundToken, &str)>
+fn quoted_annotation(octets: &[u8]) -> Option<(FoundToken, &str)>
     ensures { IfSome result (λ found. (note : FoundNote octets.now found.0)
         × (note.name ≡ Some found.1.now)) }
 {
@@ -56,23 +56,23 @@ fn quoted_note(octets: &[u8]) -> Option<(FoundToken, &str)>
 }
 
 // The symbol there, if it is an annotation where `::` follows.
-fn symbol_note(octets: &[u8]) -> Option<(FoundToken, &str)>
+fn symbol_annotation(octets: &[u8]) -> Option<(FoundToken, &str)>
     ensures { IfSome result (λ found. (note : FoundNote octets.now found.0)
         × (note.name ≡ Some found.1.now)) }
 {
     match octets.first() {
-        Some(b'\'') => quoted_note(octets),
-        _ => word_note(octets),
+        Some(b'\'') => quoted_annotation(octets),
+        _ => word_annotation(octets),
     }
 }
 
 /// The annotation there.
-pub(crate) fn note_at(octets: &[u8]) -> Option<Note<'_>>
+pub(crate) fn annotation_at(octets: &[u8]) -> Option<Annotation<'_>>
     ensures { IfSome result (λ note. NoteThere octets.now note) }
 {
-    let (token, text) = symbol_note(octets)?;
+    let (token, text) = symbol_annotation(octets)?;
     let between = behind_annotation(octets, token.count)?;
-    Some(Note {
+    Some(Annotation {
         token,
         text,
         between,

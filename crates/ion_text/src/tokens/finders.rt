@@ -190,7 +190,7 @@ pub(crate) fn number_at(octets: &[u8]) -> Option<(FoundToken, Number)>
 
 /// What a token that isn't plain, and is no clob or blob, is as a value, and whether it would be an
 /// annotation if `::` followed.
-pub(crate) fn rare_part<'b>(body: &'b Body<'_>) -> Option<(bool, Part<'b>)>
+pub(crate) fn unusual_part<'b>(body: &'b Body<'_>) -> Option<(bool, Part<'b>)>
     ensures value { IfSome result (λ found.
         IsValue found.0 (content body.now) (payload_of found.1)) }
     ensures free { IfSome result (λ _. IsFree (content body.now)) }
@@ -303,7 +303,7 @@ pub(crate) fn plain_name(octets: &[u8]) -> Option<(FoundToken, &str)>
 }
 
 // Whether a token that isn't plain may stand there: no mark, no comment and no long string.
-pub(crate) fn may_be_rare(octets: &[u8]) -> bool {
+pub(crate) fn may_be_unusual(octets: &[u8]) -> bool {
     match octets.first() {
         Some(b'\'') => octets.strip_prefix(b"'''").is_none(),
         Some(b'{') => octets.strip_prefix(b"{{").is_some(),

@@ -9,7 +9,7 @@ ghost use Rattle.ion_symtab.specs.declared.items.Went.TheVariants as wents;
 
 use super::TextWalk;
 use crate::reasons::with_memory_at;
-use crate::state::{Now, Taken};
+use crate::state::{Stage, Taken};
 use ion_model::{Reason, Refusal};
 use ion_symtab::{Walked, Went};
 use ion_visiting::Visitor;
@@ -45,7 +45,7 @@ impl TextWalk<'_> {
     /// Takes up octets at the front of a piece, up to the next token or what waits over them, or
     /// one.
     #[inline(never)]
-    fn take_front<V: Visitor>(&mut self, piece: &[u8], visitor: &mut V) -> Result<Taken, Refusal>
+    fn read_front<V: Visitor>(&mut self, piece: &[u8], visitor: &mut V) -> Result<Taken, Refusal>
         requires fine { IsFine self.old }
         requires room { (scanned self.old.scanner).used + length piece.now < 2 ^ 63 }
         requires some { 0 < length piece.now }
@@ -60,20 +60,20 @@ impl TextWalk<'_> {
         ensures steady { IfOk result (λ _. StaysSteady self.old self.new) }
         ensures same { SameReader self.old self.new }
     {
-        let stretch = self.stretch(piece);
-        if stretch > 0 {
-            return match self.take_stretch(&piece[..stretch], visitor) {
+        let run_to_token = self.run_to_token(piece);
+        if run_to_token > 0 {
+            return match self.read_to_token(&piece[..run_to_token], visitor) {
                 Ok((_count, taken)) => Ok(taken),
                 Err(refusal) => Err(refusal),
             };
         }
-        let lull = self.lull(piece);
-        if lull > 0 {
-            self.take_lull(&piece[..lull])?;
+        let waiting_run = self.waiting_run(piece);
+        if waiting_run > 0 {
+            self.read_while_waiting(&piece[..waiting_run])?;
             return Ok(Taken::Uses);
         }
         let offset = self.scanner.used() + 1;
-        match self.take_octet(3, piece[0], visitor) {
+        match self.read_octet(3, piece[0], visitor) {
             Ok(taken) => Ok(taken),
             Err(reason) => Err(Refusal { offset, reason }),
         }
@@ -82,7 +82,7 @@ impl TextWalk<'_> {
     /// Takes up octets at the front of a piece: the tokens that lie whole there, and some behind
     /// them.
     #[inline(always)]
-    fn take_up<V: Visitor>(&mut self, piece: &[u8], visitor: &mut V) -> Result<Taken, Refusal>
+    fn read_piece<V: Visitor>(&mut self, piece: &[u8], visitor: &mut V) -> Result<Taken, Refusal>
         requires fine { IsFine self.old }
         requires room { (scanned self.old.scanner).used + length piece.now < 2 ^ 63 }
         requires some { 0 < length piece.now }
@@ -98,16 +98,16 @@ impl TextWalk<'_> {
         ensures same { SameReader self.old self.new }
     {
         let Some(rest) = self.rests() else {
-            return self.take_front(piece, visitor);
+            return self.read_front(piece, visitor);
         };
-        match self.stride(rest, piece, visitor) {
+        match self.read_tokens(rest, piece, visitor) {
             Err(reason) => Err(Refusal {
                 offset: rest.used,
                 reason,
             }),
             Ok(Taken::Uses) => {
                 let count = self.gone(rest.used);
-                self.take_front(&piece[count..], visitor)
+                self.read_front(&piece[count..], visitor)
             }
             Ok(Taken::Tells) => Ok(Taken::Tells),
             Ok(Taken::Leaves) => Ok(Taken::Leaves),
@@ -149,7 +149,7 @@ impl TextWalk<'_> {
         self.awaited = None;
         let mut i = 0;
         while i < piece.len() {
-            match self.take_up(&piece[i..], visitor) {
+            match self.read_piece(&piece[i..], visitor) {
                 Err(refusal) => return Err(within_piece(before, piece.len(), refusal)),
                 Ok(Taken::Uses) => i = self.gone(before),
                 Ok(Taken::Tells) => {
@@ -185,7 +185,7 @@ impl TextWalk<'_> {
         match (self.awaited, &self.stage) {
             (Some(_), _) => false,
             // Where the scanner rests, as most often, no token has begun.
-            (None, Now::Ready) => {
+            (None, Stage::Ready) => {
                 self.scanner.rest().is_none() && self.scanner.begun().is_some()
             }
             (None, _) => true,

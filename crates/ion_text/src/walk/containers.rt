@@ -1,21 +1,21 @@
 //! Containers: where they open, where they close, and what stands between their values.
 ghost use Rattle.std.specs.Prelude.{option_map, if◌then◌else◌, ◌≡◌, [], List, OnOk, IfErr};
 ghost use Rattle.ion_text.specs.Names.{Does, DoesAlone, Enters, Frame, Holds, MayClose, Memory, SameSetting, Symbols, behind_comma, calm, closed, closes_in, first_now, named, on_comma, open_brackets, opening, setting_of, spot_of, told};
-ghost use Rattle.ion_text.specs.declared.state.Now.TheVariants as nows;
+ghost use Rattle.ion_text.specs.declared.state.Stage.TheVariants as stages;
 
 use super::{TextWalk, heard};
-use crate::state::{Effect, Now};
+use crate::state::{Effect, Stage};
 use ion_model::{Reason, Symbol};
 use ion_visiting::{Bracket, Visitor, is_fields};
 
 // What may come behind what opens such a container.
 #[inline(always)]
-fn first_now(bracket: Bracket) -> Now
+fn first_now(bracket: Bracket) -> Stage
     ensures { result ≡ first_now bracket }
 {
     match bracket {
-        Bracket::Fields => Now::Name,
-        _ => Now::Ready,
+        Bracket::Fields => Stage::Name,
+        _ => Stage::Ready,
     }
 }
 
@@ -27,7 +27,7 @@ impl TextWalk<'_> {
         bracket: Bracket,
         visitor: &mut V,
     ) -> Result<Effect, Reason>
-        requires { self.old.stage ≡ nows.Ready }
+        requires { self.old.stage ≡ stages.Ready }
         ensures does { (fs : List Frame) (ss : Symbols) → Holds self.old fs ss →
             Does V.takes (told fs ss)
             (opening bracket self.old.limits.depth self.old.start self.old.context fs ss)
@@ -47,7 +47,7 @@ impl TextWalk<'_> {
 
     // One container more is open.
     fn enter<V: Visitor>(&mut self, bracket: Bracket, visitor: &mut V) -> Result<(), Reason>
-        requires { self.old.stage ≡ nows.Ready }
+        requires { self.old.stage ≡ stages.Ready }
         ensures enters { OnOk result ((fs : List Frame) (ss : Symbols) → Holds self.old fs ss →
             Enters V.takes bracket self.old self.new fs ss visitor.old visitor.new) }
         ensures memory { IfErr result (λ reason. reason ≡ Memory) }
@@ -77,7 +77,7 @@ impl TextWalk<'_> {
     #[inline(always)]
     fn names_behind_comma(&self) -> Option<bool>
         ensures { behind_comma (open_brackets self.now)
-            ≡ option_map (λ names. if names then nows.Name else nows.Ready) result }
+            ≡ option_map (λ names. if names then stages.Name else stages.Ready) result }
     {
         match self.frames.last() {
             Some(Bracket::List) => Some(false),
@@ -111,7 +111,7 @@ impl TextWalk<'_> {
     /// Behind a comma.
     #[inline(always)]
     pub(super) fn on_comma(&mut self) -> Result<Effect, Reason>
-        requires { self.old.stage ≡ nows.After }
+        requires { self.old.stage ≡ stages.After }
         ensures does { (fs : List Frame) → Holds self.old fs [] →
             DoesAlone (told fs [])
             (on_comma self.old.start self.old.context fs)
@@ -122,10 +122,10 @@ impl TextWalk<'_> {
             return Err(Reason::Unexpected);
         };
         if names {
-            self.set_stage(Now::Name);
+            self.set_stage(Stage::Name);
             return Ok(Effect::Goes);
         }
-        self.set_stage(Now::Ready);
+        self.set_stage(Stage::Ready);
         Ok(Effect::Goes)
     }
 
@@ -135,7 +135,7 @@ impl TextWalk<'_> {
         name: Symbol,
         visitor: &mut V,
     ) -> Result<Effect, Reason>
-        requires { self.old.stage ≡ nows.Name }
+        requires { self.old.stage ≡ stages.Name }
         ensures does { (fs : List Frame) → Holds self.old fs [] →
             Does V.takes (told fs [])
             (named self.old.start self.old.context fs name)
@@ -145,7 +145,7 @@ impl TextWalk<'_> {
         let told = self.filter.name(&name, visitor);
         drop(name);
         heard(told)?;
-        self.set_stage(Now::Ready);
+        self.set_stage(Stage::Ready);
         Ok(Effect::Goes)
     }
 }

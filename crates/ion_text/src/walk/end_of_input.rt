@@ -7,7 +7,7 @@ ghost use Rattle.ion_text.specs.machine.Views.{token_in};
 
 use super::TextWalk;
 use crate::reasons::end_late;
-use crate::state::{Effect, Now};
+use crate::state::{Effect, Stage};
 use ion_model::{Reason, Refusal};
 use ion_symtab::{Catalog, Context, Limits};
 use ion_tokens::{Scanner, Token, TokenReader};
@@ -34,7 +34,7 @@ impl<'a> TextWalk<'a> {
             context,
             frames: Vec::new(alloc),
             noted: false,
-            stage: Now::Ready,
+            stage: Stage::Ready,
             filter: TableFilter::new(alloc),
             awaited: None,
             failed: None,
@@ -49,7 +49,7 @@ impl TextWalk<'_> {
             result ≡ is_fresh (reading_of self.now fs ss) }
     {
         match (self.frames.last(), self.noted, &self.stage) {
-            (None, false, Now::Ready) => true,
+            (None, false, Stage::Ready) => true,
             _ => false,
         }
     }
@@ -174,9 +174,9 @@ impl TextWalk<'_> {
         let scanner = mem::replace(&mut self.scanner, Scanner::new(self.alloc));
         let token = scanner.finish(place);
         match &self.stage {
-            Now::Pending(_, _) => self.end_waiting(token, visitor),
-            Now::Long(_, _) => self.end_waiting(token, visitor),
-            Now::LongName(_) => Err(Reason::Incomplete),
+            Stage::Pending(_, _) => self.end_waiting(token, visitor),
+            Stage::Long(_, _) => self.end_waiting(token, visitor),
+            Stage::LongName(_) => Err(Reason::Incomplete),
             _ => self.end_ready(token, visitor),
         }
     }

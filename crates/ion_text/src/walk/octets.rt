@@ -5,7 +5,7 @@ ghost use Rattle.ion_text.specs.machine.Views.{token_in};
 
 use super::TextWalk;
 use crate::reasons::{lesser, worse};
-use crate::state::{Effect, Met, Now, Taken};
+use crate::state::{Effect, Met, Stage, Taken};
 use crate::tokens::foresight::{goes_on_long, goes_on_symbol};
 use ion_model::{Reason, Refusal};
 use ion_tokens::{Form, Place, Scan, Token};
@@ -20,23 +20,23 @@ impl TextWalk<'_> {
         let begun = self.scanner.begun();
         match (self.frames.last(), &self.stage, begun) {
             (Some(_), _, _) => self.scanner.used().saturating_sub(self.start),
-            (None, Now::Ready, None) => {
+            (None, Stage::Ready, None) => {
                 if self.noted {
                     self.scanner.used().saturating_sub(self.start)
                 } else {
                     0
                 }
             }
-            (None, Now::Ready, Some(begun)) => {
+            (None, Stage::Ready, Some(begun)) => {
                 if self.noted {
                     begun.end.saturating_sub(self.start)
                 } else {
                     begun.end.saturating_sub(begun.start)
                 }
             }
-            (None, Now::Pending(_, end), _) => end.saturating_sub(self.start),
-            (None, Now::Long(_, end), None) => end.saturating_sub(self.start),
-            (None, Now::Long(_, end), Some(begun)) => match begun.form {
+            (None, Stage::Pending(_, end), _) => end.saturating_sub(self.start),
+            (None, Stage::Long(_, end), None) => end.saturating_sub(self.start),
+            (None, Stage::Long(_, end), Some(begun)) => match begun.form {
                 Form::Long => begun.end.saturating_sub(self.start),
                 _ => end.saturating_sub(self.start),
             },
@@ -53,7 +53,7 @@ impl TextWalk<'_> {
             result (state_of self.now fs ss) }
     {
         match &self.stage {
-            Now::After | Now::Keyed(_) if self.scanner.begun().is_some() => {
+            Stage::After | Stage::Keyed(_) if self.scanner.begun().is_some() => {
                 return Err(Reason::Unexpected);
             }
             _ => {}
@@ -76,18 +76,18 @@ impl TextWalk<'_> {
 
     /// Whether what waits may go on with the octet. A long string isn't whole where an octet is
     /// refused in its next segment.
-    #[tactic(auto, using(crate::proofs::Sights::symbol_sights, crate::proofs::Sights::long_sights))]
+    #[tactic(auto, using(crate::proofs::Foreseen::symbol_sights, crate::proofs::Foreseen::long_sights))]
     fn goes_on(&self, place: Place, octet: u8) -> bool
         ensures { (fs : List Frame) (ss : Symbols) → Holds self.now fs ss →
             result ≡ unsettled (scanned self.now.scanner) (reading_of self.now fs ss)
             (feed place (scanned self.now.scanner) octet) }
     {
         match &self.stage {
-            Now::Pending(_, _) => goes_on_symbol(self.scanner.foresee(place, octet)),
-            Now::Long(_, _) => {
+            Stage::Pending(_, _) => goes_on_symbol(self.scanner.foresee(place, octet)),
+            Stage::Long(_, _) => {
                 goes_on_long(self.is_top(), self.scanner.foresee(place, octet)) || self.in_segment()
             }
-            Now::LongName(_) => goes_on_long(false, self.scanner.foresee(place, octet)),
+            Stage::LongName(_) => goes_on_long(false, self.scanner.foresee(place, octet)),
             _ => false,
         }
     }
@@ -184,7 +184,7 @@ impl TextWalk<'_> {
 
     /// Takes up an octet, which may be left behind fewer than so many tokens that it ends.
     #[cycle(octet)]
-    pub(super) fn take_octet<V: Visitor>(
+    pub(super) fn read_octet<V: Visitor>(
         &mut self,
         tokens: u8,
         octet: u8,
@@ -250,9 +250,9 @@ impl TextWalk<'_> {
             Ok((_, Met::Uses)) => Ok(Taken::Uses),
             Ok((_, Met::Tells)) => Ok(Taken::Tells),
             Ok((_, Met::Leaves)) => Ok(Taken::Leaves),
-            Ok((_, Met::Again)) => self.take_octet(tokens, octet, visitor),
+            Ok((_, Met::Again)) => self.read_octet(tokens, octet, visitor),
             Ok((_, Met::Late(reason))) => {
-                let again = self.take_octet(tokens, octet, visitor);
+                let again = self.read_octet(tokens, octet, visitor);
                 Err(worse(reason, again))
             }
         }

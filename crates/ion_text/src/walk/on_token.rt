@@ -3,11 +3,11 @@ ghost use Rattle.std.specs.Prelude.{◌≡◌, [], ◌∷◌, ◌++◌, List, So
 ghost use Rattle.ion_text.specs.Names.{Does, DoesAlone, Frame, Holds, Mark', SameSetting, Symbols, Word, at, goes, keyed, late, on_after, on_keyed, on_long, on_long_name, on_name, on_pending, on_ready, reading_of, setting_of, spot_of, told, turn};
 ghost use Rattle.ion_atoms.specs.declared.refusal.Reason.TheVariants as reasons;
 ghost use Rattle.ion_tokens.specs.Bodies.{content};
-ghost use Rattle.ion_text.specs.declared.state.Now.TheVariants as nows;
+ghost use Rattle.ion_text.specs.declared.state.Stage.TheVariants as stages;
 ghost use Rattle.ion_text.specs.machine.Views.{token_in};
 
 use super::{TextWalk, heard};
-use crate::state::{Effect, Held, Now};
+use crate::state::{Effect, Held, Stage};
 use crate::tokens::long_strings::joined;
 use crate::words::{held_word, is_keyword};
 use ion_model::{Reason, Symbol, Text};
@@ -30,16 +30,16 @@ impl TextWalk<'_> {
     {
         let Token { start, end, body } = token;
         match self.take_stage() {
-            Now::Ready => {
+            Stage::Ready => {
                 self.start = self.begun_at(start);
                 self.on_ready(end, body, visitor)
             }
-            Now::Pending(held, _) => self.on_pending(held, body, visitor),
-            Now::Long(text, _) => self.on_long(text, end, body),
-            Now::After => self.on_after(end, body, visitor),
-            Now::Name => self.on_name(end, body, visitor),
-            Now::LongName(text) => self.on_long_name(text, body),
-            Now::Keyed(name) => self.on_keyed(name, body, visitor),
+            Stage::Pending(held, _) => self.on_pending(held, body, visitor),
+            Stage::Long(text, _) => self.on_long(text, end, body),
+            Stage::After => self.on_after(end, body, visitor),
+            Stage::Name => self.on_name(end, body, visitor),
+            Stage::LongName(text) => self.on_long_name(text, body),
+            Stage::Keyed(name) => self.on_keyed(name, body, visitor),
         }
     }
 
@@ -50,7 +50,7 @@ impl TextWalk<'_> {
         body: Body<'_>,
         visitor: &mut V,
     ) -> Result<Effect, Reason>
-        requires { self.old.stage ≡ nows.Ready }
+        requires { self.old.stage ≡ stages.Ready }
         ensures does { (fs : List Frame) (ss : Symbols) → Holds self.old fs ss →
             Does V.takes (told fs ss)
             (on_ready (setting_of self.old) (spot_of self.old end) fs ss (content body.entry))
@@ -72,11 +72,11 @@ impl TextWalk<'_> {
             }
             Body::TypedNull(kind) => self.wait(Held::Null(kind), end),
             Body::Long(text) => {
-                self.set_stage(Now::Long(text, end));
+                self.set_stage(Stage::Long(text, end));
                 Ok(Effect::Goes)
             }
             Body::Short(text) => self.whole(&Part::Str(text.as_str()), end, visitor),
-            Body::Number(number) => self.whole_number(number, end, visitor),
+            Body::Number(number) => self.number_ended(number, end, visitor),
             Body::Operator(word) => self.whole(&Part::Symbol(word.as_str()), end, visitor),
             Body::Clob(octets) => self.whole(&Part::Clob(octets.as_slice()), end, visitor),
             Body::Blob(octets) => self.whole(&Part::Blob(octets.as_slice()), end, visitor),
@@ -91,7 +91,7 @@ impl TextWalk<'_> {
         mark: Mark,
         visitor: &mut V,
     ) -> Result<Effect, Reason>
-        requires { self.old.stage ≡ nows.Ready }
+        requires { self.old.stage ≡ stages.Ready }
         ensures does { (fs : List Frame) (ss : Symbols) → Holds self.old fs ss →
             Does V.takes (told fs ss)
             (on_ready (setting_of self.old) (spot_of self.old end) fs ss (Mark' mark))
@@ -110,14 +110,14 @@ impl TextWalk<'_> {
 
     /// What may be an annotation has come.
     fn wait(&mut self, held: Held, end: u64) -> Result<Effect, Reason>
-        requires { self.old.stage ≡ nows.Ready }
+        requires { self.old.stage ≡ stages.Ready }
         ensures does { (fs : List Frame) (ss : Symbols) → Holds self.old fs ss →
             DoesAlone (told fs ss)
-            (goes (at self.old.start self.old.context fs ss (nows.Pending held end)))
+            (goes (at self.old.start self.old.context fs ss (stages.Pending held end)))
             result self.new }
         ensures setting { SameSetting self.old self.new }
     {
-        self.set_stage(Now::Pending(held, end));
+        self.set_stage(Stage::Pending(held, end));
         Ok(Effect::Goes)
     }
 
@@ -128,7 +128,7 @@ impl TextWalk<'_> {
         body: Body<'_>,
         visitor: &mut V,
     ) -> Result<Effect, Reason>
-        requires { self.old.stage ≡ nows.Ready }
+        requires { self.old.stage ≡ stages.Ready }
         ensures does { (fs : List Frame) (ss : Symbols) → Holds self.old fs ss →
             Does V.takes (told fs ss)
             (on_pending self.old.start self.old.context fs ss held (content body.entry))
@@ -138,9 +138,9 @@ impl TextWalk<'_> {
         match (body, held) {
             (Body::Mark(Mark::Colons), Held::Symbol(symbol)) => self.note(symbol, visitor),
             (Body::Mark(Mark::Colons), Held::Version(_, symbol)) => self.note(symbol, visitor),
-            (Body::Mark(Mark::Colons), Held::Null(_)) => self.note_keyword(visitor),
-            (Body::Mark(Mark::Colons), Held::Truth(_)) => self.note_keyword(visitor),
-            (Body::Mark(Mark::Colons), Held::Nan) => self.note_keyword(visitor),
+            (Body::Mark(Mark::Colons), Held::Null(_)) => self.annotation_keyword(visitor),
+            (Body::Mark(Mark::Colons), Held::Truth(_)) => self.annotation_keyword(visitor),
+            (Body::Mark(Mark::Colons), Held::Nan) => self.annotation_keyword(visitor),
             _ => Err(Reason::Unexpected),
         }
     }
@@ -151,10 +151,10 @@ impl TextWalk<'_> {
         symbol: Symbol,
         visitor: &mut V,
     ) -> Result<Effect, Reason>
-        requires { self.old.stage ≡ nows.Ready }
+        requires { self.old.stage ≡ stages.Ready }
         ensures does { (fs : List Frame) (ss : Symbols) → Holds self.old fs ss →
             Does V.takes (told fs ss)
-            (goes (at self.old.start self.old.context fs (ss ++ symbol ∷ []) nows.Ready))
+            (goes (at self.old.start self.old.context fs (ss ++ symbol ∷ []) stages.Ready))
             result self.new visitor.old visitor.new }
         ensures setting { SameSetting self.old self.new }
     {
@@ -165,12 +165,12 @@ impl TextWalk<'_> {
 
     /// A keyword has come in place of an annotation. The octet behind it may be refused for a
     /// smaller reason.
-    fn note_keyword<V: Visitor>(&mut self, visitor: &mut V) -> Result<Effect, Reason>
-        requires { self.old.stage ≡ nows.Ready }
+    fn annotation_keyword<V: Visitor>(&mut self, visitor: &mut V) -> Result<Effect, Reason>
+        requires { self.old.stage ≡ stages.Ready }
         ensures does { (fs : List Frame) (ss : Symbols) → Holds self.old fs ss →
             Does V.takes (told fs ss)
             (late reasons.KeywordAsName
-            (at self.old.start self.old.context fs (ss ++ None ∷ []) nows.Ready))
+            (at self.old.start self.old.context fs (ss ++ None ∷ []) stages.Ready))
             result self.new visitor.old visitor.new }
         ensures setting { SameSetting self.old self.new }
     {
@@ -181,7 +181,7 @@ impl TextWalk<'_> {
 
     /// A token behind the segments of a long string.
     fn on_long(&mut self, text: Text, end: u64, body: Body<'_>) -> Result<Effect, Reason>
-        requires { self.old.stage ≡ nows.Ready }
+        requires { self.old.stage ≡ stages.Ready }
         ensures does { (fs : List Frame) (ss : Symbols) → Holds self.old fs ss →
             DoesAlone (told fs ss)
             (on_long (spot_of self.old end) fs ss text (content body.entry))
@@ -192,7 +192,7 @@ impl TextWalk<'_> {
             Body::Long(more) => {
                 let text = joined(text, &more);
                 drop(more);
-                self.set_stage(Now::Long(text?, end));
+                self.set_stage(Stage::Long(text?, end));
                 Ok(Effect::Goes)
             }
             other => {
@@ -205,7 +205,7 @@ impl TextWalk<'_> {
 
     /// A token behind the segments of a long string that is a field's name.
     fn on_long_name(&mut self, text: Text, body: Body<'_>) -> Result<Effect, Reason>
-        requires { self.old.stage ≡ nows.Name }
+        requires { self.old.stage ≡ stages.Name }
         ensures does { (fs : List Frame) → Holds self.old fs [] →
             DoesAlone (told fs [])
             (on_long_name self.old.start self.old.context fs text (content body.entry))
@@ -216,7 +216,7 @@ impl TextWalk<'_> {
             Body::Long(more) => {
                 let text = joined(text, &more);
                 drop(more);
-                self.set_stage(Now::LongName(text?));
+                self.set_stage(Stage::LongName(text?));
                 Ok(Effect::Goes)
             }
             other => {
@@ -234,7 +234,7 @@ impl TextWalk<'_> {
         body: Body<'_>,
         visitor: &mut V,
     ) -> Result<Effect, Reason>
-        requires { self.old.stage ≡ nows.Name }
+        requires { self.old.stage ≡ stages.Name }
         ensures does { (fs : List Frame) → Holds self.old fs [] →
             Does V.takes (told fs [])
             (on_name (setting_of self.old) (spot_of self.old end) fs (content body.entry))
@@ -261,47 +261,47 @@ impl TextWalk<'_> {
 
     /// The name of a field has come.
     fn key(&mut self, name: Symbol) -> Result<Effect, Reason>
-        requires { self.old.stage ≡ nows.Name }
+        requires { self.old.stage ≡ stages.Name }
         ensures does { (fs : List Frame) → Holds self.old fs [] →
             DoesAlone (told fs [])
             (goes (keyed self.old.start self.old.context fs name))
             result self.new }
         ensures setting { SameSetting self.old self.new }
     {
-        self.set_stage(Now::Keyed(name));
+        self.set_stage(Stage::Keyed(name));
         Ok(Effect::Goes)
     }
 
     /// The first segment of a long string that is a field's name.
     fn key_long(&mut self, text: Text) -> Result<Effect, Reason>
-        requires { self.old.stage ≡ nows.Name }
+        requires { self.old.stage ≡ stages.Name }
         ensures does { (fs : List Frame) → Holds self.old fs [] →
             DoesAlone (told fs [])
-            (goes (at self.old.start self.old.context fs [] (nows.LongName text)))
+            (goes (at self.old.start self.old.context fs [] (stages.LongName text)))
             result self.new }
         ensures setting { SameSetting self.old self.new }
     {
-        self.set_stage(Now::LongName(text));
+        self.set_stage(Stage::LongName(text));
         Ok(Effect::Goes)
     }
 
     /// A typed null in place of a field's name. The octet behind it may be refused for a smaller
     /// reason.
     fn null_named(&mut self) -> Result<Effect, Reason>
-        requires { self.old.stage ≡ nows.Name }
+        requires { self.old.stage ≡ stages.Name }
         ensures does { (fs : List Frame) → Holds self.old fs [] →
             DoesAlone (told fs [])
             (late reasons.KeywordAsName (keyed self.old.start self.old.context fs None))
             result self.new }
         ensures setting { SameSetting self.old self.new }
     {
-        self.set_stage(Now::Keyed(Symbol::unknown()));
+        self.set_stage(Stage::Keyed(Symbol::unknown()));
         Ok(Effect::Late(Reason::KeywordAsName))
     }
 
     /// A text in quotes that is a field's name.
     fn text_named(&mut self, text: Text) -> Result<Effect, Reason>
-        requires { self.old.stage ≡ nows.Name }
+        requires { self.old.stage ≡ stages.Name }
         ensures does { (fs : List Frame) → Holds self.old fs [] →
             DoesAlone (told fs [])
             (goes (keyed self.old.start self.old.context fs (Some text)))
@@ -310,14 +310,14 @@ impl TextWalk<'_> {
     {
         let name = self.recent.symbol(text.as_str());
         drop(text);
-        self.set_stage(Now::Keyed(name?));
+        self.set_stage(Stage::Keyed(name?));
         Ok(Effect::Goes)
     }
 
     /// A word that is a field's name. The octet behind a keyword may be refused for a smaller
     /// reason.
     fn word_named(&mut self, word: &str) -> Result<Effect, Reason>
-        requires { self.old.stage ≡ nows.Name }
+        requires { self.old.stage ≡ stages.Name }
         ensures does { (fs : List Frame) → Holds self.old fs [] →
             DoesAlone (told fs [])
             (on_name (setting_of self.old) (spot_of self.old 0) fs (Word word.now))
@@ -325,7 +325,7 @@ impl TextWalk<'_> {
         ensures setting { SameSetting self.old self.new }
     {
         let name = self.recent.symbol(word)?;
-        self.set_stage(Now::Keyed(name));
+        self.set_stage(Stage::Keyed(name));
         if is_keyword(word) {
             return Ok(Effect::Late(Reason::KeywordAsName));
         }
@@ -339,7 +339,7 @@ impl TextWalk<'_> {
         body: Body<'_>,
         visitor: &mut V,
     ) -> Result<Effect, Reason>
-        requires { self.old.stage ≡ nows.After }
+        requires { self.old.stage ≡ stages.After }
         ensures does { (fs : List Frame) → Holds self.old fs [] →
             Does V.takes (told fs [])
             (on_after (setting_of self.old) (spot_of self.old end) fs (content body.entry))
@@ -362,7 +362,7 @@ impl TextWalk<'_> {
         mark: Mark,
         visitor: &mut V,
     ) -> Result<Effect, Reason>
-        requires { self.old.stage ≡ nows.After }
+        requires { self.old.stage ≡ stages.After }
         ensures does { (fs : List Frame) → Holds self.old fs [] →
             Does V.takes (told fs [])
             (on_after (setting_of self.old) (spot_of self.old end) fs (Mark' mark))
@@ -384,7 +384,7 @@ impl TextWalk<'_> {
         body: Body<'_>,
         visitor: &mut V,
     ) -> Result<Effect, Reason>
-        requires { self.old.stage ≡ nows.Name }
+        requires { self.old.stage ≡ stages.Name }
         ensures does { (fs : List Frame) → Holds self.old fs [] →
             Does V.takes (told fs [])
             (on_keyed self.old.start self.old.context fs name (content body.entry))

@@ -2,10 +2,10 @@
 ghost use Rattle.std.specs.Prelude.{◌≡◌, ℕ, [], List, Option, Some};
 ghost use Rattle.ion_text.specs.Names.{Does, DoesAlone, Frame, Holds, SameSetting, Symbols, goes, keyed, reading_of, released, setting_of, settle, spot_of, told};
 ghost use Rattle.ion_text.specs.declared.state.Held.TheVariants as helds;
-ghost use Rattle.ion_text.specs.declared.state.Now.TheVariants as nows;
+ghost use Rattle.ion_text.specs.declared.state.Stage.TheVariants as stages;
 
 use super::TextWalk;
-use crate::state::{Effect, Held, Now};
+use crate::state::{Effect, Held, Stage};
 use ion_model::{Reason, Symbol, Text};
 use ion_visiting::{Part, Visitor};
 
@@ -19,9 +19,9 @@ impl TextWalk<'_> {
         ensures setting { SameSetting self.old self.new }
     {
         match self.take_stage() {
-            Now::Pending(held, end) => self.release(held, end, visitor),
-            Now::Long(text, end) => self.whole(&Part::Str(text.as_str()), end, visitor),
-            Now::LongName(text) => self.long_named(text),
+            Stage::Pending(held, end) => self.release(held, end, visitor),
+            Stage::Long(text, end) => self.whole(&Part::Str(text.as_str()), end, visitor),
+            Stage::LongName(text) => self.long_named(text),
             now => {
                 self.set_stage(now);
                 Ok(Effect::Goes)
@@ -31,7 +31,7 @@ impl TextWalk<'_> {
 
     /// A long string is a field's name.
     fn long_named(&mut self, text: Text) -> Result<Effect, Reason>
-        requires { self.old.stage ≡ nows.Name }
+        requires { self.old.stage ≡ stages.Name }
         ensures does { (fs : List Frame) → Holds self.old fs [] →
             DoesAlone (told fs [])
             (goes (keyed self.old.start self.old.context fs (Some text)))
@@ -40,7 +40,7 @@ impl TextWalk<'_> {
     {
         let name = Symbol::known(self.alloc, text.as_str());
         drop(text);
-        self.set_stage(Now::Keyed(name?));
+        self.set_stage(Stage::Keyed(name?));
         Ok(Effect::Goes)
     }
 
@@ -52,7 +52,7 @@ impl TextWalk<'_> {
         end: u64,
         visitor: &mut V,
     ) -> Result<Effect, Reason>
-        requires { self.old.stage ≡ nows.Ready }
+        requires { self.old.stage ≡ stages.Ready }
         ensures does { (fs : List Frame) (ss : Symbols) → Holds self.old fs ss →
             Does V.takes (told fs ss)
             (released (setting_of self.old) (spot_of self.old end) fs ss held)
@@ -65,9 +65,9 @@ impl TextWalk<'_> {
                     drop(symbol);
                     return self.mark(ours, end);
                 }
-                self.whole_symbol(symbol, end, visitor)
+                self.symbol_ended(symbol, end, visitor)
             }
-            Held::Symbol(symbol) => self.whole_symbol(symbol, end, visitor),
+            Held::Symbol(symbol) => self.symbol_ended(symbol, end, visitor),
             Held::Null(kind) => self.whole(&Part::Null(kind), end, visitor),
             Held::Truth(truth) => self.whole(&Part::Truth(truth), end, visitor),
             Held::Nan => Err(Reason::Float),
@@ -76,7 +76,7 @@ impl TextWalk<'_> {
 
     /// A version marker, of Ion 1.0 or of another version, ended at `end`.
     fn mark(&mut self, ours: bool, end: u64) -> Result<Effect, Reason>
-        requires { self.old.stage ≡ nows.Ready }
+        requires { self.old.stage ≡ stages.Ready }
         ensures does { (s : Option (List ℕ)) → Holds self.old [] [] →
             DoesAlone (told [] [])
             (released (setting_of self.old) (spot_of self.old end) [] [] (helds.Version ours s))

@@ -5,11 +5,11 @@
 ghost use Rattle.std.specs.Prelude.{◌≡◌, ◌≢◌, ◌+◌, ◌<◌, get_or, length, IfSome, false, true};
 ghost use Rattle.ion_text.specs.Names.{EndsBy, Id, IsHere, Place as AnyPlace, Rest as AnyRest, SaysThere, SymbolThere, Takes, begins_word};
 ghost use Rattle.ion_tokens.specs.declared.mode.TokenKind.TheVariants as kinds;
-ghost use Rattle.ion_text.specs.declared.state.Now.TheVariants as nows;
+ghost use Rattle.ion_text.specs.declared.state.Stage.TheVariants as stages;
 
-use super::stride::{only_goes, value_took};
+use super::whole_tokens::{only_goes, value_took};
 use super::{TextWalk, heard};
-use crate::state::{Now, Taken};
+use crate::state::{Stage, Taken};
 use crate::tokens::symbols::{behind_annotation, behind_name, behind_waiting};
 use crate::words::is_digit;
 use ion_model::{Reason, Symbol};
@@ -70,24 +70,24 @@ fn id_at(octets: &[u8]) -> Option<(FoundToken, u64)>
 impl TextWalk<'_> {
     /// A word that begins with `$`: a symbol's id, or a symbol.
     #[inline(never)]
-    pub(super) fn take_dollar<V: Visitor>(
+    pub(super) fn read_dollar<V: Visitor>(
         &mut self,
         here: Place,
         rest: &mut Rest,
         octets: &[u8],
         visitor: &mut V,
     ) -> Result<Taken, Reason>
-        requires takes { Takes nows.Ready self.old rest.old octets.now }
+        requires takes { Takes stages.Ready self.old rest.old octets.now }
         requires here { IsHere self.old here }
         requires dollar { get_or octets.now 0 0 ≡ 36 }
         ensures { EndsBy V.takes self.old self.new rest.old rest.new octets.now result
             visitor.old visitor.new }
     {
         let Some((token, id)) = id_at(octets) else {
-            return self.take_rare(here, rest, octets, visitor);
+            return self.read_unusual(here, rest, octets, visitor);
         };
         let Some((between, behind)) = behind_waiting(here, *rest, token, octets) else {
-            return self.take_id_note(here, token, id, rest, octets, visitor);
+            return self.read_id_annotation(here, token, id, rest, octets, visitor);
         };
         if self.is_left(between, false) {
             return Ok(Taken::Uses);
@@ -105,7 +105,7 @@ impl TextWalk<'_> {
 
     /// The symbol of this id as an annotation, with its `::`.
     #[inline(never)]
-    fn take_id_note<V: Visitor>(
+    fn read_id_annotation<V: Visitor>(
         &mut self,
         here: Place,
         token: FoundToken,
@@ -114,7 +114,7 @@ impl TextWalk<'_> {
         octets: &[u8],
         visitor: &mut V,
     ) -> Result<Taken, Reason>
-        requires takes { Takes nows.Ready self.old rest.old octets.now }
+        requires takes { Takes stages.Ready self.old rest.old octets.now }
         requires here { IsHere self.old here }
         requires says { SaysThere here rest.old octets.now token (Id id) }
         requires word { token.kind ≡ kinds.Word }
@@ -124,11 +124,11 @@ impl TextWalk<'_> {
         let Ok(symbol) = self.context.resolve(id) else {
             return Ok(Taken::Uses);
         };
-        self.take_known_note(here, token, symbol, rest, octets, visitor)
+        self.read_known_annotation(here, token, symbol, rest, octets, visitor)
     }
 
     /// This symbol as an annotation, with its `::`, where a container is open.
-    pub(super) fn take_known_note<V: Visitor>(
+    pub(super) fn read_known_annotation<V: Visitor>(
         &mut self,
         here: Place,
         token: FoundToken,
@@ -137,7 +137,7 @@ impl TextWalk<'_> {
         octets: &[u8],
         visitor: &mut V,
     ) -> Result<Taken, Reason>
-        requires takes { Takes nows.Ready self.old rest.old octets.now }
+        requires takes { Takes stages.Ready self.old rest.old octets.now }
         requires here { IsHere self.old here }
         requires there { SymbolThere self.old.context here rest.old octets.now token symbol }
         ensures { EndsBy V.takes self.old self.new rest.old rest.new octets.now result
@@ -160,19 +160,19 @@ impl TextWalk<'_> {
 
     /// A field's name that begins with `$`, with its colon.
     #[inline(never)]
-    pub(super) fn take_dollar_name<V: Visitor>(
+    pub(super) fn read_dollar_name<V: Visitor>(
         &mut self,
         rest: &mut Rest,
         octets: &[u8],
         visitor: &mut V,
     ) -> Result<Taken, Reason>
-        requires takes { Takes nows.Name self.old rest.old octets.now }
+        requires takes { Takes stages.Name self.old rest.old octets.now }
         requires dollar { get_or octets.now 0 0 ≡ 36 }
         ensures { EndsBy V.takes self.old self.new rest.old rest.new octets.now result
             visitor.old visitor.new }
     {
         let Some((token, id)) = id_at(octets) else {
-            return self.take_rare_name(rest, octets, visitor);
+            return self.read_unusual_name(rest, octets, visitor);
         };
         let Some(between) = behind_name(octets, token.count) else {
             return Ok(Taken::Uses);
@@ -181,7 +181,7 @@ impl TextWalk<'_> {
             return Ok(Taken::Uses);
         };
         heard(self.filter.name(name, visitor))?;
-        self.set_stage(Now::Ready);
+        self.set_stage(Stage::Ready);
         *rest = rest
             .past_token(Place::Name, token.kind, token.count)
             .past_blank(between)

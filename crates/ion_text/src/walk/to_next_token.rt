@@ -5,7 +5,7 @@ ghost use Rattle.ion_text.specs.Names.{Frame, Holds, IsCalm, IsFine, IsWithin, S
 
 use super::TextWalk;
 use crate::reasons::worse;
-use crate::state::{Met, Now, Taken};
+use crate::state::{Met, Stage, Taken};
 use ion_model::Refusal;
 use ion_visiting::Visitor;
 
@@ -26,7 +26,7 @@ impl TextWalk<'_> {
 
     /// How many octets at the front of a piece may be handed to the scanner at once: none where
     /// something waits or no token may begin, and no more than the limit on items leaves.
-    pub(super) fn stretch(&self, piece: &[u8]) -> usize
+    pub(super) fn run_to_token(&self, piece: &[u8]) -> usize
         ensures within { result ≤ length piece.now }
         ensures calm { 0 < result → IsCalm self.now.stage }
         ensures high { 0 < result →
@@ -36,7 +36,7 @@ impl TextWalk<'_> {
             + base fs ss self.now.start (floor (scanned self.now.scanner)) }
     {
         match &self.stage {
-            Now::Ready | Now::Name => {}
+            Stage::Ready | Stage::Name => {}
             _ => return 0,
         }
         let used = self.scanner.used();
@@ -53,7 +53,7 @@ impl TextWalk<'_> {
     }
 
     /// Takes up octets up to the next token, where nothing waits.
-    pub(super) fn take_stretch<V: Visitor>(
+    pub(super) fn read_to_token<V: Visitor>(
         &mut self,
         piece: &[u8],
         visitor: &mut V,
@@ -85,7 +85,7 @@ impl TextWalk<'_> {
             Ok((count, Met::Leaves)) => Ok((count, Taken::Leaves)),
             Ok((count, Met::Again)) => {
                 let offset = self.scanner.used() + 1;
-                match self.take_octet(2, piece[count], visitor) {
+                match self.read_octet(2, piece[count], visitor) {
                     Err(reason) => Err(Refusal { offset, reason }),
                     Ok(Taken::Uses) => Ok((count + 1, Taken::Uses)),
                     Ok(Taken::Tells) => Ok((count + 1, Taken::Tells)),
@@ -94,7 +94,7 @@ impl TextWalk<'_> {
             }
             Ok((count, Met::Late(reason))) => {
                 let offset = self.scanner.used() + 1;
-                let again = self.take_octet(2, piece[count], visitor);
+                let again = self.read_octet(2, piece[count], visitor);
                 Err(Refusal {
                     offset,
                     reason: worse(reason, again),

@@ -71,7 +71,7 @@ plain_piece : (c : List Slot) (w : List ℕ) (p : Payload) → Plain c w p → I
 plain_piece c _ _ (is_null b k o) = record { descriptor = b; rest = []; whole = refl; sized = subst (λ x. IsSizedBy x []) (sym o) refl }
 plain_piece c _ _ (is_truth b t o) = record { descriptor = b; rest = []; whole = refl; sized = subst (λ x. IsSizedBy x []) (sym o) refl }
 plain_piece c _ _ (is_scalar h body t p d i) = headed (Form.Scalar t) (length body) h body refl d
-plain_piece c _ _ (is_listing h body x vs d q) = headed (Form.Listing x) (length body) h body refl d
+plain_piece c _ _ (is_listing h body x vs d q) = headed (Form.ListOrSexp x) (length body) h body refl d
 plain_piece c _ _ (is_struct h body ms d q) = headed Form.Struct (length body) h body refl d
 plain_piece c _ _ (is_ordered h body ms d k q) = headed Form.OrderedStruct (length body) h body refl d
 

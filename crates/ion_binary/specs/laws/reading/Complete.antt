@@ -1,7 +1,7 @@
 -- What the grammar says, the machine reads.
 use Rattle.std.proofs.Common.{◌≡◌, ℕ, zero, suc, ◌+◌, ◌-◌, ◌*◌, ◌^◌, ◌<◌, ◌≤◌, max, List, [], ◌∷◌, ◌++◌, length, Option, Result, Ok, Err, Some, None, refl, ap, sym, subst, ◌∙◌, arith, length-append, Bool, true, false, ◌||◌, cond, nat_le, append_assoc, le-leb, lt-ltb, le-ltb, eq-eqb, ne_eqb, ◌==◌}
 use Rattle.std.proofs.lemmas.Bool.{cond-true, cond-false}
-use Rattle.ion_binary.specs.Names.{Binary, Catalog, Digits128, Field, Fields, Form, Frame, Header, Ids, InNumber, InPad, IsPad, ItemTooLong, Limits, Listing, Outcome, Payload, Plain, Purpose, Ready, Reason, Run, Scalar, Sequence, Slot, Spot, Value, VarUInt, anew, annotated, annotation_came, at, bare, begin, count_came, deliver, depth, depths, descriptor_of, end_of, feed, field_depths, field_of, hollow, in_body, is_listing, is_null, is_ordered, is_pad, is_scalar, is_struct, is_truth, is_wrapper, judge, judged, led, length-one, levels, listed, long, longer, misfits, more, nameless, no_fields, no_ids, none, nothing, number_came, on_descriptor, on_outcome, one_field, one_id, one_more, one_octet, open_struct, opening_of, or_else, outside, padded, padded_field, past, positional, positional_push, proceed, read_offset, resolve, run, run-append, run_after, run_on, run_step, run_via, short, sized, skipped, spot_at, stray, system_slots, the_marker, then_after, then_run, timestamp_of_body, too_long, unannotated, under, unending, unfit, unless, unsized, wrapped}
+use Rattle.ion_binary.specs.Names.{Binary, Catalog, Digits128, Field, Fields, Form, Frame, Header, Ids, InNumber, InPad, IsPad, ItemTooLong, Limits, ListOrSexp, Outcome, Payload, Plain, Purpose, Ready, Reason, Run, Scalar, Sequence, Slot, Spot, Value, VarUInt, anew, annotated, annotation_came, at, bare, begin, count_came, deliver, depth, depths, descriptor_of, end_of, feed, field_depths, field_of, hollow, in_body, is_listing, is_null, is_ordered, is_pad, is_scalar, is_struct, is_truth, is_wrapper, judge, judged, led, length-one, levels, listed, long, longer, misfits, more, nameless, no_fields, no_ids, none, nothing, number_came, on_descriptor, on_outcome, one_field, one_id, one_more, one_octet, open_struct, opening_of, or_else, outside, padded, padded_field, past, positional, positional_push, proceed, read_offset, resolve, run, run-append, run_after, run_on, run_step, run_via, short, sized, skipped, spot_at, stray, system_slots, the_marker, then_after, then_run, timestamp_of_body, too_long, unannotated, under, unending, unfit, unless, unsized, wrapped}
 use Rattle.ion_model.specs.declared.value.Payload.TheVariants as payloads
 use Rattle.ion_model.specs.laws.Measures.{deepest-more, depth-at-Fields, depth-at-List, depth-at-Sexp, depth-out}
 use Rattle.ion_binary.specs.machine.AtOnce.{body_more, pad_more}
@@ -13,9 +13,9 @@ use Rattle.ion_binary.specs.laws.reading.Stands.{BodyMayEnd, HasRoom, InRoom, Nu
 -- depths
 
 -- a list or an s-expression is one level deeper than the deepest of its items
-pub depth-listed : (x : Listing) (vs : List Value) → depth (bare (listed x vs)) ≡ suc (depths vs)
-depth-listed Listing.List vs = depth-at-List (bare (payloads.List vs)) vs refl
-depth-listed Listing.Sexp vs = depth-at-Sexp (bare (payloads.Sexp vs)) vs refl
+pub depth-listed : (x : ListOrSexp) (vs : List Value) → depth (bare (listed x vs)) ≡ suc (depths vs)
+depth-listed ListOrSexp.List vs = depth-at-List (bare (payloads.List vs)) vs refl
+depth-listed ListOrSexp.Sexp vs = depth-at-Sexp (bare (payloads.Sexp vs)) vs refl
 
 -- a struct is one level deeper than the deepest of its fields
 pub depth-fields : (ms : List Field) → depth (bare (payloads.Fields ms)) ≡ suc (field_depths ms)
@@ -322,7 +322,7 @@ module _ (g : Catalog) (l : Limits) where
       (pad_begins (moved spot (spot.used + length h)) fs body to m)
 
   -- where a container goes on, it waits for what comes next
-  pub items_go : (spot : Spot) (fs : List Frame) (end : ℕ) (x : Listing) (vs : List Value) → spot.used < end
+  pub items_go : (spot : Spot) (fs : List Frame) (end : ℕ) (x : ListOrSexp) (vs : List Value) → spot.used < end
       → proceed (under g l) spot (frames.Items end x vs ∷ fs) ≡ Outcome.goes (at spot (frames.Items end x vs ∷ fs) Ready)
   items_go spot fs end x vs h = cond-false _ _ _ (ne_eqb spot.used end (λ e. omega arith))
 
@@ -468,7 +468,7 @@ module _ (g : Catalog) (l : Limits) where
         (plain_run (used + length h + length count + length ids) start c (frames.Annotated to ss ∷ fs) to w p b refl (omega arith) refl (omega arith))
 
     -- the items of a list or s-expression that ends at `end`
-    pub items_run : (used start : ℕ) (c : List Slot) (fs : List Frame) (end : ℕ) (x : Listing) (to : ℕ) (w : List ℕ) (vs : List Value) → Sequence c w vs
+    pub items_run : (used start : ℕ) (c : List Slot) (fs : List Frame) (end : ℕ) (x : ListOrSexp) (to : ℕ) (w : List ℕ) (vs : List Value) → Sequence c w vs
         → to ≡ used + length w → to ≤ end → depths vs + suc (levels fs) ≤ l.depth
         → run_on used (λ n. run g l used n w) (proceed (under g l) (spot_at used start c) (frames.Items end x [] ∷ fs))
         ≡ run_after to (proceed (under g l) (spot_at to start c) (frames.Items end x vs ∷ fs))

@@ -1,6 +1,6 @@
 -- The values of octets are kept where the texts of the context are UTF-8.
 use Rattle.std.proofs.Common.{ℕ, zero, suc, pos, neg_ℤ, ◌^◌, ◌<◌, List, [], ◌++◌, Option, arith}
-use Rattle.ion_binary.specs.Names.{AreOctets, AreTexts, Binary, Field, Fields, Ids, IsKept, IsScalar, IsWhole, KeptFields, KeptItems, KeptPayload, Listing, Payload, Plain, Scalar, Sequence, Slot, Value, is_blob, is_clob, is_decimal, is_int, is_listing, is_negative, is_null, is_ordered, is_scalar, is_string, is_struct, is_symbol, is_timestamp, is_truth, kept, kept_blob, kept_clob, kept_decimal, kept_fields, kept_int, kept_list, kept_null, kept_sexp, kept_string, kept_symbol, kept_timestamp, kept_truth, listed, no_ids, no_items, nothing, octets_front, octets_rest, one_field, one_id, one_more, padded, padded_field, positional, unannotated, wrapped}
+use Rattle.ion_binary.specs.Names.{AreOctets, AreTexts, Binary, Field, Fields, Ids, IsKept, IsScalar, IsWhole, KeptFields, KeptItems, KeptPayload, ListOrSexp, Payload, Plain, Scalar, Sequence, Slot, Value, is_blob, is_clob, is_decimal, is_int, is_listing, is_negative, is_null, is_ordered, is_scalar, is_string, is_struct, is_symbol, is_timestamp, is_truth, kept, kept_blob, kept_clob, kept_decimal, kept_fields, kept_int, kept_list, kept_null, kept_sexp, kept_string, kept_symbol, kept_timestamp, kept_truth, listed, no_ids, no_items, nothing, octets_front, octets_rest, one_field, one_id, one_more, padded, padded_field, positional, unannotated, wrapped}
 use Rattle.ion_model.specs.Kept.{no_fields}
 use Rattle.ion_model.specs.laws.Kept.{fields_last, items_last, texts_last}
 use Rattle.ion_symtab.specs.laws.ContextTexts.{AreTextSlots, resolved_text}
@@ -11,9 +11,9 @@ pub negative_whole : (n : ℕ) → n < 2 ^ 127 → IsWhole (neg_ℤ (pos n))
 negative_whole zero h = omega arith
 negative_whole (suc n) h = omega arith
 
-pub kept_listed : (x : Listing) (vs : List Value) → KeptItems vs → KeptPayload (listed x vs)
-kept_listed Listing.List vs h = kept_list vs h
-kept_listed Listing.Sexp vs h = kept_sexp vs h
+pub kept_listed : (x : ListOrSexp) (vs : List Value) → KeptItems vs → KeptPayload (listed x vs)
+kept_listed ListOrSexp.List vs h = kept_list vs h
+kept_listed ListOrSexp.Sexp vs h = kept_sexp vs h
 
 module _ (c : List Slot) (h : AreTextSlots c) where
   scalar_kept : (body : List ℕ) (t : Scalar) (p : Payload) → AreOctets body → IsScalar c body t p → KeptPayload p

@@ -46,7 +46,7 @@ module _ (g : Catalog) (l : Limits) where
     opened_cut : (fs : List Frame) (u : List ℕ) → Opened g l start c s fs u → Cut start s u
     opened_cut [] u o = record { front = u; rest = []; parts = sym (append-nil u); whole = document u s c o.0; at = o.1 }
     opened_cut (frames.Items end x vs ∷ fs) u o =
-        cut_on o.front o.body u o.whole (box_cut _ fs (Form.Listing x) end o.front o.box (opened_cut fs o.box.before o.box.outer))
+        cut_on o.front o.body u o.whole (box_cut _ fs (Form.ListOrSexp x) end o.front o.box (opened_cut fs o.box.before o.box.outer))
     opened_cut (frames.Fields end ms ∷ fs) u o =
         cut_on o.front o.body u o.whole (box_cut _ fs o.form end o.front o.box (opened_cut fs o.box.before o.box.outer))
     opened_cut (frames.Named end ms name ∷ fs) u o =
@@ -72,7 +72,7 @@ module _ (g : Catalog) (l : Limits) where
     end_by : (f : Frame) (fs : List Frame) (u : List ℕ)
         → ((form : Form) (end : ℕ) (w : List ℕ) → is_pad form ≡ false → Box l start (Opened g l start c s fs) fs form end w → end ≤ start + l.item)
         → Opened g l start c s (f ∷ fs) u → end_of f ≤ start + l.item
-    end_by (frames.Items end x vs) fs u within o = within (Form.Listing x) end o.front refl o.box
+    end_by (frames.Items end x vs) fs u within o = within (Form.ListOrSexp x) end o.front refl o.box
     end_by (frames.Fields end ms) fs u within o = within o.form end o.front (struct_sized o.form o.box.n o.kind) o.box
     end_by (frames.Named end ms name) fs u within o = let i = o.inside in within i.form end i.front (struct_sized i.form i.box.n i.kind) i.box
     end_by (frames.Annotated end ss) fs u within o = within Form.Wrapper end o.front refl o.box

@@ -1,7 +1,7 @@
 -- Behind octets the machine holds the containers that stand open there.
 use Rattle.std.proofs.Common.{◌≡◌, ℕ, suc, ◌+◌, ◌<◌, List, [], ◌∷◌, ◌++◌, length, Result, Ok, Err, Option, None, Bool, true, false, refl, ap, sym, ◌∙◌, subst, arith, length-append, append_assoc, lt-ltb, eq-eqb, ne_eqb}
 use Rattle.std.proofs.lemmas.Bool.{cond-true, cond-false}
-use Rattle.ion_binary.specs.Names.{Catalog, Field, Form, Frame, Headed, InNumber, InStruct, IsStruct, Items, Limits, Listing, MayReach, Named, Noted, Open, Phase, Purpose, Ready, Reason, Slot, Value, VarUInt, at, begin, container_levels, hollow, initial, is_pad, is_wrapper, led, nameless, open_struct, resolve, run, run-append, run_after, run_on, run_via, spot_at, then_after, then_run, under}
+use Rattle.ion_binary.specs.Names.{Catalog, Field, Form, Frame, Headed, InNumber, InStruct, IsStruct, Items, Limits, ListOrSexp, MayReach, Named, Noted, Open, Phase, Purpose, Ready, Reason, Slot, Value, VarUInt, at, begin, container_levels, hollow, initial, is_pad, is_wrapper, led, nameless, open_struct, resolve, run, run-append, run_after, run_on, run_via, spot_at, then_after, then_run, under}
 use Rattle.ion_binary.specs.Deciding.{Container, MayBegin, Names}
 use Rattle.ion_binary.specs.machine.EachOctet as machine
 use Rattle.ion_binary.specs.machine.Frames as frames
@@ -12,7 +12,7 @@ use Rattle.ion_binary.specs.laws.reading.Stands.{BodyMayEnd}
 -- the frames of the machine are these containers
 pub data Match (c : List Slot) : List Frame → List Container → Type 0 where
   nothing_open : Match c [] []
-  items : (end : ℕ) (x : Listing) (vs : List Value) (fs : List Frame) (ks : List Container) → Match c fs ks
+  items : (end : ℕ) (x : ListOrSexp) (vs : List Value) (fs : List Frame) (ks : List Container) → Match c fs ks
       → Match c (frames.Items end x vs ∷ fs) (Items end ∷ ks)
   names : (end : ℕ) (ms : List Field) (fs : List Frame) (ks : List Container) → Match c fs ks → Match c (frames.Fields end ms ∷ fs) (Names end ∷ ks)
   named : (end id : ℕ) (ms : List Field) (fs : List Frame) (ks : List Container) → Match c fs ks
@@ -173,7 +173,7 @@ module _ (g : Catalog) (l : Limits) (c : List Slot) (start : ℕ) where
       let deep = o.deep in
       let same = same_levels c d.fs ks d.match in
       let here : length o.front + o.headed.n ≡ end = sym e in
-      behind_header ks (Items end ∷ ks) (Form.Listing o.listing) end o.front o.body u (frames.Items end o.listing o.items ∷ d.fs) _ o.headed refl d o.parts
+      behind_header ks (Items end ∷ ks) (Form.ListOrSexp o.listing) end o.front o.body u (frames.Items end o.listing o.items ∷ d.fs) _ o.headed refl d o.parts
       (items end o.listing o.items d.fs ks d.match)
       (ap (run_on (length o.front) (λ n. run g l (length o.front) n o.body)) (cond-true _ _ _ (lt-ltb (machine.levels d.fs) l.depth (omega arith)))
       ∙ (rw here (items_run g l (length o.front) start c d.fs end o.listing (length u) o.body o.items o.come (omega arith) (omega arith) (omega arith))

@@ -103,7 +103,7 @@ module _ (g : Catalog) (l : Limits) (start : ℕ) (c : List Slot) (s : List Valu
   pub opened_open : (fs : List Frame) (u : List ℕ) → Opened g l start c s fs u → Inside fs (length u) → Shape fs u
   opened_open [] u o i = record { ks = []; match = nothing_open; open' = (s, o.0, o.1) }
   opened_open (frames.Items end x vs ∷ fs) u o i =
-      let p = opened_open fs o.box.before o.box.outer (box_inside fs (Form.Listing x) end o.front o.box) in
+      let p = opened_open fs o.box.before o.box.outer (box_inside fs (Form.ListOrSexp x) end o.front o.box) in
       let d = o.deep in
       let e = same_levels c fs p.ks p.match in
       record {

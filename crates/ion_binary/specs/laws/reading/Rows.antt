@@ -1,7 +1,7 @@
 -- Worked documents, by the grammar.
 use Rattle.std.proofs.Common.{◌≡◌, ℕ, pos, ◌+◌, ◌<◌, ◌≤◌, true, false, List, [], ◌∷◌, ◌++◌, length, Some, refl, arith}
 use Rattle.std.specs.Prelude.{codes}
-use Rattle.ion_binary.specs.Names.{Binary, Catalog, Document, Limits, Listing, Scalar, Sequence, Slot, Value, VarUInt, annotated, bare, begins, depth, descriptor_of, holds, is_int, is_listing, is_scalar, is_struct, is_symbol, is_table, is_truth, long, no_fields, no_ids, none, nothing, one_id, one_more, opening_of, padded_field, short, skipped, system_slots, system_texts, the_marker, unannotated, wrapped}
+use Rattle.ion_binary.specs.Names.{Binary, Catalog, Document, Limits, ListOrSexp, Scalar, Sequence, Slot, Value, VarUInt, annotated, bare, begins, depth, descriptor_of, holds, is_int, is_listing, is_scalar, is_struct, is_symbol, is_table, is_truth, long, no_fields, no_ids, none, nothing, one_id, one_more, opening_of, padded_field, short, skipped, system_slots, system_texts, the_marker, unannotated, wrapped}
 use Rattle.ion_model.specs.declared.value.Payload.TheVariants as payloads
 use Rattle.ion_model.specs.declared.value.Payload.TheViews as views
 use Rattle.ion_model.specs.laws.Measures.{depth-Int, depth-Truth, depth-at, depth-at-Fields, depth-at-List}
@@ -66,11 +66,11 @@ module _ (c : List Slot) where
 
   short_list : Binary c (0xB3 ∷ 0x21 ∷ 0x05 ∷ 0x11 ∷ []) list_value
   unfolding opening_of descriptor_of
-  short_list = unannotated _ (payloads.List items) (is_listing (0xB3 ∷ []) (0x21 ∷ 0x05 ∷ 0x11 ∷ []) Listing.List items (short 0xB3 refl) both)
+  short_list = unannotated _ (payloads.List items) (is_listing (0xB3 ∷ []) (0x21 ∷ 0x05 ∷ 0x11 ∷ []) ListOrSexp.List items (short 0xB3 refl) both)
 
   long_list : Binary c (0xBE ∷ 0x83 ∷ 0x21 ∷ 0x05 ∷ 0x11 ∷ []) list_value
   unfolding opening_of descriptor_of
-  long_list = unannotated _ (payloads.List items) (is_listing (0xBE ∷ 0x83 ∷ []) (0x21 ∷ 0x05 ∷ 0x11 ∷ []) Listing.List items
+  long_list = unannotated _ (payloads.List items) (is_listing (0xBE ∷ 0x83 ∷ []) (0x21 ∷ 0x05 ∷ 0x11 ∷ []) ListOrSexp.List items
       (long 0xBE (0x83 ∷ []) refl (one_digit 3 (omega arith))) both)
 
   only_a_pad : Binary c (0xD2 ∷ 0x8A ∷ 0x00 ∷ []) empty_struct

@@ -2,7 +2,7 @@
 use Rattle.std.proofs.Common.{◌≡◌, ℕ, suc, ◌+◌, ◌≤◌, List, [], ◌∷◌, ◌++◌, length, map, sum, Option, refl, ◌∙◌, arith, length-append}
 use Rattle.std.specs.List.{sum_by}
 use Rattle.std.proofs.lemmas.List.Sums.{sum-map, sum_by-append, sum_by-cons}
-use Rattle.ion_binary.specs.Names.{Binary, Field, Fields, HasSpan, Ids, IsScalar, Listing, Payload, Plain, Scalar, Sequence, Slot, Spaced, Value, annotated, bare, field_of, is_blob, is_clob, is_decimal, is_int, is_listing, is_negative, is_null, is_ordered, is_scalar, is_string, is_struct, is_symbol, is_timestamp, is_truth, listed, no_fields, no_ids, nodes, nothing, one_field, one_id, one_more, padded, padded_field, positional, unannotated, wrapped}
+use Rattle.ion_binary.specs.Names.{Binary, Field, Fields, HasSpan, Ids, IsScalar, ListOrSexp, Payload, Plain, Scalar, Sequence, Slot, Spaced, Value, annotated, bare, field_of, is_blob, is_clob, is_decimal, is_int, is_listing, is_negative, is_null, is_ordered, is_scalar, is_string, is_struct, is_symbol, is_timestamp, is_truth, listed, no_fields, no_ids, nodes, nothing, one_field, one_id, one_more, padded, padded_field, positional, unannotated, wrapped}
 use Rattle.ion_model.specs.declared.value.Payload.TheVariants as payloads
 use Rattle.ion_model.specs.declared.value.Payload.TheViews as views
 use Rattle.ion_model.specs.laws.Measures.{nodes-Null, nodes-Truth, nodes-bare, nodes-more, nodes-out}
@@ -10,9 +10,9 @@ use Rattle.ion_binary.specs.laws.reading.Complete.{header_some, length_VarUInt}
 use Rattle.ion_binary.specs.laws.reading.Judged.{scalar_leaf}
 
 -- a list or an s-expression is a node beside those of its items
-pub nodes-listed : (x : Listing) (vs : List Value) → nodes (bare (listed x vs)) ≡ suc (sum (map nodes vs))
-nodes-listed Listing.List vs = nodes-bare (payloads.List vs) _ (views.outs-List vs)
-nodes-listed Listing.Sexp vs = nodes-bare (payloads.Sexp vs) _ (views.outs-Sexp vs)
+pub nodes-listed : (x : ListOrSexp) (vs : List Value) → nodes (bare (listed x vs)) ≡ suc (sum (map nodes vs))
+nodes-listed ListOrSexp.List vs = nodes-bare (payloads.List vs) _ (views.outs-List vs)
+nodes-listed ListOrSexp.Sexp vs = nodes-bare (payloads.Sexp vs) _ (views.outs-Sexp vs)
 
 -- the name of a field is a node beside those of its value
 abbrev pub field_nodes : Field → ℕ

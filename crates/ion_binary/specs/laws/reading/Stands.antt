@@ -90,7 +90,7 @@ Opened g l start c s (frames.Items end x vs ∷ fs) u =
       front : List ℕ;
       body : List ℕ;
       whole : u ≡ front ++ body;
-      box : Box l start (Opened g l start c s fs) fs (Form.Listing x) end front;
+      box : Box l start (Opened g l start c s fs) fs (Form.ListOrSexp x) end front;
       items : Sequence c body vs;
       deep : depths vs + suc (levels fs) ≤ l.depth;
       within : length u ≤ end;

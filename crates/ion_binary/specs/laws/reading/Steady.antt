@@ -49,7 +49,7 @@ module _ (setting : Setting) (spot : Spot) (h : spot.start ≤ spot.used) where
   begin_steady fs Form.Pad n = either (Steady spot.start) (n == 0) _ _ (proceed_steady fs) (record { from = omega arith; to = h })
   begin_steady fs (Form.Scalar t) n =
       either (Steady spot.start) (n == 0) _ _ (judged_steady fs (judge spot.context t [])) (record { from = omega arith; to = h })
-  begin_steady fs (Form.Listing x) n = deeper_steady setting.limits.depth fs _ (proceed_steady (frames.Items (spot.used + n) x [] ∷ fs))
+  begin_steady fs (Form.ListOrSexp x) n = deeper_steady setting.limits.depth fs _ (proceed_steady (frames.Items (spot.used + n) x [] ∷ fs))
   begin_steady fs Form.Wrapper n = record { from = omega arith; to = h }
   begin_steady fs _ n = deeper_steady setting.limits.depth fs _ (proceed_steady (frames.Fields (spot.used + n) [] ∷ fs))
 

@@ -1,7 +1,7 @@
 -- The header that is written is that of its form.
 use Rattle.std.proofs.Common.{◌≡◌, ◌≢◌, ℕ, ◌+◌, ◌*◌, ◌/◌, ◌%◌, ◌^◌, ◌<◌, ◌≤◌, ◌==◌, false, List, ◌∷◌, length, refl, ◌∙◌, arith, inl, inr, length-append, lt-ltb, le-ltb, ne_eqb}
 use Rattle.std.proofs.lemmas.Bool.{cases_lt}
-use Rattle.ion_binary.specs.Names.{Follows, Form, Header, IsBodyLength, Known, Listing, Scalar, Sized, descriptor_of, framed, header, long, long_code, opening_of, opens, short, type_code, typed, var_uint_octets}
+use Rattle.ion_binary.specs.Names.{Follows, Form, Header, IsBodyLength, Known, ListOrSexp, Scalar, Sized, descriptor_of, framed, header, long, long_code, opening_of, opens, short, type_code, typed, var_uint_octets}
 use Rattle.ion_scalar.specs.binary.laws.Spellings.{var_uint_spelled}
 
 opens_typed : (code n : ℕ) → n < 16 → opening_of (16 * code + n) ≡ opens (typed code n)
@@ -31,8 +31,8 @@ known (Form.Scalar Scalar.Symbol) n h k = opens_typed 7 n (omega arith) ∙ rw (
 known (Form.Scalar Scalar.Str) n h k = opens_typed 8 n (omega arith) ∙ rw (below n 15 (omega arith), below n 14 k) refl
 known (Form.Scalar Scalar.Clob) n h k = opens_typed 9 n (omega arith) ∙ rw (below n 15 (omega arith), below n 14 k) refl
 known (Form.Scalar Scalar.Blob) n h k = opens_typed 10 n (omega arith) ∙ rw (below n 15 (omega arith), below n 14 k) refl
-known (Form.Listing Listing.List) n h k = opens_typed 11 n (omega arith) ∙ rw (below n 15 (omega arith), below n 14 k) refl
-known (Form.Listing Listing.Sexp) n h k = opens_typed 12 n (omega arith) ∙ rw (below n 15 (omega arith), below n 14 k) refl
+known (Form.ListOrSexp ListOrSexp.List) n h k = opens_typed 11 n (omega arith) ∙ rw (below n 15 (omega arith), below n 14 k) refl
+known (Form.ListOrSexp ListOrSexp.Sexp) n h k = opens_typed 12 n (omega arith) ∙ rw (below n 15 (omega arith), below n 14 k) refl
 known Form.Struct n h k = opens_typed 13 n (omega arith) ∙ rw (below n 15 (omega arith), below n 14 k, other n 1 h) refl
 known Form.OrderedStruct n h k = absurd h
 known Form.Wrapper n h k = opens_typed 14 n (omega arith)
@@ -43,7 +43,7 @@ known Form.Pad n h k = opens_typed 0 n (omega arith) ∙ rw (below n 15 (omega a
 pub follows : (form : Form) → opening_of (16 * type_code form + long_code form) ≡ Sized form Follows
 unfolding opening_of descriptor_of
 follows (Form.Scalar Scalar.Int) = refl
-follows (Form.Listing Listing.List) = refl
+follows (Form.ListOrSexp ListOrSexp.List) = refl
 follows _ = refl
 
 usual : (form : Form) (n : ℕ) → IsBodyLength form n → long_code form ≡ 14

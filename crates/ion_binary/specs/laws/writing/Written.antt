@@ -2,7 +2,7 @@
 use Rattle.std.proofs.Common.{◌≡◌, ◌≢◌, ℕ, ℤ, suc, pos, negsuc, neg_ℤ, ◌^◌, ◌<◌, ◌≤◌, Bool, true, false, List, [], ◌∷◌, ◌++◌, length, Option, Ok, refl, sym, ap, subst, ◌∙◌, arith, length-append, append_assoc, append-nil, le-ltb}
 use Rattle.std.specs.Prelude.{nat_lt}
 use Rattle.std.specs.List.{flat_map}
-use Rattle.ion_binary.specs.Names.{Binary, DecimalParts, Field, Fields, Form, Ids, IsBodyLength, IsDecimal, IsKept, IsScalar, IsTimestamp, IsTimestampBody, IsWhole, KeptFields, KeptItems, KeptPayload, Kind, Layer, Listing, Names, Payload, Plain, Resolves, Scalar, Sequence, Slot, TimestampParts, Value, VarInt, a_field, an_item, annotated, decimal_octets, field_octets, field_of, field_symbols, framed, header, id_of, ids_octets, is_blob, is_clob, is_decimal, is_int, is_listing, is_negative, is_null, is_scalar, is_string, is_struct, is_symbol, is_timestamp, is_truth, kept, kept_blob, kept_clob, kept_decimal, kept_fields, kept_int, kept_list, kept_null, kept_sexp, kept_string, kept_symbol, kept_timestamp, kept_truth, layer_octets, layer_symbols, listed, no_ids, no_items, nothing, null_octet, one_field, one_id, one_more, opening_of, padded_field, positional, resolve, symbols_of, timestamp_octets, truth_octet, type_code, uint_octets, unannotated, value_octets, var_uint_octets, whole_octets, with_count}
+use Rattle.ion_binary.specs.Names.{Binary, DecimalParts, Field, Fields, Form, Ids, IsBodyLength, IsDecimal, IsKept, IsScalar, IsTimestamp, IsTimestampBody, IsWhole, KeptFields, KeptItems, KeptPayload, Kind, Layer, ListOrSexp, Names, Payload, Plain, Resolves, Scalar, Sequence, Slot, TimestampParts, Value, VarInt, a_field, an_item, annotated, decimal_octets, field_octets, field_of, field_symbols, framed, header, id_of, ids_octets, is_blob, is_clob, is_decimal, is_int, is_listing, is_negative, is_null, is_scalar, is_string, is_struct, is_symbol, is_timestamp, is_truth, kept, kept_blob, kept_clob, kept_decimal, kept_fields, kept_int, kept_list, kept_null, kept_sexp, kept_string, kept_symbol, kept_timestamp, kept_truth, layer_octets, layer_symbols, listed, no_ids, no_items, nothing, null_octet, one_field, one_id, one_more, opening_of, padded_field, positional, resolve, symbols_of, timestamp_octets, truth_octet, type_code, uint_octets, unannotated, value_octets, var_uint_octets, whole_octets, with_count}
 use Rattle.ion_model.specs.Kept as keeping
 use Rattle.ion_model.specs.declared.value.Payload.TheVariants as payloads
 use Rattle.ion_model.specs.declared.value.Payload.TheViews as views
@@ -167,10 +167,10 @@ module _ (c : List Slot) (names : Names) where
   by_layer : (p : Payload) (d : Layer) → views.out-Payload p ≡ d → PlainFor p d → PlainFor p (views.out-Payload p)
   by_layer p d e f = subst (PlainFor p) (sym e) f
 
-  listing_is : (x : Listing) (body : List ℕ) (vs : List Value) → Sequence c body vs → length (framed (type_code (Form.Listing x)) body) < 2 ^ 63
-      → Plain c (framed (type_code (Form.Listing x)) body) (listed x vs)
-  listing_is x body vs q small = is_listing (header (type_code (Form.Listing x)) (length body)) body x vs
-      (header_is (Form.Listing x) (length body) tt (omega (arith, framed_long (type_code (Form.Listing x)) body))) q
+  listing_is : (x : ListOrSexp) (body : List ℕ) (vs : List Value) → Sequence c body vs → length (framed (type_code (Form.ListOrSexp x)) body) < 2 ^ 63
+      → Plain c (framed (type_code (Form.ListOrSexp x)) body) (listed x vs)
+  listing_is x body vs q small = is_listing (header (type_code (Form.ListOrSexp x)) (length body)) body x vs
+      (header_is (Form.ListOrSexp x) (length body) tt (omega (arith, framed_long (type_code (Form.ListOrSexp x)) body))) q
 
   struct_is : (body : List ℕ) (ms : List Field) → Fields c body ms → length (framed 13 body) < 2 ^ 63 → Plain c (framed 13 body) (payloads.Fields ms)
   struct_is body ms q small = is_struct _ body ms (header_is Form.Struct _ (never_one c body ms q) (omega (arith, framed_long 13 body))) q
@@ -198,9 +198,9 @@ module _ (c : List Slot) (names : Names) where
     payload_is _ (kept_clob body h) = by_layer _ _ (views.outs-Clob body) (λ r small. framed_scalar c Scalar.Clob body _ tt is_clob small)
     payload_is _ (kept_blob body h) = by_layer _ _ (views.outs-Blob body) (λ r small. framed_scalar c Scalar.Blob body _ tt is_blob small)
     payload_is _ (kept_list vs k) = by_layer _ _ (views.outs-List vs) (λ r small.
-        listing_is Listing.List _ vs (items_are [] [] vs nothing k r (omega (arith, framed_long 11 (flat_map (value_octets names) vs)))) small)
+        listing_is ListOrSexp.List _ vs (items_are [] [] vs nothing k r (omega (arith, framed_long 11 (flat_map (value_octets names) vs)))) small)
     payload_is _ (kept_sexp vs k) = by_layer _ _ (views.outs-Sexp vs) (λ r small.
-        listing_is Listing.Sexp _ vs (items_are [] [] vs nothing k r (omega (arith, framed_long 12 (flat_map (value_octets names) vs)))) small)
+        listing_is ListOrSexp.Sexp _ vs (items_are [] [] vs nothing k r (omega (arith, framed_long 12 (flat_map (value_octets names) vs)))) small)
     payload_is _ (kept_fields ms k) = by_layer _ _ (views.outs-Fields ms)
         (λ r small. struct_is _ ms (fields_are [] [] ms grammar.no_fields k r (omega (arith, framed_long 13 (flat_map (field_octets names) ms)))) small)
 

@@ -20,7 +20,7 @@ returns-in_ok-answer-in-Binary-clause-ending g c = (
 
 pub returns-in_err-answer-in-Text-clause-cause : goal.returns-in_err-answer-in-Text-clause-cause
 returns-in_err-answer-in-Text-clause-cause g c =
-    let e = err_from_is_err_and c.from_residual-in_err-answer-in-Text.result c.from_residual-in_err-answer-in-Text.ensures.1 in
+    let e = err_from_is_err_and c.from_residual.result c.from_residual.ensures.1 in
     rw (e.1, e.2) (or_more c.in_err-answer-in-Text.ensures.cause)
 
 pub returns-in_err-answer-in-Binary-clause-cause : goal.returns-in_err-answer-in-Binary-clause-cause

@@ -1,6 +1,6 @@
 use Rattle.std.proofs.Common.{rules, ◌++◌, [], inl, inr, arith, subst, option_to_list}
 use Rattle.std.proofs.lemmas.Result.{err_from_is_err_and}
-use Rattle.ion_streams.specs.Names.{Led, Standing, Stood, TellsSecond, Twin, events_of, tapes, telling}
+use Rattle.ion_streams.specs.Names.{Led, ReadState, Stood, TellsSecond, Twin, events_of, tapes, telling}
 use Rattle.ion_streams.proofs.Courses.{closed_verdict, false_case, left_refused, true_case, works_less}
 use Rattle.ion_streams.proofs.SideBySide.{both_in_turn, both_met, closed_kept, left_goes, left_in_turn, ready_told, right_goes, told_so_far, told_with_next}
 use Rattle.ion_streams.proofs.Taping.{on_tapes}
@@ -51,7 +51,7 @@ returns-in-Refused g c =
           let x = on g' h k l' a b in
           left_refused g.L.Inlet (telling g.I.Items []) g.R.Inlet (telling g.J.Items []) g' h k l' c.args.left.now left_now.reader c.args.right.now p.right
           p.right_place (x.s ++ option_to_list x.next.value) x.t c.in-Refused.refusal
-          (subst (λ (y : Standing _). Stood g.L.Inlet (telling g.I.Items []) g' k c.args.left.now left_now.reader y (x.s ++ option_to_list x.next.value))
+          (subst (λ (y : ReadState _). Stood g.L.Inlet (telling g.I.Items []) g' k c.args.left.now left_now.reader y (x.s ++ option_to_list x.next.value))
           c.in-Refused.is x.next.stood) x.right_stood;
       asked = λ g' h k l' a b. left_in_turn _ _ _ _ _ _ _ _ (on g' h k l' a b);
       few_calls = (omega (arith, i.left_asked, l.few_calls), omega (arith, i.right_asked));

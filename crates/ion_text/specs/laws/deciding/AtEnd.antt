@@ -1,6 +1,6 @@
 -- What the end refuses for a reason that rows have is such a row.
 use Rattle.std.proofs.Common.{◌≡◌, ℕ, nat_lt, Bool, true, false, List, [], ◌∷◌, ◌++◌, length, Result, Ok, Err, Option, Some, None, refl, sym, ap, ◌∙◌, subst, append_assoc, length-append, arith, if◌then◌else◌, codes}
-use Rattle.ion_text.specs.Names.{Are, AwaitsColons, Catalog, Content, EndDecides, Frame, HasRow, Held, IsBody, Known, Lexeme, Lexes, LexesTo, Limits, Mark, Mark', Now, Placed, Reading, Reason, Refusal, Scanned, State, TokenKind, Turn, Value, at, at_end, begun, begun_at, by_end, colon_behind, cut_short, end_late, end_now, end_of, end_ready, end_said, end_settled, end_turned, end_waiting, ends_of, gives, goes, is_closing, is_end_reason, is_fresh, is_idle, is_top, late, place, plain, refused_of, refuses, run, said, said_body, said_passes, settle, token_of, trace, turn}
+use Rattle.ion_text.specs.Names.{Are, AwaitsColons, Catalog, Content, EndDecides, Frame, HasRow, Held, IsBody, Known, Lexeme, Lexes, LexesTo, Limits, Mark, Mark', Placed, Reading, Reason, Refusal, Scanned, Stage, State, TokenKind, Turn, Value, at, at_end, begun, begun_at, by_end, colon_behind, cut_short, end_late, end_now, end_of, end_ready, end_said, end_settled, end_turned, end_waiting, ends_of, gives, goes, is_closing, is_end_reason, is_fresh, is_idle, is_top, late, place, plain, refused_of, refuses, run, said, said_body, said_passes, settle, token_of, trace, turn}
 use Rattle.ion_tokens.proofs.histories.EndCauses.{IsEndFair, end_fair}
 use Rattle.ion_tokens.proofs.histories.Stepped.{all_since}
 use Rattle.ion_tokens.proofs.runs.Scans.{placed}
@@ -118,17 +118,17 @@ module _ (g : Catalog) (l : Limits) (u : List ℕ) where
   open_rows : (used : ℕ) (r : Reading) (x : Lexeme) → EndRows (end_turned g l used (turn g l r (token_of x (Mark' Mark.FieldsOpen))))
   open_rows used r x = go r.now
     where
-      go : (n : Now) → EndRows (end_turned g l used (turn g l (at r.start r.context r.frames r.notes n) (token_of x (Mark' Mark.FieldsOpen))))
-      go Now.Ready = by (nat_lt (length r.frames) l.depth)
+      go : (n : Stage) → EndRows (end_turned g l used (turn g l (at r.start r.context r.frames r.notes n) (token_of x (Mark' Mark.FieldsOpen))))
+      go Stage.Ready = by (nat_lt (length r.frames) l.depth)
         where
           begin : ℕ
           begin = begun_at r.start x.start r.frames r.notes
 
-          by : (b : Bool) → EndRows (end_turned g l used (if b then goes (at begin r.context (Frame.Fields r.notes [] ∷ r.frames) [] Now.Name) else late
-              Reason.Depth (at begin r.context (Frame.Fields r.notes [] ∷ r.frames) [] Now.Name)))
+          by : (b : Bool) → EndRows (end_turned g l used (if b then goes (at begin r.context (Frame.Fields r.notes [] ∷ r.frames) [] Stage.Name) else late
+              Reason.Depth (at begin r.context (Frame.Fields r.notes [] ∷ r.frames) [] Stage.Name)))
           by true = λ i. absurd i
           by false = λ i. absurd i
-      go (Now.Pending h e) = λ i. absurd i
+      go (Stage.Pending h e) = λ i. absurd i
       go _ = λ i. absurd i
 
   module _ (vs : List Value) (s : Known) (r : Reading) (b : Behind g l Scanned u vs s r [] (NoLongText s.mode)) (used' : s.used ≡ length u)
@@ -136,7 +136,7 @@ module _ (g : Catalog) (l : Limits) (u : List ℕ) where
     abbrev ts : List Placed
     ts = b.front ++ b.item
 
-    awaits : (h : Held) (end : ℕ) → r.now ≡ Now.Pending h end → r.frames ≡ [] → AwaitsColons u ts
+    awaits : (h : Held) (end : ℕ) → r.now ≡ Stage.Pending h end → r.frames ≡ [] → AwaitsColons u ts
     awaits h end e top =
         let d : PendingFor r.context r.frames r.notes h b.item = subst (NowStands r.context r.frames r.notes b.item) e b.stands in
         let last : ts ≡ (b.front ++ d.before) ++ d.token ∷ [] = ap (λ y. b.front ++ y) d.whole ∙ sym (append_assoc b.front d.before (d.token ∷ [])) in
@@ -212,10 +212,10 @@ module _ (g : Catalog) (l : Limits) (u : List ℕ) where
     ready_rows used (Ok (Some x)) e = said_rows used x e (said x.kind x.octets) refl
     ready_rows used (Err y) e = λ i. absurd (end_rowless y (subst IsEndFair e (end_fair (place r) s u ts b.scanned)) i)
 
-    now_rows : (used : ℕ) (n : Now) → EndRows (end_now g l used r (at_end (place r) s) n)
-    now_rows used (Now.Pending h end) = waiting_rows used (at_end (place r) s) (settle g l r) waited
-    now_rows used (Now.Long w end) = waiting_rows used (at_end (place r) s) (settle g l r) waited
-    now_rows used (Now.LongName w) = λ i. absurd i
+    now_rows : (used : ℕ) (n : Stage) → EndRows (end_now g l used r (at_end (place r) s) n)
+    now_rows used (Stage.Pending h end) = waiting_rows used (at_end (place r) s) (settle g l r) waited
+    now_rows used (Stage.Long w end) = waiting_rows used (at_end (place r) s) (settle g l r) waited
+    now_rows used (Stage.LongName w) = λ i. absurd i
     now_rows used _ = ready_rows used (at_end (place r) s) refl
 
   end_rows : (given : List (Value × ℕ)) (now : Result State Refusal) → StoodBehind g l u [] (record { given = given; now = now }) → EndsWaiting g l now

@@ -1,7 +1,7 @@
 -- The tokens of a row lead the reader to where its last token stands, and with that one it goes on as it does there.
 use Rattle.std.proofs.Common.{◌≡◌, ℕ, suc, ◌+◌, ◌≤◌, true, false, ◌&&◌, List, [], ◌∷◌, ◌++◌, length, refl, sym, ap, ◌∙◌, subst, arith, append_assoc, append-nil, Option}
 use Rattle.std.proofs.lemmas.Bool.{and_right}
-use Rattle.ion_text.specs.Names.{Annotations, Bracket, Catalog, Comes, Container, Content, Field, Frame, InField, InList, InSexp, InStruct, IsName, Limits, Listing, Long, Mark, Mark', Members, Now, Open, Place, Placed, Quoted, Says, Slot, Symbols, TakesValue, adds_values, at, begins_as_long, bracket_in, ends_long, fresh, list_open, none_open, open_mark, place_of, reads, sexp_open, struct_open}
+use Rattle.ion_text.specs.Names.{Annotations, Bracket, Catalog, Comes, Container, Content, Field, Frame, InField, InList, InSexp, InStruct, IsName, Limits, ListOrSexp, Long, Mark, Mark', Members, Open, Place, Placed, Quoted, Says, Slot, Stage, Symbols, TakesValue, adds_values, at, begins_as_long, bracket_in, ends_long, fresh, list_open, none_open, open_mark, place_of, reads, sexp_open, struct_open}
 use Rattle.ion_text.specs.Deciding.{named}
 use Rattle.ion_text.specs.laws.deciding.Fronts.{Came, SettlesTo, origin, ready_settles, stands_read, struct_settles}
 use Rattle.ion_text.specs.laws.deciding.Openings.{containers, levels_same, place_same}
@@ -71,7 +71,7 @@ module _ (l : Limits) (c : List Slot) where
         };
         deep = d;
       }
-  named_frames ks ts ns s colon n k (Frame.Items Listing.List ss vs ∷ fs) e o d = absurd cc
+  named_frames ks ts ns s colon n k (Frame.Items ListOrSexp.List ss vs ∷ fs) e o d = absurd cc
   named_frames ks ts ns s colon n k _ e o d = absurd cc
 
   -- a container stands open in what does
@@ -94,15 +94,15 @@ module _ (l : Limits) (c : List Slot) where
   pub framed : (ks : List Container) (ts : List Placed) → Open l c ks ts → Framed l c ks ts
   framed _ _ none_open = record { held = []; same = refl; opened = refl; deep = tt }
   framed _ _ (list_open ks ts notes us ss t vs o takes a says items deep) = let f = framed ks ts o in record {
-    held = Frame.Items Listing.List ss vs ∷ f.held;
+    held = Frame.Items ListOrSexp.List ss vs ∷ f.held;
     same = ap (λ x. InList ∷ x) f.same;
-    opened = around Bracket.List (Items c Listing.List vs true) ks ts notes us ss t f takes a says items;
+    opened = around Bracket.List (Items c ListOrSexp.List vs true) ks ts notes us ss t f takes a says items;
     deep = (shallow ks f.held _ f.same deep, f.deep);
   }
   framed _ _ (sexp_open ks ts notes us ss t vs o takes a says items deep) = let f = framed ks ts o in record {
-    held = Frame.Items Listing.Sexp ss vs ∷ f.held;
+    held = Frame.Items ListOrSexp.Sexp ss vs ∷ f.held;
     same = ap (λ x. InSexp ∷ x) f.same;
-    opened = around Bracket.Sexp (Items c Listing.Sexp vs true) ks ts notes us ss t f takes a says items;
+    opened = around Bracket.Sexp (Items c ListOrSexp.Sexp vs true) ks ts notes us ss t f takes a says items;
     deep = (shallow ks f.held _ f.same deep, f.deep);
   }
   framed _ _ (struct_open ks ts notes us ss t ms o takes a says items deep) = let f = framed ks ts o in record {
@@ -188,15 +188,15 @@ module _ (g : Catalog) (l : Limits) where
 
       -- the tokens before it lead the reader to the place in which it comes
       pub came : Came g l before (place_of ks)
-      came = subst (Came g l before) (sym here) (stands_read g l c h.front h.values f.held h.symbols Now.Ready item h.pieces f.deep ready h.apart)
+      came = subst (Came g l before) (sym here) (stands_read g l c h.front h.values f.held h.symbols Stage.Ready item h.pieces f.deep ready h.apart)
 
       -- behind the tokens before it the reader settles to where a value may come
-      pub settles : (s : ℕ) × SettlesTo g l before (at s c f.held h.symbols Now.Ready)
+      pub settles : (s : ℕ) × SettlesTo g l before (at s c f.held h.symbols Stage.Ready)
       settles = ready_settles g l c h.front h.values f.held h.symbols item h.pieces f.deep ready h.apart
 
       -- A token that comes there is read there.
       pub go_on : (t : Placed) (d : Content) (more : List Placed) → Says (place_of ks) t d → JoinsNothing d → (s : ℕ)
-          × (reads g l (origin g l) (before ++ t ∷ more) ≡ adds_values h.values (reads g l (at s c f.held h.symbols Now.Ready) (t ∷ more)))
+          × (reads g l (origin g l) (before ++ t ∷ more) ≡ adds_values h.values (reads g l (at s c f.held h.symbols Stage.Ready) (t ∷ more)))
       unfolding ready
       go_on t d more says a =
           let says' = says_so l c ks f.held t d f.same says in
@@ -225,7 +225,7 @@ module _ (g : Catalog) (l : Limits) where
   struct_of : (c : List Slot) (ks : List Container) (ts : List Placed) (fs : List Frame) → containers fs ≡ InStruct ∷ ks → Opened c fs ts true → Deep l.depth fs
       → Struct c ts
   struct_of c ks ts (Frame.Fields ss ms ∷ fs) e o d = record { notes = ss; fields = ms; outer = fs; opened = o; deep = d }
-  struct_of c ks ts (Frame.Items Listing.List ss vs ∷ fs) e o d = absurd cc
+  struct_of c ks ts (Frame.Items ListOrSexp.List ss vs ∷ fs) e o d = absurd cc
   struct_of c ks ts _ e o d = absurd cc
 
   module _ (c : List Slot) (ks : List Container) (said : Content) (ts : List Placed) (h : Comes g l c (InStruct ∷ ks) said ts) where
@@ -249,17 +249,17 @@ module _ (g : Catalog) (l : Limits) where
 
     -- the tokens before the name lead the reader to the place of names
     pub came_name : Came g l up_to Place.Name
-    came_name = stands_read g l c h.front h.values (Frame.Fields struct.notes struct.fields ∷ struct.outer) [] Now.Name h.item h.pieces struct.deep
+    came_name = stands_read g l c h.front h.values (Frame.Fields struct.notes struct.fields ∷ struct.outer) [] Stage.Name h.item h.pieces struct.deep
         (struct.opened, tt) apart
 
     -- behind the tokens before the name the reader settles to where a name may come
-    pub settles_name : (s : ℕ) × SettlesTo g l up_to (at s c (Frame.Fields struct.notes struct.fields ∷ struct.outer) [] Now.Name)
+    pub settles_name : (s : ℕ) × SettlesTo g l up_to (at s c (Frame.Fields struct.notes struct.fields ∷ struct.outer) [] Stage.Name)
     settles_name = struct_settles g l c h.front h.values struct.notes struct.fields struct.outer h.item true h.pieces struct.deep struct.opened apart
 
     -- whatever token comes in place of the name is read as where a name may come
     pub go_on_name : (t : Placed) (d : Content) → Says Place.Name t d → JoinsNothing d → (s : ℕ)
         × (reads g l (origin g l) (up_to ++ t ∷ []) ≡ adds_values h.values
-        (reads g l (at s c (Frame.Fields struct.notes struct.fields ∷ struct.outer) [] Now.Name) (t ∷ [])))
+        (reads g l (at s c (Frame.Fields struct.notes struct.fields ∷ struct.outer) [] Stage.Name) (t ∷ [])))
     go_on_name t d says a =
         let b : Begins g l Place.Name (t ∷ []) = record { first = t; later = []; said = d; cut = refl; says = says; no_colons = a.colons } in
         let first = opened_begins c (Frame.Fields struct.notes struct.fields ∷ struct.outer) h.item (t ∷ []) struct.opened b in (

@@ -1,7 +1,7 @@
 -- Where a row of the table stands that the end shows, the end refuses for the row's reason, unless an item became too long before.
 use Rattle.std.proofs.Common.{◌≡◌, ℕ, ◌+◌, nat_le, Bool, true, false, ◌||◌, List, [], ◌∷◌, ◌++◌, length, Result, Ok, Err, Option, Some, None, IfErr, refl, sym, ap, ◌∙◌, subst, append_assoc, length-append, arith, ◌⊎◌, inl, inr, codes}
 use Rattle.std.proofs.lemmas.Bool.{cond_both, false_from_ne_true}
-use Rattle.ion_text.specs.Names.{Are, AwaitsColons, BlankThen, Catalog, Content, EndDecides, Given, HasRow, IsIdReason, IsTableReason, Known, Leading, Left, Lexeme, LexesTo, Limits, Mark, Next, Now, Place, Placed, Reading, Reason, Refusal, State, TokenKind, Turn, Value, annotated, at, at_end, bad_table, begun, continues, eats, end_fails, end_late, end_now, end_ready, end_said, end_settled, end_turned, end_waiting, ends_of, fails, feed, gives, goes, initial, is_idle, is_quoting, is_sane, is_top, late, line_feed, no_symbol, null_table, place, reaches, reads, refused_of, refuses, run, run_on, said_body, settle, settle_same, settled, struct_too_deep, token_of, too_deep, trace, turn, under, uses, waits_now, with_scan}
+use Rattle.ion_text.specs.Names.{Are, AwaitsColons, BlankThen, Catalog, Content, EndDecides, Given, HasRow, IsIdReason, IsTableReason, Known, Leading, Left, Lexeme, LexesTo, Limits, Mark, Next, Place, Placed, Reading, Reason, Refusal, Stage, State, TokenKind, Turn, Value, annotated, at, at_end, bad_table, begun, continues, eats, end_fails, end_late, end_now, end_ready, end_said, end_settled, end_turned, end_waiting, ends_of, fails, feed, gives, goes, initial, is_idle, is_quoting, is_sane, is_top, late, line_feed, no_symbol, null_table, place, reaches, reads, refused_of, refuses, run, run_on, said_body, settle, settle_same, settled, struct_too_deep, token_of, too_deep, trace, turn, under, uses, waits_now, with_scan}
 use Rattle.ion_model.specs.declared.value.Payload.TheVariants as payloads
 use Rattle.ion_tokens.proofs.runs.Runs.{feed_used}
 use Rattle.ion_symtab.specs.laws.Reasons.{next_fails, resolve_fails}
@@ -96,7 +96,7 @@ module _ (g : Catalog) (l : Limits) (u : List ℕ) (e : Reason) where
 
     -- 3. A word that the end ends, which is refused, or which waits and is refused then.
 
-    module _ (Done : Reading → Type 0) (Refused : Type 0) (done : (r : Reading) → Done r → (r.now ≡ Now.Ready → ⊥) × Refusing e (settle g l r)) where
+    module _ (Done : Reading → Type 0) (Refused : Type 0) (done : (r : Reading) → Done r → (r.now ≡ Stage.Ready → ⊥) × Refusing e (settle g l r)) where
       turned_so : (used : ℕ) (top : Bool) (c : Content) (item start end : ℕ) (x : Turn) → used ≡ length u → Spans top c item start end x
           → Turned g l e Done Refused x [] → Answers (end_turned g l used x)
       turned_so used top c item start end (goes r) i q d = settled_so used (settle g l r) i (done r d).1
@@ -120,14 +120,14 @@ module _ (g : Catalog) (l : Limits) (u : List ℕ) (e : Reason) where
         unquoted q = subst IsBare ((at_end_fine t.place s t.lexeme i).5 q) bare
 
         -- it is no segment, so what a long name waited for is a colon
-        no_name : (w : List ℕ) → r.now ≡ Now.LongName w → ⊥
+        no_name : (w : List ℕ) → r.now ≡ Stage.LongName w → ⊥
         no_name w n =
             not_shut g l e row Done Refused k t [] (settled_heads g l e Done Refused r k t [] h same refl
             (subst (TurnsTo g l e Done Refused (λ m. Turned g l e Done Refused (turn g l m (token_of t.lexeme h.1)) []) ⊥) leads (h.4 apart))) s (ends_next s t i)
             sane (false_from_ne_true (is_idle s.mode) busy) refl
           where
             k : Reading
-            k = at r.start r.context r.frames r.notes (Now.Keyed (Some w))
+            k = at r.start r.context r.frames r.notes (Stage.Keyed (Some w))
 
             leads : settle g l r ≡ goes k
             leads = ap (settled (under g l) r.start r.context r.frames r.notes) n
@@ -152,7 +152,7 @@ module _ (g : Catalog) (l : Limits) (u : List ℕ) (e : Reason) where
             ∙ turned_so s.used (is_top r.frames) h.1 l.item (start_now r.now r.start t.lexeme.start r.frames r.notes) t.lexeme.end
             (turn g l r (token_of t.lexeme h.1)) used (turn_spans g l r (token_of t.lexeme h.1) ok) (h.3 (inr still)))
 
-        still : (n : Now) → r.now ≡ n → settled (under g l) r.start r.context r.frames r.notes n ≡ goes (at r.start r.context r.frames r.notes n)
+        still : (n : Stage) → r.now ≡ n → settled (under g l) r.start r.context r.frames r.notes n ≡ goes (at r.start r.context r.frames r.notes n)
             → settle g l r ≡ goes r
         still n j k = ap (settled (under g l) r.start r.context r.frames r.notes) j ∙ (k ∙ ap (λ m. goes (at r.start r.context r.frames r.notes m)) (sym j))
 
@@ -160,10 +160,10 @@ module _ (g : Catalog) (l : Limits) (u : List ℕ) (e : Reason) where
         quoting true j w = busy j
         quoting false j w = unquoted w
 
-        now_so : (n : Now) → r.now ≡ n → Waits g l s n → Answers (end_now g l s.used r (at_end (place r) s) n)
-        now_so (Now.Pending k end) j w = absurd (busy w)
-        now_so (Now.Long v end) j w = absurd (quoting (is_idle s.mode) refl w)
-        now_so (Now.LongName v) j w = absurd (no_name v j)
+        now_so : (n : Stage) → r.now ≡ n → Waits g l s n → Answers (end_now g l s.used r (at_end (place r) s) n)
+        now_so (Stage.Pending k end) j w = absurd (busy w)
+        now_so (Stage.Long v end) j w = absurd (quoting (is_idle s.mode) refl w)
+        now_so (Stage.LongName v) j w = absurd (no_name v j)
         now_so n j w = ready_so (still n j refl)
 
         word_so : EndsFor (Ok (with_scan s r))
@@ -235,8 +235,8 @@ module _ (g : Catalog) (l : Limits) (u : List ℕ) (e : Reason) where
           (subst (λ y. LexesTo false 0 u y a.are.0 a.are.1 a.rest) p.is a.are.2)) 0 (omega arith) refl (origin g l) (λ top. tt)
           (waiting_heads g l e (p.front ++ p.token ∷ []) P p.values (ap (reads g l (origin g l)) (sym p.is) ∙ p.read))
         where
-          waits : (n : Reading) → n ≡ P → (n.now ≡ Now.Ready → ⊥) × Refusing e (settle g l n)
-          waits n j = ((λ k. let no : Now.Pending p.held p.end ≡ Now.Ready = sym (ap (λ (x : Reading). x.now) j) ∙ k in cc), subst (λ x. Refusing e (settle g l x)) (sym j) p.why)
+          waits : (n : Reading) → n ≡ P → (n.now ≡ Stage.Ready → ⊥) × Refusing e (settle g l n)
+          waits n j = ((λ k. let no : Stage.Pending p.held p.end ≡ Stage.Ready = sym (ap (λ (x : Reading). x.now) j) ∙ k in cc), subst (λ x. Refusing e (settle g l x)) (sym j) p.why)
 
           here : (Are (u ++ line) (p.front ++ p.token ∷ []) (a.rest ++ line)) × HasEnded g l (u ++ line) p.token
           here = waits_ended g l u ts e p a

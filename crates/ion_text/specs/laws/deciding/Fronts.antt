@@ -1,7 +1,7 @@
 -- Tokens that are read lead the reader to where the next one is looked for; and where the last of them has ended, it isn't open still.
 use Rattle.std.proofs.Common.{◌≡◌, ℕ, Bool, true, false, ◌&&◌, List, [], ◌∷◌, ◌++◌, length, refl, sym, ap, ◌∙◌, subst, append-nil, Ok, Some, ◌⊎◌, inl, inr}
 use Rattle.std.proofs.lemmas.Bool.{false_from_ne_true}
-use Rattle.ion_text.specs.Names.{Catalog, Field, Frame, Given, Known, Left, Limits, Next, Now, Pieces, Place, Placed, Reading, Slot, Symbols, TokenKind, Value, at, at_end, begins_as_long, done, ends_long, fresh, goes, is_fresh, on_turn, place, place_in, reads, scan as run, settle, system_slots}
+use Rattle.ion_text.specs.Names.{Catalog, Field, Frame, Given, Known, Left, Limits, Next, Pieces, Place, Placed, Reading, Slot, Stage, Symbols, TokenKind, Value, at, at_end, begins_as_long, done, ends_long, fresh, goes, is_fresh, on_turn, place, place_in, reads, scan as run, settle, system_slots}
 use Rattle.ion_tokens.proofs.complete.Found.{Gives, Last, Leaves, Unclosed}
 use Rattle.ion_text.specs.machine.TokenLists.{walked}
 use Rattle.ion_text.specs.laws.reading.complete.Complete.{starts}
@@ -91,13 +91,13 @@ module _ (g : Catalog) (l : Limits) where
           h.word (ap (λ (y : Placed). y.lexeme.kind) it ∙ word) (ap (λ (y : Placed). y.lexeme.end) it ∙ (end ∙ (ap (λ (y : Known). y.used) same ∙ used)))
 
   -- The tokens of an open item are read.
-  pub item_arrived : (c : List Slot) (fs : List Frame) (ss : Symbols) (now : Now) (x : Placed) (xs : List Placed) → Deep l.depth fs
+  pub item_arrived : (c : List Slot) (fs : List Frame) (ss : Symbols) (now : Stage) (x : Placed) (xs : List Placed) → Deep l.depth fs
       → NowStands c fs ss (x ∷ xs) now → Arrived g l c fs ss now (x ∷ xs)
   item_arrived c fs ss now x xs deep d = arrived g l c fs ss now (x ∷ xs) deep d (false_from_ne_true (is_fresh (at 0 c fs ss now))
       (λ e. let n : x ∷ xs ≡ [] = fresh_empty 0 c fs ss now (x ∷ xs) e d in cc))
 
   -- The tokens of pieces and of an open item are read.
-  pub stands_read : (c : List Slot) (front : List Placed) (vs : List Value) (fs : List Frame) (ss : Symbols) (now : Now) (item : List Placed)
+  pub stands_read : (c : List Slot) (front : List Placed) (vs : List Value) (fs : List Frame) (ss : Symbols) (now : Stage) (item : List Placed)
       → Pieces g l front vs c → Deep l.depth fs → NowStands c fs ss item now → (ends_long front && begins_as_long item) ≡ false
       → Came (front ++ item) (place_in fs now)
   stands_read c front vs fs ss now [] pieces deep d apart =
@@ -118,7 +118,7 @@ module _ (g : Catalog) (l : Limits) where
   abbrev pub SettlesTo : List Placed → Reading → Type 0
   SettlesTo ts m = (vs : List Value) (n : Reading) → reads g l origin ts ≡ walked vs n → (later : List Value) × (on_turn (settle g l n) done ≡ walked later m)
 
-  item_settles : (c : List Slot) (front : List Placed) (vs : List Value) (fs : List Frame) (ss : Symbols) (now : Now) (x : Placed) (xs : List Placed)
+  item_settles : (c : List Slot) (front : List Placed) (vs : List Value) (fs : List Frame) (ss : Symbols) (now : Stage) (x : Placed) (xs : List Placed)
       (m : Reading) → Pieces g l front vs c → NowStands c fs ss (x ∷ xs) now → (ends_long front && begins_as_long (x ∷ xs)) ≡ false
       → (a : Arrived g l c fs ss now (x ∷ xs)) → settle g l a.r ≡ goes m → SettlesTo (front ++ x ∷ xs) m
   item_settles c front vs fs ss now x xs m pieces d apart a e ws n read =
@@ -127,31 +127,31 @@ module _ (g : Catalog) (l : Limits) where
 
   -- where a value may come
   pub ready_settles : (c : List Slot) (front : List Placed) (vs : List Value) (fs : List Frame) (ss : Symbols) (item : List Placed) → Pieces g l front vs c
-      → Deep l.depth fs → NowStands c fs ss item Now.Ready → (ends_long front && begins_as_long item) ≡ false
-      → (s : ℕ) × SettlesTo (front ++ item) (at s c fs ss Now.Ready)
+      → Deep l.depth fs → NowStands c fs ss item Stage.Ready → (ends_long front && begins_as_long item) ≡ false
+      → (s : ℕ) × SettlesTo (front ++ item) (at s c fs ss Stage.Ready)
   ready_settles c front vs fs ss [] pieces deep d apart =
-      let none = none_open c fs ss Now.Ready d in (
+      let none = none_open c fs ss Stage.Ready d in (
         0,
         λ ws n e.
             let r = pieces_read g l front vs c pieces in
             let same = walked_now g l r.given ws r.now n (sym r.read ∙ (ap (reads g l origin) (sym (append-nil front)) ∙ e)) in (
               r.later,
               ap (λ k. on_turn (settle g l k) done) (sym same.1)
-                  ∙ (r.settles ∙ (ap (λ y. walked r.later (at 0 c y [] Now.Ready)) (sym none.0)
-                  ∙ ap (λ y. walked r.later (at 0 c fs y Now.Ready)) (sym none.1))),
+                  ∙ (r.settles ∙ (ap (λ y. walked r.later (at 0 c y [] Stage.Ready)) (sym none.0)
+                  ∙ ap (λ y. walked r.later (at 0 c fs y Stage.Ready)) (sym none.1))),
             ),
       )
   ready_settles c front vs fs ss (x ∷ xs) pieces deep d apart =
-      let a = item_arrived c fs ss Now.Ready x xs deep d in (
+      let a = item_arrived c fs ss Stage.Ready x xs deep d in (
         starts g l 0 [] (x ∷ xs),
-        item_settles c front vs fs ss Now.Ready x xs (at (starts g l 0 [] (x ∷ xs)) c fs ss Now.Ready) pieces d apart a
+        item_settles c front vs fs ss Stage.Ready x xs (at (starts g l 0 [] (x ∷ xs)) c fs ss Stage.Ready) pieces d apart a
             (a.ready refl),
       )
 
   -- what a struct waits for: a name, or what stands behind a field
-  abbrev pub struct_now : Bool → Now
-  struct_now true = Now.Name
-  struct_now false = Now.After
+  abbrev pub struct_now : Bool → Stage
+  struct_now true = Stage.Name
+  struct_now false = Stage.After
 
   -- in a struct
   pub struct_settles : (c : List Slot) (front : List Placed) (vs : List Value) (rs : Symbols) (ms : List Field) (fs : List Frame) (item : List Placed)
@@ -159,20 +159,20 @@ module _ (g : Catalog) (l : Limits) where
       → (ends_long front && begins_as_long item) ≡ false → (s : ℕ) × SettlesTo (front ++ item) (at s c (Frame.Fields rs ms ∷ fs) [] (struct_now more))
   struct_settles c front vs rs ms fs [] more pieces deep o apart = absurd (let e = opened_some c (Frame.Fields rs ms ∷ fs) more o in cc)
   struct_settles c front vs rs ms fs (x ∷ xs) true pieces deep o apart =
-      let a = item_arrived c (Frame.Fields rs ms ∷ fs) [] Now.Name x xs deep (o, tt) in
+      let a = item_arrived c (Frame.Fields rs ms ∷ fs) [] Stage.Name x xs deep (o, tt) in
       let r = opened_read g l c (Frame.Fields rs ms ∷ fs) (x ∷ xs) true deep o in
       let same = walked_now g l [] [] r.now a.r (sym r.read ∙ a.read) in
-      let there = at (starts g l 0 [] (x ∷ xs)) c (Frame.Fields rs ms ∷ fs) [] Now.Name in (
+      let there = at (starts g l 0 [] (x ∷ xs)) c (Frame.Fields rs ms ∷ fs) [] Stage.Name in (
         starts g l 0 [] (x ∷ xs),
-        item_settles c front vs (Frame.Fields rs ms ∷ fs) [] Now.Name x xs there pieces (o, tt) apart a
+        item_settles c front vs (Frame.Fields rs ms ∷ fs) [] Stage.Name x xs there pieces (o, tt) apart a
             (subst (λ k. settle g l k ≡ goes there) same.1 r.settles),
       )
   struct_settles c front vs rs ms fs (x ∷ xs) false pieces deep o apart =
-      let a = item_arrived c (Frame.Fields rs ms ∷ fs) [] Now.After x xs deep (o, refl, tt) in
+      let a = item_arrived c (Frame.Fields rs ms ∷ fs) [] Stage.After x xs deep (o, refl, tt) in
       let r = opened_read g l c (Frame.Fields rs ms ∷ fs) (x ∷ xs) false deep o in
       let same = walked_now g l [] [] r.now a.r (sym r.read ∙ a.read) in
-      let there = at (starts g l 0 [] (x ∷ xs)) c (Frame.Fields rs ms ∷ fs) [] Now.After in (
+      let there = at (starts g l 0 [] (x ∷ xs)) c (Frame.Fields rs ms ∷ fs) [] Stage.After in (
         starts g l 0 [] (x ∷ xs),
-        item_settles c front vs (Frame.Fields rs ms ∷ fs) [] Now.After x xs there pieces (o, refl, tt) apart a
+        item_settles c front vs (Frame.Fields rs ms ∷ fs) [] Stage.After x xs there pieces (o, refl, tt) apart a
             (subst (λ k. settle g l k ≡ goes there) same.1 r.settles),
       )

@@ -1,6 +1,6 @@
 -- Tokens that lead the reader of tokens up to one that it refuses, or to where something waits.
 use Rattle.std.proofs.Common.{◌≡◌, List, [], ◌∷◌, ◌++◌, Bool, true, false, Ok, refl, sym, ap, ◌∙◌, subst, append-nil, inl, inr}
-use Rattle.ion_text.specs.Names.{Catalog, Content, Leading, Lexeme, Limits, Long, Mark, Mark', Now, Placed, Quoted, Reading, Reason, Turn, Value, continues, continues_now, done, first_token, gives, goes, is_top, late, on_turn, place, reads, refuses, said, settle, settle_same, settle_still, token_of, turn}
+use Rattle.ion_text.specs.Names.{Catalog, Content, Leading, Lexeme, Limits, Long, Mark, Mark', Placed, Quoted, Reading, Reason, Stage, Turn, Value, continues, continues_now, done, first_token, gives, goes, is_top, late, on_turn, place, reads, refuses, said, settle, settle_same, settle_still, token_of, turn}
 use Rattle.ion_text.specs.machine.TokenLists.{walked}
 use Rattle.ion_text.specs.laws.deciding.Comings.{JoinsNothing}
 use Rattle.ion_text.specs.laws.deciding.Fronts.{Came, origin}
@@ -10,24 +10,24 @@ use Rattle.ion_text.specs.laws.reading.complete.Pieces.{walked_now}
 use Rattle.ion_text.specs.laws.showing.tokens.Walks.{walking_said}
 
 -- what says nothing that goes on joins nothing that waits
-pub joins_none : (top : Bool) (now : Now) (x : Lexeme) (c : Content) → JoinsNothing c → continues_now top now (token_of x c) ≡ false
-joins_none top (Now.Pending h end) x c a = go c a
+pub joins_none : (top : Bool) (now : Stage) (x : Lexeme) (c : Content) → JoinsNothing c → continues_now top now (token_of x c) ≡ false
+joins_none top (Stage.Pending h end) x c a = go c a
   where
-    go : (c : Content) → JoinsNothing c → continues_now top (Now.Pending h end) (token_of x c) ≡ false
+    go : (c : Content) → JoinsNothing c → continues_now top (Stage.Pending h end) (token_of x c) ≡ false
     go (Mark' Mark.Colons) a = absurd (a.colons refl)
     go _ a = refl
-joins_none top (Now.Long w end) x c a = go c a
+joins_none top (Stage.Long w end) x c a = go c a
   where
-    go : (c : Content) → JoinsNothing c → continues_now top (Now.Long w end) (token_of x c) ≡ false
+    go : (c : Content) → JoinsNothing c → continues_now top (Stage.Long w end) (token_of x c) ≡ false
     go (Long v) a = absurd (a.long v refl)
     go (Quoted v) a = absurd (a.quoted v refl)
     go _ a = refl
-joins_none top (Now.LongName w) x c a = go c a
+joins_none top (Stage.LongName w) x c a = go c a
   where
-    go : (c : Content) → JoinsNothing c → continues_now top (Now.LongName w) (token_of x c) ≡ false
+    go : (c : Content) → JoinsNothing c → continues_now top (Stage.LongName w) (token_of x c) ≡ false
     go (Long v) a = absurd (a.long v refl)
     go _ a = refl
-joins_none top Now.Ready x c a = refl
+joins_none top Stage.Ready x c a = refl
 joins_none top _ x c a = refl
 
 -- What is so where no token is left, and whether the last token is refused for the reason, or none is.

@@ -1,7 +1,7 @@
 -- An octet for which a reason is late is read on, and refused there for no reason that rows have.
 use Rattle.std.proofs.Common.{◌≡◌, ℕ, zero, suc, ◌+◌, nat_le, nat_lt, List, [], ◌∷◌, ◌++◌, true, false, Ok, Option, Some, refl, sym, ◌∙◌, subst, if◌then◌else◌, inl, inr}
 use Rattle.std.proofs.lemmas.Bool.{cond_both, lt-ltb}
-use Rattle.ion_text.specs.Names.{Bracket, Catalog, Content, Effect, Frame, Given, HasRow, Held, Id, IsUsed, Known, Left, Lexeme, Limits, Listing, Long, Mark, Mark', Next, Now, Outcome, Payload, Place, Quoted, Reading, Refused, Setting, Short, Slot, Spot, State, Symbols, Token, TokenKind, Turn, TypedNull, Value, Word, annotated, at, behind_given, behind_left, beyond_depth, ended, fails, feed, field_of, first_now, fresh, goes, is_idle, keyed, late, named, noticed, on_keyed, on_name, on_ready, on_said, on_scan, on_settled, opened, opening, place, said, said_body, settle, spot_at, takes, token_of, turn, under, unsettled, with_scan}
+use Rattle.ion_text.specs.Names.{Bracket, Catalog, Content, Effect, Frame, Given, HasRow, Held, Id, IsUsed, Known, Left, Lexeme, Limits, ListOrSexp, Long, Mark, Mark', Next, Outcome, Payload, Place, Quoted, Reading, Refused, Setting, Short, Slot, Spot, Stage, State, Symbols, Token, TokenKind, Turn, TypedNull, Value, Word, annotated, at, behind_given, behind_left, beyond_depth, ended, fails, feed, field_of, first_now, fresh, goes, is_idle, keyed, late, named, noticed, on_keyed, on_name, on_ready, on_said, on_scan, on_settled, opened, opening, place, said, said_body, settle, spot_at, takes, token_of, turn, under, unsettled, with_scan}
 use Rattle.ion_text.specs.laws.deciding.OneOctet.{keyword_bare}
 use Rattle.ion_text.specs.machine.Ways.{TokenWay, ValueWay, now_way, token_deep, token_list, token_sexp, token_struct, token_unnamed, token_unnoted, token_value, value_refused}
 use Rattle.ion_model.specs.declared.value.Payload.TheVariants as payloads
@@ -32,9 +32,9 @@ said_quiet k octets f h = said_each NotLate (said k octets) f h (λ e i. (said_l
 -- behind a name, in a struct that a container holds, and behind the colons of an annotation
 pub data LateAs (said : Content) : Reading → Type 0 where
   behind_name : BareSaid said → (start : ℕ) (c : List Slot) (fs : List Frame) (ss : Symbols) (s : Option (List ℕ))
-      → LateAs said (at start c fs ss (Now.Keyed s))
+      → LateAs said (at start c fs ss (Stage.Keyed s))
   in_struct : BareSaid said → (start : ℕ) (c : List Slot) (rs : Symbols) (f : Frame) (fs : List Frame)
-      → LateAs said (at start c (Frame.Fields rs [] ∷ f ∷ fs) [] Now.Name)
+      → LateAs said (at start c (Frame.Fields rs [] ∷ f ∷ fs) [] Stage.Name)
   behind_colons : (n : Reading) → said ≡ Mark' Mark.Colons → LateAs said n
 
 -- what a late reason goes on with
@@ -55,7 +55,7 @@ module _ (g : Catalog) (l : Limits) where
   pub turn_late : (r : Reading) (t : Token) → TurnLate (LateAs t.said) (turn g l r t)
   turn_late r t = by r.frames r.now _ (now_way g l t.start t.end r.start r.context r.frames r.notes t.said r.now)
     where
-      by : (fs : List Frame) (now : Now) (x : Turn) → TokenWay g l t.start t.end r.start r.context t.said r.notes fs now x → TurnLate (LateAs t.said) x
+      by : (fs : List Frame) (now : Stage) (x : Turn) → TokenWay g l t.start t.end r.start r.context t.said r.notes fs now x → TurnLate (LateAs t.said) x
       by _ _ _ (token_value fs q x none flat way) = value_late (LateAs t.said) (under g l) _ _ fs x way
       by _ _ _ (token_list rs vs fs now x e way) = value_late (LateAs t.said) (under g l) _ _ fs x way
       by _ _ _ (token_sexp rs vs fs now x e way) = value_late (LateAs t.said) (under g l) _ _ fs x way
@@ -85,7 +85,7 @@ module _ (g : Catalog) (l : Limits) where
       cond_both (unsettled m.scan m.reading x) _ _ NotLate (λ k. h) (λ k. subst (λ t. NotLate (on_settled g l again m.scan x t)) (sym e) h)
 
   named_quiet : (t : Known) (start : ℕ) (c : List Slot) (fs : List Frame) (s : Option (List ℕ)) → NotLate (behind_given l t (named start c fs s))
-  named_quiet t start c (Frame.Fields ss ms ∷ fs) s = noticed_quiet l (at start c (Frame.Named ss ms s ∷ fs) [] Now.Ready) t
+  named_quiet t start c (Frame.Fields ss ms ∷ fs) s = noticed_quiet l (at start c (Frame.Named ss ms s ∷ fs) [] Stage.Ready) t
   named_quiet t start c _ s = λ i. i
 
   keyed_given : (t : Known) (start : ℕ) (c : List Slot) (fs : List Frame) (s : Option (List ℕ)) (x : Content)
@@ -95,19 +95,19 @@ module _ (g : Catalog) (l : Limits) where
 
   -- behind a name
   name_quiet : (n : ℕ) (s : Known) (o start : ℕ) (c : List Slot) (fs : List Frame) (ss : Symbols) (k : Option (List ℕ)) → UsedHere s o
-      → NotLate (takes g l n (with_scan s (at start c fs ss (Now.Keyed k))) o)
+      → NotLate (takes g l n (with_scan s (at start c fs ss (Stage.Keyed k))) o)
   name_quiet zero s o start c fs ss k once = λ i. i
   name_quiet (suc n) s o start c fs ss k once =
-      let r = at start c fs ss (Now.Keyed k) in
+      let r = at start c fs ss (Stage.Keyed k) in
       still_quiet (λ m. takes g l n m o) (with_scan s r) (feed (place r) s o) refl
       (used_quiet (λ m. takes g l n m o) (place r) s o r (λ y t e x f. keyed_given t start c fs k x) (feed (place r) s o) refl (once (place r)))
 
   closed_quiet : (t : Known) (spot : Spot) (f : Frame) (fs : List Frame) (v : Value) → NotLate (behind_given l t (ended (under g l) spot (f ∷ fs) v))
-  closed_quiet t spot (Frame.Items Listing.List ss vs) fs v =
-      noticed_quiet l (at spot.start spot.context (Frame.Items Listing.List ss (vs ++ v ∷ []) ∷ fs) [] Now.After) t
-  closed_quiet t spot (Frame.Items Listing.Sexp ss vs) fs v =
-      noticed_quiet l (at spot.start spot.context (Frame.Items Listing.Sexp ss (vs ++ v ∷ []) ∷ fs) [] Now.Ready) t
-  closed_quiet t spot (Frame.Named ss ms s) fs v = noticed_quiet l (at spot.start spot.context (Frame.Fields ss (ms ++ field_of s v ∷ []) ∷ fs) [] Now.After)
+  closed_quiet t spot (Frame.Items ListOrSexp.List ss vs) fs v =
+      noticed_quiet l (at spot.start spot.context (Frame.Items ListOrSexp.List ss (vs ++ v ∷ []) ∷ fs) [] Stage.After) t
+  closed_quiet t spot (Frame.Items ListOrSexp.Sexp ss vs) fs v =
+      noticed_quiet l (at spot.start spot.context (Frame.Items ListOrSexp.Sexp ss (vs ++ v ∷ []) ∷ fs) [] Stage.Ready) t
+  closed_quiet t spot (Frame.Named ss ms s) fs v = noticed_quiet l (at spot.start spot.context (Frame.Fields ss (ms ++ field_of s v ∷ []) ∷ fs) [] Stage.After)
       t
   closed_quiet t spot (Frame.Fields ss ms) fs v = λ i. i
 
@@ -118,7 +118,7 @@ module _ (g : Catalog) (l : Limits) where
   struct_given t spot rs f fs (TypedNull k) n = absurd (n tt)
   struct_given t spot rs f fs (Quoted w) n = noticed_quiet l (keyed spot.start spot.context (Frame.Fields rs [] ∷ f ∷ fs) (Some w)) t
   struct_given t spot rs f fs (Short w) n = noticed_quiet l (keyed spot.start spot.context (Frame.Fields rs [] ∷ f ∷ fs) (Some w)) t
-  struct_given t spot rs f fs (Long w) n = noticed_quiet l (at spot.start spot.context (Frame.Fields rs [] ∷ f ∷ fs) [] (Now.LongName w)) t
+  struct_given t spot rs f fs (Long w) n = noticed_quiet l (at spot.start spot.context (Frame.Fields rs [] ∷ f ∷ fs) [] (Stage.LongName w)) t
   struct_given t spot rs f fs (Mark' Mark.FieldsClose) n = closed_quiet t spot f fs (annotated rs (payloads.Fields []))
   struct_given t spot rs f fs _ n = λ i. i
 
@@ -128,10 +128,10 @@ module _ (g : Catalog) (l : Limits) where
 
   -- behind the brace of a struct
   struct_quiet : (n : ℕ) (s : Known) (o start : ℕ) (c : List Slot) (rs : Symbols) (f : Frame) (fs : List Frame) → UsedHere s o → GivesNoBare Place.Name s o
-      → NotLate (takes g l n (with_scan s (at start c (Frame.Fields rs [] ∷ f ∷ fs) [] Now.Name)) o)
+      → NotLate (takes g l n (with_scan s (at start c (Frame.Fields rs [] ∷ f ∷ fs) [] Stage.Name)) o)
   struct_quiet zero s o start c rs f fs once bare = λ i. i
   struct_quiet (suc n) s o start c rs f fs once bare =
-      let r = at start c (Frame.Fields rs [] ∷ f ∷ fs) [] Now.Name in
+      let r = at start c (Frame.Fields rs [] ∷ f ∷ fs) [] Stage.Name in
       still_quiet (λ m. takes g l n m o) (with_scan s r) (feed (place r) s o) refl
       (used_quiet (λ m. takes g l n m o) (place r) s o r (λ y t e x i. struct_given t (spot_at y.end start c) rs f fs x (bare y t e x i)) (feed (place r) s o)
       refl (once (place r)))
@@ -158,8 +158,8 @@ module _ (g : Catalog) (l : Limits) where
 
   fresh_given : (t : Known) (start end : ℕ) (c : List Slot) (x : Content) → (BareSaid x → ⊥)
       → NotLate (behind_given l t (on_ready (under g l) (spot_at end start c) [] [] x))
-  fresh_given t start end c (Quoted w) n = noticed_quiet l (at start c [] [] (Now.Pending (Held.Symbol (Some w)) end)) t
-  fresh_given t start end c (Long w) n = noticed_quiet l (at start c [] [] (Now.Long w end)) t
+  fresh_given t start end c (Quoted w) n = noticed_quiet l (at start c [] [] (Stage.Pending (Held.Symbol (Some w)) end)) t
+  fresh_given t start end c (Long w) n = noticed_quiet l (at start c [] [] (Stage.Long w end)) t
   fresh_given t start end c (Word w) n = absurd (n tt)
   fresh_given t start end c (Id id) n = absurd (n tt)
   fresh_given t start end c (TypedNull k) n = absurd (n tt)

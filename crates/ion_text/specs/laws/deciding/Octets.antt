@@ -1,7 +1,7 @@
 -- An octet that is refused for a reason that rows have is refused by one of them.
 use Rattle.std.proofs.Common.{◌≡◌, ℕ, zero, suc, ◌+◌, nat_le, nat_lt, true, false, ◌&&◌, not, List, [], ◌∷◌, ◌++◌, length, take, Result, Ok, Err, Some, refl, sym, ap, ◌∙◌, subst, append_assoc, ◌⊎◌, inl, inr}
 use Rattle.std.proofs.lemmas.Bool.{cond_both}
-use Rattle.ion_text.specs.Names.{Catalog, Content, Continues, Decides, Effect, Frame, Given, HasRow, Held, IsBody, Known, Leading, Left, Lexeme, Limits, Mark, Mark', Next, NoColons, Now, Outcome, Place, Placed, Reading, Reason, Refusal, Refused, Run, Scanned, Slot, State, Symbols, TokenKind, Turn, Value, at, begun, behind_given, behind_left, by_octet, eats, fails, feed, fresh, gives, goes, in_segment, is_colons, is_fresh, is_idle, is_top, late, leaves, noticed, on_now, on_octet, on_said, on_scan, on_settled, once_more, or_worse, place, plain, reaches, reason_number, refuses, run, run_on, said, said_body, said_passes, settle, settle_same, shut, takes, token_of, trace, turn, under, unsettled, waits, waits_now, with_scan}
+use Rattle.ion_text.specs.Names.{Catalog, Content, Continues, Decides, Effect, Frame, Given, HasRow, Held, IsBody, Known, Leading, Left, Lexeme, Limits, Mark, Mark', Next, NoColons, Outcome, Place, Placed, Reading, Reason, Refusal, Refused, Run, Scanned, Slot, Stage, State, Symbols, TokenKind, Turn, Value, at, begun, behind_given, behind_left, by_octet, eats, fails, feed, fresh, gives, goes, in_segment, is_colons, is_fresh, is_idle, is_top, late, leaves, noticed, on_now, on_octet, on_said, on_scan, on_settled, once_more, or_worse, place, plain, reaches, reason_number, refuses, run, run_on, said, said_body, said_passes, settle, settle_same, shut, takes, token_of, trace, turn, under, unsettled, waits, waits_now, with_scan}
 use Rattle.ion_text.specs.machine.Ways.{SettledWay, settled_held, settled_text, settled_version, settled_way}
 use Rattle.ion_tokens.proofs.runs.Scans.{placed, scanned_left}
 use Rattle.ion_text.specs.laws.deciding.Lates.{GivesNoBare, LateAs, NotLate, TurnLate, late_quiet, noticed_quiet, turn_late, value_late, version_quiet}
@@ -24,25 +24,25 @@ use Rattle.ion_text.specs.laws.showing.tokens.Froms.{EndsWaiting, IsFree, Waits,
 
 -- 1. What is late of what waits is the marker of another version.
 
-abbrev IsPending : Now → Type 0
-IsPending (Now.Pending h end) = Unit {0}
+abbrev IsPending : Stage → Type 0
+IsPending (Stage.Pending h end) = Unit {0}
 IsPending _ = ⊥
 
 module _ (g : Catalog) (l : Limits) where
-  abbrev LateVersion : List Slot → List Frame → Now → Reading → Type 0
+  abbrev LateVersion : List Slot → List Frame → Stage → Reading → Type 0
   LateVersion c fs now n = (fs ≡ []) × (n ≡ fresh c) × IsPending now
 
-  settled_late : (start : ℕ) (c : List Slot) (fs : List Frame) (ss : Symbols) (now : Now) → TurnLate (LateVersion c fs now) (settle g l (at start c fs ss now))
+  settled_late : (start : ℕ) (c : List Slot) (fs : List Frame) (ss : Symbols) (now : Stage) → TurnLate (LateVersion c fs now) (settle g l (at start c fs ss now))
   settled_late start c fs ss now = by fs now _ (settled_way g l start c fs ss now)
     where
-      by : (fs : List Frame) (now : Now) (t : Turn) → SettledWay g l start c ss fs now t → TurnLate (LateVersion c fs now) t
-      by _ _ _ (settled_held fs h end q t flat way) = value_late (LateVersion c fs (Now.Pending h end)) (under g l) _ _ fs t way
-      by _ _ _ (settled_text fs w end t way) = value_late (LateVersion c fs (Now.Long w end)) (under g l) _ _ fs t way
+      by : (fs : List Frame) (now : Stage) (t : Turn) → SettledWay g l start c ss fs now t → TurnLate (LateVersion c fs now) t
+      by _ _ _ (settled_held fs h end q t flat way) = value_late (LateVersion c fs (Stage.Pending h end)) (under g l) _ _ fs t way
+      by _ _ _ (settled_text fs w end t way) = value_late (LateVersion c fs (Stage.Long w end)) (under g l) _ _ fs t way
       by _ _ _ (settled_version h end) = (refl, refl, tt)
       by _ _ _ _ = tt
 
-  pending_idle : (s : Known) (now : Now) → IsPending now → Waits g l s now → is_idle s.mode ≡ true
-  pending_idle s (Now.Pending h end) i w = w
+  pending_idle : (s : Known) (now : Stage) → IsPending now → Waits g l s now → is_idle s.mode ≡ true
+  pending_idle s (Stage.Pending h end) i w = w
   pending_idle s _ i w = absurd i
 
   fresh_waits : (s : Known) (r : Reading) → is_fresh r ≡ true → Waits g l s r.now
@@ -165,7 +165,7 @@ module _ (g : Catalog) (l : Limits) where
         not_waiting : waits r (feed (place r) s o) ≡ false
         not_waiting = (or_parts (waits r (feed (place r) s o)) (in_segment r.now s) open').0
 
-        colons : (h : Held) (end : ℕ) → r.now ≡ Now.Pending h end → r.frames ≡ [] → NoColons w (b.front ++ b.item)
+        colons : (h : Held) (end : ℕ) → r.now ≡ Stage.Pending h end → r.frames ≡ [] → NoColons w (b.front ++ b.item)
         colons h end e top =
             let d : PendingFor r.context r.frames r.notes h b.item = subst (NowStands r.context r.frames r.notes b.item) e b.stands in
             let last : b.front ++ b.item ≡ (b.front ++ d.before) ++ d.token ∷ [] =

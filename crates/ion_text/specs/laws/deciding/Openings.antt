@@ -1,6 +1,6 @@
 -- What the reader of tokens holds of the open item is what stands open.
 use Rattle.std.proofs.Common.{◌≡◌, ◌+◌, ◌≤◌, ℕ, suc, List, [], ◌∷◌, ◌++◌, length, true, false, Bool, ◌&&◌, refl, sym, ap, ◌∙◌, subst, arith, append_assoc, append-nil}
-use Rattle.ion_text.specs.Names.{Annotations, Catalog, Comes, Container, Content, Field, Frame, InField, InList, InSexp, InStruct, Limits, Listing, Mark, Mark', MayNote, Means, Open, Pieces, Place, Placed, Says, Slot, Symbols, TakesValue, Value, annotated, begins_as_long, close_place, ends_long, is_struct, list_open, means, no_annotation, none_open, place_of, sexp_open, struct_open}
+use Rattle.ion_text.specs.Names.{Annotations, Catalog, Comes, Container, Content, Field, Frame, InField, InList, InSexp, InStruct, Limits, ListOrSexp, Mark, Mark', MayNote, Means, Open, Pieces, Place, Placed, Says, Slot, Symbols, TakesValue, Value, annotated, begins_as_long, close_place, ends_long, is_struct, list_open, means, no_annotation, none_open, place_of, sexp_open, struct_open}
 use Rattle.ion_model.specs.declared.value.Payload.TheVariants as payloads
 use Rattle.ion_text.specs.Deciding.{Ends, named}
 use Rattle.ion_text.specs.laws.reading.complete.Complete.{depth-struct}
@@ -9,8 +9,8 @@ use Rattle.ion_text.specs.laws.reading.sound.Held.{IsSome, some_more}
 use Rattle.ion_text.specs.laws.reading.sound.StandsOpen.{Opened, ReadyFor, Receives, value_place}
 
 abbrev pub container : Frame → Container
-container (Frame.Items Listing.List ss vs) = InList
-container (Frame.Items Listing.Sexp ss vs) = InSexp
+container (Frame.Items ListOrSexp.List ss vs) = InList
+container (Frame.Items ListOrSexp.Sexp ss vs) = InSexp
 container (Frame.Fields ss ms) = InStruct
 container (Frame.Named ss ms s) = InField
 
@@ -21,7 +21,7 @@ containers (f ∷ fs) = container f ∷ containers fs
 
 -- what the reader holds and what stands open have the same place for a value
 pub place_same : (fs : List Frame) → value_place fs ≡ place_of (containers fs)
-place_same (Frame.Items Listing.List ss vs ∷ fs) = refl
+place_same (Frame.Items ListOrSexp.List ss vs ∷ fs) = refl
 place_same _ = refl
 
 -- as many containers stand open as the reader holds
@@ -32,12 +32,12 @@ levels_same (f ∷ fs) = ap suc (levels_same fs)
 -- where the reader holds a container that receives a value, a value may come
 pub takes_value : (fs : List Frame) → Receives fs → TakesValue (containers fs)
 takes_value (Frame.Fields ss ms ∷ fs) h = absurd h
-takes_value (Frame.Items Listing.List ss vs ∷ fs) h = tt
+takes_value (Frame.Items ListOrSexp.List ss vs ∷ fs) h = tt
 takes_value _ h = tt
 
 pub may_note : (fs : List Frame) (notes : List Placed) → Receives fs → MayNote (containers fs) notes
 may_note (Frame.Fields ss ms ∷ fs) notes h = absurd h
-may_note (Frame.Items Listing.List ss vs ∷ fs) notes h = tt
+may_note (Frame.Items ListOrSexp.List ss vs ∷ fs) notes h = tt
 may_note _ notes h = tt
 
 pub noted_there : (c : List Slot) (fs : List Frame) (notes : List Placed) (ss : Symbols) → Annotations c (value_place fs) notes ss
@@ -56,11 +56,11 @@ module _ (l : Limits) (c : List Slot) where
   -- The open containers of the reader stand open.
   pub opened_open : (fs : List Frame) (ts : List Placed) → Deep l.depth fs → Opened c fs ts true → Open l c (containers fs) ts
   opened_open [] ts d o = subst (Open l c []) (sym o) none_open
-  opened_open (Frame.Items Listing.List ss vs ∷ fs) ts d o =
+  opened_open (Frame.Items ListOrSexp.List ss vs ∷ fs) ts d o =
       subst (Open l c (InList ∷ containers fs)) (sym o.whole)
       (list_open (containers fs) o.front o.notes o.body ss o.open' vs (opened_open fs o.front d.1 o.outer) (takes_value fs o.receives)
       (noted_there c fs o.notes ss o.noted) (says_there fs o.open' (Mark' Mark.ListOpen) o.opens) o.items (deeper fs _ d.0))
-  opened_open (Frame.Items Listing.Sexp ss vs ∷ fs) ts d o =
+  opened_open (Frame.Items ListOrSexp.Sexp ss vs ∷ fs) ts d o =
       subst (Open l c (InSexp ∷ containers fs)) (sym o.whole)
       (sexp_open (containers fs) o.front o.notes o.body ss o.open' vs (opened_open fs o.front d.1 o.outer) (takes_value fs o.receives)
       (noted_there c fs o.notes ss o.noted) (says_there fs o.open' (Mark' Mark.SexpOpen) o.opens) o.items (deeper fs _ d.0))

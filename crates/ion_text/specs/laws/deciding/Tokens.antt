@@ -3,7 +3,7 @@ use Rattle.std.proofs.Common.{◌≡◌, ℕ, ◌+◌, ◌≤◌, nat_lt, Bool, 
 use Rattle.std.proofs.lemmas.Bool.{cond-true}
 use Rattle.std.proofs.lemmas.Bool.Decides.{nat_tests}
 use Rattle.std.specs.Str.{bytes_eq}
-use Rattle.ion_text.specs.Names.{Annotations, Are, Bracket, Catalog, Comes, Container, Content, Field, Frame, Held, Id, InStruct, IsBody, IsKeyword, IsScalar, Kind, Known, Layer, Limits, Mark, Mark', Means, Members, Now, Payload, Payload-F, Place, Placed, Plain, Reading, Reason, Says, Slot, Symbols, TakesValue, TokenKind, Turn, TypedNull, Value, Walk, Word, adds_values, annotated, at, at_end, begins_as_long, begun_at, close_place, continues, depth, done, end_of, ended, ends_long, first_token, fresh, gives, goes, held_symbol, held_word, is_blob, is_clob, is_closing, is_decimal, is_false, is_idle, is_int, is_keyword, is_list, is_null, is_operator, is_short, is_struct, is_symbol, is_table, is_timestamp, is_true, is_typed_null, is_version, late, long_string, means, next, noted, on_ready, on_turn, one_token, open_mark, pending_at, place, place_of, reads, refuses, resolve, resolved, said, said_ok, spot_at, stopped, the_marker, token_of, turn, turned, under}
+use Rattle.ion_text.specs.Names.{Annotations, Are, Bracket, Catalog, Comes, Container, Content, Field, Frame, Held, Id, InStruct, IsBody, IsKeyword, IsScalar, Kind, Known, Layer, Limits, Mark, Mark', Means, Members, Payload, Payload-F, Place, Placed, Plain, Reading, Reason, Says, Slot, Stage, Symbols, TakesValue, TokenKind, Turn, TypedNull, Value, Walk, Word, adds_values, annotated, at, at_end, begins_as_long, begun_at, close_place, continues, depth, done, end_of, ended, ends_long, first_token, fresh, gives, goes, held_symbol, held_word, is_blob, is_clob, is_closing, is_decimal, is_false, is_idle, is_int, is_keyword, is_list, is_null, is_operator, is_short, is_struct, is_symbol, is_table, is_timestamp, is_true, is_typed_null, is_version, late, long_string, means, next, noted, on_ready, on_turn, one_token, open_mark, pending_at, place, place_of, reads, refuses, resolve, resolved, said, said_ok, spot_at, stopped, the_marker, token_of, turn, turned, under}
 use Rattle.ion_model.specs.declared.value.Payload.TheVariants as payloads
 use Rattle.ion_model.specs.declared.value.Payload.TheViews as views
 use Rattle.ion_text.specs.Deciding.{Ends}
@@ -194,7 +194,7 @@ module _ (g : Catalog) (l : Limits) where
     held = (f g l c ks said ts h).held
 
     -- which is refused there
-    value_stops : (e : Reason) → JoinsNothing said → ((s : ℕ) → Refusing e (turn g l (at s c held h.symbols Now.Ready) (token_of h.token.lexeme said)))
+    value_stops : (e : Reason) → JoinsNothing said → ((s : ℕ) → Refusing e (turn g l (at s c held h.symbols Stage.Ready) (token_of h.token.lexeme said)))
         → Stops g l ts h.token e
     value_stops e a refused =
         let w = settles g l c ks said ts h takes in
@@ -206,9 +206,9 @@ module _ (g : Catalog) (l : Limits) where
           is = is;
           came = subst (Came g l front) (sym h.says.place) (came g l c ks said ts h takes);
           stops = ap (reads g l (origin g l)) is ∙ (x.1 ∙ ap (adds_values h.values)
-              (first_token g l (place_of ks) (at x.0 c held h.symbols Now.Ready) h.token said [] h.says (here g l c ks said ts h takes) (inr refl)
-              ∙ refusing_stops e (turn g l (at x.0 c held h.symbols Now.Ready) (token_of h.token.lexeme said)) done (refused x.0)));
-          why = by_itself (at w.0 c held h.symbols Now.Ready) said w.1 (said_ok g l (place_of ks) h.token said h.says)
+              (first_token g l (place_of ks) (at x.0 c held h.symbols Stage.Ready) h.token said [] h.says (here g l c ks said ts h takes) (inr refl)
+              ∙ refusing_stops e (turn g l (at x.0 c held h.symbols Stage.Ready) (token_of h.token.lexeme said)) done (refused x.0)));
+          why = by_itself (at w.0 c held h.symbols Stage.Ready) said w.1 (said_ok g l (place_of ks) h.token said h.says)
               (not_colons (place_of ks) h.token said h.says a.colons) (refused w.0) a;
         }
 
@@ -220,21 +220,21 @@ module _ (g : Catalog) (l : Limits) where
     pub open_stops : (bracket : Bracket) → said ≡ Mark' (open_mark bracket) → l.depth ≤ length ks → Stops g l ts h.token Reason.Depth
     open_stops bracket e deep =
         value_stops Reason.Depth (subst JoinsNothing (sym e) (mark_apart (open_mark bracket) (λ k. no_colons bracket (ap Mark' k))))
-        (λ s. subst (λ d. Refusing Reason.Depth (turn g l (at s c held h.symbols Now.Ready) (token_of h.token.lexeme d))) (sym e) (by bracket s))
+        (λ s. subst (λ d. Refusing Reason.Depth (turn g l (at s c held h.symbols Stage.Ready) (token_of h.token.lexeme d))) (sym e) (by bracket s))
       where
         by : (bracket : Bracket) (s : ℕ)
-            → Refusing Reason.Depth (turn g l (at s c held h.symbols Now.Ready) (token_of h.token.lexeme (Mark' (open_mark bracket))))
+            → Refusing Reason.Depth (turn g l (at s c held h.symbols Stage.Ready) (token_of h.token.lexeme (Mark' (open_mark bracket))))
         by Bracket.Fields s = refusing_else Reason.Depth (nat_lt (length held) l.depth) _ (late Reason.Depth _) (levels deep) refl
         by _ s = refusing_else Reason.Depth (nat_lt (length held) l.depth) _ (refuses Reason.Depth) (levels deep) refl
 
     -- one that waits for `::`
     module _ (word : Held) (waits : (start end : ℕ) → on_ready (under g l) (spot_at end start c) held h.symbols said
-        ≡ goes (at start c held h.symbols (Now.Pending word end))) (apart : JoinsNothing said) where
+        ≡ goes (at start c held h.symbols (Stage.Pending word end))) (apart : JoinsNothing said) where
       abbrev pub front : List Placed
       front = before g l c ks said ts h
 
       abbrev pub pending_word : ℕ → Reading
-      pending_word s = at (begun_at s h.token.lexeme.start held h.symbols) c held h.symbols (Now.Pending word h.token.lexeme.end)
+      pending_word s = at (begun_at s h.token.lexeme.start held h.symbols) c held h.symbols (Stage.Pending word h.token.lexeme.end)
 
       -- where the token that comes waits for `::`, the tokens up to it lead to where it waits
       pub read_to : (more : List Placed) → (s : ℕ) × (reads g l (origin g l) (front ++ h.token ∷ more) ≡ adds_values h.values (reads g l (pending_word s) more))
@@ -243,7 +243,7 @@ module _ (g : Catalog) (l : Limits) where
             x.0,
             x.1
                 ∙ ap (adds_values h.values)
-                (first_token g l (place_of ks) (at x.0 c held h.symbols Now.Ready) h.token said more h.says (here g l c ks said ts h takes) (inr refl)
+                (first_token g l (place_of ks) (at x.0 c held h.symbols Stage.Ready) h.token said more h.says (here g l c ks said ts h takes) (inr refl)
                 ∙ ap (λ y. on_turn y (λ k. reads g l k more)) (waits (begun_at x.0 h.token.lexeme.start held h.symbols) h.token.lexeme.end)),
           )
 
@@ -281,7 +281,7 @@ module _ (g : Catalog) (l : Limits) where
     abbrev inside : List Frame
     inside = let s = struct g l c ks said ts h in Frame.Fields s.notes s.fields ∷ s.outer
 
-    name_stops : (e : Reason) → JoinsNothing said → ((s : ℕ) → Refusing e (turn g l (at s c inside [] Now.Name) (token_of h.token.lexeme said)))
+    name_stops : (e : Reason) → JoinsNothing said → ((s : ℕ) → Refusing e (turn g l (at s c inside [] Stage.Name) (token_of h.token.lexeme said)))
         → Stops g l ts h.token e
     name_stops e a refused =
         let w = settles_name g l c ks said ts h in
@@ -293,9 +293,9 @@ module _ (g : Catalog) (l : Limits) where
           is = is;
           came = subst (Came g l front) (sym h.says.place) (came_name g l c ks said ts h);
           stops = ap (reads g l (origin g l)) is ∙ (x.1 ∙ ap (adds_values h.values)
-              (first_token g l Place.Name (at x.0 c inside [] Now.Name) h.token said [] h.says refl (inr refl)
-              ∙ refusing_stops e (turn g l (at x.0 c inside [] Now.Name) (token_of h.token.lexeme said)) done (refused x.0)));
-          why = by_itself (at w.0 c inside [] Now.Name) said w.1 (said_ok g l Place.Name h.token said h.says)
+              (first_token g l Place.Name (at x.0 c inside [] Stage.Name) h.token said [] h.says refl (inr refl)
+              ∙ refusing_stops e (turn g l (at x.0 c inside [] Stage.Name) (token_of h.token.lexeme said)) done (refused x.0)));
+          why = by_itself (at w.0 c inside [] Stage.Name) said w.1 (said_ok g l Place.Name h.token said h.says)
               (not_colons Place.Name h.token said h.says a.colons) (refused w.0) a;
         }
 
@@ -398,9 +398,9 @@ module _ (g : Catalog) (l : Limits) where
           apart = begins_so (ends_long h.front) inner (close ∷ []) (subst (λ x. (ends_long h.front && begins_as_long x) ≡ false) item_is h.apart)
 
           came' : (more : Bool) → Members c body ms more → Says (close_place more) close (Mark' Mark.FieldsClose) → Came g l front (close_place more)
-          came' true members closes = stands_read g l c h.front h.values (Frame.Fields rs ms ∷ []) [] Now.Name inner h.pieces deep (opened true members, tt)
+          came' true members closes = stands_read g l c h.front h.values (Frame.Fields rs ms ∷ []) [] Stage.Name inner h.pieces deep (opened true members, tt)
               apart
-          came' false members closes = stands_read g l c h.front h.values (Frame.Fields rs ms ∷ []) [] Now.After inner h.pieces deep
+          came' false members closes = stands_read g l c h.front h.values (Frame.Fields rs ms ∷ []) [] Stage.After inner h.pieces deep
               (opened false members, refl, tt) apart
 
           refused : (s : ℕ) → ended (under g l) (spot_at close.lexeme.end s c) [] (annotated rs (payloads.Fields ms)) ≡ refuses e
@@ -429,7 +429,7 @@ module _ (g : Catalog) (l : Limits) where
               (means_begins g l c Place.Top h.item (annotated ss (payloads.Fields ms)) h.means) h.apart
               ∙ ap (adds_values h.values)
               (ap (reads g l (fresh c)) cut
-              ∙ (read_behind g l (fresh c) (at (starts g l 0 [] notes) c [] rs Now.Ready) notes (open' ∷ (body ++ close ∷ []))
+              ∙ (read_behind g l (fresh c) (at (starts g l 0 [] notes) c [] rs Stage.Ready) notes (open' ∷ (body ++ close ∷ []))
               (notes_read g l c Place.Top 0 [] notes rs refl a)
               ∙ (open_read g l Bracket.Fields c Place.Top (starts g l 0 [] notes) s [] rs open' (body ++ close ∷ []) refl (omega (arith, deep.0)) opens refl
               ∙ (struct_ends g l c s [] rs body ms more close (members_read g l c s [] rs body ms more members deep.0) closes

@@ -3,7 +3,7 @@ use Rattle.std.proofs.Common.{◌≡◌, ℕ, ◌+◌, ◌≤◌, nat_le, nat_lt
 use Rattle.std.proofs.lemmas.Bool.{and_right, cond_both, ltb-false}
 use Rattle.std.specs.Str.{bytes_eq}
 use Rattle.std.proofs.lemmas.Slice.Eq.{bytes_eq-Decides}
-use Rattle.ion_text.specs.Names.{Blob, Bracket, Catalog, Clob, Content, Field, Frame, HasRow, Held, Id, InStruct, IsKeyword, Kind, Limits, Listing, Long, Mark, Mark', Means, Now, Number, Number', Operator, Payload, Pieces, Place, Placed, Quoted, Reason, Says, Short, Sight, Slot, Symbols, Turn, TypedNull, Value, Word, annotated, at, bad_table, begins_as_long, begun_at, bracket_in, close_place, closed, deeper, ended, ends_long, fresh, gives, goes, held_symbol, held_word, is_fields, is_keyword, is_table, is_version, keyed, keyword_as_annotation, keyword_as_name, late, layer_kind, means, named, names_table, next, no_symbol, noted, null_table, number_payload, on_after, on_comma, on_keyed, on_long, on_long_name, on_name, on_pending, on_ready, one_token, other_version, pending_at, place_in, refuses, released, resolve, resolved, settle, spot_at, struct_too_deep, system_slots, the_marker, token_at, too_deep, turn_now, turned, under, within}
+use Rattle.ion_text.specs.Names.{Blob, Bracket, Catalog, Clob, Content, Field, Frame, HasRow, Held, Id, InStruct, IsKeyword, Kind, Limits, ListOrSexp, Long, Mark, Mark', Means, Number, Number', Operator, Payload, Pieces, Place, Placed, Quoted, Reason, Says, Short, Sight, Slot, Stage, Symbols, Turn, TypedNull, Value, Word, annotated, at, bad_table, begins_as_long, begun_at, bracket_in, close_place, closed, deeper, ended, ends_long, fresh, gives, goes, held_symbol, held_word, is_fields, is_keyword, is_table, is_version, keyed, keyword_as_annotation, keyword_as_name, late, layer_kind, means, named, names_table, next, no_symbol, noted, null_table, number_payload, on_after, on_comma, on_keyed, on_long, on_long_name, on_name, on_pending, on_ready, one_token, other_version, pending_at, place_in, refuses, released, resolve, resolved, settle, spot_at, struct_too_deep, system_slots, the_marker, token_at, too_deep, turn_now, turned, under, within}
 use Rattle.ion_text.specs.machine.Ways.{flat_held}
 use Rattle.ion_model.specs.declared.value.Payload.TheVariants as payloads
 use Rattle.ion_model.specs.declared.value.Payload.TheViews as views
@@ -119,13 +119,13 @@ module _ (g : Catalog) (l : Limits) (sight : Sight) where
       cond_both (nat_lt (length fs) l.depth) t deep TurnDecided (λ e. h) (λ e. k (omega (arith, ltb-false (length fs) l.depth e, levels_same fs)))
 
   -- a list or an s-expression is closed
-  items_decided : (start end : ℕ) (c : List Slot) (listing : Listing) (fs : List Frame)
+  items_decided : (start end : ℕ) (c : List Slot) (listing : ListOrSexp) (fs : List Frame)
       → TurnDecided (closed (bracket_in listing) (under g l) (spot_at end start c) fs)
   items_decided start end c listing fs = by (bracket_in listing) fs (closes_or_not (bracket_in listing) fs) (no_struct listing)
     where
-      no_struct : (listing : Listing) → bracket_in listing ≡ Bracket.Fields → ⊥
-      no_struct Listing.List e = cc
-      no_struct Listing.Sexp e = cc
+      no_struct : (listing : ListOrSexp) → bracket_in listing ≡ Bracket.Fields → ⊥
+      no_struct ListOrSexp.List e = cc
+      no_struct ListOrSexp.Sexp e = cc
 
       by : (bracket : Bracket) (fs : List Frame) → Closes bracket fs → (bracket ≡ Bracket.Fields → ⊥)
           → TurnDecided (closed bracket (under g l) (spot_at end start c) fs)
@@ -157,7 +157,7 @@ module _ (g : Catalog) (l : Limits) (sight : Sight) where
       ready_decided fs ss (Id id) deep d says shown = go (resolve c id) refl
         where
           go : (r : Result (Option (List ℕ)) Reason) → resolve c id ≡ r
-              → TurnDecided (resolved r (λ s. goes (at start c fs ss (Now.Pending (Held.Symbol s) end))))
+              → TurnDecided (resolved r (λ s. goes (at start c fs ss (Stage.Pending (Held.Symbol s) end))))
           go (Ok s) e = tt
           go (Err e) f = λ i. no_symbol ts c (containers fs) id e shown (value_comes g l c front vs pieces t (Id id) fs ss item deep apart d says) f
       ready_decided fs ss (Short x) deep d says shown = flat_decided start end c fs ss (payloads.Str x) (ap (λ y. is_fields (layer_kind y)) (views.outs-Str x))
@@ -175,9 +175,9 @@ module _ (g : Catalog) (l : Limits) (sight : Sight) where
       ready_decided fs ss (Mark' Mark.FieldsOpen) deep d says shown =
           deeper_decided fs _ _ tt (λ k i. struct_too_deep ts c (containers fs) shown
           (value_comes g l c front vs pieces t (Mark' Mark.FieldsOpen) fs ss item deep apart d says) (takes_value fs d.receives) k)
-      ready_decided fs [] (Mark' Mark.ListClose) deep d says shown = items_decided start end c Listing.List fs
+      ready_decided fs [] (Mark' Mark.ListClose) deep d says shown = items_decided start end c ListOrSexp.List fs
       ready_decided fs (s ∷ ss) (Mark' Mark.ListClose) deep d says shown = λ i. absurd i
-      ready_decided fs [] (Mark' Mark.SexpClose) deep d says shown = items_decided start end c Listing.Sexp fs
+      ready_decided fs [] (Mark' Mark.SexpClose) deep d says shown = items_decided start end c ListOrSexp.Sexp fs
       ready_decided fs (s ∷ ss) (Mark' Mark.SexpClose) deep d says shown = λ i. absurd i
       ready_decided fs ss (Mark' _) deep d says shown = λ i. absurd i
       ready_decided fs ss _ deep d says shown = tt
@@ -204,15 +204,15 @@ module _ (g : Catalog) (l : Limits) (sight : Sight) where
       pending_decided fs ss h _ deep d says shown = λ i. absurd i
 
       comma_decided : (fs : List Frame) → TurnDecided (on_comma start c fs)
-      comma_decided (Frame.Items Listing.List ss vs ∷ fs) = tt
+      comma_decided (Frame.Items ListOrSexp.List ss vs ∷ fs) = tt
       comma_decided (Frame.Fields ss ms ∷ fs) = tt
       comma_decided _ = λ i. absurd i
 
       -- behind an element or a field
-      after_decided : (fs : List Frame) (said : Content) → Deep l.depth fs → Opened c fs item false → Says (place_in fs Now.After) t said → Shown sight ts said
+      after_decided : (fs : List Frame) (said : Content) → Deep l.depth fs → Opened c fs item false → Says (place_in fs Stage.After) t said → Shown sight ts said
           → TurnDecided (on_after (under g l) (spot_at end start c) fs said)
       after_decided fs (Mark' Mark.Comma) deep o says shown = comma_decided fs
-      after_decided fs (Mark' Mark.ListClose) deep o says shown = items_decided start end c Listing.List fs
+      after_decided fs (Mark' Mark.ListClose) deep o says shown = items_decided start end c ListOrSexp.List fs
       after_decided (Frame.Fields ss ms ∷ fs) (Mark' Mark.FieldsClose) deep o says shown =
           closed_decided start end ss ms fs item false t deep apart o says shown
       after_decided _ _ deep o says shown = λ i. absurd i
@@ -256,20 +256,20 @@ module _ (g : Catalog) (l : Limits) (sight : Sight) where
       long_decided fs ss v _ = λ i. absurd i
 
     -- What a token is refused for is a row.
-    pub token_decided : (t : Placed) (begin end start : ℕ) (item : List Placed) (fs : List Frame) (ss : Symbols) (said : Content) (now : Now) → Deep l.depth fs
+    pub token_decided : (t : Placed) (begin end start : ℕ) (item : List Placed) (fs : List Frame) (ss : Symbols) (said : Content) (now : Stage) → Deep l.depth fs
         → (ends_long front && begins_as_long item) ≡ false → NowStands c fs ss item now → Says (place_in fs now) t said
         → Shown sight (front ++ (item ++ t ∷ [])) said → TurnDecided (turn_now (under g l) (at start c fs ss now) (token_at begin end said) now)
-    token_decided t begin end start item fs ss said Now.Ready deep apart d says shown =
+    token_decided t begin end start item fs ss said Stage.Ready deep apart d says shown =
         ready_decided t (begun_at start begin fs ss) end item apart fs ss said deep d says shown
-    token_decided t begin end start item fs ss said (Now.Pending h e) deep apart d says shown =
+    token_decided t begin end start item fs ss said (Stage.Pending h e) deep apart d says shown =
         pending_decided t start end item apart fs ss h said deep d (subst (λ p. Says p t said) (pending_at fs h e) says) shown
-    token_decided t begin end start item fs ss said (Now.Long v e) deep apart d says shown = long_decided t start end item apart fs ss v said
-    token_decided t begin end start item fs ss said Now.After deep apart d says shown = after_decided t start end item apart fs said deep d.0 says shown
-    token_decided t begin end start item (Frame.Fields rs ms ∷ fs) ss said Now.Name deep apart d says shown =
+    token_decided t begin end start item fs ss said (Stage.Long v e) deep apart d says shown = long_decided t start end item apart fs ss v said
+    token_decided t begin end start item fs ss said Stage.After deep apart d says shown = after_decided t start end item apart fs said deep d.0 says shown
+    token_decided t begin end start item (Frame.Fields rs ms ∷ fs) ss said Stage.Name deep apart d says shown =
         name_decided t start end item apart rs ms fs said deep d.0 says shown
-    token_decided t begin end start item _ ss said Now.Name deep apart d says shown = absurd d.1
-    token_decided t begin end start item fs ss said (Now.LongName v) deep apart d says shown = long_name_decided t start end item apart fs v said
-    token_decided t begin end start item fs ss said (Now.Keyed x) deep apart d says shown = keyed_decided t start end item apart fs x said
+    token_decided t begin end start item _ ss said Stage.Name deep apart d says shown = absurd d.1
+    token_decided t begin end start item fs ss said (Stage.LongName v) deep apart d says shown = long_name_decided t start end item apart fs v said
+    token_decided t begin end start item fs ss said (Stage.Keyed x) deep apart d says shown = keyed_decided t start end item apart fs x said
 
     -- 3. What waited.
 
@@ -331,10 +331,10 @@ module _ (g : Catalog) (l : Limits) (sight : Sight) where
       released_decided (y ∷ fs) ss h d f = inside_decided start end c y fs _
 
     -- What is refused of what waited is a row.
-    pub settled_decided : (start : ℕ) (item : List Placed) (fs : List Frame) (ss : Symbols) (now : Now) → (ends_long front && begins_as_long item) ≡ false
-        → NowStands c fs ss item now → ((h : Held) (end : ℕ) → now ≡ Now.Pending h end → fs ≡ [] → sight.alone (front ++ item))
+    pub settled_decided : (start : ℕ) (item : List Placed) (fs : List Frame) (ss : Symbols) (now : Stage) → (ends_long front && begins_as_long item) ≡ false
+        → NowStands c fs ss item now → ((h : Held) (end : ℕ) → now ≡ Stage.Pending h end → fs ≡ [] → sight.alone (front ++ item))
         → TurnDecided (settle g l (at start c fs ss now))
-    settled_decided start item fs ss (Now.Pending h end) apart d f = released_decided start end item apart fs ss h d (f h end refl)
-    settled_decided start item fs ss (Now.Long v end) apart d f =
+    settled_decided start item fs ss (Stage.Pending h end) apart d f = released_decided start end item apart fs ss h d (f h end refl)
+    settled_decided start item fs ss (Stage.Long v end) apart d f =
         flat_decided start end c fs ss (payloads.Str v) (ap (λ y. is_fields (layer_kind y)) (views.outs-Str v))
     settled_decided start item fs ss _ apart d f = tt

@@ -3,7 +3,7 @@ use Rattle.std.proofs.Common.{◌≡◌, ◌≢◌, ℕ, Bool, true, false, ◌&
 use Rattle.std.proofs.lemmas.Bool.{cond-true, or_right}
 use Rattle.std.specs.Str.{bytes_eq}
 use Rattle.std.proofs.lemmas.Slice.Eq.{bytes_eq-Decides}
-use Rattle.ion_text.specs.Names.{Annotations, BlankThen, Catalog, Comes, Content, Frame, Held, IsBody, IsScalar, Kind, Layer, LexesTo, Limits, Mark, Means, Now, Payload, Payload-F, Place, Placed, Plain, Reading, Reason, Says, Slot, Symbols, TokenKind, TypedNull, Value, Version, Walk, Word, annotated, at, begins_as_long, begun_at, colon_behind, continues, ended, ends_long, goes, held_word, is_blob, is_clob, is_decimal, is_false, is_int, is_keyword, is_list, is_null, is_operator, is_short, is_struct, is_symbol, is_table, is_timestamp, is_true, is_typed_null, is_version, long_string, means, next, none_open, on_ready, on_turn, one_token, place, reads, said, said_body, settle, spot_at, stopped, the_marker, token_of, turned, under}
+use Rattle.ion_text.specs.Names.{Annotations, BlankThen, Catalog, Comes, Content, Frame, Held, IsBody, IsScalar, Kind, Layer, LexesTo, Limits, Mark, Means, Payload, Payload-F, Place, Placed, Plain, Reading, Reason, Says, Slot, Stage, Symbols, TokenKind, TypedNull, Value, Version, Walk, Word, annotated, at, begins_as_long, begun_at, colon_behind, continues, ended, ends_long, goes, held_word, is_blob, is_clob, is_decimal, is_false, is_int, is_keyword, is_list, is_null, is_operator, is_short, is_struct, is_symbol, is_table, is_timestamp, is_true, is_typed_null, is_version, long_string, means, next, none_open, on_ready, on_turn, one_token, place, reads, said, said_body, settle, spot_at, stopped, the_marker, token_of, turned, under}
 use Rattle.ion_model.specs.declared.value.Payload.TheVariants as payloads
 use Rattle.ion_model.specs.declared.value.Payload.TheViews as views
 use Rattle.ion_text.specs.Deciding.{Ends}
@@ -65,8 +65,8 @@ pub record Pends (g : Catalog) (l : Limits) (ts : List Placed) (e : Reason) : Ty
   pub notes : Symbols
   pub held : Held
   pub values : List Value
-  pub read : reads g l (origin g l) ts ≡ walked values (at start context [] notes (Now.Pending held end))
-  pub why : Refusing e (settle g l (at start context [] notes (Now.Pending held end)))
+  pub read : reads g l (origin g l) ts ≡ walked values (at start context [] notes (Stage.Pending held end))
+  pub why : Refusing e (settle g l (at start context [] notes (Stage.Pending held end)))
 
 -- `::` behind tokens
 pub colons_shown : (u : List ℕ) (ws : List Placed) (x : Placed) (ys : List Placed) (colon after : Bool) (end k : ℕ) (rest left : List ℕ)
@@ -82,7 +82,7 @@ colons_shown u ws x ys colon after end k rest left here lexes kind =
 module _ (g : Catalog) (l : Limits) (ws : List Placed) (reason : Reason) (p : Pends g l ws reason) where
   -- the reader of tokens that waits for `::` behind these tokens
   abbrev pub pend : Reading
-  pend = at p.start p.context [] p.notes (Now.Pending p.held p.end)
+  pend = at p.start p.context [] p.notes (Stage.Pending p.held p.end)
 
   -- where what waits is settled without `::`, no token is read behind it
   pub settling_stops : (f : Reading → Walk) → on_turn (settle g l pend) f ≡ stopped
@@ -112,8 +112,8 @@ module _ (g : Catalog) (l : Limits) where
   module _ (c : List Slot) (said : Content) (ts : List Placed) (h : Comes g l c [] said ts) (ends : EndSaid said) (symbol : symbol_said said ≡ true)
       (apart : JoinsNothing said) (word : Held)
       (waits : (start end : ℕ) → on_ready (under g l) (spot_at end start c) (f g l c [] said ts h).held h.symbols said
-      ≡ goes (at start c (f g l c [] said ts h).held h.symbols (Now.Pending word end)))
-      (reason : Reason) (refused : (start end : ℕ) → Refusing reason (settle g l (at start c [] h.symbols (Now.Pending word end)))) where
+      ≡ goes (at start c (f g l c [] said ts h).held h.symbols (Stage.Pending word end)))
+      (reason : Reason) (refused : (start end : ℕ) → Refusing reason (settle g l (at start c [] h.symbols (Stage.Pending word end)))) where
     held_pends : Pends g l ts reason
     held_pends =
         let front = before g l c [] said ts h in
@@ -136,7 +136,7 @@ module _ (g : Catalog) (l : Limits) where
           notes = h.symbols;
           held = word;
           values = h.values ++ [];
-          read = ap (reads g l (origin g l)) is ∙ (x.1 ∙ ap (λ fs. walked (h.values ++ []) (at start c fs h.symbols (Now.Pending word end)))
+          read = ap (reads g l (origin g l)) is ∙ (x.1 ∙ ap (λ fs. walked (h.values ++ []) (at start c fs h.symbols (Stage.Pending word end)))
               (no_frames held (f g l c [] said ts h).same));
           why = refused start end;
         }
@@ -147,9 +147,9 @@ module _ (g : Catalog) (l : Limits) where
   version_pends ts c w h bare version other =
       held_pends c (Word w) ts h (or_right (is_keyword w) (is_version w) version) refl (word_apart w) (held_word w) (λ start end. refl)
       Version
-      (λ start end. subst (λ ss. Refusing Version (settle g l (at start c [] ss (Now.Pending (held_word w) end))))
+      (λ start end. subst (λ ss. Refusing Version (settle g l (at start c [] ss (Stage.Pending (held_word w) end))))
       (sym (no_notes c Place.Top h.notes h.symbols h.noted (sym bare)))
-      (subst (λ x. Refusing Version (settle g l (at start c [] [] (Now.Pending x end)))) (sym (version_held w version other)) refl))
+      (subst (λ x. Refusing Version (settle g l (at start c [] [] (Stage.Pending x end)))) (sym (version_held w version other)) refl))
 
   abbrev has_null : Layer → Bool
   has_null (Payload-F.Null k) = true
@@ -167,9 +167,9 @@ module _ (g : Catalog) (l : Limits) where
       other q e n = never (has_null (views.out-Payload q)) n (ap (λ x. has_null (views.out-Payload x)) e ∙ ap has_null (views.outs-Null k))
 
       refused : (rs : Symbols) (kind : Kind) → annotated rs (payloads.Null kind) ≡ v → (start end : ℕ)
-          → Refusing e (settle g l (at start c [] rs (Now.Pending (Held.Null kind) end)))
+          → Refusing e (settle g l (at start c [] rs (Stage.Pending (Held.Null kind) end)))
       refused rs kind is start end =
-          refusing_is e (settle g l (at start c [] rs (Now.Pending (Held.Null kind) end)))
+          refusing_is e (settle g l (at start c [] rs (Stage.Pending (Held.Null kind) end)))
           (released_paid g l end start c [] rs (Held.Null kind) (λ i j. refl)
           ∙ (ap (λ x. ended (under g l) (spot_at end start c) [] x) is ∙ (cond-true _ _ _ table ∙ ap (turned l.item start end) fails)))
 

@@ -3,7 +3,7 @@ use Rattle.std.proofs.Common.{◌≡◌, ℕ, zero, suc, ◌+◌, nat_lt, List, 
 use Rattle.std.specs.Prelude.{◌==◌}
 use Rattle.ion_text.specs.laws.reading.Effects.{noticed_each, said_each}
 use Rattle.std.proofs.lemmas.Bool.{cond_both}
-use Rattle.ion_text.specs.Names.{HasRow, Catalog, Content, Effect, End, Frame, Given, IsBody, IsWordBody, Keep, Kind, Known, Left, Lexeme, Limits, Mode, Next, Now, Outcome, Place, Reading, ReadsNumber, Reason, Refusal, Refused, Run, Spot, State, Token, TokenKind, Turn, Value, at_end, begun, behind_given, behind_left, cut_short, eats, end_late, end_now, end_of, end_ready, end_said, end_settled, end_turned, end_waiting, ends_at, ends_of, fails, feed, follow, gives, goes, id_of, is_fresh, is_sexp, kind_named, late, leaves, lesser, noticed, null_of, on_scan, on_settled, once_more, or_worse, place, reason_number, refused_of, refuses, run, run_on, said, says, settle, takes, tells, token_of, trace, turn, under, unsettled, uses, with_scan}
+use Rattle.ion_text.specs.Names.{HasRow, Catalog, Content, Effect, End, Frame, Given, IsBody, IsWordBody, Keep, Kind, Known, Left, Lexeme, Limits, Mode, Next, Stage, Outcome, Place, Reading, ReadsNumber, Reason, Refusal, Refused, Run, Spot, State, Token, TokenKind, Turn, Value, at_end, begun, behind_given, behind_left, cut_short, eats, end_late, end_now, end_of, end_ready, end_said, end_settled, end_turned, end_waiting, ends_at, ends_of, fails, feed, follow, gives, goes, id_of, is_fresh, is_sexp, kind_named, late, leaves, lesser, noticed, null_of, on_scan, on_settled, once_more, or_worse, place, reason_number, refused_of, refuses, run, run_on, said, says, settle, takes, tells, token_of, trace, turn, under, unsettled, uses, with_scan}
 use Rattle.ion_tokens.proofs.bounds.Causes.{IsFair, run_fair}
 use Rattle.ion_tokens.proofs.bounds.Fits.{is_octet_reason}
 use Rattle.ion_symtab.specs.Decided.{IsDecided}
@@ -70,7 +70,7 @@ module _ (g : Catalog) (l : Limits) where
   turn_decides : (r : Reading) (t : Token) → TurnDecides (turn g l r t)
   turn_decides r t = by r.frames r.now _ (now_way g l t.start t.end r.start r.context r.frames r.notes t.said r.now)
     where
-      by : (fs : List Frame) (now : Now) (x : Turn) → TokenWay g l t.start t.end r.start r.context t.said r.notes fs now x → TurnDecides x
+      by : (fs : List Frame) (now : Stage) (x : Turn) → TokenWay g l t.start t.end r.start r.context t.said r.notes fs now x → TurnDecides x
       by _ _ _ (token_refused fs now e d) = d
       by _ _ _ (token_unnoted fs h e x i d) = d
       by _ _ _ (token_value fs q x none flat way) = value_decides _ _ fs x way
@@ -82,7 +82,7 @@ module _ (g : Catalog) (l : Limits) where
   settle_decides : (r : Reading) → TurnDecides (settle g l r)
   settle_decides r = by r.frames r.now _ (settled_way g l r.start r.context r.frames r.notes r.now)
     where
-      by : (fs : List Frame) (now : Now) (x : Turn) → SettledWay g l r.start r.context r.notes fs now x → TurnDecides x
+      by : (fs : List Frame) (now : Stage) (x : Turn) → SettledWay g l r.start r.context r.notes fs now x → TurnDecides x
       by _ _ _ (settled_refused fs now e d) = d
       by _ _ _ (settled_held fs h end q x flat way) = value_decides _ _ fs x way
       by _ _ _ (settled_text fs w end x way) = value_decides _ _ fs x way
@@ -246,10 +246,10 @@ module _ (g : Catalog) (l : Limits) where
   ready_ends used r (Ok (Some x)) h = said_ends used r x (said x.kind x.octets) (λ e i. (said_lexical x.kind x.octets e i).0)
   ready_ends used r (Err e) h = h
 
-  ends_decide : (used : ℕ) (r : Reading) (x : Result (Option Lexeme) Reason) (n : Now) → EndsWell x → AnswersAtEnd (end_now g l used r x n)
-  ends_decide used r x (Now.Pending h e) w = waiting_ends used x (settle g l r) (settle_decides r)
-  ends_decide used r x (Now.Long v e) w = waiting_ends used x (settle g l r) (settle_decides r)
-  ends_decide used r x (Now.LongName v) w = inr refl
+  ends_decide : (used : ℕ) (r : Reading) (x : Result (Option Lexeme) Reason) (n : Stage) → EndsWell x → AnswersAtEnd (end_now g l used r x n)
+  ends_decide used r x (Stage.Pending h e) w = waiting_ends used x (settle g l r) (settle_decides r)
+  ends_decide used r x (Stage.Long v e) w = waiting_ends used x (settle g l r) (settle_decides r)
+  ends_decide used r x (Stage.LongName v) w = inr refl
   ends_decide used r x _ w = ready_ends used r x w
 
   of_now : (now : Result State Refusal) → NowDecides now → AnswersAtEnd (ends_of g l now)

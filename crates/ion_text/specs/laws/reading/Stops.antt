@@ -1,7 +1,7 @@
 -- Where a run is refused, and what the refusal says.
 use Rattle.std.proofs.Common.{◌≡◌, ℕ, ◌+◌, ◌≤◌, List, [], ◌∷◌, ◌++◌, length, take, Bool, true, false, Result, Ok, Err, Option, Some, None, refl, ap, sym, ◌∙◌, subst, arith, append_assoc, append-nil, length-append, if◌then◌else◌}
 use Rattle.std.proofs.Math.Seq.{take-append-add}
-use Rattle.ion_text.specs.Names.{BeginsNone, Catalog, Content, Document, Effect, GivesNoTable, IsFirst, Lexeme, Limits, NoTables, Now, Reading, Reason, Refusal, Run, State, Turn, Value, at_end, begun, cut_short, eats, end_late, end_now, end_ready, end_said, end_settled, end_turned, end_waiting, ends_of, fails, goes, grows, is_fresh, is_table, late, leaves, on_now, once_more, place, plain, refused_of, run, run-append, run_on, said, settle, token_of, trace, turn}
+use Rattle.ion_text.specs.Names.{BeginsNone, Catalog, Content, Document, Effect, GivesNoTable, IsFirst, Lexeme, Limits, NoTables, Reading, Reason, Refusal, Run, Stage, State, Turn, Value, at_end, begun, cut_short, eats, end_late, end_now, end_ready, end_said, end_settled, end_turned, end_waiting, ends_of, fails, goes, grows, is_fresh, is_table, late, leaves, on_now, once_more, place, plain, refused_of, run, run-append, run_on, said, settle, token_of, trace, turn}
 use Rattle.ion_tokens.proofs.histories.Ended.{stands_used}
 use Rattle.ion_tokens.proofs.runs.Runs.{next_used}
 use Rattle.ion_symtab.specs.laws.Promises.{first_refused}
@@ -156,10 +156,10 @@ module _ (g : Catalog) (l : Limits) where
   ready_offset used n (Ok (Some x)) r h = said_offset used n x (said x.kind x.octets) r h
   ready_offset used n (Err y) r h = cc
 
-  now_offset : (used : ℕ) (n : Reading) (x : Result (Option Lexeme) Reason) (now : Now) (r : Refusal) → end_now g l used n x now ≡ Err r → r.offset ≡ used
-  now_offset used n x (Now.Pending k e) r h = waiting_offset used x (settle g l n) r h
-  now_offset used n x (Now.Long w e) r h = waiting_offset used x (settle g l n) r h
-  now_offset used n x (Now.LongName w) r h = cc
+  now_offset : (used : ℕ) (n : Reading) (x : Result (Option Lexeme) Reason) (now : Stage) (r : Refusal) → end_now g l used n x now ≡ Err r → r.offset ≡ used
+  now_offset used n x (Stage.Pending k e) r h = waiting_offset used x (settle g l n) r h
+  now_offset used n x (Stage.Long w e) r h = waiting_offset used x (settle g l n) r h
+  now_offset used n x (Stage.LongName w) r h = cc
   now_offset used n x _ r h = ready_offset used n x r h
 
   unfinished_now : (u : List ℕ) (given : List (Value × ℕ)) (now : Result State Refusal) (r : Refusal)

@@ -17,14 +17,14 @@ loop-i-preserved g c = record {
   i = search rules;
   ran = λ fs h.
       let s = c.loop-i.self in
-      let new = c.take_up.new.self in
+      let new = c.read_piece.new.self in
       let piece = c.args.piece.now in
       let before = c.loop-i.invariant.ran fs h in
       let k = c.in-Ok-default-Goes.count in
-      led_on_more g.V.Visitor.takes c.args.self.now fs piece c.loop-i.i s c.args.visitor.now c.loop-i.visitor c.take_up.new.visitor
+      led_on_more g.V.Visitor.takes c.args.self.now fs piece c.loop-i.i s c.args.visitor.now c.loop-i.visitor c.read_piece.new.visitor
       c.loop-i.invariant.setting.catalog c.loop-i.invariant.setting.limits c.loop-i.invariant.used before new k
       (subst (λ (e : Effect). Took g.V.Visitor.takes (told before.frames) s.used (run_of s before.frames) (take (length piece - c.loop-i.i) (drop c.loop-i.i piece))
-      (Ok (k, e)) new c.loop-i.visitor c.take_up.new.visitor) c.in-Ok-default-Goes.field-0-1-is
+      (Ok (k, e)) new c.loop-i.visitor c.read_piece.new.visitor) c.in-Ok-default-Goes.field-0-1-is
       (c.in-Ok-default-Goes.ensures.does before.frames before.went.holds));
   used = omega (arith, c.in-Ok-default-Goes.ensures.used);
   setting = search rules;
@@ -33,22 +33,22 @@ loop-i-preserved g c = record {
 pub returns-in-Ok-default-Gives-clause-does : goal.returns-in-Ok-default-Gives-clause-does
 returns-in-Ok-default-Gives-clause-does g c = λ fs h.
     let s = c.loop-i.self in
-    let new = c.take_up.new.self in
+    let new = c.read_piece.new.self in
     let piece = c.args.piece.now in
     let before = c.loop-i.invariant.ran fs h in
     let k = c.in-Ok-default-Gives.count in
-    led_on_gives g.V.Visitor.takes c.args.self.now fs piece c.loop-i.i s c.args.visitor.now c.loop-i.visitor c.take_up.new.visitor
+    led_on_gives g.V.Visitor.takes c.args.self.now fs piece c.loop-i.i s c.args.visitor.now c.loop-i.visitor c.read_piece.new.visitor
     c.loop-i.invariant.setting.catalog c.loop-i.invariant.setting.limits c.loop-i.invariant.used before new k
     (subst (λ (e : Effect). Took g.V.Visitor.takes (told before.frames) s.used (run_of s before.frames) (take (length piece - c.loop-i.i) (drop c.loop-i.i piece))
-    (Ok (k, e)) new c.loop-i.visitor c.take_up.new.visitor) c.in-Ok-default-Gives.field-0-1-is
+    (Ok (k, e)) new c.loop-i.visitor c.read_piece.new.visitor) c.in-Ok-default-Gives.field-0-1-is
     (c.in-Ok-default-Gives.ensures.does before.frames before.went.holds))
 
 pub returns-in-Err-clause-does : goal.returns-in-Err-clause-does
 returns-in-Err-clause-does g c = λ fs h.
     let s = c.loop-i.self in
     let before = c.loop-i.invariant.ran fs h in
-    led_on_refused g.V.Visitor.takes c.args.self.now fs c.args.piece.now c.loop-i.i s c.args.visitor.now c.loop-i.visitor c.take_up.new.visitor
-    c.loop-i.invariant.setting.catalog c.loop-i.invariant.setting.limits c.loop-i.invariant.used before c.take_up.new.self c.in-Err.reason
+    led_on_refused g.V.Visitor.takes c.args.self.now fs c.args.piece.now c.loop-i.i s c.args.visitor.now c.loop-i.visitor c.read_piece.new.visitor
+    c.loop-i.invariant.setting.catalog c.loop-i.invariant.setting.limits c.loop-i.invariant.used before c.read_piece.new.self c.in-Err.reason
     c.loop-i.invariant.i (c.in-Err.ensures.does before.frames before.went.holds)
 
 pub returns-clause-does : goal.returns-clause-does

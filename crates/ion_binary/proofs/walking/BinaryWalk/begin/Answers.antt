@@ -16,12 +16,12 @@ returns-in-Scalar-clause-does g c = λ fs h may.
     (ap (λ f. begin (setting_of r) (spot_of r) fs f c.args.size) c.in-Scalar.is)
     (c.begin_scalar.ensures.does fs h (subst (λ (f : Form). MayBegin f fs) c.in-Scalar.is may))
 
-pub returns-in-Listing-clause-does : goal.returns-in-Listing-clause-does
-returns-in-Listing-clause-does g c = λ fs h may.
+pub returns-in-ListOrSexp-clause-does : goal.returns-in-ListOrSexp-clause-does
+returns-in-ListOrSexp-clause-does g c = λ fs h may.
     let r = c.args.self.now in
     does_same g.V.Visitor.takes (told fs) _ _ c.begin_listing.result c.begin_listing.new.self c.args.visitor.now c.begin_listing.new.visitor
-    (ap (λ f. begin (setting_of r) (spot_of r) fs f c.args.size) c.in-Listing.is)
-    (c.begin_listing.ensures.does fs h (subst (λ (f : Form). MayBegin f fs) c.in-Listing.is may))
+    (ap (λ f. begin (setting_of r) (spot_of r) fs f c.args.size) c.in-ListOrSexp.is)
+    (c.begin_listing.ensures.does fs h (subst (λ (f : Form). MayBegin f fs) c.in-ListOrSexp.is may))
 
 pub returns-in-Wrapper-clause-does : goal.returns-in-Wrapper-clause-does
 returns-in-Wrapper-clause-does g c = λ fs h may.

@@ -1,7 +1,7 @@
 -- A value or a pad that ends, and each container that ends with it, stands for its octets.
 use Rattle.std.proofs.Common.{◌≡◌, ℕ, ◌+◌, ◌≤◌, List, [], ◌∷◌, ◌++◌, length, Result, Ok, Err, Some, None, refl, ap, sym, ◌∙◌, subst, arith, length-append, true, append_assoc, append-nil, eqb-true, ◌==◌}
 use Rattle.std.proofs.lemmas.Bool.{cond_both, eqb-false}
-use Rattle.ion_binary.specs.Names.{Binary, Catalog, Field, Fields, Form, Frame, Header, IsPad, Limits, Listing, Payload, Pieces, Plain, Reason, Slot, Spot, Value, annotated, bad_table, bare, deliver, depth, field_of, holds, is_listing, is_ordered, is_struct, is_table, levels, listed, nameless, next, none, one_field, one_more, padded, padded_field, proceed, skips, turned, turns, unannotated, under, wrapped}
+use Rattle.ion_binary.specs.Names.{Binary, Catalog, Field, Fields, Form, Frame, Header, IsPad, Limits, ListOrSexp, Payload, Pieces, Plain, Reason, Slot, Spot, Value, annotated, bad_table, bare, deliver, depth, field_of, holds, is_listing, is_ordered, is_struct, is_table, levels, listed, nameless, next, none, one_field, one_more, padded, padded_field, proceed, skips, turned, turns, unannotated, under, wrapped}
 use Rattle.ion_model.specs.declared.value.Payload.TheVariants as payloads
 use Rattle.ion_model.specs.laws.Measures.{deepest-more, depth-out}
 use Rattle.ion_binary.specs.machine.Frames as frames
@@ -55,7 +55,7 @@ module _ (g : Catalog) (l : Limits) where
       → Leaves g l (u ++ w) s (deliver (under g l) spot fs v)
 
   -- a list or s-expression goes on, or ends here
-  pub items_stand : (spot : Spot) (s : List Value) (fs : List Frame) (u : List ℕ) (end : ℕ) (x : Listing) (vs : List Value) → Adds spot s fs
+  pub items_stand : (spot : Spot) (s : List Value) (fs : List Frame) (u : List ℕ) (end : ℕ) (x : ListOrSexp) (vs : List Value) → Adds spot s fs
       → Opened g l spot.start spot.context s (frames.Items end x vs ∷ fs) u → spot.used ≡ length u
       → Leaves g l u s (proceed (under g l) spot (frames.Items end x vs ∷ fs))
   items_stand spot s fs u end x vs k o e =
@@ -72,10 +72,10 @@ module _ (g : Catalog) (l : Limits) where
       o.whole ∙ (ap (λ y. y ++ o.body) o.box.whole ∙ append_assoc o.box.before o.box.header o.body) in
       subst (λ y. Leaves g l y s (deliver (under g l) spot fs (bare (listed x vs)))) (sym outside)
       (k o.box.before (o.box.header ++ o.body) (bare (listed x vs)) o.box.outer
-      (plain_comes spot.context fs _ _ (is_listing o.box.header o.body x vs (subst (λ n. Header (Form.Listing x) n o.box.header) full o.box.head) o.items))
-      (e ∙ ap length outside) (omega arith) (ends_back l spot.start fs (Form.Listing x) spot.used refl
-      (subst (BodyMayEnd l spot.start fs (Form.Listing x)) (sym here) o.box.room)) o.box.admits.receives
-      (named_struct fs (Form.Listing x) refl o.box.admits.named)))
+      (plain_comes spot.context fs _ _ (is_listing o.box.header o.body x vs (subst (λ n. Header (Form.ListOrSexp x) n o.box.header) full o.box.head) o.items))
+      (e ∙ ap length outside) (omega arith) (ends_back l spot.start fs (Form.ListOrSexp x) spot.used refl
+      (subst (BodyMayEnd l spot.start fs (Form.ListOrSexp x)) (sym here) o.box.room)) o.box.admits.receives
+      (named_struct fs (Form.ListOrSexp x) refl o.box.admits.named)))
       (λ h. let apart = eqb-false spot.used end h in let in_it = o.within in
       record { used = e; standing = record { opened = o; receives = tt; more = omega arith } })
 

@@ -99,14 +99,14 @@ module _ (g : Catalog) (l : Limits) where
           room = r;
         };
       })
-  begin_stands spot s fs u h (Form.Listing x) n o a d e r ad hr h0 = cond_both (nat_lt (levels fs) l.depth) _ _ (Leaves g l (u ++ h) s)
+  begin_stands spot s fs u h (Form.ListOrSexp x) n o a d e r ad hr h0 = cond_both (nat_lt (levels fs) l.depth) _ _ (Leaves g l (u ++ h) s)
       (λ j. let deep = ltb-true (levels fs) l.depth j in
       items_stand g l spot s fs _ _ x [] (deliver_stands g l spot s fs)
       (record {
         front = u ++ h;
         body = [];
         whole = sym (append-nil (u ++ h));
-        box = boxed spot.start spot.context s fs u h (Form.Listing x) n (spot.used + n) o d (omega arith) r ad;
+        box = boxed spot.start spot.context s fs u h (Form.ListOrSexp x) n (spot.used + n) o d (omega arith) r ad;
         items = nothing;
         deep = omega arith;
         within = omega arith;

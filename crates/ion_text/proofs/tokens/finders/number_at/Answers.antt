@@ -1,6 +1,6 @@
 use Rattle.std.proofs.Common.{◌≡◌, Ok, take}
 use Rattle.ion_text.specs.Names.{number_read, number_reads}
-use Rattle.ion_text.proofs.Arms.{number_says}
+use Rattle.ion_text.proofs.TokenSteps.{number_says}
 use Rattle.ion_text.proofs.tokens.finders.number_at.Goals as goal
 
 pub returns-clause-found : goal.returns-clause-found

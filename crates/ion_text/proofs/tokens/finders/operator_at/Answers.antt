@@ -1,7 +1,7 @@
 use Rattle.std.proofs.Common.{rules, ◌≡◌, take, ap, sym, subst, refl, true, Some}
 use Rattle.ion_text.specs.Names.{IsFound, Operator, Place, TokenKind}
 use Rattle.ion_model.specs.declared.value.Payload.TheVariants as payloads
-use Rattle.ion_text.proofs.Arms.{operator_says}
+use Rattle.ion_text.proofs.TokenSteps.{operator_says}
 use Rattle.ion_text.proofs.tokens.finders.operator_at.Goals as goal
 
 pub returns-clause-found : goal.returns-clause-found

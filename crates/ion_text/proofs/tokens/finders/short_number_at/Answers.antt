@@ -1,7 +1,7 @@
 use Rattle.std.proofs.Common.{Ok, take}
 use Rattle.ion_text.specs.Names.{number_read, number_reads}
 use Rattle.ion_scalar.specs.text.laws.OneNumber.{one_answer}
-use Rattle.ion_text.proofs.Arms.{number_says}
+use Rattle.ion_text.proofs.TokenSteps.{number_says}
 use Rattle.ion_text.proofs.tokens.finders.short_number_at.Goals as goal
 
 pub returns-clause-found : goal.returns-clause-found

@@ -2,7 +2,7 @@ use Rattle.std.proofs.Common.{◌-◌, ◌∙◌, take, drop, ap, sym, refl}
 use Rattle.std.proofs.lemmas.List.{take_rest}
 use Rattle.ion_text.specs.Names.{Short}
 use Rattle.ion_model.specs.declared.value.Payload.TheVariants as payloads
-use Rattle.ion_text.proofs.Arms.{short_says}
+use Rattle.ion_text.proofs.TokenSteps.{short_says}
 use Rattle.ion_text.proofs.tokens.finders.string_at.Goals as goal
 
 pub returns-clause-found : goal.returns-clause-found

@@ -1,6 +1,6 @@
 use Rattle.std.proofs.Common.{◌≡◌, ◌≢◌, ◌∙◌, Ok, ap, sym, arith, take, get_or, refl}
 use Rattle.ion_text.specs.Names.{Word, held_payload, held_word, payload_of}
-use Rattle.ion_text.proofs.Arms.{first_of}
+use Rattle.ion_text.proofs.TokenSteps.{first_of}
 use Rattle.ion_text.proofs.Symbols.{word_said}
 use Rattle.ion_text.proofs.Walks.{word_unmarked}
 use Rattle.ion_text.proofs.tokens.finders.word_at.Goals as goal

@@ -1,6 +1,6 @@
 use Rattle.std.proofs.Common.{◌≡◌, ◌-◌, ◌++◌, ◌∙◌, take, drop, ap}
 use Rattle.std.proofs.lemmas.List.{take_rest}
-use Rattle.ion_text.proofs.Arms.{long_says}
+use Rattle.ion_text.proofs.TokenSteps.{long_says}
 use Rattle.ion_text.proofs.tokens.long_strings.plain_segment.Goals as goal
 
 pub returns-clause-found : goal.returns-clause-found

@@ -4,8 +4,8 @@ use Rattle.ion_text.proofs.Octets.{one_left, one_used}
 use Rattle.ion_text.proofs.Taking.{again_octet, err_octet, goes_on_octet, late_octet, leaves_octet, settles_err, settles_gives, settles_goes, settles_late, tells_octet, uses_octet}
 use Rattle.ion_text.proofs.walk.TextWalk.+octet.Goals as goal
 
-pub scan_octet-take_octet-requires : goal.scan_octet-take_octet-requires
-scan_octet-take_octet-requires g t c =
+pub scan_octet-read_octet-requires : goal.scan_octet-read_octet-requires
+scan_octet-read_octet-requires g t c =
     let r = c.args.self.now in
     let mid = c.meet.new.self in
     let m = c.in-Ok-default-Again.ensures.behind c.requires.fine in
@@ -18,8 +18,8 @@ scan_octet-take_octet-requires g t c =
     let room : (scanned mid.scanner).used + 1 < 2 ^ 63 = omega arith in
     search rules
 
-pub scan_octet-take_octet-again-requires : goal.scan_octet-take_octet-again-requires
-scan_octet-take_octet-again-requires g t c =
+pub scan_octet-read_octet-again-requires : goal.scan_octet-read_octet-again-requires
+scan_octet-read_octet-again-requires g t c =
     let r = c.args.self.now in
     let mid = c.meet.new.self in
     let m = c.in-Ok-default-Late.ensures.behind c.requires.fine in
@@ -81,7 +81,7 @@ scan_octet-returns-in-Ok-default-Again-clause-did g t c = λ fs ss h.
     again_octet g.V.Visitor.takes r.catalog.now r.limits c.args.tokens c.args.octet (told fs ss) (reading_of r fs ss) c.args.place (scanned r.scanner)
     c.in-Ok-default-Again.field-0-1 c.meet.new.self c.args.visitor.now c.meet.new.visitor (c.in-Ok-default-Again.ensures.met c.requires.fine fs ss h)
     (ap (λ (b : _). b.now) c.in-Ok-default-Again.ensures.same.catalog) c.in-Ok-default-Again.ensures.same.limits
-    c.take_octet.result c.take_octet.new.self c.take_octet.new.visitor c.take_octet.ensures.did c.in-Ok-default-Again.field-0-1-is
+    c.read_octet.result c.read_octet.new.self c.read_octet.new.visitor c.read_octet.ensures.did c.in-Ok-default-Again.field-0-1-is
 
 pub scan_octet-returns-in-Ok-default-Again-clause-used : goal.scan_octet-returns-in-Ok-default-Again-clause-used
 scan_octet-returns-in-Ok-default-Again-clause-used g t c =
@@ -89,7 +89,7 @@ scan_octet-returns-in-Ok-default-Again-clause-used g t c =
     let m = c.in-Ok-default-Again.ensures.behind c.requires.fine in
     let same = one_left c.args.place (scanned r.scanner) c.args.octet c.in-Ok-default-Again.field-0-1 (scanned c.meet.new.self.scanner) m.0 m.1
     (ap comes_again c.in-Ok-default-Again.field-0-1-is) in
-    subst (λ (n : ℕ). IfOk c.take_octet.result (λ taken. c.take_octet.new.self.scanner.machine.used ≡ n + count_of taken)) same c.take_octet.ensures.used
+    subst (λ (n : ℕ). IfOk c.read_octet.result (λ taken. c.read_octet.new.self.scanner.machine.used ≡ n + count_of taken)) same c.read_octet.ensures.used
 
 pub scan_octet-returns-in-Ok-default-Late-clause-did : goal.scan_octet-returns-in-Ok-default-Late-clause-did
 scan_octet-returns-in-Ok-default-Late-clause-did g t c = λ fs ss h.
@@ -97,25 +97,25 @@ scan_octet-returns-in-Ok-default-Late-clause-did g t c = λ fs ss h.
     late_octet g.V.Visitor.takes r.catalog.now r.limits c.args.tokens c.args.octet (told fs ss) (reading_of r fs ss) c.args.place (scanned r.scanner)
     c.in-Ok-default-Late.field-0-1 c.meet.new.self c.args.visitor.now c.meet.new.visitor (c.in-Ok-default-Late.ensures.met c.requires.fine fs ss h)
     (ap (λ (b : _). b.now) c.in-Ok-default-Late.ensures.same.catalog) c.in-Ok-default-Late.ensures.same.limits
-    c.take_octet-again.result c.take_octet-again.new.self c.take_octet-again.new.visitor c.take_octet-again.ensures.did c.in-Ok-default-Late.reason
+    c.read_octet-again.result c.read_octet-again.new.self c.read_octet-again.new.visitor c.read_octet-again.ensures.did c.in-Ok-default-Late.reason
     c.worse.result c.in-Ok-default-Late.field-0-1-is c.worse.ensures
 
-pub take_octet-returns-then-goes_on-clause-did : goal.take_octet-returns-then-goes_on-clause-did
-take_octet-returns-then-goes_on-clause-did g t c = λ fs ss h.
+pub read_octet-returns-then-goes_on-clause-did : goal.read_octet-returns-then-goes_on-clause-did
+read_octet-returns-then-goes_on-clause-did g t c = λ fs ss h.
     let r = c.args.self.now in
     goes_on_octet g.V.Visitor.takes r.catalog.now r.limits c.args.tokens c.args.octet (told fs ss) (state_of r fs ss) c.place-place.result
     (c.place-place.ensures fs ss h) (omega arith) c.scan_octet.result c.scan_octet.new.self c.args.visitor.now c.scan_octet.new.visitor
     (sym (c.goes_on.ensures fs ss h) ∙ c.if-goes_on.true) (c.scan_octet.ensures.did fs ss h)
 
-pub take_octet-returns-in-Err-clause-did : goal.take_octet-returns-in-Err-clause-did
-take_octet-returns-in-Err-clause-did g t c = λ fs ss h.
+pub read_octet-returns-in-Err-clause-did : goal.read_octet-returns-in-Err-clause-did
+read_octet-returns-in-Err-clause-did g t c = λ fs ss h.
     let r = c.args.self.now in
     settles_err g.V.Visitor.takes r.catalog.now r.limits c.args.tokens c.args.octet (told fs ss) (state_of r fs ss) c.place-place.result
     (c.place-place.ensures fs ss h) (omega arith) (sym (c.goes_on.ensures fs ss h) ∙ c.if-goes_on.false) c.in-Err.reason c.settle.new.self c.settle.new.self
     c.args.visitor.now c.settle.new.visitor (c.in-Err.ensures.does fs ss h)
 
-pub take_octet-returns-in-Ok-Goes-clause-did : goal.take_octet-returns-in-Ok-Goes-clause-did
-take_octet-returns-in-Ok-Goes-clause-did g t c = λ fs ss h.
+pub read_octet-returns-in-Ok-Goes-clause-did : goal.read_octet-returns-in-Ok-Goes-clause-did
+read_octet-returns-in-Ok-Goes-clause-did g t c = λ fs ss h.
     let r = c.args.self.now in
     let mid = c.settle.new.self in
     let same = c.in-Ok-Goes.ensures.setting in
@@ -126,8 +126,8 @@ take_octet-returns-in-Ok-Goes-clause-did g t c = λ fs ss h.
     (subst (λ (e : Effect). Does g.V.Visitor.takes (told fs ss) (settle r.catalog.now r.limits (reading_of r fs ss)) (Ok e) mid c.args.visitor.now
     c.settle.new.visitor) c.in-Ok-Goes.field-0-is (c.in-Ok-Goes.ensures.does fs ss h))
 
-pub take_octet-returns-in-Ok-Gives-clause-did : goal.take_octet-returns-in-Ok-Gives-clause-did
-take_octet-returns-in-Ok-Gives-clause-did g t c = λ fs ss h.
+pub read_octet-returns-in-Ok-Gives-clause-did : goal.read_octet-returns-in-Ok-Gives-clause-did
+read_octet-returns-in-Ok-Gives-clause-did g t c = λ fs ss h.
     let r = c.args.self.now in
     let mid = c.settle.new.self in
     settles_gives g.V.Visitor.takes r.catalog.now r.limits c.args.tokens c.args.octet (told fs ss) (state_of r fs ss) c.place-place.result
@@ -136,8 +136,8 @@ take_octet-returns-in-Ok-Gives-clause-did g t c = λ fs ss h.
     (subst (λ (e : Effect). Does g.V.Visitor.takes (told fs ss) (settle r.catalog.now r.limits (reading_of r fs ss)) (Ok e) mid c.args.visitor.now
     c.settle.new.visitor) c.in-Ok-Gives.field-0-is (c.in-Ok-Gives.ensures.does fs ss h))
 
-pub take_octet-returns-in-Ok-Late-clause-did : goal.take_octet-returns-in-Ok-Late-clause-did
-take_octet-returns-in-Ok-Late-clause-did g t c = λ fs ss h.
+pub read_octet-returns-in-Ok-Late-clause-did : goal.read_octet-returns-in-Ok-Late-clause-did
+read_octet-returns-in-Ok-Late-clause-did g t c = λ fs ss h.
     let r = c.args.self.now in
     let mid = c.settle.new.self in
     let same = c.in-Ok-Late.ensures.setting in

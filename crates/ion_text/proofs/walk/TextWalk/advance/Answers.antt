@@ -6,7 +6,7 @@ use Rattle.std.specs.Option.{is_some}
 use Rattle.ion_text.specs.Names.{IsWithin, Reached, Reason, Refusal, Taken, TextWalk, scanned, state_of, told}
 use Rattle.ion_text.specs.walk.Advances.{AdvancesBy, gone}
 use Rattle.ion_text.proofs.Advancing.{LedSo, led_end, led_leaves, led_none, led_on, led_refused, led_second, led_tells}
-use Rattle.ion_text.proofs.Leading.{begins_some, onward_where}
+use Rattle.ion_text.proofs.PieceEnds.{begins_some, onward_where}
 use Rattle.ion_text.proofs.WalkRuns.{still_pending}
 use Rattle.ion_text.proofs.walk.TextWalk.advance.Goals as goal
 
@@ -28,7 +28,7 @@ pub loop-i-preserved : goal.loop-i-preserved
 loop-i-preserved g c =
     let first = c.args.self.now in
     let m = c.loop-i.self in
-    let n = c.take_up.new.self in
+    let n = c.read_piece.new.self in
     let piece = c.args.piece.now in
     let i = c.loop-i.i in
     let k = gone m n in
@@ -45,11 +45,11 @@ loop-i-preserved g c =
       ran =
           λ fs ss holds.
           let x = h.ran fs ss holds in
-          subst (λ (j : ℕ). LedSo g.V.Visitor.takes fs ss first n piece j c.args.visitor.now c.take_up.new.visitor) (sym onward)
+          subst (λ (j : ℕ). LedSo g.V.Visitor.takes fs ss first n piece j c.args.visitor.now c.read_piece.new.visitor) (sym onward)
           (led_on g.V.Visitor.takes first m piece i fs ss c.args.visitor.now c.loop-i.visitor x (ap (λ (b : _). b.now) h.setting.catalog) h.setting.limits
-          h.used n c.take_up.new.visitor k
+          h.used n c.read_piece.new.visitor k
           (subst (λ (t : Taken). Reached g.V.Visitor.takes (told x.frames x.notes) m.catalog.now m.limits (scanned m.scanner).used
-          (state_of m x.frames x.notes) rest k t n c.loop-i.visitor c.take_up.new.visitor) c.in-Ok-Uses.field-0-is
+          (state_of m x.frames x.notes) rest k t n c.loop-i.visitor c.read_piece.new.visitor) c.in-Ok-Uses.field-0-is
           (c.in-Ok-Uses.ensures.took x.frames x.notes x.went.holds)));
       used = omega arith;
       none = c.in-Ok-Uses.ensures.same.awaited ∙ h.none;
@@ -63,7 +63,7 @@ pub returns-in-Ok-Tells-clause-does : goal.returns-in-Ok-Tells-clause-does
 returns-in-Ok-Tells-clause-does g c = λ fs ss holds.
     let first = c.args.self.now in
     let m = c.loop-i.self in
-    let n = c.take_up.new.self in
+    let n = c.read_piece.new.self in
     let piece = c.args.piece.now in
     let i = c.loop-i.i in
     let k = gone m n in
@@ -73,11 +73,11 @@ returns-in-Ok-Tells-clause-does g c = λ fs ss holds.
     let onward : i + k ≡ c.gone.result = omega (arith, h.used, c.gone.ensures, c.used-before.ensures) in
     let x = h.ran fs ss holds in
     subst (λ (j : ℕ). AdvancesBy g.V.Visitor.takes (told fs ss) first.catalog.now first.limits (is_some first.awaited) (scanned first.scanner).used
-    (state_of first fs ss) piece j true n c.args.visitor.now c.take_up.new.visitor) onward
+    (state_of first fs ss) piece j true n c.args.visitor.now c.read_piece.new.visitor) onward
     (led_tells g.V.Visitor.takes first m piece i fs ss c.args.visitor.now c.loop-i.visitor x (ap (λ (b : _). b.now) h.setting.catalog) h.setting.limits
-    h.used n c.take_up.new.visitor k h.i (c.in-Ok-Tells.ensures.same.awaited ∙ h.none)
+    h.used n c.read_piece.new.visitor k h.i (c.in-Ok-Tells.ensures.same.awaited ∙ h.none)
     (subst (λ (t : Taken). Reached g.V.Visitor.takes (told x.frames x.notes) m.catalog.now m.limits (scanned m.scanner).used
-    (state_of m x.frames x.notes) rest k t n c.loop-i.visitor c.take_up.new.visitor) c.in-Ok-Tells.field-0-is
+    (state_of m x.frames x.notes) rest k t n c.loop-i.visitor c.read_piece.new.visitor) c.in-Ok-Tells.field-0-is
     (c.in-Ok-Tells.ensures.took x.frames x.notes x.went.holds)))
 
 pub returns-in-Err-clause-does : goal.returns-in-Err-clause-does
@@ -96,7 +96,7 @@ pub returns-then-used-eq0-clause-does : goal.returns-then-used-eq0-clause-does
 returns-then-used-eq0-clause-does g c = λ fs ss holds other.
     let first = c.args.self.now in
     let m = c.loop-i.self in
-    let n = c.take_up.new.self in
+    let n = c.read_piece.new.self in
     let piece = c.args.piece.now in
     let i = c.loop-i.i in
     let k = gone m n in
@@ -106,9 +106,9 @@ returns-then-used-eq0-clause-does g c = λ fs ss holds other.
     let on = c.in-Ok-Leaves.ensures.on in
     let none : i + k ≡ 0 = omega (arith, h.used, c.gone-used.ensures, c.used-before.ensures, c.if-used-eq0.true) in
     led_second g.V.Visitor.takes first m piece i fs ss c.args.visitor.now c.loop-i.visitor x (ap (λ (b : _). b.now) h.setting.catalog) h.setting.limits
-    h.used n c.take_up.new.visitor k (sym c.is_some-again.ensures ∙ c.if-again.true) none
+    h.used n c.read_piece.new.visitor k (sym c.is_some-again.ensures ∙ c.if-again.true) none
     (subst (λ (t : Taken). Reached g.V.Visitor.takes (told x.frames x.notes) m.catalog.now m.limits (scanned m.scanner).used
-    (state_of m x.frames x.notes) rest k t n c.loop-i.visitor c.take_up.new.visitor) c.in-Ok-Leaves.field-0-is
+    (state_of m x.frames x.notes) rest k t n c.loop-i.visitor c.read_piece.new.visitor) c.in-Ok-Leaves.field-0-is
     (c.in-Ok-Leaves.ensures.took x.frames x.notes x.went.holds))
     ∙ ap (λ j. record { given = []; now = Err (record { offset = j + 1; reason = Reason.Unexpected }) }) (sym c.used-before.ensures)
 
@@ -116,7 +116,7 @@ pub returns-in-Ok-Leaves-clause-does : goal.returns-in-Ok-Leaves-clause-does
 returns-in-Ok-Leaves-clause-does g c = λ fs ss holds.
     let first = c.args.self.now in
     let m = c.loop-i.self in
-    let n = c.take_up.new.self in
+    let n = c.read_piece.new.self in
     let piece = c.args.piece.now in
     let i = c.loop-i.i in
     let k = gone m n in
@@ -128,13 +128,13 @@ returns-in-Ok-Leaves-clause-does g c = λ fs ss holds.
     let onward : is_some first.awaited ≡ true → 0 < i + k =
     λ a. subst (λ (j : ℕ). 0 < j) (sym all) (onward_where c.is_some-again.result c.gone-used.result c.else-again.either (c.is_some-again.ensures ∙ a)) in
     let y = subst (λ (t : Taken). Reached g.V.Visitor.takes (told x.frames x.notes) m.catalog.now m.limits (scanned m.scanner).used
-    (state_of m x.frames x.notes) rest k t n c.loop-i.visitor c.take_up.new.visitor) c.in-Ok-Leaves.field-0-is
+    (state_of m x.frames x.notes) rest k t n c.loop-i.visitor c.read_piece.new.visitor) c.in-Ok-Leaves.field-0-is
     (c.in-Ok-Leaves.ensures.took x.frames x.notes x.went.holds) in
     let last : TextWalk = record n { awaited = Some (slice_index piece c.gone-used.result) } in
     subst (λ (j : ℕ). AdvancesBy g.V.Visitor.takes (told fs ss) first.catalog.now first.limits (is_some first.awaited) (scanned first.scanner).used
-    (state_of first fs ss) piece j true last c.args.visitor.now c.take_up.new.visitor) all
+    (state_of first fs ss) piece j true last c.args.visitor.now c.read_piece.new.visitor) all
     (led_leaves g.V.Visitor.takes first m piece i fs ss c.args.visitor.now c.loop-i.visitor x (ap (λ (b : _). b.now) h.setting.catalog) h.setting.limits
-    h.used n c.take_up.new.visitor k last h.i onward refl y.2.holds (ap (λ (j : ℕ). Some (slice_index piece j)) (sym all)) y)
+    h.used n c.read_piece.new.visitor k last h.i onward refl y.2.holds (ap (λ (j : ℕ). Some (slice_index piece j)) (sym all)) y)
 
 pub returns-clause-does : goal.returns-clause-does
 returns-clause-does g c = λ fs ss holds.
@@ -157,7 +157,7 @@ pub returns-in-Ok-Leaves-clause-next : goal.returns-in-Ok-Leaves-clause-next
 returns-in-Ok-Leaves-clause-next g c =
     let piece = c.args.piece.now in
     let i = c.loop-i.i in
-    let k = gone c.loop-i.self c.take_up.new.self in
+    let k = gone c.loop-i.self c.read_piece.new.self in
     let rest = take (length piece - i) (drop i piece) in
     let size : length rest ≡ length piece - i = ap (λ (w : List ℕ). length w) (take_rest piece i) ∙ length-drop i piece in
     let within = subst (λ (t : Taken). IsWithin (length rest) k t) c.in-Ok-Leaves.field-0-is c.in-Ok-Leaves.ensures.within in

@@ -1,6 +1,6 @@
 use Rattle.std.proofs.Common.{rules, ◌≡◌, [], false, None, refl}
 use Rattle.ion_text.specs.Names.{Holds, TextWalk, begun, failed, state_of}
-use Rattle.ion_text.specs.declared.state.Now.TheVariants.{Ready}
+use Rattle.ion_text.specs.declared.state.Stage.TheVariants.{Ready}
 use Rattle.ion_text.proofs.WalkRuns.{begins_so}
 use Rattle.ion_text.proofs.walk.TextWalk.new.Goals as goal
 

@@ -3,4 +3,4 @@ use Rattle.ion_text.proofs.Holding.{part_layer}
 use Rattle.ion_text.proofs.walk.TextWalk.whole.Goals as goal
 
 pub returns-clause-does : goal.returns-clause-does
-returns-clause-does g c = c.whole_untold.ensures.does (payload_of c.args.said.now) (part_layer c.args.said.now)
+returns-clause-does g c = c.untold_scalar_ended.ensures.does (payload_of c.args.said.now) (part_layer c.args.said.now)

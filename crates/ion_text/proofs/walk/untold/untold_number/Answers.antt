@@ -1,7 +1,7 @@
 use Rattle.std.proofs.Common.{Ok, take}
 use Rattle.ion_text.specs.Names.{number_read, number_reads}
 use Rattle.ion_scalar.specs.text.laws.OneNumber.{one_answer}
-use Rattle.ion_text.proofs.Arms.{number_says}
+use Rattle.ion_text.proofs.TokenSteps.{number_says}
 use Rattle.ion_text.proofs.walk.untold.untold_number.Goals as goal
 
 pub returns-in-Some-clause-found : goal.returns-in-Some-clause-found

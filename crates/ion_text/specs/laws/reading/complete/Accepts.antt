@@ -1,7 +1,7 @@
 -- The reader of octets accepts each document, and gives its values.
 use Rattle.std.proofs.Common.{◌≡◌, ℕ, ◌+◌, ◌≤◌, ◌==◌, List, [], ◌∷◌, ◌++◌, Bool, true, false, ◌&&◌, ◌||◌, Ok, Option, Some, None, refl, ap, sym, ◌∙◌, subst, arith, option_to_list, if◌then◌else◌, ◌⊎◌, inl, inr}
 use Rattle.std.proofs.lemmas.Bool.{and_right, true_from_ne_false}
-use Rattle.ion_text.specs.Names.{Catalog, Content, Document, Effect, Frame, Given, IsBody, IsLastBlank, Known, Leading, Left, Lexeme, Limits, Long, Mark, Mark', Mode, Next, Now, Outcome, Place, Placed, Reading, Reason, Run, Slot, Spot, State, Streams, Symbols, TokenKind, Turn, Value, at, at_end, behind_given, behind_left, continues, continues_now, cut_short, eats, end_now, end_of, end_ready, end_said, end_settled, end_turned, end_waiting, ended, ends_of, feed, follow, fresh, gives, goes, initial, is_colons, is_fresh, is_idle, is_quoted, is_quoting, is_sane, is_segment, is_sexp, is_top, is_two_quotes, on_said, on_scan, on_settled, once_more, place, plain, refuses, run, run_on, said, said_body, settle, settle_same, settle_still, start_of, system_slots, takes, tells, token_at, token_of, trace, turn, turn_now, under, unsettled, uses, waits, waits_now, with_scan, with_value}
+use Rattle.ion_text.specs.Names.{Catalog, Content, Document, Effect, Frame, Given, IsBody, IsLastBlank, Known, Leading, Left, Lexeme, Limits, Long, Mark, Mark', Mode, Next, Outcome, Place, Placed, Reading, Reason, Run, Slot, Spot, Stage, State, Streams, Symbols, TokenKind, Turn, Value, at, at_end, behind_given, behind_left, continues, continues_now, cut_short, eats, end_now, end_of, end_ready, end_said, end_settled, end_turned, end_waiting, ended, ends_of, feed, follow, fresh, gives, goes, initial, is_colons, is_fresh, is_idle, is_quoted, is_quoting, is_sane, is_segment, is_sexp, is_top, is_two_quotes, on_said, on_scan, on_settled, once_more, place, plain, refuses, run, run_on, said, said_body, settle, settle_same, settle_still, start_of, system_slots, takes, tells, token_at, token_of, trace, turn, turn_now, under, unsettled, uses, waits, waits_now, with_scan, with_value}
 use Rattle.ion_tokens.proofs.runs.Runs.{feed_used, given_used}
 use Rattle.ion_text.specs.machine.Run.{ends}
 use Rattle.ion_text.specs.machine.Ways.{SettledWay, ValueWay, settled_free, settled_held, settled_marker, settled_name, settled_text, settled_way, value_given, value_refused, value_table}
@@ -23,18 +23,18 @@ use Rattle.ion_text.specs.laws.reading.sound.StandsOpen.{start_now}
 -- nothing waits at the top level behind what was settled, and what waits is calm where no token has begun
 
 -- where no token has begun, what waits at the top level is calm
-pub idle_calm : (n : Now) (m : Mode) → IsTopNow n → is_idle m ≡ true → CalmNow n m
-idle_calm Now.Ready m k i = tt
-idle_calm (Now.Pending h e) m k i = i
-idle_calm (Now.Long w e) m k i = ap (λ b. b || is_quoting m) i
+pub idle_calm : (n : Stage) (m : Mode) → IsTopNow n → is_idle m ≡ true → CalmNow n m
+idle_calm Stage.Ready m k i = tt
+idle_calm (Stage.Pending h e) m k i = i
+idle_calm (Stage.Long w e) m k i = ap (λ b. b || is_quoting m) i
 idle_calm _ m k i = k
 
 -- behind a whole value a value may come
-pub fresh_top : (r : Reading) → is_fresh r ≡ true → r.now ≡ Now.Ready
+pub fresh_top : (r : Reading) → is_fresh r ≡ true → r.now ≡ Stage.Ready
 fresh_top r h = go r.frames r.notes r.now h
   where
-    go : (fs : List Frame) (ss : Symbols) (n : Now) → is_fresh (at r.start r.context fs ss n) ≡ true → n ≡ Now.Ready
-    go [] [] Now.Ready h = refl
+    go : (fs : List Frame) (ss : Symbols) (n : Stage) → is_fresh (at r.start r.context fs ss n) ≡ true → n ≡ Stage.Ready
+    go [] [] Stage.Ready h = refl
     go _ _ _ h = absurd cc
 
 -- a mark's kind says the mark
@@ -53,18 +53,18 @@ module _ (g : Catalog) (l : Limits) where
   value_settled spot v _ _ _ = λ m h. absurd cc
 
   -- behind what was settled at the top level it is calm, whatever token has begun
-  pub settle_settled : (start : ℕ) (c : List Slot) (fs : List Frame) (ss : Symbols) (now : Now) → (is_top fs ≡ true → IsTopNow now)
+  pub settle_settled : (start : ℕ) (c : List Slot) (fs : List Frame) (ss : Symbols) (now : Stage) → (is_top fs ≡ true → IsTopNow now)
       → SettledCalm (settle g l (at start c fs ss now))
   settle_settled start c fs ss now = by fs now _ (settled_way g l start c fs ss now)
     where
-      by : (fs : List Frame) (now : Now) (t : Turn) → SettledWay g l start c ss fs now t → (is_top fs ≡ true → IsTopNow now) → SettledCalm t
+      by : (fs : List Frame) (now : Stage) (t : Turn) → SettledWay g l start c ss fs now t → (is_top fs ≡ true → IsTopNow now) → SettledCalm t
       by _ _ _ (settled_held fs h end q t flat way) k = value_settled _ _ fs t way
       by _ _ _ (settled_text fs w end t way) k = value_settled _ _ fs t way
       by _ _ _ (settled_marker h end fits) k = λ m h. tt
       by _ _ _ (settled_name fs w) k = λ m h. k h
-      by _ _ _ (settled_free fs Now.Ready i e) k = λ m h. tt
-      by _ _ _ (settled_free fs (Now.Pending h end) i e) k = absurd i
-      by _ _ _ (settled_free fs (Now.Long w end) i e) k = absurd i
+      by _ _ _ (settled_free fs Stage.Ready i e) k = λ m h. tt
+      by _ _ _ (settled_free fs (Stage.Pending h end) i e) k = absurd i
+      by _ _ _ (settled_free fs (Stage.Long w end) i e) k = absurd i
       by _ _ _ (settled_free fs _ i e) k = λ m h. k h
       by _ _ _ _ k = tt
 
@@ -73,10 +73,10 @@ module _ (g : Catalog) (l : Limits) where
   still_calm r m k e = subst SettledCalm e (settle_settled r.start r.context r.frames r.notes r.now k) m
 
   -- what is calm in each mode isn't waiting
-  pub always_calm : (n : Now) → ((m : Mode) → CalmNow n m) → n ≡ Now.Ready
-  always_calm Now.Ready h = refl
-  always_calm (Now.Pending k e) h = absurd (let n : false ≡ true = h Mode.Word in cc)
-  always_calm (Now.Long w e) h = absurd (let n : false ≡ true = h Mode.Word in cc)
+  pub always_calm : (n : Stage) → ((m : Mode) → CalmNow n m) → n ≡ Stage.Ready
+  always_calm Stage.Ready h = refl
+  always_calm (Stage.Pending k e) h = absurd (let n : false ≡ true = h Mode.Word in cc)
+  always_calm (Stage.Long w e) h = absurd (let n : false ≡ true = h Mode.Word in cc)
   always_calm _ h = absurd (h Mode.Blank)
 
   -- what was settled doesn't wait
@@ -174,11 +174,11 @@ module _ (g : Catalog) (l : Limits) where
             (settle_still g l r.start r.context r.frames r.notes r.now) (settle_settled r.start r.context r.frames r.notes r.now ok) (settled w)
 
   -- what goes on to wait at the top level at an octet that ends no token is calm
-  pub waits_calm : (fs : List Frame) (now : Now) (s : Known) → (is_top fs ≡ true → IsTopNow now) → waits_now (is_top fs) now (Next s) ≡ true → is_top fs ≡ true
+  pub waits_calm : (fs : List Frame) (now : Stage) (s : Known) → (is_top fs ≡ true → IsTopNow now) → waits_now (is_top fs) now (Next s) ≡ true → is_top fs ≡ true
       → CalmNow now s.mode
-  waits_calm fs (Now.Pending h e) s k w top = w
-  waits_calm fs (Now.Long v e) s k w top = w
-  waits_calm fs Now.Ready s k w top = tt
+  waits_calm fs (Stage.Pending h e) s k w top = w
+  waits_calm fs (Stage.Long v e) s k w top = w
+  waits_calm fs Stage.Ready s k w top = tt
   waits_calm fs _ s k w top = k top
 
   -- where the scanner goes on
@@ -232,7 +232,7 @@ module _ (g : Catalog) (l : Limits) where
 
   -- a long string goes on with its segments alone
   pub long_refused : (begin end start : ℕ) (slots : List Slot) (fs : List Frame) (ss : Symbols) (c : Content) (w : List ℕ) (e : ℕ) → is_long_said c ≡ false
-      → turn_now (under g l) (at start slots fs ss (Now.Long w e)) (token_at begin end c) (Now.Long w e) ≡ refuses Reason.Unexpected
+      → turn_now (under g l) (at start slots fs ss (Stage.Long w e)) (token_at begin end c) (Stage.Long w e) ≡ refuses Reason.Unexpected
   long_refused begin end start slots fs ss (Long v) w e h = absurd cc
   long_refused begin end start slots fs ss _ w e h = refl
 
@@ -254,7 +254,7 @@ module _ (g : Catalog) (l : Limits) where
       body y k d = said_body t.lexeme.kind t.lexeme.octets (says y k d).1 (says y k d).2
 
       -- no colon stands where a value may come
-      no_colon : (y : X) (k : Reading) → Before y k → k.now ≡ Now.Ready → t.lexeme.kind ≡ TokenKind.Mark Mark.Colon → ⊥
+      no_colon : (y : X) (k : Reading) → Before y k → k.now ≡ Stage.Ready → t.lexeme.kind ≡ TokenKind.Mark Mark.Colon → ⊥
       no_colon y k d n i =
           subst (λ m. Onto After y (turn_now (under g l) k (token_at t.lexeme.start t.lexeme.end (Mark' Mark.Colon)) m)) n
           (subst (λ c. Onto After y (turn g l k (token_of t.lexeme c)))
@@ -272,7 +272,7 @@ module _ (g : Catalog) (l : Limits) where
           by _ a c d = d
 
       -- a token that goes on with a long string is a segment
-      long_turn : (x : X) (r : Reading) (b : Before x r) (v : List ℕ) (q : ℕ) → r.now ≡ Now.Long v q → is_segment t.lexeme.kind ≡ false
+      long_turn : (x : X) (r : Reading) (b : Before x r) (v : List ℕ) (q : ℕ) → r.now ≡ Stage.Long v q → is_segment t.lexeme.kind ≡ false
           → Onto After x (turn g l r (token_of t.lexeme (says x r b).1)) → ⊥
       long_turn x r b v q i h y =
           subst (Onto After x)
@@ -369,11 +369,11 @@ module _ (g : Catalog) (l : Limits) where
         ]
 
         -- nothing that waits at the top level is ended by a token that is left
-        never_gives : (n : Now) → r.now ≡ n → is_top r.frames ≡ true → waits r (Left t.lexeme s') ≡ false → Onto Before x (settle g l r)
-            → CalmNow n s.mode → (n ≡ Now.Ready → ⊥) → ⊥
-        never_gives Now.Ready i top w y c z = z refl
-        never_gives (Now.Pending h b) i top w y c z = idle_never top y c
-        never_gives (Now.Long v b) i top w y c z = by (is_idle s.mode) refl
+        never_gives : (n : Stage) → r.now ≡ n → is_top r.frames ≡ true → waits r (Left t.lexeme s') ≡ false → Onto Before x (settle g l r)
+            → CalmNow n s.mode → (n ≡ Stage.Ready → ⊥) → ⊥
+        never_gives Stage.Ready i top w y c z = z refl
+        never_gives (Stage.Pending h b) i top w y c z = idle_never top y c
+        never_gives (Stage.Long v b) i top w y c z = by (is_idle s.mode) refl
           where
             by : (j : Bool) → is_idle s.mode ≡ j → ⊥
             by true j = idle_never top y j
@@ -394,13 +394,13 @@ module _ (g : Catalog) (l : Limits) where
             top : is_top r.frames ≡ true
             top = true_from_ne_false (is_top r.frames) (λ j. gives_top g l r v k j i)
 
-            never : (n : Now) → r.now ≡ n → ⊥
+            never : (n : Stage) → r.now ≡ n → ⊥
             never n z = never_gives n z top w (subst (Onto Before x) (sym i) y) (subst (λ z. CalmNow z s.mode) z (calm top))
                 (λ j. let q : goes r ≡ gives v k = sym (ready_still g l r (z ∙ j)) ∙ i in cc)
         settled _ i w still c y = absurd y
 
-        waited : (n : Now) → r.now ≡ n → waits_now (is_top r.frames) n (Left t.lexeme s') ≡ true → Onto After x (turn g l r (token_of t.lexeme p.1)) → ⊥
-        waited (Now.Long v q) i w y = long_turn x r b v q i f.1 y
+        waited : (n : Stage) → r.now ≡ n → waits_now (is_top r.frames) n (Left t.lexeme s') ≡ true → Onto After x (turn g l r (token_of t.lexeme p.1)) → ⊥
+        waited (Stage.Long v q) i w y = long_turn x r b v q i f.1 y
         waited _ i w y = absurd cc
 
         -- what is read on so is good
@@ -483,11 +483,11 @@ module _ (g : Catalog) (l : Limits) where
     ]
 
     -- nothing that waits is followed by a last token
-    no_waiting : (n : Now) → r.now ≡ n → CalmNow n s.mode → n ≡ Now.Ready
-    no_waiting Now.Ready x c = refl
-    no_waiting (Now.Pending h y) x c = absurd (none_idle c (λ k. ap (λ z. continues_now (is_top r.frames) z (token_of t.lexeme said_here.1)) x
+    no_waiting : (n : Stage) → r.now ≡ n → CalmNow n s.mode → n ≡ Stage.Ready
+    no_waiting Stage.Ready x c = refl
+    no_waiting (Stage.Pending h y) x c = absurd (none_idle c (λ k. ap (λ z. continues_now (is_top r.frames) z (token_of t.lexeme said_here.1)) x
         ∙ (sym (colons_agree (is_top r.frames) h y t.lexeme.start t.lexeme.end t.lexeme.kind t.lexeme.octets said_here.1 body_here) ∙ ap is_colons k)))
-    no_waiting (Now.Long w y) x c = absurd (mode (is_idle s.mode) refl)
+    no_waiting (Stage.Long w y) x c = absurd (mode (is_idle s.mode) refl)
       where
         long : continues r (token_of t.lexeme said_here.1) ≡ (is_segment t.lexeme.kind ||
             (is_top r.frames && is_two_quotes t.lexeme.kind t.lexeme.start t.lexeme.end))
@@ -516,7 +516,7 @@ module _ (g : Catalog) (l : Limits) where
         mode false i = quoted (sym (ap (λ b. b || is_quoting s.mode) i) ∙ c)
     no_waiting _ x c = absurd c
 
-    ready_here : r.now ≡ Now.Ready
+    ready_here : r.now ≡ Stage.Ready
     ready_here = no_waiting r.now refl (calm top_here).0
 
     token_ends : (last : Option Value) × (ends g l (with_scan s r) ≡ Ok last) × (all ≡ option_to_list last)
@@ -544,12 +544,12 @@ module _ (g : Catalog) (l : Limits) where
       here : at_end (place r) s ≡ Ok None
       here = ap (λ p. at_end p s) (top_place r.frames r.now top) ∙ e
 
-      by : (n : Now) → r.now ≡ n → CalmNow n s.mode → (last : Option Value) × (ends g l (with_scan s r) ≡ Ok last) × (all ≡ option_to_list last)
-      by (Now.Pending h y) x c = let z = settled_ends s.used all (settle g l r) (going_ends g l r all d) in
+      by : (n : Stage) → r.now ≡ n → CalmNow n s.mode → (last : Option Value) × (ends g l (with_scan s r) ≡ Ok last) × (all ≡ option_to_list last)
+      by (Stage.Pending h y) x c = let z = settled_ends s.used all (settle g l r) (going_ends g l r all d) in
           (z.0, ap (λ n. end_now g l s.used r (at_end (place r) s) n) x ∙ (ap (λ w. end_waiting g l s.used w (settle g l r)) here ∙ z.1), z.2)
-      by (Now.Long w y) x c = let z = settled_ends s.used all (settle g l r) (going_ends g l r all d) in
+      by (Stage.Long w y) x c = let z = settled_ends s.used all (settle g l r) (going_ends g l r all d) in
           (z.0, ap (λ n. end_now g l s.used r (at_end (place r) s) n) x ∙ (ap (λ w. end_waiting g l s.used w (settle g l r)) here ∙ z.1), z.2)
-      by Now.Ready x c =
+      by Stage.Ready x c =
           let z = subst (λ y. TurnEnds g l y all) (ready_still g l r x) (going_ends g l r all d) in (
             None,
             ap (λ n. end_now g l s.used r (at_end (place r) s) n) x
@@ -563,10 +563,10 @@ module _ (g : Catalog) (l : Limits) where
       → TurnGoes g l (settle g l r) [] all
   blank_settled r s all ok d i w = by r.now refl (ok (nothing_top r all d))
     where
-      by : (n : Now) → r.now ≡ n → IsTopNow n → TurnGoes g l (settle g l r) [] all
-      by Now.Ready x k = subst (λ t. TurnGoes g l t [] all) (sym (ready_still g l r x)) d
-      by (Now.Pending h y) x k = absurd (let n : true ≡ false = sym i ∙ (sym (ap (λ z. waits_now (is_top r.frames) z (Next s)) x) ∙ w) in cc)
-      by (Now.Long v y) x k = absurd (let n : true ≡ false = sym (ap (λ b. b || is_quoting s.mode) i)
+      by : (n : Stage) → r.now ≡ n → IsTopNow n → TurnGoes g l (settle g l r) [] all
+      by Stage.Ready x k = subst (λ t. TurnGoes g l t [] all) (sym (ready_still g l r x)) d
+      by (Stage.Pending h y) x k = absurd (let n : true ≡ false = sym i ∙ (sym (ap (λ z. waits_now (is_top r.frames) z (Next s)) x) ∙ w) in cc)
+      by (Stage.Long v y) x k = absurd (let n : true ≡ false = sym (ap (λ b. b || is_quoting s.mode) i)
           ∙ (sym (ap (λ z. waits_now (is_top r.frames) z (Next s)) x) ∙ w) in cc)
       by _ x k = absurd k
 

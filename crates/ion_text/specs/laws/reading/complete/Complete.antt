@@ -2,7 +2,7 @@
 use Rattle.std.proofs.Common.{◌≡◌, ℕ, suc, max, ◌+◌, ◌≤◌, ◌<◌, List, [], ◌∷◌, ◌++◌, length, map, Bool, true, false, ◌&&◌, ◌||◌, Ok, Option, Some, None, refl, ap, sym, ◌∙◌, subst, arith, append_assoc, if◌then◌else◌, ◌⊎◌, inl, inr, codes}
 use Rattle.std.proofs.lemmas.Bool.{cond-false, cond-true, false_from_ne_true, lt-ltb}
 use Rattle.std.specs.Str.{bytes_eq}
-use Rattle.ion_text.specs.Names.{Annotations, Blob, Bracket, Catalog, Clob, Content, Elements, Field, Frame, Held, Id, IsBody, IsName, IsScalar, IsSymbol, IsWordBody, Kind, Limits, Listing, Long, Mark, Mark', Means, Members, Now, Number', Operator, Payload, Place, Placed, Plain, Quoted, Reading, Row, Says, Segments, Short, Slot, Symbols, Token, TokenKind, Turn, TypedNull, Value, Word, adds_none, annotated, at, begins_long, begun_at, behind_waiting, by_long, by_short, by_symbol, close_place, comma, continues, continues_now, depth, done, element, ended, ends_long, field, field_comma, field_of, first_now, first_token, goes, greatest, held_payload, held_symbol, held_word, id_of, is_false, is_id, is_keyword, is_list, is_null, is_segment, is_struct, is_symbol, is_top, is_true, is_typed_null, is_version, is_version_word, is_word, item, joined, kind_named, long_at, long_string, means, name_at, no_annotation, no_element, no_field, no_item, noted, null_of, on_name, on_ready, on_turn, one_annotation, one_token, open_mark, opened, paid, pending_at, place, place_in, reads, reads-append, released, resolved, segment, settle, spot_at, the_marker, then_walk, token_of, turn, under}
+use Rattle.ion_text.specs.Names.{Annotations, Blob, Bracket, Catalog, Clob, Content, Elements, Field, Frame, Held, Id, IsBody, IsName, IsScalar, IsSymbol, IsWordBody, Kind, Limits, ListOrSexp, Long, Mark, Mark', Means, Members, Number', Operator, Payload, Place, Placed, Plain, Quoted, Reading, Row, Says, Segments, Short, Slot, Stage, Symbols, Token, TokenKind, Turn, TypedNull, Value, Word, adds_none, annotated, at, begins_long, begun_at, behind_waiting, by_long, by_short, by_symbol, close_place, comma, continues, continues_now, depth, done, element, ended, ends_long, field, field_comma, field_of, first_now, first_token, goes, greatest, held_payload, held_symbol, held_word, id_of, is_false, is_id, is_keyword, is_list, is_null, is_segment, is_struct, is_symbol, is_top, is_true, is_typed_null, is_version, is_version_word, is_word, item, joined, kind_named, long_at, long_string, means, name_at, no_annotation, no_element, no_field, no_item, noted, null_of, on_name, on_ready, on_turn, one_annotation, one_token, open_mark, opened, paid, pending_at, place, place_in, reads, reads-append, released, resolved, segment, settle, spot_at, the_marker, then_walk, token_of, turn, under}
 use Rattle.ion_model.specs.declared.value.Payload.TheVariants as payloads
 use Rattle.ion_model.specs.laws.Measures.{deepest-more, depth-at-Fields, depth-at-List, depth-at-Sexp}
 use Rattle.ion_text.specs.Grammar.{end_of, is_quoted, is_sexp}
@@ -149,7 +149,7 @@ module _ (g : Catalog) (l : Limits) where
   -- a symbol, where a value may come, waits for `::`
   record Holds (end start : ℕ) (c : List Slot) (fs : List Frame) (ss : Symbols) (said : Content) (s : Option (List ℕ)) : Type 0 where
     held : Held
-    waits : on_ready (under g l) (spot_at end start c) fs ss said ≡ goes (at start c fs ss (Now.Pending held end))
+    waits : on_ready (under g l) (spot_at end start c) fs ss said ≡ goes (at start c fs ss (Stage.Pending held end))
     is : IsHeldAs held s
 
   symbol_held : (end start : ℕ) (c : List Slot) (fs : List Frame) (ss : Symbols) (said : Content) (s : Option (List ℕ)) → IsSymbol c said s
@@ -158,7 +158,7 @@ module _ (g : Catalog) (l : Limits) where
   symbol_held end start c fs ss _ _ (is_id id s h) = record {
     held = Held.Symbol s;
     waits =
-        ap (λ r. resolved r (λ s. goes (at start c fs ss (Now.Pending (Held.Symbol s) end)))) h;
+        ap (λ r. resolved r (λ s. goes (at start c fs ss (Stage.Pending (Held.Symbol s) end)))) h;
     is = (refl, refl);
   }
   symbol_held end start c fs ss _ _ (is_quoted w) = record { held = Held.Symbol (Some w); waits = refl; is = (refl, refl) }
@@ -189,39 +189,39 @@ module _ (g : Catalog) (l : Limits) where
   read_behind r n ts us e = reads-append g l ts us r ∙ (ap (λ x. then_walk x (λ k. reads g l k us)) e ∙ adds_none g l (reads g l n us))
 
   -- Annotations are read.
-  pub notes_read : (c : List Slot) (p : Place) (start : ℕ) (fs : List Frame) (ts : List Placed) (ss : Symbols) → p ≡ place_in fs Now.Ready
-      → Annotations c p ts ss → reads g l (at start c fs [] Now.Ready) ts ≡ done (at (starts start fs ts) c fs ss Now.Ready)
+  pub notes_read : (c : List Slot) (p : Place) (start : ℕ) (fs : List Frame) (ts : List Placed) (ss : Symbols) → p ≡ place_in fs Stage.Ready
+      → Annotations c p ts ss → reads g l (at start c fs [] Stage.Ready) ts ≡ done (at (starts start fs ts) c fs ss Stage.Ready)
   notes_read c p start fs _ _ here no_annotation = refl
   notes_read c p start fs _ _ here (one_annotation ts ss t colons said s d h i j) =
       let w = symbol_held t.lexeme.end (begun_at (starts start fs ts) t.lexeme.start fs ss) c fs ss said s i in
-      read_behind (at start c fs [] Now.Ready) (at (starts start fs ts) c fs ss Now.Ready) ts (t ∷ colons ∷ []) (notes_read c p start fs ts ss here d)
-      ∙ (first_token g l p (at (starts start fs ts) c fs ss Now.Ready) t said (colons ∷ []) h here (inr refl)
+      read_behind (at start c fs [] Stage.Ready) (at (starts start fs ts) c fs ss Stage.Ready) ts (t ∷ colons ∷ []) (notes_read c p start fs ts ss here d)
+      ∙ (first_token g l p (at (starts start fs ts) c fs ss Stage.Ready) t said (colons ∷ []) h here (inr refl)
       ∙ (ap (λ x. on_turn x (λ k. reads g l k (colons ∷ []))) w.waits
-      ∙ (first_token g l p (at (begun_at (starts start fs ts) t.lexeme.start fs ss) c fs ss (Now.Pending w.held t.lexeme.end)) colons (Mark' Mark.Colons) [] j
+      ∙ (first_token g l p (at (begun_at (starts start fs ts) t.lexeme.start fs ss) c fs ss (Stage.Pending w.held t.lexeme.end)) colons (Mark' Mark.Colons) [] j
       (here ∙ sym (pending_at fs w.held t.lexeme.end)) (inl refl)
       ∙ (ap (λ x. on_turn (noted (begun_at (starts start fs ts) t.lexeme.start fs ss) c fs ss x) (λ k. reads g l k [])) w.is.0
-      ∙ ap (λ x. done (at x c fs (ss ++ s ∷ []) Now.Ready)) (begun_behind c p start fs ts ss t (colons ∷ []) d)))))
+      ∙ ap (λ x. done (at x c fs (ss ++ s ∷ []) Stage.Ready)) (begun_behind c p start fs ts ss t (colons ∷ []) d)))))
 
   -- The tokens lead to this turn: with the last of them, or once it is known that nothing of what waits goes on.
   pub data LeadsToTurn (c : List Slot) (fs : List Frame) (r : Reading) (ts : List Placed) (t : Turn) : Type 0 where
     at_once : reads g l r ts ≡ on_turn t done → LeadsToTurn c fs r ts t
-    by_held : (start : ℕ) (ss : Symbols) (h : Held) (end : ℕ) → reads g l r ts ≡ done (at start c fs ss (Now.Pending h end))
+    by_held : (start : ℕ) (ss : Symbols) (h : Held) (end : ℕ) → reads g l r ts ≡ done (at start c fs ss (Stage.Pending h end))
         → released (under g l) (spot_at end start c) fs ss h ≡ t → LeadsToTurn c fs r ts t
-    by_long' : (start : ℕ) (ss : Symbols) (w : List ℕ) (end : ℕ) → reads g l r ts ≡ done (at start c fs ss (Now.Long w end))
+    by_long' : (start : ℕ) (ss : Symbols) (w : List ℕ) (end : ℕ) → reads g l r ts ≡ done (at start c fs ss (Stage.Long w end))
         → ended (under g l) (spot_at end start c) fs (annotated ss (payloads.Str w)) ≡ t → ends_long ts ≡ true → LeadsToTurn c fs r ts t
 
   -- Segments of a long string are read.
-  pub segments_read : (c : List Slot) (p : Place) (start : ℕ) (fs : List Frame) (ss : Symbols) (ts : List Placed) (w : List ℕ) → p ≡ place_in fs Now.Ready
+  pub segments_read : (c : List Slot) (p : Place) (start : ℕ) (fs : List Frame) (ss : Symbols) (ts : List Placed) (w : List ℕ) → p ≡ place_in fs Stage.Ready
       → Segments p ts w
-      → reads g l (at start c fs ss Now.Ready) ts ≡ done (at (begun_at start (first_start 0 ts) fs ss) c fs ss (Now.Long w (end_of 0 ts)))
-  segments_read c p start fs ss _ _ here (segment t w h) = first_token g l p (at start c fs ss Now.Ready) t (Long w) [] h here (inr refl)
+      → reads g l (at start c fs ss Stage.Ready) ts ≡ done (at (begun_at start (first_start 0 ts) fs ss) c fs ss (Stage.Long w (end_of 0 ts)))
+  segments_read c p start fs ss _ _ here (segment t w h) = first_token g l p (at start c fs ss Stage.Ready) t (Long w) [] h here (inr refl)
   segments_read c p start fs ss _ _ here (joined ts v w t d h) =
-      read_behind (at start c fs ss Now.Ready) (at (begun_at start (first_start 0 ts) fs ss) c fs ss (Now.Long v (end_of 0 ts))) ts (t ∷ [])
+      read_behind (at start c fs ss Stage.Ready) (at (begun_at start (first_start 0 ts) fs ss) c fs ss (Stage.Long v (end_of 0 ts))) ts (t ∷ [])
       (segments_read c p start fs ss ts v here d)
-      ∙ (first_token g l p (at (begun_at start (first_start 0 ts) fs ss) c fs ss (Now.Long v (end_of 0 ts))) t (Long w) [] h
+      ∙ (first_token g l p (at (begun_at start (first_start 0 ts) fs ss) c fs ss (Stage.Long v (end_of 0 ts))) t (Long w) [] h
       (here ∙ sym (long_at fs v (end_of 0 ts))) (inl refl)
-      ∙ (ap (λ x. done (at (begun_at start (first_start 0 ts) fs ss) c fs ss (Now.Long (v ++ w) x))) (sym (end_more ts t 0))
-      ∙ ap (λ x. done (at (begun_at start x fs ss) c fs ss (Now.Long (v ++ w) (end_of 0 (ts ++ t ∷ []))))) (first_more ts (segments_some ts v d))))
+      ∙ (ap (λ x. done (at (begun_at start (first_start 0 ts) fs ss) c fs ss (Stage.Long (v ++ w) x))) (sym (end_more ts t 0))
+      ∙ ap (λ x. done (at (begun_at start x fs ss) c fs ss (Stage.Long (v ++ w) (end_of 0 (ts ++ t ∷ []))))) (first_more ts (segments_some ts v d))))
     where
       first_more : (ts : List Placed) → (first : Placed) × (more : List Placed) × (ts ≡ first ∷ more) → first_start 0 ts ≡ first_start 0 (ts ++ t ∷ [])
       first_more [] h = absurd cc
@@ -240,15 +240,15 @@ module _ (g : Catalog) (l : Limits) where
 
   -- a token of which it isn't known whether `::` follows
   held_leads : (c : List Slot) (p : Place) (start : ℕ) (fs : List Frame) (ss : Symbols) (t : Placed) (said : Content) (h : Held) (q : Payload)
-      → p ≡ place_in fs Now.Ready → Says p t said
+      → p ≡ place_in fs Stage.Ready → Says p t said
       → on_ready (under g l) (spot_at t.lexeme.end (begun_at start t.lexeme.start fs ss) c) fs ss said
-      ≡ goes (at (begun_at start t.lexeme.start fs ss) c fs ss (Now.Pending h t.lexeme.end))
+      ≡ goes (at (begun_at start t.lexeme.start fs ss) c fs ss (Stage.Pending h t.lexeme.end))
       → held_payload h ≡ Ok q → (fs ≡ [] → ss ≡ [] → is_unmarked h ≡ true)
-      → LeadsToTurn c fs (at start c fs ss Now.Ready) (t ∷ [])
+      → LeadsToTurn c fs (at start c fs ss Stage.Ready) (t ∷ [])
       (ended (under g l) (spot_at t.lexeme.end (begun_at start t.lexeme.start fs ss) c) fs (annotated ss q))
   held_leads c p start fs ss t said h q here i w e n =
       by_held (begun_at start t.lexeme.start fs ss) ss h t.lexeme.end
-      (first_token g l p (at start c fs ss Now.Ready) t said [] i here (inr refl) ∙ ap (λ x. on_turn x done) w)
+      (first_token g l p (at start c fs ss Stage.Ready) t said [] i here (inr refl) ∙ ap (λ x. on_turn x done) w)
       (released_paid t.lexeme.end (begun_at start t.lexeme.start fs ss) c fs ss h n
       ∙ ap (paid (under g l) (spot_at t.lexeme.end (begun_at start t.lexeme.start fs ss) c) fs ss) e)
 
@@ -261,8 +261,8 @@ module _ (g : Catalog) (l : Limits) where
 
   -- One token that is a value is read.
   pub scalar_read : (c : List Slot) (p : Place) (start : ℕ) (fs : List Frame) (ss : Symbols) (t : Placed) (said : Content) (q : Payload)
-      → p ≡ place_in fs Now.Ready → Says p t said → IsScalar c said q → (fs ≡ [] → ss ≡ [] → is_version_word (t ∷ []) ≡ false)
-      → LeadsToTurn c fs (at start c fs ss Now.Ready) (t ∷ [])
+      → p ≡ place_in fs Stage.Ready → Says p t said → IsScalar c said q → (fs ≡ [] → ss ≡ [] → is_version_word (t ∷ []) ≡ false)
+      → LeadsToTurn c fs (at start c fs ss Stage.Ready) (t ∷ [])
       (ended (under g l) (spot_at t.lexeme.end (begun_at start t.lexeme.start fs ss) c) fs (annotated ss q))
   scalar_read c p start fs ss t _ _ here h is_null v = held_leads c p start fs ss t _ (Held.Null Kind.Null) _ here h refl refl (λ i j. refl)
   scalar_read c p start fs ss t _ _ here h (is_typed_null k) v = held_leads c p start fs ss t _ (Held.Null k) _ here h refl refl (λ i j. refl)
@@ -272,7 +272,7 @@ module _ (g : Catalog) (l : Limits) where
       let w = symbol_held t.lexeme.end (begun_at start t.lexeme.start fs ss) c fs ss said s d in
       held_leads c p start fs ss t said w.held _ here h w.waits w.is.1
       (λ i j. symbol_not_version c p (begun_at start t.lexeme.start fs ss) fs ss t said s h d (v i j))
-  scalar_read c p start fs ss t _ _ here h _ v = at_once (first_token g l p (at start c fs ss Now.Ready) t _ [] h here (inr refl))
+  scalar_read c p start fs ss t _ _ here h _ v = at_once (first_token g l p (at start c fs ss Stage.Ready) t _ [] h here (inr refl))
 
   end_of_front : (ts us : List Placed) (t : Placed) (d : ℕ) → end_of d (ts ++ t ∷ us) ≡ end_of 0 (t ∷ us)
   end_of_front [] us t d = refl
@@ -299,18 +299,18 @@ module _ (g : Catalog) (l : Limits) where
 
   -- a symbol that waits goes on with `::` alone
   pub pending_goes : (start : ℕ) (c : List Slot) (fs : List Frame) (ss : Symbols) (h : Held) (end : ℕ) (t : Token)
-      → continues (at start c fs ss (Now.Pending h end)) t ≡ true → t.said ≡ Mark' Mark.Colons
+      → continues (at start c fs ss (Stage.Pending h end)) t ≡ true → t.said ≡ Mark' Mark.Colons
   pending_goes start c fs ss h end t e = go t.said e
     where
-      go : (s : Content) → continues_now (is_top fs) (Now.Pending h end) (record { start = 0; end = 0; said = s }) ≡ true → s ≡ Mark' Mark.Colons
+      go : (s : Content) → continues_now (is_top fs) (Stage.Pending h end) (record { start = 0; end = 0; said = s }) ≡ true → s ≡ Mark' Mark.Colons
       go (Mark' Mark.Colons) e = refl
       go _ e = absurd cc
 
   long_goes : (start : ℕ) (c : List Slot) (f : Frame) (fs : List Frame) (ss : Symbols) (w : List ℕ) (end : ℕ) (t : Token)
-      → continues (at start c (f ∷ fs) ss (Now.Long w end)) t ≡ true → (v : List ℕ) × (t.said ≡ Long v)
+      → continues (at start c (f ∷ fs) ss (Stage.Long w end)) t ≡ true → (v : List ℕ) × (t.said ≡ Long v)
   long_goes start c f fs ss w end t e = go t.said e
     where
-      go : (s : Content) → continues_now false (Now.Long w end) (record { start = t.start; end = t.end; said = s }) ≡ true → (v : List ℕ) × (s ≡ Long v)
+      go : (s : Content) → continues_now false (Stage.Long w end) (record { start = t.start; end = t.end; said = s }) ≡ true → (v : List ℕ) × (s ≡ Long v)
       go (Long v) e = (v, refl)
       go _ e = absurd cc
 
@@ -318,10 +318,10 @@ module _ (g : Catalog) (l : Limits) where
       → LeadsToTurn c (f ∷ fs) r ts (goes n) → Reached c r ts n
   reached c f fs r n ts s k (at_once h) = record { now = n; read = h; settles = s; shuts = λ t e. absurd (let i : true ≡ false = sym e ∙ k t in cc) }
   reached c f fs r n ts s k (by_held start ss h end i j) =
-      record { now = at start c (f ∷ fs) ss (Now.Pending h end); read = i; settles = j; shuts = λ t e. inl (pending_goes start c (f ∷ fs) ss h end t e) }
+      record { now = at start c (f ∷ fs) ss (Stage.Pending h end); read = i; settles = j; shuts = λ t e. inl (pending_goes start c (f ∷ fs) ss h end t e) }
   reached c f fs r n ts s k (by_long' start ss w end i j m) =
       record {
-        now = at start c (f ∷ fs) ss (Now.Long w end);
+        now = at start c (f ∷ fs) ss (Stage.Long w end);
         read = i;
         settles = j;
         shuts = λ t e. let x = long_goes start c f fs ss w end t e in
@@ -329,9 +329,9 @@ module _ (g : Catalog) (l : Limits) where
       }
 
   -- a mark that is no `::` ends what waits
-  mark_shut : (top : Bool) (n : Now) (start end : ℕ) (m : Mark) → (m ≡ Mark.Colons → ⊥)
+  mark_shut : (top : Bool) (n : Stage) (start end : ℕ) (m : Mark) → (m ≡ Mark.Colons → ⊥)
       → continues_now top n (record { start = start; end = end; said = Mark' m }) ≡ false
-  mark_shut top (Now.Pending h e) start end Mark.Colons k = absurd (k refl)
+  mark_shut top (Stage.Pending h e) start end Mark.Colons k = absurd (k refl)
   mark_shut top _ start end _ k = refl
 
   -- behind what was reached, a mark is read where nothing waits
@@ -454,17 +454,17 @@ module _ (g : Catalog) (l : Limits) where
 
   -- notes and a payload behind them
   noted_leads : (c : List Slot) (p : Place) (start : ℕ) (fs : List Frame) (notes : List Placed) (t : Placed) (us : List Placed) (ss : Symbols) (q : Payload)
-      → p ≡ place_in fs Now.Ready → Annotations c p notes ss
-      → LeadsToTurn c fs (at (starts start fs notes) c fs ss Now.Ready) (t ∷ us)
+      → p ≡ place_in fs Stage.Ready → Annotations c p notes ss
+      → LeadsToTurn c fs (at (starts start fs notes) c fs ss Stage.Ready) (t ∷ us)
       (ended (under g l) (spot_at (end_of 0 (t ∷ us)) (begun_at (starts start fs notes) t.lexeme.start fs ss) c) fs (annotated ss q))
-      → LeadsToTurn c fs (at start c fs [] Now.Ready) (notes ++ t ∷ us)
+      → LeadsToTurn c fs (at start c fs [] Stage.Ready) (notes ++ t ∷ us)
       (ended (under g l) (spot_at (end_of 0 (notes ++ t ∷ us)) (starts start fs (notes ++ t ∷ us)) c) fs (annotated ss q))
   noted_leads c p start fs notes t us ss q here a d =
-      subst (λ (n : ℕ). LeadsToTurn c fs (at start c fs [] Now.Ready) (notes ++ t ∷ us)
+      subst (λ (n : ℕ). LeadsToTurn c fs (at start c fs [] Stage.Ready) (notes ++ t ∷ us)
       (ended (under g l) (spot_at n (starts start fs (notes ++ t ∷ us)) c) fs (annotated ss q))) (sym (end_of_front notes us t 0))
-      (subst (λ (n : ℕ). LeadsToTurn c fs (at start c fs [] Now.Ready) (notes ++ t ∷ us)
+      (subst (λ (n : ℕ). LeadsToTurn c fs (at start c fs [] Stage.Ready) (notes ++ t ∷ us)
       (ended (under g l) (spot_at (end_of 0 (t ∷ us)) n c) fs (annotated ss q))) (begun_behind c p start fs notes ss t us a)
-      (leads_behind c fs (at start c fs [] Now.Ready) (at (starts start fs notes) c fs ss Now.Ready) notes (t ∷ us) _
+      (leads_behind c fs (at start c fs [] Stage.Ready) (at (starts start fs notes) c fs ss Stage.Ready) notes (t ∷ us) _
       (notes_read c p start fs notes ss here a) d))
 
   -- what stands between brackets, and the close
@@ -479,87 +479,87 @@ module _ (g : Catalog) (l : Limits) where
 
   -- in a list: where another element may come, or behind one
   abbrev pub InList : List Slot → ℕ → List Frame → Symbols → List Placed → List Value → Bool → Type 0
-  InList c start fs ss ts vs true = reads g l (at start c (opened Bracket.List ss ∷ fs) [] Now.Ready) ts
-      ≡ done (at start c (Frame.Items Listing.List ss vs ∷ fs) [] Now.Ready)
-  InList c start fs ss ts vs false = Reached c (at start c (opened Bracket.List ss ∷ fs) [] Now.Ready) ts
-      (at start c (Frame.Items Listing.List ss vs ∷ fs) [] Now.After)
+  InList c start fs ss ts vs true = reads g l (at start c (opened Bracket.List ss ∷ fs) [] Stage.Ready) ts
+      ≡ done (at start c (Frame.Items ListOrSexp.List ss vs ∷ fs) [] Stage.Ready)
+  InList c start fs ss ts vs false = Reached c (at start c (opened Bracket.List ss ∷ fs) [] Stage.Ready) ts
+      (at start c (Frame.Items ListOrSexp.List ss vs ∷ fs) [] Stage.After)
 
   list_ends : (c : List Slot) (start : ℕ) (fs : List Frame) (ss : Symbols) (ts : List Placed) (vs : List Value) (more : Bool) (t : Placed)
       → InList c start fs ss ts vs more → Says Place.List t (Mark' Mark.ListClose)
-      → reads g l (at start c (opened Bracket.List ss ∷ fs) [] Now.Ready) (ts ++ t ∷ [])
+      → reads g l (at start c (opened Bracket.List ss ∷ fs) [] Stage.Ready) (ts ++ t ∷ [])
       ≡ on_turn (ended (under g l) (spot_at t.lexeme.end start c) fs (annotated ss (payloads.List vs))) done
-  list_ends c start fs ss ts vs true t h i = closed_by c Place.List (at start c (opened Bracket.List ss ∷ fs) [] Now.Ready)
-      (at start c (Frame.Items Listing.List ss vs ∷ fs) [] Now.Ready) ts t Mark.ListClose _ refl
-      (ready_reached c (at start c (opened Bracket.List ss ∷ fs) [] Now.Ready) (at start c (Frame.Items Listing.List ss vs ∷ fs) [] Now.Ready) ts refl
+  list_ends c start fs ss ts vs true t h i = closed_by c Place.List (at start c (opened Bracket.List ss ∷ fs) [] Stage.Ready)
+      (at start c (Frame.Items ListOrSexp.List ss vs ∷ fs) [] Stage.Ready) ts t Mark.ListClose _ refl
+      (ready_reached c (at start c (opened Bracket.List ss ∷ fs) [] Stage.Ready) (at start c (Frame.Items ListOrSexp.List ss vs ∷ fs) [] Stage.Ready) ts refl
       (λ t. refl) h) i (λ e. cc) refl
-  list_ends c start fs ss ts vs false t h i = closed_by c Place.List (at start c (opened Bracket.List ss ∷ fs) [] Now.Ready)
-      (at start c (Frame.Items Listing.List ss vs ∷ fs) [] Now.After) ts t Mark.ListClose _ refl h i (λ e. cc) refl
+  list_ends c start fs ss ts vs false t h i = closed_by c Place.List (at start c (opened Bracket.List ss ∷ fs) [] Stage.Ready)
+      (at start c (Frame.Items ListOrSexp.List ss vs ∷ fs) [] Stage.After) ts t Mark.ListClose _ refl h i (λ e. cc) refl
 
   -- the open of a container is read
   pub open_read : (bracket : Bracket) (c : List Slot) (p : Place) (start s : ℕ) (fs : List Frame) (ss : Symbols) (o : Placed) (us : List Placed)
-      → p ≡ place_in fs Now.Ready → length fs < l.depth → Says p o (Mark' (open_mark bracket)) → begun_at start o.lexeme.start fs ss ≡ s
-      → reads g l (at start c fs ss Now.Ready) (o ∷ us) ≡ reads g l (at s c (opened bracket ss ∷ fs) [] (first_now bracket)) us
+      → p ≡ place_in fs Stage.Ready → length fs < l.depth → Says p o (Mark' (open_mark bracket)) → begun_at start o.lexeme.start fs ss ≡ s
+      → reads g l (at start c fs ss Stage.Ready) (o ∷ us) ≡ reads g l (at s c (opened bracket ss ∷ fs) [] (first_now bracket)) us
   open_read bracket c p start s fs ss o us here deep h e =
-      first_token g l p (at start c fs ss Now.Ready) o (Mark' (open_mark bracket)) us h here (inr refl)
+      first_token g l p (at start c fs ss Stage.Ready) o (Mark' (open_mark bracket)) us h here (inr refl)
       ∙ (ap (λ x. on_turn x (λ k. reads g l k us)) (open_turns bracket (under g l) (spot_at o.lexeme.end (begun_at start o.lexeme.start fs ss) c) fs ss
       ∙ cond-true _ _ _ (lt-ltb (length fs) l.depth deep))
       ∙ ap (λ x. reads g l (at x c (opened bracket ss ∷ fs) [] (first_now bracket)) us) e)
 
   -- in a struct: where a name may come, or behind a field
   abbrev pub InStruct : List Slot → ℕ → List Frame → Symbols → List Placed → List Field → Bool → Type 0
-  InStruct c start fs ss ts ms true = reads g l (at start c (Frame.Fields ss [] ∷ fs) [] Now.Name) ts
-      ≡ done (at start c (Frame.Fields ss ms ∷ fs) [] Now.Name)
-  InStruct c start fs ss ts ms false = Reached c (at start c (Frame.Fields ss [] ∷ fs) [] Now.Name) ts (at start c (Frame.Fields ss ms ∷ fs) [] Now.After)
+  InStruct c start fs ss ts ms true = reads g l (at start c (Frame.Fields ss [] ∷ fs) [] Stage.Name) ts
+      ≡ done (at start c (Frame.Fields ss ms ∷ fs) [] Stage.Name)
+  InStruct c start fs ss ts ms false = Reached c (at start c (Frame.Fields ss [] ∷ fs) [] Stage.Name) ts (at start c (Frame.Fields ss ms ∷ fs) [] Stage.After)
 
   -- the `}` behind the fields of a struct ends it with these fields
   pub struct_ends : (c : List Slot) (start : ℕ) (fs : List Frame) (ss : Symbols) (ts : List Placed) (ms : List Field) (more : Bool) (t : Placed)
       → InStruct c start fs ss ts ms more → Says (close_place more) t (Mark' Mark.FieldsClose)
-      → reads g l (at start c (Frame.Fields ss [] ∷ fs) [] Now.Name) (ts ++ t ∷ [])
+      → reads g l (at start c (Frame.Fields ss [] ∷ fs) [] Stage.Name) (ts ++ t ∷ [])
       ≡ on_turn (ended (under g l) (spot_at t.lexeme.end start c) fs (annotated ss (payloads.Fields ms))) done
-  struct_ends c start fs ss ts ms true t h i = closed_by c Place.Name (at start c (Frame.Fields ss [] ∷ fs) [] Now.Name)
-      (at start c (Frame.Fields ss ms ∷ fs) [] Now.Name) ts t Mark.FieldsClose _ refl
-      (ready_reached c (at start c (Frame.Fields ss [] ∷ fs) [] Now.Name) (at start c (Frame.Fields ss ms ∷ fs) [] Now.Name) ts refl (λ t. refl) h) i
+  struct_ends c start fs ss ts ms true t h i = closed_by c Place.Name (at start c (Frame.Fields ss [] ∷ fs) [] Stage.Name)
+      (at start c (Frame.Fields ss ms ∷ fs) [] Stage.Name) ts t Mark.FieldsClose _ refl
+      (ready_reached c (at start c (Frame.Fields ss [] ∷ fs) [] Stage.Name) (at start c (Frame.Fields ss ms ∷ fs) [] Stage.Name) ts refl (λ t. refl) h) i
       (λ e. cc) refl
-  struct_ends c start fs ss ts ms false t h i = closed_by c Place.FieldValue (at start c (Frame.Fields ss [] ∷ fs) [] Now.Name)
-      (at start c (Frame.Fields ss ms ∷ fs) [] Now.After) ts t Mark.FieldsClose _ refl h i (λ e. cc) refl
+  struct_ends c start fs ss ts ms false t h i = closed_by c Place.FieldValue (at start c (Frame.Fields ss [] ∷ fs) [] Stage.Name)
+      (at start c (Frame.Fields ss ms ∷ fs) [] Stage.After) ts t Mark.FieldsClose _ refl h i (λ e. cc) refl
 
   -- a symbol is a name
   pub symbol_named : (c : List Slot) (start end : ℕ) (fs : List Frame) (said : Content) (s : Option (List ℕ)) → IsSymbol c said s
-      → on_name (under g l) (spot_at end start c) fs said ≡ goes (at start c fs [] (Now.Keyed s))
+      → on_name (under g l) (spot_at end start c) fs said ≡ goes (at start c fs [] (Stage.Keyed s))
   symbol_named c start end fs _ _ (is_word w h) = cond-false _ _ _ h
-  symbol_named c start end fs _ _ (is_id id s h) = ap (λ r. resolved r (λ s. goes (at start c fs [] (Now.Keyed s)))) h
+  symbol_named c start end fs _ _ (is_id id s h) = ap (λ r. resolved r (λ s. goes (at start c fs [] (Stage.Keyed s)))) h
   symbol_named c start end fs _ _ (is_quoted w) = refl
 
   -- segments where a field's name may come are read as a long name, which waits
-  pub long_named : (c : List Slot) (start : ℕ) (fs : List Frame) (ts : List Placed) (w : List ℕ) → Place.Name ≡ place_in fs Now.Name
-      → Segments Place.Name ts w → reads g l (at start c fs [] Now.Name) ts ≡ done (at start c fs [] (Now.LongName w))
-  long_named c start fs _ _ here (segment t w h) = first_token g l Place.Name (at start c fs [] Now.Name) t (Long w) [] h here (inr refl)
+  pub long_named : (c : List Slot) (start : ℕ) (fs : List Frame) (ts : List Placed) (w : List ℕ) → Place.Name ≡ place_in fs Stage.Name
+      → Segments Place.Name ts w → reads g l (at start c fs [] Stage.Name) ts ≡ done (at start c fs [] (Stage.LongName w))
+  long_named c start fs _ _ here (segment t w h) = first_token g l Place.Name (at start c fs [] Stage.Name) t (Long w) [] h here (inr refl)
   long_named c start fs _ _ here (joined ts v w t d h) =
-      read_behind (at start c fs [] Now.Name) (at start c fs [] (Now.LongName v)) ts (t ∷ []) (long_named c start fs ts v here d)
-      ∙ first_token g l Place.Name (at start c fs [] (Now.LongName v)) t (Long w) [] h (here ∙ sym (name_at fs v)) (inl refl)
+      read_behind (at start c fs [] Stage.Name) (at start c fs [] (Stage.LongName v)) ts (t ∷ []) (long_named c start fs ts v here d)
+      ∙ first_token g l Place.Name (at start c fs [] (Stage.LongName v)) t (Long w) [] h (here ∙ sym (name_at fs v)) (inl refl)
 
   -- A name and its colon are read.
   pub name_read : (c : List Slot) (start : ℕ) (fs : List Frame) (ss : Symbols) (ms : List Field) (ns : List Placed) (s : Option (List ℕ)) (colon : Placed)
       (us : List Placed) → IsName c ns s → Says Place.Name colon (Mark' Mark.Colon)
-      → reads g l (at start c (Frame.Fields ss ms ∷ fs) [] Now.Name) (ns ++ colon ∷ us) ≡ reads g l (at start c (Frame.Named ss ms s ∷ fs) [] Now.Ready) us
+      → reads g l (at start c (Frame.Fields ss ms ∷ fs) [] Stage.Name) (ns ++ colon ∷ us) ≡ reads g l (at start c (Frame.Named ss ms s ∷ fs) [] Stage.Ready) us
   name_read c start fs ss ms _ _ colon us (by_symbol t said s h i) k =
-      first_token g l Place.Name (at start c (Frame.Fields ss ms ∷ fs) [] Now.Name) t said (colon ∷ us) h refl (inr refl)
+      first_token g l Place.Name (at start c (Frame.Fields ss ms ∷ fs) [] Stage.Name) t said (colon ∷ us) h refl (inr refl)
       ∙ (ap (λ x. on_turn x (λ k. reads g l k (colon ∷ us))) (symbol_named c start t.lexeme.end (Frame.Fields ss ms ∷ fs) said s i)
-      ∙ first_token g l Place.Name (at start c (Frame.Fields ss ms ∷ fs) [] (Now.Keyed s)) colon (Mark' Mark.Colon) us k refl (inr refl))
+      ∙ first_token g l Place.Name (at start c (Frame.Fields ss ms ∷ fs) [] (Stage.Keyed s)) colon (Mark' Mark.Colon) us k refl (inr refl))
   name_read c start fs ss ms _ _ colon us (by_short t w h) k =
-      first_token g l Place.Name (at start c (Frame.Fields ss ms ∷ fs) [] Now.Name) t (Short w) (colon ∷ us) h refl (inr refl)
-      ∙ first_token g l Place.Name (at start c (Frame.Fields ss ms ∷ fs) [] (Now.Keyed (Some w))) colon (Mark' Mark.Colon) us k refl (inr refl)
+      first_token g l Place.Name (at start c (Frame.Fields ss ms ∷ fs) [] Stage.Name) t (Short w) (colon ∷ us) h refl (inr refl)
+      ∙ first_token g l Place.Name (at start c (Frame.Fields ss ms ∷ fs) [] (Stage.Keyed (Some w))) colon (Mark' Mark.Colon) us k refl (inr refl)
   name_read c start fs ss ms _ _ colon us (by_long ts w d) k =
-      read_behind (at start c (Frame.Fields ss ms ∷ fs) [] Now.Name) (at start c (Frame.Fields ss ms ∷ fs) [] (Now.LongName w)) ts (colon ∷ us)
+      read_behind (at start c (Frame.Fields ss ms ∷ fs) [] Stage.Name) (at start c (Frame.Fields ss ms ∷ fs) [] (Stage.LongName w)) ts (colon ∷ us)
       (long_named c start (Frame.Fields ss ms ∷ fs) ts w refl d)
-      ∙ behind_waiting g l Place.Name (at start c (Frame.Fields ss ms ∷ fs) [] (Now.LongName w))
-      (at start c (Frame.Fields ss ms ∷ fs) [] (Now.Keyed (Some w))) colon (Mark' Mark.Colon) us k refl refl refl
+      ∙ behind_waiting g l Place.Name (at start c (Frame.Fields ss ms ∷ fs) [] (Stage.LongName w))
+      (at start c (Frame.Fields ss ms ∷ fs) [] (Stage.Keyed (Some w))) colon (Mark' Mark.Colon) us k refl refl refl
 
   mutual
     -- A value without annotations is read.
-    plain_read : (c : List Slot) (p : Place) (start : ℕ) (fs : List Frame) (ss : Symbols) (ts : List Placed) (q : Payload) → p ≡ place_in fs Now.Ready
+    plain_read : (c : List Slot) (p : Place) (start : ℕ) (fs : List Frame) (ss : Symbols) (ts : List Placed) (q : Payload) → p ≡ place_in fs Stage.Ready
         → Plain c p ts q → (fs ≡ [] → ss ≡ [] → is_version_word ts ≡ false) → depth (annotated ss q) + length fs ≤ l.depth
-        → LeadsToTurn c fs (at start c fs ss Now.Ready) ts (ended (under g l) (spot_at (end_of 0 ts) (begun_at start (first_start 0 ts) fs ss) c) fs
+        → LeadsToTurn c fs (at start c fs ss Stage.Ready) ts (ended (under g l) (spot_at (end_of 0 ts) (begun_at start (first_start 0 ts) fs ss) c) fs
         (annotated ss q))
     plain_read c p start fs ss _ _ here (one_token p' t said q h i) v deep = scalar_read c p start fs ss t said q here h i v
     plain_read c p start fs ss ts _ here (long_string p' _ w d) v deep =
@@ -574,7 +574,7 @@ module _ (g : Catalog) (l : Limits) where
         let s = begun_at start o.lexeme.start fs ss in
         let dl = depth-sexp ss vs in
         at_once (open_read Bracket.Sexp c p start s fs ss o (ts ++ e ∷ []) here (omega arith) h refl
-        ∙ (closed_by c Place.Sexp (at s c (opened Bracket.Sexp ss ∷ fs) [] Now.Ready) (at s c (Frame.Items Listing.Sexp ss vs ∷ fs) [] Now.Ready) ts e
+        ∙ (closed_by c Place.Sexp (at s c (opened Bracket.Sexp ss ∷ fs) [] Stage.Ready) (at s c (Frame.Items ListOrSexp.Sexp ss vs ∷ fs) [] Stage.Ready) ts e
         Mark.SexpClose _ refl (row_read c s fs ss ts vs d (omega arith)) i (λ e. cc) refl
         ∙ ap (λ (n : ℕ). on_turn (ended (under g l) (spot_at n s c) fs (annotated ss (payloads.Sexp vs))) done) (sym (end_of_front (o ∷ ts) [] e 0))))
     plain_read c p start fs ss _ _ here (is_struct p' o e ts ms more h d i) v deep =
@@ -585,15 +585,15 @@ module _ (g : Catalog) (l : Limits) where
         ∙ ap (λ (n : ℕ). on_turn (ended (under g l) (spot_at n s c) fs (annotated ss (payloads.Fields ms))) done) (sym (end_of_front (o ∷ ts) [] e 0))))
 
     -- A value is read.
-    pub means_read : (c : List Slot) (p : Place) (start : ℕ) (fs : List Frame) (ts : List Placed) (v : Value) → p ≡ place_in fs Now.Ready → Means c p ts v
+    pub means_read : (c : List Slot) (p : Place) (start : ℕ) (fs : List Frame) (ts : List Placed) (v : Value) → p ≡ place_in fs Stage.Ready → Means c p ts v
         → (fs ≡ [] → is_version_word ts ≡ false) → depth v + length fs ≤ l.depth
-        → LeadsToTurn c fs (at start c fs [] Now.Ready) ts (ended (under g l) (spot_at (end_of 0 ts) (starts start fs ts) c) fs v)
+        → LeadsToTurn c fs (at start c fs [] Stage.Ready) ts (ended (under g l) (spot_at (end_of 0 ts) (starts start fs ts) c) fs v)
     means_read c p start fs _ _ here (means p' notes ts ss q a d) v deep =
         let b = plain_begins c p ts q d in
-        subst (λ x. LeadsToTurn c fs (at start c fs [] Now.Ready) (notes ++ x)
+        subst (λ x. LeadsToTurn c fs (at start c fs [] Stage.Ready) (notes ++ x)
         (ended (under g l) (spot_at (end_of 0 (notes ++ x)) (starts start fs (notes ++ x)) c) fs (annotated ss q))) (sym b.cut)
         (noted_leads c p start fs notes b.first b.later ss q here a
-        (subst (λ x. LeadsToTurn c fs (at (starts start fs notes) c fs ss Now.Ready) x
+        (subst (λ x. LeadsToTurn c fs (at (starts start fs notes) c fs ss Stage.Ready) x
         (ended (under g l) (spot_at (end_of 0 x) (begun_at (starts start fs notes) (first_start 0 x) fs ss) c) fs (annotated ss q))) b.cut
         (plain_read c p (starts start fs notes) fs ss ts q here d (unnoted c p notes ts ss fs a v) deep)))
 
@@ -603,35 +603,35 @@ module _ (g : Catalog) (l : Limits) where
     elements_read c start fs ss _ _ _ no_element deep = refl
     elements_read c start fs ss _ _ _ (element ts us vs v d m) deep =
         let k = deepest-more vs v in
-        let f = Frame.Items Listing.List ss vs in
-        let r = at start c (opened Bracket.List ss ∷ fs) [] Now.Ready in
-        let before = at start c (f ∷ fs) [] Now.Ready in
-        let n = at start c (Frame.Items Listing.List ss (vs ++ v ∷ []) ∷ fs) [] Now.After in
+        let f = Frame.Items ListOrSexp.List ss vs in
+        let r = at start c (opened Bracket.List ss ∷ fs) [] Stage.Ready in
+        let before = at start c (f ∷ fs) [] Stage.Ready in
+        let n = at start c (Frame.Items ListOrSexp.List ss (vs ++ v ∷ []) ∷ fs) [] Stage.After in
         reached c f fs r n (ts ++ us) refl (λ t. refl)
         (leads_behind c (f ∷ fs) r before ts us (goes n) (elements_read c start fs ss ts vs true d (omega arith))
-        (subst (λ (x : ℕ). LeadsToTurn c (f ∷ fs) before us (goes (at x c (Frame.Items Listing.List ss (vs ++ v ∷ []) ∷ fs) [] Now.After)))
+        (subst (λ (x : ℕ). LeadsToTurn c (f ∷ fs) before us (goes (at x c (Frame.Items ListOrSexp.List ss (vs ++ v ∷ []) ∷ fs) [] Stage.After)))
         (starts_in start f fs us) (means_read c Place.List start (f ∷ fs) us v refl m (λ e. absurd cc) (omega arith))))
     elements_read c start fs ss _ _ _ (comma ts vs t d h) deep =
-        mark_behind c Place.List (at start c (opened Bracket.List ss ∷ fs) [] Now.Ready)
-        (at start c (Frame.Items Listing.List ss vs ∷ fs) [] Now.After) ts t
+        mark_behind c Place.List (at start c (opened Bracket.List ss ∷ fs) [] Stage.Ready)
+        (at start c (Frame.Items ListOrSexp.List ss vs ∷ fs) [] Stage.After) ts t
         Mark.Comma refl (elements_read c start fs ss ts vs false d deep) h (λ e. cc)
 
     -- the elements of an s-expression lead the reader from its `(` to an s-expression of them
     pub row_read : (c : List Slot) (start : ℕ) (fs : List Frame) (ss : Symbols) (ts : List Placed) (vs : List Value) → Row c ts vs
         → depths vs + suc (length fs) ≤ l.depth
-        → Reached c (at start c (opened Bracket.Sexp ss ∷ fs) [] Now.Ready) ts (at start c (Frame.Items Listing.Sexp ss vs ∷ fs) [] Now.Ready)
-    row_read c start fs ss _ _ no_item deep = ready_reached c (at start c (opened Bracket.Sexp ss ∷ fs) [] Now.Ready)
-        (at start c (opened Bracket.Sexp ss ∷ fs) [] Now.Ready) [] refl (λ t. refl) refl
+        → Reached c (at start c (opened Bracket.Sexp ss ∷ fs) [] Stage.Ready) ts (at start c (Frame.Items ListOrSexp.Sexp ss vs ∷ fs) [] Stage.Ready)
+    row_read c start fs ss _ _ no_item deep = ready_reached c (at start c (opened Bracket.Sexp ss ∷ fs) [] Stage.Ready)
+        (at start c (opened Bracket.Sexp ss ∷ fs) [] Stage.Ready) [] refl (λ t. refl) refl
     row_read c start fs ss _ _ (item ts us vs v d m apart) deep =
         let k = deepest-more vs v in
-        let f = Frame.Items Listing.Sexp ss vs in
-        let r = at start c (opened Bracket.Sexp ss ∷ fs) [] Now.Ready in
-        let before = at start c (f ∷ fs) [] Now.Ready in
-        let n = at start c (Frame.Items Listing.Sexp ss (vs ++ v ∷ []) ∷ fs) [] Now.Ready in
+        let f = Frame.Items ListOrSexp.Sexp ss vs in
+        let r = at start c (opened Bracket.Sexp ss ∷ fs) [] Stage.Ready in
+        let before = at start c (f ∷ fs) [] Stage.Ready in
+        let n = at start c (Frame.Items ListOrSexp.Sexp ss (vs ++ v ∷ []) ∷ fs) [] Stage.Ready in
         reached c f fs r n (ts ++ us) refl (λ t. refl)
         (leads_as c (f ∷ fs) r before ts us (goes n)
         (item_behind c Place.Sexp r before ts us refl refl (row_read c start fs ss ts vs d (omega arith)) (means_begins c Place.Sexp us v m) apart)
-        (subst (λ (x : ℕ). LeadsToTurn c (f ∷ fs) before us (goes (at x c (Frame.Items Listing.Sexp ss (vs ++ v ∷ []) ∷ fs) [] Now.Ready)))
+        (subst (λ (x : ℕ). LeadsToTurn c (f ∷ fs) before us (goes (at x c (Frame.Items ListOrSexp.Sexp ss (vs ++ v ∷ []) ∷ fs) [] Stage.Ready)))
         (starts_in start f fs us) (means_read c Place.Sexp start (f ∷ fs) us v refl m (λ e. absurd cc) (omega arith))))
 
     -- the fields of a struct lead the reader from its `{` to a struct of them
@@ -640,20 +640,20 @@ module _ (g : Catalog) (l : Limits) where
     members_read c start fs ss _ _ _ no_field deep = refl
     members_read c start fs ss _ _ _ (field ts ns us colon ms s v d m i w) deep =
         let k = field_deepest-more ms (field_of s v) in
-        let n = at start c (Frame.Fields ss (ms ++ field_of s v ∷ []) ∷ fs) [] Now.After in
-        let r = at start c (Frame.Fields ss [] ∷ fs) [] Now.Name in
-        let before = at start c (Frame.Named ss ms s ∷ fs) [] Now.Ready in
+        let n = at start c (Frame.Fields ss (ms ++ field_of s v ∷ []) ∷ fs) [] Stage.After in
+        let r = at start c (Frame.Fields ss [] ∷ fs) [] Stage.Name in
+        let before = at start c (Frame.Named ss ms s ∷ fs) [] Stage.Ready in
         let cut : ts ++ (ns ++ colon ∷ us) ≡ (ts ++ (ns ++ colon ∷ [])) ++ us = ap (λ x. ts ++ x) (sym (append_assoc ns (colon ∷ []) us))
         ∙ sym (append_assoc ts (ns ++ colon ∷ []) us) in
         subst (λ x. Reached c r x n) (sym cut)
         (reached c (Frame.Named ss ms s) fs r n ((ts ++ (ns ++ colon ∷ [])) ++ us) refl (λ t. refl)
         (leads_as c (Frame.Named ss ms s ∷ fs) r before (ts ++ (ns ++ colon ∷ [])) us (goes n)
         (ap (reads g l r) (sym cut)
-        ∙ (read_behind r (at start c (Frame.Fields ss ms ∷ fs) [] Now.Name) ts (ns ++ colon ∷ us) (members_read c start fs ss ts ms true d (omega arith))
+        ∙ (read_behind r (at start c (Frame.Fields ss ms ∷ fs) [] Stage.Name) ts (ns ++ colon ∷ us) (members_read c start fs ss ts ms true d (omega arith))
         ∙ name_read c start fs ss ms ns s colon us m i))
-        (subst (λ (x : ℕ). LeadsToTurn c (Frame.Named ss ms s ∷ fs) before us (goes (at x c (Frame.Fields ss (ms ++ field_of s v ∷ []) ∷ fs) [] Now.After)))
+        (subst (λ (x : ℕ). LeadsToTurn c (Frame.Named ss ms s ∷ fs) before us (goes (at x c (Frame.Fields ss (ms ++ field_of s v ∷ []) ∷ fs) [] Stage.After)))
         (starts_in start (Frame.Named ss ms s) fs us)
         (means_read c Place.FieldValue start (Frame.Named ss ms s ∷ fs) us v refl w (λ e. absurd cc) (omega arith)))))
     members_read c start fs ss _ _ _ (field_comma ts ms t d h) deep =
-        mark_behind c Place.FieldValue (at start c (Frame.Fields ss [] ∷ fs) [] Now.Name) (at start c (Frame.Fields ss ms ∷ fs) [] Now.After) ts t
+        mark_behind c Place.FieldValue (at start c (Frame.Fields ss [] ∷ fs) [] Stage.Name) (at start c (Frame.Fields ss ms ∷ fs) [] Stage.After) ts t
         Mark.Comma refl (members_read c start fs ss ts ms false d deep) h (λ e. cc)

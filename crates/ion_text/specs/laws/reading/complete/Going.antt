@@ -1,7 +1,7 @@
 -- Tokens that go on to the end of a document, read one by one, and that the reader of octets has no reason to refuse before.
 use Rattle.std.proofs.Common.{◌≡◌, ℕ, ◌+◌, ◌≤◌, List, [], ◌∷◌, ◌++◌, Bool, true, false, Result, Ok, refl, ap, sym, ◌∙◌, subst, arith, ◌⊎◌, inl, inr}
 use Rattle.std.proofs.lemmas.Bool.{cond-false}
-use Rattle.ion_text.specs.Names.{Catalog, Content, Frame, Given, IsBody, Known, Leading, Left, Lexeme, Limits, Mark, Mark', Mode, Next, Now, Place, Placed, Reading, Reason, Says, Slot, Symbols, Token, TokenKind, Turn, Value, Walk, adds_values, at, begun_at, continues, done, end_of, feed, first_token, follow, fresh, gives, goes, in_place, is_fresh, is_idle, is_sexp, is_top, on_judged, on_placed, on_turn, place, place_in, reads, said, said_body, same_is, same_place, settle, settle_same, settle_still, stopped, token_of, turn}
+use Rattle.ion_text.specs.Names.{Catalog, Content, Frame, Given, IsBody, Known, Leading, Left, Lexeme, Limits, Mark, Mark', Mode, Next, Place, Placed, Reading, Reason, Says, Slot, Stage, Symbols, Token, TokenKind, Turn, Value, Walk, adds_values, at, begun_at, continues, done, end_of, feed, first_token, follow, fresh, gives, goes, in_place, is_fresh, is_idle, is_sexp, is_top, on_judged, on_placed, on_turn, place, place_in, reads, said, said_body, same_is, same_place, settle, settle_same, settle_still, stopped, token_of, turn}
 use Rattle.ion_tokens.proofs.runs.Runs.{feed_used, left_used}
 use Rattle.ion_text.specs.machine.TokenLists.{walked}
 use Rattle.ion_text.specs.laws.reading.complete.Complete.{body_kind}
@@ -17,13 +17,13 @@ Operators [] = Unit {0}
 Operators (t ∷ ts) = (t.lexeme.kind ≡ TokenKind.Operator → is_sexp t.place ≡ true) × Operators ts
 
 -- where no container is open, the place is the top level
-pub top_place : (fs : List Frame) (now : Now) → is_top fs ≡ true → place_in fs now ≡ Place.Top
+pub top_place : (fs : List Frame) (now : Stage) → is_top fs ≡ true → place_in fs now ≡ Place.Top
 top_place [] now h = refl
 top_place (f ∷ fs) now h = absurd cc
 
-start_inside : (now : Now) (start begin : ℕ) (fs : List Frame) (ss : Symbols) → is_top fs ≡ false → start_now now start begin fs ss ≡ start
-start_inside Now.Ready start begin (f ∷ fs) [] h = refl
-start_inside Now.Ready start begin [] ss h = absurd cc
+start_inside : (now : Stage) (start begin : ℕ) (fs : List Frame) (ss : Symbols) → is_top fs ≡ false → start_now now start begin fs ss ≡ start
+start_inside Stage.Ready start begin (f ∷ fs) [] h = refl
+start_inside Stage.Ready start begin [] ss h = absurd cc
 start_inside _ start begin _ _ h = refl
 
 -- a mark is said by a mark alone
@@ -84,7 +84,7 @@ module _ (g : Catalog) (l : Limits) where
   going_said r t ts all d = reads_said r d.n t ts d.vs d.read
 
   -- where a value may come, settling changes nothing
-  pub ready_still : (r : Reading) → r.now ≡ Now.Ready → settle g l r ≡ goes r
+  pub ready_still : (r : Reading) → r.now ≡ Stage.Ready → settle g l r ≡ goes r
   ready_still r e = subst (λ n. settle g l (at r.start r.context r.frames r.notes n) ≡ goes (at r.start r.context r.frames r.notes n)) (sym e) refl
 
   -- what waits goes on with the token, or nothing waits
@@ -164,7 +164,7 @@ module _ (g : Catalog) (l : Limits) where
   InsideTurn start _ = Unit {0}
 
   -- what waits in a container is settled there, in the same item
-  pub settle_inside : (start : ℕ) (c : List Slot) (fs : List Frame) (ss : Symbols) (now : Now) → is_top fs ≡ false
+  pub settle_inside : (start : ℕ) (c : List Slot) (fs : List Frame) (ss : Symbols) (now : Stage) → is_top fs ≡ false
       → InsideTurn start (settle g l (at start c fs ss now))
   settle_inside start c fs ss now h = go now refl
     where
@@ -174,10 +174,10 @@ module _ (g : Catalog) (l : Limits) where
       waited (gives v r) end k = let n : true ≡ false = sym k.0 ∙ h in cc
       waited _ end k = tt
 
-      go : (n : Now) → now ≡ n → InsideTurn start (settle g l (at start c fs ss now))
-      go (Now.Pending x end) e = waited (settle g l (at start c fs ss now)) (end_of_now now 0)
+      go : (n : Stage) → now ≡ n → InsideTurn start (settle g l (at start c fs ss now))
+      go (Stage.Pending x end) e = waited (settle g l (at start c fs ss now)) (end_of_now now 0)
           (settle_spans g l start c fs ss now 0 (subst (IsWaiting g l) (sym e) tt))
-      go (Now.Long w end) e = waited (settle g l (at start c fs ss now)) (end_of_now now 0)
+      go (Stage.Long w end) e = waited (settle g l (at start c fs ss now)) (end_of_now now 0)
           (settle_spans g l start c fs ss now 0 (subst (IsWaiting g l) (sym e) tt))
       go _ e = subst (λ n. InsideTurn start (settle g l (at start c fs ss n))) (sym e) (h, refl)
 
@@ -268,18 +268,18 @@ module _ (g : Catalog) (l : Limits) where
   LimitFor (t ∷ ts) = (r : Reading) (all : List Value) (c : Content) → TopOk r → Going r (t ∷ ts) all → said t.lexeme.kind t.lexeme.octets ≡ Ok c
       → Direct r (token_of t.lexeme c) → t.lexeme.end ≤ start_now r.now r.start t.lexeme.start r.frames r.notes + l.item
 
-  noted_start : (start begin : ℕ) (c : List Slot) (ss : Symbols) → is_fresh (at start c [] ss Now.Ready) ≡ false → begun_at start begin [] ss ≡ start
+  noted_start : (start begin : ℕ) (c : List Slot) (ss : Symbols) → is_fresh (at start c [] ss Stage.Ready) ≡ false → begun_at start begin [] ss ≡ start
   noted_start start begin c [] h = absurd cc
   noted_start start begin c (s ∷ ss) h = refl
 
-  waiting_start : (now : Now) (start begin : ℕ) (fs : List Frame) (ss : Symbols) → IsWaiting g l now → start_now now start begin fs ss ≡ start
-  waiting_start (Now.Pending h end) start begin fs ss w = refl
-  waiting_start (Now.Long v end) start begin fs ss w = refl
+  waiting_start : (now : Stage) (start begin : ℕ) (fs : List Frame) (ss : Symbols) → IsWaiting g l now → start_now now start begin fs ss ≡ start
+  waiting_start (Stage.Pending h end) start begin fs ss w = refl
+  waiting_start (Stage.Long v end) start begin fs ss w = refl
   waiting_start _ start begin fs ss w = absurd w
 
-  waiting_end : (now : Now) (end d : ℕ) → IsWaiting g l now → EndsAt now end → end_of_now now d ≡ end
-  waiting_end (Now.Pending h e) end d w k = k
-  waiting_end (Now.Long v e) end d w k = k
+  waiting_end : (now : Stage) (end d : ℕ) → IsWaiting g l now → EndsAt now end → end_of_now now d ≡ end
+  waiting_end (Stage.Pending h e) end d w k = k
+  waiting_end (Stage.Long v e) end d w k = k
   waiting_end _ end d w k = absurd w
 
   -- what is settled at the top level, and then goes on or ends, is within the limit on items
@@ -339,11 +339,11 @@ module _ (g : Catalog) (l : Limits) where
                     ]
                 one p c e false w' = bound (t ∷ ts) (inl (going_settle m t ts all c d e w'))
 
-        ready : m.now ≡ Now.Ready → (fs : List Frame) → m.frames ≡ fs → end ≤ m.start + l.item
+        ready : m.now ≡ Stage.Ready → (fs : List Frame) → m.frames ≡ fs → end ≤ m.start + l.item
         ready e (x ∷ fs) k = absurd (let n : false ≡ true = sym (ap is_top k) ∙ h in cc)
         ready e [] k = by ts meets ops rest past d
           where
-            whole : m ≡ at m.start m.context [] m.notes Now.Ready
+            whole : m ≡ at m.start m.context [] m.notes Stage.Ready
             whole = ap (λ x. at m.start m.context x m.notes m.now) k ∙ ap (λ x. at m.start m.context [] m.notes x) e
 
             by : (ts : List Placed) → Meets s os ts → Operators ts → LimitFor ts → EndsPast s.used ts → Going m ts all → end ≤ m.start + l.item
@@ -361,10 +361,10 @@ module _ (g : Catalog) (l : Limits) where
                   | inr j ↦ absurd (no_operator m t h p.0 ops.0 j)
                 ]
 
-        go : (n : Now) → m.now ≡ n → IsTopNow n → end ≤ m.start + l.item
-        go (Now.Pending k e) x y = waited (subst (IsWaiting g l) (sym x) tt)
-        go (Now.Long w e) x y = waited (subst (IsWaiting g l) (sym x) tt)
-        go Now.Ready x y = ready x m.frames refl
+        go : (n : Stage) → m.now ≡ n → IsTopNow n → end ≤ m.start + l.item
+        go (Stage.Pending k e) x y = waited (subst (IsWaiting g l) (sym x) tt)
+        go (Stage.Long w e) x y = waited (subst (IsWaiting g l) (sym x) tt)
+        go Stage.Ready x y = ready x m.frames refl
         go _ x y = absurd y
 
     -- behind a token

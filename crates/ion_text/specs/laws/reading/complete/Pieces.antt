@@ -2,7 +2,7 @@
 use Rattle.std.proofs.Common.{◌≡◌, ℕ, ◌+◌, ◌-◌, ◌≤◌, ◌==◌, nat_le, List, [], ◌∷◌, ◌++◌, Bool, true, false, ◌&&◌, ◌||◌, Ok, refl, ap, sym, ◌∙◌, subst, arith, append-nil, if◌then◌else◌, ◌⊎◌, inl, inr}
 use Rattle.std.proofs.lemmas.Bool.{cond-false, cond-true, false_from_ne_true}
 use Rattle.std.proofs.lemmas.Bool.Decides.{nat_tests}
-use Rattle.ion_text.specs.Names.{Annotations, Catalog, Content, IsBody, Leading, Limits, Long, Mark, Mark', Means, Now, Pieces, Place, Placed, Quoted, Reading, Says, Slot, Symbols, Token, TokenKind, Turn, Value, Walk, Word, adds_adds, adds_none, adds_values, annotated, at, begins, begins_as_long, continues, done, ends_long, first_token, fresh, gives, goes, held_word, holds, in_place, is_segment, is_table, is_top, is_two_quotes, is_version_word, marked, means, no_annotation, on_judged, on_turn, one_annotation, place, reads, reads-append, released, said, said_ok, settle, settle_same, span, spot_at, system_slots, the_marker, then_walk, token_of, turn, turned, turns, under}
+use Rattle.ion_text.specs.Names.{Annotations, Catalog, Content, IsBody, Leading, Limits, Long, Mark, Mark', Means, Pieces, Place, Placed, Quoted, Reading, Says, Slot, Stage, Symbols, Token, TokenKind, Turn, Value, Walk, Word, adds_adds, adds_none, adds_values, annotated, at, begins, begins_as_long, continues, done, ends_long, first_token, fresh, gives, goes, held_word, holds, in_place, is_segment, is_table, is_top, is_two_quotes, is_version_word, marked, means, no_annotation, on_judged, on_turn, one_annotation, place, reads, reads-append, released, said, said_ok, settle, settle_same, span, spot_at, system_slots, the_marker, then_walk, token_of, turn, turned, turns, under}
 use Rattle.ion_text.specs.Grammar.{end_of}
 use Rattle.ion_text.specs.machine.TokenLists.{walked}
 use Rattle.ion_text.specs.laws.reading.complete.Complete.{body_kind, Begins, LeadsToTurn, at_once, by_held, by_long', means_begins, means_read, pending_goes, segment_kind, starts, word_token}
@@ -96,11 +96,11 @@ module _ (g : Catalog) (l : Limits) where
       front (x ∷ y ∷ ts) t us = front (y ∷ ts) t us
       front _ t us = refl
 
-  long_goes_top : (start : ℕ) (c : List Slot) (ss : Symbols) (w : List ℕ) (end : ℕ) (t : Token) → continues (at start c [] ss (Now.Long w end)) t ≡ true
+  long_goes_top : (start : ℕ) (c : List Slot) (ss : Symbols) (w : List ℕ) (end : ℕ) (t : Token) → continues (at start c [] ss (Stage.Long w end)) t ≡ true
       → GoesOn t
   long_goes_top start c ss w end t e = go t.said refl e
     where
-      go : (s : Content) → t.said ≡ s → continues (at start c [] ss (Now.Long w end)) (record { start = t.start; end = t.end; said = s }) ≡ true → GoesOn t
+      go : (s : Content) → t.said ≡ s → continues (at start c [] ss (Stage.Long w end)) (record { start = t.start; end = t.end; said = s }) ≡ true → GoesOn t
       go (Long v) k e = inl (v, k)
       go (Quoted v) k e = inr (v, k, e)
       go _ k e = absurd cc
@@ -121,7 +121,7 @@ module _ (g : Catalog) (l : Limits) where
   piece_more ts us s more c d t r b e (by_held start ss h end i j) k = record {
     given = s ++ [];
     later = more;
-    now = at start c [] ss (Now.Pending h end);
+    now = at start c [] ss (Stage.Pending h end);
     read = more_read ts us s c r b e ∙ ap (adds_values s) i;
     settles = ap (λ x. on_turn x done) j ∙ k;
     all = ap (λ x. x ++ more) (sym (append-nil s));
@@ -130,7 +130,7 @@ module _ (g : Catalog) (l : Limits) where
   piece_more ts us s more c d t r b e (by_long' start ss w end i j n) k = record {
     given = s ++ [];
     later = more;
-    now = at start c [] ss (Now.Long w end);
+    now = at start c [] ss (Stage.Long w end);
     read = more_read ts us s c r b e ∙ ap (adds_values s) i;
     settles = ap (λ x. on_turn x done) j ∙ k;
     all = ap (λ x. x ++ more) (sym (append-nil s));

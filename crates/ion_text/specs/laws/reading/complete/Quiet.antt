@@ -1,7 +1,7 @@
 -- In octets that are a document the reader of octets finds no reason to refuse before a token has ended.
 use Rattle.std.proofs.Common.{◌≡◌, ℕ, ◌+◌, ◌-◌, ◌≤◌, ◌==◌, List, [], ◌∷◌, Bool, true, false, ◌&&◌, ◌||◌, not, Ok, Option, Some, None, refl, ap, sym, ◌∙◌, subst, arith, if◌then◌else◌, ◌⊎◌, inl, inr}
 use Rattle.std.proofs.lemmas.Bool.{and_parts, both_ways, cond-false, cond-true, false_from_ne_true, le-leb, not-true, true_from_ne_false}
-use Rattle.ion_text.specs.Names.{Catalog, Content, Frame, Held, IsBody, Known, Limits, Long, Mark, Mark', Mode, Next, Now, Place, Placed, Reading, Reason, Slot, Style, Symbols, TokenKind, Value, at, begun_in, behind, continues, form_of, goes, is_closing, is_fresh, is_idle, is_long_begun, is_long_form, is_quoting, is_sane, is_top, longest_top, noticed, reaches, refuses, said, said_body, settle, shut, token_at, token_of, turn_now, under, uses, with_scan}
+use Rattle.ion_text.specs.Names.{Catalog, Content, Frame, Held, IsBody, Known, Limits, Long, Mark, Mark', Mode, Next, Place, Placed, Reading, Reason, Slot, Stage, Style, Symbols, TokenKind, Value, at, begun_in, behind, continues, form_of, goes, is_closing, is_fresh, is_idle, is_long_begun, is_long_form, is_quoting, is_sane, is_top, longest_top, noticed, reaches, refuses, said, said_body, settle, shut, token_at, token_of, turn_now, under, uses, with_scan}
 use Rattle.ion_tokens.proofs.foreseen.Begins.{end_idle}
 use Rattle.ion_text.specs.laws.reading.complete.Going.{Direct, EndsPast, Going, Operators, TopOk, TurnEnds, TurnGoes, going_ends, going_said, going_turn, idle_past, limit, mark_kind, no_operator, ready_still, top_limit, used_inside}
 use Rattle.ion_text.specs.laws.reading.complete.Meets.{Meets, at_blank, begun_closing, begun_span, follows_as, idle_span, in_blank, is_long_text, long_segment, meets_next}
@@ -11,28 +11,28 @@ use Rattle.ion_text.specs.laws.reading.sound.Spans.{IsTopNow, IsWaiting}
 use Rattle.ion_text.specs.laws.reading.sound.StandsOpen.{EndsAt, start_now}
 
 -- while something waits at the top level, no token has begun with which it doesn't go on
-abbrev pub CalmNow : Now → Mode → Type 0
-CalmNow Now.Ready m = Unit {0}
-CalmNow (Now.Pending h end) m = is_idle m ≡ true
-CalmNow (Now.Long w end) m = (is_idle m || is_quoting m) ≡ true
+abbrev pub CalmNow : Stage → Mode → Type 0
+CalmNow Stage.Ready m = Unit {0}
+CalmNow (Stage.Pending h end) m = is_idle m ≡ true
+CalmNow (Stage.Long w end) m = (is_idle m || is_quoting m) ≡ true
 CalmNow _ m = ⊥
 
 -- what waits ended within these octets
-abbrev pub EndedIn : ℕ → Now → Type 0
-EndedIn used (Now.Pending h end) = end ≤ used
-EndedIn used (Now.Long w end) = end ≤ used
+abbrev pub EndedIn : ℕ → Stage → Type 0
+EndedIn used (Stage.Pending h end) = end ≤ used
+EndedIn used (Stage.Long w end) = end ≤ used
 EndedIn used _ = Unit {0}
 
 -- what waits and ended within so many octets ended within more
-pub ended_more : (n : Now) (used more : ℕ) → used ≤ more → EndedIn used n → EndedIn more n
-ended_more (Now.Pending h end) used more le e = omega (arith, le, e)
-ended_more (Now.Long w end) used more le e = omega (arith, le, e)
+pub ended_more : (n : Stage) (used more : ℕ) → used ≤ more → EndedIn used n → EndedIn more n
+ended_more (Stage.Pending h end) used more le e = omega (arith, le, e)
+ended_more (Stage.Long w end) used more le e = omega (arith, le, e)
 ended_more _ used more le e = tt
 
 -- what waits and ended at an octet ended within those up to it
-pub ended_at : (n : Now) (end : ℕ) → EndsAt n end → EndedIn end n
-ended_at (Now.Pending h e) end at' = omega (arith, at')
-ended_at (Now.Long w e) end at' = omega (arith, at')
+pub ended_at : (n : Stage) (end : ℕ) → EndsAt n end → EndedIn end n
+ended_at (Stage.Pending h e) end at' = omega (arith, at')
+ended_at (Stage.Long w e) end at' = omega (arith, at')
 ended_at _ end at' = tt
 
 -- at the top level no token has begun that could disturb what waits, which ended within the octets used
@@ -40,10 +40,10 @@ abbrev pub Calm : Known → Reading → Type 0
 Calm s r = is_top r.frames ≡ true → CalmNow r.now s.mode × EndedIn s.used r.now
 
 -- what is calm is what may be at the top level
-pub calm_now : (n : Now) (m : Mode) → CalmNow n m → IsTopNow n
-calm_now Now.Ready m c = tt
-calm_now (Now.Pending h end) m c = tt
-calm_now (Now.Long w end) m c = tt
+pub calm_now : (n : Stage) (m : Mode) → CalmNow n m → IsTopNow n
+calm_now Stage.Ready m c = tt
+calm_now (Stage.Pending h end) m c = tt
+calm_now (Stage.Long w end) m c = tt
 calm_now _ m c = c
 
 -- where it is calm, the reader is as it may be at the top level
@@ -69,26 +69,26 @@ module _ (g : Catalog) (l : Limits) where
   ClosingSaid c = (m : Mark) × (c ≡ Mark' m) × (is_closing (TokenKind.Mark m) ≡ true)
 
   -- and no other token does
-  pub shut_said : (begin end start : ℕ) (slots : List Slot) (fs : List Frame) (ss : Symbols) (c : Content) (now : Now) → shut now ≡ true
+  pub shut_said : (begin end start : ℕ) (slots : List Slot) (fs : List Frame) (ss : Symbols) (c : Content) (now : Stage) → shut now ≡ true
       → (ClosingSaid c) ⊎ (turn_now (under g l) (at start slots fs ss now) (token_at begin end c) now ≡ refuses Reason.Unexpected)
-  shut_said begin end start slots fs ss (Mark' Mark.Comma) Now.After h = inl (Mark.Comma, refl, refl)
-  shut_said begin end start slots fs ss (Mark' Mark.ListClose) Now.After h = inl (Mark.ListClose, refl, refl)
-  shut_said begin end start slots fs ss (Mark' Mark.FieldsClose) Now.After h = inl (Mark.FieldsClose, refl, refl)
-  shut_said begin end start slots fs ss (Mark' Mark.Colon) (Now.Keyed s) h = inl (Mark.Colon, refl, refl)
-  shut_said begin end start slots fs ss c Now.Ready h = absurd cc
-  shut_said begin end start slots fs ss c (Now.Pending k e) h = absurd cc
-  shut_said begin end start slots fs ss c (Now.Long w e) h = absurd cc
-  shut_said begin end start slots fs ss c Now.Name h = absurd cc
-  shut_said begin end start slots fs ss c (Now.LongName w) h = absurd cc
+  shut_said begin end start slots fs ss (Mark' Mark.Comma) Stage.After h = inl (Mark.Comma, refl, refl)
+  shut_said begin end start slots fs ss (Mark' Mark.ListClose) Stage.After h = inl (Mark.ListClose, refl, refl)
+  shut_said begin end start slots fs ss (Mark' Mark.FieldsClose) Stage.After h = inl (Mark.FieldsClose, refl, refl)
+  shut_said begin end start slots fs ss (Mark' Mark.Colon) (Stage.Keyed s) h = inl (Mark.Colon, refl, refl)
+  shut_said begin end start slots fs ss c Stage.Ready h = absurd cc
+  shut_said begin end start slots fs ss c (Stage.Pending k e) h = absurd cc
+  shut_said begin end start slots fs ss c (Stage.Long w e) h = absurd cc
+  shut_said begin end start slots fs ss c Stage.Name h = absurd cc
+  shut_said begin end start slots fs ss c (Stage.LongName w) h = absurd cc
   shut_said begin end start slots fs ss _ _ h = inr refl
 
   -- there nothing waits
   pub shut_still : (r : Reading) → shut r.now ≡ true → settle g l r ≡ goes r
   shut_still r h = go r.now refl
     where
-      go : (n : Now) → r.now ≡ n → settle g l r ≡ goes r
-      go Now.After e = subst (λ n. settle g l (at r.start r.context r.frames r.notes n) ≡ goes (at r.start r.context r.frames r.notes n)) (sym e) refl
-      go (Now.Keyed s) e = subst (λ n. settle g l (at r.start r.context r.frames r.notes n) ≡ goes (at r.start r.context r.frames r.notes n)) (sym e) refl
+      go : (n : Stage) → r.now ≡ n → settle g l r ≡ goes r
+      go Stage.After e = subst (λ n. settle g l (at r.start r.context r.frames r.notes n) ≡ goes (at r.start r.context r.frames r.notes n)) (sym e) refl
+      go (Stage.Keyed s) e = subst (λ n. settle g l (at r.start r.context r.frames r.notes n) ≡ goes (at r.start r.context r.frames r.notes n)) (sym e) refl
       go _ e = absurd (let n : false ≡ true = sym (ap shut e) ∙ h in cc)
 
   module _ (s : Known) (os : List ℕ) (sane : is_sane s.mode ≡ true) (fine : Fine s) (used : 1 ≤ s.used) (r : Reading) (all : List Value) (calm : Calm s r) where
@@ -132,7 +132,7 @@ module _ (g : Catalog) (l : Limits) where
       next_end : is_idle s.mode ≡ true → s.used ≤ t.lexeme.end
       next_end i = elim (idle_span s os t ts m fine i) [ inl h ↦ h | inr h ↦ absurd (own h) ]
 
-    ready_same : (fs : List Frame) (ss : Symbols) → r.frames ≡ fs → r.notes ≡ ss → r.now ≡ Now.Ready → r ≡ at r.start r.context fs ss Now.Ready
+    ready_same : (fs : List Frame) (ss : Symbols) → r.frames ≡ fs → r.notes ≡ ss → r.now ≡ Stage.Ready → r ≡ at r.start r.context fs ss Stage.Ready
     ready_same fs ss a b c = ap (λ x. at r.start r.context x r.notes r.now) a
         ∙ (ap (λ x. at r.start r.context fs x r.now) b ∙ ap (λ x. at r.start r.context fs ss x) c)
 
@@ -141,13 +141,13 @@ module _ (g : Catalog) (l : Limits) where
       top = ap is_top none
 
       -- an item that begins
-      fresh_reaches : r.notes ≡ [] → r.now ≡ Now.Ready → (i : Bool) → is_idle s.mode ≡ i
-          → longest_top r.start s.used Now.Ready [] (if i then None else Some
+      fresh_reaches : r.notes ≡ [] → r.now ≡ Stage.Ready → (i : Bool) → is_idle s.mode ≡ i
+          → longest_top r.start s.used Stage.Ready [] (if i then None else Some
           (record { start = s.start; end = s.used - behind s.mode; form = form_of s.mode })) (is_long_begun (begun_in s)) ≤ l.item
       fresh_reaches a b true i = omega arith
       fresh_reaches a b false i = by ts m ops d
         where
-          same : r ≡ at r.start r.context [] [] Now.Ready
+          same : r ≡ at r.start r.context [] [] Stage.Ready
           same = ready_same [] [] none a b
 
           by : (ts : List Placed) → Meets s os ts → Operators ts → Going g l r ts all → s.used - behind s.mode - s.start ≤ l.item
@@ -161,16 +161,16 @@ module _ (g : Catalog) (l : Limits) where
               omega (arith, k, x.0, x.1, e)
 
       -- behind annotations
-      noted_reaches : (n : Option (List ℕ)) (ns : Symbols) → r.notes ≡ n ∷ ns → r.now ≡ Now.Ready → (i : Bool) → is_idle s.mode ≡ i
-          → longest_top r.start s.used Now.Ready (n ∷ ns) (if i then None else Some
+      noted_reaches : (n : Option (List ℕ)) (ns : Symbols) → r.notes ≡ n ∷ ns → r.now ≡ Stage.Ready → (i : Bool) → is_idle s.mode ≡ i
+          → longest_top r.start s.used Stage.Ready (n ∷ ns) (if i then None else Some
           (record { start = s.start; end = s.used - behind s.mode; form = form_of s.mode })) (is_long_begun (begun_in s)) ≤ l.item
       noted_reaches n ns a b i e = by ts m ops d i e
         where
-          same : r ≡ at r.start r.context [] (n ∷ ns) Now.Ready
+          same : r ≡ at r.start r.context [] (n ∷ ns) Stage.Ready
           same = ready_same [] (n ∷ ns) none a b
 
           by : (ts : List Placed) → Meets s os ts → Operators ts → Going g l r ts all → (i : Bool) → is_idle s.mode ≡ i
-              → longest_top r.start s.used Now.Ready (n ∷ ns) (if i then None else Some
+              → longest_top r.start s.used Stage.Ready (n ∷ ns) (if i then None else Some
               (record { start = s.start; end = s.used - behind s.mode; form = form_of s.mode })) (is_long_begun (begun_in s)) ≤ l.item
           by [] m ops d i e =
               let x = subst (λ y. TurnEnds g l y all) (ready_still g l r b) (going_ends g l r all d) in
@@ -190,7 +190,7 @@ module _ (g : Catalog) (l : Limits) where
               omega (arith, k, x.1, f)
 
       -- behind a long string, one more segment
-      long_reaches : (w : List ℕ) (end : ℕ) → r.now ≡ Now.Long w end → is_idle s.mode ≡ false → is_long_text s.mode ≡ true
+      long_reaches : (w : List ℕ) (end : ℕ) → r.now ≡ Stage.Long w end → is_idle s.mode ≡ false → is_long_text s.mode ≡ true
           → s.used - behind s.mode - r.start ≤ l.item
       long_reaches w end a i h = by ts m ops d
         where
@@ -210,9 +210,9 @@ module _ (g : Catalog) (l : Limits) where
       ended : EndedIn s.used r.now
       ended = (calm top).1
 
-      waiting_unfresh : (fs : List Frame) (ss : Symbols) (n : Now) → IsWaiting g l n → is_fresh (at r.start r.context fs ss n) ≡ false
-      waiting_unfresh [] [] (Now.Pending h e) w = refl
-      waiting_unfresh [] [] (Now.Long v e) w = refl
+      waiting_unfresh : (fs : List Frame) (ss : Symbols) (n : Stage) → IsWaiting g l n → is_fresh (at r.start r.context fs ss n) ≡ false
+      waiting_unfresh [] [] (Stage.Pending h e) w = refl
+      waiting_unfresh [] [] (Stage.Long v e) w = refl
       waiting_unfresh [] (x ∷ ss) n w = refl
       waiting_unfresh (f ∷ fs) ss n w = refl
       waiting_unfresh [] [] _ w = absurd w
@@ -222,13 +222,13 @@ module _ (g : Catalog) (l : Limits) where
           let k = top_limit g l s os end fine le ts m ops (limit g l s os ts m fine ops) past r all top (waiting_unfresh r.frames r.notes r.now w) ok at' d in
           omega (arith, k)
 
-      pending_reaches : (h : Held) (end : ℕ) → r.now ≡ Now.Pending h end → end - r.start ≤ l.item
+      pending_reaches : (h : Held) (end : ℕ) → r.now ≡ Stage.Pending h end → end - r.start ≤ l.item
       pending_reaches h end e =
           waiting_reaches end (subst (EndedIn s.used) e ended) (subst (IsWaiting g l) (sym e) tt) (subst IsTopNow (sym e) tt)
           (subst (λ n. EndsAt n end) (sym e) refl)
           (idle_past g l s os ts m fine (subst (λ n. CalmNow n s.mode) e (calm top).0))
 
-      held_reaches : (w : List ℕ) (end : ℕ) → r.now ≡ Now.Long w end → end - r.start ≤ l.item
+      held_reaches : (w : List ℕ) (end : ℕ) → r.now ≡ Stage.Long w end → end - r.start ≤ l.item
       held_reaches w end e =
           waiting_reaches end (subst (EndedIn s.used) e ended) (subst (IsWaiting g l) (sym e) tt) (subst IsTopNow (sym e) tt)
           (subst (λ n. EndsAt n end) (sym e) refl)
@@ -247,8 +247,8 @@ module _ (g : Catalog) (l : Limits) where
               let k = quoting_behind s.mode (subst (λ n. CalmNow n s.mode) e (calm top).0) in
               inl (omega (arith, x.1, k))
 
-      long_longest : (w : List ℕ) (end : ℕ) → r.now ≡ Now.Long w end → (i : Bool) → is_idle s.mode ≡ i
-          → longest_top r.start s.used (Now.Long w end) r.notes
+      long_longest : (w : List ℕ) (end : ℕ) → r.now ≡ Stage.Long w end → (i : Bool) → is_idle s.mode ≡ i
+          → longest_top r.start s.used (Stage.Long w end) r.notes
           (if i then None else Some (record { start = s.start; end = s.used - behind s.mode; form = form_of s.mode }))
           (is_long_begun (if i then None else Some (record { start = s.start; end = s.used - behind s.mode; form = form_of s.mode }))) ≤ l.item
       long_longest w end a true i = held_reaches w end a
@@ -260,12 +260,12 @@ module _ (g : Catalog) (l : Limits) where
           go true e false f = long_reaches w end a i (long_is s.mode i e f)
           go _ e _ f = held_reaches w end a
 
-      top_reaches : (n : Now) → r.now ≡ n → (ss : Symbols) → r.notes ≡ ss → IsTopNow n
+      top_reaches : (n : Stage) → r.now ≡ n → (ss : Symbols) → r.notes ≡ ss → IsTopNow n
           → longest_top r.start s.used n ss (begun_in s) (is_long_begun (begun_in s)) ≤ l.item
-      top_reaches Now.Ready e [] f k = fresh_reaches f e (is_idle s.mode) refl
-      top_reaches Now.Ready e (x ∷ ss) f k = noted_reaches x ss f e (is_idle s.mode) refl
-      top_reaches (Now.Pending h end) e ss f k = pending_reaches h end e
-      top_reaches (Now.Long w end) e ss f k = subst (λ y. longest_top r.start s.used (Now.Long w end) y (begun_in s) (is_long_begun (begun_in s)) ≤ l.item) f
+      top_reaches Stage.Ready e [] f k = fresh_reaches f e (is_idle s.mode) refl
+      top_reaches Stage.Ready e (x ∷ ss) f k = noted_reaches x ss f e (is_idle s.mode) refl
+      top_reaches (Stage.Pending h end) e ss f k = pending_reaches h end e
+      top_reaches (Stage.Long w end) e ss f k = subst (λ y. longest_top r.start s.used (Stage.Long w end) y (begun_in s) (is_long_begun (begun_in s)) ≤ l.item) f
           (long_longest w end e (is_idle s.mode) refl)
       top_reaches _ e ss f k = absurd k
 

@@ -1,7 +1,7 @@
 -- Behind a long string that waits: while a segment of it is open, each octet goes on with it, or is refused.
 use Rattle.std.proofs.Common.{◌≡◌, ℕ, Bool, true, false, ◌||◌, refl, sym, ap, subst, Some, None, if◌then◌else◌, ◌-◌, inl, inr}
 use Rattle.std.proofs.lemmas.Bool.{both_ways, false_from_ne_true, or_cases, or_from, or_right}
-use Rattle.ion_text.specs.Names.{Given, Known, Left, Mode, Next, Now, Outcome, Place, Reading, Refused, Style, behind, feed, form_of, has_segment, in_segment, is_idle, is_quoting, is_top, unsettled, waits, waits_now}
+use Rattle.ion_text.specs.Names.{Given, Known, Left, Mode, Next, Outcome, Place, Reading, Refused, Stage, Style, behind, feed, form_of, has_segment, in_segment, is_idle, is_quoting, is_top, unsettled, waits, waits_now}
 use Rattle.ion_text.specs.laws.reading.complete.Meets.{LongOn, is_long_text, long_feed}
 
 -- no test holds and fails
@@ -26,11 +26,11 @@ segment_text (Mode.Text Style.LongString w) start used false h = refl
 segment_text _ start used _ h = absurd cc
 
 -- where a segment is open, a long text is
-pub in_text : (s : Known) (w : _) (end : ℕ) → in_segment (Now.Long w end) s ≡ true → is_long_text s.mode ≡ true
+pub in_text : (s : Known) (w : _) (end : ℕ) → in_segment (Stage.Long w end) s ≡ true → is_long_text s.mode ≡ true
 in_text s w end h = segment_text s.mode s.start (s.used - behind s.mode) (is_idle s.mode) h
 
 -- and where none is, none is
-pub no_text : (s : Known) (w : _) (end : ℕ) → in_segment (Now.Long w end) s ≡ false → is_long_text s.mode ≡ false
+pub no_text : (s : Known) (w : _) (end : ℕ) → in_segment (Stage.Long w end) s ≡ false → is_long_text s.mode ≡ false
 no_text s w end h = go s.mode h
   where
     go : (m : Mode) → has_segment (if is_idle m then None else Some (record { start = s.start; end = s.used - behind m; form = form_of m })) ≡ false
@@ -43,15 +43,15 @@ abbrev pub NotRefused : Outcome → Type 0
 NotRefused (Refused n e) = ⊥
 NotRefused _ = Unit {0}
 
-long_text_goes : (top : Bool) (x : Outcome) → LongOn x → NotRefused x → (w : _) (end : ℕ) → waits_now top (Now.Long w end) x ≡ true
+long_text_goes : (top : Bool) (x : Outcome) → LongOn x → NotRefused x → (w : _) (end : ℕ) → waits_now top (Stage.Long w end) x ≡ true
 long_text_goes top (Next t) h n w end = quoting_goes t.mode (long_quoting t.mode h)
 long_text_goes top (Given x t) h n w end = h
 long_text_goes top (Left x t) h n w end = absurd h
 long_text_goes top (Refused i e) h n w end = absurd n
 
-segment_goes : (p : Place) (s : Known) (top : Bool) (now : Now) (o : ℕ) → in_segment now s ≡ true → NotRefused (feed p s o) → waits_now top now (feed p s o)
+segment_goes : (p : Place) (s : Known) (top : Bool) (now : Stage) (o : ℕ) → in_segment now s ≡ true → NotRefused (feed p s o) → waits_now top now (feed p s o)
     ≡ true
-segment_goes p s top (Now.Long w end) o h n = long_text_goes top (feed p s o)
+segment_goes p s top (Stage.Long w end) o h n = long_text_goes top (feed p s o)
     (long_feed p s o (segment_text s.mode s.start (s.used - behind s.mode) (is_idle s.mode) h)) n w end
 segment_goes p s top _ o h n = absurd cc
 

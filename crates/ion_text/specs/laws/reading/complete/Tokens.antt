@@ -2,7 +2,7 @@
 use Rattle.std.proofs.Common.{◌≡◌, ℕ, ◌+◌, ◌-◌, ◌==◌, List, Bool, true, false, cond, ◌&&◌, ◌||◌, Ok, Err, Some, refl, ap, sym, ◌∙◌, subst, arith, inl, inr}
 use Rattle.std.proofs.lemmas.Bool.{and_right, or_from, or_parts}
 use Rattle.std.proofs.lemmas.Bool.Decides.{nat_tests}
-use Rattle.ion_text.specs.Names.{Action, Content, Frame, Given, Held, IsBody, Keep, Known, Left, Lexeme, Long, Mark, Mark', Mode, Next, Now, Place, Placed, Quoted, Reason, Style, TokenKind, Within, acts, at_end, before, continues_now, end_of, ends_at, feed, in_text, is_closing, is_colons, is_idle, is_quoted, is_quoting, is_sane, is_segment, is_top, is_two_quotes, raw, start_of, token_of, waits_now}
+use Rattle.ion_text.specs.Names.{Action, Content, Frame, Given, Held, IsBody, Keep, Known, Left, Lexeme, Long, Mark, Mark', Mode, Next, Place, Placed, Quoted, Reason, Stage, Style, TokenKind, Within, acts, at_end, before, continues_now, end_of, ends_at, feed, in_text, is_closing, is_colons, is_idle, is_quoted, is_quoting, is_sane, is_segment, is_top, is_two_quotes, raw, start_of, token_of, waits_now}
 use Rattle.ion_tokens.specs.machine.Table.{next}
 use Rattle.ion_text.specs.laws.reading.complete.Complete.{body_kind, kind_said, segment_kind}
 use Rattle.ion_text.specs.laws.reading.complete.Exact.{Exact, exact}
@@ -15,10 +15,10 @@ use Rattle.ion_text.specs.laws.reading.sound.StandsOpen.{no_segment}
 
 -- a token is `::` just where a symbol that waits goes on with what it says
 pub colons_agree : (top : Bool) (h : Held) (e start end : ℕ) (k : TokenKind) (octets : List ℕ) (c : Content) → IsBody k octets (Ok c)
-    → is_colons k ≡ continues_now top (Now.Pending h e) (record { start = start; end = end; said = c })
+    → is_colons k ≡ continues_now top (Stage.Pending h e) (record { start = start; end = end; said = c })
 colons_agree top h e start end k octets c b = ap is_colons (body_kind k octets c b) ∙ by c
   where
-    by : (c : Content) → is_colons (kind_said c) ≡ continues_now top (Now.Pending h e) (record { start = start; end = end; said = c })
+    by : (c : Content) → is_colons (kind_said c) ≡ continues_now top (Stage.Pending h e) (record { start = start; end = end; said = c })
     by (Mark' Mark.Colons) = refl
     by (Mark' _) = refl
     by _ = refl
@@ -42,13 +42,13 @@ neither top start end _ octets c n m b = and_right top false refl
 
 -- a long string goes on with a segment, and at the top level with `''`
 pub long_goes : (top : Bool) (w : List ℕ) (e start end : ℕ) (k : TokenKind) (octets : List ℕ) (c : Content) → IsBody k octets (Ok c)
-    → continues_now top (Now.Long w e) (record { start = start; end = end; said = c }) ≡ (is_segment k || (top && is_two_quotes k start end))
+    → continues_now top (Stage.Long w e) (record { start = start; end = end; said = c }) ≡ (is_segment k || (top && is_two_quotes k start end))
 long_goes top w e start end k octets (Long v) b = sym (ap (λ x. x || (top && is_two_quotes k start end)) (segment_kind k octets v b))
 long_goes top w e start end k octets (Quoted v) b = sym (ap (λ x. is_segment x || (top && is_two_quotes x start end)) (quoted_kind k octets v b))
 long_goes top w e start end k octets z b = sym (neither top start end k octets z (λ x y. cc) (λ x y. cc) b)
 
 name_goes : (top : Bool) (w : List ℕ) (start end : ℕ) (k : TokenKind) (octets : List ℕ) (c : Content) → IsBody k octets (Ok c)
-    → continues_now top (Now.LongName w) (record { start = start; end = end; said = c }) ≡ is_segment k
+    → continues_now top (Stage.LongName w) (record { start = start; end = end; said = c }) ≡ is_segment k
 name_goes top w start end k octets (Long v) b = sym (segment_agree k octets (Long v) b)
 name_goes top w start end k octets x b = sym (segment_agree k octets x b)
 
@@ -61,38 +61,38 @@ or_none false b true h = sym h
 or_none _ b _ h = refl
 
 -- where the octet shows that nothing goes on, the token that has begun doesn't go on
-pub next_agrees : (fs : List Frame) (now : Now) (s : Known) (t : Placed) (c : Content) → MeetsNext s t
+pub next_agrees : (fs : List Frame) (now : Stage) (s : Known) (t : Placed) (c : Content) → MeetsNext s t
     → is_sane s.mode ≡ true → Fine s → IsBody t.lexeme.kind t.lexeme.octets (Ok c) → waits_now (is_top fs) now (Next s) ≡ false
     → continues_now (is_top fs) now (token_of t.lexeme c) ≡ false
-next_agrees fs (Now.Pending h e) s t c m sane f b w = sym (colons_agree (is_top fs) h e t.lexeme.start t.lexeme.end t.lexeme.kind t.lexeme.octets c b)
+next_agrees fs (Stage.Pending h e) s t c m sane f b w = sym (colons_agree (is_top fs) h e t.lexeme.start t.lexeme.end t.lexeme.kind t.lexeme.octets c b)
     ∙ closing_colons t.lexeme.kind (begun_closing s t m sane w)
-next_agrees fs (Now.Long v e) s t c m sane f b w =
+next_agrees fs (Stage.Long v e) s t c m sane f b w =
     let x = begun_apart s t m sane f (or_parts (is_idle s.mode) (is_quoting s.mode) w) in
     long_goes (is_top fs) v e t.lexeme.start t.lexeme.end t.lexeme.kind t.lexeme.octets c b
     ∙ or_from (is_segment t.lexeme.kind) (is_top fs && is_two_quotes t.lexeme.kind t.lexeme.start t.lexeme.end) x.0
     (and_right (is_top fs) (is_two_quotes t.lexeme.kind t.lexeme.start t.lexeme.end) x.1)
-next_agrees fs (Now.LongName v) s t c m sane f b w =
+next_agrees fs (Stage.LongName v) s t c m sane f b w =
     let x = begun_apart s t m sane f (or_parts (is_idle s.mode) (is_quoting s.mode) w) in
     name_goes (is_top fs) v t.lexeme.start t.lexeme.end t.lexeme.kind t.lexeme.octets c b ∙ x.0
 next_agrees fs _ s t c m sane f b w = refl
 
 -- a token that is given
-pub given_agrees : (fs : List Frame) (now : Now) (s : Known) (x : Lexeme) (c : Content) → IsBody x.kind x.octets (Ok c) → is_two_quotes x.kind x.start x.end
+pub given_agrees : (fs : List Frame) (now : Stage) (s : Known) (x : Lexeme) (c : Content) → IsBody x.kind x.octets (Ok c) → is_two_quotes x.kind x.start x.end
     ≡ false → waits_now (is_top fs) now (Given x s) ≡ continues_now (is_top fs) now (token_of x c)
-given_agrees fs (Now.Pending h e) s x c b two = colons_agree (is_top fs) h e x.start x.end x.kind x.octets c b
-given_agrees fs (Now.Long v e) s x c b two = or_none (is_segment x.kind) (is_two_quotes x.kind x.start x.end) (is_top fs) two
+given_agrees fs (Stage.Pending h e) s x c b two = colons_agree (is_top fs) h e x.start x.end x.kind x.octets c b
+given_agrees fs (Stage.Long v e) s x c b two = or_none (is_segment x.kind) (is_two_quotes x.kind x.start x.end) (is_top fs) two
     ∙ sym (long_goes (is_top fs) v e x.start x.end x.kind x.octets c b)
-given_agrees fs (Now.LongName v) s x c b two = sym (name_goes (is_top fs) v x.start x.end x.kind x.octets c b)
+given_agrees fs (Stage.LongName v) s x c b two = sym (name_goes (is_top fs) v x.start x.end x.kind x.octets c b)
 given_agrees fs _ s x c b two = refl
 
 -- a token that is left
-pub left_agrees : (fs : List Frame) (now : Now) (s : Known) (x : Lexeme) (c : Content) → IsBody x.kind x.octets (Ok c) → is_colons x.kind ≡ false
+pub left_agrees : (fs : List Frame) (now : Stage) (s : Known) (x : Lexeme) (c : Content) → IsBody x.kind x.octets (Ok c) → is_colons x.kind ≡ false
     → is_segment x.kind ≡ false → is_two_quotes x.kind x.start x.end ≡ is_quoted x.kind → waits_now (is_top fs) now (Left x s)
     ≡ continues_now (is_top fs) now (token_of x c)
-left_agrees fs (Now.Pending h e) s x c b col seg two = sym col ∙ colons_agree (is_top fs) h e x.start x.end x.kind x.octets c b
-left_agrees fs (Now.Long v e) s x c b col seg two = ap (λ y. is_top fs && y) (sym two)
+left_agrees fs (Stage.Pending h e) s x c b col seg two = sym col ∙ colons_agree (is_top fs) h e x.start x.end x.kind x.octets c b
+left_agrees fs (Stage.Long v e) s x c b col seg two = ap (λ y. is_top fs && y) (sym two)
     ∙ (sym (ap (λ y. y || (is_top fs && is_two_quotes x.kind x.start x.end)) seg) ∙ sym (long_goes (is_top fs) v e x.start x.end x.kind x.octets c b))
-left_agrees fs (Now.LongName v) s x c b col seg two = sym (name_goes (is_top fs) v x.start x.end x.kind x.octets c b ∙ seg)
+left_agrees fs (Stage.LongName v) s x c b col seg two = sym (name_goes (is_top fs) v x.start x.end x.kind x.octets c b ∙ seg)
 left_agrees fs _ s x c b col seg two = refl
 
 -- what is left where quotes are open

@@ -2,7 +2,7 @@
 use Rattle.std.proofs.Common.{◌≡◌, ℕ, ◌+◌, ◌-◌, ◌≤◌, Bool, true, false, ◌||◌, List, [], ◌∷◌, ◌++◌, length, Ok, Option, Some, None, refl, sym, ap, ◌∙◌, subst, arith, ◌⊎◌, inl, inr, if◌then◌else◌}
 use Rattle.ion_text.specs.laws.reading.Effects.{GivesSo, LeavesSo, ScansSo, SettlesSo, takes_each}
 use Rattle.std.proofs.lemmas.Bool.{cond_both}
-use Rattle.ion_text.specs.Names.{Begun, Catalog, Content, Effect, Follows, Form, Frame, Given, IsBody, IsSteady, Known, Leading, Left, Lexeme, LexesTo, Limits, Mode, Next, Now, Operator, Outcome, Place, Placed, Ran, Reading, Refused, Run, Slot, Spot, State, Style, Symbols, TokenKind, Turn, Value, at, begun, begun_in, behind, ended, feed, form_of, gives, goes, held_in, is_idle, is_long_begun, is_long_form, is_sane, is_sexp, is_top, leaves, longest_top, place, place_in, plain, reaches, run, said, said_body, settle, settle_same, takes, token_at, token_of, turn, turn_now, under, unkept}
+use Rattle.ion_text.specs.Names.{Begun, Catalog, Content, Effect, Follows, Form, Frame, Given, IsBody, IsSteady, Known, Leading, Left, Lexeme, LexesTo, Limits, Mode, Next, Operator, Outcome, Place, Placed, Ran, Reading, Refused, Run, Slot, Spot, Stage, State, Style, Symbols, TokenKind, Turn, Value, at, begun, begun_in, behind, ended, feed, form_of, gives, goes, held_in, is_idle, is_long_begun, is_long_form, is_sane, is_sexp, is_top, leaves, longest_top, place, place_in, plain, reaches, run, said, said_body, settle, settle_same, takes, token_at, token_of, turn, turn_now, under, unkept}
 use Rattle.ion_tokens.specs.laws.Follows.{feed_follows}
 use Rattle.ion_tokens.proofs.foreseen.Reaches.{begun_stays}
 use Rattle.ion_tokens.proofs.sound.Holds.{InMode}
@@ -63,13 +63,13 @@ module _ (g : Catalog) (l : Limits) (u : List ℕ) (vs : List Value) (m : State)
     -- where no item is open
     none_kept : b.item ≡ [] → length s.kept ≤ l.item
     none_kept none =
-        let o : (r.frames ≡ []) × (r.notes ≡ []) × (r.now ≡ Now.Ready) =
+        let o : (r.frames ≡ []) × (r.notes ≡ []) × (r.now ≡ Stage.Ready) =
         none_open r.context r.frames r.notes r.now (subst (λ x. NowStands r.context r.frames r.notes x r.now) none b.stands) in
-        let reach : longest_top r.start s.used Now.Ready [] (begun_in s) (is_long_begun (begun_in s)) ≤ l.item =
+        let reach : longest_top r.start s.used Stage.Ready [] (begun_in s) (is_long_begun (begun_in s)) ≤ l.item =
         subst (λ n. longest_top r.start s.used n [] (begun_in s) (is_long_begun (begun_in s)) ≤ l.item) o.2
         (subst (λ n. longest_top r.start s.used r.now n (begun_in s) (is_long_begun (begun_in s)) ≤ l.item) o.1
         (subst (λ fs. reaches fs r s ≤ l.item) o.0 within.0)) in
-        counted s.start (omega arith) (seen (λ x. longest_top r.start s.used Now.Ready [] x (is_long_begun x) ≤ l.item) reach)
+        counted s.start (omega arith) (seen (λ x. longest_top r.start s.used Stage.Ready [] x (is_long_begun x) ≤ l.item) reach)
 
     -- the item begins no later than the token
     begins_before : (t : Placed) (us : List Placed) → b.item ≡ t ∷ us → r.start ≤ s.start
@@ -79,22 +79,22 @@ module _ (g : Catalog) (l : Limits) (u : List ℕ) (vs : List Value) (m : State)
         omega (arith, start_before b.front t us false 0 (u ++ []) k.colon k.end (k.since ++ []) lexes, first, sizes.1)
 
     module _ (before : r.start ≤ s.start) where
-      ready_kept : (ss : Symbols) → longest_top r.start s.used Now.Ready ss (Some (token (form_of s.mode))) (is_long_begun (Some (token (form_of s.mode)))) ≤
+      ready_kept : (ss : Symbols) → longest_top r.start s.used Stage.Ready ss (Some (token (form_of s.mode))) (is_long_begun (Some (token (form_of s.mode)))) ≤
           l.item → length s.kept ≤ l.item
       ready_kept [] h = counted s.start (omega arith) h
       ready_kept (x ∷ ss) h = counted r.start before h
 
       long_kept : (w : List ℕ) (last : ℕ) (ss : Symbols) (f : Form) → form_of s.mode ≡ f → is_long_form f ≡ true
-          → longest_top r.start s.used (Now.Long w last) ss (Some (token f)) (is_long_begun (Some (token f))) ≤ l.item → length s.kept ≤ l.item
+          → longest_top r.start s.used (Stage.Long w last) ss (Some (token f)) (is_long_begun (Some (token f))) ≤ l.item → length s.kept ≤ l.item
       long_kept w last ss Form.Quote e q h = omega (arith, ap length (quote_kept p k.colon k.end s.mode s.kept s.start k.since e k.holds.mode))
       long_kept w last ss Form.Long e q h = counted r.start before h
       long_kept w last ss Form.Other e q h = absurd cc
 
-      top_kept : (n : Now) (ss : Symbols) → CalmNow n s.mode
+      top_kept : (n : Stage) (ss : Symbols) → CalmNow n s.mode
           → longest_top r.start s.used n ss (Some (token (form_of s.mode))) (is_long_begun (Some (token (form_of s.mode)))) ≤ l.item → length s.kept ≤ l.item
-      top_kept Now.Ready ss c h = ready_kept ss h
-      top_kept (Now.Pending x last) ss c h = absurd (let n : false ≡ true = sym open' ∙ c in cc)
-      top_kept (Now.Long w last) ss c h = long_kept w last ss (form_of s.mode) refl (sym (ap (λ i. i || is_long_form (form_of s.mode)) open') ∙ c) h
+      top_kept Stage.Ready ss c h = ready_kept ss h
+      top_kept (Stage.Pending x last) ss c h = absurd (let n : false ≡ true = sym open' ∙ c in cc)
+      top_kept (Stage.Long w last) ss c h = long_kept w last ss (form_of s.mode) refl (sym (ap (λ i. i || is_long_form (form_of s.mode)) open') ∙ c) h
       top_kept _ ss c h = absurd c
 
       some_kept : (fs : List Frame) → r.frames ≡ fs → length s.kept ≤ l.item
@@ -115,7 +115,7 @@ module _ (g : Catalog) (l : Limits) (u : List ℕ) (vs : List Value) (m : State)
 
 -- 2. Where an octet is awaited, the scanner knows what it knew before it, or nothing is kept.
 
-sexp_open : (fs : List Frame) (now : Now) → is_sexp (place_in fs now) ≡ true → is_top fs ≡ false
+sexp_open : (fs : List Frame) (now : Stage) → is_sexp (place_in fs now) ≡ true → is_top fs ≡ false
 sexp_open [] now h = absurd cc
 sexp_open (f ∷ fs) now h = refl
 
@@ -135,10 +135,10 @@ module _ (g : Catalog) (l : Limits) where
   value_top spot v _ _ (value_given fits) = refl
   value_top spot v _ _ _ = tt
 
-  settled_top : (start : ℕ) (c : List Slot) (fs : List Frame) (ss : Symbols) (now : Now) → TopGives fs (settle g l (at start c fs ss now))
+  settled_top : (start : ℕ) (c : List Slot) (fs : List Frame) (ss : Symbols) (now : Stage) → TopGives fs (settle g l (at start c fs ss now))
   settled_top start c fs ss now = by fs now _ (settled_way g l start c fs ss now)
     where
-      by : (fs : List Frame) (now : Now) (t : Turn) → SettledWay g l start c ss fs now t → TopGives fs t
+      by : (fs : List Frame) (now : Stage) (t : Turn) → SettledWay g l start c ss fs now t → TopGives fs t
       by _ _ _ (settled_held fs h end q t flat way) = value_top _ _ fs t way
       by _ _ _ (settled_text fs w end t way) = value_top _ _ fs t way
       by _ _ _ _ = tt
@@ -154,9 +154,9 @@ module _ (g : Catalog) (l : Limits) where
   ended_inside spot (Frame.Fields ss ms ∷ fs) v h = tt
   ended_inside spot _ v h = refl
 
-  operator_inside : (begin end start : ℕ) (c : List Slot) (fs : List Frame) (ss : Symbols) (w : List ℕ) (now : Now) → is_top fs ≡ false
+  operator_inside : (begin end start : ℕ) (c : List Slot) (fs : List Frame) (ss : Symbols) (w : List ℕ) (now : Stage) → is_top fs ≡ false
       → StaysInside (turn_now (under g l) (at start c fs ss now) (token_at begin end (Operator w)) now)
-  operator_inside begin end start c fs ss w Now.Ready h = ended_inside _ fs _ h
+  operator_inside begin end start c fs ss w Stage.Ready h = ended_inside _ fs _ h
   operator_inside begin end start c fs ss w _ h = tt
 
   module _ (first : Known) where

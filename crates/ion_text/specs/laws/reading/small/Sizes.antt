@@ -2,7 +2,7 @@
 use Rattle.std.proofs.Common.{◌≡◌, ℕ, suc, ◌+◌, ◌≤◌, List, [], ◌∷◌, ◌++◌, length, map, sum, Bool, true, false, Some, refl, arith, length-append}
 use Rattle.std.specs.List.{sum_by}
 use Rattle.std.proofs.lemmas.List.Sums.{sum-map, sum_by-append, sum_by-cons}
-use Rattle.ion_text.specs.Names.{Bracket, Catalog, Field, Frame, Held, Limits, Listing, Now, Payload, Reading, Spot, Symbols, Token, Turn, Value, annotated, field_of, first_now, fresh, gives, goes, is_top, layer_nodes, nodes, opened, settle, turn, under}
+use Rattle.ion_text.specs.Names.{Bracket, Catalog, Field, Frame, Held, Limits, ListOrSexp, Payload, Reading, Spot, Stage, Symbols, Token, Turn, Value, annotated, field_of, first_now, fresh, gives, goes, is_top, layer_nodes, nodes, opened, settle, turn, under}
 use Rattle.ion_model.specs.declared.value.Payload.TheVariants as payloads
 use Rattle.ion_model.specs.declared.value.Payload.TheViews as views
 use Rattle.ion_model.specs.laws.Measures.{nodes-at-Fields, nodes-at-List, nodes-at-Sexp, nodes-more, nodes-out}
@@ -29,11 +29,11 @@ frames_nodes [] = 0
 frames_nodes (f ∷ fs) = frame_nodes f + frames_nodes fs
 
 -- how many nodes what waits has: one, where something does
-abbrev pub now_nodes : Now → ℕ
-now_nodes (Now.Pending h end) = 1
-now_nodes (Now.Long w end) = 1
-now_nodes (Now.LongName w) = 1
-now_nodes (Now.Keyed s) = 1
+abbrev pub now_nodes : Stage → ℕ
+now_nodes (Stage.Pending h end) = 1
+now_nodes (Stage.Long w end) = 1
+now_nodes (Stage.LongName w) = 1
+now_nodes (Stage.Keyed s) = 1
 now_nodes _ = 0
 
 -- how many nodes have come of the open item
@@ -41,20 +41,20 @@ abbrev pub open_nodes : Reading → ℕ
 open_nodes r = frames_nodes r.frames + length r.notes + now_nodes r.now
 
 -- what waits at the top level ended so, and came of what was at the top level
-abbrev pub WaitsSince : ℕ → Bool → Now → Type 0
-WaitsSince end top (Now.Pending h e) = (e ≡ end) × (top ≡ true)
-WaitsSince end top (Now.Long w e) = (e ≡ end) × (top ≡ true)
+abbrev pub WaitsSince : ℕ → Bool → Stage → Type 0
+WaitsSince end top (Stage.Pending h e) = (e ≡ end) × (top ≡ true)
+WaitsSince end top (Stage.Long w e) = (e ≡ end) × (top ≡ true)
 WaitsSince end top _ = Unit {0}
 
 -- where a container is open nothing is said of what waits
-abbrev pub TopWaits : ℕ → Bool → List Frame → Now → Type 0
+abbrev pub TopWaits : ℕ → Bool → List Frame → Stage → Type 0
 TopWaits end top [] now = WaitsSince end top now
 TopWaits end top (f ∷ fs) now = Unit {0}
 
 -- where what waits ended
-abbrev pub wait_end : Now → ℕ
-wait_end (Now.Pending h end) = end
-wait_end (Now.Long w end) = end
+abbrev pub wait_end : Stage → ℕ
+wait_end (Stage.Pending h end) = end
+wait_end (Stage.Long w end) = end
 wait_end _ = 0
 
 -- A turn leads to at most n nodes, of an item that begins at `start` or before; a value ends at `end`, within the limit on items.
@@ -82,23 +82,23 @@ pub flat_nodes : (ss : Symbols) (q : Payload) → IsNoContainer q → nodes (ann
 flat_nodes ss q h = let n = nodes-out (annotated ss q) in omega (arith, n, h)
 
 -- what doesn't wait as a value
-free_top : (end : ℕ) (top : Bool) (fs : List Frame) (now : Now) → IsFree now → TopWaits end top fs now
+free_top : (end : ℕ) (top : Bool) (fs : List Frame) (now : Stage) → IsFree now → TopWaits end top fs now
 free_top end top (f ∷ fs) now i = tt
-free_top end top [] (Now.Pending h e) i = absurd i
-free_top end top [] (Now.Long w e) i = absurd i
+free_top end top [] (Stage.Pending h e) i = absurd i
+free_top end top [] (Stage.Long w e) i = absurd i
 free_top end top [] _ i = tt
 
 -- a long name is no value
-text_top : (end : ℕ) (top : Bool) (fs : List Frame) (w : List ℕ) → TopWaits end top fs (Now.LongName w)
+text_top : (end : ℕ) (top : Bool) (fs : List Frame) (w : List ℕ) → TopWaits end top fs (Stage.LongName w)
 text_top end top [] w = tt
 text_top end top (f ∷ fs) w = tt
 
 -- a token that waits where it stood
-waits_top : (end : ℕ) (fs : List Frame) (h : Held) → TopWaits end (is_top fs) fs (Now.Pending h end)
+waits_top : (end : ℕ) (fs : List Frame) (h : Held) → TopWaits end (is_top fs) fs (Stage.Pending h end)
 waits_top end [] h = (refl, refl)
 waits_top end (f ∷ fs) h = tt
 
-long_top : (end : ℕ) (fs : List Frame) (w : List ℕ) → TopWaits end (is_top fs) fs (Now.Long w end)
+long_top : (end : ℕ) (fs : List Frame) (w : List ℕ) → TopWaits end (is_top fs) fs (Stage.Long w end)
 long_top end [] w = (refl, refl)
 long_top end (f ∷ fs) w = tt
 
@@ -115,8 +115,8 @@ module _ (g : Catalog) (l : Limits) where
   value_weighs spot v _ _ n top (value_refused fs e d) h = tt
   value_weighs spot v _ _ n top (value_table d fits) h = (omega arith, omega arith, tt)
   value_weighs spot v _ _ n top (value_given fits) h = (omega (arith, h), fits, refl)
-  value_weighs spot v _ _ n top (value_item Listing.List ss vs fs) h = (omega (arith, h, nodes-more vs v), omega arith, tt)
-  value_weighs spot v _ _ n top (value_item Listing.Sexp ss vs fs) h = (omega (arith, h, nodes-more vs v), omega arith, tt)
+  value_weighs spot v _ _ n top (value_item ListOrSexp.List ss vs fs) h = (omega (arith, h, nodes-more vs v), omega arith, tt)
+  value_weighs spot v _ _ n top (value_item ListOrSexp.Sexp ss vs fs) h = (omega (arith, h, nodes-more vs v), omega arith, tt)
   value_weighs spot v _ _ n top (value_field ss ms s fs) h = (omega (arith, h, fields_more ms (field_of s v)), omega arith, tt)
 
   -- a value of one node behind its annotations
@@ -129,7 +129,7 @@ module _ (g : Catalog) (l : Limits) where
       (turn g l r t)
   turn_weighs r t = by r.frames r.now _ (now_way g l t.start t.end r.start r.context r.frames r.notes t.said r.now)
     where
-      by : (fs : List Frame) (now : Now) (x : Turn) → TokenWay g l t.start t.end r.start r.context t.said r.notes fs now x
+      by : (fs : List Frame) (now : Stage) (x : Turn) → TokenWay g l t.start t.end r.start r.context t.said r.notes fs now x
           → Weighs (frames_nodes fs + length r.notes + now_nodes now + 1) l.item (start_now now r.start t.start fs r.notes) t.end (is_top fs) x
       by _ _ _ (token_held fs h) = (omega arith, omega arith, waits_top t.end fs h)
       by _ _ _ (token_text fs w) = (omega arith, omega arith, long_top t.end fs w)
@@ -141,11 +141,11 @@ module _ (g : Catalog) (l : Limits) where
           value_weighs _ _ fs x _ false way (omega (arith, nodes-at-Sexp (annotated rs (payloads.Sexp vs)) vs refl))
       by _ _ _ (token_struct rs ms fs now x e way) =
           value_weighs _ _ fs x _ false way (omega (arith, nodes-at-Fields (annotated rs (payloads.Fields ms)) ms refl))
-      by _ _ _ (token_noted fs h e s) = (omega (arith, length-append r.notes (s ∷ [])), omega arith, free_top t.end (is_top fs) fs Now.Ready tt)
+      by _ _ _ (token_noted fs h e s) = (omega (arith, length-append r.notes (s ∷ [])), omega arith, free_top t.end (is_top fs) fs Stage.Ready tt)
       by _ _ _ (token_more fs v e w) = (omega arith, omega arith, long_top t.end fs w)
       by _ _ _ (token_comma rs vs fs) = (omega arith, omega arith, tt)
       by _ _ _ (token_field rs ms fs) = (omega arith, omega arith, tt)
-      by _ _ _ (token_name fs s) = (omega arith, omega arith, free_top t.end (is_top fs) fs (Now.Keyed s) tt)
+      by _ _ _ (token_name fs s) = (omega arith, omega arith, free_top t.end (is_top fs) fs (Stage.Keyed s) tt)
       by _ _ _ (token_long_name fs w) = (omega arith, omega arith, text_top t.end (is_top fs) fs w)
       by _ _ _ (token_more_name fs v w) = (omega arith, omega arith, text_top t.end (is_top fs) fs w)
       by _ _ _ (token_colon rs ms fs s) = (omega arith, omega arith, tt)
@@ -155,10 +155,10 @@ module _ (g : Catalog) (l : Limits) where
   pub settle_weighs : (r : Reading) → Weighs (open_nodes r) l.item r.start (wait_end r.now) false (settle g l r)
   settle_weighs r = by r.frames r.now _ (settled_way g l r.start r.context r.frames r.notes r.now)
     where
-      by : (fs : List Frame) (now : Now) (x : Turn) → SettledWay g l r.start r.context r.notes fs now x
+      by : (fs : List Frame) (now : Stage) (x : Turn) → SettledWay g l r.start r.context r.notes fs now x
           → Weighs (frames_nodes fs + length r.notes + now_nodes now) l.item r.start (wait_end now) false x
       by _ _ _ (settled_free fs now i e) = (omega arith, omega arith, free_top (wait_end now) false fs now i)
-      by _ _ _ (settled_name fs w) = (omega arith, omega arith, free_top 0 false fs (Now.Keyed (Some w)) tt)
+      by _ _ _ (settled_name fs w) = (omega arith, omega arith, free_top 0 false fs (Stage.Keyed (Some w)) tt)
       by _ _ _ (settled_held fs h end q x flat way) = flat_weighs _ fs r.notes q x _ false flat.0 way (omega arith)
       by _ _ _ (settled_text fs w end x way) = flat_weighs _ fs r.notes (payloads.Str w) x _ false (flat_text w).0 way (omega arith)
       by _ _ _ (settled_marker h end fits) = (omega arith, omega arith, tt)

@@ -2,7 +2,7 @@
 use Rattle.std.proofs.Common.{◌≡◌, ℕ, ◌+◌, ◌≤◌, max, List, [], ◌∷◌, ◌++◌, length, Bool, true, false, Result, Ok, Err, Option, Some, None, refl, ap, sym, ◌∙◌, subst, arith, if◌then◌else◌, ◌⊎◌, inl, inr}
 use Rattle.ion_text.specs.laws.reading.Effects.{GivesSo, LeavesSo, ScansSo, SettlesSo, scan_each, takes_each}
 use Rattle.std.proofs.lemmas.Bool.{both_ways, or_cases, or_parts}
-use Rattle.ion_text.specs.Names.{Catalog, Content, Effect, Frame, Given, HasSpan, IsBody, IsSmall, Known, Leading, Left, Lexeme, Limits, Mark, Mark', Mode, Next, Now, Operator, Outcome, Place, Reading, Reason, Refusal, Refused, Run, Slot, Spaced, State, Symbols, TokenKind, Turn, Value, at, at_end, begun, cut_short, eats, end_late, end_now, end_of, end_ready, end_said, end_settled, end_turned, end_waiting, ends_of, fails, feed, fresh, gives, goes, in_segment, is_fresh, is_idle, is_quoted, is_quoting, is_sexp, is_top, late, leaves, long_waits, once_more, place, place_in, refuses, run, run_on, said, said_body, settle, settle_same, takes, tells, token_at, token_of, trace, turn, turn_now, under, uses, waits, waits_now, with_scan}
+use Rattle.ion_text.specs.Names.{Catalog, Content, Effect, Frame, Given, HasSpan, IsBody, IsSmall, Known, Leading, Left, Lexeme, Limits, Mark, Mark', Mode, Next, Operator, Outcome, Place, Reading, Reason, Refusal, Refused, Run, Slot, Spaced, Stage, State, Symbols, TokenKind, Turn, Value, at, at_end, begun, cut_short, eats, end_late, end_now, end_of, end_ready, end_said, end_settled, end_turned, end_waiting, ends_of, fails, feed, fresh, gives, goes, in_segment, is_fresh, is_idle, is_quoted, is_quoting, is_sexp, is_top, late, leaves, long_waits, once_more, place, place_in, refuses, run, run_on, said, said_body, settle, settle_same, takes, tells, token_at, token_of, trace, turn, turn_now, under, uses, waits, waits_now, with_scan}
 use Rattle.ion_text.specs.laws.reading.complete.Meets.{IdleLeft, end_spans, idle_left}
 use Rattle.ion_text.specs.laws.reading.complete.Segments.{NotRefused, unsettled_waits}
 use Rattle.ion_text.specs.laws.reading.small.Lengths.{EndedToken, Measured, Sized, feed_measured, idle_next, next_wants, quoting_next, sized_initial, token_wants, wants, wants_next}
@@ -10,15 +10,15 @@ use Rattle.ion_text.specs.laws.reading.small.Sizes.{TopWaits, WaitsSince, Weighs
 use Rattle.ion_text.specs.laws.reading.sound.StandsOpen.{start_now}
 
 -- what waits ended behind so many octets, and within those used
-abbrev pub WaitsFrom : ℕ → ℕ → Now → Type 0
-WaitsFrom b used (Now.Pending h end) = (b ≤ end) × (end ≤ used)
-WaitsFrom b used (Now.Long w end) = (b ≤ end) × (end ≤ used)
+abbrev pub WaitsFrom : ℕ → ℕ → Stage → Type 0
+WaitsFrom b used (Stage.Pending h end) = (b ≤ end) × (end ≤ used)
+WaitsFrom b used (Stage.Long w end) = (b ≤ end) × (end ≤ used)
 WaitsFrom b used _ = Unit {0}
 
 -- behind it no token is open, but quotes behind a long string
-abbrev pub WaitsIn : Now → Mode → Type 0
-WaitsIn (Now.Pending h end) m = is_idle m ≡ true
-WaitsIn (Now.Long w end) m = (is_idle m ≡ true) ⊎ (is_quoting m ≡ true)
+abbrev pub WaitsIn : Stage → Mode → Type 0
+WaitsIn (Stage.Pending h end) m = is_idle m ≡ true
+WaitsIn (Stage.Long w end) m = (is_idle m ≡ true) ⊎ (is_quoting m ≡ true)
 WaitsIn _ m = Unit {0}
 
 -- Behind `from` octets, which were used when the value before came, there is an octet for each node of what is open. They are counted from
@@ -44,41 +44,41 @@ pub record EndedNear (from : ℕ) (r : Reading) (x : Lexeme) (t : Known) : Type 
   pub sized : Sized t
 
 -- Where no item is open, one begins with the token. Its octets count from where it begins, but for those used before.
-opened : (now : Now) (fs : List Frame) (ss : Symbols) (start begin base end : ℕ) → start ≤ base → base + (frames_nodes fs + length ss + now_nodes now) + 1 ≤ end
+opened : (now : Stage) (fs : List Frame) (ss : Symbols) (start begin base end : ℕ) → start ≤ base → base + (frames_nodes fs + length ss + now_nodes now) + 1 ≤ end
     → begin + 1 ≤ end
     → (b : ℕ) × (base ≤ b) × (start_now now start begin fs ss ≤ b) × (b + (frames_nodes fs + length ss + now_nodes now) + 1 ≤ end)
-opened Now.Ready [] [] start begin base end h k n = (max base begin, omega arith, omega arith, omega (arith, k, n))
+opened Stage.Ready [] [] start begin base end h k n = (max base begin, omega arith, omega arith, omega (arith, k, n))
 opened _ _ _ start begin base end h k n = (base, omega arith, h, k)
 
 -- what is said of the top level
-at_top : (end : ℕ) (top : Bool) (fs : List Frame) (now : Now) → TopWaits end top fs now → is_top fs ≡ true → WaitsSince end top now
+at_top : (end : ℕ) (top : Bool) (fs : List Frame) (now : Stage) → TopWaits end top fs now → is_top fs ≡ true → WaitsSince end top now
 at_top end top [] now h e = h
 at_top end top (f ∷ fs) now h e = absurd cc
 
 -- what began to wait with a token
-since_behind : (b used end : ℕ) (top : Bool) (now : Now) → WaitsSince end top now → b ≤ end → end ≤ used → WaitsFrom b used now
-since_behind b used end top (Now.Pending h e) w k n = (omega (arith, w.0, k), omega (arith, w.0, n))
-since_behind b used end top (Now.Long v e) w k n = (omega (arith, w.0, k), omega (arith, w.0, n))
+since_behind : (b used end : ℕ) (top : Bool) (now : Stage) → WaitsSince end top now → b ≤ end → end ≤ used → WaitsFrom b used now
+since_behind b used end top (Stage.Pending h e) w k n = (omega (arith, w.0, k), omega (arith, w.0, n))
+since_behind b used end top (Stage.Long v e) w k n = (omega (arith, w.0, k), omega (arith, w.0, n))
 since_behind b used end top _ w k n = tt
 
-since_in : (end : ℕ) (top : Bool) (now : Now) (m : Mode) → WaitsSince end top now → (top ≡ true → is_idle m ≡ true) → WaitsIn now m
-since_in end top (Now.Pending h e) m w i = i w.1
-since_in end top (Now.Long v e) m w i = inl (i w.1)
+since_in : (end : ℕ) (top : Bool) (now : Stage) (m : Mode) → WaitsSince end top now → (top ≡ true → is_idle m ≡ true) → WaitsIn now m
+since_in end top (Stage.Pending h e) m w i = i w.1
+since_in end top (Stage.Long v e) m w i = inl (i w.1)
 since_in end top _ m w i = tt
 
 -- nothing was told to wait behind what didn't stand at the top level
-none_since : (b used end : ℕ) (now : Now) → WaitsSince end false now → WaitsFrom b used now
-none_since b used end (Now.Pending h e) w = absurd (let n : false ≡ true = w.1 in cc)
-none_since b used end (Now.Long v e) w = absurd (let n : false ≡ true = w.1 in cc)
+none_since : (b used end : ℕ) (now : Stage) → WaitsSince end false now → WaitsFrom b used now
+none_since b used end (Stage.Pending h e) w = absurd (let n : false ≡ true = w.1 in cc)
+none_since b used end (Stage.Long v e) w = absurd (let n : false ≡ true = w.1 in cc)
 none_since b used end _ w = tt
 
-none_in : (end : ℕ) (now : Now) (m : Mode) → WaitsSince end false now → WaitsIn now m
+none_in : (end : ℕ) (now : Stage) (m : Mode) → WaitsSince end false now → WaitsIn now m
 none_in end now m w = since_in end false now m w (λ e. absurd cc)
 
 -- more octets change nothing
-longer : (b used later : ℕ) (now : Now) → WaitsFrom b used now → used ≤ later → WaitsFrom b later now
-longer b used later (Now.Pending h e) w k = (w.0, omega (arith, w.1, k))
-longer b used later (Now.Long v e) w k = (w.0, omega (arith, w.1, k))
+longer : (b used later : ℕ) (now : Stage) → WaitsFrom b used now → used ≤ later → WaitsFrom b later now
+longer b used later (Stage.Pending h e) w k = (w.0, omega (arith, w.1, k))
+longer b used later (Stage.Long v e) w k = (w.0, omega (arith, w.1, k))
 longer b used later _ w k = tt
 
 -- no item is open, and no octet behind the values before belongs to one
@@ -95,13 +95,13 @@ near_fresh from s r e h z = subst (Near from s) (sym e) (record {
 })
 
 -- what waits goes on to wait at an octet
-waits_in : (now : Now) (top : Bool) (t : Known) → waits_now top now (Next t) ≡ true → WaitsIn now t.mode
-waits_in (Now.Pending h e) top t w = w
-waits_in (Now.Long v e) top t w = or_cases (is_idle t.mode) (is_quoting t.mode) w
+waits_in : (now : Stage) (top : Bool) (t : Known) → waits_now top now (Next t) ≡ true → WaitsIn now t.mode
+waits_in (Stage.Pending h e) top t w = w
+waits_in (Stage.Long v e) top t w = or_cases (is_idle t.mode) (is_quoting t.mode) w
 waits_in _ top t w = tt
 
 -- no operators stand at the top level
-top_sexp : (fs : List Frame) (now : Now) → is_top fs ≡ true → is_sexp (place_in fs now) ≡ false
+top_sexp : (fs : List Frame) (now : Stage) → is_top fs ≡ true → is_sexp (place_in fs now) ≡ false
 top_sexp [] now h = refl
 top_sexp (f ∷ fs) now h = absurd cc
 
@@ -182,23 +182,23 @@ module _ (g : Catalog) (l : Limits) where
   settled_near from s r (late e n) h w k = tt
 
   -- where a container is open settling gives no value
-  inside : (n start end : ℕ) (fs : List Frame) (now : Now) (turned : Turn)
+  inside : (n start end : ℕ) (fs : List Frame) (now : Stage) (turned : Turn)
       → Leading g l (λ (r : Reading). (place r ≡ place_in fs now) × (is_top r.frames ≡ is_top fs)) turned → Weighs n l.item start end false turned
       → is_top fs ≡ false → GivesNone turned
   inside n start end fs now (gives v r) h w e = absurd (let k : true ≡ false = sym (ap (λ (x : Reading). is_top x.frames) w.2) ∙ (h.1 ∙ e) in cc)
   inside n start end fs now _ h w e = tt
 
-  open_none : (start : ℕ) (c : List Slot) (f : Frame) (fs : List Frame) (ss : Symbols) (now : Now) → GivesNone (settle g l (at start c (f ∷ fs) ss now))
+  open_none : (start : ℕ) (c : List Slot) (f : Frame) (fs : List Frame) (ss : Symbols) (now : Stage) → GivesNone (settle g l (at start c (f ∷ fs) ss now))
   open_none start c f fs ss now =
       inside (open_nodes (at start c (f ∷ fs) ss now)) start (wait_end now) (f ∷ fs) now (settle g l (at start c (f ∷ fs) ss now))
       (settle_same g l start c (f ∷ fs) ss now) (settle_weighs g l (at start c (f ∷ fs) ss now)) refl
 
   -- what gives a value waited
-  waited_near : (from : ℕ) (s : Known) (start : ℕ) (c : List Slot) (fs : List Frame) (ss : Symbols) (now : Now) (h : Near from s (at start c fs ss now))
+  waited_near : (from : ℕ) (s : Known) (start : ℕ) (c : List Slot) (fs : List Frame) (ss : Symbols) (now : Stage) (h : Near from s (at start c fs ss now))
       → GivesNone (settle g l (at start c fs ss now)) ⊎ ((h.base + open_nodes (at start c fs ss now) ≤ wait_end now) × (wait_end now ≤ s.used))
   waited_near from s start c (f ∷ fs) ss now h = inl (open_none start c f fs ss now)
-  waited_near from s start c [] ss (Now.Pending k e) h = inr (h.waiting refl)
-  waited_near from s start c [] ss (Now.Long w e) h = inr (h.waiting refl)
+  waited_near from s start c [] ss (Stage.Pending k e) h = inr (h.waiting refl)
+  waited_near from s start c [] ss (Stage.Long w e) h = inr (h.waiting refl)
   waited_near from s start c [] ss _ h = inl tt
 
   settle_near : (from : ℕ) (s : Known) (r : Reading) → Near from s r → TurnNear from s (settle g l r)
@@ -325,11 +325,11 @@ module _ (g : Catalog) (l : Limits) where
         subst (λ n. LeavesSo g l (CameNear from used o) (λ e. tt) NearAgain t (turn g l n (token_of x c))) (sym e)
         (subst (λ b. LeavesSo g l (CameNear from used o) (λ e. tt) NearAgain t (turn g l (fresh r.context) (token_of x b))) (sym k) tt)
 
-    operator_gives : (begin end start : ℕ) (c : List Slot) (fs : List Frame) (ss : Symbols) (now : Now) (w : List ℕ) → is_top fs ≡ false
+    operator_gives : (begin end start : ℕ) (c : List Slot) (fs : List Frame) (ss : Symbols) (now : Stage) (w : List ℕ) → is_top fs ≡ false
         → GivesNone (turn_now (under g l) (at start c fs ss now) (token_at begin end (Operator w)) now)
-    operator_gives begin end start c (f ∷ fs) ss (Now.Pending k e) w h = tt
+    operator_gives begin end start c (f ∷ fs) ss (Stage.Pending k e) w h = tt
     operator_gives begin end start c [] ss now w h = absurd cc
-    operator_gives begin end start c (Frame.Items listing xs vs ∷ fs) ss Now.Ready w h = tt
+    operator_gives begin end start c (Frame.Items listing xs vs ∷ fs) ss Stage.Ready w h = tt
     operator_gives begin end start c _ ss _ w h = tt
 
     -- a token that is left gives a value where none is open behind it
@@ -365,19 +365,19 @@ module _ (g : Catalog) (l : Limits) where
         quoted (Left x k) h w y t e = both_ways (is_quoted x.kind) w (h.2 q)
         quoted _ h w y t e = cc
 
-    shown_before : (s : Known) (start : ℕ) (c : List Slot) (fs : List Frame) (ss : Symbols) (now : Now) → Near from s (at start c fs ss now)
+    shown_before : (s : Known) (start : ℕ) (c : List Slot) (fs : List Frame) (ss : Symbols) (now : Stage) → Near from s (at start c fs ss now)
         → waits (at start c fs ss now) (feed (place_in fs now) s o) ≡ false
         → GivesNone (settle g l (at start c fs ss now)) ⊎ ShowsEnd s
     shown_before s start c (f ∷ fs) ss now h w = inl (open_none start c f fs ss now)
-    shown_before s start c [] ss (Now.Pending k e) h w = inr (idle_next s.mode (h.quiet refl), idle_colon s o (h.quiet refl))
-    shown_before s start c [] ss (Now.Long v e) h w = inr (long_shows s h.sized w (h.quiet refl))
+    shown_before s start c [] ss (Stage.Pending k e) h w = inr (idle_next s.mode (h.quiet refl), idle_colon s o (h.quiet refl))
+    shown_before s start c [] ss (Stage.Long v e) h w = inr (long_shows s h.sized w (h.quiet refl))
     shown_before s start c [] ss _ h w = inl tt
 
     on_place : (p q : Place) (s : Known) → p ≡ q → Sized s → Measured q s (feed p s o)
     on_place p q s e z = subst (λ k. Measured k s (feed p s o)) e (feed_measured p s o z)
 
     -- where it was settled before the octet
-    settles_came : (s : Known) (fs : List Frame) (now : Now) (turned : Turn) → s.used ≡ used → Sized s → TurnNear from s turned → SettledNear turned
+    settles_came : (s : Known) (fs : List Frame) (now : Stage) (turned : Turn) → s.used ≡ used → Sized s → TurnNear from s turned → SettledNear turned
         → Leading g l (λ (r : Reading). (place r ≡ place_in fs now) × (is_top r.frames ≡ is_top fs)) turned → GivesNone turned ⊎ ShowsEnd s
         → SettlesSo g l (CameNear from used o) (λ e. tt) NearAgain s (feed (place_in fs now) s o) turned
     settles_came s fs now (goes r) e z h i k w =
@@ -510,10 +510,10 @@ module _ (g : Catalog) (l : Limits) where
     ready_has s r (Ok (Some x)) h e = said_has s r x (said x.kind x.octets) (last_ended s r x h e)
     ready_has s r (Err y) h e = tt
 
-    ends_has : (s : Known) (r : Reading) (now : Now) → Near from s r → EndHas from s.used (end_now g l s.used r (at_end (place r) s) now)
-    ends_has s r (Now.Pending k e) h = waiting_has s (at_end (place r) s) (settle g l r) (settle_near from s r h)
-    ends_has s r (Now.Long w e) h = waiting_has s (at_end (place r) s) (settle g l r) (settle_near from s r h)
-    ends_has s r (Now.LongName w) h = tt
+    ends_has : (s : Known) (r : Reading) (now : Stage) → Near from s r → EndHas from s.used (end_now g l s.used r (at_end (place r) s) now)
+    ends_has s r (Stage.Pending k e) h = waiting_has s (at_end (place r) s) (settle g l r) (settle_near from s r h)
+    ends_has s r (Stage.Long w e) h = waiting_has s (at_end (place r) s) (settle g l r) (settle_near from s r h)
+    ends_has s r (Stage.LongName w) h = tt
     ends_has s r _ h = ready_has s r (at_end (place r) s) h refl
 
   led_spaced : (from n : ℕ) (given : List (Value × ℕ)) (now : Result State Refusal) → Led from given now n → Spaced l.item from given n

@@ -1,6 +1,6 @@
 -- Octets that the end accepts are a document with the values given.
 use Rattle.std.proofs.Common.{◌≡◌, ℕ, List, [], ◌∷◌, ◌++◌, Bool, true, false, cond, Result, Ok, Err, Option, Some, None, refl, ap, sym, ◌∙◌, subst, append-nil, option_to_list, if◌then◌else◌, ◌⊎◌, inl, inr}
-use Rattle.ion_text.specs.Names.{Catalog, Content, Document, End, Frame, Keep, Known, Lexeme, Lexes, Limits, Mark, Mode, Now, Place, Placed, Reading, Reason, Refusal, Scanned, Slot, State, Streams, Symbols, TokenKind, Turn, Value, at, at_end, begun, cut_short, end_late, end_now, end_of, end_ready, end_said, end_settled, end_turned, end_waiting, ends_at, ends_of, gives, goes, is_closing, is_fresh, is_idle, is_quoted, is_quoting, is_segment, is_sexp, late, place, plain, refuses, run, said, said_passes, settle, token_of, trace, turn}
+use Rattle.ion_text.specs.Names.{Catalog, Content, Document, End, Frame, Keep, Known, Lexeme, Lexes, Limits, Mark, Mode, Place, Placed, Reading, Reason, Refusal, Scanned, Slot, Stage, State, Streams, Symbols, TokenKind, Turn, Value, at, at_end, begun, cut_short, end_late, end_now, end_of, end_ready, end_said, end_settled, end_turned, end_waiting, ends_at, ends_of, gives, goes, is_closing, is_fresh, is_idle, is_quoted, is_quoting, is_segment, is_sexp, late, place, plain, refuses, run, said, said_passes, settle, token_of, trace, turn}
 use Rattle.ion_tokens.proofs.histories.Stepped.{all_since}
 use Rattle.ion_tokens.proofs.runs.Scans.{placed}
 use Rattle.ion_tokens.proofs.sound.Told.{ends_in_blank, ends_in_token}
@@ -51,9 +51,9 @@ pub at_end_fine : (p : Place) (s : Known) (x : Lexeme) → at_end p s ≡ Ok (So
 at_end_fine p s x h = token_fine s.mode s (end_of p s.mode) x (end_fine p s.mode) h
 
 -- where nothing is open, no token is
-pub fresh_empty : (start : ℕ) (c : List Slot) (fs : List Frame) (ss : Symbols) (now : Now) (ts : List Placed) → is_fresh (at start c fs ss now) ≡ true
+pub fresh_empty : (start : ℕ) (c : List Slot) (fs : List Frame) (ss : Symbols) (now : Stage) (ts : List Placed) → is_fresh (at start c fs ss now) ≡ true
     → NowStands c fs ss ts now → ts ≡ []
-fresh_empty start c [] [] Now.Ready ts h d = d.whole ∙ (ap (λ x. x ++ d.notes) d.outer ∙ none_noted c Place.Top d.notes [] d.noted refl)
+fresh_empty start c [] [] Stage.Ready ts h d = d.whole ∙ (ap (λ x. x ++ d.notes) d.outer ∙ none_noted c Place.Top d.notes [] d.noted refl)
 fresh_empty start c _ _ _ ts h d = absurd cc
 
 -- what a good end answers
@@ -151,10 +151,10 @@ module _ (g : Catalog) (l : Limits) where
       ready_accepted used (Ok (Some x)) last e h = token_accepted used x (said x.kind x.octets) last e refl h
       ready_accepted used (Err y) last e h = absurd cc
 
-      now_accepted : (used : ℕ) (n : Now) (last : Option Value) → end_now g l used r (at_end (place r) s) n ≡ Ok last → Accepted last
-      now_accepted used (Now.Pending k end) last h = waiting_accepted used (at_end (place r) s) (settle g l r) last refl refl h
-      now_accepted used (Now.Long w end) last h = waiting_accepted used (at_end (place r) s) (settle g l r) last refl refl h
-      now_accepted used (Now.LongName w) last h = absurd cc
+      now_accepted : (used : ℕ) (n : Stage) (last : Option Value) → end_now g l used r (at_end (place r) s) n ≡ Ok last → Accepted last
+      now_accepted used (Stage.Pending k end) last h = waiting_accepted used (at_end (place r) s) (settle g l r) last refl refl h
+      now_accepted used (Stage.Long w end) last h = waiting_accepted used (at_end (place r) s) (settle g l r) last refl refl h
+      now_accepted used (Stage.LongName w) last h = absurd cc
       now_accepted used _ last h = ready_accepted used (at_end (place r) s) last refl h
 
   -- What stands for octets that the end accepts shows that they are a document.

@@ -1,6 +1,6 @@
 -- What the reader gives is no deeper than the limit.
 use Rattle.std.proofs.Common.{◌≡◌, ℕ, suc, ◌+◌, ◌<◌, ◌≤◌, List, [], ◌∷◌, length, refl, ◌∙◌, arith}
-use Rattle.ion_text.specs.Names.{Bracket, Catalog, Frame, Limits, Now, Payload, Reading, Spot, Symbols, Token, Turn, Value, annotated, depth, field_of, gives, goes, opened, settle, turn, under}
+use Rattle.ion_text.specs.Names.{Bracket, Catalog, Frame, Limits, Payload, Reading, Spot, Stage, Symbols, Token, Turn, Value, annotated, depth, field_of, gives, goes, opened, settle, turn, under}
 use Rattle.ion_model.specs.declared.value.Payload.TheVariants as payloads
 use Rattle.ion_model.specs.laws.Measures.{deepest-more, depth-at}
 use Rattle.ion_text.specs.laws.reading.complete.Complete.{depth-list, depth-sexp, depth-struct, depths, field_deepest-more, field_depths}
@@ -53,7 +53,7 @@ module _ (g : Catalog) (l : Limits) where
   pub turn_deep : (r : Reading) (t : Token) → Deep l.depth r.frames → GoesDeep l.depth (turn g l r t)
   turn_deep r t = by r.frames r.now _ (now_way g l t.start t.end r.start r.context r.frames r.notes t.said r.now)
     where
-      by : (fs : List Frame) (now : Now) (x : Turn) → TokenWay g l t.start t.end r.start r.context t.said r.notes fs now x → Deep l.depth fs
+      by : (fs : List Frame) (now : Stage) (x : Turn) → TokenWay g l t.start t.end r.start r.context t.said r.notes fs now x → Deep l.depth fs
           → GoesDeep l.depth x
       by _ _ _ (token_refused fs now e i) d = tt
       by _ _ _ (token_deep fs e i) d = tt
@@ -70,7 +70,7 @@ module _ (g : Catalog) (l : Limits) where
   pub settle_deep : (r : Reading) → Deep l.depth r.frames → GoesDeep l.depth (settle g l r)
   settle_deep r = by r.frames r.now _ (settled_way g l r.start r.context r.frames r.notes r.now)
     where
-      by : (fs : List Frame) (now : Now) (x : Turn) → SettledWay g l r.start r.context r.notes fs now x → Deep l.depth fs → GoesDeep l.depth x
+      by : (fs : List Frame) (now : Stage) (x : Turn) → SettledWay g l r.start r.context r.notes fs now x → Deep l.depth fs → GoesDeep l.depth x
       by _ _ _ (settled_free fs now i e) d = d
       by _ _ _ (settled_name fs w) d = d
       by _ _ _ (settled_held fs h end q x flat way) d = flat_deep _ fs r.notes q x flat way d

@@ -2,7 +2,7 @@
 use Rattle.std.proofs.Common.{◌≡◌, ℕ, ◌+◌, ◌≤◌, List, [], ◌∷◌, ◌++◌, Bool, true, false, ◌&&◌, ◌||◌, Ok, refl, ap, sym, ◌∙◌, subst, arith, append_assoc, append-nil, ◌⊎◌, inl, inr}
 use Rattle.std.proofs.lemmas.Bool.{and_right}
 pub use Rattle.std.proofs.lemmas.Bool.{or_parts}
-use Rattle.ion_text.specs.Names.{Annotations, Catalog, Content, Follows, Frame, Given, IsBody, Known, Leading, Left, Lexeme, Limits, Listing, Long, Mode, Next, Now, Outcome, Pieces, Place, Placed, Reading, Refused, Says, Segments, Slot, Symbols, TokenKind, Turn, Value, at, begins_as_long, begins_long, begun_at, ends_long, feed, fresh, gives, goes, holds, is_fresh, is_idle, is_long, is_quoted, is_quoting, is_sane, is_segment, is_top, is_two_quotes, joined, late, long_waits, marked, no_annotation, one_annotation, place, place_in, refuses, said, said_body, segment, settle, settle_same, span, system_slots, token_at, token_of, turn, turn_now, turns, under, waits, waits_now}
+use Rattle.ion_text.specs.Names.{Annotations, Catalog, Content, Follows, Frame, Given, IsBody, Known, Leading, Left, Lexeme, Limits, ListOrSexp, Long, Mode, Next, Outcome, Pieces, Place, Placed, Reading, Refused, Says, Segments, Slot, Stage, Symbols, TokenKind, Turn, Value, at, begins_as_long, begins_long, begun_at, ends_long, feed, fresh, gives, goes, holds, is_fresh, is_idle, is_long, is_quoted, is_quoting, is_sane, is_segment, is_top, is_two_quotes, joined, late, long_waits, marked, no_annotation, one_annotation, place, place_in, refuses, said, said_body, segment, settle, settle_same, span, system_slots, token_at, token_of, turn, turn_now, turns, under, waits, waits_now}
 use Rattle.ion_tokens.specs.laws.Follows.{feed_follows}
 use Rattle.ion_tokens.proofs.runs.Scans.{placed}
 use Rattle.ion_text.specs.Grammar.{end_of}
@@ -13,9 +13,9 @@ use Rattle.ion_text.specs.laws.reading.sound.Sound.{Sounds, settle_sounds, turn_
 use Rattle.ion_text.specs.laws.reading.sound.StandsOpen.{EndsAt, IsInside, IsStruct, NoSegmentComes, NowStands, Opened, end_of_now, long_behind, not_long, notes_not_long, start_now, symbol_no_long, value_place}
 
 -- a long string waits for more
-abbrev pub IsLongNow : Now → Type 0
-IsLongNow (Now.Long w end) = Unit {0}
-IsLongNow (Now.LongName w) = Unit {0}
+abbrev pub IsLongNow : Stage → Type 0
+IsLongNow (Stage.Long w end) = Unit {0}
+IsLongNow (Stage.LongName w) = Unit {0}
 IsLongNow _ = ⊥
 
 -- a token has begun that becomes no segment
@@ -124,28 +124,28 @@ not_inside [] h e = h
 not_inside (f ∷ fs) h e = cc
 
 -- where no token is open, nothing is
-pub none_open : (c : List Slot) (fs : List Frame) (ss : Symbols) (now : Now) → NowStands c fs ss [] now → (fs ≡ []) × (ss ≡ []) × (now ≡ Now.Ready)
-none_open c fs ss Now.Ready d =
+pub none_open : (c : List Slot) (fs : List Frame) (ss : Symbols) (now : Stage) → NowStands c fs ss [] now → (fs ≡ []) × (ss ≡ []) × (now ≡ Stage.Ready)
+none_open c fs ss Stage.Ready d =
     let e = none_front d.front d.notes d.whole in
     (opened_some c fs true (subst (λ x. Opened c fs x true) (sym e.0) d.outer), no_notes c (value_place fs) d.notes ss d.noted e.1, refl)
-none_open c fs ss (Now.Pending h end) d = absurd (no_last d.before d.token d.whole)
-none_open c fs ss (Now.Long w end) d = absurd (no_segments (value_place fs) d.segments w d.are (none_front d.before d.segments d.whole).1)
-none_open c fs ss Now.After d = absurd (not_inside fs d.2 (opened_some c fs false d.0))
-none_open c fs ss Now.Name d = absurd (name_some c fs [] d.0 d.1 refl)
+none_open c fs ss (Stage.Pending h end) d = absurd (no_last d.before d.token d.whole)
+none_open c fs ss (Stage.Long w end) d = absurd (no_segments (value_place fs) d.segments w d.are (none_front d.before d.segments d.whole).1)
+none_open c fs ss Stage.After d = absurd (not_inside fs d.2 (opened_some c fs false d.0))
+none_open c fs ss Stage.Name d = absurd (name_some c fs [] d.0 d.1 refl)
 none_open c fs ss _ d = absurd (name_some c fs d.before d.outer d.struct (none_front d.before d.name d.whole).0)
 
 -- the item began at its first token
-start_kept : (c : List Slot) (fs : List Frame) (ss : Symbols) (now : Now) (t : Placed) (ts : List Placed) (start begin : ℕ) → NowStands c fs ss (t ∷ ts) now
+start_kept : (c : List Slot) (fs : List Frame) (ss : Symbols) (now : Stage) (t : Placed) (ts : List Placed) (start begin : ℕ) → NowStands c fs ss (t ∷ ts) now
     → start_now now start begin fs ss ≡ start
-start_kept c fs ss (Now.Pending h end) t ts start begin d = refl
-start_kept c [] [] Now.Ready t ts start begin d =
+start_kept c fs ss (Stage.Pending h end) t ts start begin d = refl
+start_kept c [] [] Stage.Ready t ts start begin d =
     let none : d.notes ≡ [] = none_noted c Place.Top d.notes [] d.noted refl in
     absurd (let e : t ∷ ts ≡ [] = d.whole ∙ (ap (λ x. x ++ d.notes) d.outer ∙ none) in cc)
 start_kept c _ _ _ t ts start begin d = refl
 
 -- an s-expression whose body ends long ends the item so
 long_tokens : (c : List Slot) (fs : List Frame) (ts : List Placed) → (o : Opened c fs ts true) → long_behind c fs ts o ≡ true → ends_long ts ≡ true
-long_tokens c (Frame.Items Listing.Sexp ss vs ∷ fs) ts o h = ap ends_long o.whole
+long_tokens c (Frame.Items ListOrSexp.Sexp ss vs ∷ fs) ts o h = ap ends_long o.whole
     ∙ ends_behind o.front (o.notes ++ o.open' ∷ o.body) (ends_behind o.notes (o.open' ∷ o.body) (ends_behind (o.open' ∷ []) o.body h))
 long_tokens c _ ts o h = absurd cc
 
@@ -163,9 +163,9 @@ LongTurn (goes r) = IsLongNow r.now
 LongTurn (gives v r) = ⊥
 LongTurn _ = Unit {0}
 
-now_long : (g : Catalog) (l : Limits) (begin end start : ℕ) (c : List Slot) (fs : List Frame) (ss : Symbols) (w : List ℕ) (now : Now)
+now_long : (g : Catalog) (l : Limits) (begin end start : ℕ) (c : List Slot) (fs : List Frame) (ss : Symbols) (w : List ℕ) (now : Stage)
     → LongTurn (turn_now (under g l) (at start c fs ss now) (token_at begin end (Long w)) now)
-now_long g l begin end start c fs ss w Now.Ready = tt
+now_long g l begin end start c fs ss w Stage.Ready = tt
 now_long g l begin end start c fs ss w _ = tt
 
 -- what a segment says
@@ -219,7 +219,7 @@ module _ (g : Catalog) (l : Limits) where
   Reads S u vs s ahead A (gives v r) = Behind S u (vs ++ v ∷ []) s r ahead (A r) × (is_fresh r ≡ true)
   Reads S u vs s ahead A _ = Unit {0}
 
-  pub fresh_stands : (c : List Slot) → NowStands c [] [] [] Now.Ready
+  pub fresh_stands : (c : List Slot) → NowStands c [] [] [] Stage.Ready
   fresh_stands c = record { front = []; notes = []; whole = refl; outer = refl; receives = tt; noted = no_annotation }
 
   -- behind a whole item nothing is open
@@ -306,10 +306,10 @@ module _ (g : Catalog) (l : Limits) where
     not_segment e = elim (b.apart e) [ inl h ↦ inl h | inr h ↦ inr (alone h) ]
 
     -- a segment doesn't stand where a value may come behind one
-    ready_apart : (fs : List Frame) (ss : Symbols) (now : Now) (d : NowStands r.context fs ss b.item now)
+    ready_apart : (fs : List Frame) (ss : Symbols) (now : Stage) (d : NowStands r.context fs ss b.item now)
         → (ends_long (b.front ++ b.item) ≡ true → IsLongNow now ⊎ (is_segment x.kind ≡ false)) → (c : Content)
         → NoSegmentComes r.context fs ss b.item (placed (place_in fs now) x) c now d
-    ready_apart fs ss Now.Ready d h c = λ w e. go (long_behind r.context fs d.front d.outer) refl
+    ready_apart fs ss Stage.Ready d h c = λ w e. go (long_behind r.context fs d.front d.outer) refl
       where
         none : ends_long d.front ≡ true → d.notes ≡ [] → is_segment x.kind ≡ false
         none e n = elim (h (ends_behind b.front b.item (ap ends_long (d.whole ∙ (ap (λ y. d.front ++ y) n ∙ append-nil d.front)) ∙ e))) [
@@ -317,9 +317,9 @@ module _ (g : Catalog) (l : Limits) where
           | inr k ↦ k
         ]
 
-        go : (y : Bool) → long_behind r.context fs d.front d.outer ≡ y → (y && begins_long (d.notes ++ placed (place_in fs Now.Ready) x ∷ [])) ≡ false
+        go : (y : Bool) → long_behind r.context fs d.front d.outer ≡ y → (y && begins_long (d.notes ++ placed (place_in fs Stage.Ready) x ∷ [])) ≡ false
         go false e = refl
-        go true e = notes_apart r.context (value_place fs) d.notes ss (placed (place_in fs Now.Ready) x) d.noted
+        go true e = notes_apart r.context (value_place fs) d.notes ss (placed (place_in fs Stage.Ready) x) d.noted
             (none (long_tokens r.context fs d.front d.outer e))
     ready_apart fs ss _ d h c = tt
 
@@ -330,7 +330,7 @@ module _ (g : Catalog) (l : Limits) where
     first_more (t ∷ ts) e = ap (λ y. ends_long b.front && begins_as_long y) (sym e) ∙ b.first
     first_more [] e = go (ends_long b.front) refl
       where
-        open' : (r.frames ≡ []) × (r.notes ≡ []) × (r.now ≡ Now.Ready)
+        open' : (r.frames ≡ []) × (r.notes ≡ []) × (r.now ≡ Stage.Ready)
         open' = none_open r.context r.frames r.notes r.now (subst (λ y. NowStands r.context r.frames r.notes y r.now) e b.stands)
 
         go : (y : Bool) → ends_long b.front ≡ y → (y && (is_segment x.kind || is_two_quotes x.kind x.start x.end)) ≡ false
@@ -395,7 +395,7 @@ module _ (g : Catalog) (l : Limits) where
         (subst (λ b. NoSegment b (feed p s o)) (sym f) (subst (NoSegment top) (sym k) h))
 
     -- What waited is settled before the octet, with which it doesn't go on.
-    pub settled_read : (start : ℕ) (c : List Slot) (fs : List Frame) (ss : Symbols) (now : Now)
+    pub settled_read : (start : ℕ) (c : List Slot) (fs : List Frame) (ss : Symbols) (now : Stage)
         → Behind S u vs s (at start c fs ss now) ahead (ApartAt o s (at start c fs ss now)) → waits (at start c fs ss now) (feed (place_in fs now) s o) ≡ false
         → Reads S u vs s ahead (λ n. ApartAt o s n) (settle g l (at start c fs ss now))
     settled_read start c fs ss now b w = go now refl
@@ -403,7 +403,7 @@ module _ (g : Catalog) (l : Limits) where
         r : Reading
         r = at start c fs ss now
 
-        some : (now' : Now) → now ≡ now' → (now' ≡ Now.Ready → ⊥) → (item : List Placed) → b.item ≡ item → IsFirst item start
+        some : (now' : Stage) → now ≡ now' → (now' ≡ Stage.Ready → ⊥) → (item : List Placed) → b.item ≡ item → IsFirst item start
         some now' e n [] f = tt
         some now' e n (t ∷ ts) f = subst (λ x. IsFirst x start) f b.begins
 
@@ -423,16 +423,16 @@ module _ (g : Catalog) (l : Limits) where
             (settle g l (at start c fs ss now)) (settle_same g l start c fs ss now))
             b.first b.sane b.fine
           where
-            last : (n : Now) → EndsAt n (end_of 0 b.item) → end_of_now n (end_of 0 b.item) ≡ end_of 0 b.item
-            last (Now.Pending h end) e = e
-            last (Now.Long w end) e = e
+            last : (n : Stage) → EndsAt n (end_of 0 b.item) → end_of_now n (end_of 0 b.item) ≡ end_of 0 b.item
+            last (Stage.Pending h end) e = e
+            last (Stage.Long w end) e = e
             last _ e = refl
 
-        go : (n : Now) → now ≡ n → Reads S u vs s ahead (λ n. ApartAt o s n) (settle g l (at start c fs ss now))
-        go (Now.Pending h end) e = waited (λ k. absurd (subst IsLongNow e k)) b.stands
-        go (Now.Long v end) e = waited (λ k. long_apart (is_top fs) (feed (place_in fs now) s o)
+        go : (n : Stage) → now ≡ n → Reads S u vs s ahead (λ n. ApartAt o s n) (settle g l (at start c fs ss now))
+        go (Stage.Pending h end) e = waited (λ k. absurd (subst IsLongNow e k)) b.stands
+        go (Stage.Long v end) e = waited (λ k. long_apart (is_top fs) (feed (place_in fs now) s o)
             (ap (λ m. waits_now (is_top fs) m (feed (place_in fs now) s o)) (sym e) ∙ w)) b.stands
-        go (Now.LongName v) e = waited (λ k. name_apart (is_top fs) (feed (place_in fs now) s o)
+        go (Stage.LongName v) e = waited (λ k. name_apart (is_top fs) (feed (place_in fs now) s o)
             (name_inside fs (subst (λ m. NowStands c fs ss b.item m) e b.stands).struct) (ap (λ m. waits_now (is_top fs) m (feed (place_in fs now) s o)) (sym e)
             ∙ w)) b.stands
         go _ e = subst (λ m. Reads S u vs s ahead (λ n. ApartAt o s n) (settle g l (at start c fs ss m))) (sym e)
@@ -447,7 +447,7 @@ module _ (g : Catalog) (l : Limits) where
     pub settled_end : (r : Reading) → Behind S u vs s r ahead A → Reads S u vs s ahead (λ n. Unit {0}) (settle g l r)
     settled_end r b = go r.now refl
       where
-        waited : (n : Now) → r.now ≡ n → end_of_now n (end_of 0 b.item) ≡ end_of 0 b.item → Reads S u vs s ahead (λ n. Unit {0}) (settle g l r)
+        waited : (n : Stage) → r.now ≡ n → end_of_now n (end_of 0 b.item) ≡ end_of 0 b.item → Reads S u vs s ahead (λ n. Unit {0}) (settle g l r)
         waited n e f =
             sounds_read S u vs s ahead (λ n. Unit {0}) r.context b.front b.item r.start (end_of_now r.now (end_of 0 b.item)) (settle g l r) b.pieces
             (settle_sounds g l r.context r.frames r.notes r.now b.item r.start (end_of 0 b.item) b.stands)
@@ -458,14 +458,14 @@ module _ (g : Catalog) (l : Limits) where
             (any_turn (λ n. ends_long (b.front ++ b.item) ≡ true → IsLongNow n.now ⊎ Unit {0}) (λ n k. inr tt) (settle g l r))
             b.first b.sane b.fine
 
-        held : (n : Now) → r.now ≡ n → settle g l (at r.start r.context r.frames r.notes n) ≡ goes (at r.start r.context r.frames r.notes n)
+        held : (n : Stage) → r.now ≡ n → settle g l (at r.start r.context r.frames r.notes n) ≡ goes (at r.start r.context r.frames r.notes n)
             → Reads S u vs s ahead (λ n. Unit {0}) (settle g l r)
         held n e f = subst (λ m. Reads S u vs s ahead (λ n. Unit {0}) (settle g l (at r.start r.context r.frames r.notes m))) (sym e)
             (subst (λ t. Reads S u vs s ahead (λ n. Unit {0}) t) (sym f)
             (anywhere (at r.start r.context r.frames r.notes n) (subst (λ m. Behind S u vs s (at r.start r.context r.frames r.notes m) ahead A) e b)))
 
-        go : (n : Now) → r.now ≡ n → Reads S u vs s ahead (λ n. Unit {0}) (settle g l r)
-        go (Now.Pending h end) e = waited (Now.Pending h end) e (subst (λ m. EndsAt m (end_of 0 b.item)) e b.ends)
-        go (Now.Long w end) e = waited (Now.Long w end) e (subst (λ m. EndsAt m (end_of 0 b.item)) e b.ends)
-        go (Now.LongName w) e = waited (Now.LongName w) e refl
+        go : (n : Stage) → r.now ≡ n → Reads S u vs s ahead (λ n. Unit {0}) (settle g l r)
+        go (Stage.Pending h end) e = waited (Stage.Pending h end) e (subst (λ m. EndsAt m (end_of 0 b.item)) e b.ends)
+        go (Stage.Long w end) e = waited (Stage.Long w end) e (subst (λ m. EndsAt m (end_of 0 b.item)) e b.ends)
+        go (Stage.LongName w) e = waited (Stage.LongName w) e refl
         go x e = held x e refl

@@ -1,7 +1,7 @@
 -- What the reader of tokens holds stands for the tokens of the open item, and what it gives they mean.
 use Rattle.std.proofs.Common.{◌≡◌, ℕ, ◌+◌, ◌≤◌, arith, nat_le, nat_lt, List, [], ◌∷◌, ◌++◌, length, Bool, true, false, Result, Ok, Err, Option, Some, refl, ap, sym, ◌∙◌, subst, append_assoc, append-nil, if◌then◌else◌, ◌⊎◌, inl, inr, ◌&&◌}
 use Rattle.std.proofs.lemmas.Bool.{and_right, cond_both, leb-true}
-use Rattle.ion_text.specs.Names.{Blob, Bracket, Catalog, Clob, Content, Field, Frame, Held, Id, IsName, IsScalar, IsSymbol, Limits, Listing, Long, Mark, Mark', Means, Members, Now, Number, Number', Operator, Payload, Place, Placed, Plain, Quoted, Reason, Says, Segments, Short, Slot, Symbols, Turn, TypedNull, Value, Word, annotated, at, begins_long, begun_at, beyond_depth, by_long, by_short, by_symbol, close_mark, close_place, closed, comma, depth, element, ended, field, field_comma, first_now, fresh, gives, goes, held_payload, held_symbol, held_word, is_blob, is_clob, is_decimal, is_id, is_int, is_keyword, is_list, is_operator, is_short, is_struct, is_table, is_timestamp, is_typed_null, is_version_word, is_word, item, joined, keyed, late, long_at, long_string, means, next, no_element, no_field, no_item, noted, on_after, on_name, on_ready, one_annotation, one_token, open_mark, opened, paid, pending_at, place_in, refuses, released, resolve, resolved, segment, settle, spot_at, system_slots, the_marker, token_of, turn, turned, under, within}
+use Rattle.ion_text.specs.Names.{Blob, Bracket, Catalog, Clob, Content, Field, Frame, Held, Id, IsName, IsScalar, IsSymbol, Limits, ListOrSexp, Long, Mark, Mark', Means, Members, Number, Number', Operator, Payload, Place, Placed, Plain, Quoted, Reason, Says, Segments, Short, Slot, Stage, Symbols, Turn, TypedNull, Value, Word, annotated, at, begins_long, begun_at, beyond_depth, by_long, by_short, by_symbol, close_mark, close_place, closed, comma, depth, element, ended, field, field_comma, first_now, fresh, gives, goes, held_payload, held_symbol, held_word, is_blob, is_clob, is_decimal, is_id, is_int, is_keyword, is_list, is_operator, is_short, is_struct, is_table, is_timestamp, is_typed_null, is_version_word, is_word, item, joined, keyed, late, long_at, long_string, means, next, no_element, no_field, no_item, noted, on_after, on_name, on_ready, one_annotation, one_token, open_mark, opened, paid, pending_at, place_in, refuses, released, resolve, resolved, segment, settle, spot_at, system_slots, the_marker, token_of, turn, turned, under, within}
 use Rattle.ion_model.specs.declared.value.Payload.TheVariants as payloads
 use Rattle.ion_text.specs.Grammar.{is_quoted, is_sexp}
 use Rattle.ion_text.specs.laws.reading.Brackets.{Closes, closes_or_not, ends_list, ends_none, ends_sexp, ends_struct}
@@ -46,14 +46,14 @@ module _ (g : Catalog) (l : Limits) where
   ended_sounds c [] front us v start end o r m a n q =
       subst (λ x. Sounds c start end (x ++ us) (ended (under g l) (spot_at end start c) [] v)) (sym o)
       (top_sounds c us v start end (is_table v) (next c v g) m refl refl (n refl) (q refl))
-  ended_sounds c (Frame.Items Listing.List ss vs ∷ fs) front us v start end o r m a n q =
-      let around = more_around c fs ss Bracket.List (Items c Listing.List vs true) (Items c Listing.List (vs ++ v ∷ []) false) front us o
+  ended_sounds c (Frame.Items ListOrSexp.List ss vs ∷ fs) front us v start end o r m a n q =
+      let around = more_around c fs ss Bracket.List (Items c ListOrSexp.List vs true) (Items c ListOrSexp.List (vs ++ v ∷ []) false) front us o
       (element o.body us vs v o.items m) in
       inl ((refl, (around, refl, tt)), refl, tt)
-  ended_sounds c (Frame.Items Listing.Sexp ss vs ∷ fs) front us v start end o r m a n q =
-      let around = more_around c fs ss Bracket.Sexp (Items c Listing.Sexp vs true) (Items c Listing.Sexp (vs ++ v ∷ []) true) front us o
+  ended_sounds c (Frame.Items ListOrSexp.Sexp ss vs ∷ fs) front us v start end o r m a n q =
+      let around = more_around c fs ss Bracket.Sexp (Items c ListOrSexp.Sexp vs true) (Items c ListOrSexp.Sexp (vs ++ v ∷ []) true) front us o
       (item o.body us vs v o.items m a) in
-      inl ((refl, nothing_noted c (Frame.Items Listing.Sexp ss (vs ++ v ∷ []) ∷ fs) (front ++ us) around tt), refl, tt)
+      inl ((refl, nothing_noted c (Frame.Items ListOrSexp.Sexp ss (vs ++ v ∷ []) ∷ fs) (front ++ us) around tt), refl, tt)
   ended_sounds c (Frame.Named ss ms s ∷ fs) front us v start end o r m a n q =
       inl (
         (
@@ -136,7 +136,7 @@ module _ (g : Catalog) (l : Limits) where
   waits_sounds : (c : List Slot) (fs : List Frame) (ss : Symbols) (ts : List Placed) (t : Placed) (said : Content) (h : Held) (start end : ℕ)
       → ReadyFor c fs ss ts → Says (value_place fs) t said → HoldsWhatIsSaid c said h → ((w : List ℕ) → said ≡ Long w → ⊥) → (symbol_said said ≡ true)
       → IsHeld c said h → (is_unmarked h ≡ true → is_version_word (t ∷ []) ≡ false)
-      → Sounds c start end (ts ++ t ∷ []) (goes (at start c fs ss (Now.Pending h end)))
+      → Sounds c start end (ts ++ t ∷ []) (goes (at start c fs ss (Stage.Pending h end)))
   waits_sounds c fs ss ts t said h start end d i s n k f m =
       inl (
         (refl, record { before = ts; ready = d; token = t; said = said; whole = refl; says = i; stood = s; other = n; named = k; known = f; unmarked = m }),
@@ -146,7 +146,7 @@ module _ (g : Catalog) (l : Limits) where
 
   id_sounds : (c : List Slot) (fs : List Frame) (ss : Symbols) (ts : List Placed) (t : Placed) (id start end : ℕ) (r : Result (Option (List ℕ)) Reason)
       → ReadyFor c fs ss ts → Says (value_place fs) t (Id id) → resolve c id ≡ r
-      → Sounds c start end (ts ++ t ∷ []) (resolved r (λ s. goes (at start c fs ss (Now.Pending (Held.Symbol s) end))))
+      → Sounds c start end (ts ++ t ∷ []) (resolved r (λ s. goes (at start c fs ss (Stage.Pending (Held.Symbol s) end))))
   id_sounds c fs ss ts t id start end (Ok s) d i e = waits_sounds c fs ss ts t (Id id) (Held.Symbol s) start end d i (symbol_stood c (Id id) s (is_id id s e))
       (λ w x. cc) refl (s, e, refl) (λ x. id_no_word t id i.body)
   id_sounds c fs ss ts t id start end (Err x) d i e = tt
@@ -156,11 +156,11 @@ module _ (g : Catalog) (l : Limits) where
       (if b then goes (at start c (opened bracket ss ∷ fs) [] (first_now bracket)) else
       beyond_depth bracket (at start c (opened bracket ss ∷ fs) [] (first_now bracket)))
   opens_sounds Bracket.List c fs ss ts t start end true d i =
-      let around = opened_around c fs ss Bracket.List (Items c Listing.List [] true) ts t d i no_element in
-      inl ((refl, nothing_noted c (Frame.Items Listing.List ss [] ∷ fs) (ts ++ t ∷ []) around tt), refl, tt)
+      let around = opened_around c fs ss Bracket.List (Items c ListOrSexp.List [] true) ts t d i no_element in
+      inl ((refl, nothing_noted c (Frame.Items ListOrSexp.List ss [] ∷ fs) (ts ++ t ∷ []) around tt), refl, tt)
   opens_sounds Bracket.Sexp c fs ss ts t start end true d i =
-      let around = opened_around c fs ss Bracket.Sexp (Items c Listing.Sexp [] true) ts t d i no_item in
-      inl ((refl, nothing_noted c (Frame.Items Listing.Sexp ss [] ∷ fs) (ts ++ t ∷ []) around tt), refl, tt)
+      let around = opened_around c fs ss Bracket.Sexp (Items c ListOrSexp.Sexp [] true) ts t d i no_item in
+      inl ((refl, nothing_noted c (Frame.Items ListOrSexp.Sexp ss [] ∷ fs) (ts ++ t ∷ []) around tt), refl, tt)
   opens_sounds Bracket.Fields c fs ss ts t start end true d i =
       inl ((refl, (opened_around c fs ss Bracket.Fields (λ body. Members c body [] true) ts t d i no_field, tt)), refl, tt)
   opens_sounds _ c fs ss ts t start end _ d i = tt
@@ -179,7 +179,7 @@ module _ (g : Catalog) (l : Limits) where
       (λ x. noted_no_word c (value_place fs) o.notes (o.open' ∷ (o.body ++ t ∷ [])) ss o.noted (λ y. more_words o.open' o.body t)) (λ x. omega arith))
 
   -- The close of the innermost container. In a struct the place says whether it stands behind a field.
-  close_sounds : (bracket : Bracket) (c : List Slot) (fs : List Frame) (ts : List Placed) (t : Placed) (now : Now) (more : Bool) (start end : ℕ)
+  close_sounds : (bracket : Bracket) (c : List Slot) (fs : List Frame) (ts : List Placed) (t : Placed) (now : Stage) (more : Bool) (start end : ℕ)
       → ((ss : Symbols) (ms : List Field) (fs : List Frame) → place_in (Frame.Fields ss ms ∷ fs) now ≡ close_place more)
       → Deep l.depth fs → Opened c fs ts more → Says (place_in fs now) t (Mark' (close_mark bracket))
       → Sounds c start end (ts ++ t ∷ []) (closed bracket (under g l) (spot_at end start c) fs)
@@ -190,12 +190,12 @@ module _ (g : Catalog) (l : Limits) where
       by _ _ (ends_list ss vs fs) deep o i =
           let k = deep.0 in
           let m = depth-list ss vs in
-          closes_sounds Bracket.List c fs ss (payloads.List vs) (Items c Listing.List vs more) ts t start end o
+          closes_sounds Bracket.List c fs ss (payloads.List vs) (Items c ListOrSexp.List vs more) ts t start end o
           (is_list (value_place fs) o.open' t o.body vs more o.opens o.items i) (omega arith)
       by _ _ (ends_sexp ss vs fs) deep o i =
           let k = deep.0 in
           let m = depth-sexp ss vs in
-          closes_sounds Bracket.Sexp c fs ss (payloads.Sexp vs) (Items c Listing.Sexp vs more) ts t start end o
+          closes_sounds Bracket.Sexp c fs ss (payloads.Sexp vs) (Items c ListOrSexp.Sexp vs more) ts t start end o
           (is_sexp (value_place fs) o.open' t o.body vs o.opens o.items i) (omega arith)
       by _ _ (ends_struct ss ms fs) deep o i =
           let k = deep.0 in
@@ -213,7 +213,7 @@ module _ (g : Catalog) (l : Limits) where
       let e = no_note c (value_place fs) d.notes d.noted in
       subst (λ x. Sounds c start t.lexeme.end (x ++ t ∷ []) (closed bracket (under g l) (spot_at t.lexeme.end start c) fs))
       (sym (d.whole ∙ (ap (λ x. d.front ++ x) e ∙ append-nil d.front)))
-      (close_sounds bracket c fs d.front t Now.Ready true start t.lexeme.end (λ ss ms fs. refl) deep d.outer i)
+      (close_sounds bracket c fs d.front t Stage.Ready true start t.lexeme.end (λ ss ms fs. refl) deep d.outer i)
 
   -- a token where a value may come
   pub ready_sounds : (c : List Slot) (fs : List Frame) (ss : Symbols) (ts : List Placed) (t : Placed) (said : Content) (start : ℕ) → Deep l.depth fs
@@ -298,7 +298,7 @@ module _ (g : Catalog) (l : Limits) where
 
   -- one more segment
   pub joined_sounds : (c : List Slot) (fs : List Frame) (ss : Symbols) (ts : List Placed) (t : Placed) (v w : List ℕ) (start end : ℕ) → LongFor c fs ss v ts
-      → Says (value_place fs) t (Long w) → Sounds c start end (ts ++ t ∷ []) (goes (at start c fs ss (Now.Long (v ++ w) end)))
+      → Says (value_place fs) t (Long w) → Sounds c start end (ts ++ t ∷ []) (goes (at start c fs ss (Stage.Long (v ++ w) end)))
   joined_sounds c fs ss ts t v w start end d i = inl (
     (
       refl,
@@ -319,18 +319,18 @@ module _ (g : Catalog) (l : Limits) where
 
   -- behind an element or a field
   pub after_sounds : (c : List Slot) (fs : List Frame) (ts : List Placed) (t : Placed) (said : Content) (start end : ℕ) → Deep l.depth fs → Opened c fs ts false
-      → Says (place_in fs Now.After) t said → Sounds c start end (ts ++ t ∷ []) (on_after (under g l) (spot_at end start c) fs said)
-  after_sounds c (Frame.Items Listing.List ss vs ∷ fs) ts t (Mark' Mark.Comma) start end dd o i =
-      let around = more_around c fs ss Bracket.List (Items c Listing.List vs false) (Items c Listing.List vs true) ts (t ∷ []) o (comma o.body vs t o.items i) in
-      inl ((refl, nothing_noted c (Frame.Items Listing.List ss vs ∷ fs) (ts ++ t ∷ []) around tt), refl, tt)
+      → Says (place_in fs Stage.After) t said → Sounds c start end (ts ++ t ∷ []) (on_after (under g l) (spot_at end start c) fs said)
+  after_sounds c (Frame.Items ListOrSexp.List ss vs ∷ fs) ts t (Mark' Mark.Comma) start end dd o i =
+      let around = more_around c fs ss Bracket.List (Items c ListOrSexp.List vs false) (Items c ListOrSexp.List vs true) ts (t ∷ []) o (comma o.body vs t o.items i) in
+      inl ((refl, nothing_noted c (Frame.Items ListOrSexp.List ss vs ∷ fs) (ts ++ t ∷ []) around tt), refl, tt)
   after_sounds c (Frame.Fields ss ms ∷ fs) ts t (Mark' Mark.Comma) start end dd o i =
       let around = more_around c fs ss Bracket.Fields (λ body. Members c body ms false) (λ body. Members c body ms true) ts (t ∷ []) o
       (field_comma o.body ms t o.items i) in
       inl ((refl, (around, tt)), refl, tt)
   after_sounds c fs ts t (Mark' Mark.ListClose) start end dd o i =
-      close_sounds Bracket.List c fs ts t Now.After false start end (λ ss ms fs. refl) dd o i
+      close_sounds Bracket.List c fs ts t Stage.After false start end (λ ss ms fs. refl) dd o i
   after_sounds c fs ts t (Mark' Mark.FieldsClose) start end dd o i =
-      close_sounds Bracket.Fields c fs ts t Now.After false start end (λ ss ms fs. refl) dd o i
+      close_sounds Bracket.Fields c fs ts t Stage.After false start end (λ ss ms fs. refl) dd o i
   after_sounds c fs ts t _ start end dd o i = tt
 
   -- a symbol is a field's name
@@ -359,13 +359,13 @@ module _ (g : Catalog) (l : Limits) where
   name_sounds c ss ms fs ts t (Long w) start end dd o i = inl
       ((refl, record { before = ts; name = t ∷ []; whole = refl; outer = o; struct = tt; is = segment t w i }), refl, tt)
   name_sounds c ss ms fs ts t (Mark' Mark.FieldsClose) start end dd o i =
-      close_sounds Bracket.Fields c (Frame.Fields ss ms ∷ fs) ts t Now.Name true start end (λ rs ns fs. refl) dd o i
+      close_sounds Bracket.Fields c (Frame.Fields ss ms ∷ fs) ts t Stage.Name true start end (λ rs ns fs. refl) dd o i
   name_sounds c ss ms fs ts t _ start end dd o i = tt
 
   -- the colon behind a name
   pub keyed_sounds : (c : List Slot) (ss : Symbols) (ms : List Field) (fs : List Frame) (ts : List Placed) (t : Placed) (s : Option (List ℕ)) (start end : ℕ)
       → NameFor c (Frame.Fields ss ms ∷ fs) (λ n. IsName c n s) ts → Says Place.Name t (Mark' Mark.Colon)
-      → Sounds c start end (ts ++ t ∷ []) (goes (at start c (Frame.Named ss ms s ∷ fs) [] Now.Ready))
+      → Sounds c start end (ts ++ t ∷ []) (goes (at start c (Frame.Named ss ms s ∷ fs) [] Stage.Ready))
   keyed_sounds c ss ms fs ts t s start end d i = inl ((refl, nothing_noted c (Frame.Named ss ms s ∷ fs) (ts ++ t ∷ []) named tt), refl, tt)
     where
       named : Opened c (Frame.Named ss ms s ∷ fs) (ts ++ t ∷ []) true
@@ -392,7 +392,7 @@ module _ (g : Catalog) (l : Limits) where
   -- one more segment of a name
   long_name_sounds : (c : List Slot) (fs : List Frame) (ts : List Placed) (t : Placed) (v w : List ℕ) (start end : ℕ)
       → NameFor c fs (λ n. Segments Place.Name n v) ts → Says Place.Name t (Long w)
-      → Sounds c start end (ts ++ t ∷ []) (goes (at start c fs [] (Now.LongName (v ++ w))))
+      → Sounds c start end (ts ++ t ∷ []) (goes (at start c fs [] (Stage.LongName (v ++ w))))
   long_name_sounds c fs ts t v w start end d i = inl (
     (
       refl,
@@ -411,33 +411,33 @@ module _ (g : Catalog) (l : Limits) where
   )
 
   -- What a token does stands for the tokens with it.
-  pub turn_sounds : (c : List Slot) (fs : List Frame) (ss : Symbols) (now : Now) (ts : List Placed) (t : Placed) (said : Content) (start : ℕ) → Deep l.depth fs
+  pub turn_sounds : (c : List Slot) (fs : List Frame) (ss : Symbols) (now : Stage) (ts : List Placed) (t : Placed) (said : Content) (start : ℕ) → Deep l.depth fs
       → (d : NowStands c fs ss ts now) → Says (place_in fs now) t said → NoSegmentComes c fs ss ts t said now d
       → Sounds c (start_now now start t.lexeme.start fs ss) t.lexeme.end (ts ++ t ∷ []) (turn g l (at start c fs ss now) (token_of t.lexeme said))
-  turn_sounds c fs ss Now.Ready ts t said start dd d i a = ready_sounds c fs ss ts t said (begun_at start t.lexeme.start fs ss) dd d i a
-  turn_sounds c fs ss (Now.Pending h end) ts t (Mark' Mark.Colons) start dd d i a =
+  turn_sounds c fs ss Stage.Ready ts t said start dd d i a = ready_sounds c fs ss ts t said (begun_at start t.lexeme.start fs ss) dd d i a
+  turn_sounds c fs ss (Stage.Pending h end) ts t (Mark' Mark.Colons) start dd d i a =
       noted_sounds c fs ss ts t h start t.lexeme.end (held_symbol h) d (subst (λ p. Says p t (Mark' Mark.Colons)) (pending_at fs h end) i) refl
-  turn_sounds c fs ss (Now.Pending h end) ts t _ start dd d i a = tt
-  turn_sounds c fs ss (Now.Long v end) ts t (Long w) start dd d i a =
+  turn_sounds c fs ss (Stage.Pending h end) ts t _ start dd d i a = tt
+  turn_sounds c fs ss (Stage.Long v end) ts t (Long w) start dd d i a =
       joined_sounds c fs ss ts t v w start t.lexeme.end d (subst (λ p. Says p t (Long w)) (long_at fs v end) i)
-  turn_sounds c fs ss (Now.Long v end) ts t _ start dd d i a = tt
-  turn_sounds c fs ss Now.After ts t said start dd d i a = after_sounds c fs ts t said start t.lexeme.end dd d.0 i
-  turn_sounds c (Frame.Fields rs ms ∷ fs) ss Now.Name ts t said start dd d i a = name_sounds c rs ms fs ts t said start t.lexeme.end dd d.0 i
-  turn_sounds c (Frame.Fields rs ms ∷ fs) ss (Now.LongName v) ts t (Long w) start dd d i a =
+  turn_sounds c fs ss (Stage.Long v end) ts t _ start dd d i a = tt
+  turn_sounds c fs ss Stage.After ts t said start dd d i a = after_sounds c fs ts t said start t.lexeme.end dd d.0 i
+  turn_sounds c (Frame.Fields rs ms ∷ fs) ss Stage.Name ts t said start dd d i a = name_sounds c rs ms fs ts t said start t.lexeme.end dd d.0 i
+  turn_sounds c (Frame.Fields rs ms ∷ fs) ss (Stage.LongName v) ts t (Long w) start dd d i a =
       long_name_sounds c (Frame.Fields rs ms ∷ fs) ts t v w start t.lexeme.end d i
-  turn_sounds c (Frame.Fields rs ms ∷ fs) ss (Now.LongName v) ts t _ start dd d i a = tt
-  turn_sounds c (Frame.Fields rs ms ∷ fs) ss (Now.Keyed s) ts t (Mark' Mark.Colon) start dd d i a = keyed_sounds c rs ms fs ts t s start t.lexeme.end d i
-  turn_sounds c (Frame.Fields rs ms ∷ fs) ss (Now.Keyed s) ts t _ start dd d i a = tt
-  turn_sounds c [] ss Now.Name ts t said start dd d i a = absurd d.1
-  turn_sounds c (Frame.Items listing rs vs ∷ fs) ss Now.Name ts t said start dd d i a = absurd d.1
-  turn_sounds c (Frame.Named rs ms y ∷ fs) ss Now.Name ts t said start dd d i a = absurd d.1
+  turn_sounds c (Frame.Fields rs ms ∷ fs) ss (Stage.LongName v) ts t _ start dd d i a = tt
+  turn_sounds c (Frame.Fields rs ms ∷ fs) ss (Stage.Keyed s) ts t (Mark' Mark.Colon) start dd d i a = keyed_sounds c rs ms fs ts t s start t.lexeme.end d i
+  turn_sounds c (Frame.Fields rs ms ∷ fs) ss (Stage.Keyed s) ts t _ start dd d i a = tt
+  turn_sounds c [] ss Stage.Name ts t said start dd d i a = absurd d.1
+  turn_sounds c (Frame.Items listing rs vs ∷ fs) ss Stage.Name ts t said start dd d i a = absurd d.1
+  turn_sounds c (Frame.Named rs ms y ∷ fs) ss Stage.Name ts t said start dd d i a = absurd d.1
   turn_sounds c _ ss _ ts t said start dd d i a = absurd d.struct
 
   -- What waited is settled.
-  pub settle_sounds : (c : List Slot) (fs : List Frame) (ss : Symbols) (now : Now) (ts : List Placed) (start end : ℕ) → NowStands c fs ss ts now
+  pub settle_sounds : (c : List Slot) (fs : List Frame) (ss : Symbols) (now : Stage) (ts : List Placed) (start end : ℕ) → NowStands c fs ss ts now
       → Sounds c start (end_of_now now end) ts (settle g l (at start c fs ss now))
-  settle_sounds c fs ss (Now.Pending h end) ts start last d = released_sounds c fs ss h ts start end d
-  settle_sounds c fs ss (Now.Long w end) ts start last d = long_sounds c fs ss w ts start end d
-  settle_sounds c fs ss (Now.LongName w) ts start last d =
+  settle_sounds c fs ss (Stage.Pending h end) ts start last d = released_sounds c fs ss h ts start end d
+  settle_sounds c fs ss (Stage.Long w end) ts start last d = long_sounds c fs ss w ts start end d
+  settle_sounds c fs ss (Stage.LongName w) ts start last d =
       inl ((refl, record { before = d.before; name = d.name; whole = d.whole; outer = d.outer; struct = d.struct; is = by_long d.name w d.is }), refl, tt)
   settle_sounds c fs ss _ ts start last d = inl ((refl, d), refl, tt)

@@ -2,14 +2,14 @@
 use Rattle.std.proofs.Common.{◌≡◌, ℕ, List, [], ◌∷◌, ◌++◌, Bool, true, false, Ok, Option, Some, refl, ap, sym, ◌∙◌, subst, append_assoc, append-nil, if◌then◌else◌, codes, ◌||◌, ◌&&◌}
 use Rattle.std.proofs.lemmas.Slice.Eq.{bytes_eq-Decides}
 use Rattle.std.specs.Str.{bytes_eq}
-use Rattle.ion_text.specs.Names.{Annotations, Bracket, Content, Elements, Frame, Held, Id, IsBody, IsName, IsScalar, IsSymbol, Kind, Listing, Long, Mark, Mark', Members, Now, Payload, Place, Placed, Quoted, Reading, Row, Says, Segments, Slot, Symbols, TokenKind, TypedNull, Value, Word, begins_long, bracket_in, ends_long, held_payload, held_symbol, held_word, is_false, is_long, is_null, is_segment, is_symbol, is_true, is_version, is_version_word, is_word, joined, no_annotation, one_annotation, open_mark, place_in, resolve, the_marker}
+use Rattle.ion_text.specs.Names.{Annotations, Bracket, Content, Elements, Frame, Held, Id, IsBody, IsName, IsScalar, IsSymbol, Kind, ListOrSexp, Long, Mark, Mark', Members, Payload, Place, Placed, Quoted, Reading, Row, Says, Segments, Slot, Stage, Symbols, TokenKind, TypedNull, Value, Word, begins_long, bracket_in, ends_long, held_payload, held_symbol, held_word, is_false, is_long, is_null, is_segment, is_symbol, is_true, is_version, is_version_word, is_word, joined, no_annotation, one_annotation, open_mark, place_in, resolve, the_marker}
 use Rattle.ion_model.specs.declared.value.Payload.TheVariants as payloads
 use Rattle.ion_text.specs.laws.reading.complete.Complete.{is_unmarked}
 pub use Rattle.ion_text.specs.machine.Ways.{start_now}
 
 -- where a value of the innermost container stands
 abbrev pub value_place : List Frame → Place
-value_place fs = place_in fs Now.Ready
+value_place fs = place_in fs Stage.Ready
 
 -- a value may come in the innermost container
 abbrev pub Receives : List Frame → Type 0
@@ -30,9 +30,9 @@ pub record Around (c : List Slot) (fs : List Frame) (ss : Symbols) (ts : List Pl
   pub items : Body body
 
 -- the items of a list or an s-expression; the Bool says whether an element of a list may come
-abbrev pub Items : List Slot → Listing → List Value → Bool → List Placed → Type 0
-Items c Listing.List vs more body = Elements c body vs more
-Items c Listing.Sexp vs more body = Row c body vs
+abbrev pub Items : List Slot → ListOrSexp → List Value → Bool → List Placed → Type 0
+Items c ListOrSexp.List vs more body = Elements c body vs more
+Items c ListOrSexp.Sexp vs more body = Row c body vs
 
 -- the tokens of the open item, up to what has come of the innermost container; the Bool says whether an element may come there
 abbrev pub Opened : List Slot → List Frame → List Placed → Bool → Type 0
@@ -68,14 +68,14 @@ IsInside [] = ⊥
 IsInside (f ∷ fs) = Unit {0}
 
 -- where the last token of what waits ended
-abbrev pub EndsAt : Now → ℕ → Type 0
-EndsAt (Now.Pending h e) end = e ≡ end
-EndsAt (Now.Long w e) end = e ≡ end
+abbrev pub EndsAt : Stage → ℕ → Type 0
+EndsAt (Stage.Pending h e) end = e ≡ end
+EndsAt (Stage.Long w e) end = e ≡ end
 EndsAt _ end = Unit {0}
 
 -- in an s-expression, whether the tokens of its elements end in a long string
 abbrev pub long_behind : (c : List Slot) (fs : List Frame) (ts : List Placed) → Opened c fs ts true → Bool
-long_behind c (Frame.Items Listing.Sexp ss vs ∷ fs) ts o = ends_long o.body
+long_behind c (Frame.Items ListOrSexp.Sexp ss vs ∷ fs) ts o = ends_long o.body
 long_behind c _ ts o = false
 
 -- a token that says something else is no segment
@@ -213,23 +213,23 @@ pub record NameFor (c : List Slot) (fs : List Frame) (P : List Placed → Type 0
   pub is : P name
 
 -- what the reader holds of the open item stands for these tokens
-abbrev pub NowStands : List Slot → List Frame → Symbols → List Placed → Now → Type 0
-NowStands c fs ss ts Now.Ready = ReadyFor c fs ss ts
-NowStands c fs ss ts (Now.Pending h end) = PendingFor c fs ss h ts
-NowStands c fs ss ts (Now.Long w end) = LongFor c fs ss w ts
-NowStands c fs ss ts Now.After = Opened c fs ts false × (ss ≡ []) × IsInside fs
-NowStands c fs ss ts Now.Name = Opened c fs ts true × IsStruct fs
-NowStands c fs ss ts (Now.LongName w) = NameFor c fs (λ n. Segments Place.Name n w) ts
-NowStands c fs ss ts (Now.Keyed s) = NameFor c fs (λ n. IsName c n s) ts
+abbrev pub NowStands : List Slot → List Frame → Symbols → List Placed → Stage → Type 0
+NowStands c fs ss ts Stage.Ready = ReadyFor c fs ss ts
+NowStands c fs ss ts (Stage.Pending h end) = PendingFor c fs ss h ts
+NowStands c fs ss ts (Stage.Long w end) = LongFor c fs ss w ts
+NowStands c fs ss ts Stage.After = Opened c fs ts false × (ss ≡ []) × IsInside fs
+NowStands c fs ss ts Stage.Name = Opened c fs ts true × IsStruct fs
+NowStands c fs ss ts (Stage.LongName w) = NameFor c fs (λ n. Segments Place.Name n w) ts
+NowStands c fs ss ts (Stage.Keyed s) = NameFor c fs (λ n. IsName c n s) ts
 
 -- the same with the context of symbols
 abbrev pub ReadingStands : List Slot → Reading → List Placed → Type 0
 ReadingStands c r ts = (r.context ≡ c) × NowStands c r.frames r.notes ts r.now
 
 -- where what waits ended
-abbrev pub end_of_now : Now → ℕ → ℕ
-end_of_now (Now.Pending h e) end = e
-end_of_now (Now.Long w e) end = e
+abbrev pub end_of_now : Stage → ℕ → ℕ
+end_of_now (Stage.Pending h e) end = e
+end_of_now (Stage.Long w e) end = e
 end_of_now _ end = end
 
 -- the words of keywords, and what else is held
@@ -317,7 +317,7 @@ no_note c p _ a = go _ [] a refl
         none (x ∷ ss) e = cc
 
 -- behind an element that ends long, a segment may not come where a value may
-abbrev pub NoSegmentComes : (c : List Slot) (fs : List Frame) (ss : Symbols) (ts : List Placed) (t : Placed) (said : Content) (now : Now)
+abbrev pub NoSegmentComes : (c : List Slot) (fs : List Frame) (ss : Symbols) (ts : List Placed) (t : Placed) (said : Content) (now : Stage)
     → NowStands c fs ss ts now → Type 0
-NoSegmentComes c fs ss ts t said Now.Ready d = (w : List ℕ) → said ≡ Long w → (long_behind c fs d.front d.outer && begins_long (d.notes ++ t ∷ [])) ≡ false
+NoSegmentComes c fs ss ts t said Stage.Ready d = (w : List ℕ) → said ≡ Long w → (long_behind c fs d.front d.outer && begins_long (d.notes ++ t ∷ [])) ≡ false
 NoSegmentComes c fs ss ts t said _ d = Unit {0}

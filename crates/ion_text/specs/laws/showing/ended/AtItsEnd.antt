@@ -3,7 +3,7 @@ use Rattle.std.proofs.Common.{◌≡◌, ℕ, zero, suc, ◌+◌, ◌-◌, Bool,
 use Rattle.std.specs.Prelude.{◌==◌, bytes_eq, codes}
 use Rattle.std.proofs.lemmas.List.{append_cancel_left}
 use Rattle.std.proofs.lemmas.Bool.{cond_both, true≢false}
-use Rattle.ion_text.specs.Names.{Action, Catalog, Content, Effect, End, Frame, Given, Keep, Known, Left, Lexeme, Limits, Mark, Mode, Next, Now, Number, Outcome, Place, Reading, ReadsNumber, Reason, Refusal, Refused, Run, Slot, State, Symbols, TokenKind, Turn, Value, acts, at, at_end, begins_value, begins_word, begun, behind_given, behind_left, cut, eats, end_of, end_ready, end_said, end_settled, end_turned, end_waiting, ends_at, ends_of, fails, feed, gives, goes, in_blank, is_digit, is_fresh, is_idle, is_name, is_operator_octet, is_sexp, is_stop, is_top, is_white, is_word_octet, late, leaves, noticed, number_read, number_reads, number_said, on_octet, on_said, on_scan, on_settled, or_worse, place, plain, reaches, refuses, run, run-append, run_on, said, settle, shut, takes, tells, then_run, token_of, trace, turn, unsettled, uses, with_scan}
+use Rattle.ion_text.specs.Names.{Action, Catalog, Content, Effect, End, Frame, Given, Keep, Known, Left, Lexeme, Limits, Mark, Mode, Next, Number, Outcome, Place, Reading, ReadsNumber, Reason, Refusal, Refused, Run, Slot, Stage, State, Symbols, TokenKind, Turn, Value, acts, at, at_end, begins_value, begins_word, begun, behind_given, behind_left, cut, eats, end_of, end_ready, end_said, end_settled, end_turned, end_waiting, ends_at, ends_of, fails, feed, gives, goes, in_blank, is_digit, is_fresh, is_idle, is_name, is_operator_octet, is_sexp, is_stop, is_top, is_white, is_word_octet, late, leaves, noticed, number_read, number_reads, number_said, on_octet, on_said, on_scan, on_settled, or_worse, place, plain, reaches, refuses, run, run-append, run_on, said, settle, shut, takes, tells, then_run, token_of, trace, turn, unsettled, uses, with_scan}
 use Rattle.ion_tokens.specs.machine.Table.{next}
 use Rattle.ion_tokens.specs.laws.Numerals.{number_without_slash}
 use Rattle.ion_tokens.proofs.sound.TurnsWords.{slash_in}
@@ -196,13 +196,13 @@ module _ (g : Catalog) (l : Limits) (used : ℕ) (v : Value) where
       (left_value n o s (turn g l r (token_of x c)) h.1 e))
 
   ready_value : (o start : ℕ) (c : List Slot) (fs : List Frame) (ss : Symbols) (s : Known) → is_top fs ≡ true → is_plain s.mode ≡ true
-      → end_ready g l used (at start c fs ss Now.Ready) (at_end (place (at start c fs ss Now.Ready)) s) ≡ Ok (Some v)
-      → LeavesValue v (eats g l (record { scan = s; reading = at start c fs ss Now.Ready }) o)
+      → end_ready g l used (at start c fs ss Stage.Ready) (at_end (place (at start c fs ss Stage.Ready)) s) ≡ Ok (Some v)
+      → LeavesValue v (eats g l (record { scan = s; reading = at start c fs ss Stage.Ready }) o)
   ready_value o start c (f ∷ fs) ss s top plain h = absurd cc
   ready_value o start c [] ss s top plain h = go (at_end Place.Top s) refl h
     where
       r : Reading
-      r = at start c [] ss Now.Ready
+      r = at start c [] ss Stage.Ready
 
       said_so : (x : Lexeme) → at_end Place.Top s ≡ Ok (Some x) → (d : Result Content Reason) → said x.kind x.octets ≡ d
           → end_said g l used r x d ≡ Ok (Some v) → LeavesValue v (eats g l (record { scan = s; reading = r }) o)
@@ -221,12 +221,12 @@ module _ (g : Catalog) (l : Limits) (used : ℕ) (v : Value) where
       still_takes 3 o m (blank_still (place m.reading) m.scan w.0) (subst (λ x. end_waiting g l used x (settle g l m.reading) ≡ Ok (Some v)) w.0 h)
 
 module _ (g : Catalog) (l : Limits) where
-  ends_value : (o : ℕ) (s : Known) (start : ℕ) (c : List Slot) (fs : List Frame) (ss : Symbols) (now : Now) (v : Value) → StandsSo g l s (at start c fs ss now)
+  ends_value : (o : ℕ) (s : Known) (start : ℕ) (c : List Slot) (fs : List Frame) (ss : Symbols) (now : Stage) (v : Value) → StandsSo g l s (at start c fs ss now)
       → ends g l (record { scan = s; reading = at start c fs ss now }) ≡ Ok (Some v)
       → LeavesValue v (eats g l (record { scan = s; reading = at start c fs ss now }) o)
-  ends_value o s start c fs ss (Now.Pending k e) v so h = waits_value g l s.used v o (record { scan = s; reading = at start c fs ss (Now.Pending k e) }) h
-  ends_value o s start c fs ss (Now.Long w e) v so h = waits_value g l s.used v o (record { scan = s; reading = at start c fs ss (Now.Long w e) }) h
-  ends_value o s start c fs ss Now.Ready v so h = ready_value g l s.used v o start c fs ss s so.1.0 so.0 h
+  ends_value o s start c fs ss (Stage.Pending k e) v so h = waits_value g l s.used v o (record { scan = s; reading = at start c fs ss (Stage.Pending k e) }) h
+  ends_value o s start c fs ss (Stage.Long w e) v so h = waits_value g l s.used v o (record { scan = s; reading = at start c fs ss (Stage.Long w e) }) h
+  ends_value o s start c fs ss Stage.Ready v so h = ready_value g l s.used v o start c fs ss s so.1.0 so.0 h
   ends_value o s start c fs ss _ v so h = absurd so.1.1
 
 -- 2. So for whole runs.

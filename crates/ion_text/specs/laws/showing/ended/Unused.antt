@@ -2,7 +2,7 @@
 use Rattle.std.proofs.Common.{◌≡◌, ℕ, Bool, true, false, ◌&&◌, not, nat_lt, List, [], ◌∷◌, Result, Ok, Err, Option, Some, None, refl, sym, ap, ◌∙◌, subst, ◌⊎◌, inl, inr, if◌then◌else◌}
 use Rattle.std.proofs.lemmas.Bool.{cond_both}
 use Rattle.std.specs.Prelude.{◌==◌, bytes_eq, codes}
-use Rattle.ion_text.specs.Names.{Action, Bracket, Catalog, Content, Effect, Frame, Given, Known, Left, Lexeme, Limits, Mark, Mark', Mode, Next, Now, Outcome, Place, Placed, Reading, Reason, Refused, Slot, Spot, State, Symbols, Token, TokenKind, Turn, Value, acts, at, at_end, begun_at, blob_ends, blob_of, cut_short, end_of, end_ready, end_said, end_settled, end_turned, end_waiting, ends_at, feed, first_now, gives, goes, is_fresh, is_mark, is_top, late, open_mark, opened, place, refuses, said, said_body, settle, takes, tells, token_at, token_of, turn, under}
+use Rattle.ion_text.specs.Names.{Action, Bracket, Catalog, Content, Effect, Frame, Given, Known, Left, Lexeme, Limits, Mark, Mark', Mode, Next, Outcome, Place, Placed, Reading, Reason, Refused, Slot, Spot, Stage, State, Symbols, Token, TokenKind, Turn, Value, acts, at, at_end, begun_at, blob_ends, blob_of, cut_short, end_of, end_ready, end_said, end_settled, end_turned, end_waiting, ends_at, feed, first_now, gives, goes, is_fresh, is_mark, is_top, late, open_mark, opened, place, refuses, said, said_body, settle, takes, tells, token_at, token_of, turn, under}
 use Rattle.ion_tokens.specs.machine.Table.{next}
 use Rattle.ion_tokens.specs.laws.ByRows.{by_rows_where}
 use Rattle.ion_text.specs.machine.Run.{ends}
@@ -115,7 +115,7 @@ module _ (g : Catalog) (l : Limits) where
   turn_stays : (r : Reading) (t : Token) → AtTop r → opens t.said ≡ false → OpensNone (turn g l r t)
   turn_stays r t a o = by r.frames r.now _ (now_way g l t.start t.end r.start r.context r.frames r.notes t.said r.now) a.0 a.1
     where
-      by : (fs : List Frame) (now : Now) (x : Turn) → TokenWay g l t.start t.end r.start r.context t.said r.notes fs now x → is_top fs ≡ true → IsTopNow now
+      by : (fs : List Frame) (now : Stage) (x : Turn) → TokenWay g l t.start t.end r.start r.context t.said r.notes fs now x → is_top fs ≡ true → IsTopNow now
           → OpensNone x
       by _ _ _ (token_refused fs now e d) h i = tt
       by _ _ _ (token_deep fs e d) h i = tt
@@ -135,7 +135,7 @@ module _ (g : Catalog) (l : Limits) where
   mark_never : (r : Reading) (begin end : ℕ) (m : Mark) → AtTop r → Never (turn g l r (token_at begin end (Mark' m)))
   mark_never r begin end m a = by r.frames r.now _ (now_way g l begin end r.start r.context r.frames r.notes (Mark' m) r.now) a.0
     where
-      by : (fs : List Frame) (now : Now) (x : Turn) → TokenWay g l begin end r.start r.context (Mark' m) r.notes fs now x → is_top fs ≡ true → Never x
+      by : (fs : List Frame) (now : Stage) (x : Turn) → TokenWay g l begin end r.start r.context (Mark' m) r.notes fs now x → is_top fs ≡ true → Never x
       by _ _ _ (token_value fs q x none flat way) h = absurd (none m refl)
       by _ _ _ (token_list rs vs fs now x e way) h = absurd cc
       by _ _ _ (token_sexp rs vs fs now x e way) h = absurd cc
@@ -145,7 +145,7 @@ module _ (g : Catalog) (l : Limits) where
   settled_stays : (r : Reading) → AtTop r → OpensNone (settle g l r)
   settled_stays r a = by r.frames r.now _ (settled_way g l r.start r.context r.frames r.notes r.now) a.0 a.1
     where
-      by : (fs : List Frame) (now : Now) (t : Turn) → SettledWay g l r.start r.context r.notes fs now t → is_top fs ≡ true → IsTopNow now → OpensNone t
+      by : (fs : List Frame) (now : Stage) (t : Turn) → SettledWay g l r.start r.context r.notes fs now t → is_top fs ≡ true → IsTopNow now → OpensNone t
       by _ _ _ (settled_free fs now i e) h k = (h, k)
       by _ _ _ (settled_name fs w) h k = absurd k
       by _ _ _ (settled_held fs x end q t flat way) h k = value_stays _ _ fs t way h
@@ -217,12 +217,12 @@ token_plain p s x h = go s.mode h
     go _ e = inl refl
 
 -- what stands at the top level may stand there
-pub top_now : (c : List Slot) (fs : List Frame) (ss : Symbols) (ts : List Placed) (now : Now) → NowStands c fs ss ts now → is_top fs ≡ true → IsTopNow now
-top_now c fs ss ts Now.Ready h e = tt
-top_now c fs ss ts (Now.Pending k end) h e = tt
-top_now c fs ss ts (Now.Long w end) h e = tt
-top_now c [] ss ts Now.After h e = h.2
-top_now c [] ss ts Now.Name h e = h.1
+pub top_now : (c : List Slot) (fs : List Frame) (ss : Symbols) (ts : List Placed) (now : Stage) → NowStands c fs ss ts now → is_top fs ≡ true → IsTopNow now
+top_now c fs ss ts Stage.Ready h e = tt
+top_now c fs ss ts (Stage.Pending k end) h e = tt
+top_now c fs ss ts (Stage.Long w end) h e = tt
+top_now c [] ss ts Stage.After h e = h.2
+top_now c [] ss ts Stage.Name h e = h.1
 top_now c [] ss ts _ h e = h.struct
 top_now c (f ∷ fs) ss ts _ h e = absurd cc
 
@@ -269,17 +269,17 @@ module _ (g : Catalog) (l : Limits) where
   inside_end used item start end c (late e r) v unclosed k h = late_never g l used e (Some v) h
 
   -- a brace opens a struct
-  brace_end : (used start : ℕ) (c : List Slot) (fs : List Frame) (ss : Symbols) (now : Now) (begin end : ℕ) (v : Value) → is_top fs ≡ true → IsTopNow now
+  brace_end : (used start : ℕ) (c : List Slot) (fs : List Frame) (ss : Symbols) (now : Stage) (begin end : ℕ) (v : Value) → is_top fs ≡ true → IsTopNow now
       → end_turned g l used (turn g l (at start c fs ss now) (record { start = begin; end = end; said = Mark' Mark.FieldsOpen })) ≡ Ok (Some v) → ⊥
   brace_end used start c (f ∷ fs) ss now begin end v t i h = absurd cc
-  brace_end used start c [] ss Now.Ready begin end v t i h = go (nat_lt 0 l.depth) h
+  brace_end used start c [] ss Stage.Ready begin end v t i h = go (nat_lt 0 l.depth) h
     where
       go : (b : Bool) → end_turned g l used (if b then goes (braced (begun_at start begin [] ss) c ss) else late Reason.Depth
           (braced (begun_at start begin [] ss) c ss)) ≡ Ok (Some v) → ⊥
       go true h = cc
       go false h = cc
-  brace_end used start c [] ss (Now.Pending k e) begin end v t i h = cc
-  brace_end used start c [] ss (Now.Long w e) begin end v t i h = cc
+  brace_end used start c [] ss (Stage.Pending k e) begin end v t i h = cc
+  brace_end used start c [] ss (Stage.Long w e) begin end v t i h = cc
   brace_end used start c [] ss _ begin end v t i h = i
 
   -- no container is open, and neither a quoted text nor a lob, nor what may begin one
@@ -328,7 +328,7 @@ module _ (g : Catalog) (l : Limits) where
         go (Ok (Some x)) e h = said_so x e (said x.kind x.octets) refl h
         go (Err f) e h = absurd cc
 
-  waits_so : (used : ℕ) (s : Known) (start : ℕ) (c : List Slot) (fs : List Frame) (ss : Symbols) (now : Now) (end : ℕ) (v : Value) → IsTopNow now
+  waits_so : (used : ℕ) (s : Known) (start : ℕ) (c : List Slot) (fs : List Frame) (ss : Symbols) (now : Stage) (end : ℕ) (v : Value) → IsTopNow now
       → SettlesWithin g l start end fs (settle g l (at start c fs ss now))
       → end_waiting g l used (at_end (place (at start c fs ss now)) s) (settle g l (at start c fs ss now)) ≡ Ok (Some v) → StandsSo s (at start c fs ss now)
   waits_so used s start c fs ss now end v i k h =
@@ -336,11 +336,11 @@ module _ (g : Catalog) (l : Limits) where
       (blank_plain (place (at start c fs ss now)) s w.0, (settled_top start end fs (settle g l (at start c fs ss now)) k w.1, i))
 
   -- where the end gives a value, no container is open, and neither a quoted text nor a lob
-  pub ends_so : (s : Known) (start : ℕ) (c : List Slot) (fs : List Frame) (ss : Symbols) (now : Now) (v : Value) → (is_top fs ≡ true → IsTopNow now)
+  pub ends_so : (s : Known) (start : ℕ) (c : List Slot) (fs : List Frame) (ss : Symbols) (now : Stage) (v : Value) → (is_top fs ≡ true → IsTopNow now)
       → ends g l (record { scan = s; reading = at start c fs ss now }) ≡ Ok (Some v) → StandsSo s (at start c fs ss now)
-  ends_so s start c fs ss (Now.Pending k e) v ok h = waits_so s.used s start c fs ss (Now.Pending k e) e v tt
-      (settle_spans g l start c fs ss (Now.Pending k e) 0 tt) h
-  ends_so s start c fs ss (Now.Long w e) v ok h = waits_so s.used s start c fs ss (Now.Long w e) e v tt (settle_spans g l start c fs ss (Now.Long w e) 0 tt)
+  ends_so s start c fs ss (Stage.Pending k e) v ok h = waits_so s.used s start c fs ss (Stage.Pending k e) e v tt
+      (settle_spans g l start c fs ss (Stage.Pending k e) 0 tt) h
+  ends_so s start c fs ss (Stage.Long w e) v ok h = waits_so s.used s start c fs ss (Stage.Long w e) e v tt (settle_spans g l start c fs ss (Stage.Long w e) 0 tt)
       h
-  ends_so s start c fs ss (Now.LongName w) v ok h = absurd cc
+  ends_so s start c fs ss (Stage.LongName w) v ok h = absurd cc
   ends_so s start c fs ss now v ok h = ready_so s.used s (at start c fs ss now) v ok h

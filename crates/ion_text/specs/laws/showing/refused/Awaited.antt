@@ -1,6 +1,6 @@
 -- Where an octet is refused and something waits, the tokens that it waits behind are the last of no piece that remains one.
 use Rattle.std.proofs.Common.{◌≡◌, ℕ, ◌+◌, ◌≤◌, Bool, true, false, ◌&&◌, ◌||◌, List, [], ◌∷◌, ◌++◌, refl, sym, ap, ◌∙◌, subst, append-nil, inl, inr, codes}
-use Rattle.ion_text.specs.Names.{BlankThen, Catalog, Frame, Given, Held, Left, Limits, Next, Now, Outcome, Place, Placed, Reading, Refused, Turn, Value, Whole, ends_long, feed, goes, in_segment, is_quoted, is_top, late, place, place_in, refuses, settle, unsettled, waits, waits_now}
+use Rattle.ion_text.specs.Names.{BlankThen, Catalog, Frame, Given, Held, Left, Limits, Next, Outcome, Place, Placed, Reading, Refused, Stage, Turn, Value, Whole, ends_long, feed, goes, in_segment, is_quoted, is_top, late, place, place_in, refuses, settle, unsettled, waits, waits_now}
 use Rattle.ion_text.specs.laws.reading.complete.Complete.{ends_behind, segments_long}
 use Rattle.ion_text.specs.laws.reading.complete.Going.{Going, TurnEnds, going_ends, settled_bound}
 use Rattle.ion_text.specs.laws.reading.complete.Meets.{is_long_text}
@@ -59,22 +59,22 @@ module _ (g : Catalog) (l : Limits) (u : List ℕ) (o : ℕ) (vs : List Value) (
         e
 
     -- a symbol waits
-    module _ (q : Held) (end : ℕ) (now : r.now ≡ Now.Pending q end) where
-      waits_so : (y : Outcome) → feed p s o ≡ y → unsettled s r (feed p s o) ≡ true → waits_now (is_top r.frames) (Now.Pending q end) y ≡ true
-      waits_so y f i = sym (or_none (waits_now (is_top r.frames) (Now.Pending q end) y))
+    module _ (q : Held) (end : ℕ) (now : r.now ≡ Stage.Pending q end) where
+      waits_so : (y : Outcome) → feed p s o ≡ y → unsettled s r (feed p s o) ≡ true → waits_now (is_top r.frames) (Stage.Pending q end) y ≡ true
+      waits_so y f i = sym (or_none (waits_now (is_top r.frames) (Stage.Pending q end) y))
           ∙ (sym (ap (λ n. waits_now (is_top r.frames) n y || in_segment n s) now) ∙ (sym (ap (unsettled s r) f) ∙ i))
         where
           or_none : (b : Bool) → (b || false) ≡ b
           or_none true = refl
           or_none false = refl
 
-      symbol_stops : (y : Outcome) → feed p s o ≡ y → waits_now (is_top r.frames) (Now.Pending q end) y ≡ true → ScanRefused g l r y → ⊥
+      symbol_stops : (y : Outcome) → feed p s o ≡ y → waits_now (is_top r.frames) (Stage.Pending q end) y ≡ true → ScanRefused g l r y → ⊥
       symbol_stops (Next n) f i (z, m) = waits_fits l r n none_open q end now (subst (λ n. end_of_now n 0 ≤ r.start + l.item) now bound) z m
       symbol_stops (Given y n) f i m = let z = given_colons p k.colon k.end s k.since o k.holds y n f i in shuts_colons z.0 (z.1 following)
       symbol_stops _ f i m = absurd cc
 
     -- a long string does
-    module _ (q : List ℕ) (end : ℕ) (now : r.now ≡ Now.Long q end) where
+    module _ (q : List ℕ) (end : ℕ) (now : r.now ≡ Stage.Long q end) where
       long_there : ends_long (h.b.front ++ h.b.item) ≡ true
       long_there =
           let d : LongFor r.context r.frames r.notes q h.b.item = subst (NowStands r.context r.frames r.notes h.b.item) now h.b.stands in
@@ -84,7 +84,7 @@ module _ (g : Catalog) (l : Limits) (u : List ℕ) (o : ℕ) (vs : List Value) (
       quoted true b i = i
       quoted false b i = absurd cc
 
-      waiting : (y : Outcome) → feed p s o ≡ y → waits_now (is_top r.frames) (Now.Long q end) y ≡ true → ScanRefused g l r y → ⊥
+      waiting : (y : Outcome) → feed p s o ≡ y → waits_now (is_top r.frames) (Stage.Long q end) y ≡ true → ScanRefused g l r y → ⊥
       waiting (Next n) f i (z, m) = go (is_long_text n.mode) refl
         where
           go : (b : Bool) → is_long_text n.mode ≡ b → ⊥
@@ -109,7 +109,7 @@ module _ (g : Catalog) (l : Limits) (u : List ℕ) (o : ℕ) (vs : List Value) (
     ends_not (late z m) i j = i
     ends_not _ i j = j
 
-    fresh_not : r.now ≡ Now.Ready → ⊥
+    fresh_not : r.now ≡ Stage.Ready → ⊥
     fresh_not i = subst (IsWaiting g l) i there.0
 
     settles_not : settle g l r ≡ goes r → ⊥
@@ -118,9 +118,9 @@ module _ (g : Catalog) (l : Limits) (u : List ℕ) (o : ℕ) (vs : List Value) (
     unsettled_stops : unsettled s r (feed p s o) ≡ true → ScanRefused g l r (feed p s o) → ⊥
     unsettled_stops i m = go r.now refl there.0
       where
-        go : (n : Now) → r.now ≡ n → IsWaiting g l n → ⊥
-        go (Now.Pending q end) f j = symbol_stops q end f (feed p s o) refl (waits_so q end f (feed p s o) refl i) m
-        go (Now.Long q end) f j = long_stops q end f i m
+        go : (n : Stage) → r.now ≡ n → IsWaiting g l n → ⊥
+        go (Stage.Pending q end) f j = symbol_stops q end f (feed p s o) refl (waits_so q end f (feed p s o) refl i) m
+        go (Stage.Long q end) f j = long_stops q end f i m
         go _ f j = j
 
     -- where something waits and the octet is refused, the tokens told end no piece that remains one

@@ -1,7 +1,7 @@
 -- Where an octet is refused: whatever waited is settled before it, and the octet comes again, up to what refuses it.
 use Rattle.std.proofs.Common.{◌≡◌, ℕ, zero, suc, Bool, true, false, ◌&&◌, ◌||◌, List, [], ◌∷◌, ◌++◌, Result, Ok, Err, refl, sym, ap, ◌∙◌, subst, append-nil, ◌⊎◌, inl, inr}
 use Rattle.std.proofs.lemmas.Bool.{cond_both}
-use Rattle.ion_text.specs.Names.{Catalog, Content, Continues, Effect, Follows, Frame, Given, Known, Leading, Left, Lexeme, Limits, Mark, Mark', Next, Now, Outcome, Reading, Reason, Refused, Scanned, State, TokenKind, Turn, Value, at, behind_given, behind_left, ends_long, feed, gives, goes, in_segment, is_fresh, is_idle, is_quoted, is_quoting, is_sexp, is_top, late, on_octet, on_said, on_scan, on_settled, place, refuses, said, said_body, settle, settle_same, settle_still, takes, token_of, turn, unsettled, waits, waits_now, with_scan}
+use Rattle.ion_text.specs.Names.{Catalog, Content, Continues, Effect, Follows, Frame, Given, Known, Leading, Left, Lexeme, Limits, Mark, Mark', Next, Outcome, Reading, Reason, Refused, Scanned, Stage, State, TokenKind, Turn, Value, at, behind_given, behind_left, ends_long, feed, gives, goes, in_segment, is_fresh, is_idle, is_quoted, is_quoting, is_sexp, is_top, late, on_octet, on_said, on_scan, on_settled, place, refuses, said, said_body, settle, settle_same, settle_still, takes, token_of, turn, unsettled, waits, waits_now, with_scan}
 use Rattle.ion_tokens.specs.laws.Follows.{feed_follows}
 use Rattle.ion_text.specs.laws.reading.complete.Accepts.{mark_said}
 use Rattle.ion_text.specs.laws.reading.complete.Fuel.{NotLeaves, given_stays, noticed_stays, said_stays}
@@ -97,7 +97,7 @@ module _ (g : Catalog) (l : Limits) where
         quoted true true a b h = cc
         quoted _ _ a b h = cc
 
-        long_shows : (w : List ℕ) (end : ℕ) → r.now ≡ Now.Long w end → (i q : Bool) → is_idle s.mode ≡ i → is_quoting s.mode ≡ q → (i || q) ≡ true
+        long_shows : (w : List ℕ) (end : ℕ) → r.now ≡ Stage.Long w end → (i q : Bool) → is_idle s.mode ≡ i → is_quoting s.mode ≡ q → (i || q) ≡ true
             → is_top r.frames ≡ true → (y : Lexeme) (t : Known) → feed (place r) s o ≡ Left y t → y.kind ≡ TokenKind.Mark Mark.Colon
         long_shows w end e true q f h k top y t x = idle_colon g l u o vs (place r) s f (not_sexp top) y t x
         long_shows w end e false true f h k top y t x =
@@ -110,25 +110,25 @@ module _ (g : Catalog) (l : Limits) where
         settle_chain : Chain g l u o vs (on_settled g l (λ k. takes g l n k o) s (feed (place r) s o) (settle g l r))
         settle_chain = go r.now refl
           where
-            same : (m : Now) → r.now ≡ m → settle g l (at r.start r.context r.frames r.notes m) ≡ goes (at r.start r.context r.frames r.notes m)
+            same : (m : Stage) → r.now ≡ m → settle g l (at r.start r.context r.frames r.notes m) ≡ goes (at r.start r.context r.frames r.notes m)
                 → settle g l r ≡ goes r
             same m e f = subst (λ m. settle g l (at r.start r.context r.frames r.notes m) ≡ goes (at r.start r.context r.frames r.notes m)) (sym e) f
 
-            go : (m : Now) → r.now ≡ m → Chain g l u o vs (on_settled g l (λ k. takes g l n k o) s (feed (place r) s o) (settle g l r))
-            go (Now.Pending k end) e =
+            go : (m : Stage) → r.now ≡ m → Chain g l u o vs (on_settled g l (λ k. takes g l n k o) s (feed (place r) s o) (settle g l r))
+            go (Stage.Pending k end) e =
                 waited (record {
                   colons = λ top c. symbol_colons (feed (place r) s o) (sym (ap (λ m. waits_now (is_top r.frames) m (feed (place r) s o)) e) ∙ not_waiting);
                   bare = λ top. idle_no_text s.mode (subst (Waits g l s) e (kept.waits top));
                   colon = λ top. idle_colon g l u o vs (place r) s (subst (Waits g l s) e (kept.waits top)) (not_sexp top);
                 })
-            go (Now.Long w end) e =
+            go (Stage.Long w end) e =
                 waited (record {
                   colons = λ top c. absurd (never s.colon (long_colon g l u vs s r ahead (ApartAt o s r) b (behind_used g l u vs s r ahead (ApartAt o s r) b) w
                       end e (top_none r.frames top)) c);
                   bare = λ top. no_text s w end (subst (λ m. in_segment m s ≡ false) e (or_parts (waits r (feed (place r) s o)) (in_segment r.now s) shut).1);
                   colon = λ top. long_shows w end e (is_idle s.mode) (is_quoting s.mode) refl refl (subst (Waits g l s) e (kept.waits top)) top;
                 })
-            go (Now.LongName w) e =
+            go (Stage.LongName w) e =
                 let d = (subst (λ m. NowStands r.context r.frames r.notes b.item m) e b.stands).struct in
                 waited (record {
                   colons = λ top c. absurd (inside r.frames d top);
@@ -187,7 +187,7 @@ module _ (g : Catalog) (l : Limits) where
         cond_both (unsettled m.scan m.reading (feed (place m.reading) m.scan o)) _ _ (NotLeaves g l) (λ e. scan)
         (λ e. subst (λ z. NotLeaves g l (on_settled g l again m.scan (feed (place m.reading) m.scan o) z)) (sym ready) scan)
       where
-        parts : (m.reading.frames ≡ []) × (m.reading.notes ≡ []) × (m.reading.now ≡ Now.Ready)
+        parts : (m.reading.frames ≡ []) × (m.reading.notes ≡ []) × (m.reading.now ≡ Stage.Ready)
         parts = fresh_parts m.reading.start m.reading.context m.reading.frames m.reading.notes m.reading.now h.fresh
 
         ready : settle g l m.reading ≡ goes m.reading
@@ -197,12 +197,12 @@ module _ (g : Catalog) (l : Limits) where
         again : State → Effect
         again = λ k. takes g l 2 k o
 
-        colon : (y : Lexeme) (t : Known) (c : Content) → c ≡ Mark' Mark.Colon → (now : Now) → m.reading.now ≡ now → now ≡ Now.Ready
+        colon : (y : Lexeme) (t : Known) (c : Content) → c ≡ Mark' Mark.Colon → (now : Stage) → m.reading.now ≡ now → now ≡ Stage.Ready
             → NotLeaves g l (behind_left again t (turn g l m.reading (token_of y c)))
-        colon y t c e Now.Ready f k =
+        colon y t c e Stage.Ready f k =
             subst (λ n. NotLeaves g l (behind_left again t (turn g l (at m.reading.start m.reading.context m.reading.frames m.reading.notes n) (token_of y c))))
             (sym f)
-            (subst (λ z. NotLeaves g l (behind_left again t (turn g l (at m.reading.start m.reading.context m.reading.frames m.reading.notes Now.Ready)
+            (subst (λ z. NotLeaves g l (behind_left again t (turn g l (at m.reading.start m.reading.context m.reading.frames m.reading.notes Stage.Ready)
             (token_of y z)))) (sym e) tt)
         colon y t c e _ f k = absurd cc
 

@@ -1,7 +1,7 @@
 -- Where an octet is refused and no item is open, no whole pieces go on behind the tokens told before it.
 use Rattle.std.proofs.Common.{◌≡◌, ℕ, Bool, true, false, ◌&&◌, List, [], ◌∷◌, ◌++◌, Ok, refl, sym, ap, ◌∙◌, subst, append-nil, ◌⊎◌, inl, inr}
 use Rattle.std.proofs.lemmas.Bool.{false_from_ne_true}
-use Rattle.ion_text.specs.Names.{Catalog, Content, IsBody, Known, Left, Limits, Long, Mark, Mark', Now, Place, Placed, Quoted, Slot, Turn, Value, Whole, at, continues, done, ends_long, feed, fresh, gives, goes, is_colons, is_fresh, is_quoted, is_segment, is_top, late, on_turn, place, reads, refuses, said, said_body, settle, system_slots, token_of, turn, unsettled}
+use Rattle.ion_text.specs.Names.{Catalog, Content, IsBody, Known, Left, Limits, Long, Mark, Mark', Place, Placed, Quoted, Slot, Stage, Turn, Value, Whole, at, continues, done, ends_long, feed, fresh, gives, goes, is_colons, is_fresh, is_quoted, is_segment, is_top, late, on_turn, place, reads, refuses, said, said_body, settle, system_slots, token_of, turn, unsettled}
 use Rattle.ion_text.specs.machine.TokenLists.{walked}
 use Rattle.ion_text.specs.laws.reading.complete.Complete.{segment_kind}
 use Rattle.ion_text.specs.laws.reading.complete.Going.{Going, TurnGoes, going_said, going_settle, going_turn, mark_kind}
@@ -53,7 +53,7 @@ module _ (g : Catalog) (l : Limits) where
       new : is_fresh r ≡ true
       new = (no_tokens g l u vs s r h.ahead (o ∷ []) (ApartAt o s r) h.b h.next none).0
 
-      parts : (r.frames ≡ []) × (r.notes ≡ []) × (r.now ≡ Now.Ready)
+      parts : (r.frames ≡ []) × (r.notes ≡ []) × (r.now ≡ Stage.Ready)
       parts = fresh_parts r.start r.context r.frames r.notes r.now new
 
       d : ReadSoFar g l h.b.front vs r.context
@@ -111,7 +111,7 @@ module _ (g : Catalog) (l : Limits) where
       turned : TurnGoes g l (turn g l (fresh r.context) (token_of z.lexeme c)) zs on.0
       turned = going_turn g l (fresh r.context) z zs on.0 c on.1 says (inr refl)
 
-      whole_reading : r ≡ at r.start r.context [] [] Now.Ready
+      whole_reading : r ≡ at r.start r.context [] [] Stage.Ready
       whole_reading = ap (λ x. at r.start r.context x r.notes r.now) parts.0
           ∙ (ap (λ x. at r.start r.context [] x r.now) parts.1 ∙ ap (λ x. at r.start r.context [] [] x) parts.2)
 

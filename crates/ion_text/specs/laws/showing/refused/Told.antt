@@ -2,7 +2,7 @@
 use Rattle.std.proofs.Common.{◌≡◌, ℕ, ◌+◌, ◌-◌, ◌≤◌, nat_le, Bool, true, false, ◌&&◌, not, List, [], ◌∷◌, ◌++◌, Some, None, refl, sym, ap, ◌∙◌, subst, arith, append_assoc, append-nil, if◌then◌else◌}
 use Rattle.std.proofs.lemmas.Bool.{le-leb}
 use Rattle.std.specs.Prelude.{codes}
-use Rattle.ion_text.specs.Names.{BlankThen, Frame, Given, IsBlank, Known, Left, Lexeme, Limits, Mark, Mode, Next, Now, Place, Reading, Reason, Style, Symbols, TokenKind, begun_in, behind, fails, feed, form_of, is_colons, is_idle, is_long_begun, is_quoted, is_quoting, is_segment, longest_top, noticed, reaches, shut, uses, with_scan}
+use Rattle.ion_text.specs.Names.{BlankThen, Frame, Given, IsBlank, Known, Left, Lexeme, Limits, Mark, Mode, Next, Place, Reading, Reason, Stage, Style, Symbols, TokenKind, begun_in, behind, fails, feed, form_of, is_colons, is_idle, is_long_begun, is_quoted, is_quoting, is_segment, longest_top, noticed, reaches, shut, uses, with_scan}
 use Rattle.ion_tokens.specs.Lexed.{Passes}
 use Rattle.ion_tokens.proofs.sound.Holds.{Holds, InMode, IsTold, Sound}
 use Rattle.ion_tokens.proofs.sound.Sounds.{feed_sound}
@@ -91,10 +91,10 @@ module _ (p : Place) (colon : Bool) (k : ℕ) (s : Known) (since : List ℕ) (o 
 
 -- where no segment has begun, what waits at the top level reaches to its last token
 long_reach : (start : ℕ) (t : Known) (w : List ℕ) (end : ℕ) (ss : Symbols) → is_long_text t.mode ≡ false
-    → longest_top start t.used (Now.Long w end) ss (begun_in t) (is_long_begun (begun_in t)) ≡ end - start
+    → longest_top start t.used (Stage.Long w end) ss (begun_in t) (is_long_begun (begun_in t)) ≡ end - start
 long_reach start t w end ss h = go t.mode h
   where
-    go : (m : Mode) → is_long_text m ≡ false → longest_top start t.used (Now.Long w end) ss
+    go : (m : Mode) → is_long_text m ≡ false → longest_top start t.used (Stage.Long w end) ss
         (if is_idle m then None else Some (record { start = t.start; end = t.used - behind m; form = form_of m }))
         (is_long_begun (if is_idle m then None else Some (record { start = t.start; end = t.used - behind m; form = form_of m }))) ≡ end - start
     go (Mode.Text Style.LongString w) e = absurd cc
@@ -111,17 +111,17 @@ module _ (l : Limits) (r : Reading) (t : Known) where
       go _ y _ a b f = absurd cc
 
   -- What waits at the top level, and ended within the limit, is refused at no octet that it waits for but in a segment.
-  pub waits_fits : r.frames ≡ [] → (h : _) (end : ℕ) → r.now ≡ Now.Pending h end → end ≤ r.start + l.item → (e : Reason) → noticed l r t ≡ fails e → ⊥
+  pub waits_fits : r.frames ≡ [] → (h : _) (end : ℕ) → r.now ≡ Stage.Pending h end → end ≤ r.start + l.item → (e : Reason) → noticed l r t ≡ fails e → ⊥
   waits_fits top h end n fits e f =
       noticed_fits (ap shut n)
       (subst (λ (fs : List Frame). reaches fs r t ≤ l.item) (sym top)
-      (subst (λ (m : Now). longest_top r.start t.used m r.notes (begun_in t) (is_long_begun (begun_in t)) ≤ l.item) (sym n) (omega (arith, fits)))) e f
+      (subst (λ (m : Stage). longest_top r.start t.used m r.notes (begun_in t) (is_long_begun (begun_in t)) ≤ l.item) (sym n) (omega (arith, fits)))) e f
 
   -- a long string that waits at the top level within the limit is refused at no octet outside its segments
-  pub long_fits : r.frames ≡ [] → (w : List ℕ) (end : ℕ) → r.now ≡ Now.Long w end → end ≤ r.start + l.item → is_long_text t.mode ≡ false → (e : Reason)
+  pub long_fits : r.frames ≡ [] → (w : List ℕ) (end : ℕ) → r.now ≡ Stage.Long w end → end ≤ r.start + l.item → is_long_text t.mode ≡ false → (e : Reason)
       → noticed l r t ≡ fails e → ⊥
   long_fits top w end n fits text e f =
       noticed_fits (ap shut n)
       (subst (λ (fs : List Frame). reaches fs r t ≤ l.item) (sym top)
-      (subst (λ (m : Now). longest_top r.start t.used m r.notes (begun_in t) (is_long_begun (begun_in t)) ≤ l.item) (sym n)
+      (subst (λ (m : Stage). longest_top r.start t.used m r.notes (begun_in t) (is_long_begun (begun_in t)) ≤ l.item) (sym n)
       (omega (arith, fits, long_reach r.start t w end r.notes text)))) e f

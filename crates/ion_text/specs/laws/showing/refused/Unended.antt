@@ -1,6 +1,6 @@
 -- Where an octet is refused and an item is open, no whole pieces go on behind the tokens told before it.
 use Rattle.std.proofs.Common.{◌≡◌, ℕ, ◌≤◌, Bool, true, false, ◌||◌, List, [], ◌∷◌, ◌++◌, length, Ok, Some, refl, sym, ap, ◌∙◌, subst, arith, append_assoc, length-append, ◌⊎◌, inl, inr}
-use Rattle.ion_text.specs.Names.{BeginsWith, Catalog, Content, Frame, Known, Leading, Left, LexesTo, Limits, Mode, Next, Now, Place, Placed, Turn, Value, Whole, at, colon_behind, continues, continues_now, feed, follow, goes, in_segment, is_fresh, is_top, place, place_in, said, said_body, scan as run, settle, takes_colon, token_of, turn, unsettled, waits}
+use Rattle.ion_text.specs.Names.{BeginsWith, Catalog, Content, Frame, Known, Leading, Left, LexesTo, Limits, Mode, Next, Place, Placed, Stage, Turn, Value, Whole, at, colon_behind, continues, continues_now, feed, follow, goes, in_segment, is_fresh, is_top, place, place_in, said, said_body, scan as run, settle, takes_colon, token_of, turn, unsettled, waits}
 use Rattle.ion_tokens.proofs.complete.Moves.{at as scanning}
 use Rattle.ion_tokens.proofs.histories.Histories.{begins_completes}
 use Rattle.ion_tokens.proofs.runs.Runs.{left_used}
@@ -54,24 +54,24 @@ module _ (g : Catalog) (l : Limits) (u : List ℕ) (o : ℕ) (vs : List Value) (
   waited w = a.waited w h.b.ends ∙ ap (λ (n : ℕ). at n r.context r.frames r.notes r.now) started
 
   -- and to what settles to it where a value may come
-  ready : r.now ≡ Now.Ready → settle g l a.r ≡ goes r
+  ready : r.now ≡ Stage.Ready → settle g l a.r ≡ goes r
   ready e =
-      a.ready e ∙ ap goes (ap (λ (n : ℕ). at n r.context r.frames r.notes Now.Ready) started ∙ ap (λ n. at r.start r.context r.frames r.notes n) (sym e))
+      a.ready e ∙ ap goes (ap (λ (n : ℕ). at n r.context r.frames r.notes Stage.Ready) started ∙ ap (λ n. at r.start r.context r.frames r.notes n) (sym e))
 
   -- where something is open at the top level, it waits, or a value may come
-  top_now : is_top r.frames ≡ true → (r.now ≡ Now.Ready) ⊎ IsWaiting g l r.now
+  top_now : is_top r.frames ≡ true → (r.now ≡ Stage.Ready) ⊎ IsWaiting g l r.now
   top_now top = go r.now refl
     where
-      stands : (n : Now) → r.now ≡ n → NowStands r.context [] r.notes h.b.item n
+      stands : (n : Stage) → r.now ≡ n → NowStands r.context [] r.notes h.b.item n
       stands n e = subst (λ m. NowStands r.context [] r.notes h.b.item m) e
           (subst (λ fs. NowStands r.context fs r.notes h.b.item r.now) (top_none r.frames top) h.b.stands)
 
-      go : (n : Now) → r.now ≡ n → (r.now ≡ Now.Ready) ⊎ IsWaiting g l r.now
-      go Now.Ready e = inl e
-      go Now.After e = absurd (stands Now.After e).2
-      go Now.Name e = absurd (stands Now.Name e).1
-      go (Now.LongName w) e = absurd (stands (Now.LongName w) e).struct
-      go (Now.Keyed q) e = absurd (stands (Now.Keyed q) e).struct
+      go : (n : Stage) → r.now ≡ n → (r.now ≡ Stage.Ready) ⊎ IsWaiting g l r.now
+      go Stage.Ready e = inl e
+      go Stage.After e = absurd (stands Stage.After e).2
+      go Stage.Name e = absurd (stands Stage.Name e).1
+      go (Stage.LongName w) e = absurd (stands (Stage.LongName w) e).struct
+      go (Stage.Keyed q) e = absurd (stands (Stage.Keyed q) e).struct
       go _ e = inr (subst (IsWaiting g l) (sym e) tt)
 
   -- the reading that tokens lead to is in a container where this one is
@@ -127,7 +127,7 @@ module _ (g : Catalog) (l : Limits) (u : List ℕ) (o : ℕ) (vs : List Value) (
           by (inr (q, i)) = ends_goes g l (settle g l r) (z ∷ zs) on.0 i (going_settle g l r z zs on.0 d f says.2 (shut q))
 
       -- behind annotations the reading settles to itself
-      never_continues : r.now ≡ Now.Ready → is_top r.frames ≡ true → continues a.r (token_of z.lexeme d) ≡ true → ⊥
+      never_continues : r.now ≡ Stage.Ready → is_top r.frames ≡ true → continues a.r (token_of z.lexeme d) ≡ true → ⊥
       never_continues now top q = go (a.r).now refl
         where
           led : (y : ℕ) → Leading g l (Freed g l y) (settle g l a.r) → ⊥
@@ -137,32 +137,32 @@ module _ (g : Catalog) (l : Limits) (u : List ℕ) (o : ℕ) (vs : List Value) (
               by (inl i) = never (is_fresh r) new i
               by (inr i) = never (is_top r.frames) i.1 top
 
-          waiting : (m : Now) → (a.r).now ≡ m → IsWaiting g l m → ⊥
+          waiting : (m : Stage) → (a.r).now ≡ m → IsWaiting g l m → ⊥
           waiting m i f = led (a.r).start (waiting_freed g l (a.r).start (a.r).context (a.r).frames (a.r).notes (a.r).now (subst (IsWaiting g l) (sym i) f))
 
-          none : (m : Now) → (a.r).now ≡ m → continues_now (is_top (a.r).frames) m (token_of z.lexeme d) ≡ false → ⊥
+          none : (m : Stage) → (a.r).now ≡ m → continues_now (is_top (a.r).frames) m (token_of z.lexeme d) ≡ false → ⊥
           none m i f = never (continues a.r (token_of z.lexeme d)) (ap (λ m. continues_now (is_top (a.r).frames) m (token_of z.lexeme d)) i ∙ f) q
 
-          named : (y : List ℕ) → (a.r).now ≡ Now.LongName y → ⊥
+          named : (y : List ℕ) → (a.r).now ≡ Stage.LongName y → ⊥
           named y i =
-              let settles : settle g l a.r ≡ goes (at (a.r).start (a.r).context (a.r).frames (a.r).notes (Now.Keyed (Some y))) =
+              let settles : settle g l a.r ≡ goes (at (a.r).start (a.r).context (a.r).frames (a.r).notes (Stage.Keyed (Some y))) =
               ap (λ m. settle g l (at (a.r).start (a.r).context (a.r).frames (a.r).notes m)) i in
-              let same : goes r ≡ goes (at (a.r).start (a.r).context (a.r).frames (a.r).notes (Now.Keyed (Some y))) = sym (ready now) ∙ settles in
-              let keyed : Now.Ready ≡ Now.Keyed (Some y) = sym now ∙ ap (λ (m : Turn). now_in m) same in
+              let same : goes r ≡ goes (at (a.r).start (a.r).context (a.r).frames (a.r).notes (Stage.Keyed (Some y))) = sym (ready now) ∙ settles in
+              let keyed : Stage.Ready ≡ Stage.Keyed (Some y) = sym now ∙ ap (λ (m : Turn). now_in m) same in
               cc
             where
-              now_in : Turn → Now
+              now_in : Turn → Stage
               now_in (goes m) = m.now
-              now_in _ = Now.Ready
+              now_in _ = Stage.Ready
 
-          go : (m : Now) → (a.r).now ≡ m → ⊥
-          go (Now.Pending q' end) i = waiting (Now.Pending q' end) i tt
-          go (Now.Long y end) i = waiting (Now.Long y end) i tt
-          go (Now.LongName y) i = named y i
+          go : (m : Stage) → (a.r).now ≡ m → ⊥
+          go (Stage.Pending q' end) i = waiting (Stage.Pending q' end) i tt
+          go (Stage.Long y end) i = waiting (Stage.Long y end) i tt
+          go (Stage.LongName y) i = named y i
           go n i = none n i refl
 
       -- where a value may come
-      at_ready : r.now ≡ Now.Ready → is_top r.frames ≡ true → ⊥
+      at_ready : r.now ≡ Stage.Ready → is_top r.frames ≡ true → ⊥
       at_ready now top = go (continues a.r (token_of z.lexeme d)) refl
         where
           go : (b : Bool) → continues a.r (token_of z.lexeme d) ≡ b → ⊥
@@ -173,7 +173,7 @@ module _ (g : Catalog) (l : Limits) (u : List ℕ) (o : ℕ) (vs : List Value) (
       at_top : is_top r.frames ≡ true → ⊥
       at_top top = by (top_now top)
         where
-          by : (r.now ≡ Now.Ready) ⊎ IsWaiting g l r.now → ⊥
+          by : (r.now ≡ Stage.Ready) ⊎ IsWaiting g l r.now → ⊥
           by (inl now) = at_ready now top
           by (inr wait) = from_here (subst (λ m. Going g l m (z ∷ zs) on.0) (waited wait) on.1)
 

@@ -2,7 +2,7 @@
 use Rattle.std.proofs.Common.{◌≡◌, ℕ, ◌+◌, Bool, true, false, List, [], ◌∷◌, ◌++◌, length, refl, sym, ap, ◌∙◌, subst, arith, append_assoc, append-nil, length-append, ◌⊎◌, inl, inr, if◌then◌else◌}
 use Rattle.std.proofs.lemmas.Bool.{and_from, false_from_ne_true}
 use Rattle.std.specs.Prelude.{◌&&◌, codes}
-use Rattle.ion_text.specs.Names.{BeginsWith, BlankThen, Catalog, Continues, Frame, Known, Lexeme, LexesTo, Limits, Mark, Next, Now, Place, Placed, Reading, Scanned, Slot, State, Symbols, TokenKind, Value, Whole, at, begins_as_long, ends_long, is_fresh, place, scan as run, start_of}
+use Rattle.ion_text.specs.Names.{BeginsWith, BlankThen, Catalog, Continues, Frame, Known, Lexeme, LexesTo, Limits, Mark, Next, Place, Placed, Reading, Scanned, Slot, Stage, State, Symbols, TokenKind, Value, Whole, at, begins_as_long, ends_long, is_fresh, place, scan as run, start_of}
 use Rattle.ion_tokens.proofs.complete.Moves.{blank}
 use Rattle.ion_text.specs.laws.reading.sound.Admits.{no_item}
 use Rattle.ion_text.specs.laws.reading.sound.Held.{Behind, IsFirst, IsLongNow, NoLongText, none_open}
@@ -17,7 +17,7 @@ abbrev pub front_end : Known → Reading → ℕ
 front_end s r = if is_fresh r then start_of s.mode s.start s.used else r.start
 
 -- where no container is open, nothing noted and a value may come, no item is open
-pub fresh_is : (start : ℕ) (c : List Slot) (fs : List Frame) (ss : Symbols) (now : Now) → fs ≡ [] → ss ≡ [] → now ≡ Now.Ready → is_fresh (at start c fs ss now)
+pub fresh_is : (start : ℕ) (c : List Slot) (fs : List Frame) (ss : Symbols) (now : Stage) → fs ≡ [] → ss ≡ [] → now ≡ Stage.Ready → is_fresh (at start c fs ss now)
     ≡ true
 fresh_is start c fs ss now a b d = ap (λ x. is_fresh (at start c x ss now)) a
     ∙ (ap (λ x. is_fresh (at start c [] x now)) b ∙ ap (λ x. is_fresh (at start c [] [] x)) d)

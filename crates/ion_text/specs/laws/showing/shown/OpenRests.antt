@@ -2,7 +2,7 @@
 use Rattle.std.proofs.Common.{◌≡◌, ℕ, ◌+◌, ◌-◌, ◌≤◌, Bool, true, false, List, [], ◌∷◌, ◌++◌, length, Option, Some, None, refl, sym, ap, ◌∙◌, subst, arith, append_assoc, append-nil, length-append, ◌⊎◌, inl, inr, if◌then◌else◌}
 use Rattle.std.proofs.lemmas.Bool.{false_from_ne_true}
 use Rattle.std.specs.Prelude.{codes, ◌||◌}
-use Rattle.ion_text.specs.Names.{Begun, BegunSo, Catalog, Form, Frame, HasBegun, IsBlank, IsFirstColon, LexesTo, Limits, LineComment, MayComment, Next, Now, OpenRest, Place, Placed, Scanned, ShowsBegun, State, Symbols, Value, begun_in, behind, colon_behind, form_of, is_fresh, is_idle, is_long_begun, is_long_form, is_top, longest_top, place, reaches, scan as run, start_of}
+use Rattle.ion_text.specs.Names.{Begun, BegunSo, Catalog, Form, Frame, HasBegun, IsBlank, IsFirstColon, LexesTo, Limits, LineComment, MayComment, Next, OpenRest, Place, Placed, Scanned, ShowsBegun, Stage, State, Symbols, Value, begun_in, behind, colon_behind, form_of, is_fresh, is_idle, is_long_begun, is_long_form, is_top, longest_top, place, reaches, scan as run, start_of}
 use Rattle.ion_tokens.proofs.complete.Moves.{blank}
 use Rattle.ion_tokens.proofs.complete.TakesBlanks.{passes_blank}
 use Rattle.ion_tokens.proofs.foreseen.Begins.{begun_right}
@@ -202,7 +202,7 @@ module _ (g : Catalog) (l : Limits) (u : List ℕ) (vs : List Value) (m : State)
 
   -- where no item is open
   module _ (none : b.item ≡ []) where
-    o : (r.frames ≡ []) × (r.notes ≡ []) × (r.now ≡ Now.Ready)
+    o : (r.frames ≡ []) × (r.notes ≡ []) × (r.now ≡ Stage.Ready)
     o = none_open r.context r.frames r.notes r.now (subst (λ x. NowStands r.context r.frames r.notes x r.now) none b.stands)
 
     fresh : is_fresh r ≡ true
@@ -211,7 +211,7 @@ module _ (g : Catalog) (l : Limits) (u : List ℕ) (vs : List Value) (m : State)
     size : length front ≡ start_of s.mode s.start s.used
     size = ends ∙ ap (λ (x : Bool). if x then start_of s.mode s.start s.used else r.start) fresh
 
-    reach : longest_top r.start s.used Now.Ready [] (begun_in s) (is_long_begun (begun_in s)) ≤ l.item
+    reach : longest_top r.start s.used Stage.Ready [] (begun_in s) (is_long_begun (begun_in s)) ≤ l.item
     reach =
         subst (λ n. longest_top r.start s.used n [] (begun_in s) (is_long_begun (begun_in s)) ≤ l.item) o.2
         (subst (λ n. longest_top r.start s.used r.now n (begun_in s) (is_long_begun (begun_in s)) ≤ l.item) o.1
@@ -219,7 +219,7 @@ module _ (g : Catalog) (l : Limits) (u : List ℕ) (vs : List Value) (m : State)
 
     token_open : is_idle s.mode ≡ false → OpenRest l rest
     token_open i =
-        let h = subst (λ k. longest_top r.start s.used Now.Ready [] (if k then None else Some (token (form_of s.mode))) (is_long_begun (begun_in s)) ≤ l.item)
+        let h = subst (λ k. longest_top r.start s.used Stage.Ready [] (if k then None else Some (token (form_of s.mode))) (is_long_begun (begun_in s)) ≤ l.item)
         i reach in
         counted l p u front rest T octets ts colon end (token (form_of s.mode)) parts cut.1 cut.2 (so_begun i)
         (omega (arith, h, size, begun_stays s.mode s.start s.used i))
@@ -305,7 +305,7 @@ module _ (g : Catalog) (l : Limits) (u : List ℕ) (vs : List Value) (m : State)
 
     -- behind a long string
     wait_begun : (v : List ℕ) (last : ℕ) → last ≡ end_of 0 b.item → is_idle s.mode ≡ false → (f : Form) → form_of s.mode ≡ f → is_long_form f ≡ true
-        → longest_top r.start s.used (Now.Long v last) r.notes (Some (token f)) (is_long_begun (Some (token f))) ≤ l.item → OpenRest l rest
+        → longest_top r.start s.used (Stage.Long v last) r.notes (Some (token f)) (is_long_begun (Some (token f))) ≤ l.item → OpenRest l rest
     wait_begun v last e i Form.Quote q k h =
         let w = waiting last e h in
         let n = subst (λ y. HasBegun p u ts colon end octets (token y)) q (so_begun i) in
@@ -323,23 +323,23 @@ module _ (g : Catalog) (l : Limits) (u : List ℕ) (vs : List Value) (m : State)
       abbrev seen : Bool → Option Begun
       seen i = if i then None else Some (token (form_of s.mode))
 
-      ready_rest : (ss : Symbols) → r.notes ≡ ss → r.now ≡ Now.Ready → (i : Bool) → is_idle s.mode ≡ i
-          → longest_top r.start s.used Now.Ready ss (seen i) (is_long_begun (seen i)) ≤ l.item → OpenRest l rest
+      ready_rest : (ss : Symbols) → r.notes ≡ ss → r.now ≡ Stage.Ready → (i : Bool) → is_idle s.mode ≡ i
+          → longest_top r.start s.used Stage.Ready ss (seen i) (is_long_begun (seen i)) ≤ l.item → OpenRest l rest
       ready_rest [] e n i j h = absurd (let k : false ≡ true = sym unfresh ∙ fresh_is r.start r.context r.frames r.notes r.now top e n in
           cc)
       ready_rest (x ∷ ss) e n true j h = all_counted h
       ready_rest (x ∷ ss) e n false j h = token_counted j h
 
       long_rest : (v : List ℕ) (last : ℕ) → last ≡ end_of 0 b.item → (is_idle s.mode || is_long_form (form_of s.mode)) ≡ true → (i : Bool) → is_idle s.mode ≡ i
-          → longest_top r.start s.used (Now.Long v last) r.notes (seen i) (is_long_begun (seen i)) ≤ l.item → OpenRest l rest
+          → longest_top r.start s.used (Stage.Long v last) r.notes (seen i) (is_long_begun (seen i)) ≤ l.item → OpenRest l rest
       long_rest v last e c true j h = wait_idle last e h j
       long_rest v last e c false j h = wait_begun v last e j (form_of s.mode) refl (sym (ap (λ k. k || is_long_form (form_of s.mode)) j) ∙ c) h
 
-      top_rest : (n : Now) → r.now ≡ n → EndsAt n (end_of 0 b.item) → CalmNow n s.mode
+      top_rest : (n : Stage) → r.now ≡ n → EndsAt n (end_of 0 b.item) → CalmNow n s.mode
           → longest_top r.start s.used n r.notes (begun_in s) (is_long_begun (begun_in s)) ≤ l.item → OpenRest l rest
-      top_rest Now.Ready e at' c h = ready_rest r.notes refl e (is_idle s.mode) refl h
-      top_rest (Now.Pending k last) e at' c h = wait_idle last at' h c
-      top_rest (Now.Long v last) e at' c h = long_rest v last at' c (is_idle s.mode) refl h
+      top_rest Stage.Ready e at' c h = ready_rest r.notes refl e (is_idle s.mode) refl h
+      top_rest (Stage.Pending k last) e at' c h = wait_idle last at' h c
+      top_rest (Stage.Long v last) e at' c h = long_rest v last at' c (is_idle s.mode) refl h
       top_rest _ e at' c h = absurd c
 
     some_rest : (fs : List Frame) → r.frames ≡ fs → OpenRest l rest

@@ -2,7 +2,7 @@
 use Rattle.std.proofs.Common.{◌≡◌, ℕ, ◌+◌, ◌≤◌, ◌==◌, Bool, true, false, ◌||◌, List, [], ◌∷◌, ◌++◌, length, refl, sym, ap, ◌∙◌, subst, arith, append_assoc, append-nil, length-append, Ok, ◌⊎◌, inl, inr, codes}
 use Rattle.std.proofs.lemmas.Bool.{false_from_ne_true}
 use Rattle.std.proofs.lemmas.Bool.Decides.{nat_tests}
-use Rattle.ion_text.specs.Names.{ArePieces, BeginsWith, BlankThen, Catalog, Content, Continues, Frame, Held, IsBody, IsLexeme, Known, Leading, LexesTo, Limits, Listing, Long, Mark, Mark', Now, Place, Placed, Quoted, Reading, Scanned, Segments, State, Symbols, TokenKind, Value, Whole, adds_values, colon_behind, continues, done, ends_long, fresh, goes, initial, is_fresh, is_idle, is_quoting, is_segment, is_sexp, joined, on_turn, place, place_in, reads, said, said_body, scan as run, segment, settle, system_slots, takes_colon, token_of}
+use Rattle.ion_text.specs.Names.{ArePieces, BeginsWith, BlankThen, Catalog, Content, Continues, Frame, Held, IsBody, IsLexeme, Known, Leading, LexesTo, Limits, ListOrSexp, Long, Mark, Mark', Place, Placed, Quoted, Reading, Scanned, Segments, Stage, State, Symbols, TokenKind, Value, Whole, adds_values, colon_behind, continues, done, ends_long, fresh, goes, initial, is_fresh, is_idle, is_quoting, is_segment, is_sexp, joined, on_turn, place, place_in, reads, said, said_body, scan as run, segment, settle, system_slots, takes_colon, token_of}
 use Rattle.ion_tokens.proofs.complete.Moves.{at as scanning}
 use Rattle.ion_tokens.proofs.histories.Escapes.{Escape, Escapes, escape}
 use Rattle.ion_tokens.proofs.histories.Histories.{begins_completes}
@@ -91,9 +91,9 @@ last_colon : (z : Placed) (colon : Bool) (before : ℕ) (octets : List ℕ) (aft
 last_colon z colon before octets after end rest (q, b, h) = h.0
 
 -- in a container the place isn't the top level
-pub inside_place : (f : Frame) (fs : List Frame) (now : Now) → Place.Top ≡ place_in (f ∷ fs) now → ⊥
-inside_place (Frame.Items Listing.List ss vs) fs now e = cc
-inside_place (Frame.Fields ss ms) fs Now.Ready e = cc
+pub inside_place : (f : Frame) (fs : List Frame) (now : Stage) → Place.Top ≡ place_in (f ∷ fs) now → ⊥
+inside_place (Frame.Items ListOrSexp.List ss vs) fs now e = cc
+inside_place (Frame.Fields ss ms) fs Stage.Ready e = cc
 inside_place _ fs _ e = cc
 
 module _ (g : Catalog) (l : Limits) (u : List ℕ) (vs : List Value) (s : Known) (r : Reading) (ahead : List ℕ) (A : Type 0)
@@ -382,15 +382,15 @@ module _ (g : Catalog) (l : Limits) (u : List ℕ) (vs : List Value) (s : Known)
     pub longest_item : length v ≤ r.start
     longest_item = choose r.now refl r.frames refl
       where
-        stands : (n : Now) → r.now ≡ n → r.frames ≡ [] → NowStands r.context [] r.notes b.item n
+        stands : (n : Stage) → r.now ≡ n → r.frames ≡ [] → NowStands r.context [] r.notes b.item n
         stands n e i = subst (λ y. NowStands r.context [] r.notes b.item y) e (subst (λ y. NowStands r.context y r.notes b.item r.now) i b.stands)
 
-        top : (n : Now) → r.frames ≡ [] → p ≡ Place.Top
+        top : (n : Stage) → r.frames ≡ [] → p ≡ Place.Top
         top n i = ap (λ y. place_in y r.now) i
 
-        choose : (n : Now) → r.now ≡ n → (fs : List Frame) → r.frames ≡ fs → length v ≤ r.start
-        choose (Now.Pending h end) e [] i = behind_symbol h r.notes (top r.now i) (stands (Now.Pending h end) e i) (subst (Waits g l s) e wait)
-        choose (Now.Long z end) e [] i = behind_long z r.notes (top r.now i) (stands (Now.Long z end) e i) (subst (Waits g l s) e wait)
+        choose : (n : Stage) → r.now ≡ n → (fs : List Frame) → r.frames ≡ fs → length v ≤ r.start
+        choose (Stage.Pending h end) e [] i = behind_symbol h r.notes (top r.now i) (stands (Stage.Pending h end) e i) (subst (Waits g l s) e wait)
+        choose (Stage.Long z end) e [] i = behind_long z r.notes (top r.now i) (stands (Stage.Long z end) e i) (subst (Waits g l s) e wait)
         choose n e (f ∷ fs) i = otherwise (λ w q. inside_place f fs r.now (q ∙ ap (λ y. place_in y r.now) i))
         choose _ e [] i = otherwise (λ w q. subst (IsWaiting g l) e w)
 

@@ -1,6 +1,6 @@
 -- Behind a symbol that no longer waits at the top level, a token has begun.
 use Rattle.std.proofs.Common.{◌≡◌, ℕ, ◌+◌, List, [], ◌∷◌, ◌++◌, Bool, true, false, Result, Ok, Err, Option, Some, None, refl, sym, ap, ◌∙◌, subst, if◌then◌else◌, inl, inr}
-use Rattle.ion_text.specs.Names.{Blob, Catalog, Clob, Content, Effect, Follows, Frame, Given, Held, Id, IsBody, IsWordBody, Known, Leading, Left, Lexeme, Limits, Long, Mark', Next, Now, Number', Operator, Outcome, Place, Quoted, Reading, Reason, Refusal, Refused, Short, Slot, State, Symbols, TokenKind, Turn, TypedNull, Value, Word, at, begun_at, eats, fails, feed, gives, goes, held_word, id_of, in_segment, is_fresh, is_idle, is_keyword, is_name, is_quoting, is_sane, is_top, keyed, kind_named, late, leaves, long_waits, null_of, once_more, place, place_in, resolve, resolved, run, run_on, said, said_body, settle, settle_same, symbol_waits, takes, takes_colon, tells, token_at, token_of, turn, turn_now, under, uses, waits, waits_now}
+use Rattle.ion_text.specs.Names.{Blob, Catalog, Clob, Content, Effect, Follows, Frame, Given, Held, Id, IsBody, IsWordBody, Known, Leading, Left, Lexeme, Limits, Long, Mark', Next, Number', Operator, Outcome, Place, Quoted, Reading, Reason, Refusal, Refused, Short, Slot, Stage, State, Symbols, TokenKind, Turn, TypedNull, Value, Word, at, begun_at, eats, fails, feed, gives, goes, held_word, id_of, in_segment, is_fresh, is_idle, is_keyword, is_name, is_quoting, is_sane, is_top, keyed, kind_named, late, leaves, long_waits, null_of, once_more, place, place_in, resolve, resolved, run, run_on, said, said_body, settle, settle_same, symbol_waits, takes, takes_colon, tells, token_at, token_of, turn, turn_now, under, uses, waits, waits_now}
 use Rattle.ion_tokens.specs.laws.Follows.{feed_follows}
 use Rattle.ion_text.specs.laws.reading.complete.Segments.{never}
 use Rattle.ion_text.specs.laws.reading.sound.Held.{any_turn, map_turn, or_parts}
@@ -12,11 +12,11 @@ use Rattle.ion_text.specs.laws.showing.tokens.Cuts.{Keeps, feed_keeps}
 
 -- what is no fresh reading
 
-pending_unfresh : (start : ℕ) (c : List Slot) (fs : List Frame) (ss : Symbols) (h : Held) (end : ℕ) → is_fresh (at start c fs ss (Now.Pending h end)) ≡ false
+pending_unfresh : (start : ℕ) (c : List Slot) (fs : List Frame) (ss : Symbols) (h : Held) (end : ℕ) → is_fresh (at start c fs ss (Stage.Pending h end)) ≡ false
 pending_unfresh start c [] [] h end = refl
 pending_unfresh start c _ _ h end = refl
 
-pub keyed_unfresh : (start : ℕ) (c : List Slot) (fs : List Frame) (ss : Symbols) (s : Option (List ℕ)) → is_fresh (at start c fs ss (Now.Keyed s)) ≡ false
+pub keyed_unfresh : (start : ℕ) (c : List Slot) (fs : List Frame) (ss : Symbols) (s : Option (List ℕ)) → is_fresh (at start c fs ss (Stage.Keyed s)) ≡ false
 keyed_unfresh start c [] [] s = refl
 keyed_unfresh start c _ _ s = refl
 
@@ -38,7 +38,7 @@ null_symbol None c h = absurd cc
 null_symbol (Some k) c h = let e : c ≡ TypedNull k = cc in ap symbol_said e
 
 -- a struct's field name is looked for in a struct
-name_inside : (fs : List Frame) (now : Now) → is_name (place_in fs now) ≡ true → is_top fs ≡ false
+name_inside : (fs : List Frame) (now : Stage) → is_name (place_in fs now) ≡ true → is_top fs ≡ false
 name_inside [] now h = absurd cc
 name_inside (f ∷ fs) now h = refl
 
@@ -55,16 +55,16 @@ module _ (g : Catalog) (l : Limits) where
   keyword_unfresh start c fs w true = tt
   keyword_unfresh start c fs w false = keyed_unfresh start c fs [] (Some w)
 
-  symbol_unfresh : (begin end start : ℕ) (c : List Slot) (fs : List Frame) (ss : Symbols) (said : Content) (now : Now) → symbol_said said ≡ true
+  symbol_unfresh : (begin end start : ℕ) (c : List Slot) (fs : List Frame) (ss : Symbols) (said : Content) (now : Stage) → symbol_said said ≡ true
       → Unfresh (turn_now (under g l) (at start c fs ss now) (token_at begin end said) now)
-  symbol_unfresh begin end start c fs ss (Word w) Now.Ready h = pending_unfresh (begun_at start begin fs ss) c fs ss (held_word w) end
-  symbol_unfresh begin end start c fs ss (Id id) Now.Ready h =
+  symbol_unfresh begin end start c fs ss (Word w) Stage.Ready h = pending_unfresh (begun_at start begin fs ss) c fs ss (held_word w) end
+  symbol_unfresh begin end start c fs ss (Id id) Stage.Ready h =
       resolved_unfresh (resolve c id) _ (λ s. pending_unfresh (begun_at start begin fs ss) c fs ss (Held.Symbol s) end)
-  symbol_unfresh begin end start c fs ss (Quoted w) Now.Ready h = pending_unfresh (begun_at start begin fs ss) c fs ss (Held.Symbol (Some w)) end
-  symbol_unfresh begin end start c fs ss (TypedNull k) Now.Ready h = pending_unfresh (begun_at start begin fs ss) c fs ss (Held.Null k) end
-  symbol_unfresh begin end start c fs ss (Word w) Now.Name h = keyword_unfresh start c fs w (is_keyword w)
-  symbol_unfresh begin end start c fs ss (Id id) Now.Name h = resolved_unfresh (resolve c id) _ (λ s. keyed_unfresh start c fs [] s)
-  symbol_unfresh begin end start c fs ss (Quoted w) Now.Name h = keyed_unfresh start c fs [] (Some w)
+  symbol_unfresh begin end start c fs ss (Quoted w) Stage.Ready h = pending_unfresh (begun_at start begin fs ss) c fs ss (Held.Symbol (Some w)) end
+  symbol_unfresh begin end start c fs ss (TypedNull k) Stage.Ready h = pending_unfresh (begun_at start begin fs ss) c fs ss (Held.Null k) end
+  symbol_unfresh begin end start c fs ss (Word w) Stage.Name h = keyword_unfresh start c fs w (is_keyword w)
+  symbol_unfresh begin end start c fs ss (Id id) Stage.Name h = resolved_unfresh (resolve c id) _ (λ s. keyed_unfresh start c fs [] s)
+  symbol_unfresh begin end start c fs ss (Quoted w) Stage.Name h = keyed_unfresh start c fs [] (Some w)
   symbol_unfresh begin end start c fs ss (Short w) now h = absurd cc
   symbol_unfresh begin end start c fs ss (Long w) now h = absurd cc
   symbol_unfresh begin end start c fs ss (Number' w) now h = absurd cc
@@ -191,7 +191,7 @@ module _ (g : Catalog) (l : Limits) where
     abbrev SettledIn : Place → Known → Reading → Type 0
     SettledIn p s n = (place n ≡ p) × (is_fresh n ≡ true → s.colon ≡ true → BeginsOne (feed p s o))
 
-    settling : (start : ℕ) (c : List Slot) (fs : List Frame) (ss : Symbols) (now : Now) (s : Known) → StillAt o s (at start c fs ss now)
+    settling : (start : ℕ) (c : List Slot) (fs : List Frame) (ss : Symbols) (now : Stage) (s : Known) → StillAt o s (at start c fs ss now)
         → waits_now (is_top fs) now (feed (place_in fs now) s o) ≡ false
         → Leading g l (SettledIn (place_in fs now) s) (settle g l (at start c fs ss now))
     settling start c fs ss now s h w = go now refl
@@ -203,15 +203,15 @@ module _ (g : Catalog) (l : Limits) where
         by b = map_turn g l (λ n. (place n ≡ p) × (is_top n.frames ≡ is_top fs)) (SettledIn p s) (λ n e. (e.0, λ f i. b)) (settle g l (at start c fs ss now))
             (settle_same g l start c fs ss now)
 
-        same : (n : Now) → now ≡ n → settle g l (at start c fs ss n) ≡ goes (at start c fs ss n)
+        same : (n : Stage) → now ≡ n → settle g l (at start c fs ss n) ≡ goes (at start c fs ss n)
             → Leading g l (SettledIn p s) (settle g l (at start c fs ss now))
         same n e f = subst (Leading g l (SettledIn p s)) (sym (ap (λ m. settle g l (at start c fs ss m)) e ∙ f))
             (ap (place_in fs) (sym e), λ i k. h (ap (λ m. is_fresh (at start c fs ss m)) e ∙ i) k)
 
-        go : (n : Now) → now ≡ n → Leading g l (SettledIn p s) (settle g l (at start c fs ss now))
-        go (Now.Pending k end) e = by (symbol_begins (feed p s o) (sym (ap (λ m. waits_now (is_top fs) m (feed p s o)) e) ∙ w))
-        go (Now.Long v end) e = by (long_begins (is_top fs) (feed p s o) (sym (ap (λ m. waits_now (is_top fs) m (feed p s o)) e) ∙ w))
-        go (Now.LongName v) e = by (long_begins false (feed p s o) (sym (ap (λ m. waits_now (is_top fs) m (feed p s o)) e) ∙ w))
+        go : (n : Stage) → now ≡ n → Leading g l (SettledIn p s) (settle g l (at start c fs ss now))
+        go (Stage.Pending k end) e = by (symbol_begins (feed p s o) (sym (ap (λ m. waits_now (is_top fs) m (feed p s o)) e) ∙ w))
+        go (Stage.Long v end) e = by (long_begins (is_top fs) (feed p s o) (sym (ap (λ m. waits_now (is_top fs) m (feed p s o)) e) ∙ w))
+        go (Stage.LongName v) e = by (long_begins false (feed p s o) (sym (ap (λ m. waits_now (is_top fs) m (feed p s o)) e) ∙ w))
         go n e = same n e refl
 
     pub takes_still : (n : ℕ) (m : State) → StillAt o m.scan m.reading → StillBehind o (takes g l n m o)

@@ -2,7 +2,7 @@
 use Rattle.std.proofs.Common.{◌≡◌, ℕ, ◌+◌, ◌≤◌, List, [], ◌∷◌, true, ◌&&◌, Result, Ok, Err, Option, Some, None, refl, sym, subst, arith, if◌then◌else◌}
 use Rattle.std.proofs.lemmas.Bool.{cond_both, leb-true}
 use Rattle.std.specs.Prelude.{◌-◌, ◌==◌, bytes_eq, codes}
-use Rattle.ion_text.specs.Names.{Action, Catalog, Content, Effect, Frame, Given, Known, Left, Limits, Mode, Next, Now, Outcome, Place, Reading, Refusal, Refused, State, Symbols, Turn, acts, at, begun, begun_in, behind, blob_ends, blob_of, eats, fails, feed, form_of, gives, goes, is_fresh, is_idle, is_long_begun, is_top, leaves, longest_top, once_more, place, reaches, run, run_on, settle, takes, tells, token_of, turn, uses, waits, with_scan}
+use Rattle.ion_text.specs.Names.{Action, Catalog, Content, Effect, Frame, Given, Known, Left, Limits, Mode, Next, Outcome, Place, Reading, Refusal, Refused, Stage, State, Symbols, Turn, acts, at, begun, begun_in, behind, blob_ends, blob_of, eats, fails, feed, form_of, gives, goes, is_fresh, is_idle, is_long_begun, is_top, leaves, longest_top, once_more, place, reaches, run, run_on, settle, takes, tells, token_of, turn, uses, waits, with_scan}
 use Rattle.ion_tokens.specs.machine.Table.{next}
 use Rattle.ion_text.specs.laws.reading.Effects.{GivesSo, LeavesSo, ScansSo, SettlesSo, takes_each}
 use Rattle.ion_text.specs.laws.reading.complete.Accepts.{SettledCalm, idle_calm, settle_settled, turn_ok, waits_calm}
@@ -46,14 +46,14 @@ module _ (g : Catalog) (l : Limits) where
   fresh_within : (s : Known) (r : Reading) → is_fresh r ≡ true → is_idle s.mode ≡ true → Within (with_scan s r)
   fresh_within s r h idle = go r.frames r.notes r.now h
     where
-      none : longest_top r.start s.used Now.Ready [] (begun_in s) (is_long_begun (begun_in s)) ≤ l.item
-      none = subst (λ i. longest_top r.start s.used Now.Ready []
+      none : longest_top r.start s.used Stage.Ready [] (begun_in s) (is_long_begun (begun_in s)) ≤ l.item
+      none = subst (λ i. longest_top r.start s.used Stage.Ready []
           (if i then None else Some (record { start = s.start; end = s.used - behind s.mode; form = form_of s.mode })) (is_long_begun (begun_in s)) ≤ l.item)
           (sym idle) (omega arith)
 
-      go : (fs : List Frame) (ss : Symbols) (n : Now) → is_fresh (at r.start r.context fs ss n) ≡ true → (reaches fs (at r.start r.context fs ss n) s ≤ l.item)
+      go : (fs : List Frame) (ss : Symbols) (n : Stage) → is_fresh (at r.start r.context fs ss n) ≡ true → (reaches fs (at r.start r.context fs ss n) s ≤ l.item)
           × (is_top fs ≡ true → CalmNow n s.mode)
-      go [] [] Now.Ready h = (none, λ k. tt)
+      go [] [] Stage.Ready h = (none, λ k. tt)
       go _ _ _ h = absurd cc
 
   given_within : (s : Known) (r : Reading) (c : Content) (start end : ℕ) (t : Turn) → is_idle s.mode ≡ true → Spans (is_top r.frames) c l.item start end t

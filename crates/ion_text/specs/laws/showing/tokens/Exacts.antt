@@ -1,6 +1,6 @@
 -- What the octets since the last token say of the scanner: of open quotes, and of what may stand behind a long string.
 use Rattle.std.proofs.Common.{◌≡◌, ℕ, Bool, true, false, List, [], ◌∷◌, ◌++◌, length, refl, sym, ap, ◌∙◌, subst, arith, append_assoc, length-append}
-use Rattle.ion_text.specs.Names.{Catalog, Frame, Known, Limits, Mode, Now, Place, Placed, Reading, Scanned, TokenKind, Value, is_top, place, takes_colon}
+use Rattle.ion_text.specs.Names.{Catalog, Frame, Known, Limits, Mode, Place, Placed, Reading, Scanned, Stage, TokenKind, Value, is_top, place, takes_colon}
 use Rattle.ion_tokens.proofs.sound.Holds.{Holds, InMode}
 use Rattle.ion_text.specs.laws.reading.complete.Exact.{Exact, exact}
 use Rattle.ion_text.specs.laws.reading.sound.Held.{Behind}
@@ -19,7 +19,7 @@ exact_at p colon k s since h = record { is = go s.mode h.mode }
 
 -- behind a long string that waits at the top level no colon may stand
 pub long_colon : (g : Catalog) (l : Limits) (u : List ℕ) (vs : List Value) (s : Known) (r : Reading) (ahead : List ℕ) (A : Type 0)
-    (b : Behind g l Scanned u vs s r ahead A) → s.used ≡ length u → (w : List ℕ) (end : ℕ) → r.now ≡ Now.Long w end → r.frames ≡ [] → s.colon ≡ false
+    (b : Behind g l Scanned u vs s r ahead A) → s.used ≡ length u → (w : List ℕ) (end : ℕ) → r.now ≡ Stage.Long w end → r.frames ≡ [] → s.colon ≡ false
 long_colon g l u vs s r ahead A b used w end e top = go b.item refl
   where
     d : LongFor r.context [] r.notes w b.item

@@ -1,7 +1,7 @@
 -- With what an open item begins, and with which octets none does.
 use Rattle.std.proofs.Common.{◌≡◌, ℕ, ◌+◌, ◌-◌, Bool, true, false, List, [], ◌∷◌, ◌++◌, length, refl, sym, ap, ◌∙◌, subst, arith, Ok, Option, Some, inl, inr, if◌then◌else◌}
 use Rattle.std.specs.Prelude.{◌==◌, ◌||◌}
-use Rattle.ion_text.specs.Names.{Annotations, BeginsWith, Bracket, Content, Frame, Given, Id, IsBlank, IsBody, IsSymbol, Known, Left, Lexeme, Long, Mark, Mark', Mode, Next, Now, Outcome, Place, Placed, Quoted, Refused, Says, Segments, Slot, Style, Symbols, TokenKind, TypedNull, Within, Word, acts, before, begins_as_long, end_of, ends_at, feed, follow, is_id, is_idle, is_quoting, is_segment, is_two_quotes, is_word, joined, no_annotation, one_annotation, open_mark, scan as run, segment}
+use Rattle.ion_text.specs.Names.{Annotations, BeginsWith, Bracket, Content, Frame, Given, Id, IsBlank, IsBody, IsSymbol, Known, Left, Lexeme, Long, Mark, Mark', Mode, Next, Outcome, Place, Placed, Quoted, Refused, Says, Segments, Slot, Stage, Style, Symbols, TokenKind, TypedNull, Within, Word, acts, before, begins_as_long, end_of, ends_at, feed, follow, is_id, is_idle, is_quoting, is_segment, is_two_quotes, is_word, joined, no_annotation, one_annotation, open_mark, scan as run, segment}
 use Rattle.ion_tokens.specs.machine.Table.{go as go_on}
 use Rattle.ion_tokens.proofs.complete.Moves.{at, blank}
 use Rattle.ion_tokens.proofs.complete.TakesBlanks.{passes_blank}
@@ -105,14 +105,14 @@ behind_first [] us a n = absurd (n refl)
 behind_first (t ∷ ts) us a n = a
 
 -- the tokens that the reader's open item stands for begin with one that may begin it
-pub now_first : (c : List Slot) (fs : List Frame) (ss : Symbols) (now : Now) (ts : List Placed) → NowStands c fs ss ts now → OpensItem ts
-now_first c fs ss Now.Ready ts d = ready_first c fs ss ts d
-now_first c fs ss (Now.Pending h end) ts d = subst OpensItem (sym d.whole)
+pub now_first : (c : List Slot) (fs : List Frame) (ss : Symbols) (now : Stage) (ts : List Placed) → NowStands c fs ss ts now → OpensItem ts
+now_first c fs ss Stage.Ready ts d = ready_first c fs ss ts d
+now_first c fs ss (Stage.Pending h end) ts d = subst OpensItem (sym d.whole)
     (opens_more d.before (d.token ∷ []) (ready_first c fs ss d.before d.ready) (symbol_first (value_place fs) d.token d.said d.says d.named))
-now_first c fs ss (Now.Long w end) ts d = subst OpensItem (sym d.whole)
+now_first c fs ss (Stage.Long w end) ts d = subst OpensItem (sym d.whole)
     (opens_more d.before d.segments (ready_first c fs ss d.before d.ready) (segments_first (value_place fs) d.segments w d.are))
-now_first c fs ss Now.After ts d = opened_first c fs ts false d.0
-now_first c fs ss Now.Name ts d = opened_first c fs ts true d.0
+now_first c fs ss Stage.After ts d = opened_first c fs ts false d.0
+now_first c fs ss Stage.Name ts d = opened_first c fs ts true d.0
 now_first c fs ss _ ts d = subst OpensItem (sym d.whole)
     (behind_first d.before d.name (opened_first c fs d.before true d.outer) (name_some c fs d.before d.outer d.struct))
 

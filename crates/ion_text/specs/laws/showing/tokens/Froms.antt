@@ -1,6 +1,6 @@
 -- Where a reading's open item begins, behind tokens that begin no earlier; and what the scanner may hold while something waits.
 use Rattle.std.proofs.Common.{◌≡◌, ℕ, ◌+◌, ◌≤◌, Bool, true, false, ◌||◌, List, [], ◌∷◌, ◌++◌, refl, sym, ap, ◌∙◌, subst, arith, Result, Ok, Err, ◌⊎◌, inl, inr, if◌then◌else◌}
-use Rattle.ion_text.specs.Names.{Catalog, Content, Effect, Frame, Given, Known, Leading, Left, Limits, Listing, Next, Now, Outcome, Placed, Reading, Reason, Refusal, Refused, Slot, Spot, State, Symbols, Token, Turn, Value, Walk, adds_values, at, continues, eats, fails, feed, gives, goes, is_fresh, is_idle, is_quoting, is_top, late, leaves, on_judged, on_placed, on_turn, once_more, place, reads, refuses, run, run_on, said, same_place, settle, settle_same, spot_at, stopped, takes, tells, token_of, turn, under, uses, waits, waits_now}
+use Rattle.ion_text.specs.Names.{Catalog, Content, Effect, Frame, Given, Known, Leading, Left, Limits, ListOrSexp, Next, Outcome, Placed, Reading, Reason, Refusal, Refused, Slot, Spot, Stage, State, Symbols, Token, Turn, Value, Walk, adds_values, at, continues, eats, fails, feed, gives, goes, is_fresh, is_idle, is_quoting, is_top, late, leaves, on_judged, on_placed, on_turn, once_more, place, reads, refuses, run, run_on, said, same_place, settle, settle_same, spot_at, stopped, takes, tells, token_of, turn, under, uses, waits, waits_now}
 use Rattle.ion_text.specs.machine.TokenLists.{walked}
 use Rattle.ion_text.specs.machine.Ways.{SettledWay, ValueWay, settled_free, settled_held, settled_marker, settled_name, settled_text, settled_way, value_given, value_item, value_refused, value_table}
 use Rattle.ion_text.specs.laws.reading.Effects.{GivesSo, LeavesSo, ScansSo, SettlesSo, takes_each}
@@ -12,16 +12,16 @@ use Rattle.ion_text.specs.laws.reading.sound.StandsOpen.{start_now}
 use Rattle.ion_text.specs.laws.reading.sound.Steps.{After, Stood, eats_after, takes_after}
 
 -- a fresh reading waits for an item
-pub fresh_parts : (start : ℕ) (c : List Slot) (fs : List Frame) (ss : Symbols) (now : Now) → is_fresh (at start c fs ss now) ≡ true → (fs ≡ []) × (ss ≡ [])
-    × (now ≡ Now.Ready)
-fresh_parts start c [] [] Now.Ready h = (refl, refl, refl)
+pub fresh_parts : (start : ℕ) (c : List Slot) (fs : List Frame) (ss : Symbols) (now : Stage) → is_fresh (at start c fs ss now) ≡ true → (fs ≡ []) × (ss ≡ [])
+    × (now ≡ Stage.Ready)
+fresh_parts start c [] [] Stage.Ready h = (refl, refl, refl)
 fresh_parts start c _ _ _ h = absurd cc
 
 module _ (g : Catalog) (l : Limits) where
   -- nothing waits
-  abbrev pub IsFree : Now → Type 0
-  IsFree (Now.Pending h end) = ⊥
-  IsFree (Now.Long w end) = ⊥
+  abbrev pub IsFree : Stage → Type 0
+  IsFree (Stage.Pending h end) = ⊥
+  IsFree (Stage.Long w end) = ⊥
   IsFree _ = Unit {0}
 
   -- what waited of an item that began there is settled: no item is open, or it is in a container
@@ -32,21 +32,21 @@ module _ (g : Catalog) (l : Limits) where
   value_freed spot v _ _ (value_refused fs e d) = tt
   value_freed spot v _ _ (value_table d fits) = (tt, inl refl)
   value_freed spot v _ _ (value_given fits) = (tt, inl refl)
-  value_freed spot v _ _ (value_item Listing.List ss vs fs) = (tt, inr (refl, refl))
+  value_freed spot v _ _ (value_item ListOrSexp.List ss vs fs) = (tt, inr (refl, refl))
   value_freed spot v _ _ _ = (tt, inr (refl, refl))
 
   -- what waits is settled to where no item is open, or to the same item in a container
-  pub waiting_freed : (start : ℕ) (c : List Slot) (fs : List Frame) (ss : Symbols) (now : Now) → IsWaiting g l now
+  pub waiting_freed : (start : ℕ) (c : List Slot) (fs : List Frame) (ss : Symbols) (now : Stage) → IsWaiting g l now
       → Leading g l (Freed start) (settle g l (at start c fs ss now))
   waiting_freed start c fs ss now = by fs now _ (settled_way g l start c fs ss now)
     where
-      by : (fs : List Frame) (now : Now) (t : Turn) → SettledWay g l start c ss fs now t → IsWaiting g l now → Leading g l (Freed start) t
+      by : (fs : List Frame) (now : Stage) (t : Turn) → SettledWay g l start c ss fs now t → IsWaiting g l now → Leading g l (Freed start) t
       by _ _ _ (settled_held fs h end q t flat way) w = value_freed (spot_at end start c) _ fs t way
       by _ _ _ (settled_text fs v end t way) w = value_freed (spot_at end start c) _ fs t way
       by _ _ _ (settled_marker h end fits) w = (tt, inl refl)
       by _ _ _ (settled_name fs v) w = absurd w
-      by _ _ _ (settled_free fs (Now.Pending h end) i e) w = absurd i
-      by _ _ _ (settled_free fs (Now.Long v end) i e) w = absurd i
+      by _ _ _ (settled_free fs (Stage.Pending h end) i e) w = absurd i
+      by _ _ _ (settled_free fs (Stage.Long v end) i e) w = absurd i
       by _ _ _ (settled_free fs _ i e) w = absurd w
       by _ _ _ _ w = tt
 
@@ -69,27 +69,27 @@ module _ (g : Catalog) (l : Limits) where
       go _ h = tt
 
   -- an item that isn't fresh is open from there on
-  open_from : (n start : ℕ) (c : List Slot) (fs : List Frame) (ss : Symbols) (now : Now) → (now ≡ Now.Ready → ⊥) → From n (at start c fs ss now) → n ≤ start
+  open_from : (n start : ℕ) (c : List Slot) (fs : List Frame) (ss : Symbols) (now : Stage) → (now ≡ Stage.Ready → ⊥) → From n (at start c fs ss now) → n ≤ start
   open_from n start c fs ss now k (ok, inl f) = absurd (k (fresh_parts start c fs ss now f).2)
   open_from n start c fs ss now k (ok, inr h) = h
 
   -- settling what waits leads to no item that begins earlier
-  pub settle_from : (n start : ℕ) (c : List Slot) (fs : List Frame) (ss : Symbols) (now : Now) → From n (at start c fs ss now)
+  pub settle_from : (n start : ℕ) (c : List Slot) (fs : List Frame) (ss : Symbols) (now : Stage) → From n (at start c fs ss now)
       → Leading g l (From n) (settle g l (at start c fs ss now))
-  settle_from n start c fs ss (Now.Pending h end) q = freed_from n start (open_from n start c fs ss (Now.Pending h end) (λ e. cc) q)
-      (settle g l (at start c fs ss (Now.Pending h end))) (waiting_freed start c fs ss (Now.Pending h end) tt)
-  settle_from n start c fs ss (Now.Long w end) q = freed_from n start (open_from n start c fs ss (Now.Long w end) (λ e. cc) q)
-      (settle g l (at start c fs ss (Now.Long w end))) (waiting_freed start c fs ss (Now.Long w end) tt)
-  settle_from n start c fs ss (Now.LongName w) q = (λ e. absurd (q.0 e), inr (open_from n start c fs ss (Now.LongName w) (λ e. cc) q))
+  settle_from n start c fs ss (Stage.Pending h end) q = freed_from n start (open_from n start c fs ss (Stage.Pending h end) (λ e. cc) q)
+      (settle g l (at start c fs ss (Stage.Pending h end))) (waiting_freed start c fs ss (Stage.Pending h end) tt)
+  settle_from n start c fs ss (Stage.Long w end) q = freed_from n start (open_from n start c fs ss (Stage.Long w end) (λ e. cc) q)
+      (settle g l (at start c fs ss (Stage.Long w end))) (waiting_freed start c fs ss (Stage.Long w end) tt)
+  settle_from n start c fs ss (Stage.LongName w) q = (λ e. absurd (q.0 e), inr (open_from n start c fs ss (Stage.LongName w) (λ e. cc) q))
   settle_from n start c fs ss _ q = q
 
-  begun_from : (n start begin : ℕ) (c : List Slot) (fs : List Frame) (ss : Symbols) (now : Now) → n ≤ begin → From n (at start c fs ss now)
+  begun_from : (n start begin : ℕ) (c : List Slot) (fs : List Frame) (ss : Symbols) (now : Stage) → n ≤ begin → From n (at start c fs ss now)
       → n ≤ start_now now start begin fs ss
-  begun_from n start begin c [] [] Now.Ready k q = k
-  begun_from n start begin c [] (s ∷ ss) Now.Ready k (ok, inr h) = h
-  begun_from n start begin c (x ∷ fs) [] Now.Ready k (ok, inr h) = h
-  begun_from n start begin c (x ∷ fs) (s ∷ ss) Now.Ready k (ok, inr h) = h
-  begun_from n start begin c _ _ Now.Ready k (ok, inl f) = absurd cc
+  begun_from n start begin c [] [] Stage.Ready k q = k
+  begun_from n start begin c [] (s ∷ ss) Stage.Ready k (ok, inr h) = h
+  begun_from n start begin c (x ∷ fs) [] Stage.Ready k (ok, inr h) = h
+  begun_from n start begin c (x ∷ fs) (s ∷ ss) Stage.Ready k (ok, inr h) = h
+  begun_from n start begin c _ _ Stage.Ready k (ok, inl f) = absurd cc
   begun_from n start begin c fs ss now k q = open_from n start c fs ss now (λ e. cc) q
 
   turn_from : (n : ℕ) (r : Reading) (t : Token) → n ≤ t.start → From n r → Leading g l (From n) (turn g l r t)
@@ -159,30 +159,30 @@ module _ (g : Catalog) (l : Limits) where
   -- 2. While something waits.
 
   -- behind a symbol no token has begun, and behind a long string none but what may be a segment
-  abbrev pub Waits : Known → Now → Type 0
-  Waits s (Now.Pending h end) = is_idle s.mode ≡ true
-  Waits s (Now.Long w end) = (is_idle s.mode || is_quoting s.mode) ≡ true
+  abbrev pub Waits : Known → Stage → Type 0
+  Waits s (Stage.Pending h end) = is_idle s.mode ≡ true
+  Waits s (Stage.Long w end) = (is_idle s.mode || is_quoting s.mode) ≡ true
   Waits s _ = Unit {0}
 
   -- where no token has begun, anything may wait
-  pub idle_waits : (s : Known) (now : Now) → is_idle s.mode ≡ true → Waits s now
-  idle_waits s (Now.Pending h end) i = i
-  idle_waits s (Now.Long w end) i = ap (λ b. b || is_quoting s.mode) i
+  pub idle_waits : (s : Known) (now : Stage) → is_idle s.mode ≡ true → Waits s now
+  idle_waits s (Stage.Pending h end) i = i
+  idle_waits s (Stage.Long w end) i = ap (λ b. b || is_quoting s.mode) i
   idle_waits s _ i = tt
 
   -- where nothing waits, any token may have begun
-  pub free_waits : (s : Known) (now : Now) → IsFree now → Waits s now
-  free_waits s (Now.Pending h end) i = absurd i
-  free_waits s (Now.Long w end) i = absurd i
+  pub free_waits : (s : Known) (now : Stage) → IsFree now → Waits s now
+  free_waits s (Stage.Pending h end) i = absurd i
+  free_waits s (Stage.Long w end) i = absurd i
   free_waits s _ i = tt
 
-  next_waits : (top : Bool) (now : Now) (s : Known) → waits_now top now (Next s) ≡ true → Waits s now
-  next_waits top (Now.Pending h end) s e = e
-  next_waits top (Now.Long w end) s e = e
+  next_waits : (top : Bool) (now : Stage) (s : Known) → waits_now top now (Next s) ≡ true → Waits s now
+  next_waits top (Stage.Pending h end) s e = e
+  next_waits top (Stage.Long w end) s e = e
   next_waits top _ s e = tt
 
   -- behind what was settled nothing waits
-  pub settle_free : (start : ℕ) (c : List Slot) (fs : List Frame) (ss : Symbols) (now : Now)
+  pub settle_free : (start : ℕ) (c : List Slot) (fs : List Frame) (ss : Symbols) (now : Stage)
       → Leading g l (λ n. IsFree n.now) (settle g l (at start c fs ss now))
   settle_free start c fs ss now = go now refl
     where
@@ -191,11 +191,11 @@ module _ (g : Catalog) (l : Limits) where
       part (late e r) h = tt
       part _ h = h.0
 
-      go : (n : Now) → now ≡ n → Leading g l (λ n. IsFree n.now) (settle g l (at start c fs ss now))
-      go (Now.Pending h end) e = subst (λ x. Leading g l (λ n. IsFree n.now) (settle g l (at start c fs ss x))) (sym e)
-          (part (settle g l (at start c fs ss (Now.Pending h end))) (waiting_freed start c fs ss (Now.Pending h end) tt))
-      go (Now.Long w end) e = subst (λ x. Leading g l (λ n. IsFree n.now) (settle g l (at start c fs ss x))) (sym e)
-          (part (settle g l (at start c fs ss (Now.Long w end))) (waiting_freed start c fs ss (Now.Long w end) tt))
+      go : (n : Stage) → now ≡ n → Leading g l (λ n. IsFree n.now) (settle g l (at start c fs ss now))
+      go (Stage.Pending h end) e = subst (λ x. Leading g l (λ n. IsFree n.now) (settle g l (at start c fs ss x))) (sym e)
+          (part (settle g l (at start c fs ss (Stage.Pending h end))) (waiting_freed start c fs ss (Stage.Pending h end) tt))
+      go (Stage.Long w end) e = subst (λ x. Leading g l (λ n. IsFree n.now) (settle g l (at start c fs ss x))) (sym e)
+          (part (settle g l (at start c fs ss (Stage.Long w end))) (waiting_freed start c fs ss (Stage.Long w end) tt))
       go _ e = subst (λ x. Leading g l (λ n. IsFree n.now) (settle g l (at start c fs ss x))) (sym e) tt
 
   abbrev pub WaitsBehind : Effect → Type 0

@@ -5,8 +5,8 @@ use Rattle.ion_visiting.proofs.table_filter.TableFilter.annotation.Goals as goal
 
 pub returns-in-No : goal.returns-in-No
 returns-in-No g c = λ is.
-    none_noted g.V.Visitor.takes c.args.symbol c.args.self.now c.pass_note-in-No.new.self c.args.visitor.now c.pass_note-in-No.new.visitor c.in-No.is
-    (c.pass_note-in-No.ensures is)
+    none_noted g.V.Visitor.takes c.args.symbol c.args.self.now c.pass_annotation-in-No.new.self c.args.visitor.now c.pass_annotation-in-No.new.visitor c.in-No.is
+    (c.pass_annotation-in-No.ensures is)
 
 pub returns-in-Noted : goal.returns-in-Noted
 returns-in-Noted g c = λ is.
