@@ -2,6 +2,7 @@ pub mod Octets
 pub mod Ranges
 pub mod Reasons
 pub mod Kinds
+pub mod LetGo
 pub mod Decimals
 pub mod TimestampBounds
 pub mod Calendar
