@@ -225,3 +225,26 @@ begins_so g l r holds state catalog limits steady fine awaits = record {
   where
     none : octets_used r ≡ 0
     none = ap (λ (m : State). m.scan.used) state
+
+-- A reader that let octets go leaves and tells what it did before.
+module _ (old new after : TextWalk) (piece : List ℕ) (n : ℕ) where
+  pub let_go_leaves : (found : Option (Unit {0})) → octets_used after ≡ octets_used new → pending after ≡ pending new → after.awaited ≡ new.awaited
+      → failed after ≡ failed new → StepsOver octets_used pending (λ r. r.awaited) failed old new piece n found
+      → StepsOver octets_used pending (λ r. r.awaited) failed old after piece n found
+  let_go_leaves found u p a f h = record {
+    used = h.used;
+    uses_all = h.uses_all;
+    counts = u ∙ h.counts;
+    progress = λ some. subst (λ (k : ℕ). k < pending old + 2 * n) (sym p) (h.progress some);
+    few_pending = subst (λ (k : ℕ). k ≤ pending old + 2 * n) (sym p) h.few_pending;
+    onward = h.onward;
+    not_failed = f ∙ h.not_failed;
+    awaited = subst (λ (o : Option ℕ). IfSome o (λ octet. (rest : List ℕ) × (drop n piece ≡ octet ∷ rest))) (sym a) h.awaited;
+  }
+
+  pub let_go_tells : {V : Type 0} (takes : V → Event → V → Type 0) (a b : V)
+      → ((u : List ℕ) (s : List (Value × ℕ)) (es : List Event) → Told new u s es → Told after u s es)
+      → (u : List ℕ) (s : List (Value × ℕ)) (es : List Event) (ended : Bool) → WalksOn takes Told u s es piece n ended new a b
+      → WalksOn takes Told u s es piece n ended after a b
+  let_go_tells takes a b told u s es true (v, t, h) = (v, told _ _ _ t, h)
+  let_go_tells takes a b told u s es false (fs, t, h) = (fs, told _ _ _ t, h)

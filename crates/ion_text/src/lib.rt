@@ -5,6 +5,7 @@ mod brackets;
 mod display;
 mod escape;
 pub mod laws;
+mod long_text;
 mod reader;
 mod reasons;
 mod scalar;

@@ -1,4 +1,5 @@
 //! What a reader holds between two tokens.
+use crate::long_text::LongText;
 use ion_model::{Field, Kind, Reason, Sequence, Symbol, Text, Value};
 
 /// A word, an id, a quoted symbol or a typed null, of which it isn't known yet whether `::`
@@ -26,7 +27,7 @@ pub enum Stage {
     /// Whatever shows whether this is an annotation; its token ended at the octet.
     Pending(Held, u64),
     /// More of a long string, whose last segment ended at the octet.
-    Long(Text, u64),
+    Long(LongText, u64),
     /// More of a long string that is a field's name.
     LongName(Text),
     /// The colon behind a field's name.

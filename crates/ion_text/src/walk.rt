@@ -19,6 +19,7 @@ mod advance;
 mod blanks_while_waiting;
 mod containers;
 mod end_of_input;
+mod letting_go;
 mod long_strings;
 mod octets;
 mod on_token;

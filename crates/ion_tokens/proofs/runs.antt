@@ -8,6 +8,7 @@ pub mod EscapedTexts
 pub mod GoesOn
 pub mod LastOctets
 pub mod Lendings
+pub mod LetGo
 pub mod Moved
 pub mod Runs
 pub mod Scans

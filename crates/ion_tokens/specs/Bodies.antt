@@ -2,7 +2,7 @@
 use Rattle.std.specs.Prelude.{◌≡◌, ℕ, ◌+◌, ◌-◌, ◌*◌, ◌^◌, ◌==◌, ◌&&◌, min, nat_lt, List, [], ◌∷◌, length, if◌then◌else◌, Option, Some, None, Result, Ok, Err, bytes_eq, find, IsUtf8}
 use Rattle.std.specs.List.{list_all}
 use Rattle.std.specs.Cow.{cow_str_bytes}
-use Rattle.ion_tokens.specs.Names.Below.{Body, Kind, Mark, Number, ReadsNumber, Reason, TokenKind}
+use Rattle.ion_tokens.specs.Names.Below.{Body, Kind, Mark, Number, ReadsNumber, Reason, TextKind, TokenKind}
 use Rattle.ion_atoms.specs.Kinds.{kind_name}
 use Rattle.ion_tokens.specs.Ascii.{digit_0, dollar}
 use Rattle.ion_tokens.specs.Octets.{is_digit}
@@ -34,6 +34,9 @@ content (Body.Operator w) = Operator (cow_str_bytes w)
 content (Body.Clob b) = Clob b
 content (Body.Blob b) = Blob b
 content (Body.Mark m) = Mark' m
+content (Body.LetGo TextKind.Short t) = Short t
+content (Body.LetGo TextKind.Long t) = Long t
+content (Body.LetGo TextKind.Clob t) = Clob t
 
 abbrev pub every_kind : List Kind
 every_kind = Kind.Null ∷ Kind.Bool ∷ Kind.Int ∷ Kind.Float ∷ Kind.Decimal ∷ Kind.Timestamp ∷ Kind.Symbol

@@ -5,6 +5,7 @@ pub mod AtOnce
 pub mod Contents
 pub mod Foreseen
 pub mod Lent
+pub mod LetGo
 pub mod Machines
 pub mod Rests
 pub mod Rows

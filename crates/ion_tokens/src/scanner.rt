@@ -1,6 +1,7 @@
 //! The scanner, to which the octets come in pieces.
 ghost use Rattle.std.specs.Prelude.{◌≡◌, None};
 ghost use Rattle.ion_tokens.specs.machine.Bounds.{IsSteady};
+ghost use Rattle.ion_tokens.specs.machine.LetGo.{behind_gone};
 ghost use Rattle.ion_tokens.specs.machine.Machines.{known};
 
 use crate::begun::{is_idle, shown};
@@ -9,7 +10,7 @@ use crate::mode::{Mode, Place};
 use crate::plain_tokens::Rest;
 use crate::table::next;
 use crate::token::{Begun, Foresight, Scan, Token};
-use ion_atoms::{Reason, Refusal};
+use ion_atoms::{LetGo, Reason, Refusal};
 use std::alloc::Global;
 use std::fmt::{self, Debug, Formatter};
 
@@ -21,10 +22,13 @@ use std::fmt::{self, Debug, Formatter};
 #[derive(Drop)]
 pub struct Scanner {
     machine: Machine,
+    /// What was let go of the front of the open text.
+    gone: LetGo,
     /// The refusal that each call answers from now on.
     failed: Option<Refusal>,
     /// Unless a call was refused, what the machine knows goes with the octets that it took up.
-    pub ghost steady: { failed ≡ None → IsSteady (known machine) machine.looked },
+    pub ghost steady: { failed ≡ None →
+        IsSteady (behind_gone gone (known machine)) machine.looked },
 }
 
 impl Debug for Scanner {
@@ -60,6 +64,7 @@ impl Scanner {
     {
         Scanner {
             machine: Machine::new(alloc),
+            gone: LetGo::nothing(),
             failed: None,
         }
     }
@@ -124,7 +129,7 @@ impl Scanner {
         if let Some(refusal) = self.failed {
             return Err(refusal);
         }
-        let result = self.machine.scan(piece, place);
+        let result = self.machine.scan_behind(&mut self.gone, piece, place);
         if let Err(refusal) = &result {
             self.failed = Some(*refusal);
         }
@@ -157,7 +162,7 @@ impl Scanner {
             return Err(refusal);
         }
         let mut machine = self.machine;
-        machine.finish(place)
+        machine.finish_behind(&self.gone, place)
     }
 
     /// Where it rests, unless a token is open or a step refused.
@@ -169,6 +174,7 @@ impl Scanner {
         if self.failed.is_some()
             || !matches!(machine.mode, Mode::Blank)
             || !machine.kept.is_empty()
+            || !self.gone.is_nothing()
         {
             return None;
         }
@@ -191,6 +197,7 @@ impl Scanner {
             IsSteady (scanned self.new) (looks self.new) }
         ensures left { left_in self.new ≡ false }
     {
+        self.gone = LetGo::nothing();
         let machine = &mut self.machine;
         machine.left = false;
         machine.looked = machine.looked.saturating_add(rest.used - machine.used);
@@ -298,7 +305,7 @@ impl Scanner {
         self.machine.looked
     }
 
-    /// How many octets are kept of the open token.
+    /// How many octets are kept of the open token, with those that were let go.
     pub fn held(&self) -> usize
         ensures held { result ≡ held_in (scanned self.now) }
         ensures open { IsNone (failure self.now) → result ≤ open_in (scanned self.now) }
@@ -306,8 +313,19 @@ impl Scanner {
         if is_idle(self.machine.mode) {
             0
         } else {
-            self.machine.kept.len()
+            self.gone.count() as usize + self.machine.kept.len()
         }
+    }
+
+    /// Lets go octets of the open string or clob, but for the last. Who does so is told no more what
+    /// it says: its token is `Body::LetGo`, and nothing else changes.
+    pub fn let_go(&mut self)
+        ensures scanned { scanned self.new ≡ scanned self.old }
+        ensures failure { failure self.new ≡ failure self.old }
+        ensures looked { looks self.new ≡ looks self.old }
+        ensures left { left_in self.new ≡ left_in self.old }
+    {
+        self.machine.let_go(&mut self.gone);
     }
 
     /// What an octet would show of a token that may go on. It isn't taken up.

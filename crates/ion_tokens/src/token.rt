@@ -1,6 +1,6 @@
 //! Tokens, and what a step of the scanner answers.
 use crate::mode::Mark;
-use ion_atoms::{Bytes, Kind, Text};
+use ion_atoms::{Bytes, Kind, LetGo, Text};
 use ion_scalar::Number;
 use std::borrow::CowStr;
 
@@ -32,6 +32,18 @@ pub enum Body<'p> {
     Clob(Bytes),
     Blob(Bytes),
     Mark(Mark),
+    /// A text of which octets were let go, so that nobody can be told what it says.
+    LetGo(TextKind, LetGo),
+}
+
+/// What a text is of which octets were let go.
+#[derive(Clone, Copy, Debug, PartialEq, Eq)]
+pub enum TextKind {
+    /// A short string.
+    Short,
+    /// One segment of a long string.
+    Long,
+    Clob,
 }
 
 /// What a step used of its piece, and the token that it gave.

@@ -2,7 +2,7 @@
 use crate::answers::same;
 use crate::counting::{Count, Uncounted, count_piece};
 use ion_model::{Reason, Refusal};
-use ion_tokens::{Body, Foresight, Form, Place, Scanner, Token};
+use ion_tokens::{Body, Foresight, Form, Place, Scanner, TextKind, Token};
 use std::alloc::Global;
 use std::borrow::CowStr;
 use std::process::Abort;
@@ -106,6 +106,50 @@ fn held_octets(rt: HostRuntime) {
     let [(open, held), ended] = held(rt.alloc());
     same(&rt, "open", (open, held > 0), (Some(Ok(4)), true));
     same(&rt, "ended", ended, (Some(Ok(1)), 0));
+}
+
+/// What a text is of which octets were let go, and how many octets it means.
+fn told_let_go(token: &Option<Token>) -> Option<(TextKind, u64)> {
+    let Some(token) = token else {
+        return None;
+    };
+    match &token.body {
+        Body::LetGo(kind, gone) => Some((*kind, gone.count())),
+        _ => None,
+    }
+}
+
+/// The same of one that opens and closes so, and means 6,000 octets, half of which were let go.
+fn let_go(alloc: Global, opens: &[u8], close: &[u8]) -> Option<(TextKind, u64)> {
+    let octets = [b'a'; 3000];
+    let mut scanner = Scanner::new(alloc);
+    used(&mut scanner, opens)?.ok()?;
+    used(&mut scanner, &octets)?.ok()?;
+    scanner.let_go();
+    used(&mut scanner, &octets)?.ok()?;
+    if scanner.used() > 1 << 40 || close.len() > 1 << 40 {
+        return None;
+    }
+    match scanner.step(close, Place::Top) {
+        Ok(scan) => {
+            let told = told_let_go(&scan.token);
+            drop(scan);
+            told
+        }
+        Err(_) => None,
+    }
+}
+
+/// A text that was let go is told as what it is.
+#[test]
+fn texts_let_go(rt: HostRuntime) {
+    let alloc = rt.alloc();
+    let short = let_go(alloc, b"\"", b"\"");
+    same(&rt, "short", short, Some((TextKind::Short, 6000)));
+    let long = let_go(alloc, b"'''", b"'''");
+    same(&rt, "long", long, Some((TextKind::Long, 6000)));
+    let clob = let_go(alloc, b"{{\"", b"\"}}");
+    same(&rt, "clob", clob, Some((TextKind::Clob, 6000)));
 }
 
 /// What two steps of a token with a bad escape use, and what the end refuses.

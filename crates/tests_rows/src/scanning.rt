@@ -44,6 +44,7 @@ fn tell_body(body: &Body<'_>, told: &mut String) -> Result<(), AllocError> {
         Body::Number(number) => tell_number(number, told),
         Body::Clob(octets) => write!(told, "clob {:?}", octets.as_slice()),
         Body::Blob(octets) => write!(told, "blob {:?}", octets.as_slice()),
+        Body::LetGo(_, gone) => write!(told, "let go {}", gone.count()),
     }
 }
 

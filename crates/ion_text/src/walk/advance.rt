@@ -266,7 +266,10 @@ impl TextWalk<'_> {
         }
         match self.advance_on(piece, visitor) {
             Ok(walked) if walked.ended => Went::Ended(walked.used),
-            Ok(_) => Went::Ran,
+            Ok(_) => {
+                self.let_go(visitor);
+                Went::Ran
+            }
             Err(refusal) => {
                 self.failed = Some(refusal);
                 Went::Refused
@@ -279,7 +282,8 @@ impl TextWalk<'_> {
     ///
     /// It does what `Items::walk` promises. A refusal names the octet that decides, counted from the
     /// document's first, and comes again with each call. `Memory` comes where memory was refused, or
-    /// where the visitor can't go on. An octet that shows the end of a value without being part of
+    /// where the visitor can't go on: also where it heeds a text whose front was let go, since the
+    /// visitor of an earlier call heeded nothing. An octet that shows the end of a value without being part of
     /// it isn't used, and begins the next piece.
     #[inline(always)]
     pub fn walk<V: Visitor>(&mut self, piece: &[u8], visitor: &mut V) -> Result<Walked, Refusal>

@@ -241,8 +241,8 @@ impl TextWalk<'_> {
         self.scanner.used()
     }
 
-    /// How many octets of the open token are kept, at most as many as the limit on items allows.
-    /// The octet with which the next piece has to begin isn't counted.
+    /// How many octets of the open token are kept, with those that were let go: at most as many as
+    /// the limit on items allows. The octet with which the next piece has to begin isn't counted.
     pub fn held(&self) -> usize
         ensures { result ≡ octets_kept self.now }
     {

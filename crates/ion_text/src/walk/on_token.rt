@@ -1,17 +1,20 @@
 //! What each token does (Ion 1.0, "Ion Text Encoding").
 ghost use Rattle.std.specs.Prelude.{◌≡◌, [], ◌∷◌, ◌++◌, List, Some, None};
-ghost use Rattle.ion_text.specs.Names.{Does, DoesAlone, Frame, Holds, Mark', SameSetting, Symbols, Word, at, goes, keyed, late, on_after, on_keyed, on_long, on_long_name, on_name, on_pending, on_ready, reading_of, setting_of, spot_of, told, turn};
+ghost use Rattle.ion_text.specs.Names.{Does, DoesAlone, Frame, Holds, Mark', Payload, SameSetting, Symbols, Word, annotated, at, ended, goes, keyed, late, layer_events, on_after, on_keyed, on_long, on_long_name, on_name, on_pending, on_ready, out-Payload, part, reading_of, setting_of, spot_of, told, turn};
 ghost use Rattle.ion_atoms.specs.declared.refusal.Reason.TheVariants as reasons;
 ghost use Rattle.ion_tokens.specs.Bodies.{content};
 ghost use Rattle.ion_text.specs.declared.state.Stage.TheVariants as stages;
+ghost use Rattle.ion_tokens.specs.declared.token.Body.{Body};
 ghost use Rattle.ion_text.specs.machine.Views.{token_in};
 
 use super::{TextWalk, heard};
+use crate::long_text::LongText;
 use crate::state::{Effect, Held, Stage};
 use crate::tokens::long_strings::joined;
 use crate::words::{held_word, is_keyword};
+use ion_atoms::LetGo;
 use ion_model::{Reason, Symbol, Text};
-use ion_tokens::{Body, Mark, Token};
+use ion_tokens::{Body, Mark, TextKind, Token};
 use ion_visiting::{Bracket, Part, Visitor};
 
 impl TextWalk<'_> {
@@ -71,10 +74,8 @@ impl TextWalk<'_> {
                 self.wait(Held::Symbol(symbol), end)
             }
             Body::TypedNull(kind) => self.wait(Held::Null(kind), end),
-            Body::Long(text) => {
-                self.set_stage(Stage::Long(text, end));
-                Ok(Effect::Goes)
-            }
+            Body::Long(text) => self.wait_long(LongText::new(text), end),
+            Body::LetGo(kind, gone) => self.on_let_go(kind, gone, end, visitor),
             Body::Short(text) => self.whole(&Part::Str(text.as_str()), end, visitor),
             Body::Number(number) => self.number_ended(number, end, visitor),
             Body::Operator(word) => self.whole(&Part::Symbol(word.as_str()), end, visitor),
@@ -82,6 +83,65 @@ impl TextWalk<'_> {
             Body::Blob(octets) => self.whole(&Part::Blob(octets.as_slice()), end, visitor),
             Body::Mark(mark) => self.on_mark(end, mark, visitor),
         }
+    }
+
+    /// The first segment of a long string has come.
+    fn wait_long(&mut self, text: LongText, end: u64) -> Result<Effect, Reason>
+        requires { self.old.stage ≡ stages.Ready }
+        ensures does { (fs : List Frame) (ss : Symbols) → Holds self.old fs ss →
+            DoesAlone (told fs ss)
+            (goes (at self.old.start self.old.context fs ss (stages.Long text end)))
+            result self.new }
+        ensures setting { SameSetting self.old self.new }
+    {
+        self.set_stage(Stage::Long(text, end));
+        Ok(Effect::Goes)
+    }
+
+    /// A text there of which octets were let go.
+    fn on_let_go<V: Visitor>(
+        &mut self,
+        kind: TextKind,
+        gone: LetGo,
+        end: u64,
+        visitor: &mut V,
+    ) -> Result<Effect, Reason>
+        requires { self.old.stage ≡ stages.Ready }
+        ensures does { (fs : List Frame) (ss : Symbols) → Holds self.old fs ss →
+            Does V.takes (told fs ss)
+            (on_ready (setting_of self.old) (spot_of self.old end) fs ss
+            (content (Body.LetGo kind gone)))
+            result self.new visitor.old visitor.new }
+        ensures setting { SameSetting self.old self.new }
+    {
+        match kind {
+            TextKind::Long => self.wait_long(LongText::gone(self.alloc, gone), end),
+            TextKind::Short => self.let_go_ended(end, visitor),
+            TextKind::Clob => self.let_go_ended(end, visitor),
+        }
+    }
+
+    /// A text of which octets were let go is a whole value with the annotations before it, and ended
+    /// at `end`. A visitor that heeds what it says can't go on.
+    #[inline(never)]
+    pub(super) fn let_go_ended<V: Visitor>(
+        &mut self,
+        end: u64,
+        visitor: &mut V,
+    ) -> Result<Effect, Reason>
+        requires { self.old.stage ≡ stages.Ready }
+        ensures does { (payload : Payload) →
+            layer_events (out-Payload payload) ≡ part payload ∷ [] →
+            (fs : List Frame) (ss : Symbols) → Holds self.old fs ss →
+            Does V.takes (told fs ss)
+            (ended (setting_of self.old) (spot_of self.old end) fs (annotated ss payload))
+            result self.new visitor.old visitor.new }
+        ensures setting { SameSetting self.old self.new }
+    {
+        if self.needs_telling(visitor) {
+            return Err(Reason::Memory);
+        }
+        self.untold_scalar_ended(end, visitor)
     }
 
     /// A mark there. A close is unexpected behind an annotation.
@@ -180,7 +240,7 @@ impl TextWalk<'_> {
     }
 
     /// A token behind the segments of a long string.
-    fn on_long(&mut self, text: Text, end: u64, body: Body<'_>) -> Result<Effect, Reason>
+    fn on_long(&mut self, text: LongText, end: u64, body: Body<'_>) -> Result<Effect, Reason>
         requires { self.old.stage ≡ stages.Ready }
         ensures does { (fs : List Frame) (ss : Symbols) → Holds self.old fs ss →
             DoesAlone (told fs ss)
@@ -190,7 +250,13 @@ impl TextWalk<'_> {
     {
         match body {
             Body::Long(more) => {
-                let text = joined(text, &more);
+                let text = text.join(&more);
+                drop(more);
+                self.set_stage(Stage::Long(text?, end));
+                Ok(Effect::Goes)
+            }
+            Body::LetGo(TextKind::Long, more) => {
+                let text = text.join_gone(self.alloc, &more);
                 drop(more);
                 self.set_stage(Stage::Long(text?, end));
                 Ok(Effect::Goes)
@@ -218,6 +284,11 @@ impl TextWalk<'_> {
                 drop(more);
                 self.set_stage(Stage::LongName(text?));
                 Ok(Effect::Goes)
+            }
+            Body::LetGo(_, gone) => {
+                drop(gone);
+                drop(text);
+                Err(Reason::Memory)
             }
             other => {
                 drop(other);
@@ -252,6 +323,10 @@ impl TextWalk<'_> {
             Body::Short(text) => self.text_named(text),
             Body::Long(text) => self.key_long(text),
             Body::Mark(Mark::FieldsClose) => self.close(Bracket::Fields, end, visitor),
+            Body::LetGo(_, gone) => {
+                drop(gone);
+                Err(Reason::Memory)
+            }
             other => {
                 drop(other);
                 Err(Reason::Unexpected)

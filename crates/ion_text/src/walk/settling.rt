@@ -1,10 +1,12 @@
 //! What waits for more, where nothing goes on.
 ghost use Rattle.std.specs.Prelude.{◌≡◌, ℕ, [], List, Option, Some};
-ghost use Rattle.ion_text.specs.Names.{Does, DoesAlone, Frame, Holds, SameSetting, Symbols, goes, keyed, reading_of, released, setting_of, settle, spot_of, told};
+ghost use Rattle.ion_model.specs.declared.value.Payload.TheVariants as payloads;
+ghost use Rattle.ion_text.specs.Names.{Does, DoesAlone, Frame, Holds, SameSetting, Symbols, annotated, ended, goes, keyed, reading_of, released, setting_of, settle, spot_of, told};
 ghost use Rattle.ion_text.specs.declared.state.Held.TheVariants as helds;
 ghost use Rattle.ion_text.specs.declared.state.Stage.TheVariants as stages;
 
 use super::TextWalk;
+use crate::long_text::LongText;
 use crate::state::{Effect, Held, Stage};
 use ion_model::{Reason, Symbol, Text};
 use ion_visiting::{Part, Visitor};
@@ -20,12 +22,33 @@ impl TextWalk<'_> {
     {
         match self.take_stage() {
             Stage::Pending(held, end) => self.release(held, end, visitor),
-            Stage::Long(text, end) => self.whole(&Part::Str(text.as_str()), end, visitor),
+            Stage::Long(text, end) => self.long_ended(text, end, visitor),
             Stage::LongName(text) => self.long_named(text),
             now => {
                 self.set_stage(now);
                 Ok(Effect::Goes)
             }
+        }
+    }
+
+    /// A long string is a whole value with the annotations before it, and ended at `end`.
+    fn long_ended<V: Visitor>(
+        &mut self,
+        text: LongText,
+        end: u64,
+        visitor: &mut V,
+    ) -> Result<Effect, Reason>
+        requires { self.old.stage ≡ stages.Ready }
+        ensures does { (fs : List Frame) (ss : Symbols) → Holds self.old fs ss →
+            Does V.takes (told fs ss)
+            (ended (setting_of self.old) (spot_of self.old end) fs
+            (annotated ss (payloads.Str text)))
+            result self.new visitor.old visitor.new }
+        ensures setting { SameSetting self.old self.new }
+    {
+        match text.as_str() {
+            Some(said) => self.whole(&Part::Str(said), end, visitor),
+            None => self.let_go_ended(end, visitor),
         }
     }
 

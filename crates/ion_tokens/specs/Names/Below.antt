@@ -28,4 +28,5 @@ pub use Rattle.ion_tokens.specs.declared.token.Body.{Body}
 pub use Rattle.ion_tokens.specs.declared.token.Foresight.{Foresight}
 pub use Rattle.ion_tokens.specs.declared.token.Form.{Form}
 pub use Rattle.ion_tokens.specs.declared.token.Scan.{Scan}
+pub use Rattle.ion_tokens.specs.declared.token.TextKind.{TextKind}
 pub use Rattle.ion_tokens.specs.declared.token.Token.{Token}

@@ -4,6 +4,7 @@ use Rattle.ion_tokens.specs.Names.Below.{Begun, Foresight, Form, Mark, Mode, Ref
 use Rattle.ion_tokens.specs.declared.scanner.Scanner.{Scanner}
 use Rattle.ion_tokens.specs.declared.token_reader.TokenReader.{TokenReader}
 use Rattle.ion_tokens.specs.machine.Bounds.{is_idle}
+use Rattle.ion_tokens.specs.machine.LetGo.{behind_gone}
 use Rattle.ion_tokens.specs.machine.Machines.{known}
 use Rattle.ion_tokens.specs.machine.Scanning.{Given, Known, Left, Next, Outcome, Refused}
 
@@ -15,9 +16,9 @@ octets_in t = t.machine.ended.items
 abbrev pub open_in_reader : TokenReader → List ℕ
 open_in_reader t = t.machine.kept.items
 
--- what a scanner knows between two octets
+-- what a scanner knows between two octets, with what it let go
 abbrev pub scanned : Scanner → Known
-scanned s = known s.machine
+scanned s = behind_gone s.gone (known s.machine)
 
 -- the refusal that it answers from now on
 abbrev pub failure : Scanner → Option Refusal

@@ -1,7 +1,9 @@
 use Rattle.std.proofs.Common.{◌≡◌, ◌≢◌, ℕ, List, length, refl, true, IfOk, IfErr, IfSome}
 use Rattle.std.specs.Prelude.{Result, Ok, Err, Option, Some, None, Bool}
 use Rattle.ion_tokens.specs.Names.{Answers, AnswersTrace, BorrowsAt, Continues, Goes, GoesWith, Known, LendsWhole, Memory, Place, Placed, Refusal, RefusesAt, Scan, Scanned, Stepped, Token, answered, debt, is_step_reason, run, stepped}
+use Rattle.ion_tokens.specs.machine.LetGo.{behind_gone}
 use Rattle.ion_tokens.specs.machine.Machines.{known}
+use Rattle.ion_tokens.specs.machine.Views.{scanned}
 use Rattle.ion_tokens.proofs.bounds.Causes.{answer_reason, run_fair}
 use Rattle.ion_tokens.proofs.bounds.Pending.{few_owed, fewer_owed, run_owes}
 use Rattle.ion_tokens.proofs.histories.Stepped.{step_goes, step_refuses}
@@ -42,61 +44,61 @@ module _ (p : Place) (s : Known) (piece : List ℕ) (left : Bool) (now : Known) 
 
 pub returns-in_default-result-clause-used : goal.returns-in_default-result-clause-used
 returns-in_default-result-clause-used c =
-    let s = known c.args.self.now.machine in
-    used_within (run c.args.place c.args.piece.now s) c.scan-result.result c.scan-result.new.self.left s.used (length c.args.piece.now)
-    (known c.scan-result.new.self)
-    (run_between c.args.place c.args.piece.now s) c.scan-result.ensures.answers
+    let s = scanned c.args.self.now in
+    used_within (run c.args.place c.args.piece.now s) c.scan_behind-result.result c.scan_behind-result.new.self.left s.used (length c.args.piece.now)
+    (behind_gone c.scan_behind-result.new.gone (known c.scan_behind-result.new.self))
+    (run_between c.args.place c.args.piece.now s) c.scan_behind-result.ensures.answers
 
 pub returns-in_default-result-clause-all : goal.returns-in_default-result-clause-all
 returns-in_default-result-clause-all c =
-    let s = known c.args.self.now.machine in
-    used_whole (run c.args.place c.args.piece.now s) c.scan-result.result c.scan-result.new.self.left s.used (length c.args.piece.now)
-    (known c.scan-result.new.self)
-    (run_between c.args.place c.args.piece.now s) c.scan-result.ensures.answers
+    let s = scanned c.args.self.now in
+    used_whole (run c.args.place c.args.piece.now s) c.scan_behind-result.result c.scan_behind-result.new.self.left s.used (length c.args.piece.now)
+    (behind_gone c.scan_behind-result.new.gone (known c.scan_behind-result.new.self))
+    (run_between c.args.place c.args.piece.now s) c.scan_behind-result.ensures.answers
 
 pub returns-in_default-result-clause-reasons : goal.returns-in_default-result-clause-reasons
-returns-in_default-result-clause-reasons c = λ _. fair c.args.place (known c.args.self.now.machine) c.args.piece.now c.scan-result.new.self.left
-    (known c.scan-result.new.self) c.scan-result.result c.scan-result.ensures.answers
+returns-in_default-result-clause-reasons c = λ _. fair c.args.place (scanned c.args.self.now) c.args.piece.now c.scan_behind-result.new.self.left
+    (behind_gone c.scan_behind-result.new.gone (known c.scan_behind-result.new.self)) c.scan_behind-result.result c.scan_behind-result.ensures.answers
 
 pub returns-in-Err-clause-reasons : goal.returns-in-Err-clause-reasons
-returns-in-Err-clause-reasons c = λ _. fair c.args.place (known c.args.self.now.machine) c.args.piece.now c.scan-result.new.self.left
-    (known c.scan-result.new.self) c.scan-result.result c.scan-result.ensures.answers
+returns-in-Err-clause-reasons c = λ _. fair c.args.place (scanned c.args.self.now) c.args.piece.now c.scan_behind-result.new.self.left
+    (behind_gone c.scan_behind-result.new.gone (known c.scan_behind-result.new.self)) c.scan_behind-result.result c.scan_behind-result.ensures.answers
 
 pub returns-in_default-result-clause-goes : goal.returns-in_default-result-clause-goes
-returns-in_default-result-clause-goes c = λ none. goes c.args.place (known c.args.self.now.machine) c.args.piece.now c.scan-result.new.self.left
-    (known c.scan-result.new.self) c.scan-result.result c.scan-result.ensures.answers
+returns-in_default-result-clause-goes c = λ none. goes c.args.place (scanned c.args.self.now) c.args.piece.now c.scan_behind-result.new.self.left
+    (behind_gone c.scan_behind-result.new.gone (known c.scan_behind-result.new.self)) c.scan_behind-result.result c.scan_behind-result.ensures.answers
 
 pub returns-in-Err-clause-refuses : goal.returns-in-Err-clause-refuses
-returns-in-Err-clause-refuses c = λ none. refuses c.args.place (known c.args.self.now.machine) c.args.piece.now c.scan-result.new.self.left
-    (known c.scan-result.new.self) c.scan-result.result c.scan-result.ensures.answers
+returns-in-Err-clause-refuses c = λ none. refuses c.args.place (scanned c.args.self.now) c.args.piece.now c.scan_behind-result.new.self.left
+    (behind_gone c.scan_behind-result.new.gone (known c.scan_behind-result.new.self)) c.scan_behind-result.result c.scan_behind-result.ensures.answers
 
 pub returns-in-Err-clause-within : goal.returns-in-Err-clause-within
 returns-in-Err-clause-within c =
-    let s = known c.args.self.now.machine in
-    λ none. refused_within (run c.args.place c.args.piece.now s) c.scan-result.result c.scan-result.new.self.left s.used (length c.args.piece.now)
-    (known c.scan-result.new.self)
-    (run_between c.args.place c.args.piece.now s) c.scan-result.ensures.answers
+    let s = scanned c.args.self.now in
+    λ none. refused_within (run c.args.place c.args.piece.now s) c.scan_behind-result.result c.scan_behind-result.new.self.left s.used (length c.args.piece.now)
+    (behind_gone c.scan_behind-result.new.gone (known c.scan_behind-result.new.self))
+    (run_between c.args.place c.args.piece.now s) c.scan_behind-result.ensures.answers
 
 pub returns-in_default-result-clause-traced : goal.returns-in_default-result-clause-traced
-returns-in_default-result-clause-traced c = λ none. traced c.args.place (known c.args.self.now.machine) c.args.piece.now c.scan-result.new.self.left
-    (known c.scan-result.new.self) c.scan-result.result c.scan-result.ensures.answers
+returns-in_default-result-clause-traced c = λ none. traced c.args.place (scanned c.args.self.now) c.args.piece.now c.scan_behind-result.new.self.left
+    (behind_gone c.scan_behind-result.new.gone (known c.scan_behind-result.new.self)) c.scan_behind-result.result c.scan_behind-result.ensures.answers
 
 pub returns-in-Err-clause-traced : goal.returns-in-Err-clause-traced
-returns-in-Err-clause-traced c = λ none. traced c.args.place (known c.args.self.now.machine) c.args.piece.now c.scan-result.new.self.left
-    (known c.scan-result.new.self) c.scan-result.result c.scan-result.ensures.answers
+returns-in-Err-clause-traced c = λ none. traced c.args.place (scanned c.args.self.now) c.args.piece.now c.scan_behind-result.new.self.left
+    (behind_gone c.scan_behind-result.new.gone (known c.scan_behind-result.new.self)) c.scan_behind-result.result c.scan_behind-result.ensures.answers
 
 pub returns-in_default-result-clause-few_pending : goal.returns-in_default-result-clause-few_pending
 returns-in_default-result-clause-few_pending c =
-    let s = known c.args.self.now.machine in
-    few_owed (run c.args.place c.args.piece.now s) c.scan-result.result c.scan-result.new.self.left (debt s.mode) s.used (known c.scan-result.new.self)
-    (run_owes c.args.place c.args.piece.now s) c.scan-result.ensures.answers
+    let s = scanned c.args.self.now in
+    few_owed (run c.args.place c.args.piece.now s) c.scan_behind-result.result c.scan_behind-result.new.self.left (debt s.mode) s.used (behind_gone c.scan_behind-result.new.gone (known c.scan_behind-result.new.self))
+    (run_owes c.args.place c.args.piece.now s) c.scan_behind-result.ensures.answers
 
 pub returns-in_default-result-clause-progress : goal.returns-in_default-result-clause-progress
 returns-in_default-result-clause-progress c =
-    let s = known c.args.self.now.machine in
-    fewer_owed (run c.args.place c.args.piece.now s) c.scan-result.result c.scan-result.new.self.left (debt s.mode) s.used (known c.scan-result.new.self)
-    (run_owes c.args.place c.args.piece.now s) c.scan-result.ensures.answers
+    let s = scanned c.args.self.now in
+    fewer_owed (run c.args.place c.args.piece.now s) c.scan_behind-result.result c.scan_behind-result.new.self.left (debt s.mode) s.used (behind_gone c.scan_behind-result.new.gone (known c.scan_behind-result.new.self))
+    (run_owes c.args.place c.args.piece.now s) c.scan_behind-result.ensures.answers
 
 pub returns-in_default-result-clause-lends : goal.returns-in_default-result-clause-lends
-returns-in_default-result-clause-lends c = λ none. lends c.args.place (known c.args.self.now.machine) c.args.piece.now c.scan-result.new.self.left
-    (known c.scan-result.new.self) c.scan-result.result c.scan-result.ensures.answers c.scan-result.ensures.lends
+returns-in_default-result-clause-lends c = λ none. lends c.args.place (scanned c.args.self.now) c.args.piece.now c.scan_behind-result.new.self.left
+    (behind_gone c.scan_behind-result.new.gone (known c.scan_behind-result.new.self)) c.scan_behind-result.result c.scan_behind-result.ensures.answers c.scan_behind-result.ensures.lends
