@@ -1,20 +1,22 @@
 -- Scalars that a visitor heeds not, which needn't be read for it.
-use Rattle.std.proofs.Common.{◌≡◌, ℕ, ◌*◌, ◌^◌, ◌<◌, ◌≤◌, List, [], ◌∷◌, length, get_or, Option, Bool, true, false, Result, Ok, Err, refl, ap, sym, subst, ◌∙◌, arith, inl, inr}
+use Rattle.std.proofs.Common.{◌≡◌, ℕ, ◌*◌, ◌^◌, ◌<◌, ◌≤◌, List, [], ◌∷◌, ◌++◌, length, length-append, get_or, Option, Bool, true, false, Result, Ok, Err, refl, ap, sym, subst, ◌∙◌, arith, inl, inr}
 use Rattle.std.specs.Prelude.{is_ok, MatchResult, ℤ}
 use Rattle.std.specs.Char.{is_ascii}
 use Rattle.std.specs.List.{list_all}
 use Rattle.std.specs.Str.{IsUtf8}
 use Rattle.std.proofs.Math.Nat.{one-le-pow, mul-le-mul_right}
+use Rattle.std.proofs.Math.Seq.{drop-append_seam, take-append_seam}
 use Rattle.std.proofs.lemmas.Bool.{cases_lt, false≢true, le-ltb, ltb-true}
 use Rattle.std.proofs.lemmas.List.Elements.{All-weaker}
 use Rattle.std.proofs.lemmas.List.Sums.{AllPass-from_list_all}
-use Rattle.std.proofs.lemmas.Str.{IsUtf8-from_ascii}
+use Rattle.std.proofs.lemmas.Str.{IsCharBoundary-from_take, IsUtf8-append, IsUtf8-drop, IsUtf8-from_ascii}
 use Rattle.std.proofs.lemmas.Str.Ascii.{IsAscii-from_all}
-use Rattle.ion_binary.specs.Names.{DecimalParts, Event, IsPart, IsScalar, LetsPass, Payload, Reason, Scalar, Slot, TableFilter, TellsAs, TimestampParts, WasTold, as_decimal, as_timestamp, begins_struct, decimal_of_body, heard, int_of, is_blob, is_clob, is_decimal, is_int, is_negative, is_of_table, is_string, is_symbol, is_timestamp, judge, layer_events, outs-Blob, outs-Clob, outs-Decimal, outs-Int, outs-Str, outs-Symbol, outs-Timestamp, part, positional, resolve, timestamp_of_body, uint_field}
+use Rattle.ion_binary.specs.Names.{BadUtf8, DecimalParts, Event, IsPart, IsScalar, LetsPass, Payload, Reason, Scalar, Slot, TableFilter, TellsAs, TimestampParts, WasTold, as_decimal, as_timestamp, begins_struct, decimal_of_body, heard, int_of, is_blob, is_clob, is_decimal, is_int, is_negative, is_of_table, is_string, is_symbol, is_timestamp, judge, layer_events, outs-Blob, outs-Clob, outs-Decimal, outs-Int, outs-Str, outs-Symbol, outs-Timestamp, part, positional, resolve, timestamp_of_body, uint_field}
 use Rattle.ion_model.specs.declared.value.Payload.TheVariants as payloads
 use Rattle.ion_visiting.specs.declared.table_filter.Table.{Table}
 use Rattle.ion_visiting.specs.laws.Filters.{hears_none, visitor_tells}
 use Rattle.ion_binary.specs.laws.reading.Judged.{scalar_leaf, judge_scalar, judge_sound}
+use Rattle.ion_binary.proofs.Scalars.{no_text}
 
 -- 1. Bodies that aren't refused, form by form.
 
@@ -124,3 +126,25 @@ module _ {V : Type 0} (takes : V → Event → V → Type 0) (c : List Slot) (t 
   -- it is told to a visitor that goes on whatever it says, where it is part of no table
   pub unread_told : is_ok (judge c t body) ≡ true → TellsAs takes (judge c t body) f g a b
   unread_told h = unread_by (judge c t body) refl h
+
+-- 3. Strings whose front was let go.
+
+module _ (front rest : List ℕ) where
+  cut_within : length front ≤ length (front ++ rest)
+  cut_within = omega (arith, length-append front rest)
+
+  -- what follows whole characters of a text is a text
+  rest_utf8 : IsUtf8 front → IsUtf8 (front ++ rest) → IsUtf8 rest
+  rest_utf8 before whole =
+      subst IsUtf8 (drop-append_seam front rest)
+      (IsUtf8-drop (front ++ rest) (length front) whole
+      (IsCharBoundary-from_take (front ++ rest) (length front) whole cut_within (subst IsUtf8 (sym (take-append_seam front rest)) before)))
+
+  -- whole characters and a text are a string
+  pub cut_text_unread : (c : List Slot) → IsUtf8 front → IsUtf8 rest → is_ok (judge c Scalar.Str (front ++ rest)) ≡ true
+  cut_text_unread c before behind = text_unread c (front ++ rest) (IsUtf8-append front rest before behind)
+
+  -- whole characters before what is no text are none
+  pub no_cut_text : (c : List Slot) → IsUtf8 front → ¬ (IsUtf8 rest) → judge c Scalar.Str (front ++ rest) ≡ Err BadUtf8
+  unfolding judge
+  no_cut_text c before h = no_text (front ++ rest) (λ whole. h (rest_utf8 before whole))

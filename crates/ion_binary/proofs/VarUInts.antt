@@ -21,7 +21,7 @@ name_does r new id end some left there named spot kept phase (frames.Fields to m
       frames.Named to ms s ∷ fs,
       ap (λ b. if b then goes (at (spot_of r) (frames.Named to ms s ∷ fs) Ready) else refuses Malformed) test
           ∙ (ap (λ t. goes (at t (frames.Named to ms s ∷ fs) Ready)) (sym spot)
-          ∙ ap (λ p. goes (record { spot = spot_of new; frames = frames.Named to ms s ∷ fs; phase = p; body = body_so_far p new.body.items })) (sym phase)),
+          ∙ ap (λ p. goes (record { spot = spot_of new; frames = frames.Named to ms s ∷ fs; phase = p; body = body_so_far p new.body })) (sym phase)),
       record {
         containers = there (Container.Fields to) (containers_of fs) h.containers ∙ ap (λ k. Container.Named k ∷ containers_of fs) is;
         named = sym named;
@@ -56,8 +56,8 @@ module _ {V : Type 0} (takes : V → Event → V → Type 0) (r new : BinaryWalk
         gs,
         ap (annotation_came (spot_of r) (frames.Annotated to ss ∷ fs) stop) is
             ∙ (ap (λ t. goes (at t gs next)) (sym spot)
-            ∙ (ap (λ w. goes (record { spot = spot_of new; frames = gs; phase = next; body = w })) (sym (keeps_none (r.used == stop) stop new.body.items))
-            ∙ ap (λ p. goes (record { spot = spot_of new; frames = gs; phase = p; body = body_so_far p new.body.items })) (sym phase))),
+            ∙ (ap (λ w. goes (record { spot = spot_of new; frames = gs; phase = next; body = w })) (sym (keeps_none (r.used == stop) stop new.body))
+            ∙ ap (λ p. goes (record { spot = spot_of new; frames = gs; phase = p; body = body_so_far p new.body })) (sym phase))),
         record {
           holds = record {
             containers = same ∙ h.containers;

@@ -53,20 +53,20 @@ module _ {V : Type 0} (takes : V → Event → V → Type 0) (r : BinaryWalk) (f
   -- octets with whose last a scalar ends
   module _ (t : Scalar) (k : ℕ) (phase : r.phase ≡ InBody t (k - 1)) (some : 0 < k) (within : k ≤ length piece) where
     abbrev pub ends_with : ℕ → Outcome
-    ends_with j = judged (setting_of r) (moved (spot_of r) (r.used + j)) fs (judge r.context t (r.body.items ++ take k piece))
+    ends_with j = judged (setting_of r) (moved (spot_of r) (r.used + j)) fs (judge r.context t (r.body ++ take k piece))
 
     size : length (take k piece) ≡ k
     size = length-take-le k piece within
 
     pub ends_run : run_of r fs (take k piece) ≡ run_after (r.used + k) (ends_with k)
-    ends_run = body_ends r.catalog.now r.limits (spot_of r) fs r.body.items t k r.phase piece phase some within
+    ends_run = body_ends r.catalog.now r.limits (spot_of r) fs r.body t k r.phase piece phase some within
 
     pub ends_used : new.used ≡ r.used + length (take k piece) → new.used ≡ r.used + k
     ends_used e = omega (arith, size)
 
     pub ends_does : (result : Result Effect Reason)
         → ((gs : List Frame) → Holds r gs → AreAround gs → Does takes (told gs)
-        (judged (setting_of r) (moved (spot_of r) (r.used + length (take k piece))) gs (judge r.context t (r.body.items ++ take k piece))) result new a b)
+        (judged (setting_of r) (moved (spot_of r) (r.used + length (take k piece))) gs (judge r.context t (r.body ++ take k piece))) result new a b)
         → Does takes (told fs) (ends_with k) result new a b
     ends_does result does = subst (λ (j : ℕ). Does takes (told fs) (ends_with j) result new a b) size
         (does fs h (around_body r.phase t (k - 1) fs phase h.inside))

@@ -22,7 +22,7 @@ pub came_run : (r : BinaryWalk) (fs : List Frame) → Holds r fs → (piece : Li
     → run_of r fs (take size piece) ≡ run_after (r.used + size) (name_came (moved (spot_of r) (r.used + size)) fs id)
 came_run r fs h piece id size n =
     let count : length (take size piece) ≡ size = length-take-le size piece n.within in
-    ap (λ (p : Phase). run r.catalog.now r.limits r.used (with_phase (spot_of r) fs r.body.items p) (take size piece)) n.phase
+    ap (λ (p : Phase). run r.catalog.now r.limits r.used (with_phase (spot_of r) fs r.body p) (take size piece)) n.phase
     ∙ number_run r.catalog.now r.limits (spot_of r) fs Purpose.FieldName (take size piece) id (r.used + size) n.is (omega (arith, count))
     (in_room fs (r.used + size) (subst (λ cs. IsWithin cs (r.used + size)) h.containers n.inside))
 
@@ -83,8 +83,8 @@ module _ {V : Type 0} (takes : V → Event → V → Type 0) (r : BinaryWalk) (p
       let size : length body ≡ to - front = grind (arith, common_steps) in
       let all : length (header ++ body) ≡ to - named = grind (arith, common_steps) in
       let mid = r.used + named in
-      ap (λ (p : Phase). run r.catalog.now r.limits r.used (with_phase (spot_of r) (frames.Fields end ms ∷ fs) r.body.items p) (take to piece)) n.phase
-      ∙ (ap (run r.catalog.now r.limits r.used (with_phase (spot_of r) (frames.Fields end ms ∷ fs) r.body.items (InNumber Purpose.FieldName 0))) octets
+      ap (λ (p : Phase). run r.catalog.now r.limits r.used (with_phase (spot_of r) (frames.Fields end ms ∷ fs) r.body p) (take to piece)) n.phase
+      ∙ (ap (run r.catalog.now r.limits r.used (with_phase (spot_of r) (frames.Fields end ms ∷ fs) r.body (InNumber Purpose.FieldName 0))) octets
       ∙ run_via r.catalog.now r.limits r.used mid _ _ _ (take named piece) (header ++ body) (omega (arith, count))
       (name_run r.catalog.now r.limits (spot_of r) fs end ms (take named piece) id mid (Ok s) n.is is (omega (arith, count)) (omega arith))
       (scalar_run r.catalog.now r.limits (moved (spot_of r) mid) (frames.Named end ms (Ok s) ∷ fs) t header body (r.used + to)

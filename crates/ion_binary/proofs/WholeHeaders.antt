@@ -27,7 +27,7 @@ descriptor_run r fs piece o some ready is =
 
 module _ (r : BinaryWalk) (fs : List Frame) (h : Holds r fs) (piece : List ℕ) (front size : ℕ) where
   from_ready : (w : List ℕ) → r.phase ≡ Ready → run_of r fs w ≡ run r.catalog.now r.limits r.used (at (spot_of r) fs Ready) w
-  from_ready w = ap (λ (p : Phase). run r.catalog.now r.limits r.used (with_phase (spot_of r) fs r.body.items p) w)
+  from_ready w = ap (λ (p : Phase). run r.catalog.now r.limits r.used (with_phase (spot_of r) fs r.body p) w)
 
   room : (form : Form) → Opens r piece form front size → Admits fs form × BodyMayEnd r.limits r.start fs form (r.used + front + size)
   room form o = has_room r fs h form (r.used + front + size) o.fits

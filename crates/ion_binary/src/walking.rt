@@ -6,6 +6,7 @@ ghost use Rattle.ion_binary.specs.walking.Holds.{told_in};
 
 use crate::form::{Form, ListOrSexp, Opening};
 use crate::state::{Effect, Mark, Phase};
+use crate::walking::open_body::OpenBody;
 use ion_model::{Reason, Refusal};
 use ion_scalar::Size;
 use ion_symtab::{Catalog, Context, Limits};
@@ -17,6 +18,7 @@ mod bodies;
 mod bounds;
 mod containers;
 mod numbers;
+mod open_body;
 mod scalars;
 mod unread;
 mod whole_fields;
@@ -38,8 +40,9 @@ pub(crate) enum Container {
 /// A reader of a binary document that comes in pieces (Ion 1.0, "Ion Binary Encoding"). It tells a
 /// visitor the values event by event, and holds none of them.
 ///
-/// It keeps which containers are open, and the octets of the body of one scalar. Local symbol tables
-/// change what symbol ids stand for and aren't told; a version marker sets that back to the system
+/// It keeps which containers are open, and the octets of the body of one scalar; of a long string,
+/// clob or blob only the last, where the visitor heeds nothing of it. Local symbol tables change
+/// what symbol ids stand for and aren't told; a version marker sets that back to the system
 /// symbols.
 #[derive(Drop)]
 pub struct BinaryWalk<'a> {
@@ -53,7 +56,7 @@ pub struct BinaryWalk<'a> {
     context: Context,
     phase: Phase,
     /// The octets of a scalar's body so far; of no meaning outside one.
-    body: Vec<u8>,
+    body: OpenBody,
     /// The open containers, the innermost last.
     frames: Vec<Container>,
     /// The id of the name of the field whose value comes next.

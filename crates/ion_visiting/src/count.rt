@@ -40,6 +40,11 @@ impl Visitor for Count {
     }
 
     #[inline(always)]
+    fn heeds_no_field(&self) -> bool {
+        true
+    }
+
+    #[inline(always)]
     fn any_part(&mut self) -> bool {
         true
     }

@@ -114,6 +114,11 @@ impl Visitor for Outlining {
     }
 
     #[inline(always)]
+    fn heeds_no_field(&self) -> bool {
+        self.level > 0
+    }
+
+    #[inline(always)]
     fn any_part(&mut self) -> bool {
         if self.level == 0 {
             return false;

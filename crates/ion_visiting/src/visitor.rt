@@ -24,6 +24,12 @@ pub trait Visitor {
         false
     }
 
+    /// Whether it heeds nothing of what parts say until a container closes, whatever fields are
+    /// named there: then octets of a long one may be let go before its field's name is told.
+    fn heeds_no_field(&self) -> bool {
+        false
+    }
+
     /// A part, whatever it says. Only where `heeds_nothing`.
     fn any_part(&mut self) -> bool
         ensures { result ≡ true → (payload : Payload) → takes self.old (part payload) self.new }

@@ -193,7 +193,7 @@ spot_of r = spot_at r.used r.start r.context
 
 -- the machine that a reader stands for, with these containers
 abbrev pub machine_of : BinaryWalk → List Frame → Machine
-machine_of r fs = record { spot = spot_of r; frames = fs; phase = r.phase; body = body_so_far r.phase r.body.items }
+machine_of r fs = record { spot = spot_of r; frames = fs; phase = r.phase; body = body_so_far r.phase r.body }
 
 -- a method did what the machine does, where so much was told before, and no visitor heard anything; unless memory ran out
 abbrev pub DoesAlone : List Event → Outcome → Result Effect Reason → BinaryWalk → Type 0

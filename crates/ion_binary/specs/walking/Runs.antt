@@ -101,4 +101,4 @@ pending r = 0
 
 -- the octets of a scalar's body so far
 abbrev pub kept : BinaryWalk → ℕ
-kept r = length (body_so_far r.phase r.body.items)
+kept r = length (body_so_far r.phase r.body)

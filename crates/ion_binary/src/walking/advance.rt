@@ -10,6 +10,7 @@ ghost use Rattle.ion_symtab.specs.declared.items.Went.TheVariants as wents;
 use super::{BinaryWalk, TableFilter};
 use crate::form::Scalar;
 use crate::state::{Effect, Mark, Phase};
+use crate::walking::open_body::OpenBody;
 use ion_model::{Reason, Refusal};
 use ion_symtab::{Catalog, Context, Limits, Walked, Went};
 use ion_visiting::Visitor;
@@ -38,7 +39,7 @@ impl<'a> BinaryWalk<'a> {
             start: 0,
             context,
             phase: Phase::InMarker(Mark::First, true),
-            body: Vec::new(alloc),
+            body: OpenBody::new(alloc),
             frames: Vec::new(alloc),
             name: 0,
             filter: TableFilter::new(alloc),
@@ -127,7 +128,7 @@ impl BinaryWalk<'_> {
             Does V.takes (told fs)
             (judged (setting_of self.old) (moved (spot_of self.old)
             (self.old.used + length octets.now)) fs
-            (judge self.old.context scalar (self.old.body.items ++ octets.now)))
+            (judge self.old.context scalar (self.old.body ++ octets.now)))
             result self.new visitor.old visitor.new }
         ensures moves { Moves self.old self.new (self.old.used + length octets.now) }
     {
@@ -242,10 +243,30 @@ impl BinaryWalk<'_> {
                 }
             }
         }
+        self.let_go(piece.len(), visitor);
         Ok(Walked {
             used: piece.len(),
             ended: false,
         })
+    }
+
+    /// Whether the visitor heeds nothing of the scalar that is open, of which it may not know yet in
+    /// which field it stands.
+    fn is_unheeded<V: Visitor>(&self, visitor: &V) -> bool {
+        visitor.heeds_nothing() && (visitor.heeds_no_field() || !self.is_named())
+    }
+
+    /// Behind a piece of so many octets: lets go of the front of a long string, clob or blob that
+    /// is open, if the visitor heeds nothing of it and it is in no local symbol table.
+    #[inline(never)]
+    fn let_go<V: Visitor>(&mut self, came: usize, visitor: &V)
+        ensures { self.new ≡ self.old }
+    {
+        if let Phase::InBody(scalar, _) = self.phase {
+            if self.is_unheeded(visitor) && !self.filter.may_be_table() {
+                self.body.let_go_front(scalar, came);
+            }
+        }
     }
 
     /// What `walk` does, of which it answers what `Went` says.
@@ -275,8 +296,9 @@ impl BinaryWalk<'_> {
     /// Takes up the octets of a piece up to the end of the next value of the top level, and tells a
     /// visitor what comes of them, as `Items::walk` promises it.
     ///
-    /// The first refusal comes again with each call. `Memory` comes where memory was refused, or
-    /// where the visitor can't go on.
+    /// The first refusal comes again with each call. `Memory` comes where memory was refused, where
+    /// the visitor can't go on, and where octets of a scalar were let go that an earlier visitor
+    /// didn't heed, and this one does.
     #[inline(always)]
     pub fn walk<V: Visitor>(&mut self, piece: &[u8], visitor: &mut V) -> Result<Walked, Refusal>
         requires room { IsNone self.old.failed → self.old.used + length piece.now < 2 ^ 63 }
@@ -367,8 +389,8 @@ impl BinaryWalk<'_> {
         self.used
     }
 
-    /// How many octets of the body of a scalar are kept, at most as many as the limit on items
-    /// allows.
+    /// How many octets of the body of a scalar came so far, also those that were let go: at most as
+    /// many as the limit on items allows.
     pub fn held(&self) -> usize
         ensures { result ≡ kept self.now }
     {

@@ -6,6 +6,7 @@ ghost use Rattle.ion_binary.specs.declared.form.Form.TheVariants as forms;
 use super::{BinaryWalk, Container, heard};
 use crate::form::{Form, ListOrSexp, Scalar, bracket_of, hollow};
 use crate::state::{Effect, Phase, Purpose};
+use crate::walking::open_body::tell_body;
 use crate::walking::scalars::tell_scalar;
 use ion_model::Reason;
 use ion_visiting::{Bracket, Visitor};
@@ -41,12 +42,12 @@ impl BinaryWalk<'_> {
         ensures does { (fs : List AnyFrame) → Holds self.old fs → AreAround fs →
             Does V.takes (told fs)
             (judged (setting_of self.old) (spot_of self.old) fs
-            (judge self.old.context scalar self.old.body.items))
+            (judge self.old.context scalar self.old.body))
             result self.new visitor.old visitor.new }
         ensures moves { Moves self.old self.new self.old.used }
     {
         self.begin_value(visitor)?;
-        tell_scalar(&self.context, scalar, &self.body, &mut self.filter, visitor)?;
+        tell_body(&self.context, scalar, &self.body, &mut self.filter, visitor)?;
         self.ended(visitor)
     }
 

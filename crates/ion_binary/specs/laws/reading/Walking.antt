@@ -22,5 +22,5 @@ has_told r u s es h =
       not_refused = ap (λ (x : Run). (trace_of x).refused) h.1.ran;
       given_so_far = λ none. ap (λ (x : Run). (trace_of x).given) h.1.ran;
       given_with_next = tt;
-      bounded = so_far_within r.catalog.now r.limits r.start r.context (plain s) h.0 r.body.items r.phase u o.standing;
+      bounded = so_far_within r.catalog.now r.limits r.start r.context (plain s) h.0 r.body r.phase u o.standing;
     }

@@ -1,5 +1,5 @@
-use Rattle.std.proofs.Common.{rules, ◌-◌, Ok, length, take, drop, arith, subst}
-use Rattle.ion_binary.specs.Names.{Effect, run_of, told}
+use Rattle.std.proofs.Common.{rules, ◌-◌, Ok, length, take, drop, false, arith, subst, sym}
+use Rattle.ion_binary.specs.Names.{BinaryWalk, Effect, Walks, run_of, told}
 use Rattle.ion_binary.specs.walking.Runs.{Took}
 use Rattle.ion_binary.proofs.WalkRuns.{led_on_end, led_on_gives, led_on_more, led_on_none, led_on_refused}
 use Rattle.ion_binary.proofs.walking.BinaryWalk.advance.Goals as goal
@@ -53,5 +53,8 @@ returns-in-Err-clause-does g c = λ fs h.
 
 pub returns-clause-does : goal.returns-clause-does
 returns-clause-does g c = λ fs h.
-    led_on_end g.V.Visitor.takes c.args.self.now fs c.args.piece.now c.loop-i.i c.loop-i.self c.args.visitor.now c.loop-i.visitor (omega arith)
-    (c.loop-i.invariant.ran fs h)
+    let r = c.args.self.now in
+    let piece = c.args.piece.now in
+    subst (λ (s : BinaryWalk). Walks g.V.Visitor.takes (told fs) r.used (run_of r fs) piece
+    (Ok (record { used = length piece; ended = false })) s c.args.visitor.now c.loop-i.visitor) (sym c.let_go.ensures)
+    (led_on_end g.V.Visitor.takes r fs piece c.loop-i.i c.loop-i.self c.args.visitor.now c.loop-i.visitor (omega arith) (c.loop-i.invariant.ran fs h))

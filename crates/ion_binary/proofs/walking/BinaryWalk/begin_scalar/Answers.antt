@@ -22,5 +22,5 @@ returns-clause-does g c = λ fs h around.
     does_alone g.V.Visitor.takes (told fs) (begin (setting_of r) (spot_of r) fs (Form.Scalar c.args.scalar) c.args.size) (Ok Goes) new c.args.visitor.now
     (goes_alone r new fs (begin (setting_of r) (spot_of r) fs (Form.Scalar c.args.scalar) c.args.size)
     (ap (λ b. if b then ended else goes (in_body (spot_of r) fs c.args.scalar (c.args.size - 1) [])) (isnt_at c.args.size 0 c.if-size-eq0.false)
-    ∙ ap (λ w. goes (in_body (spot_of r) fs c.args.scalar (c.args.size - 1) w)) (sym c.clear.ensures.items))
+    ∙ ap (λ w. goes (in_body (spot_of r) fs c.args.scalar (c.args.size - 1) w)) (sym c.clear.ensures))
     refl refl refl around h)
