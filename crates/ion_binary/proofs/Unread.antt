@@ -11,8 +11,9 @@ use Rattle.std.proofs.lemmas.List.Elements.{All-weaker}
 use Rattle.std.proofs.lemmas.List.Sums.{AllPass-from_list_all}
 use Rattle.std.proofs.lemmas.Str.{IsCharBoundary-from_take, IsUtf8-append, IsUtf8-drop, IsUtf8-from_ascii}
 use Rattle.std.proofs.lemmas.Str.Ascii.{IsAscii-from_all}
-use Rattle.ion_binary.specs.Names.{BadUtf8, DecimalParts, Event, IsPart, IsScalar, LetsPass, Payload, Reason, Scalar, Slot, TableFilter, TellsAs, TimestampParts, WasTold, as_decimal, as_timestamp, begins_struct, decimal_of_body, heard, int_of, is_blob, is_clob, is_decimal, is_int, is_negative, is_of_table, is_string, is_symbol, is_timestamp, judge, layer_events, outs-Blob, outs-Clob, outs-Decimal, outs-Int, outs-Str, outs-Symbol, outs-Timestamp, part, positional, resolve, timestamp_of_body, uint_field}
+use Rattle.ion_binary.specs.Names.{BadUtf8, DecimalParts, Event, IsPart, IsScalar, LetsPass, Payload, Reason, Scalar, Slot, TableFilter, TellsAs, TimestampParts, WasTold, as_decimal, as_timestamp, begins_struct, decimal_of_body, heard, int_of, is_blob, is_clob, is_decimal, is_int, is_negative, is_of_table, is_string, is_symbol, is_timestamp, judge, layer_events, layer_kind, outs-Blob, outs-Clob, outs-Decimal, outs-Int, outs-Str, outs-Symbol, outs-Timestamp, part, positional, resolve, scalar_kind, timestamp_of_body, uint_field}
 use Rattle.ion_model.specs.declared.value.Payload.TheVariants as payloads
+use Rattle.ion_model.specs.declared.value.Payload.TheViews as views
 use Rattle.ion_visiting.specs.declared.table_filter.Table.{Table}
 use Rattle.ion_visiting.specs.laws.Filters.{hears_none, visitor_tells}
 use Rattle.ion_binary.specs.laws.reading.Judged.{scalar_leaf, judge_scalar, judge_sound}
@@ -112,20 +113,31 @@ plain_of _ b h = refl
 
 module _ {V : Type 0} (takes : V → Event → V → Type 0) (c : List Slot) (t : Scalar) (body : List ℕ) (f g : TableFilter) (a b : V)
     (plain : is_of_table f.table true ≡ false) (passes : (es : List Event) → WasTold f es → LetsPass g × (heard es ≡ es))
-    (went : (p : Payload) → takes a (part p) b) where
+    (went : (p : Payload) → IsScalar c body t p → takes a (part p) b) where
   unread_by : (r : Result Payload Reason) → judge c t body ≡ r → is_ok r ≡ true → TellsAs takes (judge c t body) f g a b
   unread_by (Ok p) e h = (
     p,
     e,
     (scalar_leaf c body t p (judge_sound c t body p e)).event,
     visitor_tells takes (part p) f g a a b tt (plain_of f.table (begins_struct (part p)) plain)
-        (λ es h. let i = passes es h in (i.0, hears_none takes (heard es) es a (sym i.1))) (went p),
+        (λ es h. let i = passes es h in (i.0, hears_none takes (heard es) es a (sym i.1))) (went p (judge_sound c t body p e)),
   )
   unread_by (Err reason) e h = absurd (false≢true h)
 
-  -- it is told to a visitor that goes on whatever it says, where it is part of no table
+  -- it is told to a visitor that goes on whichever it is, where it is part of no table
   pub unread_told : is_ok (judge c t body) ≡ true → TellsAs takes (judge c t body) f g a b
   unread_told h = unread_by (judge c t body) refl h
+
+-- of which kind a scalar is
+pub kind_unread : (c : List Slot) (body : List ℕ) (t : Scalar) (p : Payload) → IsScalar c body t p → layer_kind (views.out-Payload p) ≡ scalar_kind t
+kind_unread c body _ _ (is_int h) = ap layer_kind (views.outs-Int _)
+kind_unread c body _ _ (is_negative h k) = ap layer_kind (views.outs-Int _)
+kind_unread c body _ _ (is_decimal d h k) = ap layer_kind (views.outs-Decimal d)
+kind_unread c body _ _ (is_timestamp t h) = ap layer_kind (views.outs-Timestamp t)
+kind_unread c body _ _ (is_symbol s h k) = ap layer_kind (views.outs-Symbol s)
+kind_unread c body _ _ (is_string h) = ap layer_kind (views.outs-Str body)
+kind_unread c body _ _ is_clob = ap layer_kind (views.outs-Clob body)
+kind_unread c body _ _ is_blob = ap layer_kind (views.outs-Blob body)
 
 -- 3. Strings whose front was let go.
 

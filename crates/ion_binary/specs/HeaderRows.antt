@@ -1,7 +1,7 @@
 -- The descriptor and the length of a body, by type codes and length codes (Ion 1.0, "Ion Binary Encoding", typed value formats): the type code is the
 -- high four bits of the descriptor, the length code the low four.
 use Rattle.std.specs.Prelude.{◌≡◌, ◌≢◌, ◌⊎◌, ℕ, ◌+◌, ◌*◌, ◌<◌, ◌≤◌, List, [], ◌∷◌}
-use Rattle.ion_binary.specs.Names.Below.{Form, ListOrSexp, Scalar, VarUInt}
+use Rattle.ion_binary.specs.Names.Below.{Form, Kind, ListOrSexp, Scalar, VarUInt}
 
 -- the type code by which a form is told
 abbrev pub type_code : Form → ℕ
@@ -19,6 +19,17 @@ type_code (Form.ListOrSexp ListOrSexp.Sexp) = 12
 type_code Form.Struct = 13
 type_code Form.OrderedStruct = 13
 type_code Form.Wrapper = 14
+
+-- the kind of the values with such a body
+abbrev pub scalar_kind : Scalar → Kind
+scalar_kind Scalar.Int = Kind.Int
+scalar_kind Scalar.NegativeInt = Kind.Int
+scalar_kind Scalar.Decimal = Kind.Decimal
+scalar_kind Scalar.Timestamp = Kind.Timestamp
+scalar_kind Scalar.Symbol = Kind.Symbol
+scalar_kind Scalar.Str = Kind.Str
+scalar_kind Scalar.Clob = Kind.Clob
+scalar_kind Scalar.Blob = Kind.Blob
 
 -- the length code behind which the length stands as a VarUInt; 0xD1, a struct with length code 1, says that its fields are in order
 abbrev pub long_code : Form → ℕ

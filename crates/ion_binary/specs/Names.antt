@@ -4,7 +4,7 @@ unfoldable pub use Below.*
 pub use Rattle.ion_binary.specs.Deciding.{Before, Count, Decides, EndsHeader, EndsNumber, Headed, Id, InStruct, IsContainer, IsFront, IsStruct, Items, LastOctet, Length, MayGoOn, MayReach, Name, Named, Noted, Number, Open, TakesValue, a_body, a_count, a_length, a_name, a_null, a_truth, an_id, annotations_past, bad_body, bad_empty_body, bad_table, by_descriptor, by_length, container_levels, header_too_long, in_wrapper, inner_marker, no_annotation, no_annotations, no_count, no_descriptor, no_length, no_marker, no_name, no_value, number_past, of_annotations, of_container, of_struct, of_wrapper, other_marker, other_version, past_container, too_deep, too_large, wrapper_unfilled}
 pub use Rattle.ion_binary.specs.Depths.{depths, field_depths}
 pub use Rattle.ion_binary.specs.Grammar.{Binary, Document, Fields, Header, Ids, IsPad, IsScalar, OpenRest, Pieces, Plain, Sequence, Whole, begins, document, holds, is_blob, is_clob, is_decimal, is_int, is_listing, is_negative, is_null, is_ordered, is_scalar, is_string, is_struct, is_symbol, is_timestamp, is_truth, listed, long, marked, no_fields, no_ids, no_piece, nothing, of_item, of_marker, of_pad, of_pad_length, one_field, one_id, one_more, padded, padded_field, short, skipped, skips, the_marker, turns, unannotated, wrapped}
-pub use Rattle.ion_binary.specs.HeaderRows.{IsBodyLength, IsHeader, long_code, type_code}
+pub use Rattle.ion_binary.specs.HeaderRows.{IsBodyLength, IsHeader, long_code, scalar_kind, type_code}
 pub use Rattle.ion_binary.specs.Judge.{as_decimal, as_symbol, as_timestamp, int_of, symbol_of, text_of}
 unfoldable pub use Rattle.ion_binary.specs.Judge.{judge}
 pub use Rattle.ion_binary.specs.Opening.{body_of, is_pad, is_wrapper, opens, with_octets}

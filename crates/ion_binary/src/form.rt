@@ -1,6 +1,6 @@
 //! What a descriptor octet opens.
 ghost use Rattle.std.specs.Prelude.{◌≡◌, IfSome};
-ghost use Rattle.ion_binary.specs.Names.{body_of, bracket_of, hollow, opening_of, type_code, with_octets};
+ghost use Rattle.ion_binary.specs.Names.{body_of, bracket_of, hollow, opening_of, scalar_kind, type_code, with_octets};
 ghost use Rattle.ion_binary.specs.declared.form.Form.TheVariants as forms;
 
 use ion_model::{Kind, Reason};
@@ -18,6 +18,24 @@ pub enum Scalar {
     Str,
     Clob,
     Blob,
+}
+
+impl Scalar {
+    /// The kind of the values with such a body.
+    pub fn kind(self) -> Kind
+        ensures { result ≡ scalar_kind self }
+    {
+        match self {
+            Scalar::Int => Kind::Int,
+            Scalar::NegativeInt => Kind::Int,
+            Scalar::Decimal => Kind::Decimal,
+            Scalar::Timestamp => Kind::Timestamp,
+            Scalar::Symbol => Kind::Symbol,
+            Scalar::Str => Kind::Str,
+            Scalar::Clob => Kind::Clob,
+            Scalar::Blob => Kind::Blob,
+        }
+    }
 }
 
 /// The two kinds of values that are items one behind the other.

@@ -41,7 +41,7 @@ pub(crate) enum Container {
 /// visitor the values event by event, and holds none of them.
 ///
 /// It keeps which containers are open, and the octets of the body of one scalar; of a long string,
-/// clob or blob only the last, where the visitor heeds nothing of it. Local symbol tables change
+/// clob or blob only the last, where the visitor heeds kinds alone. Local symbol tables change
 /// what symbol ids stand for and aren't told; a version marker sets that back to the system
 /// symbols.
 #[derive(Drop)]

@@ -44,7 +44,7 @@ pub fn check<R: Inlet>(
 /// Tells a visitor the values of a document (Ion 1.0, "The Ion Data Model"), event by event and
 /// behind each that it ended: the whole stream, where the octets of `reader` are a document. No
 /// value is built: of a document of any length only a scalar is held, until its last octet came;
-/// where the visitor heeds nothing no long string or clob is, and in binary no long blob.
+/// where the visitor heeds kinds alone no long string, clob or blob is.
 ///
 /// The answer and the faults are those of `check`; `Memory` also where the visitor answered
 /// `false`. On a refusal and at a fault the visitor was told the front of some values, and its

@@ -146,7 +146,7 @@ pub trait Items: Sized {
     ///
     /// What was told of the value that is open has to have been told to this visitor. `Memory` comes
     /// also where the visitor can't go on; then its state means nothing. So it does where it heeds a
-    /// scalar of which octets were let go, since the visitor of an earlier call heeded nothing.
+    /// scalar of which octets were let go, since the visitor of an earlier call heeded kinds alone.
     fn walk<V: Visitor>(&mut self, piece: &[u8], visitor: &mut V) -> Result<Walked, Refusal>
         requires room { IsNone (failed self.old) → taken self.old + length piece.now < 2 ^ 63 }
         requires begins { IfSome (awaits self.old) (λ octet.
@@ -193,7 +193,7 @@ pub trait Items: Sized {
         ensures again { IfSome (failed self) (λ refusal. result ≡ Result.Err refusal) };
 
     /// How many octets of the unfinished item are kept, at most as many as the limit on items
-    /// allows, with those that were let go since the visitor heeds nothing of them. The octet with
+    /// allows, with those that were let go since the visitor heeds kinds alone. The octet with
     /// which the next piece has to begin isn't counted.
     fn held(&self) -> usize
         ensures { result ≡ kept self.now };

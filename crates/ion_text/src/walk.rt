@@ -280,6 +280,15 @@ impl TextWalk<'_> {
         !visitor.heeds_nothing() || self.filter.may_be_table()
     }
 
+    /// Whether a text has to be told with its octets: the visitor heeds more than kinds, or it may
+    /// be a local symbol table's.
+    #[inline(always)]
+    fn needs_octets<V: Visitor>(&self, visitor: &V) -> bool
+        ensures plain { result ≡ false → is_of_table self.now.filter.table true ≡ false }
+    {
+        !visitor.heeds_kinds_alone() || self.filter.may_be_table()
+    }
+
     /// A part ended at `end`, and with it a value; what it says needn't be told.
     #[inline(always)]
     fn untold_scalar_ended<V: Visitor>(

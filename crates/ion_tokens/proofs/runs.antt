@@ -1,6 +1,8 @@
 -- What runs over octets are: cut anywhere (`Cutting`), octet by octet (`Runs`, `Splits`, `LastOctets`), many at once (`GoesOn`, and whole
 -- tokens in memory, `WholeTokens`), and from one call to the next (`Answered`, `Scans`, `Moved`).
 pub mod Answered
+pub mod Base64Groups
+pub mod BlobsLetGo
 pub mod LobsAtOnce
 pub mod Cutting
 pub mod EndsShown

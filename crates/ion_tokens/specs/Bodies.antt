@@ -37,6 +37,7 @@ content (Body.Mark m) = Mark' m
 content (Body.LetGo TextKind.Short t) = Short t
 content (Body.LetGo TextKind.Long t) = Long t
 content (Body.LetGo TextKind.Clob t) = Clob t
+content (Body.LetGo TextKind.Blob t) = Blob t
 
 abbrev pub every_kind : List Kind
 every_kind = Kind.Null ∷ Kind.Bool ∷ Kind.Int ∷ Kind.Float ∷ Kind.Decimal ∷ Kind.Timestamp ∷ Kind.Symbol

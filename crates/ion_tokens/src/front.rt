@@ -123,7 +123,7 @@ fn keeps_them(mode: Mode) -> bool
 pub fn white(octets: &[u8]) -> usize
     ensures { result ≡ length (take_while is_white octets.now) }
 {
-    if octets.is_empty() || !is_white(octets[0]) {
+    if octets.is_empty() || octets[0] > b' ' || !is_white(octets[0]) {
         return 0;
     }
     if octets.len() > 1 && !is_white(octets[1]) {

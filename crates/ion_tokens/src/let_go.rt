@@ -7,6 +7,7 @@ ghost use Rattle.ion_tokens.specs.machine.Steps.{Ends};
 ghost use Rattle.ion_tokens.specs.machine.LetGo.{behind_gone, begun_gone, goes_on_behind, may_let_go, quotes_kept};
 ghost use Rattle.ion_tokens.specs.machine.Machines.{known, lexeme_in};
 
+use crate::gone_front::GoneFront;
 use crate::machine::{Lexeme, Machine, Taken};
 use crate::mode::{End, Lob, Mode, Place, Style, TokenKind, Within};
 use crate::quoted::is_clob;
@@ -16,10 +17,10 @@ use ion_atoms::{LetGo, Reason, Refusal};
 use std::mem;
 
 /// So few octets aren't let go.
-const FEW: usize = 1024;
+pub const FEW: usize = 1024;
 
 /// From so many octets on, none are let go of a text.
-const MOST: u64 = 1 << 62;
+pub const MOST: u64 = 1 << 62;
 
 // Of which texts the front may be let go.
 fn may_let_go(mode: Mode) -> bool
@@ -29,7 +30,12 @@ fn may_let_go(mode: Mode) -> bool
         Mode::Text(style, _) => !matches!(style, Style::QuotedSymbol),
         Mode::Lob(lob) => matches!(
             lob,
-            Lob::AfterShort | Lob::AfterLong | Lob::AfterQuote | Lob::AfterQuotes | Lob::ClobClose
+            Lob::BlobClose
+                | Lob::AfterShort
+                | Lob::AfterLong
+                | Lob::AfterQuote
+                | Lob::AfterQuotes
+                | Lob::ClobClose
         ),
         _ => false,
     }
@@ -67,6 +73,7 @@ fn body_behind<'p>(kind: TokenKind, gone: LetGo, rest: &[u8]) -> Option<Body<'p>
         TokenKind::ShortString if gone.is_text() => Some(Body::LetGo(TextKind::Short, gone)),
         TokenKind::LongString if gone.is_text() => Some(Body::LetGo(TextKind::Long, gone)),
         TokenKind::Clob => Some(Body::LetGo(TextKind::Clob, gone)),
+        TokenKind::Blob => Some(Body::LetGo(TextKind::Blob, gone)),
         _ => None,
     }
 }
@@ -79,11 +86,11 @@ impl Machine {
         may_let_go(self.mode) && quotes_kept(self.mode) <= self.kept.len()
     }
     // A token ended, of which octets were let go before those that are kept of it.
-    fn given_behind<'p>(
+    pub fn given_behind<'p>(
         &mut self,
         lexeme: Lexeme,
         before: u64,
-        gone: &mut LetGo,
+        gone: &mut GoneFront,
     ) -> Result<Scan<'p>, Refusal>
         requires before { before ≤ self.old.used }
         ensures known { behind_gone gone.new (known self.new) ≡ known self.old }
@@ -99,7 +106,7 @@ impl Machine {
     {
         self.left = false;
         let used = (self.used - before) as usize;
-        let first = mem::replace(gone, LetGo::nothing());
+        let first = gone.take();
         match body_behind(lexeme.kind, first, &self.ended) {
             Some(body) => Ok(Scan {
                 used,
@@ -121,7 +128,7 @@ impl Machine {
     /// let go may be no UTF-8, it answers `Memory`.
     pub fn scan_behind<'p>(
         &mut self,
-        gone: &mut LetGo,
+        gone: &mut GoneFront,
         piece: &'p [u8],
         place: Place,
     ) -> Result<Scan<'p>, Refusal>
@@ -143,6 +150,9 @@ impl Machine {
     {
         if gone.is_nothing() {
             return self.scan(piece, place);
+        }
+        if matches!(self.mode, Mode::Lob(Lob::Base64)) {
+            return self.scan_base64(gone, piece, place);
         }
         let before = self.used;
         let memory = Refusal {
@@ -168,7 +178,7 @@ impl Machine {
     /// What the end of the octets shows, where octets of the open text may have been let go.
     pub fn finish_behind<'p>(
         &mut self,
-        gone: &LetGo,
+        gone: &GoneFront,
         place: Place,
     ) -> Result<Option<Token<'p>>, Refusal>
         ensures ends { Ends self.old.used
@@ -211,13 +221,16 @@ impl Machine {
     }
 
     /// Lets go octets of the open text that are kept, but for the last: what is known stays so with
-    /// those before it. It is some of a kibibyte or more of a string or a clob, unless memory was
-    /// refused for the others.
-    pub fn let_go(&mut self, gone: &mut LetGo)
+    /// those before it. It is some of a kibibyte or more of a string, a clob or a blob, unless memory
+    /// was refused for the others.
+    pub fn let_go(&mut self, gone: &mut GoneFront)
         ensures known { behind_gone gone.new (known self.new) ≡ behind_gone gone.old (known self.old) }
         ensures looked { self.new.looked ≡ self.old.looked }
         ensures left { self.new.left ≡ self.old.left }
     {
+        if matches!(self.mode, Mode::Lob(Lob::Base64)) {
+            return self.let_go_base64(gone);
+        }
         let spare = self.spare();
         if spare == 0 || spare as u64 > MOST || gone.count() >= MOST {
             return;

@@ -5,12 +5,13 @@ ghost use Rattle.ion_tokens.specs.machine.LetGo.{behind_gone};
 ghost use Rattle.ion_tokens.specs.machine.Machines.{known};
 
 use crate::begun::{is_idle, shown};
+use crate::gone_front::GoneFront;
 use crate::machine::{Machine, start_of};
 use crate::mode::{Mode, Place};
 use crate::plain_tokens::Rest;
 use crate::table::next;
 use crate::token::{Begun, Foresight, Scan, Token};
-use ion_atoms::{LetGo, Reason, Refusal};
+use ion_atoms::{Reason, Refusal};
 use std::alloc::Global;
 use std::fmt::{self, Debug, Formatter};
 
@@ -23,7 +24,7 @@ use std::fmt::{self, Debug, Formatter};
 pub struct Scanner {
     machine: Machine,
     /// What was let go of the front of the open text.
-    gone: LetGo,
+    gone: GoneFront,
     /// The refusal that each call answers from now on.
     failed: Option<Refusal>,
     /// Unless a call was refused, what the machine knows goes with the octets that it took up.
@@ -64,7 +65,7 @@ impl Scanner {
     {
         Scanner {
             machine: Machine::new(alloc),
-            gone: LetGo::nothing(),
+            gone: GoneFront::nothing(),
             failed: None,
         }
     }
@@ -171,11 +172,7 @@ impl Scanner {
         ensures goes_on { IfSome result (λ _. failure self.now ≡ None) }
     {
         let machine = &self.machine;
-        if self.failed.is_some()
-            || !matches!(machine.mode, Mode::Blank)
-            || !machine.kept.is_empty()
-            || !self.gone.is_nothing()
-        {
+        if self.failed.is_some() || !matches!(machine.mode, Mode::Blank) {
             return None;
         }
         Some(Rest {
@@ -197,7 +194,9 @@ impl Scanner {
             IsSteady (scanned self.new) (looks self.new) }
         ensures left { left_in self.new ≡ false }
     {
-        self.gone = LetGo::nothing();
+        if !self.gone.is_nothing() {
+            self.gone = GoneFront::nothing();
+        }
         let machine = &mut self.machine;
         machine.left = false;
         machine.looked = machine.looked.saturating_add(rest.used - machine.used);
@@ -317,8 +316,8 @@ impl Scanner {
         }
     }
 
-    /// Lets go octets of the open string or clob, but for the last. Who does so is told no more what
-    /// it says: its token is `Body::LetGo`, and nothing else changes.
+    /// Lets go octets of the open string, clob or blob, but for the last. Who does so is told no more
+    /// what it says: its token is `Body::LetGo`, and nothing else changes.
     pub fn let_go(&mut self)
         ensures scanned { scanned self.new ≡ scanned self.old }
         ensures failure { failure self.new ≡ failure self.old }

@@ -32,7 +32,7 @@ pub enum Body<'p> {
     Clob(Bytes),
     Blob(Bytes),
     Mark(Mark),
-    /// A text of which octets were let go, so that nobody can be told what it says.
+    /// A text or a blob of which octets were let go, so that nobody can be told what it says.
     LetGo(TextKind, LetGo),
 }
 
@@ -44,6 +44,8 @@ pub enum TextKind {
     /// One segment of a long string.
     Long,
     Clob,
+    /// What the base64 of a blob stands for.
+    Blob,
 }
 
 /// What a step used of its piece, and the token that it gave.

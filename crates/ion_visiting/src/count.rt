@@ -5,6 +5,7 @@ ghost use Rattle.ion_visiting.specs.Names.{no_values};
 use crate::bracket::Bracket;
 use crate::part::Part;
 use crate::visitor::Visitor;
+use ion_model::Kind;
 use ion_scalar::Number;
 
 /// How many values of the top level ended; nothing is made of them, and no memory is taken.
@@ -40,12 +41,17 @@ impl Visitor for Count {
     }
 
     #[inline(always)]
-    fn heeds_no_field(&self) -> bool {
+    fn heeds_kinds_alone(&self) -> bool {
         true
     }
 
     #[inline(always)]
     fn any_part(&mut self) -> bool {
+        true
+    }
+
+    #[inline(always)]
+    fn of_kind(&mut self, _kind: Kind) -> bool {
         true
     }
 

@@ -114,8 +114,8 @@ impl Visitor for Outlining {
     }
 
     #[inline(always)]
-    fn heeds_no_field(&self) -> bool {
-        self.level > 0
+    fn heeds_kinds_alone(&self) -> bool {
+        true
     }
 
     #[inline(always)]
@@ -124,6 +124,12 @@ impl Visitor for Outlining {
             return false;
         }
         self.count();
+        true
+    }
+
+    #[inline(always)]
+    fn of_kind(&mut self, kind: Kind) -> bool {
+        self.count_value(kind);
         true
     }
 

@@ -2,11 +2,14 @@
 ghost use Rattle.std.specs.Prelude.{◌≡◌, true, None, option_map};
 ghost use Rattle.ion_model.specs.declared.value.Payload.{Payload};
 ghost use Rattle.ion_model.specs.declared.value.Payload.TheVariants as payloads;
+ghost use Rattle.ion_model.specs.declared.value.Payload.TheViews.{out-Payload};
+ghost use Rattle.ion_model.specs.Kinds.{layer_kind};
 ghost use Rattle.ion_visiting.specs.Events.{Event, part, annotation, name, opens, closes, ended};
 ghost use Rattle.ion_visiting.specs.Parts.{number_payload, payload_of};
 
 use crate::bracket::Bracket;
 use crate::part::Part;
+use ion_model::Kind;
 use ion_scalar::Number;
 
 /// What is told values, event by event, symbols by their texts or as unknown. Whoever tells holds
@@ -24,15 +27,23 @@ pub trait Visitor {
         false
     }
 
-    /// Whether it heeds nothing of what parts say until a container closes, whatever fields are
-    /// named there: then octets of a long one may be let go before its field's name is told.
-    fn heeds_no_field(&self) -> bool {
+    /// Whether it heeds of no part more than its kind, whatever is told before it: then octets of a
+    /// long one may be let go, also before its field's name is told, and it is told by `of_kind`.
+    fn heeds_kinds_alone(&self) -> bool {
         false
     }
 
     /// A part, whatever it says. Only where `heeds_nothing`.
     fn any_part(&mut self) -> bool
         ensures { result ≡ true → (payload : Payload) → takes self.old (part payload) self.new }
+    {
+        false
+    }
+
+    /// A part of this kind, whatever it says. Only where `heeds_kinds_alone`.
+    fn of_kind(&mut self, kind: Kind) -> bool
+        ensures { result ≡ true → (payload : Payload) →
+            layer_kind (out-Payload payload) ≡ kind → takes self.old (part payload) self.new }
     {
         false
     }

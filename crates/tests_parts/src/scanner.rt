@@ -119,14 +119,16 @@ fn told_let_go(token: &Option<Token>) -> Option<(TextKind, u64)> {
     }
 }
 
-/// The same of one that opens and closes so, and means 6,000 octets, half of which were let go.
-fn let_go(alloc: Global, opens: &[u8], close: &[u8]) -> Option<(TextKind, u64)> {
+/// The same of one that opens and closes so, with 6,000 octets between, half of which were let go; or
+/// where and why its close is refused.
+fn let_go(alloc: Global, opens: &[u8], close: &[u8]) -> Option<Result<(TextKind, u64), Refusal>> {
     let octets = [b'a'; 3000];
     let mut scanner = Scanner::new(alloc);
     used(&mut scanner, opens)?.ok()?;
     used(&mut scanner, &octets)?.ok()?;
     scanner.let_go();
     used(&mut scanner, &octets)?.ok()?;
+    scanner.let_go();
     if scanner.used() > 1 << 40 || close.len() > 1 << 40 {
         return None;
     }
@@ -134,9 +136,9 @@ fn let_go(alloc: Global, opens: &[u8], close: &[u8]) -> Option<(TextKind, u64)> 
         Ok(scan) => {
             let told = told_let_go(&scan.token);
             drop(scan);
-            told
+            Some(Ok(told?))
         }
-        Err(_) => None,
+        Err(refusal) => Some(Err(refusal)),
     }
 }
 
@@ -145,11 +147,35 @@ fn let_go(alloc: Global, opens: &[u8], close: &[u8]) -> Option<(TextKind, u64)> 
 fn texts_let_go(rt: HostRuntime) {
     let alloc = rt.alloc();
     let short = let_go(alloc, b"\"", b"\"");
-    same(&rt, "short", short, Some((TextKind::Short, 6000)));
+    same(&rt, "short", short, Some(Ok((TextKind::Short, 6000))));
     let long = let_go(alloc, b"'''", b"'''");
-    same(&rt, "long", long, Some((TextKind::Long, 6000)));
+    same(&rt, "long", long, Some(Ok((TextKind::Long, 6000))));
     let clob = let_go(alloc, b"{{\"", b"\"}}");
-    same(&rt, "clob", clob, Some((TextKind::Clob, 6000)));
+    same(&rt, "clob", clob, Some(Ok((TextKind::Clob, 6000))));
+}
+
+/// Where and why a blob is refused of which octets were let go.
+fn bad_blob(offset: u64, reason: Reason) -> Option<Result<(TextKind, u64), Refusal>> {
+    Some(Err(Refusal { offset, reason }))
+}
+
+/// A blob that was let go is told with how many octets its base64 stands for, and is refused where
+/// it would be otherwise. Behind white space the groups stand elsewhere.
+#[test]
+fn blobs_let_go(rt: HostRuntime) {
+    let alloc = rt.alloc();
+    let whole = let_go(alloc, b"{{", b"}}");
+    same(&rt, "whole", whole, Some(Ok((TextKind::Blob, 4500))));
+    let begun = let_go(alloc, b"{{ AB\n", b"CD AA==}}");
+    same(&rt, "padded", begun, Some(Ok((TextKind::Blob, 4504))));
+    let close = bad_blob(6011, Reason::Unexpected);
+    same(&rt, "one brace", let_go(alloc, b"{{ AB ", b"AA } "), close);
+    let length = bad_blob(6004, Reason::BadBase64);
+    same(&rt, "wrong length", let_go(alloc, b"{{", b"A}}"), length);
+    let octet = bad_blob(6004, Reason::BadBase64);
+    same(&rt, "no base64", let_go(alloc, b"{{", b"A.}}"), octet);
+    let early = bad_blob(6007, Reason::BadBase64);
+    same(&rt, "padded early", let_go(alloc, b"{{AA==", b"}}"), early);
 }
 
 /// What two steps of a token with a bad escape use, and what the end refuses.

@@ -250,20 +250,14 @@ impl BinaryWalk<'_> {
         })
     }
 
-    /// Whether the visitor heeds nothing of the scalar that is open, of which it may not know yet in
-    /// which field it stands.
-    fn is_unheeded<V: Visitor>(&self, visitor: &V) -> bool {
-        visitor.heeds_nothing() && (visitor.heeds_no_field() || !self.is_named())
-    }
-
     /// Behind a piece of so many octets: lets go of the front of a long string, clob or blob that
-    /// is open, if the visitor heeds nothing of it and it is in no local symbol table.
+    /// is open, if the visitor heeds its kind alone and it is in no local symbol table.
     #[inline(never)]
     fn let_go<V: Visitor>(&mut self, came: usize, visitor: &V)
         ensures { self.new ≡ self.old }
     {
         if let Phase::InBody(scalar, _) = self.phase {
-            if self.is_unheeded(visitor) && !self.filter.may_be_table() {
+            if visitor.heeds_kinds_alone() && !self.filter.may_be_table() {
                 self.body.let_go_front(scalar, came);
             }
         }

@@ -174,7 +174,7 @@ impl OpenBody {
 }
 
 /// Tells the scalar that a body is, as `tell_scalar` does. Of one whose front was let go it is told
-/// that it is one, and `Memory` answers a visitor that heeds which.
+/// its kind, and `Memory` answers a visitor that heeds more.
 pub(super) fn tell_body<V: Visitor>(
     context: &Context,
     scalar: Scalar,
@@ -206,8 +206,8 @@ fn tell_unread<V: Visitor>(
         judge context.now scalar body.now ≡ Err reason) }
 {
     body.judge_unread(scalar)?;
-    if visitor.heeds_nothing() && filter.lets_pass() {
-        return heard(visitor.any_part());
+    if visitor.heeds_kinds_alone() && filter.lets_pass() {
+        return heard(visitor.of_kind(scalar.kind()));
     }
     Err(Reason::Memory)
 }

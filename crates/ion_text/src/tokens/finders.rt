@@ -9,8 +9,8 @@ use crate::words::{is_keyword, may_be_keyword};
 use ion_model::Kind;
 use ion_scalar::{Number, ShortNumber, number_of, short_number_of};
 use ion_tokens::{
-    Body, FoundToken, Place, TokenKind, number, operator, quoted_symbol, short_string, typed_null,
-    word,
+    Body, FoundToken, Place, TokenKind, number, operator, plain_numeral, quoted_symbol,
+    short_string, typed_null, word,
 };
 use ion_visiting::Part;
 
@@ -150,10 +150,7 @@ pub(crate) fn short_number_at(octets: &[u8]) -> Option<(FoundToken, ShortNumber)
     ensures left { IfSome result (λ found. found.0.left ≡ true) }
     ensures within { IfSome result (λ found. found.0.count < length octets.now) }
 {
-    let count = number(octets)?;
-    if count >= octets.len() {
-        return None;
-    }
+    let count = plain_numeral(octets)?;
     let short = short_number_of(&octets[..count])?;
     let token = FoundToken {
         kind: TokenKind::Number,

@@ -283,8 +283,8 @@ impl TextWalk<'_> {
     /// It does what `Items::walk` promises. A refusal names the octet that decides, counted from the
     /// document's first, and comes again with each call. `Memory` comes where memory was refused, or
     /// where the visitor can't go on: also where it heeds a text whose front was let go, since the
-    /// visitor of an earlier call heeded nothing. An octet that shows the end of a value without being part of
-    /// it isn't used, and begins the next piece.
+    /// visitor of an earlier call heeded kinds alone. An octet that shows the end of a value without
+    /// being part of it isn't used, and begins the next piece.
     #[inline(always)]
     pub fn walk<V: Visitor>(&mut self, piece: &[u8], visitor: &mut V) -> Result<Walked, Refusal>
         requires room { IsNone (failed self.old) →

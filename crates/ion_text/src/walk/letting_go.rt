@@ -1,4 +1,4 @@
-//! Texts that nobody asks for aren't held.
+//! Texts and blobs that nobody asks for aren't held.
 ghost use Rattle.std.specs.Prelude.{◌≡◌, ℕ, List};
 ghost use Rattle.ion_text.specs.Names.{Event, Told, Value as AnyValue, failed, octets_used, pending};
 ghost use Rattle.ion_text.specs.walk.Advances.{SameSettings};
@@ -9,8 +9,8 @@ use ion_tokens::Place;
 use ion_visiting::Visitor;
 
 impl TextWalk<'_> {
-    /// Lets go octets of the open string or clob, if the visitor heeds nothing of it. What it stands
-    /// for stays the same.
+    /// Lets go octets of the open string, clob or blob, if the visitor heeds its kind alone. What it
+    /// stands for stays the same.
     pub(super) fn let_go<V: Visitor>(&mut self, visitor: &V)
         ensures used { octets_used self.new ≡ octets_used self.old }
         ensures pending { pending self.new ≡ pending self.old }
@@ -20,7 +20,7 @@ impl TextWalk<'_> {
             Told self.old u s es → Told self.new u s es }
         ensures setting { SameSettings self.old self.new }
     {
-        if self.needs_telling(visitor) {
+        if self.needs_octets(visitor) {
             return;
         }
         match self.place() {

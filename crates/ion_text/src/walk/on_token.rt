@@ -1,6 +1,6 @@
 //! What each token does (Ion 1.0, "Ion Text Encoding").
 ghost use Rattle.std.specs.Prelude.{◌≡◌, [], ◌∷◌, ◌++◌, List, Some, None};
-ghost use Rattle.ion_text.specs.Names.{Does, DoesAlone, Frame, Holds, Mark', Payload, SameSetting, Symbols, Word, annotated, at, ended, goes, keyed, late, layer_events, on_after, on_keyed, on_long, on_long_name, on_name, on_pending, on_ready, out-Payload, part, reading_of, setting_of, spot_of, told, turn};
+ghost use Rattle.ion_text.specs.Names.{Does, DoesAlone, Frame, Holds, Mark', Payload, SameSetting, Symbols, Word, annotated, at, ended, goes, keyed, late, layer_events, layer_kind, on_after, on_keyed, on_long, on_long_name, on_name, on_pending, on_ready, out-Payload, part, reading_of, setting_of, spot_of, told, turn};
 ghost use Rattle.ion_atoms.specs.declared.refusal.Reason.TheVariants as reasons;
 ghost use Rattle.ion_tokens.specs.Bodies.{content};
 ghost use Rattle.ion_text.specs.declared.state.Stage.TheVariants as stages;
@@ -13,7 +13,7 @@ use crate::state::{Effect, Held, Stage};
 use crate::tokens::long_strings::joined;
 use crate::words::{held_word, is_keyword};
 use ion_atoms::LetGo;
-use ion_model::{Reason, Symbol, Text};
+use ion_model::{Kind, Reason, Symbol, Text};
 use ion_tokens::{Body, Mark, TextKind, Token};
 use ion_visiting::{Bracket, Part, Visitor};
 
@@ -98,7 +98,7 @@ impl TextWalk<'_> {
         Ok(Effect::Goes)
     }
 
-    /// A text there of which octets were let go.
+    /// A text or a blob there of which octets were let go.
     fn on_let_go<V: Visitor>(
         &mut self,
         kind: TextKind,
@@ -116,21 +116,23 @@ impl TextWalk<'_> {
     {
         match kind {
             TextKind::Long => self.wait_long(LongText::gone(self.alloc, gone), end),
-            TextKind::Short => self.let_go_ended(end, visitor),
-            TextKind::Clob => self.let_go_ended(end, visitor),
+            TextKind::Short => self.let_go_ended(Kind::Str, end, visitor),
+            TextKind::Clob => self.let_go_ended(Kind::Clob, end, visitor),
+            TextKind::Blob => self.let_go_ended(Kind::Blob, end, visitor),
         }
     }
 
-    /// A text of which octets were let go is a whole value with the annotations before it, and ended
-    /// at `end`. A visitor that heeds what it says can't go on.
+    /// A text or a blob, of this kind, of which octets were let go, is a whole value with the
+    /// annotations before it, and ended at `end`. A visitor that heeds what it says can't go on.
     #[inline(never)]
     pub(super) fn let_go_ended<V: Visitor>(
         &mut self,
+        kind: Kind,
         end: u64,
         visitor: &mut V,
     ) -> Result<Effect, Reason>
         requires { self.old.stage ≡ stages.Ready }
-        ensures does { (payload : Payload) →
+        ensures does { (payload : Payload) → layer_kind (out-Payload payload) ≡ kind →
             layer_events (out-Payload payload) ≡ part payload ∷ [] →
             (fs : List Frame) (ss : Symbols) → Holds self.old fs ss →
             Does V.takes (told fs ss)
@@ -138,10 +140,12 @@ impl TextWalk<'_> {
             result self.new visitor.old visitor.new }
         ensures setting { SameSetting self.old self.new }
     {
-        if self.needs_telling(visitor) {
+        if self.needs_octets(visitor) {
             return Err(Reason::Memory);
         }
-        self.untold_scalar_ended(end, visitor)
+        heard(visitor.of_kind(kind))?;
+        let _passes = self.filter.lets_pass();
+        self.ended(end)
     }
 
     /// A mark there. A close is unexpected behind an annotation.

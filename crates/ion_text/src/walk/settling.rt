@@ -8,7 +8,7 @@ ghost use Rattle.ion_text.specs.declared.state.Stage.TheVariants as stages;
 use super::TextWalk;
 use crate::long_text::LongText;
 use crate::state::{Effect, Held, Stage};
-use ion_model::{Reason, Symbol, Text};
+use ion_model::{Kind, Reason, Symbol, Text};
 use ion_visiting::{Part, Visitor};
 
 impl TextWalk<'_> {
@@ -48,7 +48,7 @@ impl TextWalk<'_> {
     {
         match text.as_str() {
             Some(said) => self.whole(&Part::Str(said), end, visitor),
-            None => self.let_go_ended(end, visitor),
+            None => self.let_go_ended(Kind::Str, end, visitor),
         }
     }
 

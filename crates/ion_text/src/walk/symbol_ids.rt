@@ -69,7 +69,7 @@ fn id_at(octets: &[u8]) -> Option<(FoundToken, u64)>
 
 impl TextWalk<'_> {
     /// A word that begins with `$`: a symbol's id, or a symbol.
-    #[inline(never)]
+    #[inline(always)]
     pub(super) fn read_dollar<V: Visitor>(
         &mut self,
         here: Place,
@@ -159,7 +159,7 @@ impl TextWalk<'_> {
     }
 
     /// A field's name that begins with `$`, with its colon.
-    #[inline(never)]
+    #[inline(always)]
     pub(super) fn read_dollar_name<V: Visitor>(
         &mut self,
         rest: &mut Rest,

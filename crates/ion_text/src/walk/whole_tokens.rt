@@ -190,9 +190,98 @@ impl TextWalk<'_> {
         }
     }
 
-    /// A blank, and the token behind it.
+    /// A comma, the name of a field and a value, as far as they come there, or a close, with the
+    /// blanks before them.
     #[inline(always)]
     fn read_next<V: Visitor>(
+        &mut self,
+        rest: &mut Rest,
+        octets: &[u8],
+        visitor: &mut V,
+    ) -> Result<Taken, Reason>
+        requires room { rest.old.used + length octets.now < 2 ^ 63 }
+        ensures { EndsBy V.takes self.old self.new rest.old rest.new octets.now result
+            visitor.old visitor.new }
+    {
+        let first = rest.used;
+        match self.go_past_comma(rest, octets, visitor)? {
+            Taken::Uses => {}
+            taken => return Ok(taken),
+        }
+        let count = (rest.used - first) as usize;
+        self.read_behind_comma(rest, &octets[count..], visitor)
+    }
+
+    /// The same without a comma.
+    #[inline(always)]
+    fn read_behind_comma<V: Visitor>(
+        &mut self,
+        rest: &mut Rest,
+        octets: &[u8],
+        visitor: &mut V,
+    ) -> Result<Taken, Reason>
+        requires room { rest.old.used + length octets.now < 2 ^ 63 }
+        ensures { EndsBy V.takes self.old self.new rest.old rest.new octets.now result
+            visitor.old visitor.new }
+    {
+        let first = rest.used;
+        match self.go_past_name(rest, octets, visitor)? {
+            Taken::Uses => {}
+            taken => return Ok(taken),
+        }
+        let count = (rest.used - first) as usize;
+        self.read_there(rest, &octets[count..], visitor)
+    }
+
+    /// Goes past a comma behind a value, with the blank before it, if it comes next.
+    #[inline(always)]
+    fn go_past_comma<V: Visitor>(
+        &mut self,
+        rest: &mut Rest,
+        octets: &[u8],
+        visitor: &V,
+    ) -> Result<Taken, Reason>
+        requires room { rest.old.used + length octets.now < 2 ^ 63 }
+        ensures { EndsBy V.takes self.old self.new rest.old rest.new octets.now result
+            visitor.now visitor.now }
+    {
+        if !matches!(self.stage, Stage::After) {
+            return Ok(Taken::Uses);
+        }
+        let blank = blanks(octets);
+        if octets.len() - blank < 2 || octets[blank] != b',' {
+            return Ok(Taken::Uses);
+        }
+        go_past_blank(rest, blank);
+        self.read_comma(rest, &octets[blank..], visitor)
+    }
+
+    /// Goes past the name of a field with its colon, and the blank before it, if it comes next.
+    #[inline(always)]
+    fn go_past_name<V: Visitor>(
+        &mut self,
+        rest: &mut Rest,
+        octets: &[u8],
+        visitor: &mut V,
+    ) -> Result<Taken, Reason>
+        requires room { rest.old.used + length octets.now < 2 ^ 63 }
+        ensures { EndsBy V.takes self.old self.new rest.old rest.new octets.now result
+            visitor.old visitor.new }
+    {
+        if !matches!(self.stage, Stage::Name) {
+            return Ok(Taken::Uses);
+        }
+        let blank = blanks(octets);
+        if octets.len() - blank < 2 {
+            return Ok(Taken::Uses);
+        }
+        go_past_blank(rest, blank);
+        self.read_name(rest, &octets[blank..], visitor)
+    }
+
+    /// A blank, and the token behind it.
+    #[inline(always)]
+    fn read_there<V: Visitor>(
         &mut self,
         rest: &mut Rest,
         octets: &[u8],
@@ -231,28 +320,10 @@ impl TextWalk<'_> {
         }
         match &self.stage {
             Stage::Ready => self.read_value(rest, octets, visitor),
-            Stage::Name => self.read_field(rest, octets, visitor),
-            Stage::After => self.read_after(rest, octets, visitor),
+            Stage::Name => self.read_instead_of_name(rest, octets, visitor),
+            Stage::After => self.read_close(rest, octets, visitor),
             _ => Ok(Taken::Uses),
         }
-    }
-
-    /// A comma or a close, behind a value.
-    #[inline(always)]
-    fn read_after<V: Visitor>(
-        &mut self,
-        rest: &mut Rest,
-        octets: &[u8],
-        visitor: &mut V,
-    ) -> Result<Taken, Reason>
-        requires { Takes stages.After self.old rest.old octets.now }
-        ensures { EndsBy V.takes self.old self.new rest.old rest.new octets.now result
-            visitor.old visitor.new }
-    {
-        if octets[0] == b',' {
-            return self.read_comma(rest, octets, visitor);
-        }
-        self.read_close(rest, octets, visitor)
     }
 
     /// A comma, of which a visitor hears nothing.
@@ -321,9 +392,30 @@ impl TextWalk<'_> {
         }
     }
 
-    /// The name of a field with its colon, or the close of a struct.
+    /// The name of a field with its colon, if it is plain.
     #[inline(always)]
-    fn read_field<V: Visitor>(
+    fn read_name<V: Visitor>(
+        &mut self,
+        rest: &mut Rest,
+        octets: &[u8],
+        visitor: &mut V,
+    ) -> Result<Taken, Reason>
+        requires { Takes stages.Name self.old rest.old octets.now }
+        ensures { EndsBy V.takes self.old self.new rest.old rest.new octets.now result
+            visitor.old visitor.new }
+    {
+        if octets[0] == b'$' {
+            return self.read_dollar_name(rest, octets, visitor);
+        }
+        match plain_name(octets) {
+            Some((token, text)) => self.read_key(token, text, rest, octets, visitor),
+            None => Ok(Taken::Uses),
+        }
+    }
+
+    /// The close of a struct, or a name of a field that isn't plain.
+    #[inline(always)]
+    fn read_instead_of_name<V: Visitor>(
         &mut self,
         rest: &mut Rest,
         octets: &[u8],
@@ -336,14 +428,10 @@ impl TextWalk<'_> {
         if octets[0] == b'}' {
             return self.read_close(rest, octets, visitor);
         }
-        if octets[0] == b'$' {
-            return self.read_dollar_name(rest, octets, visitor);
+        if may_be_unusual(octets) {
+            return self.read_unusual_name(rest, octets, visitor);
         }
-        match plain_name(octets) {
-            Some((token, text)) => self.read_key(token, text, rest, octets, visitor),
-            None if may_be_unusual(octets) => self.read_unusual_name(rest, octets, visitor),
-            None => Ok(Taken::Uses),
-        }
+        Ok(Taken::Uses)
     }
 
     /// This name of a field, with the blank behind it and its colon.

@@ -1,11 +1,11 @@
 -- Octets behind a text whose front was let go: what comes of them is what comes without it, which stands before what is kept.
-use Rattle.std.proofs.Common.{◌≡◌, ◌≤◌, ◌<◌, ◌^◌, ℕ, ◌+◌, ◌-◌, Bool, true, false, refl, sym, ap, ◌∙◌, subst, List, [], ◌∷◌, ◌++◌, length, take, arith, append_assoc, cond}
-use Rattle.std.specs.Prelude.{◌&&◌, nat_le, encode_utf8}
+use Rattle.std.proofs.Common.{◌≡◌, ◌≤◌, ℕ, ◌+◌, ◌-◌, Bool, true, false, refl, sym, ap, ◌∙◌, List, [], ◌∷◌, ◌++◌, length, take, arith, append_assoc, cond, IfOk, IfErr}
+use Rattle.std.specs.Prelude.{◌&&◌, nat_le, encode_utf8, Result, Ok, Err}
 use Rattle.std.proofs.lemmas.Bool.{and_parts}
 use Rattle.std.proofs.lemmas.Bool.Decides.{nat_tests}
-use Rattle.std.proofs.lemmas.List.{length-append, nil_from_length}
+use Rattle.std.proofs.lemmas.List.{length-append}
 use Rattle.std.proofs.Math.Seq.{take-append-add}
-use Rattle.ion_tokens.specs.Names.{Action, Given, IsSteady, Keep, Known, Left, Mode, Next, Outcome, Place, Refused, acts, cut, feed, follow, go_to, gone_on, keeps_them, kept_after, past, run}
+use Rattle.ion_tokens.specs.Names.{Action, Answers, Given, GivesToken, Keep, Known, Left, Lexeme, Memory, Mode, Next, Outcome, Place, Refusal, Refused, Scan, acts, answered, cut, feed, follow, go_to, gone_on, keeps_them, kept_after, past, run}
 use Rattle.ion_tokens.specs.laws.ByRows.{by_rows_where}
 use Rattle.ion_tokens.specs.machine.LetGo.{behind_gone, goes_on_behind, may_let_go, outcome_behind, quotes_kept}
 use Rattle.ion_tokens.specs.machine.Table.{next}
@@ -103,6 +103,13 @@ run_alike p gone (o ∷ os) s h =
     (acts_alike p gone s o (quotes_kept s.mode) (next p s.colon s.mode o) many alike)
     (acts_last p s o (quotes_kept s.mode) (next p s.colon s.mode o) many alike)
     (λ t l. run_alike p gone os t l)
+
+-- A token that octets gave was answered so, if it is judged with what was let go, or memory ran out.
+pub given_answered : (l : Lexeme) (t now : Known) (before : ℕ) (left : Bool) → left ≡ false → now ≡ t → (r : Result Scan Refusal)
+    → IfOk r (λ scan. GivesToken l scan.token × (t.used ≡ before + scan.used)) → IfErr r (λ refusal. (refusal.reason ≡ Memory) × (refusal.offset ≡ before))
+    → Answers before (Given l t) (answered r left) now
+given_answered l t now before left f same (Ok scan) g m = (record { known = same; counted = ap (λ (t : Known). t.used) same ∙ g.1 }, g.0, f)
+given_answered l t now before left f same (Err r) g m = λ other. absurd (other m.0)
 
 -- Octets with which the mode goes on lead so, too.
 pub gone_on_behind : (gone : List ℕ) (s t : Known) (w : List ℕ) → t ≡ gone_on s w → behind_gone gone t ≡ gone_on (behind_gone gone s) w

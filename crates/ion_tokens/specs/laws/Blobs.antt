@@ -77,7 +77,7 @@ base64_each octets h = each_append is_base64 (encode_symbols alphabet octets) (r
 
 -- 3. What decodes.
 
-none_of_both : (x y : Option DecodeError) → or_else x y ≡ None → (x ≡ None) × (y ≡ None)
+pub none_of_both : (x y : Option DecodeError) → or_else x y ≡ None → (x ≡ None) × (y ≡ None)
 none_of_both None y h = (refl, h)
 none_of_both (Some e) y h = cc
 

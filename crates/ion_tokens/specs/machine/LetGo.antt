@@ -1,6 +1,8 @@
 -- A text whose front was let go: what comes of octets behind it is what comes without the front, which stands before what is kept.
-use Rattle.std.specs.Prelude.{ℕ, Bool, true, false, ◌&&◌, nat_le, List, ◌++◌, length}
+use Rattle.std.specs.Prelude.{◌≡◌, ℕ, ◌<◌, ◌≤◌, Bool, true, false, ◌&&◌, nat_le, List, ◌++◌, length}
+use Rattle.std.specs.Io.KnownBytes.{prepend_known}
 use Rattle.ion_tokens.specs.Names.Below.{Lob, Mode, Style, Within}
+use Rattle.ion_tokens.specs.Blobs.{blob_of}
 use Rattle.ion_tokens.specs.Lexemes.{Lexeme}
 use Rattle.ion_tokens.specs.machine.Scanning.{Given, Known, Left, Next, Outcome, Refused}
 
@@ -24,8 +26,9 @@ abbrev pub may_lose : Style → Bool
 may_lose Style.QuotedSymbol = false
 may_lose _ = true
 
--- behind the text of a clob, too
+-- behind the text of a clob, too, and of the octets of a blob, once its base64 ended
 abbrev pub is_behind_text : Lob → Bool
+is_behind_text Lob.BlobClose = true
 is_behind_text Lob.AfterShort = true
 is_behind_text Lob.AfterLong = true
 is_behind_text Lob.AfterQuote = true
@@ -47,3 +50,28 @@ quotes_kept _ = 0
 -- a text goes on whose front may be let go, and not with quotes of its close
 abbrev pub goes_on_behind : Mode → List ℕ → Bool
 goes_on_behind m kept = may_let_go m && nat_le (quotes_kept m) (length kept)
+
+-- Base64 at the front of a text stands for these octets: whatever follows, the text decodes to them and to what the rest decodes to.
+unfoldable pub StandsFor : List ℕ → List ℕ → Type 0
+StandsFor gone octets = (rest : List ℕ) → 0 < length rest → blob_of (gone ++ rest) ≡ prepend_known octets (blob_of rest)
+
+-- it stands for some
+abbrev pub Decodes : List ℕ → Type 0
+Decodes gone = (octets : List ℕ) × StandsFor gone octets
+
+-- what was let go of the front of a text, with octets for which it stands if it is base64
+pub record IsFront (gone octets : List ℕ) (is_base64 : Bool) : Type 0 where
+  pub fewer : length octets ≤ length gone
+  pub stands : is_base64 ≡ true → StandsFor gone octets
+
+-- before what is kept stands the base64 that was let go of a blob, and behind its end what that stands for
+abbrev pub front_in : Mode → List ℕ → List ℕ → List ℕ
+front_in (Mode.Lob Lob.Base64) gone octets = gone
+front_in _ gone octets = octets
+
+-- what comes where base64 was let go, with what stands before what is kept
+abbrev pub outcome_decoded : List ℕ → List ℕ → Outcome → Outcome
+outcome_decoded gone octets (Next s) = Next (behind_gone (front_in s.mode gone octets) s)
+outcome_decoded gone octets (Given l s) = Given (begun_gone octets l) s
+outcome_decoded gone octets (Left l s) = Left (begun_gone octets l) s
+outcome_decoded gone octets (Refused at reason) = Refused at reason

@@ -8,4 +8,4 @@ pub returns-clause-found : goal.returns-clause-found
 returns-clause-found c = λ x parts here rest value.
     let kept = take c.in_ok-count.count c.args.octets.now in
     let same = one_answer kept (Ok x) (number_read kept) (c.in_ok-short.ensures x parts) (number_reads kept) in
-    record { kept = kept; found = c.in_ok-count.ensures here rest value; says = number_says kept x same }
+    record { kept = kept; found = c.in_ok-count.ensures.found here rest value; says = number_says kept x same }

@@ -1,11 +1,11 @@
-use Rattle.std.proofs.Common.{◌≡◌, ℕ, ◌+◌, length, subst, refl, sym, ap, ◌∙◌, arith, IfOk, IfErr}
-use Rattle.std.specs.Prelude.{Bool, Result, Ok, Err, None, false}
-use Rattle.ion_tokens.specs.Names.{Answers, GivesToken, Given, Lexeme, Known, Memory, Outcome, Refusal, Scan, answered}
+use Rattle.std.proofs.Common.{length, subst, refl, sym, ap, ◌∙◌, arith}
+use Rattle.std.specs.Prelude.{Ok, Err, None, false}
+use Rattle.ion_tokens.specs.Names.{Answers, Outcome, answered}
 use Rattle.ion_tokens.specs.machine.LetGo.{behind_gone, begun_gone, outcome_behind}
 use Rattle.ion_tokens.specs.machine.Machines.{known, lexeme_in}
 use Rattle.ion_tokens.proofs.bounds.Causes.{refused_fair}
 use Rattle.ion_tokens.proofs.runs.GoesOn.{steady_from}
-use Rattle.ion_tokens.proofs.runs.LetGo.{run_alike}
+use Rattle.ion_tokens.proofs.runs.LetGo.{given_answered, run_alike}
 use Rattle.ion_tokens.proofs.runs.Runs.{given_used, next_used}
 use Rattle.ion_tokens.proofs.machine.Machine.scan_behind.Goals as goal
 
@@ -54,15 +54,9 @@ returns-in-Ok-Given-clause-answers c =
     subst (λ (x : Outcome). Answers c.args.self.now.used x (answered c.given_behind.result c.given_behind.new.self.left)
     (behind_gone c.given_behind.new.gone (known c.given_behind.new.self)))
     (sym alike)
-    (by (begun_gone gone (lexeme_in c.in-Ok-Given.lexeme c.run.new.self)) (known c.run.new.self) (behind_gone c.given_behind.new.gone (known c.given_behind.new.self))
-    c.args.self.now.used c.given_behind.new.self.left g.left g.known c.given_behind.result g.token g.memory)
-  where
-    by : (l : Lexeme) (t now : Known) (before : ℕ) (left : Bool) → left ≡ false → now ≡ t → (r : Result Scan Refusal)
-        → IfOk r (λ scan. GivesToken l scan.token × (t.used ≡ before + scan.used))
-        → IfErr r (λ refusal. (refusal.reason ≡ Memory) × (refusal.offset ≡ before))
-        → Answers before (Given l t) (answered r left) now
-    by l t now before left f same (Ok scan) g m = (record { known = same; counted = ap (λ (t : Known). t.used) same ∙ g.1 }, g.0, f)
-    by l t now before left f same (Err r) g m = λ other. absurd (other m.0)
+    (given_answered (begun_gone gone (lexeme_in c.in-Ok-Given.lexeme c.run.new.self)) (known c.run.new.self)
+    (behind_gone c.given_behind.new.gone (known c.given_behind.new.self)) c.args.self.now.used c.given_behind.new.self.left g.left g.known
+    c.given_behind.result g.token g.memory)
 
 pub returns-in-Ok-Given-clause-lends : goal.returns-in-Ok-Given-clause-lends
 returns-in-Ok-Given-clause-lends c = c.given_behind.ensures.lends c.args.piece.now
