@@ -7,12 +7,17 @@ use Rattle.std.specs.Option.{is_some}
 use Rattle.ion_text.specs.Names.{Advances, Catalog, DidTake, Event, Frame, Holds, LeavesBehind, LedLeaving, Limits, Memory, Reached, Reason, Refusal, Run, State, Strides, Symbols, Taken, TextWalk, TookFront, TookSo, Value, WentOn, count_of, eats, heard, leaves, led, place, reading_of, resumed, run, run_on, scanned, state_of, told}
 use Rattle.ion_tokens.specs.laws.Again.{blank_uses}
 use Rattle.ion_visiting.specs.laws.Filters.{hears_none}
-use Rattle.ion_text.specs.walk.Advances.{AdvancesBy, gone, with_count}
+use Rattle.ion_text.specs.walk.Advances.{AdvancesBy, gone, with_count, with_offset}
 use Rattle.ion_text.specs.laws.reading.complete.Fuel.{NotLeaves, eats_stays}
 use Rattle.ion_text.proofs.PieceEnds.{LeadsFromStart, leads_by, leads_to_end, leads_to_given, leads_to_left, leads_to_refused, leads_to_second}
 use Rattle.ion_text.proofs.PieceFronts.{front_of, octet_of, refused_of, size}
 use Rattle.ion_text.proofs.Striding.{still_settles}
 use Rattle.ion_text.proofs.Taking.{gave_behind, went_behind}
+
+-- what holds of an answer holds of it with the offset of a refusal
+pub with_offset_if : (P : Taken → Type 0) (offset : ℕ) (answer : Result Taken Reason) → IfOk answer P → IfOk (with_offset offset answer) P
+with_offset_if P offset (Ok taken) holds = holds
+with_offset_if P offset (Err reason) holds = holds
 
 -- 1. One way.
 

@@ -1,7 +1,7 @@
 //! Octets with their descriptor and length in front, and the values that hold no others (Ion 1.0,
 //! "Ion Binary Encoding"). Each function appends to `out`, and its only fault is `Memory`, on which
 //! some of the octets may stand there.
-ghost use Rattle.std.specs.Prelude.{◌≡◌, ◌<◌, ◌≤◌, ◌*◌, ◌^◌, ◌+◌, ◌++◌, ◌∷◌, [], take, drop, vec_len, OnOk, IsOkUnless};
+ghost use Rattle.std.specs.Prelude.{◌≡◌, ◌<◌, ◌≤◌, ◌*◌, ◌^◌, ◌+◌, ◌++◌, ◌∷◌, [], take, drop, vec_capacity, vec_len, OnOk, IsOkUnless};
 ghost use Rattle.ion_binary.specs.Names.{code_in, decimal_octets, framed, null_octet, timestamp_octets, truth_octet, uint_octets, var_uint_octets, whole_octets};
 ghost use Rattle.ion_symtab.specs.declared.fault.Fault.TheVariants as faults;
 
@@ -152,54 +152,64 @@ fn put_magnitude(code: u8, magnitude: u128, out: &mut Vec<u8>) -> Result<(), Fau
         ++ framed code (uint_octets magnitude)) }
     ensures memory { IsOkUnless result faults.Memory }
 {
-    // most have few octets
-    if magnitude > 0 && magnitude < 1 << 32 {
-        return put_few(code, magnitude as u32, out);
+    // most have few octets, and there is room
+    if magnitude > 0 && magnitude < 1 << 32 && out.capacity() - out.len() >= 5 {
+        put_few(code, magnitude as u32, out);
+        return Ok(());
     }
+    put_any(code, magnitude, out)
+}
+
+// The same, for which memory may be needed.
+#[inline(never)]
+fn put_any(code: u8, magnitude: u128, out: &mut Vec<u8>) -> Result<(), Fault>
+    requires code { code < 16 }
+    requires magnitude { magnitude < 2 ^ 127 }
+    ensures ok { OnOk result (out.new.items ≡ out.old.items
+        ++ framed code (uint_octets magnitude)) }
+    ensures memory { IsOkUnless result faults.Memory }
+{
     let place = out.len();
     out.push(0)?;
     put_uint(magnitude, out).map_err(|_| Fault::Memory)?;
     frame(code, place, out)
 }
 
-// The same of a magnitude of one to four octets, which are written at once.
+// The same of a magnitude of one to four octets, for which there is room: they are written at once.
 #[inline(always)]
-fn put_few(code: u8, magnitude: u32, out: &mut Vec<u8>) -> Result<(), Fault>
+fn put_few(code: u8, magnitude: u32, out: &mut Vec<u8>)
     requires code { code < 16 }
     requires some { 0 < magnitude }
-    ensures ok { OnOk result (out.new.items ≡ out.old.items
-        ++ framed code (uint_octets magnitude)) }
-    ensures memory { IsOkUnless result faults.Memory }
+    requires room { vec_len out.old + 5 ≤ vec_capacity out.old }
+    ensures { out.new.items ≡ out.old.items ++ framed code (uint_octets magnitude) }
 {
     let front = code * 16;
     let last = (magnitude % 0x100) as u8;
     let second = (magnitude / 0x100 % 0x100) as u8;
     let third = (magnitude / 0x1_0000 % 0x100) as u8;
-    out.reserve(5)?;
     if magnitude < 0x100 {
         out.push_reserved(front + 1);
         out.push_reserved(last);
-        return Ok(());
+        return;
     }
     if magnitude < 0x1_0000 {
         out.push_reserved(front + 2);
         out.push_reserved(second);
         out.push_reserved(last);
-        return Ok(());
+        return;
     }
     if magnitude < 0x100_0000 {
         out.push_reserved(front + 3);
         out.push_reserved(third);
         out.push_reserved(second);
         out.push_reserved(last);
-        return Ok(());
+        return;
     }
     out.push_reserved(front + 4);
     out.push_reserved((magnitude / 0x100_0000) as u8);
     out.push_reserved(third);
     out.push_reserved(second);
     out.push_reserved(last);
-    Ok(())
 }
 
 /// Appends an int, of which the type code has the sign.

@@ -1,6 +1,6 @@
 -- Walks over pieces by a reader that holds no values, and what a visitor hears of them.
 use Rattle.std.specs.Prelude.{◌≡◌, ◌≢◌, ◌-◌, ℕ, Bool, true, false, List, [], Some, None, Result, Ok, Err}
-use Rattle.ion_text.specs.Names.{Advances, Catalog, Event, Frame, GaveOut, Limits, Memory, Refusal, State, Symbols, Taken, TextWalk, Value, Walked, WentOn, resumed, scanned, state_of}
+use Rattle.ion_text.specs.Names.{Advances, Catalog, Event, Frame, GaveOut, Limits, Memory, Reason, Refusal, State, Symbols, Taken, TextWalk, Value, Walked, WentOn, resumed, scanned, state_of}
 
 module _ {V : Type 0} (takes : V → Event → V → Type 0) (es : List Event) (g : Catalog) (l : Limits) (again : Bool) (to : ℕ) (m : State) (piece : List ℕ) where
   -- So many octets of a piece are used as a run from here says, and the reader stands where that leads. Where they end a value a visitor
@@ -24,6 +24,11 @@ gone old new = (scanned new.scanner).used - (scanned old.scanner).used
 abbrev pub with_count : ℕ → Result Taken Refusal → Result (ℕ × Taken) Refusal
 with_count count (Ok taken) = Ok (count, taken)
 with_count count (Err refusal) = Err refusal
+
+-- what octets did, with the offset of a refusal told apart
+abbrev pub with_offset : ℕ → Result Taken Reason → Result Taken Refusal
+with_offset offset (Ok taken) = Ok taken
+with_offset offset (Err reason) = Err (record { offset = offset; reason = reason })
 
 -- what no walk changes
 pub record SameSettings (old new : TextWalk) : Type 0 where

@@ -3,7 +3,7 @@ ghost use Rattle.std.specs.Prelude.{◌≡◌, ◌≢◌, ◌+◌, ◌-◌, ◌<
 ghost use Rattle.std.specs.Option.{is_some};
 ghost use Rattle.ion_text.specs.Names.{Answers, Event, Frame, Holds, IsFine, IsWithin, Memory, RefusesBy, SameReader, StaysSteady, StepsOver, Symbols, Told, TookFront, Value as AnyValue, WalksOn, failed, if_ended, octets_used, pending, scanned, state_of, told, trace};
 ghost use Rattle.ion_text.specs.machine.Progress.{BeginsWith};
-ghost use Rattle.ion_text.specs.walk.Advances.{DidAdvance, SameSettings, gone, with_count};
+ghost use Rattle.ion_text.specs.walk.Advances.{DidAdvance, SameSettings, gone, with_count, with_offset};
 ghost use Rattle.ion_symtab.specs.Walks.{DoesWalk, answer_of};
 ghost use Rattle.ion_symtab.specs.declared.items.Went.TheVariants as wents;
 
@@ -14,17 +14,20 @@ use ion_model::{Reason, Refusal};
 use ion_symtab::{Walked, Went};
 use ion_visiting::Visitor;
 
-// The refusal, with an octet of a piece of so many octets behind `before`. One with another octet
-// couldn't come, and would be told as memory that ran out, which says nothing of the octets.
-fn within_piece(before: u64, length: usize, refusal: Refusal) -> Refusal
+// The refusal for this reason, with an octet of a piece of so many octets behind `before`. One with
+// another octet couldn't come, and would be told as memory that ran out, which says nothing of the
+// octets.
+#[inline(always)]
+fn within_piece(before: u64, length: usize, offset: u64, reason: Reason) -> Refusal
     requires room { before + length < 2 ^ 63 }
     ensures memory { result.reason ≡ Memory → result.offset ≡ before }
-    ensures other { result.reason ≢ Memory → result ≡ refusal }
+    ensures other { result.reason ≢ Memory →
+        result ≡ record { offset = offset; reason = reason } }
     ensures decides { result.reason ≢ Memory →
         (before < result.offset) × (result.offset ≤ before + length) }
 {
-    if before < refusal.offset && refusal.offset <= before + length as u64 {
-        return with_memory_at(before, refusal);
+    if before < offset && offset <= before + length as u64 {
+        return with_memory_at(before, Refusal { offset, reason });
     }
     Refusal {
         offset: before,
@@ -44,7 +47,7 @@ impl TextWalk<'_> {
 
     /// Takes up octets at the front of a piece, up to the next token or what waits over them, or
     /// one.
-    #[inline(never)]
+    #[inline(always)]
     fn read_front<V: Visitor>(&mut self, piece: &[u8], visitor: &mut V) -> Result<Taken, Refusal>
         requires fine { IsFine self.old }
         requires room { (scanned self.old.scanner).used + length piece.now < 2 ^ 63 }
@@ -79,17 +82,56 @@ impl TextWalk<'_> {
         }
     }
 
-    /// Takes up octets at the front of a piece: the tokens that lie whole there, and some behind
-    /// them.
-    #[inline(always)]
-    fn read_piece<V: Visitor>(&mut self, piece: &[u8], visitor: &mut V) -> Result<Taken, Refusal>
+    /// The same. Where it refuses, `refused` gets the offset, so that what it answers is no longer
+    /// than two octets: most values of the top level end without it.
+    #[inline(never)]
+    fn read_front_apart<V: Visitor>(
+        &mut self,
+        piece: &[u8],
+        refused: &mut u64,
+        visitor: &mut V,
+    ) -> Result<Taken, Reason>
         requires fine { IsFine self.old }
         requires room { (scanned self.old.scanner).used + length piece.now < 2 ^ 63 }
         requires some { 0 < length piece.now }
         ensures took { (fs : List Frame) (ss : Symbols) → Holds self.old fs ss →
             TookFront V.takes (told fs ss) self.old.catalog.now self.old.limits
             (scanned self.old.scanner).used (state_of self.old fs ss) piece.now
-            (with_count (gone self.old self.new) result) self.new visitor.old visitor.new }
+            (with_count (gone self.old self.new) (with_offset refused.new result)) self.new
+            visitor.old visitor.new }
+        ensures on { IfOk result (λ _.
+            (scanned self.old.scanner).used ≤ (scanned self.new.scanner).used) }
+        ensures within { IfOk result (IsWithin (length piece.now) (gone self.old self.new)) }
+        ensures fine { IfOk result (λ _. IsFine self.new) }
+        ensures steady { IfOk result (λ _. StaysSteady self.old self.new) }
+        ensures same { SameReader self.old self.new }
+    {
+        match self.read_front(piece, visitor) {
+            Ok(taken) => Ok(taken),
+            Err(refusal) => {
+                *refused = refusal.offset;
+                Err(refusal.reason)
+            }
+        }
+    }
+
+    /// Takes up octets at the front of a piece: the tokens that lie whole there, and some behind
+    /// them. Where it refuses for another reason than `Memory`, `refused` gets the offset.
+    #[inline(always)]
+    fn read_piece<V: Visitor>(
+        &mut self,
+        piece: &[u8],
+        refused: &mut u64,
+        visitor: &mut V,
+    ) -> Result<Taken, Reason>
+        requires fine { IsFine self.old }
+        requires room { (scanned self.old.scanner).used + length piece.now < 2 ^ 63 }
+        requires some { 0 < length piece.now }
+        ensures took { (fs : List Frame) (ss : Symbols) → Holds self.old fs ss →
+            TookFront V.takes (told fs ss) self.old.catalog.now self.old.limits
+            (scanned self.old.scanner).used (state_of self.old fs ss) piece.now
+            (with_count (gone self.old self.new) (with_offset refused.new result)) self.new
+            visitor.old visitor.new }
         ensures on { IfOk result (λ _.
             (scanned self.old.scanner).used ≤ (scanned self.new.scanner).used) }
         ensures within { IfOk result (IsWithin (length piece.now) (gone self.old self.new)) }
@@ -98,16 +140,13 @@ impl TextWalk<'_> {
         ensures same { SameReader self.old self.new }
     {
         let Some(rest) = self.rests() else {
-            return self.read_front(piece, visitor);
+            return self.read_front_apart(piece, refused, visitor);
         };
         match self.read_tokens(rest, piece, visitor) {
-            Err(reason) => Err(Refusal {
-                offset: rest.used,
-                reason,
-            }),
+            Err(reason) => Err(reason),
             Ok(Taken::Uses) => {
                 let count = self.gone(rest.used);
-                self.read_front(&piece[count..], visitor)
+                self.read_front_apart(&piece[count..], refused, visitor)
             }
             Ok(Taken::Tells) => Ok(Taken::Tells),
             Ok(Taken::Leaves) => Ok(Taken::Leaves),
@@ -147,10 +186,11 @@ impl TextWalk<'_> {
         let before = self.scanner.used();
         let again = self.awaited.is_some();
         self.awaited = None;
+        let mut refused = before;
         let mut i = 0;
         while i < piece.len() {
-            match self.read_piece(&piece[i..], visitor) {
-                Err(refusal) => return Err(within_piece(before, piece.len(), refusal)),
+            match self.read_piece(&piece[i..], &mut refused, visitor) {
+                Err(reason) => return Err(within_piece(before, piece.len(), refused, reason)),
                 Ok(Taken::Uses) => i = self.gone(before),
                 Ok(Taken::Tells) => {
                     return Ok(Walked {

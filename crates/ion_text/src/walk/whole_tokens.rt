@@ -190,98 +190,9 @@ impl TextWalk<'_> {
         }
     }
 
-    /// A comma, the name of a field and a value, as far as they come there, or a close, with the
-    /// blanks before them.
+    /// A blank, and the token behind it; behind a comma the name of a field too, if one comes next.
     #[inline(always)]
     fn read_next<V: Visitor>(
-        &mut self,
-        rest: &mut Rest,
-        octets: &[u8],
-        visitor: &mut V,
-    ) -> Result<Taken, Reason>
-        requires room { rest.old.used + length octets.now < 2 ^ 63 }
-        ensures { EndsBy V.takes self.old self.new rest.old rest.new octets.now result
-            visitor.old visitor.new }
-    {
-        let first = rest.used;
-        match self.go_past_comma(rest, octets, visitor)? {
-            Taken::Uses => {}
-            taken => return Ok(taken),
-        }
-        let count = (rest.used - first) as usize;
-        self.read_behind_comma(rest, &octets[count..], visitor)
-    }
-
-    /// The same without a comma.
-    #[inline(always)]
-    fn read_behind_comma<V: Visitor>(
-        &mut self,
-        rest: &mut Rest,
-        octets: &[u8],
-        visitor: &mut V,
-    ) -> Result<Taken, Reason>
-        requires room { rest.old.used + length octets.now < 2 ^ 63 }
-        ensures { EndsBy V.takes self.old self.new rest.old rest.new octets.now result
-            visitor.old visitor.new }
-    {
-        let first = rest.used;
-        match self.go_past_name(rest, octets, visitor)? {
-            Taken::Uses => {}
-            taken => return Ok(taken),
-        }
-        let count = (rest.used - first) as usize;
-        self.read_there(rest, &octets[count..], visitor)
-    }
-
-    /// Goes past a comma behind a value, with the blank before it, if it comes next.
-    #[inline(always)]
-    fn go_past_comma<V: Visitor>(
-        &mut self,
-        rest: &mut Rest,
-        octets: &[u8],
-        visitor: &V,
-    ) -> Result<Taken, Reason>
-        requires room { rest.old.used + length octets.now < 2 ^ 63 }
-        ensures { EndsBy V.takes self.old self.new rest.old rest.new octets.now result
-            visitor.now visitor.now }
-    {
-        if !matches!(self.stage, Stage::After) {
-            return Ok(Taken::Uses);
-        }
-        let blank = blanks(octets);
-        if octets.len() - blank < 2 || octets[blank] != b',' {
-            return Ok(Taken::Uses);
-        }
-        go_past_blank(rest, blank);
-        self.read_comma(rest, &octets[blank..], visitor)
-    }
-
-    /// Goes past the name of a field with its colon, and the blank before it, if it comes next.
-    #[inline(always)]
-    fn go_past_name<V: Visitor>(
-        &mut self,
-        rest: &mut Rest,
-        octets: &[u8],
-        visitor: &mut V,
-    ) -> Result<Taken, Reason>
-        requires room { rest.old.used + length octets.now < 2 ^ 63 }
-        ensures { EndsBy V.takes self.old self.new rest.old rest.new octets.now result
-            visitor.old visitor.new }
-    {
-        if !matches!(self.stage, Stage::Name) {
-            return Ok(Taken::Uses);
-        }
-        let blank = blanks(octets);
-        if octets.len() - blank < 2 {
-            return Ok(Taken::Uses);
-        }
-        go_past_blank(rest, blank);
-        self.read_name(rest, &octets[blank..], visitor)
-    }
-
-    /// A blank, and the token behind it.
-    #[inline(always)]
-    fn read_there<V: Visitor>(
         &mut self,
         rest: &mut Rest,
         octets: &[u8],
@@ -318,12 +229,65 @@ impl TextWalk<'_> {
         if octets.len() < 2 {
             return Ok(Taken::Uses);
         }
-        match &self.stage {
-            Stage::Ready => self.read_value(rest, octets, visitor),
-            Stage::Name => self.read_instead_of_name(rest, octets, visitor),
-            Stage::After => self.read_close(rest, octets, visitor),
-            _ => Ok(Taken::Uses),
+        // one by one: a table of all stages takes longer
+        if matches!(self.stage, Stage::Ready) {
+            return self.read_value(rest, octets, visitor);
         }
+        if matches!(self.stage, Stage::After) {
+            return self.read_after(rest, octets, visitor);
+        }
+        if matches!(self.stage, Stage::Name) {
+            return self.read_name(rest, octets, visitor);
+        }
+        Ok(Taken::Uses)
+    }
+
+    /// What stands behind a value of a list or a struct: a close, or a comma, and behind that the
+    /// name of a field, if one comes next.
+    #[inline(always)]
+    fn read_after<V: Visitor>(
+        &mut self,
+        rest: &mut Rest,
+        octets: &[u8],
+        visitor: &mut V,
+    ) -> Result<Taken, Reason>
+        requires { Takes stages.After self.old rest.old octets.now }
+        ensures { EndsBy V.takes self.old self.new rest.old rest.new octets.now result
+            visitor.old visitor.new }
+    {
+        if octets[0] != b',' {
+            return self.read_close(rest, octets, visitor);
+        }
+        let first = rest.used;
+        match self.read_comma(rest, octets, visitor)? {
+            Taken::Uses => {}
+            taken => return Ok(taken),
+        }
+        let count = (rest.used - first) as usize;
+        self.read_next_name(rest, &octets[count..], visitor)
+    }
+
+    /// The name of a field with its colon, and the blank before it, if it comes next.
+    #[inline(always)]
+    fn read_next_name<V: Visitor>(
+        &mut self,
+        rest: &mut Rest,
+        octets: &[u8],
+        visitor: &mut V,
+    ) -> Result<Taken, Reason>
+        requires room { rest.old.used + length octets.now < 2 ^ 63 }
+        ensures { EndsBy V.takes self.old self.new rest.old rest.new octets.now result
+            visitor.old visitor.new }
+    {
+        if !matches!(self.stage, Stage::Name) {
+            return Ok(Taken::Uses);
+        }
+        let blank = blanks(octets);
+        if octets.len() - blank < 2 {
+            return Ok(Taken::Uses);
+        }
+        go_past_blank(rest, blank);
+        self.read_name(rest, &octets[blank..], visitor)
     }
 
     /// A comma, of which a visitor hears nothing.
@@ -392,7 +356,7 @@ impl TextWalk<'_> {
         }
     }
 
-    /// The name of a field with its colon, if it is plain.
+    /// The name of a field with its colon, or a close.
     #[inline(always)]
     fn read_name<V: Visitor>(
         &mut self,
@@ -409,7 +373,7 @@ impl TextWalk<'_> {
         }
         match plain_name(octets) {
             Some((token, text)) => self.read_key(token, text, rest, octets, visitor),
-            None => Ok(Taken::Uses),
+            None => self.read_instead_of_name(rest, octets, visitor),
         }
     }
 

@@ -88,7 +88,8 @@ returns-in-Err-clause-does g c = λ fs ss holds other.
     let x = h.ran fs ss holds in
     let same = c.within_piece.ensures.other other in
     led_refused g.V.Visitor.takes first m c.args.piece.now c.loop-i.i fs ss c.args.visitor.now c.loop-i.visitor x
-    (ap (λ (b : _). b.now) h.setting.catalog) h.setting.limits h.used c.in-Err.refusal c.loop-i-test.true
+    (ap (λ (b : _). b.now) h.setting.catalog) h.setting.limits h.used
+    (record { offset = c.read_piece.new.refused; reason = c.in-Err.reason }) c.loop-i-test.true
     (c.in-Err.ensures.took x.frames x.notes x.went.holds (λ e. other (ap (λ (q : Refusal). q.reason) same ∙ e)))
     ∙ ap (λ q. record { given = []; now = Err q }) (sym same)
 

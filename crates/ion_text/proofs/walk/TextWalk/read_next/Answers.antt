@@ -1,16 +1,21 @@
-use Rattle.std.proofs.Common.{◌-◌, length, take, drop, subst}
+use Rattle.std.proofs.Common.{◌<◌, length, arith, sym, subst}
 use Rattle.std.proofs.lemmas.List.{take_rest}
-use Rattle.ion_text.specs.Names.{Ended}
+use Rattle.ion_text.specs.Names.{RestsBehind, Taken}
+use Rattle.ion_tokens.proofs.runs.WholeComments.{white_rests}
 use Rattle.ion_text.proofs.LastTokens.{ends_on}
+use Rattle.ion_text.proofs.WholeTokens.{blank_strode, moved_by, settings_none}
 use Rattle.ion_text.proofs.walk.TextWalk.read_next.Goals as goal
+
+pub returns-then-octets-blank-eq47 : goal.returns-then-octets-blank-eq47
+returns-then-octets-blank-eq47 g c =
+    let blank = c.past_comments.ensures in
+    moved_by _ _ _ _ _ _ c.past_comments.result Taken.Uses _ _ (blank_strode _ _ _ _ _ _ _ blank.rests blank.within) (settings_none _)
 
 pub returns : goal.returns
 returns g c =
     let octets = c.args.octets.now in
-    let n = c.go_past_comma.new.rest.used - c.args.rest.now.used in
-    let front = c.in_ok-taken.ensures in
-    ends_on g.V.Visitor.takes c.args.self.now c.go_past_comma.new.self c.read_behind_comma.new.self c.args.rest.now c.go_past_comma.new.rest
-    c.read_behind_comma.new.rest octets (take (length octets - n) (drop n octets)) n c.args.visitor.now c.args.visitor.now
-    c.read_behind_comma.new.visitor (take_rest octets n) front.same
-    (subst (λ t. Ended g.V.Visitor.takes c.args.self.now c.go_past_comma.new.self c.args.rest.now c.go_past_comma.new.rest octets (n, t)
-    c.args.visitor.now c.args.visitor.now) c.in-Uses.is front.ended) c.read_behind_comma.result c.read_behind_comma.ensures
+    let n = c.blanks-blank.result in
+    let more : n < length octets = omega (arith, c.if-blank-octets.false) in
+    ends_on _ _ c.args.self.now _ _ c.go_past_blank.new.rest _ octets _ n _ c.args.visitor.now _ (take_rest octets n) (settings_none _)
+    (blank_strode _ _ _ _ _ _ _ (subst (λ r. RestsBehind octets n c.args.rest.now r) (sym c.go_past_blank.ensures)
+    (white_rests octets n c.blanks-blank.ensures.within c.blanks-blank.ensures.passed c.args.rest.now)) more) c.read_token.result c.read_token.ensures

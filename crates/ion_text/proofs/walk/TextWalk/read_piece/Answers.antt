@@ -1,8 +1,8 @@
 use Rattle.std.proofs.Common.{◌≡◌, ◌-◌, ◌+◌, ◌<◌, ap, subst, arith, length, take, drop}
 use Rattle.std.proofs.lemmas.List.{take_rest}
 use Rattle.ion_text.specs.Names.{Known, Taken, TookSo, scanned}
-use Rattle.ion_text.specs.walk.Advances.{gone}
-use Rattle.ion_text.proofs.Advancing.{both_took, left_reached, told_reached}
+use Rattle.ion_text.specs.walk.Advances.{gone, with_offset}
+use Rattle.ion_text.proofs.Advancing.{both_took, left_reached, told_reached, with_offset_if}
 use Rattle.ion_text.proofs.walk.TextWalk.read_piece.Goals as goal
 
 pub gone-count-requires : goal.gone-count-requires
@@ -28,8 +28,8 @@ returns-in-Ok-Uses-clause-took g c = λ fs ss h.
     c.in-Ok-Uses.field-0-is (c.in-Ok-Uses.ensures.took fs ss h)) in
     both_took g.V.Visitor.takes old mid fs ss piece (take (length piece - k) (drop k piece)) k c.args.visitor.now c.read_tokens.new.visitor
     (take_rest piece k) inside strode used (ap (λ (b : _). b.now) c.in-Ok-Uses.ensures.same.catalog) c.in-Ok-Uses.ensures.same.limits
-    c.read_front-in-Ok-Uses.result c.read_front-in-Ok-Uses.new.self c.read_front-in-Ok-Uses.new.visitor c.read_front-in-Ok-Uses.ensures.on
-    (c.read_front-in-Ok-Uses.ensures.took strode.frames strode.notes strode.holds)
+    (with_offset c.read_front_apart-in-Ok-Uses.new.refused c.read_front_apart-in-Ok-Uses.result) c.read_front_apart-in-Ok-Uses.new.self c.read_front_apart-in-Ok-Uses.new.visitor (with_offset_if _ c.read_front_apart-in-Ok-Uses.new.refused c.read_front_apart-in-Ok-Uses.result c.read_front_apart-in-Ok-Uses.ensures.on)
+    (c.read_front_apart-in-Ok-Uses.ensures.took strode.frames strode.notes strode.holds)
 
 pub returns-in-Ok-Tells-clause-took : goal.returns-in-Ok-Tells-clause-took
 returns-in-Ok-Tells-clause-took g c = λ fs ss h.

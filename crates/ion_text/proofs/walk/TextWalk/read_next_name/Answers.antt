@@ -4,7 +4,7 @@ use Rattle.ion_text.specs.Names.{RestsBehind}
 use Rattle.ion_tokens.proofs.runs.WholeComments.{white_rests}
 use Rattle.ion_text.proofs.LastTokens.{ends_on}
 use Rattle.ion_text.proofs.WholeTokens.{blank_strode, settings_none}
-use Rattle.ion_text.proofs.walk.TextWalk.go_past_name.Goals as goal
+use Rattle.ion_text.proofs.walk.TextWalk.read_next_name.Goals as goal
 
 pub returns : goal.returns
 returns g c =
