@@ -2,6 +2,7 @@
 pub mod Holds
 pub mod Takes
 pub mod WholeTokens
+pub mod WordKinds
 pub mod Ends
 pub mod Fronts
 pub mod Advances

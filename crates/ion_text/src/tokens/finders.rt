@@ -2,6 +2,7 @@
 //! that isn't whole, isn't plain or may be a symbol's id nothing is found.
 ghost use Rattle.std.specs.Prelude.{◌≡◌, ◌<◌, false, true, length, take, IfSome, Ok, Some};
 ghost use Rattle.ion_text.specs.Names.{BeginsName, FoundNumber, FoundPart, FoundSymbol, HasParts, IsFound, IsFree, IsValue, Number as AnyNumber, Number', Rest, held_payload, held_word, is_name, payload_of, said};
+ghost use Rattle.ion_text.specs.walk.WordKinds.{IsWordKind};
 ghost use Rattle.ion_tokens.specs.Bodies.{content};
 
 use super::symbols::plain_text;
@@ -22,7 +23,38 @@ pub(crate) struct Scalar {
     pub waits: bool,
 }
 
-// The value that a word is, but for `nan`.
+/// What a word may be as a value.
+#[derive(Clone, Copy)]
+pub(crate) enum WordKind {
+    Null,
+    True,
+    False,
+    Nan,
+    Symbol,
+}
+
+// Which of them a word is: an answer of one octet, so that a part that is made of it lies in no
+// memory.
+#[inline(never)]
+fn word_kind(word: &str) -> WordKind
+    ensures { IsWordKind word.now result }
+{
+    if word == "null" {
+        return WordKind::Null;
+    }
+    if word == "true" {
+        return WordKind::True;
+    }
+    if word == "false" {
+        return WordKind::False;
+    }
+    if word == "nan" {
+        return WordKind::Nan;
+    }
+    WordKind::Symbol
+}
+
+// The value that a word is, but for `nan`. Most words are no keywords by their front and length.
 #[inline(always)]
 pub(crate) fn word_part(word: &str) -> Option<Part<'_>>
     ensures { IfSome result (λ said. held_payload (held_word word.now) ≡ Ok (payload_of said)) }
@@ -30,27 +62,13 @@ pub(crate) fn word_part(word: &str) -> Option<Part<'_>>
     if !may_be_keyword(word) {
         return Some(Part::Symbol(word));
     }
-    keyword_part(word)
-}
-
-// The same of a word that may be a keyword.
-#[inline(never)]
-fn keyword_part(word: &str) -> Option<Part<'_>>
-    ensures { IfSome result (λ said. held_payload (held_word word.now) ≡ Ok (payload_of said)) }
-{
-    if word == "null" {
-        return Some(Part::Null(Kind::Null));
+    match word_kind(word) {
+        WordKind::Null => Some(Part::Null(Kind::Null)),
+        WordKind::True => Some(Part::Truth(true)),
+        WordKind::False => Some(Part::Truth(false)),
+        WordKind::Nan => None,
+        WordKind::Symbol => Some(Part::Symbol(word)),
     }
-    if word == "true" {
-        return Some(Part::Truth(true));
-    }
-    if word == "false" {
-        return Some(Part::Truth(false));
-    }
-    if word == "nan" {
-        return None;
-    }
-    Some(Part::Symbol(word))
 }
 
 /// The word at the front of octets, as a value.
