@@ -7,8 +7,9 @@ json.ion, indented.ion, commented.ion: one list of nested structs, as JSON has t
 each. struct.ion: one struct of ints. sexp.ion: one s-expression of words, numbers and operators. ints.ion, decimals.ion,
 strings.ion, beyond.ion, escapes.ion: one list of these; beyond.ion has texts beyond ASCII. ids.ion: records whose names and
 words are symbol ids, one a line. annotated.ion: annotated ints and words, one a line. numbers.ion, words.ion, short.ion: decimals,
-symbols and short strings of the top level, one a line. Each is about MEGABYTES (usually 100) long. The octets are the same at
-each call.
+symbols and short strings of the top level, one a line. What takes much for its length: truths.ion, moments.ion, great.ion: one list
+of truths and nulls, of timestamps with a fraction, of ints beyond 64 bits; scaled.ion: decimals with an exponent, one a line;
+tiny.ion: ints of one digit, a blank behind each. Each is about MEGABYTES (usually 100) long. The octets are the same at each call.
 """
 import json
 import random
@@ -92,6 +93,27 @@ def word(source, number):
     return source.choice(NAMES)
 
 
+def truth(source, number):
+    return source.choice(["true", "false", "null"])
+
+
+def moment(source, number):
+    day = f"{source.randrange(1990, 2030)}-{source.randrange(1, 13):02}-{source.randrange(1, 29):02}"
+    return f"{day}T{source.randrange(24):02}:{source.randrange(60):02}:{source.randrange(60):02}.{source.randrange(1000):03}Z"
+
+
+def great(source, number):
+    return str(source.getrandbits(100)) if number % 2 else f"0x{source.getrandbits(100):x}"
+
+
+def scaled(source, number):
+    return f"{decimal(source, number)}d{source.randrange(-9, 10)}"
+
+
+def digit(source, number):
+    return str(source.randrange(10))
+
+
 TABLE = "$ion_symbol_table::{symbols: [" + ", ".join(f'"{name}"' for name in NAMES) + "]}\n"
 LINES = ("", "\n", "\n")
 # Of each document its front, what stands between two parts, its end, and one part.
@@ -111,6 +133,11 @@ SHAPES = {
     "numbers": (*LINES, decimal),
     "words": (*LINES, word),
     "short": (*LINES, string),
+    "truths": ("[", ", ", "]\n", truth),
+    "moments": ("[", ", ", "]\n", moment),
+    "great": ("[", ", ", "]\n", great),
+    "scaled": (*LINES, scaled),
+    "tiny": ("", " ", "\n", digit),
 }
 
 

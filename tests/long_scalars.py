@@ -178,6 +178,7 @@ def great(octets):
     yield "clob", b'{{"' + b"plain \\xff " * (octets // 11) + b'"}}'
     yield "blob", b"{{" + b"QUJD" * (octets // 4) + b"QQ==}}"
     yield "blob in lines", b"[{{" + (b"QUJD" * 19 + b"\n") * (octets // 77) + b"}}]"
+    yield "blob of blanks", b"{{QU" + b" " * octets + b"JD}}"
     for name, kind in [("string", 8), ("clob", 9), ("blob", 10)]:
         yield f"binary {name}", MARKER + header(kind, octets) + b"0123456789abcdef" * (octets // 16) + b"z" * (octets % 16)
 
