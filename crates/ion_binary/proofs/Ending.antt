@@ -3,12 +3,11 @@ use Rattle.std.proofs.Common.{◌≡◌, ◌≢◌, ℕ, List, [], ◌∷◌, �
 use Rattle.std.specs.Prelude.{◌==◌, if◌then◌else◌}
 use Rattle.std.proofs.lemmas.List.{reverse-append}
 use Rattle.std.proofs.lemmas.Bool.Decides.{nat_tests}
-use Rattle.ion_binary.specs.Names.{AreAround, AreOpen, BinaryWalk, Bracket, Closes, Container, Does, DoesAlone, Effect, EndedIn, Event, Field, Frame, Goes, Hears, HoldsNoWrapper, InNumber, IsBareIn, IsBehind, IsInside, IsNamedBy, ListOrSexp, Outcome, Payload, Phase, Purpose, Ready, Reason, Setting, Spot, Tells, Value, WasTold, annotated, at, bare, bracket_of, closes, container_of, containers_of, deliver, events_of, field_of, goes, heard, listed, machine_of, name_of, open_containers, proceed, setting_of, spot_of, told}
-use Rattle.ion_model.specs.declared.value.Payload.TheVariants as payloads
+use Rattle.ion_binary.specs.Names.{AreAround, AreOpen, BinaryWalk, Bracket, Closes, Container, Does, DoesAlone, Effect, EndedIn, Event, Field, Frame, Goes, Hears, HoldsNoWrapper, IsBareIn, IsBehind, IsInside, IsNamedBy, ListOrSexp, Outcome, Payload, Phase, Reason, Setting, Spot, Tells, Value, WasTold, annotated, at, bare, closes, container_of, containers_of, deliver, events_of, field_of, goes, heard, machine_of, name_of, open_containers, proceed, setting_of, spot_of, told}
 use Rattle.ion_visiting.specs.laws.Filters.{hears_none}
 use Rattle.ion_binary.specs.machine.Frames as frames
 use Rattle.ion_binary.specs.walking.Holds.{told_in}
-use Rattle.ion_binary.proofs.Tellings.{closes_more, does_behind, does_more, field_told, fields_told, item_told, items_told, wrapped_told}
+use Rattle.ion_binary.proofs.Tellings.{closes_more, does_behind, does_more, field_told, item_told, wrapped_told}
 
 -- 1. The same with other words for what comes.
 

@@ -11,7 +11,7 @@ use Rattle.std.proofs.lemmas.List.Elements.{All-weaker}
 use Rattle.std.proofs.lemmas.List.Sums.{AllPass-from_list_all}
 use Rattle.std.proofs.lemmas.Str.{IsCharBoundary-from_take, IsUtf8-append, IsUtf8-drop, IsUtf8-from_ascii}
 use Rattle.std.proofs.lemmas.Str.Ascii.{IsAscii-from_all}
-use Rattle.ion_binary.specs.Names.{BadUtf8, DecimalParts, Event, IsPart, IsScalar, LetsPass, Payload, Reason, Scalar, Slot, TableFilter, TellsAs, TimestampParts, WasTold, as_decimal, as_timestamp, begins_struct, decimal_of_body, heard, int_of, is_blob, is_clob, is_decimal, is_int, is_negative, is_of_table, is_string, is_symbol, is_timestamp, judge, layer_events, layer_kind, outs-Blob, outs-Clob, outs-Decimal, outs-Int, outs-Str, outs-Symbol, outs-Timestamp, part, positional, resolve, scalar_kind, timestamp_of_body, uint_field}
+use Rattle.ion_binary.specs.Names.{BadUtf8, DecimalParts, Event, IsScalar, LetsPass, Payload, Reason, Scalar, Slot, TableFilter, TellsAs, TimestampParts, WasTold, as_decimal, as_timestamp, begins_struct, decimal_of_body, heard, int_of, is_blob, is_clob, is_decimal, is_int, is_negative, is_of_table, is_string, is_symbol, is_timestamp, judge, layer_kind, outs-Blob, outs-Clob, outs-Decimal, outs-Int, outs-Str, outs-Symbol, outs-Timestamp, part, positional, resolve, scalar_kind, timestamp_of_body, uint_field}
 use Rattle.ion_model.specs.declared.value.Payload.TheVariants as payloads
 use Rattle.ion_model.specs.declared.value.Payload.TheViews as views
 use Rattle.ion_visiting.specs.declared.table_filter.Table.{Table}

@@ -1,13 +1,16 @@
 -- Runs over octets in a reader that holds no values.
 use Rattle.std.proofs.Common.{◌≡◌, ℕ, ◌+◌, ◌-◌, ◌≤◌, ◌<◌, List, [], ◌∷◌, ◌++◌, length, take, drop, get_or, append-nil, length-append, None, Bool, true, false, Result, Ok, Err, refl, ap, sym, subst, ◌∙◌, arith, ne_eqb}
 use Rattle.std.specs.Prelude.{◌==◌, if◌then◌else◌}
+use Rattle.std.specs.Option.{is_some}
 use Rattle.std.proofs.lemmas.Bool.{false≢true}
 use Rattle.std.proofs.lemmas.List.{length-take-le, take-append-drop, take_all}
-use Rattle.ion_binary.specs.Names.{Answers, AreAround, BinaryWalk, Catalog, Does, Effect, EndsOn, Event, Frame, Gives, Goes, Holds, InBody, InMarker, InNumber, InPad, Incomplete, IsInside, Limits, Machine, Outcome, Phase, Reached, Ready, Reason, Refusal, Run, Scalar, StandsFor, StepsOver, Told, Value, Walks, WalksOn, WentOn, awaits, ends_of, failed, feed, heard, if_ended, initial, judge, judged, machine_of, name_of, pending, refused_at, run, run-append, run_after, run_of, setting_of, shells, spot_of, taken, then_run, told, trace, trace_of, under, whole}
+use Rattle.ion_binary.specs.Names.{Answers, AreAround, BinaryWalk, Catalog, Does, Effect, EndsOn, Event, Frame, Gives, Goes, Holds, InBody, InMarker, InNumber, InPad, Incomplete, IsInside, Limits, Machine, Outcome, Phase, Reached, Ready, Reason, Refusal, Run, SameSetting, Scalar, StandsFor, StepsOver, Told, Value, Walked, Walks, WalksOn, WentOn, awaits, ends_of, failed, feed, heard, if_ended, initial, judge, judged, led, machine_of, name_of, pending, refused_at, run, run-append, run_after, run_of, setting_of, shells, spot_of, taken, then_run, told, trace, trace_of, under, whole}
 use Rattle.ion_visiting.specs.laws.Filters.{hears_none}
+use Rattle.ion_symtab.specs.Walks.{DoesWalk}
+use Rattle.ion_symtab.proofs.Walking.{not_failed, went_over, went_to_end}
 use Rattle.ion_binary.specs.machine.EachOctet.{moved}
 use Rattle.ion_binary.specs.walking.Holds.{Name}
-use Rattle.ion_binary.specs.walking.Runs.{Led, Took}
+use Rattle.ion_binary.specs.walking.Runs.{Led, TakesUp, Took, gave}
 use Rattle.ion_binary.proofs.Insides.{body_ends, refused_whole}
 use Rattle.ion_binary.proofs.PieceEnds.{LeadsFromStart, leads_by, leads_to_end, leads_to_value, whole_rest, within_rest}
 use Rattle.ion_binary.proofs.Shells.{emptied, shells_of}
@@ -39,14 +42,14 @@ module _ {V : Type 0} (takes : V → Event → V → Type 0) (es : List Event) w
 module _ {V : Type 0} (takes : V → Event → V → Type 0) (r : BinaryWalk) (fs : List Frame) (h : Holds r fs) (piece : List ℕ) (new : BinaryWalk) (a b : V) where
   -- octets at the front of a piece that come to an outcome
   module _ (k : ℕ) (o : Outcome) (within : k ≤ length piece) (ran : run_of r fs (take k piece) ≡ run_after (r.used + k) o) where
-    pub front_took : (effect : Effect) → 0 < k → Does takes (told fs) o (Ok effect) new a b
-        → Took takes (told fs) r.used (run_of r fs) piece (Ok (k, effect)) new a b
-    front_took effect some does =
-        (some, within, reached_by takes (told fs) o effect new (run_of r fs (take k piece)) (r.used + k) a b ran does)
-
-    pub front_refused : (reason : Reason) → new.used ≡ r.used + k → Does takes (told fs) o (Err reason) new a b
-        → Took takes (told fs) r.used (run_of r fs) piece (Err reason) new a b
-    front_refused reason used does = λ other.
+    pub front_did : (result : Result Effect Reason) → new.used ≡ r.used + k → Does takes (told fs) o result new a b
+        → Took takes (told fs) r.used (run_of r fs) piece result new a b
+    front_did (Ok effect) used does =
+        let count : k ≡ new.used - r.used = omega arith in
+        subst (λ (j : ℕ). Reached takes (told fs) (run_of r fs (take j piece)) new.used effect new a b) count
+        (subst (λ (to : ℕ). Reached takes (told fs) (run_of r fs (take k piece)) to effect new a b) (sym used)
+        (reached_by takes (told fs) o effect new (run_of r fs (take k piece)) (r.used + k) a b ran does))
+    front_did (Err reason) used does = λ other.
         refused_whole r.catalog.now r.limits r.used (machine_of r fs) piece k reason within (ran ∙ ap (run_after (r.used + k)) (does other))
         ∙ ap (λ j. refused_at (record { offset = j; reason = reason })) (sym used)
 
@@ -72,13 +75,14 @@ module _ {V : Type 0} (takes : V → Event → V → Type 0) (r : BinaryWalk) (f
         (does fs h (around_body r.phase t (k - 1) fs phase h.inside))
 
 -- octets that a body or a pad goes on behind
-pub inside_took : {V : Type 0} (takes : V → Event → V → Type 0) (r new : BinaryWalk) (fs : List Frame) (piece : List ℕ) (k : ℕ) (a : V) → 0 < k → k ≤ length piece
-    → Led (run_of r fs (take k piece)) new fs → Took takes (told fs) r.used (run_of r fs) piece (Ok (k, Goes)) new a a
-inside_took takes r new fs piece k a some within leads = (
-  some,
-  within,
-  (fs, leads.0, record { holds = leads.1; hears = hears_none takes (heard (told fs)) (heard (told fs)) a refl }),
-)
+pub inside_took : {V : Type 0} (takes : V → Event → V → Type 0) (r new : BinaryWalk) (fs : List Frame) (piece : List ℕ) (k : ℕ) (a : V) → new.used ≡ r.used + k
+    → Led (run_of r fs (take k piece)) new fs → Took takes (told fs) r.used (run_of r fs) piece (Ok Goes) new a a
+inside_took takes r new fs piece k a used leads =
+    let count : k ≡ new.used - r.used = omega arith in (
+      fs,
+      subst (λ (j : ℕ). run_of r fs (take j piece) ≡ led (machine_of new fs)) count leads.0,
+      record { holds = leads.1; hears = hears_none takes (heard (told fs)) (heard (told fs)) a refl },
+    )
 
 -- 2. The octets of a piece, one step behind the other.
 
@@ -104,28 +108,41 @@ module _ {V : Type 0} (takes : V → Event → V → Type 0) (r : BinaryWalk) (f
     abbrev rest : List ℕ
     rest = take (length piece - i) (drop i piece)
 
-    pub led_on_more : (k : ℕ) → Took takes (told before.frames) s.used (run_of s before.frames) rest (Ok (k, Goes)) new m b → LedOn (i + k) new a b
-    led_on_more k took = record {
-      frames = took.2.0;
-      leads = leads_by r.catalog.now r.limits r.used (machine_of r fs) (machine_of s before.frames) (machine_of new took.2.0) piece i k s.used s.catalog.now s.limits
-          (ap (λ (x : _). x.now) catalog) limits used took.1 took.2.1 before.leads;
-      went = went_behind takes (told fs) (told before.frames) new took.2.0 a m b before.went.hears took.2.2;
-    }
+    -- how many octets of it were counted
+    abbrev count : ℕ
+    count = new.used - s.used
 
-    pub led_on_gives : (k : ℕ) → Took takes (told before.frames) s.used (run_of s before.frames) rest (Ok (k, Gives)) new m b
-        → Walks takes (told fs) r.used (run_of r fs) piece (Ok (record { used = i + k; ended = true })) new a b
-    led_on_gives k took = (
-      within_rest piece i k took.0 took.1,
-      (
-        omega (arith, took.0),
-        (
-          took.2.0,
-          leads_to_value r.catalog.now r.limits r.used (machine_of r fs) (machine_of s before.frames) (machine_of new []) piece i k s.used s.catalog.now s.limits took.2.0
-              (ap (λ (x : _). x.now) catalog) limits used took.2.1 before.leads,
-          gave_behind takes (told fs) (told before.frames) new took.2.0 a m b before.went.hears took.2.2,
-        ),
-      ),
-    )
+    pub led_on_more : TakesUp s.used new.used rest (Ok Goes) → Took takes (told before.frames) s.used (run_of s before.frames) rest (Ok Goes) new m b
+        → LedOn (new.used - r.used) new a b
+    led_on_more up took =
+        let on : i + count ≡ new.used - r.used = omega (arith, up.0, used) in
+        let within : count ≤ length rest = omega (arith, up.1) in
+        subst (λ (j : ℕ). LedOn j new a b) on (record {
+          frames = took.0;
+          leads = leads_by r.catalog.now r.limits r.used (machine_of r fs) (machine_of s before.frames) (machine_of new took.0) piece i count s.used s.catalog.now
+              s.limits (ap (λ (x : _). x.now) catalog) limits used within took.1 before.leads;
+          went = went_behind takes (told fs) (told before.frames) new took.0 a m b before.went.hears took.2;
+        })
+
+    pub led_on_gives : TakesUp s.used new.used rest (Ok Gives) → Took takes (told before.frames) s.used (run_of s before.frames) rest (Ok Gives) new m b
+        → Walks takes (told fs) r.used (run_of r fs) piece (Ok (record { used = new.used - r.used; ended = true })) new a b
+    led_on_gives up took =
+        let on : i + count ≡ new.used - r.used = omega (arith, up.0, used) in
+        let some : 0 < count = omega (arith, up.0) in
+        let within : count ≤ length rest = omega (arith, up.1) in
+        let to : new.used ≡ s.used + count = omega (arith, up.0) in
+        subst (λ (j : ℕ). Walks takes (told fs) r.used (run_of r fs) piece (Ok (record { used = j; ended = true })) new a b) on (
+          within_rest piece i count some within,
+          (
+            omega (arith, some),
+            (
+              took.0,
+              leads_to_value r.catalog.now r.limits r.used (machine_of r fs) (machine_of s before.frames) (machine_of new []) piece i count s.used s.catalog.now
+                  s.limits took.0 (ap (λ (x : _). x.now) catalog) limits used (took.1 ∙ ap (λ (j : ℕ). gave took.0 j new) to) before.leads,
+              gave_behind takes (told fs) (told before.frames) new took.0 a m b before.went.hears took.2,
+            ),
+          ),
+        )
 
     pub led_on_refused : (reason : Reason) → i ≤ length piece → Took takes (told before.frames) s.used (run_of s before.frames) rest (Err reason) new m b
         → Walks takes (told fs) r.used (run_of r fs) piece (Err (record { offset = new.used; reason = reason })) new a b
@@ -222,6 +239,26 @@ walk_leaves old new piece used false within all some counts fine = record {
   not_failed = fine;
   awaited = tt;
 }
+
+-- what an advance that isn't refused did: a value ended, or the piece did
+module _ {V : Type 0} (takes : V → Event → V → Type 0) (old new : BinaryWalk) (piece : List ℕ) (w : Walked) (a b : V) where
+  abbrev Went : ℕ → Bool → Type 0
+  Went used ended = DoesWalk takes taken pending awaits failed Told (trace old.catalog.now old.limits) old new piece
+      (Ok (record { used = used; ended = ended })) a b
+
+  pub walk_goes : is_some old.failed ≡ false → w.used ≤ length piece → (w.ended ≡ false → w.used ≡ length piece) → (w.ended ≡ true → 0 < w.used)
+      → new.used ≡ old.used + w.used → SameSetting old new
+      → ((fs : List Frame) → Holds old fs → Walks takes (told fs) old.used (run_of old fs) piece (Ok w) new a b)
+      → (w.ended ≡ true → Went w.used true) × (w.ended ≡ false → Went (length piece) false)
+  walk_goes free within all some counts same does =
+      let fine : old.failed ≡ None = not_failed old.failed free in
+      let leaves = walk_leaves old new piece w.used w.ended within all some counts (same.failed ∙ fine) in
+      let tells : (u : List ℕ) (s : List (Value × ℕ)) (es : List Event) → Told old u s es → WalksOn takes Told u s es piece w.used w.ended new a b =
+      λ u s es h. rw h.2 (walk_tells takes old new u s h.0 h.1 piece a b (same.failed ∙ h.1.fine) same.catalog same.limits w.used w.ended counts
+      (does h.0 h.1.holds)) in (
+        went_to_end takes taken pending awaits failed Told (trace old.catalog.now old.limits) old new piece a b free w leaves tells,
+        went_over takes taken pending awaits failed Told (trace old.catalog.now old.limits) old new piece a b free w leaves tells,
+      )
 
 -- what is refused is refused behind them
 pub walk_answers : {V : Type 0} (takes : V → Event → V → Type 0) (old new : BinaryWalk) (u : List ℕ) (s : List (Value × ℕ)) (fs : List Frame) → StandsFor old u s fs

@@ -6,6 +6,7 @@ use Rattle.ion_docs.specs.Names.{Catalog, Denotes, Different, Equivalent, IsPath
 use Rattle.ion_streams.proofs.Endings.{refused_late}
 use Rattle.ion_docs.specs.Headline.{AreDocuments, AreEquivalent, IsDocument, IsNoDocument, IsVerdictOn, PartFirst, PartThere, RefusesLeft, RefusesRight, SaysDifferent, SaysEquivalent}
 use Rattle.ion_docs.specs.laws.Documents.{promised}
+use Rattle.ion_binary.specs.laws.reading.PlainRows.{both_first, both_second}
 
 -- 1. Where two streams part.
 
@@ -46,14 +47,6 @@ parted _ _ index h = let e : index ≡ 0 + 1 = cc in record { before = 0; number
 
 parts_by : (b : Bool) (rest : Option ℕ) (p : ℕ) → b ≡ true → rest ≡ Some p → cond b (option_map (λ n. n + 1) rest) (Some 1) ≡ Some (p + 1)
 parts_by b rest p e h = rw (e, h)
-
-both_first : (a b : Bool) → a && b ≡ true → a ≡ true
-both_first true b h = refl
-both_first false b h = h
-
-both_second : (a b : Bool) → a && b ≡ true → b ≡ true
-both_second true b h = h
-both_second false b h = absurd cc
 
 parts_at : (before : ℕ) (s t : List Value) → pointwise same (take before s) (take before t) ≡ true → Apart (slice_get s before) (slice_get t before)
     → parts s t ≡ Some (before + 1)

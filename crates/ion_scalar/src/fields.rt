@@ -141,6 +141,9 @@ fn fold_octets(front: u128, octets: &[u8]) -> Option<u128>
     ensures { SomeIff result (positional 256 (front ∷ octets.now) < 2 ^ 127)
         (positional 256 (front ∷ octets.now)) }
 {
+    if octets.len() < 8 && front < 256 {
+        return Some(u128::from(fold_few(front as u64, octets)));
+    }
     let mut value = front;
     for octet in octets {
         if value >= 1 << 119 {
@@ -149,4 +152,18 @@ fn fold_octets(front: u128, octets: &[u8]) -> Option<u128>
         value = value * 256 + u128::from(*octet);
     }
     Some(value)
+}
+
+/// The number that the digit `front` and behind it so few octets make that 64 bits hold it.
+#[inline(always)]
+fn fold_few(front: u64, octets: &[u8]) -> u64
+    requires few { length octets.now < 8 }
+    requires front { front < 256 }
+    ensures { result ≡ positional 256 (front ∷ octets.now) }
+{
+    let mut value = front;
+    for octet in octets {
+        value = value * 256 + u64::from(*octet);
+    }
+    value
 }

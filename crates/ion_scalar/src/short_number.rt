@@ -78,7 +78,7 @@ impl ShortNumber {
 /// sign. Not told are ints of base two, those of base sixteen with `_` or more than 16 digits, and
 /// decimals with `_` or more than 9 digits of an exponent.
 #[inline(always)]
-pub fn short_number_of(token: &[u8]) -> Option<ShortNumber>
+pub(crate) fn short_number_of(token: &[u8]) -> Option<ShortNumber>
     ensures { IfSome result (λ short. (x : AnyNumber) → HasParts short x →
         ReadsNumber token.now (Ok x)) }
 {
@@ -110,7 +110,7 @@ fn short_body(negative: bool, body: &[u8]) -> Option<ShortNumber>
 }
 
 #[inline(always)]
-fn short_int(negative: bool, magnitude: u64) -> ShortNumber
+pub(crate) fn short_int(negative: bool, magnitude: u64) -> ShortNumber
     ensures { (x : AnyNumber) → HasParts result x →
         (x ≡ numbers.Int (signed negative magnitude)) × Fits x }
 {
@@ -124,7 +124,7 @@ fn short_int(negative: bool, magnitude: u64) -> ShortNumber
 
 // The decimal of a coefficient with so many fraction digits.
 #[inline(always)]
-fn short_decimal(negative: bool, magnitude: u64, count: usize) -> ShortNumber
+pub(crate) fn short_decimal(negative: bool, magnitude: u64, count: usize) -> ShortNumber
     requires { count < 20 }
     ensures { (x : AnyNumber) → HasParts result x →
         (x ≡ decimal_read negative magnitude false 0 count) × Fits x }

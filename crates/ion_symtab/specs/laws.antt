@@ -9,6 +9,7 @@ pub mod Reasons
 pub mod Decided
 pub mod Contexts
 pub mod LocalTables
+pub mod WorkedNumbers
 pub mod WorkedTables
 pub mod ContextTexts
 pub mod Builds

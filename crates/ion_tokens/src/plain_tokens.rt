@@ -3,7 +3,7 @@
 ghost use Rattle.std.specs.Prelude.{◌≡◌, ◌≢◌, ◌+◌, ◌-◌, ◌<◌, ◌≤◌, ◌∷◌, ◌^◌, ℕ, List, Some, Ok, false, true, length, get_or, take, drop, IfSome, IsUtf8};
 ghost use Rattle.std.specs.List.{take_while};
 ghost use Rattle.ion_tokens.specs.Names.{IsFound, IsPassed, Number, Place, ReadsNumber, is_digit, is_name, is_white, kind_named, past_blank, past_token};
-ghost use Rattle.ion_scalar.specs.text.laws.PlainNumerals.{PlainNumeral};
+ghost use Rattle.ion_scalar.specs.text.laws.PlainNumerals.{HasNumeral, PlainToken};
 
 use crate::body::kind_named;
 use crate::front::{characters, few_digits, of_number, of_operator, of_word, white};
@@ -130,30 +130,42 @@ pub fn number(octets: &[u8]) -> Option<usize>
     Some(count)
 }
 
-// How many octets these digits at the front have, with a point and the digits behind it if there are.
+/// Where the digits of an int or decimal stand.
+#[derive(Clone, Copy)]
+pub struct Numeral {
+    /// How many octets its whole part has, without the sign.
+    pub whole: usize,
+    /// How many octets it has.
+    pub count: usize,
+}
+
+// The numeral of these digits at the front, with a point and the digits behind it if there are.
 #[inline(always)]
-fn with_fraction(octets: &[u8], whole: usize) -> Option<usize>
+fn with_fraction(octets: &[u8], whole: usize) -> Option<Numeral>
     requires digits { whole ≡ length (take_while is_digit octets.now) }
     requires some { 0 < whole }
     requires few { whole ≤ 19 }
     requires first { 1 < whole → get_or octets.now 0 0 ≢ 48 }
-    ensures { IfSome result (λ count. PlainNumeral octets.now count) }
+    ensures { IfSome result (λ found. HasNumeral octets.now found.whole found.count) }
 {
     if whole >= octets.len() || octets[whole] != b'.' {
-        return Some(whole);
+        return Some(Numeral {
+            whole,
+            count: whole,
+        });
     }
     let fraction = few_digits(&octets[whole + 1..])?;
     let count = whole + 1 + fraction;
     if count > MOST_OF_NUMERAL {
         return None;
     }
-    Some(count)
+    Some(Numeral { whole, count })
 }
 
-// How many octets the int or decimal of plain digits at the front has, behind its sign.
+// The int or decimal of plain digits at the front, behind its sign.
 #[inline(always)]
-fn numeral_body(octets: &[u8]) -> Option<usize>
-    ensures { IfSome result (λ count. PlainNumeral octets.now count) }
+fn numeral_body(octets: &[u8]) -> Option<Numeral>
+    ensures { IfSome result (λ found. HasNumeral octets.now found.whole found.count) }
 {
     let whole = few_digits(octets)?;
     if whole == 0 || whole > MOST_OF_NUMERAL || octets.is_empty() {
@@ -165,24 +177,28 @@ fn numeral_body(octets: &[u8]) -> Option<usize>
     with_fraction(octets, whole)
 }
 
-/// How many octets the int or decimal at the front has, if it is of few digits, and maybe a sign and
-/// a point, and the octet behind it shows its end. Such a token is a number, whichever. What is
+/// Where the digits of the int or decimal at the front stand, if it is of few digits, and maybe a sign
+/// and a point, and the octet behind it shows its end. Such a token is a number, whichever. What is
 /// longer, has another form or stands near the end of the octets isn't told of here. No field's name
 /// stands there.
 #[inline(always)]
-pub fn plain_numeral(octets: &[u8]) -> Option<usize>
-    ensures found { IfSome result (λ count. (place : Place) (rest : Rest) → is_name place ≡ false →
-        IsFound place rest octets.now TokenKind.Number (take count octets.now) count true) }
-    ensures reads { IfSome result (λ count. (number : Number)
-        × ReadsNumber (take count octets.now) (Ok number)) }
-    ensures within { IfSome result (λ count. count < length octets.now) }
+pub fn plain_numeral(octets: &[u8]) -> Option<Numeral>
+    ensures found { IfSome result (λ n. (place : Place) (rest : Rest) → is_name place ≡ false →
+        IsFound place rest octets.now TokenKind.Number (take n.count octets.now) n.count true) }
+    ensures reads { IfSome result (λ n. (number : Number)
+        × ReadsNumber (take n.count octets.now) (Ok number)) }
+    ensures digits { IfSome result (λ n. PlainToken (take n.count octets.now) n.whole) }
+    ensures within { IfSome result (λ n. n.count < length octets.now) }
 {
     let (_negative, body) = split_sign(octets);
-    let count = numeral_body(body)?;
-    if count >= body.len() || !is_stop(body[count]) {
+    let found = numeral_body(body)?;
+    if found.count >= body.len() || !is_stop(body[found.count]) {
         return None;
     }
-    Some(octets.len() - body.len() + count)
+    Some(Numeral {
+        whole: found.whole,
+        count: octets.len() - body.len() + found.count,
+    })
 }
 
 /// How many octets the operator at the front has, if it has no `/` and the octet behind it shows

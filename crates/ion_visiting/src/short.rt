@@ -19,15 +19,16 @@ impl Short {
         if count > 12 {
             return None;
         }
-        let octets = if count >= 8 {
-            with_ends(text, 8)
+        let mut octets = [0; 12];
+        if count >= 8 {
+            put_ends(&mut octets, text, 8);
         } else if count >= 4 {
-            with_ends(text, 4)
+            put_ends(&mut octets, text, 4);
         } else if count >= 2 {
-            with_ends(text, 2)
-        } else {
-            with_few(text)
-        };
+            put_ends(&mut octets, text, 2);
+        } else if count == 1 {
+            octets[0] = text[0];
+        }
         Some(Short {
             count: count as u8,
             octets,
@@ -43,30 +44,15 @@ impl Short {
     }
 }
 
-// A text in front of zeros: so many octets from either end of it, which may overlap.
+// Writes a text down at the front: so many octets from either end of it, which may overlap.
 #[inline(always)]
-fn with_ends(text: &[u8], size: usize) -> [u8; 12]
+fn put_ends(octets: &mut [u8; 12], text: &[u8], size: usize)
     requires fits { length text.now ≤ 12 }
     requires long { size ≤ length text.now }
     requires short { length text.now ≤ 2 * size }
-    ensures { take (length text.now) result ≡ text.now }
+    ensures { take (length text.now) octets.new ≡ text.now }
 {
     let count = text.len();
-    let mut octets = [0; 12];
     octets[..size].copy_from_slice(&text[..size]);
     octets[count - size..count].copy_from_slice(&text[count - size..]);
-    octets
-}
-
-// A text of one octet, or none, in front of zeros.
-#[inline(always)]
-fn with_few(text: &[u8]) -> [u8; 12]
-    requires { length text.now < 2 }
-    ensures { take (length text.now) result ≡ text.now }
-{
-    let mut octets = [0; 12];
-    if text.len() == 1 {
-        octets[0] = text[0];
-    }
-    octets
 }

@@ -76,13 +76,10 @@ impl TableFilter {
     fn is_table(&self, begins: bool) -> bool
         ensures { result ≡ is_of_table self.now.table begins }
     {
-        if let Table::No = self.table {
-            return false;
-        }
         match self.table {
-            Table::Yes => true,
-            Table::Noted => begins,
             Table::Unknown | Table::No => false,
+            Table::Noted => begins,
+            Table::Yes => true,
         }
     }
 
@@ -123,12 +120,11 @@ impl TableFilter {
             LetsPass self.new × Hears V.takes (heard es) es visitor.old visitor.new }
     {
         match self.table {
-            Table::No => true,
-            Table::Noted => self.pass_annotations(visitor),
-            Table::Unknown => {
+            Table::Unknown | Table::No => {
                 self.table = Table::No;
                 true
             }
+            Table::Noted => self.pass_annotations(visitor),
             Table::Yes => unreachable!(),
         }
     }
@@ -362,13 +358,11 @@ impl TableFilter {
         ensures none { result ≡ false → self.new ≡ self.old }
     {
         match self.table {
-            Table::No => true,
-            Table::Unknown => {
+            Table::Unknown | Table::No => {
                 self.table = Table::No;
                 true
             }
-            Table::Noted => false,
-            Table::Yes => false,
+            Table::Noted | Table::Yes => false,
         }
     }
 

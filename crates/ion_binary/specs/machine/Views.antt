@@ -1,6 +1,6 @@
 -- What a reader in memory keeps of the machine's phase.
 use Rattle.std.specs.Prelude.{ℕ, nat_lt, Bool, true, false, if◌then◌else◌, List, [], Option, Some, None}
-use Rattle.ion_binary.specs.Names.Below.{InBody, InMarker, InNumber, InPad, Malformed, Phase, Ready, Reason}
+use Rattle.ion_binary.specs.Names.Below.{InBody, InPad, Malformed, Phase, Reason}
 
 -- the octets of a body count only inside it
 abbrev pub body_so_far : Phase → List ℕ → List ℕ

@@ -2,7 +2,7 @@
 -- was told.
 use Rattle.std.specs.Prelude.{◌≡◌, ◌≢◌, ◌≤◌, ℕ, List, [], ◌∷◌, ◌++◌, map, reverse, Option, Some, None, Result, Ok, Err, Bool, true, false, ◌==◌, if◌then◌else◌}
 use Rattle.std.specs.List.{flat_map}
-use Rattle.ion_binary.specs.Names.Below.{BinaryWalk, Bracket, Container, Effect, Event, Field, Form, Gives, Goes, Hears, InBody, InMarker, InNumber, InPad, Memory, Payload, Phase, Purpose, Ready, Reason, Scalar, TableFilter, Tells, Value, WasTold, annotation, events_of, field_events, heard, layer_events, name, out-Payload, part, resolve}
+use Rattle.ion_binary.specs.Names.Below.{BinaryWalk, Bracket, Container, Effect, Event, Field, Form, Gives, Goes, Hears, InBody, InMarker, InNumber, Memory, Payload, Phase, Purpose, Ready, Reason, Scalar, TableFilter, Tells, Value, WasTold, annotation, events_of, field_events, heard, layer_events, name, out-Payload, part, resolve}
 use Rattle.ion_visiting.specs.Events.{opens}
 use Rattle.ion_binary.specs.machine.EachOctet.{Machine, Outcome, Setting, Spot, deliver, gives, goes, refuses, spot_at, under}
 use Rattle.ion_binary.specs.machine.Frames.{Frame}

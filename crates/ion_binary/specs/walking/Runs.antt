@@ -52,15 +52,24 @@ pub record HasScalar (r : BinaryWalk) (piece : List ℕ) (named : ℕ) (t : Scal
 abbrev pub Led : Run → BinaryWalk → List Frame → Type 0
 Led ran r fs = (ran ≡ led (machine_of r fs)) × Holds r fs
 
+-- an octet of a piece was counted, and none behind it
+abbrev pub CountsOn : ℕ → ℕ → List ℕ → Type 0
+CountsOn from to piece = (from < to) × (to ≤ from + length piece)
+
+-- so it was where memory didn't run out
+abbrev pub TakesUp : ℕ → ℕ → List ℕ → Result Effect Reason → Type 0
+TakesUp from to piece (Ok effect) = CountsOn from to piece
+TakesUp from to piece (Err reason) = reason ≢ Memory → CountsOn from to piece
+
 module _ {V : Type 0} (takes : V → Event → V → Type 0) (es : List Event) where
   -- a run over `to` octets ended where the reader is, and a visitor heard what there is to hear
   abbrev pub Reached : Run → ℕ → Effect → BinaryWalk → V → V → Type 0
   Reached ran to Goes r a b = (fs : List Frame) × (ran ≡ led (machine_of r fs)) × WentOn takes es r fs a b
   Reached ran to Gives r a b = (v : Value) × (ran ≡ gave v to r) × GaveOut takes es r v a b
 
-  -- over octets at the front of a piece a method did what a run over them does, unless memory ran out
-  abbrev pub Took : ℕ → (List ℕ → Run) → List ℕ → Result (ℕ × Effect) Reason → BinaryWalk → V → V → Type 0
-  Took to run piece (Ok took) r a b = (0 < took.0) × (took.0 ≤ length piece) × Reached (run (take took.0 piece)) (to + took.0) took.1 r a b
+  -- over octets at the front of a piece, as many as a reader counts, a method did what a run over them does, unless memory ran out
+  abbrev pub Took : ℕ → (List ℕ → Run) → List ℕ → Result Effect Reason → BinaryWalk → V → V → Type 0
+  Took to run piece (Ok effect) r a b = Reached (run (take (r.used - to) piece)) r.used effect r a b
   Took to run piece (Err reason) r a b = reason ≢ Memory → run piece ≡ refused_at (record { offset = r.used; reason = reason })
 
   -- over this piece a walk did what a run from here does, up to the first value, unless memory ran out

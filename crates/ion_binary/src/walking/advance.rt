@@ -3,7 +3,7 @@ ghost use Rattle.std.specs.Prelude.{◌≡◌, ◌≢◌, ℕ, ◌+◌, ◌-◌,
 ghost use Rattle.ion_binary.specs.Names.{Answers, AreAround, Does, EndsOn, Event, Frame as AnyFrame, Holds, Memory, Moves, RefusesBy, SameSetting, StepsOver, Told, Value as AnyValue, Walks, WalksOn, awaits, failed, goes_on, if_ended, is_in_body, judge, judged, pending, run_of, setting_of, shells, spot_of, taken, told, trace, whole};
 ghost use Rattle.ion_binary.specs.declared.state.Phase.TheVariants as phases;
 ghost use Rattle.ion_binary.specs.machine.EachOctet.{moved};
-ghost use Rattle.ion_binary.specs.walking.Runs.{Led, Took, kept};
+ghost use Rattle.ion_binary.specs.walking.Runs.{Led, TakesUp, Took, kept};
 ghost use Rattle.ion_symtab.specs.Walks.{DoesWalk, answer_of};
 ghost use Rattle.ion_symtab.specs.declared.items.Went.TheVariants as wents;
 
@@ -60,24 +60,15 @@ impl BinaryWalk<'_> {
         }
     }
 
-    /// Takes up octets at the front of a piece: how many, and what the last of them did. Where they
-    /// are refused, `used` counts the octet that decided, and nothing else is known of the machine.
-    fn read_piece<V: Visitor>(
-        &mut self,
-        piece: &[u8],
-        visitor: &mut V,
-    ) -> Result<(usize, Effect), Reason>
+    /// Takes up octets at the front of a piece, which `used` counts: what the last of them did. Where
+    /// they are refused, that one decided, and nothing else is known of the machine.
+    fn read_piece<V: Visitor>(&mut self, piece: &[u8], visitor: &mut V) -> Result<Effect, Reason>
         requires room { self.old.used + length piece.now < 2 ^ 63 }
         requires some { 0 < length piece.now }
         ensures does { (fs : List AnyFrame) → Holds self.old fs →
             Took V.takes (told fs) self.old.used (run_of self.old fs) piece.now
             result self.new visitor.old visitor.new }
-        ensures some { IfOk result (λ took. 0 < took.0) }
-        ensures within { IfOk result (λ took. took.0 ≤ length piece.now) }
-        ensures used { IfOk result (λ took. self.new.used ≡ self.old.used + took.0) }
-        ensures decides { IfErr result (λ reason. reason ≢ Memory →
-            (self.old.used < self.new.used)
-            × (self.new.used ≤ self.old.used + length piece.now)) }
+        ensures up { TakesUp self.old.used self.new.used piece.now result }
         ensures setting { SameSetting self.old self.new }
     {
         if let Phase::Ready = self.phase {
@@ -87,15 +78,13 @@ impl BinaryWalk<'_> {
             return self.read_field(id, size, piece, visitor);
         }
         if let Some((scalar, size)) = self.ending(piece) {
-            let effect = self.read_end(scalar, &piece[..size], visitor)?;
-            return Ok((size, effect));
+            return self.read_end(scalar, &piece[..size], visitor);
         }
         if self.goes_on() {
-            let count = self.read_inside(piece)?;
-            return Ok((count, Effect::Goes));
+            self.read_inside(piece)?;
+            return Ok(Effect::Goes);
         }
-        let effect = self.feed(piece[0], visitor)?;
-        Ok((1, effect))
+        self.feed(piece[0], visitor)
     }
 
     /// The scalar whose body ends in this piece, and how many octets of the piece it ends with.
@@ -224,10 +213,10 @@ impl BinaryWalk<'_> {
         let mut i = 0;
         while i < piece.len() {
             match self.read_piece(&piece[i..], visitor) {
-                Ok((count, Effect::Goes)) => i += count,
-                Ok((count, Effect::Gives)) => {
+                Ok(Effect::Goes) => i = (self.used - before) as usize,
+                Ok(Effect::Gives) => {
                     return Ok(Walked {
-                        used: i + count,
+                        used: (self.used - before) as usize,
                         ended: true,
                     });
                 }

@@ -5,7 +5,7 @@ ghost use Rattle.ion_binary.specs.Names.{Does, Field as AnyField, Frame as AnyFr
 ghost use Rattle.ion_binary.specs.machine.EachOctet.{moved};
 ghost use Rattle.ion_binary.specs.machine.Frames as frames;
 ghost use Rattle.ion_binary.specs.walking.Holds.{told_in};
-ghost use Rattle.ion_binary.specs.walking.Runs.{Took};
+ghost use Rattle.ion_binary.specs.walking.Runs.{TakesUp, Took};
 
 use super::whole_headers::{header_at, scalar_in};
 use super::{BinaryWalk, heard};
@@ -49,30 +49,23 @@ impl BinaryWalk<'_> {
         named: usize,
         piece: &[u8],
         visitor: &mut V,
-    ) -> Result<(usize, Effect), Reason>
+    ) -> Result<Effect, Reason>
         requires room { self.old.used + length piece.now < 2 ^ 63 }
         requires name { HasName self.old piece.now id named }
         ensures does { (fs : List AnyFrame) → Holds self.old fs →
             Took V.takes (told fs) self.old.used (run_of self.old fs) piece.now
             result self.new visitor.old visitor.new }
-        ensures some { IfOk result (λ took. 0 < took.0) }
-        ensures within { IfOk result (λ took. took.0 ≤ length piece.now) }
-        ensures used { IfOk result (λ took. self.new.used ≡ self.old.used + took.0) }
-        ensures decides { IfErr result (λ reason. reason ≢ Memory →
-            (self.old.used < self.new.used)
-            × (self.new.used ≤ self.old.used + length piece.now)) }
+        ensures up { TakesUp self.old.used self.new.used piece.now result }
         ensures setting { SameSetting self.old self.new }
     {
         if let Some((scalar, front, to)) = self.named_scalar(named, piece) {
             if let Ok(symbol) = self.context.symbol(id) {
                 heard(self.filter.name(symbol, visitor))?;
-                let effect = self.read_named(scalar, to, &piece[front..to], visitor)?;
-                return Ok((to, effect));
+                return self.read_named(scalar, to, &piece[front..to], visitor);
             }
         }
         self.used += named as u64;
-        let effect = self.name_came(id)?;
-        Ok((named, effect))
+        self.name_came(id)
     }
 
     /// Takes up a field of so many octets, whose name was told and whose value's body these are.

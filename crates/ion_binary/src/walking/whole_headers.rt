@@ -5,7 +5,7 @@ ghost use Rattle.ion_binary.specs.Names.{AreAround, Does, Frame as AnyFrame, Hea
 ghost use Rattle.ion_binary.specs.declared.form.Form.TheVariants as forms;
 ghost use Rattle.ion_binary.specs.declared.state.Phase.TheVariants as phases;
 ghost use Rattle.ion_binary.specs.machine.EachOctet.{moved};
-ghost use Rattle.ion_binary.specs.walking.Runs.{Took};
+ghost use Rattle.ion_binary.specs.walking.Runs.{TakesUp, Took};
 
 use super::BinaryWalk;
 use crate::form::{Form, Opening, Scalar, hollow, opening_of};
@@ -56,19 +56,14 @@ impl BinaryWalk<'_> {
         &mut self,
         piece: &[u8],
         visitor: &mut V,
-    ) -> Result<(usize, Effect), Reason>
+    ) -> Result<Effect, Reason>
         requires room { self.old.used + length piece.now < 2 ^ 63 }
         requires some { 0 < length piece.now }
         requires ready { self.old.phase ≡ phases.Ready }
         ensures does { (fs : List AnyFrame) → Holds self.old fs →
             Took V.takes (told fs) self.old.used (run_of self.old fs) piece.now
             result self.new visitor.old visitor.new }
-        ensures some { IfOk result (λ took. 0 < took.0) }
-        ensures within { IfOk result (λ took. took.0 ≤ length piece.now) }
-        ensures used { IfOk result (λ took. self.new.used ≡ self.old.used + took.0) }
-        ensures decides { IfErr result (λ reason. reason ≢ Memory →
-            (self.old.used < self.new.used)
-            × (self.new.used ≤ self.old.used + length piece.now)) }
+        ensures up { TakesUp self.old.used self.new.used piece.now result }
         ensures setting { SameSetting self.old self.new }
     {
         let opening = opening_of(piece[0]);
@@ -78,8 +73,7 @@ impl BinaryWalk<'_> {
             }
         }
         self.used += 1;
-        let effect = self.on_descriptor(opening, visitor)?;
-        Ok((1, effect))
+        self.on_descriptor(opening, visitor)
     }
 
     /// Takes up a header that may stand here, with the body of a scalar that is all there, too.
@@ -91,28 +85,21 @@ impl BinaryWalk<'_> {
         size: u64,
         piece: &[u8],
         visitor: &mut V,
-    ) -> Result<(usize, Effect), Reason>
+    ) -> Result<Effect, Reason>
         requires room { self.old.used + length piece.now < 2 ^ 63 }
         requires opens { Opens self.old piece.now form front size }
         ensures does { (fs : List AnyFrame) → Holds self.old fs →
             Took V.takes (told fs) self.old.used (run_of self.old fs) piece.now
             result self.new visitor.old visitor.new }
-        ensures some { IfOk result (λ took. 0 < took.0) }
-        ensures within { IfOk result (λ took. took.0 ≤ length piece.now) }
-        ensures used { IfOk result (λ took. self.new.used ≡ self.old.used + took.0) }
-        ensures decides { IfErr result (λ reason. reason ≢ Memory →
-            (self.old.used < self.new.used)
-            × (self.new.used ≤ self.old.used + length piece.now)) }
+        ensures up { TakesUp self.old.used self.new.used piece.now result }
         ensures setting { SameSetting self.old self.new }
     {
         if let Some(scalar) = scalar_in(form, size, piece.len() - front) {
             let end = front + size as usize;
             self.used += end as u64;
-            let effect = self.scalar(scalar, &piece[front..end], visitor)?;
-            return Ok((end, effect));
+            return self.scalar(scalar, &piece[front..end], visitor);
         }
         self.used += front as u64;
-        let effect = self.begin(form, size, visitor)?;
-        Ok((front, effect))
+        self.begin(form, size, visitor)
     }
 }

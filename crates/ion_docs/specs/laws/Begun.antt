@@ -1,7 +1,7 @@
 -- What the first octet decides: in which encoding octets are read.
 use Rattle.std.proofs.Common.{◌≡◌, ℕ, List, [], ◌∷◌, ◌++◌, ap, Bool, true, false, cond, Option, Some, None}
 use Rattle.std.specs.Prelude.{IfSome}
-use Rattle.ion_docs.specs.Names.{Begins, Catalog, HasTold, Limits, Refusal, Trace, Value, chosen}
+use Rattle.ion_docs.specs.Names.{Begins, Catalog, Limits, Trace, chosen}
 use Rattle.ion_binary.specs.machine.Run as binary
 use Rattle.ion_text.specs.machine.Run as text
 
@@ -27,16 +27,3 @@ same_trace b g h l k e f = cc
 pub each_some : (P Q : ℕ → Type 0) (o : Option ℕ) → ((x : ℕ) → P x → Q x) → IfSome o P → IfSome o Q
 each_some P Q None f h = h
 each_some P Q (Some x) f h = f x h
-
--- What a reader told is so of one that holds it.
-pub told_by : {X Y : Type 0} (inner : Y → X) (taken kept : X → ℕ) (failed : X → Option Refusal) (awaits : X → Option ℕ) (trace : List ℕ → Trace)
-    (item : ℕ) (r : Y) (u : List ℕ) (s : List (Value × ℕ)) → HasTold taken kept failed awaits trace item (inner r) u s
-    → HasTold (λ y. taken (inner y)) (λ y. kept (inner y)) (λ y. failed (inner y)) (λ y. awaits (inner y)) trace item r u s
-told_by inner taken kept failed awaits trace item r u s k = record {
-  counted = k.counted;
-  not_failed = k.not_failed;
-  not_refused = k.not_refused;
-  given_so_far = k.given_so_far;
-  given_with_next = k.given_with_next;
-  bounded = k.bounded;
-}

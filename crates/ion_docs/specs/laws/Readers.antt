@@ -1,18 +1,18 @@
 -- What is known of a reader of either encoding, from what is known of the walk that it holds.
 use Rattle.std.proofs.Common.{◌≡◌, ℕ, ◌≤◌, List, [], ◌∷◌, ◌++◌, length, Option, Some, None, refl}
 use Rattle.std.specs.Prelude.{IsNone, IfSome}
-use Rattle.ion_docs.specs.Names.{Built, DocReader, DocTold, DocWalk, EncodingTold, Event, HasTold, IsFront, Led, Trace, Value, awaits_of, builds, built, chosen, failed_of, fresh, kept_of, taken_of}
+use Rattle.ion_docs.specs.Names.{DocReader, DocTold, DocWalk, EncodingTold, Event, HasTold, IsFront, Trace, Value, awaits_of, chosen, failed_of, fresh, kept_of, taken_of}
 use Rattle.ion_docs.specs.declared.doc_walk.Encoding.{Encoding}
 use Rattle.ion_docs.specs.reading.DocStands.{DocStands, Told}
-use Rattle.ion_docs.specs.laws.Begun.{told_by}
 use Rattle.ion_docs.specs.laws.Walks as walks
+use Rattle.ion_symtab.specs.laws.Builds.{built_by, builds_on, told_by_holder}
 
 -- what a reader told is so
 pub doc_told : (d : DocReader) (u : List ℕ) (s : List (Value × ℕ)) (es : List Event) → Told d u s es
     → HasTold (λ (r : DocReader). taken_of r.walk) (λ r. kept_of r.walk) (λ r. failed_of r.walk) (λ r. awaits_of r.walk)
     (chosen d.walk.catalog.now d.walk.limits) d.walk.limits.item d u s
 doc_told d u s es h =
-    told_by (λ (r : DocReader). r.walk) taken_of kept_of failed_of awaits_of (chosen d.walk.catalog.now d.walk.limits) d.walk.limits.item d u s
+    told_by_holder (λ (r : DocReader). r.walk) taken_of kept_of failed_of awaits_of (chosen d.walk.catalog.now d.walk.limits) d.walk.limits.item d u s
     (walks.has_told d.walk u s es h)
 
 -- a reader that stands for octets has used just these
@@ -50,16 +50,7 @@ begun_nothing w _ es h = absurd h.1
 pub doc_nothing_told : (d : DocReader) → DocStands d [] [] → Told d [] [] []
 doc_nothing_told d h = begun_nothing d.walk d.walk.encoding h.0 h.1
 
--- what is built where these events are told
-abbrev built_by : List Event → Built → Built
-built_by [] b = b
-built_by (e ∷ es) b = built_by es (built b e)
-
-led_by : (es : List Event) (b : Built) → Led builds es b (built_by es b)
-led_by [] b = refl
-led_by (e ∷ es) b = (built b e, refl, led_by es (built b e))
-
 -- where a reader told what octets are, one that built what was told stands for them
 pub doc_one_stands : (d : DocReader) (u : List ℕ) (s : List (Value × ℕ)) (es : List Event) → Told d u s es
     → (q : DocReader) × DocStands q u s × (q.walk.catalog.now ≡ d.walk.catalog.now) × (q.walk.limits ≡ d.walk.limits)
-doc_one_stands d u s es h = (record d { build = built_by es fresh }, (es, h, led_by es fresh), refl, refl)
+doc_one_stands d u s es h = (record d { build = built_by es fresh }, (es, h, builds_on es fresh), refl, refl)

@@ -10,7 +10,8 @@ use Rattle.ion_text.specs.machine.Run as text
 use Rattle.ion_text.specs.laws.reading.Tells as text_told
 use Rattle.ion_docs.specs.declared.doc_walk.Encoding.{Encoding}
 use Rattle.ion_docs.specs.declared.doc_walk.Encoding.TheVariants.{Refused}
-use Rattle.ion_docs.specs.laws.Begun.{begins_on, chosen_in, each_some, same_trace, told_by}
+use Rattle.ion_docs.specs.laws.Begun.{begins_on, chosen_in, each_some, same_trace}
+use Rattle.ion_symtab.specs.laws.Builds.{told_by_holder}
 
 module _ (d : DocWalk) where
   abbrev doc_trace : List ℕ → Trace
@@ -71,5 +72,5 @@ module _ (d : DocWalk) where
 pub has_told : (d : DocWalk) (u : List ℕ) (s : List (Value × ℕ)) (es : List Event) → DocTold d u s es
     → HasTold taken_of kept_of failed_of awaits_of (chosen d.catalog.now d.limits) d.limits.item d u s
 has_told d u s es h =
-    told_by (λ (w : DocWalk). w.encoding) taken_in kept_in failed_in awaits_in (chosen d.catalog.now d.limits) d.limits.item d u s
+    told_by_holder (λ (w : DocWalk). w.encoding) taken_in kept_in failed_in awaits_in (chosen d.catalog.now d.limits) d.limits.item d u s
     (encoding_told d d.encoding u s es h)

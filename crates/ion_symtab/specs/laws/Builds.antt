@@ -4,11 +4,30 @@ use Rattle.std.proofs.lemmas.Grind.{common_steps}
 use Rattle.std.proofs.lemmas.Option.{same_Some}
 use Rattle.std.proofs.lemmas.List.{length-drop, take-append-drop}
 use Rattle.ion_symtab.specs.Names.{Answers, EndsOn, Event, Grows, Hears, IsFront, Led, Refusal, Telling, Trace, Value, WalksOn, given_at}
-use Rattle.ion_visiting.specs.Building.{Built, builds, fresh, value_in, without_value}
+use Rattle.ion_visiting.specs.Building.{Built, builds, built, fresh, value_in, without_value}
 use Rattle.ion_visiting.specs.declared.building.Open.TheVariants.{Top}
 use Rattle.ion_visiting.specs.laws.Built.{value_built}
 use Rattle.ion_visiting.specs.laws.Led.{led_both}
+use Rattle.ion_symtab.specs.Walks.{HasTold}
 use Rattle.ion_symtab.specs.declared.items.Walked.{Walked}
+
+-- what is built where these events are told
+abbrev pub built_by : List Event → Built → Built
+built_by [] b = b
+built_by (e ∷ es) b = built_by es (built b e)
+
+pub builds_on : (es : List Event) (b : Built) → Led builds es b (built_by es b)
+builds_on [] b = refl
+builds_on (e ∷ es) b = (built b e, refl, builds_on es (built b e))
+
+-- what is so of a walk is so of what holds it
+pub told_by_holder : {X Y : Type 0} (inner : Y → X) (taken kept : X → ℕ) (failed : X → Option Refusal) (awaits : X → Option ℕ) (trace : List ℕ → Trace)
+    (item : ℕ) (r : Y) (u : List ℕ) (s : List (Value × ℕ)) → HasTold taken kept failed awaits trace item (inner r) u s
+    → HasTold (λ y. taken (inner y)) (λ y. kept (inner y)) (λ y. failed (inner y)) (λ y. awaits (inner y)) trace item r u s
+told_by_holder inner taken kept failed awaits trace item r u s k =
+    let given = k.given_so_far in
+    let next = k.given_with_next in
+    record { counted = k.counted; not_failed = k.not_failed; not_refused = k.not_refused; given_so_far = given; given_with_next = next; bounded = k.bounded }
 
 -- 1. What a walk told by one relation it told by another that follows from it.
 

@@ -8,7 +8,7 @@ ghost use Rattle.ion_tokens.specs.Bodies.{content};
 use super::symbols::plain_text;
 use crate::words::{is_keyword, may_be_keyword};
 use ion_model::Kind;
-use ion_scalar::{Number, ShortNumber, number_of, short_number_of};
+use ion_scalar::{Number, ShortNumber, number_of, plain_number_of};
 use ion_tokens::{
     Body, FoundToken, Place, TokenKind, number, operator, plain_numeral, quoted_symbol,
     short_string, typed_null, word,
@@ -168,8 +168,9 @@ pub(crate) fn short_number_at(octets: &[u8]) -> Option<(FoundToken, ShortNumber)
     ensures left { IfSome result (λ found. found.0.left ≡ true) }
     ensures within { IfSome result (λ found. found.0.count < length octets.now) }
 {
-    let count = plain_numeral(octets)?;
-    let short = short_number_of(&octets[..count])?;
+    let numeral = plain_numeral(octets)?;
+    let count = numeral.count;
+    let short = plain_number_of(&octets[..count], numeral.whole);
     let token = FoundToken {
         kind: TokenKind::Number,
         count,

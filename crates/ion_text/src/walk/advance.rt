@@ -46,46 +46,10 @@ impl TextWalk<'_> {
     }
 
     /// Takes up octets at the front of a piece, up to the next token or what waits over them, or
-    /// one.
-    #[inline(always)]
-    fn read_front<V: Visitor>(&mut self, piece: &[u8], visitor: &mut V) -> Result<Taken, Refusal>
-        requires fine { IsFine self.old }
-        requires room { (scanned self.old.scanner).used + length piece.now < 2 ^ 63 }
-        requires some { 0 < length piece.now }
-        ensures took { (fs : List Frame) (ss : Symbols) → Holds self.old fs ss →
-            TookFront V.takes (told fs ss) self.old.catalog.now self.old.limits
-            (scanned self.old.scanner).used (state_of self.old fs ss) piece.now
-            (with_count (gone self.old self.new) result) self.new visitor.old visitor.new }
-        ensures on { IfOk result (λ _.
-            (scanned self.old.scanner).used ≤ (scanned self.new.scanner).used) }
-        ensures within { IfOk result (IsWithin (length piece.now) (gone self.old self.new)) }
-        ensures fine { IfOk result (λ _. IsFine self.new) }
-        ensures steady { IfOk result (λ _. StaysSteady self.old self.new) }
-        ensures same { SameReader self.old self.new }
-    {
-        let run_to_token = self.run_to_token(piece);
-        if run_to_token > 0 {
-            return match self.read_to_token(&piece[..run_to_token], visitor) {
-                Ok((_count, taken)) => Ok(taken),
-                Err(refusal) => Err(refusal),
-            };
-        }
-        let waiting_run = self.waiting_run(piece);
-        if waiting_run > 0 {
-            self.read_while_waiting(&piece[..waiting_run])?;
-            return Ok(Taken::Uses);
-        }
-        let offset = self.scanner.used() + 1;
-        match self.read_octet(3, piece[0], visitor) {
-            Ok(taken) => Ok(taken),
-            Err(reason) => Err(Refusal { offset, reason }),
-        }
-    }
-
-    /// The same. Where it refuses, `refused` gets the offset, so that what it answers is no longer
-    /// than two octets: most values of the top level end without it.
+    /// one. Where it refuses for another reason than `Memory`, `refused` gets the offset: so that
+    /// what it answers is no longer than two octets.
     #[inline(never)]
-    fn read_front_apart<V: Visitor>(
+    fn read_front<V: Visitor>(
         &mut self,
         piece: &[u8],
         refused: &mut u64,
@@ -106,11 +70,29 @@ impl TextWalk<'_> {
         ensures steady { IfOk result (λ _. StaysSteady self.old self.new) }
         ensures same { SameReader self.old self.new }
     {
-        match self.read_front(piece, visitor) {
+        let run_to_token = self.run_to_token(piece);
+        if run_to_token > 0 {
+            return match self.read_to_token(&piece[..run_to_token], visitor) {
+                Ok((_count, taken)) => Ok(taken),
+                Err(refusal) => {
+                    *refused = refusal.offset;
+                    Err(refusal.reason)
+                }
+            };
+        }
+        let waiting_run = self.waiting_run(piece);
+        if waiting_run > 0 {
+            return match self.read_while_waiting(&piece[..waiting_run]) {
+                Ok(()) => Ok(Taken::Uses),
+                Err(refusal) => Err(refusal.reason),
+            };
+        }
+        let offset = self.scanner.used() + 1;
+        match self.read_octet(3, piece[0], visitor) {
             Ok(taken) => Ok(taken),
-            Err(refusal) => {
-                *refused = refusal.offset;
-                Err(refusal.reason)
+            Err(reason) => {
+                *refused = offset;
+                Err(reason)
             }
         }
     }
@@ -140,13 +122,13 @@ impl TextWalk<'_> {
         ensures same { SameReader self.old self.new }
     {
         let Some(rest) = self.rests() else {
-            return self.read_front_apart(piece, refused, visitor);
+            return self.read_front(piece, refused, visitor);
         };
         match self.read_tokens(rest, piece, visitor) {
             Err(reason) => Err(reason),
             Ok(Taken::Uses) => {
                 let count = self.gone(rest.used);
-                self.read_front_apart(&piece[count..], refused, visitor)
+                self.read_front(&piece[count..], refused, visitor)
             }
             Ok(Taken::Tells) => Ok(Taken::Tells),
             Ok(Taken::Leaves) => Ok(Taken::Leaves),

@@ -36,7 +36,7 @@ fn numeral(octets: &[u8]) -> Option<usize>
 {
     match plain_numeral(octets) {
         None => numeral_by_value(octets),
-        found => found,
+        Some(numeral) => Some(numeral.count),
     }
 }
 

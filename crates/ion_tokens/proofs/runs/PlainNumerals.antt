@@ -8,7 +8,7 @@ use Rattle.std.proofs.lemmas.List.{get_or-drop}
 use Rattle.std.proofs.lemmas.List.Folds.{length-prefix_len}
 use Rattle.std.proofs.lemmas.List.Sums.{prefix_len_passes, prefix_len_is}
 use Rattle.ion_tokens.specs.Names.{BeginsWithMinus, IsFound, Number, Place, ReadsNumber, Rest, TokenKind, is_digit, is_name, is_numeric, is_stop, minus, slash}
-use Rattle.ion_scalar.specs.text.laws.PlainNumerals.{IsPlainDigit, PlainNumeral, numeral_reads}
+use Rattle.ion_scalar.specs.text.laws.PlainNumerals.{HasNumeral, IsPlainDigit, PlainNumeral, PlainToken, numeral_reads, numeral_token}
 use Rattle.ion_tokens.proofs.runs.WholeTokens.{front_length, front_within, number_found}
 
 plain_digit : (o : ℕ) → is_digit o ≡ true → IsPlainDigit o
@@ -23,24 +23,27 @@ each_digit os n e i less = plain_digit _ (prefix_len_passes is_digit os i 0 (ome
 
 -- digits alone
 pub int_there : (os : List ℕ) (whole : ℕ) → whole ≡ length (take_while is_digit os) → 0 < whole → whole ≤ 19 → (1 < whole → get_or os 0 0 ≢ 48)
-    → PlainNumeral os whole
-int_there os whole e some few first = record {
-  whole = whole;
-  some = some;
-  few = few;
-  within = front_within is_digit os whole e;
-  digits = each_digit os whole e;
-  first = first;
-  behind = inl refl;
-}
+    → HasNumeral os whole whole
+int_there os whole e some few first = (
+  record {
+    whole = whole;
+    some = some;
+    few = few;
+    within = front_within is_digit os whole e;
+    digits = each_digit os whole e;
+    first = first;
+    behind = inl refl;
+  },
+  refl,
+)
 
 -- digits, a point, and digits or none
 pub point_there : (os : List ℕ) (whole fraction : ℕ) → whole ≡ length (take_while is_digit os) → 0 < whole → (1 < whole → get_or os 0 0 ≢ 48)
     → whole < length os → get_or os whole 0 ≡ 46 → fraction ≡ length (take_while is_digit (drop (whole + 1) os)) → whole + 1 + fraction ≤ 19
-    → PlainNumeral os (whole + 1 + fraction)
+    → HasNumeral os whole (whole + 1 + fraction)
 point_there os whole fraction e some first more point f few =
     let rest = drop (whole + 1) os in
-    record {
+    let is : PlainNumeral os (whole + 1 + fraction) = record {
       whole = whole;
       some = some;
       few = few;
@@ -55,7 +58,8 @@ point_there os whole fraction e some first more point f few =
             subst (λ k. IsPlainDigit (get_or os k 0)) there
             (subst IsPlainDigit (get_or-drop (whole + 1) os (i - (whole + 1)) 0) (each_digit rest fraction f (i - (whole + 1)) (omega arith))),
       );
-    }
+    } in
+    (is, refl)
 
 -- a number goes on with each octet of a numeral
 goes_on : (os : List ℕ) (count : ℕ) → PlainNumeral os count → (i : ℕ) → i < count → is_numeric (get_or os i 0) ≡ true
@@ -76,9 +80,10 @@ run_is : (os : List ℕ) (count : ℕ) → PlainNumeral os count → is_stop (sl
 run_is os count h stop = prefix_len_is is_numeric os count 0 h.within (goes_on os count h) (λ _. stop_no_number (slice_index os count) stop)
 
 -- Octets begin with so many of a number, and the octet behind them shows its end.
-pub record WholeNumeral (octets : List ℕ) (n : ℕ) : Type 0 where
+pub record WholeNumeral (octets : List ℕ) (whole n : ℕ) : Type 0 where
   pub within : n < length octets
   pub reads : (x : Number) × ReadsNumber (take n octets) (Ok x)
+  pub digits : PlainToken (take n octets) whole
   pub found : (p : Place) (r : Rest) → is_name p ≡ false → IsFound p r octets TokenKind.Number (take n octets) n true
 
 no_slash : (o : ℕ) → is_stop o ≡ true → o ≢ 47
@@ -95,39 +100,44 @@ begins_same negative os zero some b = absurd (omega arith)
 begins_same negative [] (suc k) some b = b
 begins_same negative (o ∷ os) (suc k) some b = b
 
-unsigned : (os : List ℕ) (count : ℕ) → BeginsWithMinus false os → PlainNumeral os count → count < length os → is_stop (slice_index os count) ≡ true
-    → WholeNumeral os count
-unsigned os count b h more stop =
-    let first = first_digit os count h in
+unsigned : (os : List ℕ) (whole count : ℕ) → BeginsWithMinus false os → HasNumeral os whole count → count < length os
+    → is_stop (slice_index os count) ≡ true → WholeNumeral os whole count
+unsigned os whole count b h more stop =
+    let first = first_digit os count h.0 in
+    let begins = begins_same false os count first.0 b in
     record {
       within = more;
-      reads = numeral_reads false (take count os) os count (begins_same false os count first.0 b) refl h;
-      found = number_found os count (omega (arith, first.0)) (inl first.1) (sym (length-prefix_len is_numeric os ∙ run_is os count h stop)) more
+      reads = numeral_reads false (take count os) os count begins refl h.0;
+      digits = numeral_token false (take count os) os whole count begins refl h;
+      found = number_found os count (omega (arith, first.0)) (inl first.1) (sym (length-prefix_len is_numeric os ∙ run_is os count h.0 stop)) more
           (no_slash _ stop);
     }
 
-signed : (os : List ℕ) (count : ℕ) → PlainNumeral os count → count < length os → is_stop (slice_index os count) ≡ true → WholeNumeral (45 ∷ os) (suc count)
-signed os count h more stop =
-    let first = first_digit os count h in
+signed : (os : List ℕ) (whole count : ℕ) → HasNumeral os whole count → count < length os → is_stop (slice_index os count) ≡ true
+    → WholeNumeral (45 ∷ os) whole (suc count)
+signed os whole count h more stop =
+    let first = first_digit os count h.0 in
     let one : prefix_len is_numeric (45 ∷ os) ≡ 1 + prefix_len is_numeric os = refl in
-    let size : prefix_len is_numeric (45 ∷ os) ≡ suc count = omega (arith, one, run_is os count h stop) in
+    let size : prefix_len is_numeric (45 ∷ os) ≡ suc count = omega (arith, one, run_is os count h.0 stop) in
     record {
       within = omega arith;
-      reads = numeral_reads true (45 ∷ take count os) os count ((λ _. refl), (λ _. refl)) refl h;
+      reads = numeral_reads true (45 ∷ take count os) os count ((λ _. refl), (λ _. refl)) refl h.0;
+      digits = numeral_token true (45 ∷ take count os) os whole count ((λ _. refl), (λ _. refl)) refl h;
       found = number_found (45 ∷ os) (suc count) (omega (arith, first.0)) (inr (refl, first.1))
           (sym (length-prefix_len is_numeric (45 ∷ os) ∙ size)) (omega arith) (no_slash _ stop);
     }
 
 -- A numeral behind a sign or none, before a stop character, is a number.
-pub whole_numeral : (negative : Bool) (octets body : List ℕ) (count n : ℕ) → BeginsWithMinus negative octets → octets ≡ minus negative ++ body
-    → PlainNumeral body count → count < length body → is_stop (slice_index body count) ≡ true → n ≡ length octets - length body + count → WholeNumeral octets n
-whole_numeral false octets body count n b e h more stop size =
+pub whole_numeral : (negative : Bool) (octets body : List ℕ) (whole count n : ℕ) → BeginsWithMinus negative octets → octets ≡ minus negative ++ body
+    → HasNumeral body whole count → count < length body → is_stop (slice_index body count) ≡ true → n ≡ length octets - length body + count
+    → WholeNumeral octets whole n
+whole_numeral false octets body whole count n b e h more stop size =
     let all : length octets ≡ length body = ap (λ (l : List ℕ). length l) e in
     let same : count ≡ n = omega arith in
-    let P : List ℕ → Type 0 = λ l. WholeNumeral l n in
-    subst P (sym e) (subst (WholeNumeral body) same (unsigned body count (subst (BeginsWithMinus false) e b) h more stop))
-whole_numeral true octets body count n b e h more stop size =
+    let P : List ℕ → Type 0 = λ l. WholeNumeral l whole n in
+    subst P (sym e) (subst (WholeNumeral body whole) same (unsigned body whole count (subst (BeginsWithMinus false) e b) h more stop))
+whole_numeral true octets body whole count n b e h more stop size =
     let all : length octets ≡ suc (length body) = ap (λ (l : List ℕ). length l) e in
     let same : suc count ≡ n = omega arith in
-    let P : List ℕ → Type 0 = λ l. WholeNumeral l n in
-    subst P (sym e) (subst (WholeNumeral (45 ∷ body)) same (signed body count h more stop))
+    let P : List ℕ → Type 0 = λ l. WholeNumeral l whole n in
+    subst P (sym e) (subst (WholeNumeral (45 ∷ body) whole) same (signed body whole count h more stop))

@@ -1,7 +1,7 @@
 -- No whole pieces end within a piece. So a value's item lies between any with the values before it and any with one more.
 use Rattle.std.proofs.Common.{◌≡◌, ℕ, zero, suc, ◌+◌, ◌≤◌, ◌<◌, List, [], ◌∷◌, ◌++◌, length, refl, ap, sym, ◌∙◌, subst, arith, append_assoc, append-nil, length-append, inl, inr}
 use Rattle.std.proofs.lemmas.Bool.{cases_lt}
-use Rattle.ion_binary.specs.Names.{Binary, Catalog, Follows, Form, Header, IsPad, Known, Limits, Marker, Null, Opening, Payload, Pieces, Plain, Refused, Sized, Slot, Truth, Value, VarUInt, Whole, begins, descriptor_of, document, holds, is_listing, is_null, is_ordered, is_scalar, is_struct, is_truth, long, marked, no_piece, nodes, opening_of, short, skipped, skips, the_marker, trace, turns, unannotated, wrapped}
+use Rattle.ion_binary.specs.Names.{Binary, Catalog, Follows, Form, Header, IsPad, Known, Limits, Marker, Opening, Payload, Pieces, Plain, Refused, Sized, Slot, Value, VarUInt, Whole, begins, descriptor_of, document, holds, is_listing, is_null, is_ordered, is_scalar, is_struct, is_truth, long, marked, no_piece, nodes, opening_of, short, skipped, skips, the_marker, trace, turns, unannotated, wrapped}
 use Rattle.ion_scalar.specs.binary.laws.VarUInt.{one_var_uint}
 use Rattle.ion_symtab.specs.laws.Promises.{same_cut, same_last}
 use Rattle.ion_binary.specs.laws.reading.Documents.{pieces_run}

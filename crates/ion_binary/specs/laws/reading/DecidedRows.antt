@@ -1,7 +1,7 @@
 -- Each row of the format's table: where the last octet decides, the machine refuses it, for this reason or one with a smaller number.
 use Rattle.std.proofs.Common.{◌≡◌, ◌≢◌, ◌⊎◌, inl, inr, ℕ, suc, ◌+◌, ◌-◌, ◌*◌, ◌^◌, ◌<◌, ◌≤◌, ◌||◌, ◌&&◌, ◌==◌, nat_lt, nat_le, le-ltb, lt-ltb, ne_eqb, List, [], ◌∷◌, ◌++◌, length, Result, Ok, Err, Option, Some, None, Bool, true, false, refl, ap, sym, ◌∙◌, subst, arith, length-append, append_assoc, eqb-true}
 use Rattle.std.proofs.lemmas.Bool.{cond-true, cond-false, lt-leb, le-leb, cases_lt}
-use Rattle.ion_binary.specs.Names.{Binary, Catalog, Count, Decides, Depth, EndsHeader, EndsNumber, First, Follows, Form, Fourth, Frame, Headed, Id, InMarker, InNumber, IsContainer, IsFront, ItemTooLong, Known, LastOctet, Length, Limits, Malformed, Marker, Name, Named, Noted, Null, Number, Open, Opening, Outcome, Pieces, Purpose, Ready, Reason, Refused, Scalar, Second, Size, Sized, Slot, Spot, TakesValue, Third, TooLarge, Truth, Value, Version, a_body, a_null, a_truth, annotation_came, annotations_past, at, bad_body, bad_empty_body, bad_table, begin, count_came, depth, descriptor_of, header_too_long, hollow, in_wrapper, initial, inner_marker, is_pad, is_table, is_wrapper, judge, judged, longer, marks, misfits, name_came, nameless, next, no_annotation, no_annotations, no_count, no_descriptor, no_length, no_marker, no_name, no_value, number_past, of_annotations, of_container, of_struct, of_wrapper, on_descriptor, on_number, opening_of, or_else, other_marker, other_version, past, past_container, reason_number, refuses, resolve, run, run-append, run_after, run_on, seven_bits, sized, spot_at, stray, system_slots, then_run, too_deep, too_large, turned, under, unending, unfit, unless, wrapper_unfilled}
+use Rattle.ion_binary.specs.Names.{Binary, Catalog, Count, Decides, Depth, EndsHeader, EndsNumber, First, Follows, Form, Fourth, Frame, Headed, Id, InMarker, InNumber, IsContainer, IsFront, ItemTooLong, Known, LastOctet, Length, Limits, Malformed, Marker, Name, Named, Noted, Number, Open, Opening, Outcome, Pieces, Purpose, Ready, Reason, Refused, Scalar, Second, Size, Sized, Slot, Spot, TakesValue, Third, TooLarge, Value, Version, a_body, a_null, a_truth, annotation_came, annotations_past, at, bad_body, bad_empty_body, bad_table, begin, count_came, depth, descriptor_of, header_too_long, hollow, in_wrapper, initial, inner_marker, is_pad, is_table, is_wrapper, judge, judged, longer, marks, misfits, name_came, nameless, next, no_annotation, no_annotations, no_count, no_descriptor, no_length, no_marker, no_name, no_value, number_past, of_annotations, of_container, of_struct, of_wrapper, on_descriptor, on_number, opening_of, or_else, other_marker, other_version, past, past_container, reason_number, refuses, resolve, run, run-append, run_after, run_on, seven_bits, sized, spot_at, stray, system_slots, then_run, too_deep, too_large, turned, under, unending, unfit, unless, wrapper_unfilled}
 use Rattle.ion_symtab.specs.laws.Reasons.{either}
 use Rattle.ion_binary.specs.Deciding as deciding
 use Rattle.ion_binary.specs.Deciding.{Container, Names, Reaches, no_fields, too_long}

@@ -1,7 +1,7 @@
 -- What stands for octets is what stands open behind them.
-use Rattle.std.proofs.Common.{◌≡◌, ℕ, ◌<◌, ◌≤◌, ◌||◌, List, [], ◌∷◌, ◌++◌, length, Result, Ok, Err, Option, Some, None, Bool, true, false, cond, refl, ap, sym, ◌∙◌, subst, subst₂, arith, length-append}
+use Rattle.std.proofs.Common.{◌≡◌, ℕ, ◌<◌, ◌≤◌, ◌||◌, List, [], ◌∷◌, length, Result, Ok, Err, Option, Some, None, Bool, true, false, cond, refl, ap, sym, ◌∙◌, subst, subst₂, arith, length-append}
 use Rattle.std.proofs.lemmas.Bool.{cond-false}
-use Rattle.ion_binary.specs.Names.{Catalog, Count, Field, Form, Frame, Headed, Id, Items, LastOctet, Length, Limits, Malformed, MayGoOn, MayReach, Name, Named, Noted, Number, Open, Purpose, Reason, Slot, TakesValue, Value, a_count, a_length, a_name, an_id, is_pad, is_wrapper, nameless, of_annotations, of_container, of_struct, of_wrapper, resolve}
+use Rattle.ion_binary.specs.Names.{Catalog, Count, Field, Form, Frame, Headed, Id, Items, LastOctet, Length, Limits, Malformed, MayGoOn, MayReach, Name, Named, Noted, Number, Open, Purpose, Reason, Slot, TakesValue, Value, a_count, a_length, a_name, an_id, is_pad, is_wrapper, nameless, of_container, resolve}
 use Rattle.ion_binary.specs.Deciding as deciding
 use Rattle.ion_binary.specs.Deciding.{Container, MayBegin, Names}
 use Rattle.ion_binary.specs.machine.Frames as frames

@@ -18,11 +18,11 @@ abbrev all_below : (ℕ → Bool) → ℕ → Bool
 all_below test zero = true
 all_below test (suc n) = test n && all_below test n
 
-both_first : (a b : Bool) → a && b ≡ true → a ≡ true
+pub both_first : (a b : Bool) → a && b ≡ true → a ≡ true
 both_first true b h = refl
 both_first false b h = h
 
-both_second : (a b : Bool) → a && b ≡ true → b ≡ true
+pub both_second : (a b : Bool) → a && b ≡ true → b ≡ true
 both_second true b h = h
 both_second false b h = absurd cc
 

@@ -1,11 +1,9 @@
 -- The refusals of the trace are those of the format's table, given that rows refuse and that refusals have rows.
-use Rattle.std.proofs.Common.{◌≡◌, ℕ, ◌+◌, ◌≤◌, List, [], ◌∷◌, ◌++◌, length, take, drop, Bool, true, false, cond, Result, Ok, Err, Option, Some, None, refl, ap, sym, ◌∙◌, subst, arith, length-append}
-use Rattle.std.proofs.Math.Seq.{take-append-add}
+use Rattle.std.proofs.Common.{◌≡◌, ℕ, ◌≤◌, List, length, take, drop, Result, Ok, Err, Some, ap, sym, ◌∙◌, subst, arith}
 use Rattle.std.proofs.lemmas.List.{length-take-le, take-append-drop}
-use Rattle.ion_binary.specs.Names.{Catalog, Decides, Incomplete, Limits, Machine, Reason, Refusal, Value, ends_of, initial, on_now, plain, reason_number, refused_of, run, run-append, trace, whole}
+use Rattle.ion_binary.specs.Names.{Catalog, Decides, Limits, Machine, Reason, Refusal, initial, on_now, reason_number, refused_of, run, run-append, trace}
 use Rattle.ion_binary.specs.Deciding.{Answers}
 use Rattle.ion_binary.specs.laws.reading.DecidedRows.{every_row}
-use Rattle.ion_binary.specs.laws.reading.NumberRuns.{Stopped}
 use Rattle.ion_binary.specs.laws.reading.Promises.{refused_is, stopped_decides}
 use Rattle.ion_binary.specs.laws.reading.Stops.{stop_of, stop_taken, stopped}
 

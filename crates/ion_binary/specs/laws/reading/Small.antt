@@ -2,7 +2,7 @@
 use Rattle.std.proofs.Common.{◌≡◌, ℕ, suc, ◌+◌, ◌≤◌, List, [], ◌∷◌, ◌++◌, length, map, sum, Option, refl, ◌∙◌, arith, length-append}
 use Rattle.std.specs.List.{sum_by}
 use Rattle.std.proofs.lemmas.List.Sums.{sum-map, sum_by-append, sum_by-cons}
-use Rattle.ion_binary.specs.Names.{Binary, Field, Fields, HasSpan, Ids, IsScalar, ListOrSexp, Payload, Plain, Scalar, Sequence, Slot, Spaced, Value, annotated, bare, field_of, is_blob, is_clob, is_decimal, is_int, is_listing, is_negative, is_null, is_ordered, is_scalar, is_string, is_struct, is_symbol, is_timestamp, is_truth, listed, no_fields, no_ids, nodes, nothing, one_field, one_id, one_more, padded, padded_field, positional, unannotated, wrapped}
+use Rattle.ion_binary.specs.Names.{Binary, Field, Fields, HasSpan, Ids, ListOrSexp, Payload, Plain, Sequence, Slot, Spaced, Value, annotated, bare, field_of, is_listing, is_null, is_ordered, is_scalar, is_struct, is_truth, listed, no_fields, no_ids, nodes, nothing, one_field, one_id, one_more, padded, padded_field, unannotated, wrapped}
 use Rattle.ion_model.specs.declared.value.Payload.TheVariants as payloads
 use Rattle.ion_model.specs.declared.value.Payload.TheViews as views
 use Rattle.ion_model.specs.laws.Measures.{nodes-Null, nodes-Truth, nodes-bare, nodes-more, nodes-out}

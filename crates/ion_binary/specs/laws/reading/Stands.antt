@@ -1,5 +1,5 @@
 -- What octets and a machine have to do with one another.
-use Rattle.std.specs.Prelude.{◌≡◌, ℕ, suc, ◌+◌, ◌^◌, ◌<◌, ◌≤◌, ◌⊎◌, Bool, true, false, ◌&&◌, ◌==◌, List, [], ◌∷◌, ◌++◌, length, Option, None}
+use Rattle.std.specs.Prelude.{◌≡◌, ℕ, suc, ◌+◌, ◌^◌, ◌<◌, ◌≤◌, ◌⊎◌, Bool, true, false, ◌&&◌, ◌==◌, List, [], ◌∷◌, ◌++◌, length, None}
 use Rattle.ion_binary.specs.Names.{Catalog, Decides, Digits128, Field, Fields, First, Follows, Form, Fourth, Frame, Header, Ids, InBody, InMarker, InNumber, InPad, Limits, Machine, Mark, Outcome, Phase, Pieces, Purpose, Ready, Second, Sequence, Sized, Slot, Third, Value, VarUInt, depths, end_of, field_depths, gives, goes, is_pad, levels, nameless, opening_of, positional, refuses, resolve, stray}
 use Rattle.ion_binary.specs.machine.Frames as frames
 

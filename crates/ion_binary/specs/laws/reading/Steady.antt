@@ -1,6 +1,6 @@
 -- An octet never moves the start of the open piece back.
 use Rattle.std.proofs.Common.{ℕ, ◌+◌, ◌-◌, ◌*◌, ◌^◌, ◌≤◌, List, [], ◌∷◌, ◌++◌, Result, Ok, Err, Option, Some, None, arith, Bool, nat_lt, ◌==◌}
-use Rattle.ion_binary.specs.Names.{First, Follows, Form, Fourth, Frame, InBody, InMarker, InNumber, InPad, Known, Machine, Mark, Marker, Null, Opening, Outcome, Payload, Phase, Purpose, Ready, Reason, Refused, Setting, Sized, Slot, Spot, Truth, Value, annotation_came, bare, begin, count_came, counted, deeper, deliver, end_of, feed, gives, goes, hollow, is_table, judge, judged, levels, longer, name_came, nameless, next, number_came, on_descriptor, on_marker, on_phase, one_octet, opening_of, past, proceed, refuses, resolve, sized, stray, turned, unending, unfit, unless, unsized}
+use Rattle.ion_binary.specs.Names.{First, Follows, Form, Fourth, Frame, InBody, InMarker, InNumber, InPad, Known, Machine, Mark, Marker, Null, Opening, Outcome, Payload, Phase, Purpose, Ready, Reason, Refused, Setting, Sized, Slot, Spot, Truth, Value, annotation_came, bare, begin, count_came, counted, deeper, deliver, end_of, feed, gives, goes, hollow, is_table, judge, judged, levels, longer, name_came, nameless, next, number_came, on_descriptor, on_marker, on_phase, one_octet, opening_of, past, proceed, refuses, resolve, sized, stray, turned, unending, unfit, unless}
 use Rattle.ion_model.specs.declared.value.Payload.TheVariants as payloads
 use Rattle.ion_symtab.specs.laws.Reasons.{either}
 use Rattle.ion_binary.specs.machine.Frames as frames

@@ -1,9 +1,9 @@
 -- What is written of worked streams.
-use Rattle.std.proofs.Common.{◌≡◌, ℕ, pos, negsuc, Bool, true, false, List, [], ◌∷◌, ◌++◌, Some, None, refl, ap, ◌∙◌, map}
+use Rattle.std.proofs.Common.{◌≡◌, ℕ, Bool, true, false, List, [], ◌∷◌, ◌++◌, Some, refl, ap, ◌∙◌, map}
 use Rattle.std.specs.Prelude.{codes}
 use Rattle.std.specs.List.{flat_map}
-use Rattle.ion_binary.specs.Names.{DecimalParts, Field, Layer, Names, Payload, TimestampParts, Value, annotated, bare, bin_from, bin_of, field_of, framed, id_of, layer_octets, layer_symbols, name_text, named_octets, opening, string_value, symbols_of, system_names, system_texts, table_octets, table_value, timestamp_octets, uint_octets, value_octets, with_names}
-use Rattle.ion_atoms.specs.declared.timestamp.Precision.{Precision}
+use Rattle.ion_binary.specs.Names.{Field, Layer, Names, Payload, Value, annotated, bare, bin_from, bin_of, field_of, framed, id_of, layer_octets, layer_symbols, name_text, named_octets, opening, string_value, symbols_of, system_names, system_texts, table_octets, table_value, timestamp_octets, uint_octets, value_octets, with_names}
+use Rattle.ion_symtab.specs.laws.WorkedNumbers.{in_2007, minus_zero, one_and_a_half}
 use Rattle.ion_model.specs.declared.value.Payload.TheVariants as payloads
 use Rattle.ion_model.specs.declared.value.Payload.TheViews as views
 use Rattle.ion_scalar.specs.binary.Shifted.{moved}
@@ -26,20 +26,6 @@ worked_items = value_a ∷ value_b ∷ value_a ∷ []
 
 abbrev worked_list : Value
 worked_list = bare (payloads.List worked_items)
-
--- the year 2007
-abbrev in_2007 : TimestampParts
-in_2007 = record {
-  local = record { year = 2007; month = 1; day = 1; hour = 0; minute = 0; second = 0; fraction = 0 };
-  precision = Precision.Year;
-  offset = None;
-}
-
-abbrev minus_zero : DecimalParts
-minus_zero = record { negative = true; magnitude = 0; exponent = pos 0 }
-
-abbrev one_and_a_half : DecimalParts
-one_and_a_half = record { negative = false; magnitude = 15; exponent = negsuc 0 }
 
 -- 1.5 by the name `a`
 abbrev fields : List Field

@@ -1,9 +1,9 @@
 -- Ints and decimals of few plain digits, where their numbers aren't asked for.
-use Rattle.std.proofs.Common.{◌≡◌, ◌≢◌, ℕ, zero, suc, ◌+◌, ◌-◌, ◌*◌, ◌^◌, ◌<◌, ◌≤◌, ◌⊎◌, inl, inr, List, length, take, drop, get_or, pos, neg_ℤ, ◌-ℤ◌, ◌++◌, Bool, true, false, Ok, refl, sym, subst, ◌∙◌, arith, length-drop}
+use Rattle.std.proofs.Common.{◌≡◌, ◌≢◌, ℕ, zero, suc, ◌+◌, ◌-◌, ◌*◌, ◌^◌, ◌<◌, ◌≤◌, ◌⊎◌, inl, inr, List, [], ◌∷◌, length, take, drop, get_or, pos, neg_ℤ, ◌-ℤ◌, ◌++◌, Bool, true, false, Ok, refl, sym, ap, subst, ◌∙◌, arith, length-drop}
 use Rattle.std.proofs.lemmas.Int.{ints}
 use Rattle.std.specs.Prelude.{◌≤ℤ◌, ◌<ℤ◌}
 use Rattle.std.proofs.lemmas.List.{get_or-take, get_or-drop, length-take-le}
-use Rattle.ion_scalar.specs.Names.{BeginsWithMinus, IsWhole, Number, ReadsBehind, ReadsNumber, decimal_read, minus, signed}
+use Rattle.ion_scalar.specs.Names.{BeginsWithMinus, Fits, IsWhole, Number, ReadsBehind, ReadsNumber, decimal_read, minus, signed}
 use Rattle.ion_scalar.specs.text.laws.ShortNumbers.{PlainRun, below_room, marked_from, number_of_numeral, plain_more, room_behind, room_decimal, short_decimal, short_int, short_whole}
 use Rattle.ion_scalar.specs.text.laws.Unsigned.{token_answer}
 
@@ -21,6 +21,18 @@ pub record PlainNumeral (os : List ℕ) (count : ℕ) : Type 0 where
   pub first : 1 < whole → get_or os 0 0 ≢ 48
   pub behind : (whole ≡ count)
       ⊎ ((whole < count) × (get_or os whole 0 ≡ 46) × ((i : ℕ) → whole < i → i < count → IsPlainDigit (get_or os i 0)))
+
+-- The same, where the whole part has so many.
+abbrev pub HasNumeral : List ℕ → ℕ → ℕ → Type 0
+HasNumeral os whole count = (h : PlainNumeral os count) × (h.whole ≡ whole)
+
+-- A token that is such octets behind a sign or none.
+pub record PlainToken (token : List ℕ) (whole : ℕ) : Type 0 where
+  pub negative : Bool
+  pub body : List ℕ
+  pub sign : BeginsWithMinus negative token
+  pub octets : token ≡ minus negative ++ body
+  pub numeral : HasNumeral body whole (length body)
 
 -- digits have a number
 run_of : (os : List ℕ) (before n : ℕ) → n ≤ length os → ((i : ℕ) → i < n → IsPlainDigit (get_or os i 0)) → (value : ℕ) × PlainRun os before n value
@@ -83,18 +95,23 @@ alone os count h =
     let size : length (take count os) ≡ count = length-take-le count os h.within in
     let same : (i : ℕ) → i < count → get_or os i 0 ≡ get_or (take count os) i 0 = λ i less. sym (get_or-take count os i 0 less) in
     let upto : h.whole ≤ count = elim h.behind [ inl all ↦ omega arith | inr point ↦ omega (arith, point.0) ] in
-    rw size (record {
+    let few = h.few in
+    record {
       whole = h.whole;
       some = h.some;
-      few = h.few;
+      few = omega (arith, size);
       within = omega arith;
       digits = λ i less. subst IsPlainDigit (same i (omega arith)) (h.digits i less);
       first = λ more. rw (same 0 (omega arith)) at (h.first more);
       behind = elim h.behind [
-        | inl all ↦ inl all
-        | inr point ↦ inr (point.0, sym (same h.whole point.0) ∙ point.1, λ i from less. subst IsPlainDigit (same i less) (point.2 i from less))
+        | inl all ↦ inl (omega (arith, size, all))
+        | inr point ↦ inr (
+          omega (arith, size, point.0),
+          sym (same h.whole point.0) ∙ point.1,
+          λ i from less. let inside : i < count = omega (arith, size, less) in subst IsPlainDigit (same i inside) (point.2 i from inside),
+        )
       ];
-    })
+    }
 
 -- Behind a sign or none such octets are a number.
 pub numeral_reads : (negative : Bool) (token body : List ℕ) (count : ℕ) → BeginsWithMinus negative token → token ≡ minus negative ++ take count body
@@ -102,3 +119,70 @@ pub numeral_reads : (negative : Bool) (token body : List ℕ) (count : ℕ) → 
 numeral_reads negative token body count b e h =
     let read = body_reads negative (take count body) (alone body count h) in
     (read.0, number_of_numeral token read.0 (token_answer negative token (take count body) (Ok read.0) b e read.1))
+
+-- Such octets behind a sign or none, of more, are a token.
+pub numeral_token : (negative : Bool) (token body : List ℕ) (whole count : ℕ) → BeginsWithMinus negative token → token ≡ minus negative ++ take count body
+    → HasNumeral body whole count → PlainToken token whole
+unfolding alone
+numeral_token negative token body whole count b e h = record {
+  negative = negative;
+  body = take count body;
+  sign = b;
+  octets = e;
+  numeral = (alone body count h.0, h.1);
+}
+
+-- a token has one sign, and one body behind it
+minus_alone : (one other : Bool) (token body rest : List ℕ) → BeginsWithMinus one token → token ≡ minus one ++ body → BeginsWithMinus other token
+    → token ≡ minus other ++ rest → (one ≡ other) × (body ≡ rest)
+minus_alone false false token body rest b e c f = (refl, sym e ∙ f)
+minus_alone true true token body rest b e c f = (refl, cc)
+minus_alone false true [] body rest b e c f = (let bad : true ≡ false = c in absurd cc)
+minus_alone false true (o ∷ os) body rest b e c f = (let bad : false ≡ true = b.1 (c.0 refl) in absurd cc)
+minus_alone true false [] body rest b e c f = (let bad : true ≡ false = b in absurd cc)
+minus_alone true false (o ∷ os) body rest b e c f = (let bad : false ≡ true = c.1 (b.0 refl) in absurd cc)
+
+-- what stands behind the sign of a token, wherever it is cut
+pub body_numeral : (negative : Bool) (token body : List ℕ) (whole : ℕ) → BeginsWithMinus negative token → token ≡ minus negative ++ body
+    → PlainToken token whole → HasNumeral body whole (length body)
+body_numeral negative token body whole b e h =
+    let same = (minus_alone h.negative negative token h.body body h.sign h.octets b e).1 in
+    subst (λ (os : List ℕ). HasNumeral os whole (length os)) same h.numeral
+
+-- where the whole part ends, and what stands there
+pub whole_ends : (os : List ℕ) (whole : ℕ) → HasNumeral os whole (length os) → whole ≢ length os → (whole < length os) × (get_or os whole 0 ≡ 46)
+whole_ends os whole h more = elim h.0.behind [
+  | inl all ↦ absurd (more (sym h.1 ∙ all))
+  | inr point ↦ (omega (arith, point.0, h.1), ap (λ n. get_or os n 0) (sym h.1) ∙ point.1)
+]
+
+-- the octets behind the point are digits
+pub fraction_digits : (os : List ℕ) (whole : ℕ) → HasNumeral os whole (length os) → whole < length os → (i : ℕ) → i < length (drop (whole + 1) os)
+    → IsPlainDigit (get_or (drop (whole + 1) os) i 0)
+fraction_digits os whole h more i less = elim h.0.behind [
+  | inl all ↦ absurd (omega (arith, all, h.1))
+  | inr point ↦
+      let size : length (drop (whole + 1) os) ≡ length os - (whole + 1) = length-drop (whole + 1) os in
+      subst IsPlainDigit (sym (get_or-drop (whole + 1) os i 0)) (point.2 (whole + 1 + i) (omega (arith, h.1)) (omega (arith, size, less)))
+]
+
+-- digits alone are an int
+pub plain_int : (negative : Bool) (token body : List ℕ) (whole value : ℕ) (x : Number) → BeginsWithMinus negative token → token ≡ minus negative ++ body
+    → HasNumeral body whole (length body) → PlainRun body 0 whole value → whole ≡ length body → x ≡ Number.Int (signed negative value) → Fits x
+    → ReadsNumber token (Ok x)
+plain_int negative token body whole value x b e h run all is fits =
+    let first : 1 < whole → get_or body 0 0 ≢ 48 = subst (λ (n : ℕ). 1 < n → get_or body 0 0 ≢ 48) h.1 h.0.first in
+    number_of_numeral token x (token_answer negative token body (Ok x) b e
+    (short_int negative body whole value x run all (short_whole body whole value run (omega (arith, h.0.some, h.1)) first) is fits))
+
+-- digits, a point, and digits or none are a decimal
+pub plain_decimal : (negative : Bool) (token body : List ℕ) (whole value count all : ℕ) (x : Number) → BeginsWithMinus negative token
+    → token ≡ minus negative ++ body → HasNumeral body whole (length body) → PlainRun body 0 whole value → whole ≢ length body
+    → PlainRun (drop (whole + 1) body) value count all → length (drop (whole + 1) body) ≤ count → x ≡ decimal_read negative all false 0 count → Fits x
+    → ReadsNumber token (Ok x)
+plain_decimal negative token body whole value count all x b e h run more behind end is fits =
+    let first : 1 < whole → get_or body 0 0 ≢ 48 = subst (λ (n : ℕ). 1 < n → get_or body 0 0 ≢ 48) h.1 h.0.first in
+    let point = whole_ends body whole h more in
+    number_of_numeral token x (token_answer negative token body (Ok x) b e
+    (short_decimal negative body whole value count all x run (short_whole body whole value run (omega (arith, h.0.some, h.1)) first) point.0 point.1 behind
+    end is fits))

@@ -1,10 +1,11 @@
 -- What is known of a reader that told what it did, and of one that built what it was told.
 use Rattle.std.proofs.Common.{◌≡◌, ℕ, ◌≤◌, List, [], ◌∷◌, ◌++◌, length, Option, Some, None, Result, Ok, Err, ap, arith, refl, subst}
-use Rattle.ion_text.specs.Names.{Built, Catalog, Event, HasTold, Led, Limits, Ran, Refusal, Run, State, TextReader, TextWalk, Told, Value, builds, built, failed, heard, looks, octets_kept, octets_used, state_of, told, trace}
+use Rattle.ion_text.specs.Names.{Catalog, Event, HasTold, Limits, Ran, Refusal, Run, State, TextReader, TextWalk, Told, Value, failed, heard, looks, octets_kept, octets_used, state_of, told, trace}
 use Rattle.ion_visiting.specs.Building.{fresh}
 use Rattle.ion_text.specs.walk.Builds.{HasBuilt}
 use Rattle.ion_text.specs.laws.reading.Stands.{ran_front, ran_given, ran_unrefused}
 use Rattle.ion_text.specs.laws.reading.small.Bounded.{ran_kept}
+use Rattle.ion_symtab.specs.laws.Builds.{built_by, builds_on, told_by_holder}
 
 -- 1. What a walk told is so.
 pub walk_told : (r : TextWalk) (u : List ℕ) (s : List (Value × ℕ)) (es : List Event) → Told r u s es
@@ -29,15 +30,8 @@ pub reader_told : (r : TextReader) (u : List ℕ) (s : List (Value × ℕ)) (es 
     → HasTold (λ q. octets_used q.walk) (λ q. octets_kept q.walk) (λ q. failed q.walk) (λ q. q.walk.awaited)
     (trace r.walk.catalog.now r.walk.limits) r.walk.limits.item r u s
 reader_told r u s es t =
-    let k = walk_told r.walk u s es t in
-    record {
-      counted = k.counted;
-      not_failed = k.not_failed;
-      not_refused = k.not_refused;
-      given_so_far = k.given_so_far;
-      given_with_next = k.given_with_next;
-      bounded = k.bounded;
-    }
+    told_by_holder (λ (q : TextReader). q.walk) octets_used octets_kept failed (λ q. q.awaited) (trace r.walk.catalog.now r.walk.limits) r.walk.limits.item
+    r u s (walk_told r.walk u s es t)
 
 -- 2. Of no octets nothing was told.
 none_and_one : {X : Type 0} (xs : List X) (x : X) → [] ≡ xs ++ x ∷ [] → ⊥
@@ -59,14 +53,6 @@ nothing_told r h =
     (t.0, t.1, t.2, ran_none r.walk.catalog.now r.walk.limits (state_of r.walk t.0 t.1) r.walk.awaited t.2.ran)
 
 -- 3. One that built what was told stands for the octets.
-abbrev built_by : List Event → Built → Built
-built_by [] b = b
-built_by (e ∷ es) b = built_by es (built b e)
-
-led_by : (es : List Event) (b : Built) → Led builds es b (built_by es b)
-led_by [] b = refl
-led_by (e ∷ es) b = (built b e, refl, led_by es (built b e))
-
 pub one_stands : (r : TextReader) (u : List ℕ) (s : List (Value × ℕ)) (es : List Event) → Told r.walk u s es
     → (q : TextReader) × HasBuilt q u s × (q.walk.catalog.now ≡ r.walk.catalog.now) × (q.walk.limits ≡ r.walk.limits)
-one_stands r u s es h = (record r { build = built_by es fresh }, (es, h, led_by es fresh), refl, refl)
+one_stands r u s es h = (record r { build = built_by es fresh }, (es, h, builds_on es fresh), refl, refl)

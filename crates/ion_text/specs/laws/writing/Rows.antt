@@ -1,10 +1,8 @@
 -- What is written of worked values.
-use Rattle.std.proofs.Common.{◌≡◌, pos, negsuc, true, false, List, [], ◌∷◌, Some, None, refl, ◌∙◌}
+use Rattle.std.proofs.Common.{◌≡◌, List, [], ◌∷◌, Some, None, refl, ◌∙◌}
 use Rattle.std.specs.Prelude.{codes}
 use Rattle.ion_text.specs.Names.{Field, Kind, Value, annotated, bare, field_of, symbol_text, text_of, value_text}
-use Rattle.ion_atoms.specs.Decimals.{DecimalParts}
-use Rattle.ion_atoms.specs.Timestamps.{TimestampParts}
-use Rattle.ion_atoms.specs.declared.timestamp.Precision.{Precision}
+use Rattle.ion_symtab.specs.laws.WorkedNumbers.{in_2007, minus_zero, one_and_a_half}
 use Rattle.ion_model.specs.declared.value.Payload.TheVariants as payloads
 use Rattle.ion_model.specs.declared.value.Payload.TheViews as views
 use Rattle.ion_text.specs.laws.writing.Output.{text_layer}
@@ -14,17 +12,6 @@ use Rattle.ion_text.specs.laws.writing.Output.{text_layer}
 -- the symbol whose text is that of a version marker
 abbrev pub marker_symbol : Value
 marker_symbol = bare (payloads.Symbol (Some (codes "$ion_1_0")))
-
-abbrev minus_zero : DecimalParts
-minus_zero = record { negative = true; magnitude = 0; exponent = pos 0 }
-
--- the year 2007
-abbrev in_2007 : TimestampParts
-in_2007 = record {
-  local = record { year = 2007; month = 1; day = 1; hour = 0; minute = 0; second = 0; fraction = 0 };
-  precision = Precision.Year;
-  offset = None;
-}
 
 abbrev unknown_symbol : Value
 unknown_symbol = bare (payloads.Symbol None)
@@ -46,9 +33,6 @@ list_items = bare (payloads.Null Kind.Int) ∷ bare (payloads.Sexp operator_and_
 -- the list of these, annotated with `a`
 abbrev nested : Value
 nested = annotated (Some (codes "a") ∷ []) (payloads.List list_items)
-
-abbrev one_and_a_half : DecimalParts
-one_and_a_half = record { negative = false; magnitude = 15; exponent = negsuc 0 }
 
 -- 1.5 by the name `a`
 abbrev fields : List Field

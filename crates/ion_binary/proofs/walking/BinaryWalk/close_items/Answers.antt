@@ -1,4 +1,4 @@
-use Rattle.std.proofs.Common.{◌∷◌, refl, subst}
+use Rattle.std.proofs.Common.{refl, subst}
 use Rattle.ion_binary.specs.Names.{Bracket, Container, Ready, Tells, bracket_of, closes, listed}
 use Rattle.ion_binary.specs.machine.Frames as frames
 use Rattle.ion_binary.proofs.Ending.{container_ends, container_goes, is_at, isnt_at, pushed}

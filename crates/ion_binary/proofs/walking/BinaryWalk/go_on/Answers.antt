@@ -1,36 +1,19 @@
 use Rattle.std.proofs.Common.{refl, sym, ◌∙◌}
-use Rattle.ion_binary.specs.Names.{Told, awaits, failed, pending, taken, trace}
-use Rattle.ion_binary.proofs.WalkRuns.{walk_answers, walk_leaves, walk_tells}
-use Rattle.ion_symtab.proofs.Walking.{none_failed, not_failed, went_over, went_to_end}
+use Rattle.ion_binary.proofs.WalkRuns.{walk_answers, walk_goes}
+use Rattle.ion_symtab.proofs.Walking.{none_failed}
 use Rattle.ion_binary.proofs.walking.BinaryWalk.go_on.Goals as goal
 
 pub returns-in-Ok-clause-walks : goal.returns-in-Ok-clause-walks
 returns-in-Ok-clause-walks g c =
-    let r = c.args.self.now in
-    let new = c.advance.new.self in
-    let piece = c.args.piece.now in
     let x = c.in-Ok.ensures in
-    let w = c.in-Ok.walked in
-    let free = sym c.is_some.ensures ∙ c.if-is_some.false in
-    went_to_end g.V.Visitor.takes taken pending awaits failed Told (trace r.catalog.now r.limits) r new piece c.args.visitor.now c.advance.new.visitor
-    free w (walk_leaves r new piece w.used w.ended x.within x.all x.some x.used (x.setting.failed ∙ not_failed r.failed free))
-    (λ u s es h.
-    rw h.2 (walk_tells g.V.Visitor.takes r new u s h.0 h.1 piece c.args.visitor.now c.advance.new.visitor
-    (x.setting.failed ∙ h.1.fine) x.setting.catalog x.setting.limits w.used w.ended x.used (x.does h.0 h.1.holds))) c.if-walked.true
+    (walk_goes g.V.Visitor.takes c.args.self.now c.advance.new.self c.args.piece.now c.in-Ok.walked c.args.visitor.now c.advance.new.visitor
+    (sym c.is_some.ensures ∙ c.if-is_some.false) x.within x.all x.some x.used x.setting x.does).0 c.if-walked.true
 
 pub returns-in-Ok-2-clause-walks : goal.returns-in-Ok-2-clause-walks
 returns-in-Ok-2-clause-walks g c =
-    let r = c.args.self.now in
-    let new = c.advance.new.self in
-    let piece = c.args.piece.now in
     let x = c.in-Ok.ensures in
-    let w = c.in-Ok.walked in
-    let free = sym c.is_some.ensures ∙ c.if-is_some.false in
-    went_over g.V.Visitor.takes taken pending awaits failed Told (trace r.catalog.now r.limits) r new piece c.args.visitor.now c.advance.new.visitor
-    free w (walk_leaves r new piece w.used w.ended x.within x.all x.some x.used (x.setting.failed ∙ not_failed r.failed free))
-    (λ u s es h.
-    rw h.2 (walk_tells g.V.Visitor.takes r new u s h.0 h.1 piece c.args.visitor.now c.advance.new.visitor
-    (x.setting.failed ∙ h.1.fine) x.setting.catalog x.setting.limits w.used w.ended x.used (x.does h.0 h.1.holds))) c.if-walked.false
+    (walk_goes g.V.Visitor.takes c.args.self.now c.advance.new.self c.args.piece.now c.in-Ok.walked c.args.visitor.now c.advance.new.visitor
+    (sym c.is_some.ensures ∙ c.if-is_some.false) x.within x.all x.some x.used x.setting x.does).1 c.if-walked.false
 
 pub returns-in-Err-clause-walks : goal.returns-in-Err-clause-walks
 returns-in-Err-clause-walks g c =

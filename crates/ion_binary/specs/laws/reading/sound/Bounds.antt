@@ -1,10 +1,16 @@
 -- Octets that pass a test of the machine fit, in the grammar's words; for those that don't, a row of the table decides.
-use Rattle.std.proofs.Common.{◌≡◌, ℕ, ◌+◌, ◌≤◌, List, [], ◌∷◌, Result, Ok, Err, Option, Some, None, refl, sym, ◌∙◌, Bool, true, false, ◌||◌, cond, leb-true, ltb-true, eqb-true, nat_le}
+use Rattle.std.proofs.Common.{◌≡◌, ℕ, ◌+◌, ◌≤◌, List, [], ◌∷◌, length, append-nil, arith, Result, Ok, Err, Option, Some, None, refl, sym, ◌∙◌, Bool, true, false, ◌||◌, cond, leb-true, ltb-true, eqb-true, nat_le}
 use Rattle.std.proofs.lemmas.Bool.{cond-false}
-use Rattle.ion_binary.specs.Names.{Catalog, Decides, Form, Frame, ItemTooLong, Limits, Malformed, Outcome, Payload, Purpose, Reason, Spot, Value, bare, deliver, end_of, is_pad, is_wrapper, judged, misfits, nameless, or_else, past, stray, under, unending, unless}
+use Rattle.ion_binary.specs.Names.{Catalog, Decides, Form, Frame, ItemTooLong, Limits, Malformed, Outcome, Payload, Purpose, Reason, Slot, Spot, Value, bare, deliver, end_of, is_pad, is_wrapper, judged, misfits, nameless, none, or_else, past, stray, under, unending, unless}
 use Rattle.ion_binary.specs.machine.Frames as frames
 use Rattle.ion_binary.specs.laws.reading.Openings.{some_none}
-use Rattle.ion_binary.specs.laws.reading.Stands.{Accepts, BodyMayEnd, Going, IsBare, IsStructOf, Leaves, NumberGoing, Receives}
+use Rattle.ion_binary.specs.laws.reading.Stands.{Accepts, BodyMayEnd, Going, IsBare, IsStructOf, Leaves, NumberBegins, NumberGoing, NumberStands, Receives}
+
+-- before the first octet of a VarUInt
+pub number_awaited : (g : Catalog) (l : Limits) (start : ℕ) (c : List Slot) (s : List Value) (fs : List Frame) (p : Purpose) (u : List ℕ)
+    → NumberBegins g l start c s fs p u → NumberGoing l start fs p (length u) → NumberStands g l start c s fs p 0 u
+number_awaited g l start c s fs p u begins going =
+    record { front = u; digits = []; whole = sym (append-nil u); begins = begins; small = none; value = refl; bound = omega arith; going = going }
 
 -- all forms but a pad may end at the same places
 pub ends_back : (l : Limits) (start : ℕ) (fs : List Frame) (form : Form) (to : ℕ) → is_pad form ≡ false → BodyMayEnd l start fs form to

@@ -1,13 +1,13 @@
 -- A value or a pad that ends, and each container that ends with it, stands for its octets.
-use Rattle.std.proofs.Common.{◌≡◌, ℕ, ◌+◌, ◌≤◌, List, [], ◌∷◌, ◌++◌, length, Result, Ok, Err, Some, None, refl, ap, sym, ◌∙◌, subst, arith, length-append, true, append_assoc, append-nil, eqb-true, ◌==◌}
+use Rattle.std.proofs.Common.{◌≡◌, ℕ, ◌+◌, ◌≤◌, List, [], ◌∷◌, ◌++◌, length, Result, Ok, Err, Some, None, refl, ap, sym, ◌∙◌, subst, arith, length-append, true, append_assoc, eqb-true, ◌==◌}
 use Rattle.std.proofs.lemmas.Bool.{cond_both, eqb-false}
-use Rattle.ion_binary.specs.Names.{Binary, Catalog, Field, Fields, Form, Frame, Header, IsPad, Limits, ListOrSexp, Payload, Pieces, Plain, Reason, Slot, Spot, Value, annotated, bad_table, bare, deliver, depth, field_of, holds, is_listing, is_ordered, is_struct, is_table, levels, listed, nameless, next, none, one_field, one_more, padded, padded_field, proceed, skips, turned, turns, unannotated, under, wrapped}
+use Rattle.ion_binary.specs.Names.{Binary, Catalog, Field, Fields, Form, Frame, Header, IsPad, Limits, ListOrSexp, Payload, Pieces, Plain, Reason, Slot, Spot, Value, annotated, bad_table, bare, deliver, depth, field_of, holds, is_listing, is_ordered, is_struct, is_table, levels, listed, nameless, next, one_field, one_more, padded, padded_field, proceed, skips, turned, turns, unannotated, under, wrapped, Purpose}
 use Rattle.ion_model.specs.declared.value.Payload.TheVariants as payloads
 use Rattle.ion_model.specs.laws.Measures.{deepest-more, depth-out}
 use Rattle.ion_binary.specs.machine.Frames as frames
 use Rattle.ion_binary.specs.laws.reading.Complete.{depth-fields, depth-listed, field_deepest-more}
 use Rattle.ion_binary.specs.laws.reading.Stands.{BodyMayEnd, InFields, IsBare, IsStructOf, Leaves, Opened, Receives}
-use Rattle.ion_binary.specs.laws.reading.sound.Bounds.{ends_back, named_struct, struct_sized}
+use Rattle.ion_binary.specs.laws.reading.sound.Bounds.{ends_back, named_struct, number_awaited, struct_sized}
 
 -- a value that may come in these frames: in a wrapper one without annotations
 abbrev Comes : List Slot → List Frame → List ℕ → Value → Type 0
@@ -104,8 +104,7 @@ module _ (g : Catalog) (l : Limits) where
       (named_struct fs o.form (struct_sized o.form o.box.n o.kind) o.box.admits.named)))
       (λ h. let apart = eqb-false spot.used end h in record {
         used = e;
-        standing =
-            record { front = u; digits = []; whole = sym (append-nil u); begins = o; small = none; value = refl; bound = omega arith; going = omega arith };
+        standing = number_awaited g l spot.start spot.context s (frames.Fields end ms ∷ fs) Purpose.FieldName u o (omega arith);
       })
 
   -- a value ends here

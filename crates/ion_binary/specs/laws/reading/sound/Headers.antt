@@ -1,16 +1,17 @@
 -- What a descriptor leaves stands for the octets, and so does what the end of a header begins.
 use Rattle.std.proofs.Common.{◌≡◌, ℕ, zero, suc, ◌+◌, ◌≤◌, List, [], ◌∷◌, ◌++◌, length, Some, None, refl, ap, sym, ◌∙◌, subst, inr, arith, length-append, false, append-nil, ltb-true, ltb-false, nat_lt}
 use Rattle.std.proofs.lemmas.Bool.{cond_both}
-use Rattle.ion_binary.specs.Names.{Catalog, Decides, Depth, Follows, Form, Frame, Header, IsPad, Known, Limits, Malformed, Marker, Null, Opening, Payload, Plain, Reason, Refused, Sized, Slot, Spot, Truth, Value, a_null, a_truth, bad_empty_body, bare, begin, by_descriptor, deliver, depth, hollow, is_null, is_scalar, is_truth, judge, length-one, levels, misfits, nameless, no_descriptor, no_fields, none, nothing, on_descriptor, one_octet, open_struct, opening_of, or_else, short, sized, skipped, stray, under, unending, unfit}
+use Rattle.ion_binary.specs.Names.{Catalog, Decides, Depth, Follows, Form, Frame, Header, IsPad, Known, Limits, Malformed, Marker, Null, Opening, Payload, Plain, Purpose, Reason, Refused, Sized, Slot, Spot, Truth, Value, a_null, a_truth, bad_empty_body, bare, begin, by_descriptor, deliver, depth, hollow, is_null, is_scalar, is_truth, judge, length-one, levels, misfits, nameless, no_descriptor, no_fields, nothing, on_descriptor, one_octet, open_struct, opening_of, or_else, short, sized, skipped, stray, under, unending, unfit}
 use Rattle.ion_model.specs.declared.value.Payload.TheVariants as payloads
 use Rattle.ion_model.specs.laws.Measures.{depth-Null, depth-Truth}
 use Rattle.ion_binary.specs.Deciding as deciding
+use Rattle.ion_binary.specs.machine.Frames as frames
 use Rattle.ion_binary.specs.laws.reading.Complete.{begin_ordered, begin_pad, begin_scalar, begin_wrapper}
 use Rattle.ion_binary.specs.laws.reading.Judged.{judge_sound, scalar_flat}
 use Rattle.ion_binary.specs.laws.reading.Openings.{opened_open, takes}
 use Rattle.ion_binary.specs.laws.reading.RefusedRows.{HeaderEnds, deep_row, follows_name, follows_stray, hollow_row, marker_row, one_row, short_row, unending_row}
-use Rattle.ion_binary.specs.laws.reading.Stands.{Accepts, AwaitsDescriptor, BodyMayEnd, Box, Fitting, Going, Inside, IsStructOf, Leaves, Opened, Receives}
-use Rattle.ion_binary.specs.laws.reading.sound.Bounds.{ends_back, judged_leaves, misfits_ends, named_struct, or_none, stray_accepts, unending_going, unless_leaves}
+use Rattle.ion_binary.specs.laws.reading.Stands.{Accepts, AwaitsDescriptor, BodyMayEnd, BodyStands, Box, Fitting, Going, Inside, IsStructOf, Leaves, Opened, Receives}
+use Rattle.ion_binary.specs.laws.reading.sound.Bounds.{ends_back, judged_leaves, misfits_ends, named_struct, number_awaited, or_none, stray_accepts, unending_going, unless_leaves}
 use Rattle.ion_binary.specs.laws.reading.sound.Containers.{deliver_stands, fields_stand, items_stand, plain_comes, shallow, skip_stands}
 use Rattle.ion_binary.specs.laws.reading.sound.Markers.{marker_is}
 
@@ -20,6 +21,25 @@ module _ (g : Catalog) (l : Limits) where
       → Header form n h → end ≡ length (u ++ h) + n → BodyMayEnd l start fs form end → Fitting fs form
       → Box l start (Opened g l start c s fs) fs form end (u ++ h)
   boxed start c s fs u h form n end o d i r ad = record { before = u; header = h; n = n; whole = refl; outer = o; head = d; ends = i; room = r; admits = ad }
+
+  -- before the first octet of a body
+  awaits_body : (start : ℕ) (c : List Slot) (s : List Value) (fs : List Frame) (u h : List ℕ) (form : Form) (n end : ℕ) → Opened g l start c s fs u
+      → Accepts form fs → Fitting fs form → Header form (suc n) h → end ≡ length u + length h + suc n → BodyMayEnd l start fs form end
+      → BodyStands g l start c s fs form n [] (u ++ h)
+  awaits_body start c s fs u h form n end o a ad d i r = record {
+    before = u;
+    header = h;
+    whole = ap (λ x. u ++ x) (sym (append-nil h));
+    outer = o;
+    accepts = a;
+    admits = ad;
+    size = suc n;
+    sizes = omega arith;
+    end = end;
+    ends = i;
+    head = d;
+    room = r;
+  }
 
   struct_begins : (spot : Spot) (s : List Value) (fs : List Frame) (u h : List ℕ) (form : Form) (n : ℕ) → IsStructOf form n
       → Opened g l spot.start spot.context s fs u → Header form n h → spot.used ≡ length (u ++ h) → BodyMayEnd l spot.start fs form (spot.used + n)
@@ -52,23 +72,7 @@ module _ (g : Catalog) (l : Limits) where
       subst (Leaves g l (u ++ h) s) (sym (begin_pad g l spot fs n))
       (record {
         used = e;
-        standing = (
-          [],
-          record {
-            before = u;
-            header = h;
-            whole = ap (λ x. u ++ x) (sym (append-nil h));
-            outer = o;
-            accepts = a;
-            admits = ad;
-            size = suc n;
-            sizes = omega arith;
-            end = spot.used + suc n;
-            ends = omega arith;
-            head = d;
-            room = r;
-          },
-        );
+        standing = ([], awaits_body spot.start spot.context s fs u h Form.Pad n (spot.used + suc n) o a ad d (omega arith) r);
       })
   begin_stands spot s fs u h (Form.Scalar t) zero o a d e r ad hr h0 =
       let sh = shallow g l spot.start spot.context s fs u o in
@@ -84,20 +88,7 @@ module _ (g : Catalog) (l : Limits) where
       subst (Leaves g l (u ++ h) s) (sym (begin_scalar g l spot fs t n))
       (record {
         used = e;
-        standing = record {
-          before = u;
-          header = h;
-          whole = ap (λ x. u ++ x) (sym (append-nil h));
-          outer = o;
-          accepts = a;
-          admits = ad;
-          size = suc n;
-          sizes = omega arith;
-          end = spot.used + suc n;
-          ends = omega arith;
-          head = d;
-          room = r;
-        };
+        standing = awaits_body spot.start spot.context s fs u h (Form.Scalar t) n (spot.used + suc n) o a ad d (omega arith) r;
       })
   begin_stands spot s fs u h (Form.ListOrSexp x) n o a d e r ad hr h0 = cond_both (nat_lt (levels fs) l.depth) _ _ (Leaves g l (u ++ h) s)
       (λ j. let deep = ltb-true (levels fs) l.depth j in
@@ -120,20 +111,13 @@ module _ (g : Catalog) (l : Limits) where
       subst (Leaves g l (u ++ h) s) (sym (begin_wrapper g l spot fs (suc n)))
       (record {
         used = e;
-        standing = record {
-          front = u ++ h;
-          digits = [];
-          whole = sym (append-nil (u ++ h));
-          begins = record {
-            box = boxed spot.start spot.context s fs u h Form.Wrapper (suc n) (spot.used + suc n) o d (omega arith) r ad;
-            bare = a;
-            none_yet = refl;
-          };
-          small = none;
-          value = refl;
-          bound = omega arith;
-          going = omega arith;
-        };
+        standing = number_awaited g l spot.start spot.context s (frames.Annotated (spot.used + suc n) [] ∷ fs) Purpose.AnnotationsLength (u ++ h)
+            (record {
+              box = boxed spot.start spot.context s fs u h Form.Wrapper (suc n) (spot.used + suc n) o d (omega arith) r ad;
+              bare = a;
+              none_yet = refl;
+            })
+            (omega arith);
       })
   begin_stands spot s fs u h _ _ o a d e r ad hr h0 = let q : Some Malformed ≡ None = h0 in absurd cc
 
@@ -210,23 +194,16 @@ module _ (g : Catalog) (l : Limits) where
       unless_leaves g l _ s _ _ (follows_name g l spot.context spot.start fs sp.ks form u b sp.match sp.open' i) (λ j3.
       record {
         used = e;
-        standing = record {
-          front = u ++ b ∷ [];
-          digits = [];
-          whole = sym (append-nil (u ++ b ∷ []));
-          begins = record {
-            before = u;
-            b = b;
-            whole = refl;
-            outer = o.opened;
-            accepts = stray_accepts fs form o.receives j1;
-            admits = record { receives = o.receives; fitting = j1; named = j3 };
-            more = o.more;
-            head = i;
-          };
-          small = none;
-          value = refl;
-          bound = omega arith;
-          going = subst (Going l spot.start fs form) e (unending_going l spot.start fs form spot.used j2);
-        };
+        standing = number_awaited g l spot.start spot.context s fs (Purpose.Length form) (u ++ b ∷ [])
+            (record {
+              before = u;
+              b = b;
+              whole = refl;
+              outer = o.opened;
+              accepts = stray_accepts fs form o.receives j1;
+              admits = record { receives = o.receives; fitting = j1; named = j3 };
+              more = o.more;
+              head = i;
+            })
+            (subst (Going l spot.start fs form) e (unending_going l spot.start fs form spot.used j2));
       })))

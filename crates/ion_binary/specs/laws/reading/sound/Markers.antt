@@ -1,7 +1,7 @@
 -- What an octet of a version marker leaves stands for the octets.
-use Rattle.std.proofs.Common.{◌≡◌, ℕ, ◌+◌, ◌/◌, ◌%◌, List, [], ◌∷◌, ◌++◌, length, Result, Ok, Err, refl, ap, sym, ◌∙◌, subst, subst₂, inl, inr, arith, Bool, true, false, ◌&&◌, ◌||◌, cond, append_assoc, eqb-true, eq-eqb, ◌==◌}
+use Rattle.std.proofs.Common.{◌≡◌, ℕ, ◌/◌, ◌%◌, List, [], ◌∷◌, ◌++◌, length, Result, Ok, Err, refl, ap, sym, ◌∙◌, subst, subst₂, inl, inr, arith, Bool, true, false, ◌&&◌, ◌||◌, cond, append_assoc, eqb-true, eq-eqb, ◌==◌}
 use Rattle.std.proofs.lemmas.Bool.{and_parts, cond_both, eqb-false}
-use Rattle.ion_binary.specs.Names.{Catalog, Decides, Descriptor, First, Float, Fourth, Frame, Limits, Malformed, Mark, Marker, Opening, Pieces, Ready, Reason, Second, Slot, Spot, Third, Value, Version, anew, at, begins, descriptor_of, goes, kind, length-one, marked, no_marker, on_marker, opening_of, opens, other_marker, other_version, refuses, size, system_slots, the_marker, typed}
+use Rattle.ion_binary.specs.Names.{Catalog, Decides, Descriptor, First, Float, Fourth, Frame, Limits, Malformed, Mark, Marker, Opening, Pieces, Ready, Reason, Second, Slot, Spot, Third, Value, Version, anew, at, begins, descriptor_of, goes, kind, marked, no_marker, on_marker, opening_of, opens, other_marker, other_version, refuses, size, system_slots, the_marker, typed}
 use Rattle.ion_symtab.specs.laws.Reasons.{either}
 use Rattle.ion_binary.specs.Deciding as deciding
 use Rattle.ion_binary.specs.laws.reading.OnlyReasons.{body_all}

@@ -1,13 +1,13 @@
 -- What an octet of a VarUInt leaves stands for the octets: of a length, a field's name, or annotations.
-use Rattle.std.proofs.Common.{◌≡◌, ℕ, ◌+◌, ◌-◌, ◌*◌, ◌^◌, ◌<◌, ◌≤◌, List, [], ◌∷◌, ◌++◌, length, Result, Ok, Err, Option, None, refl, ap, sym, ◌∙◌, subst, arith, length-append, append_assoc, append-nil, ltb-true, ltb-false, eqb-true, nat_lt, ◌==◌}
+use Rattle.std.proofs.Common.{◌≡◌, ℕ, ◌+◌, ◌-◌, ◌*◌, ◌^◌, ◌<◌, ◌≤◌, List, [], ◌∷◌, ◌++◌, length, Result, Ok, Err, Option, refl, ap, sym, ◌∙◌, subst, arith, length-append, append_assoc, append-nil, ltb-true, ltb-false, eqb-true, nat_lt, ◌==◌}
 use Rattle.std.proofs.lemmas.Bool.{cond_both, eqb-false, cond-true, cond-false, lt-leb, le-leb}
-use Rattle.ion_binary.specs.Names.{Catalog, Digits128, EndsNumber, Frame, Ids, Limits, Purpose, Reason, Slot, Spot, Value, VarUInt, annotation_came, at, length-one, long, longer, more, no_ids, none, number_came, on_number, one_id, past, positional, positional_push, resolve, seven_bits, sized, under}
+use Rattle.ion_binary.specs.Names.{Catalog, Digits128, EndsNumber, Frame, Ids, Limits, Purpose, Reason, Spot, Value, VarUInt, annotation_came, at, length-one, long, longer, more, no_ids, number_came, on_number, one_id, past, positional, positional_push, resolve, seven_bits, sized, under}
 use Rattle.ion_binary.specs.Deciding as deciding
 use Rattle.ion_binary.specs.machine.Frames as frames
 use Rattle.ion_binary.specs.laws.reading.Openings.{Numbered, numbered}
 use Rattle.ion_binary.specs.laws.reading.RefusedRows.{HeaderEnds, annotation_row, count_row, header_here, long_row, none_row, number_row, value_row}
 use Rattle.ion_binary.specs.laws.reading.Stands.{Leaves, MachineStands, NumberGoing, NumberStands}
-use Rattle.ion_binary.specs.laws.reading.sound.Bounds.{past_going, unless_leaves}
+use Rattle.ion_binary.specs.laws.reading.sound.Bounds.{number_awaited, past_going, unless_leaves}
 use Rattle.ion_binary.specs.laws.reading.sound.Containers.{length_3, regroup}
 use Rattle.ion_binary.specs.laws.reading.sound.Headers.{sized_stands}
 
@@ -97,29 +97,22 @@ module _ (g : Catalog) (l : Limits) (spot : Spot) (s : List Value) (u : List ℕ
       let room = ltb-true (spot.used + n) end j in
       record {
         used = e;
-        standing = record {
-          front = u ++ b ∷ [];
-          digits = [];
-          whole = sym (append-nil (u ++ b ∷ []));
-          begins = record {
-            front = o.front;
-            count = o.digits ++ b ∷ [];
-            ids = [];
-            n = n;
-            whole = whole ∙ ap (λ x. o.front ++ x) (sym (append-nil (o.digits ++ b ∷ [])));
-            box = o.begins.box;
-            bare = o.begins.bare;
-            number = v;
-            some = omega arith;
-            stops = omega arith;
-            symbols = subst (Ids spot.context []) (sym o.begins.none_yet) no_ids;
-            room = room;
-          };
-          small = none;
-          value = refl;
-          bound = omega arith;
-          going = omega arith;
-        };
+        standing = number_awaited g l spot.start spot.context s (frames.Annotated end ss ∷ fs) (Purpose.Annotation (spot.used + n)) (u ++ b ∷ [])
+            (record {
+              front = o.front;
+              count = o.digits ++ b ∷ [];
+              ids = [];
+              n = n;
+              whole = whole ∙ ap (λ x. o.front ++ x) (sym (append-nil (o.digits ++ b ∷ [])));
+              box = o.begins.box;
+              bare = o.begins.bare;
+              number = v;
+              some = omega arith;
+              stops = omega arith;
+              symbols = subst (Ids spot.context []) (sym o.begins.none_yet) no_ids;
+              room = room;
+            })
+            (omega arith);
       })
       (λ j. let late = ltb-false (spot.used + n) end j in count_row g l spot.context spot.start w.ks w.q (frames.Annotated end ss ∷ fs) fs end n ss
       (u ++ b ∷ []) w.frames' refl w.same en (omega arith)))
@@ -172,29 +165,22 @@ module _ (g : Catalog) (l : Limits) (spot : Spot) (s : List Value) (u : List ℕ
           let apart = eqb-false spot.used stop j in
           record {
             used = e;
-            standing = record {
-              front = u ++ b ∷ [];
-              digits = [];
-              whole = sym (append-nil (u ++ b ∷ []));
-              begins = record {
-                front = i.front;
-                count = i.count;
-                ids = i.ids ++ id;
-                n = i.n;
-                whole = whole;
-                box = i.box;
-                bare = i.bare;
-                number = i.number;
-                some = i.some;
-                stops = i.stops;
-                symbols = symbols;
-                room = i.room;
-              };
-              small = none;
-              value = refl;
-              bound = omega arith;
-              going = omega arith;
-            };
+            standing = number_awaited g l spot.start spot.context s (frames.Annotated end (ss ++ t ∷ []) ∷ fs) (Purpose.Annotation stop) (u ++ b ∷ [])
+                (record {
+                  front = i.front;
+                  count = i.count;
+                  ids = i.ids ++ id;
+                  n = i.n;
+                  whole = whole;
+                  box = i.box;
+                  bare = i.bare;
+                  number = i.number;
+                  some = i.some;
+                  stops = i.stops;
+                  symbols = symbols;
+                  room = i.room;
+                })
+                (omega arith);
           })
   came_stands _ _ a n o w en v = absurd o.begins
 

@@ -6,6 +6,6 @@ use Rattle.ion_text.proofs.tokens.finders.short_number_at.Goals as goal
 
 pub returns-clause-found : goal.returns-clause-found
 returns-clause-found c = λ x parts here rest value.
-    let kept = take c.in_ok-count.count c.args.octets.now in
-    let same = one_answer kept (Ok x) (number_read kept) (c.in_ok-short.ensures x parts) (number_reads kept) in
-    record { kept = kept; found = c.in_ok-count.ensures.found here rest value; says = number_says kept x same }
+    let kept = take c.in_ok-numeral.numeral.count c.args.octets.now in
+    let same = one_answer kept (Ok x) (number_read kept) (c.plain_number_of-short.ensures x parts) (number_reads kept) in
+    record { kept = kept; found = c.in_ok-numeral.ensures.found here rest value; says = number_says kept x same }

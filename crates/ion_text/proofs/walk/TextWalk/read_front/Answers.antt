@@ -20,15 +20,15 @@ returns-in-Err-clause-took g c = λ fs ss h.
     c.run_to_token-run_to_token.result c.run_to_token-run_to_token.ensures.within (Err c.in-Err.refusal) c.read_to_token.new.self c.args.visitor.now
     c.read_to_token.new.visitor (c.in-Err.ensures.took fs ss h)
 
-pub returns-then-waiting_run-gt0-clause-took : goal.returns-then-waiting_run-gt0-clause-took
-returns-then-waiting_run-gt0-clause-took g c = λ fs ss h.
+pub returns-in-Ok-read_while_waiting-clause-took : goal.returns-in-Ok-read_while_waiting-clause-took
+returns-in-Ok-read_while_waiting-clause-took g c = λ fs ss h.
     let r = c.args.self.now in
     let size = length-take-le c.waiting_run-waiting_run.result c.args.piece.now c.waiting_run-waiting_run.ensures.within in
     over_gone g.V.Visitor.takes (told fs ss) r.catalog.now r.limits (scanned r.scanner).used (state_of r fs ss) c.args.piece.now c.waiting_run-waiting_run.result
-    Taken.Uses r c.read_while_waiting.new.self c.args.visitor.now c.args.visitor.now (omega (arith, c.in_ok-read_while_waiting.ensures.used, size))
+    Taken.Uses r c.read_while_waiting.new.self c.args.visitor.now c.args.visitor.now (omega (arith, c.in-Ok-read_while_waiting.ensures.used, size))
     (waiting_reached g.V.Visitor.takes (told fs ss) r.catalog.now r.limits (scanned r.scanner).used (state_of r fs ss) c.args.piece.now c.waiting_run-waiting_run.result
     fs ss c.read_while_waiting.new.self c.args.visitor.now c.if-waiting_run-gt0.true c.waiting_run-waiting_run.ensures.within (c.read_while_waiting.ensures.holds fs ss h) refl
-    (c.in_ok-read_while_waiting.ensures.led fs ss))
+    (c.in-Ok-read_while_waiting.ensures.led fs ss))
 
 pub returns-in-Ok-read_octet-clause-took : goal.returns-in-Ok-read_octet-clause-took
 returns-in-Ok-read_octet-clause-took g c = λ fs ss h.

@@ -28,8 +28,8 @@ returns-in-Ok-Uses-clause-took g c = λ fs ss h.
     c.in-Ok-Uses.field-0-is (c.in-Ok-Uses.ensures.took fs ss h)) in
     both_took g.V.Visitor.takes old mid fs ss piece (take (length piece - k) (drop k piece)) k c.args.visitor.now c.read_tokens.new.visitor
     (take_rest piece k) inside strode used (ap (λ (b : _). b.now) c.in-Ok-Uses.ensures.same.catalog) c.in-Ok-Uses.ensures.same.limits
-    (with_offset c.read_front_apart-in-Ok-Uses.new.refused c.read_front_apart-in-Ok-Uses.result) c.read_front_apart-in-Ok-Uses.new.self c.read_front_apart-in-Ok-Uses.new.visitor (with_offset_if _ c.read_front_apart-in-Ok-Uses.new.refused c.read_front_apart-in-Ok-Uses.result c.read_front_apart-in-Ok-Uses.ensures.on)
-    (c.read_front_apart-in-Ok-Uses.ensures.took strode.frames strode.notes strode.holds)
+    (with_offset c.read_front-in-Ok-Uses.new.refused c.read_front-in-Ok-Uses.result) c.read_front-in-Ok-Uses.new.self c.read_front-in-Ok-Uses.new.visitor (with_offset_if _ c.read_front-in-Ok-Uses.new.refused c.read_front-in-Ok-Uses.result c.read_front-in-Ok-Uses.ensures.on)
+    (c.read_front-in-Ok-Uses.ensures.took strode.frames strode.notes strode.holds)
 
 pub returns-in-Ok-Tells-clause-took : goal.returns-in-Ok-Tells-clause-took
 returns-in-Ok-Tells-clause-took g c = λ fs ss h.
