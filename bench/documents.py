@@ -1,10 +1,12 @@
 #!/usr/bin/env python3
-"""Writes three binary Ion documents to measure with: documents.py FOLDER [MEGABYTES].
+"""Writes four binary Ion documents to measure with: documents.py FOLDER [MEGABYTES].
 
 mixed.10n: structs of small values, as a log has them (a name from a local symbol table, ints, a decimal, a
-timestamp, a short string, a list of ints, an annotation here and there). small.10n: small values of every kind, one
-behind the other and in lists, with a local symbol table that adds a symbol behind every 600 or so. blobs.10n: blobs
-of 1 MiB. Each is about MEGABYTES (usually 100) long. The octets are the same at each call.
+timestamp, a short string, a list of ints, an annotation here and there). foreign.10n: such records as other
+writers make them, with ordered structs, lengths of two octets, wrappers in long form, and pads behind some.
+small.10n: small values of every kind, one behind the other and in lists, with a local symbol table that adds a
+symbol behind every 600 or so. blobs.10n: blobs of 1 MiB. Each is about MEGABYTES (usually 100) long. The octets
+are the same at each call.
 """
 import random
 import sys
@@ -73,13 +75,44 @@ def table():
     return framed(14, var_uint(len(ids)) + ids + framed(13, var_uint(7) + names))
 
 
+def patient(code, body):
+    """Framed with its length in two octets, as a writer does it that keeps room for a length and fills that in later."""
+    return bytes([code << 4 | 14, len(body) >> 7, 0x80 | len(body) & 0x7F]) + body
+
+
+def ordered(fields):
+    """A struct that says that the ids of its names stand in their order."""
+    body = b"".join(sorted(fields))
+    return b"\xd1" + var_uint(len(body)) + body
+
+
+def pad(count):
+    return bytes(count) if count < 2 else bytes([count - 1]) + bytes(count - 1)
+
+
 def entry(source, number):
+    fields = parts(source, number)
+    value = framed(13, b"".join(fields))
+    return annotated("service", value) if number % 7 == 0 else value
+
+
+def foreign(source, number):
+    """The same as other writers make it."""
+    fields = parts(source, number)
+    value = ordered(fields) if number % 2 else patient(13, b"".join(fields))
+    if number % 7 == 0:
+        ids = var_uint(FIRST_ID + NAMES.index("service"))
+        value = patient(14, var_uint(len(ids)) + ids + value)
+    return value + pad(number % 4)
+
+
+def parts(source, number):
     year = var_uint(2026) + var_uint(1 + number % 12) + var_uint(1 + number % 28)
     at = framed(6, var_int(60) + year + var_uint(number % 24) + var_uint(number % 60) + var_uint(number % 59))
     cost = framed(5, var_int(-2) + uint(source.randrange(1, 100000)))
     tags = framed(11, b"".join(whole(source.randrange(-500, 70000)) for _ in range(source.randrange(0, 6))))
     words = " ".join(source.choice(NAMES) for _ in range(source.randrange(1, 6)))
-    fields = [
+    return [
         field("id", whole(number)),
         field("level", symbol(source.choice(NAMES))),
         field("at", at),
@@ -88,8 +121,6 @@ def entry(source, number):
         field("tags", tags),
         field("retry", bytes([0x10 + number % 2])),
     ]
-    value = framed(13, b"".join(fields))
-    return annotated("service", value) if number % 7 == 0 else value
 
 
 def small(source, ids):
@@ -141,12 +172,13 @@ def main():
     folder = sys.argv[1]
     size = int(sys.argv[2] if len(sys.argv) > 2 else "100") * 1000 * 1000
     source = random.Random(1)
-    with open(folder + "/mixed.10n", "wb") as out:
-        written = out.write(MARKER + table())
-        number = 0
-        while written < size:
-            written += out.write(entry(source, number))
-            number += 1
+    for name, make, chance in (("mixed", entry, source), ("foreign", foreign, random.Random(3))):
+        with open(f"{folder}/{name}.10n", "wb") as out:
+            written = out.write(MARKER + table())
+            number = 0
+            while written < size:
+                written += out.write(make(chance, number))
+                number += 1
     with open(folder + "/small.10n", "wb") as out:
         put_small(out, size)
     with open(folder + "/blobs.10n", "wb") as out:

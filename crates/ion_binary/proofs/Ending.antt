@@ -162,6 +162,13 @@ module _ {V : Type 0} (takes : V → Event → V → Type 0) where
             (behind f gs w first_one others h.behind.around h.behind.bare
             (subst (λ x. WasTold x (told_in (f ∷ gs) ++ events_of w)) (sym kept) h.behind.was_told)))
 
+    -- the innermost container that is left goes on
+    pub left_goes : (r new : BinaryWalk) (m : V) → IsLeft r m
+        → ((fs : List Frame) (v : Value) → IsBehind r fs v → DoesAlone (told_in fs ++ events_of v) (deliver (setting_of r) (spot_of r) fs v) (Ok Goes) new)
+        → Does takes es o (Ok Goes) new first m
+    left_goes r new m left stays = does_same takes es o _ (Ok Goes) new first m left.2
+        (does_behind takes es (told_in left.0 ++ events_of left.1) _ (Ok Goes) new first m left.3.hears (stays left.0 left.1 left.3.behind))
+
     -- no container is left
     pub left_at_top : (r : BinaryWalk) (result : Result Effect Reason) (new : BinaryWalk) (m : V) → IsLeft r m → open_containers r ≡ []
         → ((v : Value) → WasTold r.filter (events_of v) → DoesAlone (events_of v) (deliver (setting_of r) (spot_of r) [] v) result new)

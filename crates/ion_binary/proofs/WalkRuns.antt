@@ -178,7 +178,7 @@ module _ {V : Type 0} (takes : V → Event → V → Type 0) (old new : BinaryWa
       ∙ (ap (λ r. then_run r (λ n. run old.catalog.now old.limits old.used n w)) h.ran
       ∙ ap (λ r. record { given = s ++ r.given; now = r.now }) e)))
 
-  pub walk_tells : (used : ℕ) (ended : Bool) → new.used ≡ old.used + used
+  walk_tells : (used : ℕ) (ended : Bool) → new.used ≡ old.used + used
       → Walks takes (told fs) old.used (run_of old fs) piece (Ok (record { used = used; ended = ended })) new a b
       → WalksOn takes Told u s (heard (told fs)) piece used ended new a b
   walk_tells used false counts w =
@@ -214,7 +214,7 @@ module _ {V : Type 0} (takes : V → Event → V → Type 0) (old new : BinaryWa
   )
 
 -- what a walk that isn't refused leaves behind it
-pub walk_leaves : (old new : BinaryWalk) (piece : List ℕ) (used : ℕ) (ended : Bool) → used ≤ length piece → (ended ≡ false → used ≡ length piece)
+walk_leaves : (old new : BinaryWalk) (piece : List ℕ) (used : ℕ) (ended : Bool) → used ≤ length piece → (ended ≡ false → used ≡ length piece)
     → (ended ≡ true → 0 < used) → new.used ≡ old.used + used → new.failed ≡ None
     → StepsOver taken pending awaits failed old new piece used (if_ended ended)
 walk_leaves old new piece used true within all some counts fine =

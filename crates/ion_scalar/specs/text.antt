@@ -3,6 +3,7 @@ pub mod Ints
 pub mod Decimals
 pub mod Timestamps
 pub mod Numbers
+pub mod PlainNumerals
 pub mod Texts
 pub mod Reading
 pub mod laws

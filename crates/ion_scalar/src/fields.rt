@@ -141,6 +141,7 @@ fn fold_octets(front: u128, octets: &[u8]) -> Option<u128>
     ensures { SomeIff result (positional 256 (front ∷ octets.now) < 2 ^ 127)
         (positional 256 (front ∷ octets.now)) }
 {
+    // Most ids and ints have few octets, which 64 bits hold.
     if octets.len() < 8 && front < 256 {
         return Some(u128::from(fold_few(front as u64, octets)));
     }

@@ -1,14 +1,15 @@
 //! Ints and decimals of few plain digits, once it is known where these stand.
 ghost use Rattle.std.specs.Prelude.{◌≡◌, ◌<◌, ◌≤◌, ◌+◌, ◌*◌, ◌^◌, ℕ, length, get_or, Ok};
 ghost use Rattle.ion_scalar.specs.Names.{HasParts, Number as AnyNumber, ReadsNumber};
-ghost use Rattle.ion_scalar.specs.text.laws.PlainNumerals.{IsPlainDigit, PlainToken};
+ghost use Rattle.ion_scalar.specs.text.PlainNumerals.{IsPlainDigit, PlainToken};
 ghost use Rattle.ion_scalar.specs.text.laws.ShortNumbers.{PlainRun};
 
 use crate::ints::split_sign;
 use crate::short_number::{ShortNumber, short_decimal, short_int};
 
 /// The parts of the int or decimal that a whole token spells, whose digits are plain and at most 19.
-/// Behind its sign so many octets are its whole part; a point and digits or none follow, or nothing.
+/// Behind its sign so many octets are its whole part; a point and digits or none follow, or nothing
+/// (Ion 1.0, "Ion Text Encoding" and its grammar, ints and decimals).
 #[inline(always)]
 pub fn plain_number_of(token: &[u8], whole: usize) -> ShortNumber
     requires { PlainToken token.now whole }

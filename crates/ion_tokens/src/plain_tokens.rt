@@ -3,7 +3,7 @@
 ghost use Rattle.std.specs.Prelude.{◌≡◌, ◌≢◌, ◌+◌, ◌-◌, ◌<◌, ◌≤◌, ◌∷◌, ◌^◌, ℕ, List, Some, Ok, false, true, length, get_or, take, drop, IfSome, IsUtf8};
 ghost use Rattle.std.specs.List.{take_while};
 ghost use Rattle.ion_tokens.specs.Names.{IsFound, IsPassed, Number, Place, ReadsNumber, is_digit, is_name, is_white, kind_named, past_blank, past_token};
-ghost use Rattle.ion_scalar.specs.text.laws.PlainNumerals.{HasNumeral, PlainToken};
+ghost use Rattle.ion_scalar.specs.text.PlainNumerals.{HasNumeral, PlainToken};
 
 use crate::body::kind_named;
 use crate::front::{characters, few_digits, of_number, of_operator, of_word, white};

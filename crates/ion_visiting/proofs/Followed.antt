@@ -42,7 +42,7 @@ text_no_note _ w = refl
 
 entry_note : (t : Tape) (e : Entry) (x : Event) → told t e ≡ Some x → is_annotation e ≡ note_event x
 entry_note t (Entry.Unknown Role.Annotation) x h = ap note_event (same_Some _ x h)
-entry_note t (Entry.Word Role.Annotation s) x h = ap note_event (same_Some _ x h)
+entry_note t (Entry.Word Role.Annotation n l f) x h = ap note_event (same_Some _ x h)
 entry_note t (Entry.Number n) x h = let y = some_told (slice_get t.numbers.items n) (λ m. part (number_payload m)) x h in ap note_event y.2
 entry_note t (Entry.Symbol Role.Value r) x h = let y = some_told (text_at t r) (λ w. part (payloads.Symbol (Some w))) x h in ap note_event y.2
 entry_note t (Entry.Symbol Role.Annotation r) x h = let y = some_told (text_at t r) (λ w. annotation (Some w)) x h in ap note_event y.2

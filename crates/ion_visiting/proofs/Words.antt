@@ -1,12 +1,9 @@
 -- Texts that are the same word by word.
-use Rattle.std.proofs.Common.{◌≡◌, ◌+◌, ◌-◌, ◌*◌, ◌≤◌, ◌<◌, ◌⊎◌, ℕ, List, [], ◌∷◌, ◌++◌, drop, length, length-append, length-drop, take, ap, sym, subst, ◌∙◌, inl, inr, arith}
+use Rattle.std.proofs.Common.{◌≡◌, ◌+◌, ◌-◌, ◌*◌, ◌≤◌, ◌<◌, ◌⊎◌, ℕ, List, [], ◌∷◌, length, ap, sym, subst, ◌∙◌, inl, inr, arith}
 use Rattle.std.specs.Prelude.{slice_index}
 use Rattle.std.specs.Int.{to_le_bytes, w16, w32, w64}
 use Rattle.std.proofs.lemmas.Bool.{cases_lt}
 use Rattle.std.proofs.lemmas.Grind.{same_number_lists}
-use Rattle.std.proofs.lemmas.List.{length-take-le, take-append-drop, take-append-le, take-take, take_all}
-use Rattle.std.proofs.lemmas.Slice.{take-put_mid}
-use borrow.Rule.Slice.PartMut.{put_mid}
 use Rattle.ion_visiting.specs.Octets.{AreSameFrom}
 
 -- 1. One behind the other.
@@ -75,20 +72,3 @@ pub eight_same : (xs ys : List ℕ) (i a b : ℕ)
     → to_le_bytes w64 b ≡ slice_index ys i ∷ slice_index ys (i + 1) ∷ slice_index ys (i + 2) ∷ slice_index ys (i + 3)
     ∷ slice_index ys (i + 4) ∷ slice_index ys (i + 5) ∷ slice_index ys (i + 6) ∷ slice_index ys (i + 7) ∷ [] → a ≡ b → AreSameFrom xs ys i 8
 eight_same xs ys i a b x y h = spelled_eight xs ys i (sym x ∙ (ap (to_le_bytes w64) h ∙ y))
-
--- 3. Texts that are copied from both ends.
-
-pub ends_put : (rest text a b : List ℕ) (n m k : ℕ) → length text ≡ n → m ≤ n → n ≤ 2 * m → a ≡ take m text
-    → b ≡ take (n - (n - m)) (drop (n - m) text)
-    → take n (put_mid (n - m) k (a ++ rest) b) ≡ text
-ends_put rest text a b n m k long low high first part =
-    let behind : length (drop (n - m) text) ≡ n - (n - m) = length-drop (n - m) text ∙ ap (λ l. l - (n - m)) long in
-    let last : b ≡ drop (n - m) text = part ∙ take_all (n - (n - m)) (drop (n - m) text) (omega (arith, behind)) in
-    let first_long : length a ≡ m = ap length first ∙ length-take-le m text (omega (arith, long, low)) in
-    let last_long : length b ≡ m = ap length last ∙ (length-drop (n - m) text ∙ omega (arith, long, low)) in
-    let all : length (a ++ rest) ≡ length a + length rest = length-append a rest in
-    let whole : take n (put_mid (n - m) k (a ++ rest) b) ≡ take (n - m) (a ++ rest) ++ b =
-    take-put_mid (n - m) k (a ++ rest) b n (omega (arith, last_long, low)) (omega (arith, all, first_long, high)) in
-    let front : take (n - m) (a ++ rest) ≡ take (n - m) a = take-append-le (n - m) a rest (omega (arith, first_long, high)) in
-    let cut : take (n - m) a ≡ take (n - m) text = ap (take (n - m)) first ∙ take-take (n - m) m text (omega (arith, high)) in
-    whole ∙ (ap (λ w. w ++ b) (front ∙ cut) ∙ (ap (λ w. take (n - m) text ++ w) last ∙ take-append-drop (n - m) text))

@@ -29,6 +29,7 @@ pub use Rattle.ion_visiting.specs.declared.following.Following.{Following}
 pub use Rattle.ion_visiting.specs.declared.following.Frame.{Frame}
 pub use Rattle.ion_visiting.specs.declared.outlining.Outlining.{Outlining}
 pub use Rattle.ion_visiting.specs.declared.short.Short.{Short}
+pub use Rattle.ion_visiting.specs.declared.short.Spelling.{Spelling}
 pub use Rattle.ion_visiting.specs.declared.table_filter.Table.{Table}
 pub use Rattle.ion_visiting.specs.declared.table_filter.TableFilter.{TableFilter}
 pub use Rattle.ion_visiting.specs.declared.tape.Entry.{Entry}

@@ -1,8 +1,9 @@
 -- A tape: what events were written down, and how a value lies among them.
-use Rattle.std.specs.Prelude.{◌≡◌, ◌+◌, ℕ, List, [], ◌∷◌, ◌++◌, length, take, drop, set, slice_get, nat_le, cond, Option, Some, None, option_map}
+use Rattle.std.specs.Prelude.{◌≡◌, ◌+◌, ◌-◌, ℕ, List, [], ◌∷◌, ◌++◌, length, take, drop, set, slice_get, nat_le, cond, Option, Some, None, option_map}
+use Rattle.std.specs.Int.{to_le_bytes, w32, w64}
 use Rattle.std.specs.List.{flat_map}
 use Rattle.std.specs.Option.{option_to_list}
-use Rattle.ion_visiting.specs.Names.{Bracket, Entry, Event, Form, Led, Number, Range, Role, Short, Tape, Value, annotation, closes, ended, events_of, name, number_payload, opens, part}
+use Rattle.ion_visiting.specs.Names.{Bracket, Entry, Event, Form, Led, Number, Range, Role, Short, Spelling, Tape, Value, annotation, closes, ended, events_of, name, number_payload, opens, part}
 use Rattle.ion_model.specs.declared.value.Payload.TheVariants as payloads
 
 -- a symbol as a value, as an annotation or as the name of a field
@@ -21,9 +22,15 @@ text_event Form.Blob w = part (payloads.Blob w)
 abbrev pub text_at : Tape → Range → Option (List ℕ)
 text_at t r = cond (nat_le (r.from + r.count) (length t.octets.items)) (Some (take r.count (drop r.from t.octets.items))) None
 
--- a short text
+-- a short text: behind its first octets its last four, where it has as many
 abbrev pub short_text : Short → List ℕ
-short_text s = take s.count s.octets
+short_text s = cond (nat_le 4 s.count) (take (s.count - 4) (to_le_bytes w64 s.first) ++ to_le_bytes w32 s.last) (take s.count (to_le_bytes w64 s.first))
+
+-- the text of a symbol, if it is known
+abbrev pub spelled : Spelling → Option (List ℕ)
+spelled Spelling.Unknown = None
+spelled (Spelling.Short s) = Some (short_text s)
+spelled (Spelling.Long w) = Some w.now
 
 -- what an entry tells; none where its text or its number isn't there
 abbrev pub told : Tape → Entry → Option Event
@@ -33,7 +40,7 @@ told t (Entry.Int z) = Some (part (payloads.Int z))
 told t (Entry.Decimal b x m) = Some (part (payloads.Decimal (record { negative = b; magnitude = m; exponent = x })))
 told t (Entry.Number i) = option_map (λ n. part (number_payload n)) (slice_get t.numbers.items i)
 told t (Entry.Unknown x) = Some (symbol_event x None)
-told t (Entry.Word x s) = Some (symbol_event x (Some (short_text s)))
+told t (Entry.Word x n l f) = Some (symbol_event x (Some (short_text (record { count = n; last = l; first = f }))))
 told t (Entry.Symbol x r) = option_map (λ w. symbol_event x (Some w)) (text_at t r)
 told t (Entry.Text x r) = option_map (text_event x) (text_at t r)
 told t (Entry.Open x j) = Some (opens x)

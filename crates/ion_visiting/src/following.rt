@@ -3,11 +3,12 @@ ghost use Rattle.std.specs.Prelude.{◌≡◌, ◌+◌, ◌<◌, ◌^◌, ℕ, t
 ghost use Rattle.std.specs.Option.{is_some};
 ghost use Rattle.ion_visiting.specs.Names.{Led, closes, name, number_payload, opens, part, payload_of};
 ghost use Rattle.ion_visiting.specs.Following.{Behind, IsField, Seeks, Skips, StartsOn, Takes, behind_payload, follows, is_annotation, is_name};
-ghost use Rattle.ion_visiting.specs.Tapes.{Tells, events_in, symbol_event, text_event, told};
+ghost use Rattle.ion_visiting.specs.Tapes.{Tells, events_in, spelled, symbol_event, text_event, told};
 
 use crate::bracket::Bracket;
 use crate::part::Part;
 use crate::pushing::push;
+use crate::short::{Short, Spelling};
 use crate::tape::{Entry, Form, Role, Tape};
 use ion_scalar::Number;
 use std::alloc::Global;
@@ -81,10 +82,10 @@ impl<'a> Following<'a> {
 
     // The entry there; goes behind it.
     #[inline(always)]
-    fn take(&mut self) -> Option<Entry>
-        ensures { IfSome result (λ entry. Takes self.old entry self.new) }
+    fn take(&mut self) -> Option<&'a Entry>
+        ensures { IfSome result (λ entry. Takes self.old entry.now self.new) }
     {
-        let entry = *self.tape.entries.get(self.at)?;
+        let entry = self.tape.entries.get(self.at)?;
         self.at += 1;
         Some(entry)
     }
@@ -96,7 +97,7 @@ fn is_name(entry: &Entry) -> bool
 {
     match entry {
         Entry::Symbol(Role::Name, _) => true,
-        Entry::Word(Role::Name, _) => true,
+        Entry::Word(Role::Name, ..) => true,
         Entry::Unknown(Role::Name) => true,
         _ => false,
     }
@@ -121,7 +122,7 @@ fn is_annotation(entry: Entry) -> bool
 {
     match entry {
         Entry::Symbol(Role::Annotation, _) => true,
-        Entry::Word(Role::Annotation, _) => true,
+        Entry::Word(Role::Annotation, ..) => true,
         Entry::Unknown(Role::Annotation) => true,
         _ => false,
     }
@@ -172,9 +173,9 @@ fn behind_annotated(tape: &Tape, from: usize) -> usize
 
 // The first field of this name that isn't taken: where it stands, and its bit.
 #[tactic(auto, using(crate::proofs::Sought::field_within))]
-fn seek(tape: &Tape, frame: Frame, text: Option<&[u8]>) -> Option<(usize, u64)>
+fn seek(tape: &Tape, frame: Frame, text: Spelling<'_>) -> Option<(usize, u64)>
     ensures { IfSome result (λ field.
-        Seeks tape.now frame (option_map (λ t. t.now) text.entry) field.0 field.1) }
+        Seeks tape.now frame (spelled text.entry) field.0 field.1) }
 {
     let mut place = frame.free;
     let mut others = frame.taken;
@@ -238,12 +239,14 @@ impl Following<'_> {
         ensures some { result ≡ true → is_some (told other.now entry) ≡ true }
     {
         match entry {
-            Entry::Unknown(role) => self.finds_symbol(role, None),
+            Entry::Unknown(role) => self.finds_symbol(role, Spelling::Unknown),
             Entry::Symbol(role, range) => match other.text(range) {
-                Some(text) => self.finds_symbol(role, Some(text)),
+                Some(text) => self.finds_symbol(role, Spelling::Long(text)),
                 None => false,
             },
-            Entry::Word(role, short) => self.finds_symbol(role, Some(short.text())),
+            Entry::Word(role, count, last, first) => {
+                self.finds_symbol(role, Spelling::Short(Short { count, last, first }))
+            }
             Entry::Text(form, range) => match other.text(range) {
                 Some(octets) => self.finds_text(form, octets),
                 None => false,
@@ -256,12 +259,12 @@ impl Following<'_> {
             Entry::Close(bracket) => self.finds_close(bracket),
             Entry::Null(kind) => self.finds_part(&Part::Null(kind)),
             Entry::Truth(truth) => self.finds_part(&Part::Truth(truth)),
-            Entry::Int(value) => matches!(self.take(), Some(Entry::Int(own)) if own == value),
+            Entry::Int(value) => matches!(self.take(), Some(Entry::Int(own)) if *own == value),
             Entry::Decimal(negative, exponent, magnitude) => {
                 let Some(Entry::Decimal(sign, power, size)) = self.take() else {
                     return false;
                 };
-                sign == negative && power == exponent && size == magnitude
+                *sign == negative && *power == exponent && *size == magnitude
             }
         }
     }
@@ -271,7 +274,7 @@ impl Following<'_> {
         ensures { result ≡ true → follows self.old (part (payload_of said.now)) self.new }
     {
         match self.take() {
-            Some(entry) => self.tape.tells_part(entry, said),
+            Some(entry) => self.tape.tells_part(*entry, said),
             None => false,
         }
     }
@@ -282,7 +285,7 @@ impl Following<'_> {
             follows self.old (part (number_payload number.now)) self.new }
     {
         match self.take() {
-            Some(entry) => self.tape.tells_number(entry, number),
+            Some(entry) => self.tape.tells_number(*entry, number),
             None => false,
         }
     }
@@ -292,28 +295,26 @@ impl Following<'_> {
         ensures { result ≡ true → follows self.old (text_event form octets.now) self.new }
     {
         match self.take() {
-            Some(entry) => self.tape.tells_text(entry, form, octets),
+            Some(entry) => self.tape.tells_text(*entry, form, octets),
             None => false,
         }
     }
 
     #[inline(always)]
-    fn finds_symbol(&mut self, role: Role, text: Option<&[u8]>) -> bool
-        ensures { result ≡ true → follows self.old
-            (symbol_event role (option_map (λ t. t.now) text.entry)) self.new }
+    fn finds_symbol(&mut self, role: Role, text: Spelling<'_>) -> bool
+        ensures { result ≡ true → follows self.old (symbol_event role (spelled text.entry)) self.new }
     {
         if role == Role::Name {
             return self.finds_name(text);
         }
         match self.take() {
-            Some(entry) => self.tape.tells_symbol(&entry, role, text),
+            Some(entry) => self.tape.tells_symbol(entry, role, text),
             None => false,
         }
     }
 
-    fn finds_name(&mut self, text: Option<&[u8]>) -> bool
-        ensures { result ≡ true →
-            follows self.old (name (option_map (λ t. t.now) text.entry)) self.new }
+    fn finds_name(&mut self, text: Spelling<'_>) -> bool
+        ensures { result ≡ true → follows self.old (name (spelled text.entry)) self.new }
     {
         let Some((place, bit)) = seek(self.tape, self.frame, text) else {
             return false;
@@ -343,7 +344,7 @@ impl Following<'_> {
         };
         let outer = self.frame;
         self.frame = frame;
-        own == bracket && push(&mut self.outer, outer)
+        *own == bracket && push(&mut self.outer, outer)
     }
 
     #[inline(always)]
@@ -360,6 +361,6 @@ impl Following<'_> {
             return false;
         };
         self.frame = frame;
-        own == bracket
+        *own == bracket
     }
 }

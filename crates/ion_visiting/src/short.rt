@@ -1,58 +1,133 @@
-//! Texts that are as short as most names.
-ghost use Rattle.std.specs.Prelude.{◌≡◌, ◌*◌, ◌<◌, ◌≤◌, IfSome, length, take};
+//! Symbols by their texts, those as short as most names as numbers.
+ghost use Rattle.std.specs.Prelude.{◌≡◌, ◌-◌, ◌<◌, ◌≤◌, IfSome, drop, length, option_map, take};
+ghost use Rattle.std.specs.Int.{to_le_bytes, w32, w64};
+ghost use Rattle.ion_visiting.specs.Tapes.{short_text, spelled};
 
-/// A text of at most 12 octets.
+/// A text of at most 12 octets, as numbers, so that two are compared at once.
 #[derive(Clone, Copy)]
 pub(crate) struct Short {
-    count: u8,
-    octets: [u8; 12],
-    ghost within: { count ≤ 12 },
+    pub(crate) count: u8,
+    /// The last four octets, of a text of four at least.
+    pub(crate) last: u32,
+    /// The first octets: eight, four of a text of fewer than eight, or all of one of fewer than four.
+    pub(crate) first: u64,
 }
 
 impl Short {
     /// This text, unless it is longer.
     #[inline(always)]
+    #[tactic(auto, using(crate::proofs::Shorts::eight_ends, crate::proofs::Shorts::four_ends, crate::proofs::Shorts::few_ends))]
     pub(crate) fn of(text: &[u8]) -> Option<Short>
-        ensures { IfSome result (λ s. take s.count s.octets ≡ text.now) }
+        ensures { IfSome result (λ s. short_text s ≡ text.now) }
     {
         let count = text.len();
         if count > 12 {
             return None;
         }
-        let mut octets = [0; 12];
         if count >= 8 {
-            put_ends(&mut octets, text, 8);
-        } else if count >= 4 {
-            put_ends(&mut octets, text, 4);
-        } else if count >= 2 {
-            put_ends(&mut octets, text, 2);
-        } else if count == 1 {
-            octets[0] = text[0];
+            return Some(Short {
+                count: count as u8,
+                last: back_of(text),
+                first: eight_of(text),
+            });
+        }
+        if count >= 4 {
+            return Some(Short {
+                count: count as u8,
+                last: back_of(text),
+                first: u64::from(four_of(text)),
+            });
         }
         Some(Short {
             count: count as u8,
-            octets,
+            last: 0,
+            first: few_of(text),
         })
     }
 
-    /// It.
-    #[inline(always)]
-    pub(crate) fn text(&self) -> &[u8]
-        ensures { result.now ≡ take self.now.count self.now.octets }
+    /// Its octets at the front.
+    pub(crate) fn octets(&self) -> [u8; 12]
+        requires { self.now.count ≤ 12 }
+        ensures { take self.now.count result ≡ short_text self.now }
     {
-        &self.octets[..self.count as usize]
+        let mut octets = [0; 12];
+        octets[..8].copy_from_slice(&self.first.to_le_bytes());
+        let count = self.count as usize;
+        if count >= 4 {
+            octets[count - 4..count].copy_from_slice(&self.last.to_le_bytes());
+        }
+        octets
     }
 }
 
-// Writes a text down at the front: so many octets from either end of it, which may overlap.
+// The first eight octets of a text.
 #[inline(always)]
-fn put_ends(octets: &mut [u8; 12], text: &[u8], size: usize)
-    requires fits { length text.now ≤ 12 }
-    requires long { size ≤ length text.now }
-    requires short { length text.now ≤ 2 * size }
-    ensures { take (length text.now) octets.new ≡ text.now }
+fn eight_of(text: &[u8]) -> u64
+    requires { 8 ≤ length text.now }
+    ensures { to_le_bytes w64 result ≡ take 8 text.now }
+{
+    let mut octets = [0; 8];
+    octets.copy_from_slice(&text[..8]);
+    u64::from_le_bytes(octets)
+}
+
+// Its first four.
+#[inline(always)]
+fn four_of(text: &[u8]) -> u32
+    requires { 4 ≤ length text.now }
+    ensures { to_le_bytes w32 result ≡ take 4 text.now }
+{
+    let mut octets = [0; 4];
+    octets.copy_from_slice(&text[..4]);
+    u32::from_le_bytes(octets)
+}
+
+// Its last four.
+#[inline(always)]
+fn back_of(text: &[u8]) -> u32
+    requires { 4 ≤ length text.now }
+    ensures { to_le_bytes w32 result ≡ drop (length text.now - 4) text.now }
+{
+    let mut octets = [0; 4];
+    octets.copy_from_slice(&text[text.len() - 4..]);
+    u32::from_le_bytes(octets)
+}
+
+// All octets of a text of fewer than four.
+#[inline(always)]
+#[tactic(auto, using(crate::proofs::Shorts::few_spelled))]
+fn few_of(text: &[u8]) -> u64
+    requires { length text.now < 4 }
+    ensures { take (length text.now) (to_le_bytes w64 result) ≡ text.now }
 {
     let count = text.len();
-    octets[..size].copy_from_slice(&text[..size]);
-    octets[count - size..count].copy_from_slice(&text[count - size..]);
+    if count == 0 {
+        return 0;
+    }
+    let seen = [text[0], text[count / 2], text[count - 1], 0, 0, 0, 0, 0];
+    u64::from_le_bytes(seen)
+}
+
+/// What a symbol is, as a tape writes it down.
+#[derive(Clone, Copy)]
+pub(crate) enum Spelling<'a> {
+    /// It has no known text.
+    Unknown,
+    Short(Short),
+    Long(&'a [u8]),
+}
+
+impl<'a> Spelling<'a> {
+    #[inline(always)]
+    pub(crate) fn of(text: Option<&'a str>) -> Spelling<'a>
+        ensures { spelled result ≡ option_map (λ t. t.now) text.entry }
+    {
+        let Some(text) = text else {
+            return Spelling::Unknown;
+        };
+        match Short::of(text.as_bytes()) {
+            Some(short) => Spelling::Short(short),
+            None => Spelling::Long(text.as_bytes()),
+        }
+    }
 }

@@ -76,6 +76,7 @@ impl TableFilter {
     fn is_table(&self, begins: bool) -> bool
         ensures { result ≡ is_of_table self.now.table begins }
     {
+        // One arm for both, so that two tests find it.
         match self.table {
             Table::Unknown | Table::No => false,
             Table::Noted => begins,

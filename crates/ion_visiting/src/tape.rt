@@ -3,13 +3,13 @@ ghost use Rattle.std.specs.Prelude.{◌≡◌, ◌+◌, ◌++◌, ◌∷◌, [],
 ghost use Rattle.std.specs.List.{flat_map};
 ghost use Rattle.std.specs.Option.{is_some, option_to_list};
 ghost use Rattle.ion_visiting.specs.Names.{Led, closes, number_payload, opens, part, payload_of};
-ghost use Rattle.ion_visiting.specs.Tapes.{Grows, IsBlank, Rests, Writes, events_before, events_in, symbol_event, text_at, text_event, told};
+ghost use Rattle.ion_visiting.specs.Tapes.{Grows, IsBlank, Rests, Writes, events_before, events_in, short_text, spelled, symbol_event, text_at, text_event, told};
 
 use crate::bracket::Bracket;
 use crate::octets::are_same;
 use crate::part::Part;
 use crate::pushing::push;
-use crate::short::Short;
+use crate::short::{Short, Spelling};
 use crate::visitor::Visitor;
 use ion_atoms::{Decimal, Whole};
 use ion_model::Kind;
@@ -54,7 +54,8 @@ pub(crate) enum Entry {
     /// A symbol of unknown text.
     Unknown(Role),
     Symbol(Role, Range),
-    Word(Role, Short),
+    /// A symbol of a text of at most 12 octets, by the numbers of `Short`.
+    Word(Role, u8, u32, u64),
     Text(Form, Range),
     /// With the entry behind the close, once that is there.
     Open(Bracket, u32),
@@ -136,15 +137,15 @@ impl Tape {
         ensures { result ≡ true → Writes self.old self.new
             (symbol_event role (option_map (λ t. t.now) text.entry)) }
     {
-        let Some(text) = text else {
-            return self.put(Entry::Unknown(role));
-        };
-        if let Some(short) = Short::of(text.as_bytes()) {
-            return self.put(Entry::Word(role, short));
-        }
-        match self.put_text(text.as_bytes()) {
-            Some(range) => self.put(Entry::Symbol(role, range)),
-            None => false,
+        match Spelling::of(text) {
+            Spelling::Unknown => self.put(Entry::Unknown(role)),
+            Spelling::Short(Short { count, last, first }) => {
+                self.put(Entry::Word(role, count, last, first))
+            }
+            Spelling::Long(text) => match self.put_text(text) {
+                Some(range) => self.put(Entry::Symbol(role, range)),
+                None => false,
+            },
         }
     }
 
@@ -207,14 +208,21 @@ impl Tape {
 
     /// Whether this entry tells this symbol.
     #[inline(always)]
-    pub(crate) fn tells_symbol(&self, entry: &Entry, role: Role, text: Option<&[u8]>) -> bool
+    pub(crate) fn tells_symbol(&self, entry: &Entry, role: Role, text: Spelling<'_>) -> bool
         ensures { result ≡ true → told self.now entry.now
-            ≡ Some (symbol_event role (option_map (λ t. t.now) text.entry)) }
+            ≡ Some (symbol_event role (spelled text.entry)) }
     {
         match (entry, text) {
-            (Entry::Unknown(own), None) => *own == role,
-            (Entry::Word(own, short), Some(text)) => *own == role && are_same(short.text(), text),
-            (Entry::Symbol(own, range), Some(text)) => *own == role && self.has_text(*range, text),
+            (Entry::Unknown(own), Spelling::Unknown) => *own == role,
+            (Entry::Word(own, count, last, first), Spelling::Short(short)) => {
+                *own == role
+                    && *first == short.first
+                    && *last == short.last
+                    && *count == short.count
+            }
+            (Entry::Symbol(own, range), Spelling::Long(text)) => {
+                *own == role && self.has_text(*range, text)
+            }
             _ => false,
         }
     }
@@ -238,7 +246,7 @@ impl Tape {
         match said {
             Part::Null(kind) => matches!(entry, Entry::Null(own) if own == *kind),
             Part::Truth(truth) => matches!(entry, Entry::Truth(own) if own == *truth),
-            Part::Symbol(text) => self.tells_symbol(&entry, Role::Value, Some(text.as_bytes())),
+            Part::Symbol(text) => self.tells_symbol(&entry, Role::Value, Spelling::of(Some(text))),
             Part::Str(text) => self.tells_text(entry, Form::Str, text.as_bytes()),
             Part::Clob(octets) => self.tells_text(entry, Form::Clob, octets),
             Part::Blob(octets) => self.tells_text(entry, Form::Blob, octets),
@@ -355,7 +363,9 @@ impl Tape {
                 Some(octets) => tell_known(role, octets, visitor),
                 None => false,
             },
-            Entry::Word(role, short) => tell_known(role, short.text(), visitor),
+            Entry::Word(role, count, last, first) => {
+                tell_short(role, Short { count, last, first }, visitor)
+            }
             Entry::Text(form, range) => match self.text(range) {
                 Some(octets) => tell_text(form, octets, visitor),
                 None => false,
@@ -416,6 +426,17 @@ fn tell_known<V: Visitor>(role: Role, octets: &[u8], visitor: &mut V) -> bool
         Ok(text) => tell_symbol(role, Some(text), visitor),
         Err(_) => false,
     }
+}
+
+#[inline(never)]
+fn tell_short<V: Visitor>(role: Role, text: Short, visitor: &mut V) -> bool
+    ensures { result ≡ true → V.takes visitor.old
+        (symbol_event role (Some (short_text text))) visitor.new }
+{
+    if text.count > 12 {
+        return false;
+    }
+    tell_known(role, &text.octets()[..text.count as usize], visitor)
 }
 
 #[inline(always)]

@@ -31,12 +31,14 @@ pub(crate) fn tell_annotations<V: Visitor>(symbols: &[Symbol], visitor: &mut V) 
     true
 }
 
+#[inline(always)]
 pub(crate) fn tell_annotation<V: Visitor>(symbol: &Symbol, visitor: &mut V) -> bool
     ensures { result ≡ true → V.takes visitor.old (annotation symbol.now) visitor.new }
 {
     visitor.annotation(symbol.text())
 }
 
+#[inline(always)]
 pub(crate) fn tell_name<V: Visitor>(symbol: &Symbol, visitor: &mut V) -> bool
     ensures { result ≡ true → V.takes visitor.old (name symbol.now) visitor.new }
 {
@@ -64,6 +66,7 @@ fn tell_payload<V: Visitor>(payload: &Payload, visitor: &mut V) -> bool
     }
 }
 
+#[inline(always)]
 pub(crate) fn tell_symbol<V: Visitor>(symbol: &Symbol, visitor: &mut V) -> bool
     ensures { result ≡ true →
         V.takes visitor.old (part (payloads.Symbol symbol.now)) visitor.new }

@@ -6,6 +6,7 @@ ghost use Rattle.ion_visiting.specs.Twins.{IsApart, IsBegun, TellsSecond, WasTol
 
 use crate::bracket::Bracket;
 use crate::part::Part;
+use crate::short::Spelling;
 use crate::tape::{Entry, Role, Tape};
 use crate::visitor::Visitor;
 use ion_scalar::Number;
@@ -86,16 +87,16 @@ impl Twin {
 
     // The entry that the second goes on with where they don't part.
     #[inline(always)]
-    fn next(&self) -> Option<Entry>
+    fn next(&self) -> Option<&Entry>
         ensures there { IfSome result (λ entry. slice_get self.now.first.entries.items self.now.at
-            ≡ Some entry) }
+            ≡ Some entry.now) }
         ensures along { IfSome result (λ _. self.now.parted ≡ false) }
         ensures room { IfSome result (λ _. self.now.at + 1 < 2 ^ 64) }
     {
         if self.parted {
             return None;
         }
-        self.first.entries.get(self.at).copied()
+        self.first.entries.get(self.at)
     }
 
     // Past that entry.
@@ -116,7 +117,7 @@ impl Twin {
             (symbol_event role (option_map (λ t. t.now) text.entry)) self.new }
     {
         match self.next() {
-            Some(entry) if self.first.tells_symbol(&entry, role, octets_of(text)) => self.pass(),
+            Some(entry) if self.first.tells_symbol(entry, role, Spelling::of(text)) => self.pass(),
             _ => self.other_symbol(role, text),
         }
     }
@@ -162,16 +163,6 @@ impl Twin {
     }
 }
 
-#[inline(always)]
-fn octets_of(text: Option<&str>) -> Option<&[u8]>
-    ensures { option_map (λ t. t.now) result ≡ option_map (λ t. t.now) text.entry }
-{
-    match text {
-        Some(text) => Some(text.as_bytes()),
-        None => None,
-    }
-}
-
 impl Visitor for Twin {
     ghost takes = { TellsSecond };
 
@@ -179,7 +170,7 @@ impl Visitor for Twin {
     #[tactic(auto, using(crate::proofs::Twins::told_along))]
     fn part(&mut self, said: &Part<'_>) -> bool {
         match self.next() {
-            Some(entry) if self.first.tells_part(entry, said) => self.pass(),
+            Some(entry) if self.first.tells_part(*entry, said) => self.pass(),
             _ => self.other_part(said),
         }
     }
@@ -188,7 +179,7 @@ impl Visitor for Twin {
     #[tactic(auto, using(crate::proofs::Twins::told_along))]
     fn number(&mut self, number: Number) -> bool {
         match self.next() {
-            Some(entry) if self.first.tells_number(entry, &number) => self.pass(),
+            Some(entry) if self.first.tells_number(*entry, &number) => self.pass(),
             _ => self.other_number(number),
         }
     }
@@ -212,7 +203,7 @@ impl Visitor for Twin {
     #[tactic(auto, using(crate::proofs::Twins::told_along))]
     fn open(&mut self, bracket: Bracket) -> bool {
         match self.next() {
-            Some(entry) if self.first.tells_open(entry, bracket) => self.pass(),
+            Some(entry) if self.first.tells_open(*entry, bracket) => self.pass(),
             _ => self.other_open(bracket),
         }
     }
@@ -221,7 +212,7 @@ impl Visitor for Twin {
     #[tactic(auto, using(crate::proofs::Twins::told_along))]
     fn close(&mut self, bracket: Bracket) -> bool {
         match self.next() {
-            Some(entry) if self.first.tells_close(entry, bracket) => self.pass(),
+            Some(entry) if self.first.tells_close(*entry, bracket) => self.pass(),
             _ => self.other_close(bracket),
         }
     }

@@ -2,7 +2,7 @@
 -- was told.
 use Rattle.std.specs.Prelude.{◌≡◌, ◌≢◌, ◌≤◌, ℕ, List, [], ◌∷◌, ◌++◌, map, reverse, Option, Some, None, Result, Ok, Err, Bool, true, false, ◌==◌, if◌then◌else◌}
 use Rattle.std.specs.List.{flat_map}
-use Rattle.ion_binary.specs.Names.Below.{BinaryWalk, Bracket, Container, Effect, Event, Field, Form, Gives, Goes, Hears, InBody, InMarker, InNumber, Memory, Payload, Phase, Purpose, Ready, Reason, Scalar, TableFilter, Tells, Value, WasTold, annotation, events_of, field_events, heard, layer_events, name, out-Payload, part, resolve}
+use Rattle.ion_binary.specs.Names.Below.{BinaryWalk, Bracket, Container, Effect, Event, Field, Form, Gives, Goes, Hears, InBody, InMarker, InNumber, Memory, Payload, Phase, Purpose, Ready, Reason, TableFilter, Tells, Value, WasTold, annotation, events_of, field_events, heard, layer_events, name, out-Payload, part, resolve}
 use Rattle.ion_visiting.specs.Events.{opens}
 use Rattle.ion_binary.specs.machine.EachOctet.{Machine, Outcome, Setting, Spot, deliver, gives, goes, refuses, spot_at, under}
 use Rattle.ion_binary.specs.machine.Frames.{Frame}
@@ -80,14 +80,6 @@ IsPart p = layer_events (out-Payload p) ≡ part p ∷ []
 -- a filter was told what a body is, which is a part
 abbrev pub TellsAs : {V : Type 0} → (V → Event → V → Type 0) → Result Payload Reason → TableFilter → TableFilter → V → V → Type 0
 TellsAs takes judged f g a b = (p : Payload) × (judged ≡ Ok p) × IsPart p × Tells takes (part p) f g a b
-
--- such a scalar is a number
-abbrev pub IsNumber : Scalar → Type 0
-IsNumber Scalar.Int = Unit {0}
-IsNumber Scalar.NegativeInt = Unit {0}
-IsNumber Scalar.Decimal = Unit {0}
-IsNumber Scalar.Timestamp = Unit {0}
-IsNumber _ = ⊥
 
 -- 2. What was told.
 

@@ -52,7 +52,7 @@ pub record HasScalar (r : BinaryWalk) (piece : List ℕ) (named : ℕ) (t : Scal
 abbrev pub Led : Run → BinaryWalk → List Frame → Type 0
 Led ran r fs = (ran ≡ led (machine_of r fs)) × Holds r fs
 
--- an octet of a piece was counted, and none behind it
+-- one octet of a piece at least was counted, and none behind the piece
 abbrev pub CountsOn : ℕ → ℕ → List ℕ → Type 0
 CountsOn from to piece = (from < to) × (to ≤ from + length piece)
 

@@ -52,6 +52,7 @@ impl BinaryWalk<'_> {
     }
 
     /// Begins a body of this size, which the form may have, behind its header.
+    #[inline(always)]
     pub(super) fn begin<V: Visitor>(
         &mut self,
         form: Form,

@@ -82,7 +82,11 @@ impl BinaryWalk<'_> {
             match self.behind_value(container, visitor) {
                 Err(reason) => return Err(reason),
                 Ok(false) => return Ok(Effect::Goes),
-                Ok(true) => {}
+                Ok(true) => {
+                    if self.stays_open() {
+                        return Ok(Effect::Goes);
+                    }
+                }
             }
         }
         self.give()
@@ -171,6 +175,7 @@ impl BinaryWalk<'_> {
 
     /// Whether a list or an s-expression that was the innermost container ends here; else it is the
     /// innermost one again.
+    #[inline(always)]
     fn close_items<V: Visitor>(
         &mut self,
         end: u64,
@@ -198,6 +203,7 @@ impl BinaryWalk<'_> {
     }
 
     /// The same of a struct, where the name of a field comes next.
+    #[inline(always)]
     fn close_fields<V: Visitor>(&mut self, end: u64, visitor: &mut V) -> Result<bool, Reason>
         ensures does { (fs : List AnyFrame) (ms : List AnyField) →
             open_containers self.old ≡ containers_of fs → AreAround fs →

@@ -1,11 +1,10 @@
 //! Scalars, whose octets are their body: told apart here alone.
-ghost use Rattle.std.specs.Prelude.{◌≡◌, ◌≢◌, ◌↔◌, IsTrue, List, ℕ, Ok, Err, MatchResult, OnOk, IfErr};
+ghost use Rattle.std.specs.Prelude.{◌≡◌, ◌≢◌, ◌↔◌, IsTrue, Ok, Err, MatchResult, OnOk, IfErr};
 ghost use Rattle.std.specs.Char.{is_ascii};
 ghost use Rattle.std.specs.List.{list_all};
 ghost use Rattle.std.specs.Str.{IsUtf8};
-ghost use Rattle.ion_binary.specs.Names.{IsNumber, Memory, Slot, TellsAs, int_of, judge, number_payload, symbol_of, text_of, uint_field};
+ghost use Rattle.ion_binary.specs.Names.{Memory, TellsAs, as_decimal, as_timestamp, decimal_of_body, int_of, judge, symbol_of, text_of, timestamp_of_body, uint_field};
 ghost use Rattle.ion_model.specs.declared.value.Payload.TheVariants as payloads;
-ghost use Rattle.ion_binary.specs.declared.form.Scalar.TheVariants as scalars;
 
 use super::heard;
 use crate::form::Scalar;
@@ -58,11 +57,31 @@ fn read_scalar<V: Visitor>(
 {
     match scalar {
         Scalar::Symbol => tell_symbol(context, body, filter, visitor),
+        Scalar::Decimal => tell_decimal(body, filter, visitor),
+        Scalar::Timestamp => tell_timestamp(body, filter, visitor),
         Scalar::Str => tell_text(body, filter, visitor),
         Scalar::Clob => heard(filter.part(&Part::Clob(body), visitor)),
         Scalar::Blob => heard(filter.part(&Part::Blob(body), visitor)),
-        _ => tell_number(scalar, body, filter, visitor),
+        Scalar::Int => tell_int(false, body, filter, visitor),
+        Scalar::NegativeInt => tell_int(true, body, filter, visitor),
     }
+}
+
+// An int, which most numbers are.
+#[inline(always)]
+fn tell_int<V: Visitor>(
+    negative: bool,
+    body: &[u8],
+    filter: &mut TableFilter,
+    visitor: &mut V,
+) -> Result<(), Reason>
+    ensures told { OnOk result (TellsAs V.takes (int_of negative (uint_field body.now))
+        filter.old filter.new visitor.old visitor.new) }
+    ensures refused { IfErr result (λ reason. reason ≢ Memory →
+        int_of negative (uint_field body.now) ≡ Err reason) }
+{
+    let whole = int_of(negative, body)?;
+    heard(filter.number(Number::Int(whole), visitor))
 }
 
 fn tell_symbol<V: Visitor>(
@@ -94,38 +113,38 @@ fn tell_text<V: Visitor>(
     heard(filter.part(&Part::Str(text), visitor))
 }
 
-fn tell_number<V: Visitor>(
-    scalar: Scalar,
+#[inline(never)]
+fn tell_decimal<V: Visitor>(
     body: &[u8],
     filter: &mut TableFilter,
     visitor: &mut V,
 ) -> Result<(), Reason>
-    requires { IsNumber scalar }
-    ensures told { (c : List Slot) → OnOk result (TellsAs V.takes (judge c scalar body.now)
+    ensures told { OnOk result (TellsAs V.takes (as_decimal (decimal_of_body body.now))
         filter.old filter.new visitor.old visitor.new) }
-    ensures refused { (c : List Slot) → IfErr result (λ reason. reason ≢ Memory →
-        judge c scalar body.now ≡ Err reason) }
+    ensures refused { IfErr result (λ reason. reason ≢ Memory →
+        as_decimal (decimal_of_body body.now) ≡ Err reason) }
 {
-    let number = number_of(scalar, body)?;
-    heard(filter.number(number, visitor))
+    let decimal = decimal_of(body)?;
+    heard(filter.number(Number::Decimal(decimal), visitor))
 }
 
-// The number of a body.
-#[tactic(auto, unfolding(crate::specs::Judge::judge))]
-fn number_of(scalar: Scalar, body: &[u8]) -> Result<Number, Reason>
-    requires { IsNumber scalar }
-    ensures { (c : List Slot) → MatchResult result
-        (λ n. judge c scalar body.now ≡ Ok (number_payload n))
-        (λ reason. judge c scalar body.now ≡ Err reason) }
+#[inline(never)]
+fn tell_timestamp<V: Visitor>(
+    body: &[u8],
+    filter: &mut TableFilter,
+    visitor: &mut V,
+) -> Result<(), Reason>
+    ensures told { OnOk result (TellsAs V.takes (as_timestamp (timestamp_of_body body.now))
+        filter.old filter.new visitor.old visitor.new) }
+    ensures refused { IfErr result (λ reason. reason ≢ Memory →
+        as_timestamp (timestamp_of_body body.now) ≡ Err reason) }
 {
-    match scalar {
-        Scalar::Decimal => Ok(Number::Decimal(decimal_of(body)?)),
-        Scalar::Timestamp => Ok(Number::Timestamp(timestamp_of(body)?)),
-        _ => Ok(Number::Int(int_of(scalar == Scalar::NegativeInt, body)?)),
-    }
+    let timestamp = timestamp_of(body)?;
+    heard(filter.number(Number::Timestamp(timestamp), visitor))
 }
 
 // The int of a sign and a magnitude.
+#[inline(always)]
 pub(super) fn int_of(negative: bool, body: &[u8]) -> Result<Whole, Reason>
     ensures { MatchResult result
         (λ z. int_of negative (uint_field body.now) ≡ Ok (payloads.Int z))

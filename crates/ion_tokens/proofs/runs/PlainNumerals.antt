@@ -8,7 +8,8 @@ use Rattle.std.proofs.lemmas.List.{get_or-drop}
 use Rattle.std.proofs.lemmas.List.Folds.{length-prefix_len}
 use Rattle.std.proofs.lemmas.List.Sums.{prefix_len_passes, prefix_len_is}
 use Rattle.ion_tokens.specs.Names.{BeginsWithMinus, IsFound, Number, Place, ReadsNumber, Rest, TokenKind, is_digit, is_name, is_numeric, is_stop, minus, slash}
-use Rattle.ion_scalar.specs.text.laws.PlainNumerals.{HasNumeral, IsPlainDigit, PlainNumeral, PlainToken, numeral_reads, numeral_token}
+use Rattle.ion_scalar.specs.text.PlainNumerals.{HasNumeral, IsPlainDigit, PlainNumeral, PlainToken}
+use Rattle.ion_scalar.specs.text.laws.PlainNumerals.{numeral_reads, numeral_token}
 use Rattle.ion_tokens.proofs.runs.WholeTokens.{front_length, front_within, number_found}
 
 plain_digit : (o : ℕ) → is_digit o ≡ true → IsPlainDigit o

@@ -1,38 +1,12 @@
--- Ints and decimals of few plain digits, where their numbers aren't asked for.
-use Rattle.std.proofs.Common.{◌≡◌, ◌≢◌, ℕ, zero, suc, ◌+◌, ◌-◌, ◌*◌, ◌^◌, ◌<◌, ◌≤◌, ◌⊎◌, inl, inr, List, [], ◌∷◌, length, take, drop, get_or, pos, neg_ℤ, ◌-ℤ◌, ◌++◌, Bool, true, false, Ok, refl, sym, ap, subst, ◌∙◌, arith, length-drop}
+-- Ints and decimals of few plain digits have a number, and it is read off their digits.
+use Rattle.std.proofs.Common.{◌≡◌, ◌≢◌, ℕ, zero, suc, ◌+◌, ◌-◌, ◌*◌, ◌^◌, ◌<◌, ◌≤◌, inl, inr, List, [], ◌∷◌, length, take, drop, get_or, pos, neg_ℤ, ◌-ℤ◌, ◌++◌, Bool, true, false, Ok, refl, sym, ap, subst, ◌∙◌, arith, length-drop}
 use Rattle.std.proofs.lemmas.Int.{ints}
 use Rattle.std.specs.Prelude.{◌≤ℤ◌, ◌<ℤ◌}
 use Rattle.std.proofs.lemmas.List.{get_or-take, get_or-drop, length-take-le}
 use Rattle.ion_scalar.specs.Names.{BeginsWithMinus, Fits, IsWhole, Number, ReadsBehind, ReadsNumber, decimal_read, minus, signed}
+use Rattle.ion_scalar.specs.text.PlainNumerals.{HasNumeral, IsPlainDigit, PlainNumeral, PlainToken}
 use Rattle.ion_scalar.specs.text.laws.ShortNumbers.{PlainRun, below_room, marked_from, number_of_numeral, plain_more, room_behind, room_decimal, short_decimal, short_int, short_whole}
 use Rattle.ion_scalar.specs.text.laws.Unsigned.{token_answer}
-
--- `0` to `9`
-abbrev pub IsPlainDigit : ℕ → Type 0
-IsPlainDigit c = (48 ≤ c) × (c ≤ 57)
-
--- The first octets, so many, are the digits of a whole part, and maybe a point and digits or none behind them.
-pub record PlainNumeral (os : List ℕ) (count : ℕ) : Type 0 where
-  pub whole : ℕ
-  pub some : 0 < whole
-  pub few : count ≤ 19
-  pub within : count ≤ length os
-  pub digits : (i : ℕ) → i < whole → IsPlainDigit (get_or os i 0)
-  pub first : 1 < whole → get_or os 0 0 ≢ 48
-  pub behind : (whole ≡ count)
-      ⊎ ((whole < count) × (get_or os whole 0 ≡ 46) × ((i : ℕ) → whole < i → i < count → IsPlainDigit (get_or os i 0)))
-
--- The same, where the whole part has so many.
-abbrev pub HasNumeral : List ℕ → ℕ → ℕ → Type 0
-HasNumeral os whole count = (h : PlainNumeral os count) × (h.whole ≡ whole)
-
--- A token that is such octets behind a sign or none.
-pub record PlainToken (token : List ℕ) (whole : ℕ) : Type 0 where
-  pub negative : Bool
-  pub body : List ℕ
-  pub sign : BeginsWithMinus negative token
-  pub octets : token ≡ minus negative ++ body
-  pub numeral : HasNumeral body whole (length body)
 
 -- digits have a number
 run_of : (os : List ℕ) (before n : ℕ) → n ≤ length os → ((i : ℕ) → i < n → IsPlainDigit (get_or os i 0)) → (value : ℕ) × PlainRun os before n value
