@@ -1,5 +1,5 @@
 -- Scalars that a visitor heeds not, which needn't be read for it.
-use Rattle.std.proofs.Common.{◌≡◌, ℕ, ◌*◌, ◌^◌, ◌<◌, ◌≤◌, List, [], ◌∷◌, ◌++◌, length, length-append, get_or, Option, Bool, true, false, Result, Ok, Err, refl, ap, sym, subst, ◌∙◌, arith, inl, inr}
+use Rattle.std.proofs.Common.{◌≡◌, ℕ, ◌*◌, ◌^◌, ◌<◌, ◌≤◌, List, [], ◌∷◌, ◌++◌, length, length-append, get_or, Option, true, false, Result, Ok, Err, refl, ap, sym, subst, ◌∙◌, arith, inl, inr}
 use Rattle.std.specs.Prelude.{is_ok, MatchResult, ℤ}
 use Rattle.std.specs.Char.{is_ascii}
 use Rattle.std.specs.List.{list_all}
@@ -11,11 +11,10 @@ use Rattle.std.proofs.lemmas.List.Elements.{All-weaker}
 use Rattle.std.proofs.lemmas.List.Sums.{AllPass-from_list_all}
 use Rattle.std.proofs.lemmas.Str.{IsCharBoundary-from_take, IsUtf8-append, IsUtf8-drop, IsUtf8-from_ascii}
 use Rattle.std.proofs.lemmas.Str.Ascii.{IsAscii-from_all}
-use Rattle.ion_binary.specs.Names.{BadUtf8, DecimalParts, Event, IsScalar, LetsPass, Payload, Reason, Scalar, Slot, TableFilter, TellsAs, TimestampParts, WasTold, as_decimal, as_timestamp, begins_struct, decimal_of_body, heard, int_of, is_blob, is_clob, is_decimal, is_int, is_negative, is_of_table, is_string, is_symbol, is_timestamp, judge, layer_kind, outs-Blob, outs-Clob, outs-Decimal, outs-Int, outs-Str, outs-Symbol, outs-Timestamp, part, positional, resolve, scalar_kind, timestamp_of_body, uint_field}
+use Rattle.ion_binary.specs.Names.{BadUtf8, DecimalParts, Event, IsScalar, LetsPass, Payload, Reason, Scalar, Slot, TableFilter, TellsAs, TimestampParts, WasTold, as_decimal, as_timestamp, decimal_of_body, heard, int_of, is_blob, is_clob, is_decimal, is_int, is_negative, is_of_table, is_string, is_symbol, is_timestamp, judge, layer_kind, outs-Blob, outs-Clob, outs-Decimal, outs-Int, outs-Str, outs-Symbol, outs-Timestamp, part, positional, resolve, scalar_kind, timestamp_of_body, uint_field}
 use Rattle.ion_model.specs.declared.value.Payload.TheVariants as payloads
 use Rattle.ion_model.specs.declared.value.Payload.TheViews as views
-use Rattle.ion_visiting.specs.declared.table_filter.Table.{Table}
-use Rattle.ion_visiting.specs.laws.Filters.{hears_none, visitor_tells}
+use Rattle.ion_visiting.specs.laws.Filters.{part_passes}
 use Rattle.ion_binary.specs.laws.reading.Judged.{scalar_leaf, judge_scalar, judge_sound}
 use Rattle.ion_binary.proofs.Scalars.{no_text}
 
@@ -106,11 +105,6 @@ as_form c t x body e h = subst (λ t. is_ok (judge c t body) ≡ true) (sym e) h
 
 -- 2. What is told of them.
 
-plain_of : (t : Table) (b : Bool) → is_of_table t true ≡ false → is_of_table t b ≡ false
-plain_of Table.Noted b h = absurd (false≢true (sym h))
-plain_of Table.Yes b h = absurd (false≢true (sym h))
-plain_of _ b h = refl
-
 module _ {V : Type 0} (takes : V → Event → V → Type 0) (c : List Slot) (t : Scalar) (body : List ℕ) (f g : TableFilter) (a b : V)
     (plain : is_of_table f.table true ≡ false) (passes : (es : List Event) → WasTold f es → LetsPass g × (heard es ≡ es))
     (went : (p : Payload) → IsScalar c body t p → takes a (part p) b) where
@@ -119,8 +113,7 @@ module _ {V : Type 0} (takes : V → Event → V → Type 0) (c : List Slot) (t 
     p,
     e,
     (scalar_leaf c body t p (judge_sound c t body p e)).event,
-    visitor_tells takes (part p) f g a a b tt (plain_of f.table (begins_struct (part p)) plain)
-        (λ es h. let i = passes es h in (i.0, hears_none takes (heard es) es a (sym i.1))) (went p (judge_sound c t body p e)),
+    part_passes takes p f g a b plain passes (went p (judge_sound c t body p e)),
   )
   unread_by (Err reason) e h = absurd (false≢true h)
 

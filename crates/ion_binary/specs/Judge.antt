@@ -3,6 +3,7 @@ use Rattle.std.specs.Prelude.{ℕ, pos, neg_ℤ, Bool, true, false, List, ◌==�
 use Rattle.std.specs.Str.{is_utf8}
 use Rattle.ion_binary.specs.Names.Below.{BadUtf8, DecimalParts, Malformed, Payload, Reason, Scalar, Slot, TimestampParts, decimal_of_body, resolve, timestamp_of_body, uint_field}
 use Rattle.ion_model.specs.declared.value.Payload.TheVariants as payloads
+use Rattle.ion_visiting.specs.declared.part.NumberBody.{NumberBody}
 
 -- an int of this magnitude; 0 has no sign
 abbrev pub int_of : Bool → Result ℕ Reason → Result Payload Reason
@@ -29,6 +30,11 @@ as_decimal (Err e) = Err e
 abbrev pub as_timestamp : Result TimestampParts Reason → Result Payload Reason
 as_timestamp (Ok t) = Ok (payloads.Timestamp t)
 as_timestamp (Err e) = Err e
+
+-- a decimal or a timestamp by its body
+abbrev pub number_of : NumberBody → Result Payload Reason
+number_of (NumberBody.Decimal w) = as_decimal (decimal_of_body w.now)
+number_of (NumberBody.Timestamp w) = as_timestamp (timestamp_of_body w.now)
 
 -- the string of these octets
 abbrev pub text_of : List ℕ → Result Payload Reason

@@ -5,7 +5,7 @@ pub use Rattle.ion_binary.specs.Deciding.{Before, Count, Decides, EndsHeader, En
 pub use Rattle.ion_binary.specs.Depths.{depths, field_depths}
 pub use Rattle.ion_binary.specs.Grammar.{Binary, Document, Fields, Header, Ids, IsPad, IsScalar, OpenRest, Pieces, Plain, Sequence, Whole, begins, document, holds, is_blob, is_clob, is_decimal, is_int, is_listing, is_negative, is_null, is_ordered, is_scalar, is_string, is_struct, is_symbol, is_timestamp, is_truth, listed, long, marked, no_fields, no_ids, no_piece, nothing, of_item, of_marker, of_pad, of_pad_length, one_field, one_id, one_more, padded, padded_field, short, skipped, skips, the_marker, turns, unannotated, wrapped}
 pub use Rattle.ion_binary.specs.HeaderRows.{IsBodyLength, IsHeader, long_code, scalar_kind, type_code}
-pub use Rattle.ion_binary.specs.Judge.{as_decimal, as_symbol, as_timestamp, int_of, symbol_of, text_of}
+pub use Rattle.ion_binary.specs.Judge.{as_decimal, as_symbol, as_timestamp, int_of, number_of, symbol_of, text_of}
 unfoldable pub use Rattle.ion_binary.specs.Judge.{judge}
 pub use Rattle.ion_binary.specs.Opening.{body_of, is_pad, is_wrapper, opens, with_octets}
 unfoldable pub use Rattle.ion_binary.specs.Opening.{opening_of}

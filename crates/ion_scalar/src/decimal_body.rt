@@ -12,6 +12,7 @@ use ion_atoms::{Decimal, Reason};
 /// Answers `TooLarge` for an exponent outside -2^31 to 2^31-1, also one that reaches 2^63 and has
 /// no end, and for a coefficient whose magnitude is 2^127 or more; `Malformed` where the exponent
 /// does not end. These bounds are this project's. Takes no memory.
+#[inline(always)]
 pub fn decimal_of(octets: &[u8]) -> Result<Decimal, Reason>
     ensures value { result ≡ decimal_of_body octets.now }
     ensures answer { ReadsDecimalBody octets.now result }

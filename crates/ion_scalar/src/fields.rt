@@ -1,6 +1,6 @@
 //! The fields of binary values that are whole numbers (Ion 1.0, "Ion Binary Encoding", basic field
 //! formats).
-ghost use Rattle.std.specs.Prelude.{◌≡◌, ◌<◌, ◌≤◌, ◌+◌, ◌^◌, ◌∷◌, SomeIff, is_ok, length};
+ghost use Rattle.std.specs.Prelude.{◌≡◌, ◌<◌, ◌≤◌, ◌+◌, ◌^◌, ◌∷◌, IfSome, Ok, SomeIff, false, is_ok, length};
 ghost use Rattle.ion_scalar.specs.Names.{int_field, positional, signed_of, uint_field, var_int, var_rest, var_uint};
 
 use ion_atoms::Reason;
@@ -20,9 +20,12 @@ pub fn read_var_uint(octets: &[u8]) -> Result<(u64, usize), Reason>
     if octets.is_empty() {
         return Err(Reason::Incomplete);
     }
-    // most have one octet
+    // most have one octet, and most others two
     if octets[0] >= 128 {
         return Ok((u64::from(octets[0] % 128), 1));
+    }
+    if octets.len() > 1 && octets[1] >= 128 {
+        return Ok((u64::from(octets[0]) * 128 + u64::from(octets[1] % 128), 2));
     }
     read_rest(0, 0, octets)
 }
@@ -133,6 +136,17 @@ pub fn int_of(octets: &[u8]) -> Result<(bool, u128), Reason>
         Some(magnitude) => Ok((octets[0] >= 128, magnitude)),
         None => Err(Reason::TooLarge),
     }
+}
+
+/// The magnitude of an Int of at most eight octets that isn't negative, as most are.
+#[inline(always)]
+pub(crate) fn few_int_of(octets: &[u8]) -> Option<u64>
+    ensures { IfSome result (λ magnitude. int_field octets.now ≡ Ok (false, magnitude)) }
+{
+    if octets.is_empty() || octets.len() > 8 || octets[0] >= 128 {
+        return None;
+    }
+    Some(fold_few(u64::from(octets[0]), &octets[1..]))
 }
 
 /// The number that the digit `front` and behind it the octets make, if it is below 2^127.

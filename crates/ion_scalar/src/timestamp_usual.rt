@@ -4,7 +4,7 @@
 ghost use Rattle.std.specs.Prelude.{◌≡◌, ◌<◌, ◌≤◌, ◌^◌, ℕ, true, Ok, is_ok, IsOkAnd, IfSome, length};
 ghost use Rattle.ion_scalar.specs.Names.{Date, Minute, last_month, last_year, month_length, read_behind_day, read_behind_hour, read_behind_minute, read_behind_month, read_behind_second, read_behind_year, read_field, read_fields, timestamp_of_body};
 
-use crate::fields::int_of;
+use crate::fields::few_int_of;
 use crate::timestamp_body::{field, offset_of, timestamp_of};
 use ion_atoms::bounds::{LAST_HOUR, LAST_MINUTE, LAST_MONTH, LAST_SECOND, LAST_YEAR};
 use ion_atoms::calendar::has_day;
@@ -167,16 +167,36 @@ fn usual_fraction(octets: &[u8]) -> bool
     if octets[0] < 193 || octets[0] > 210 {
         return false;
     }
-    match int_of(&octets[1..]) {
-        Ok((negative, magnitude)) => !negative && magnitude < ten_to(octets[0] - 192),
-        Err(_) => false,
+    match few_int_of(&octets[1..]) {
+        Some(magnitude) => magnitude < ten_to(octets[0] - 192),
+        None => false,
     }
 }
 
 #[inline(always)]
-fn ten_to(digits: u8) -> u128
+fn ten_to(digits: u8) -> u64
     requires { digits ≤ 18 }
     ensures { result ≡ 10 ^ digits }
 {
-    u128::from(10u64.pow(u32::from(digits)))
+    match digits {
+        0 => 1,
+        1 => 10,
+        2 => 100,
+        3 => 1_000,
+        4 => 10_000,
+        5 => 100_000,
+        6 => 1_000_000,
+        7 => 10_000_000,
+        8 => 100_000_000,
+        9 => 1_000_000_000,
+        10 => 10_000_000_000,
+        11 => 100_000_000_000,
+        12 => 1_000_000_000_000,
+        13 => 10_000_000_000_000,
+        14 => 100_000_000_000_000,
+        15 => 1_000_000_000_000_000,
+        16 => 10_000_000_000_000_000,
+        17 => 100_000_000_000_000_000,
+        _ => 1_000_000_000_000_000_000,
+    }
 }

@@ -5,15 +5,14 @@ use Rattle.std.proofs.lemmas.Cmp.{lists_equiv}
 use Rattle.std.proofs.lemmas.List.{length-replicate, length-set}
 use Rattle.std.proofs.lemmas.Option.{same_Some}
 use lib.Pointwise.{pointwise}
-use Rattle.ion_visiting.specs.Names.{Bracket, Entry, Event, Field, Following, Form, Frame, Led, Payload, Role, Tape, Value, annotated, annotation, bare, closes, ended, events_of, field_of, fields_same, name, number_payload, opens, part, same, symbol_same}
+use Rattle.ion_visiting.specs.Names.{Bracket, Entry, Event, Field, Following, Form, Frame, Led, Payload, Range, Role, Tape, Value, annotated, annotation, bare, closes, ended, events_of, field_of, fields_same, name, number_payload, opens, part, same, symbol_same}
 use Rattle.ion_atoms.specs.laws.Tests.{both}
-use Rattle.ion_model.specs.declared.value.Payload.TheVariants as payloads
 use Rattle.ion_model.specs.laws.Equivalence.{same-equiv, symbol_same-equiv}
 use Rattle.ion_model.specs.laws.Same.{same-payload}
 use Rattle.ion_model.proofs.Replacing.{same-lists, same-sexps, structs}
 use Rattle.ion_visiting.specs.Following as following
 use Rattle.ion_visiting.specs.Following.{Behind, Finds, IsField, Seeks, Skips, StartsOn, Steps, behind_payload, follows, is_annotation, is_name, no_step, none_skipped, one_skipped, one_step, place_in}
-use Rattle.ion_visiting.specs.Tapes.{Enters, Holds, Leaves, Tells, Walk, text_at, text_event, told, walks}
+use Rattle.ion_visiting.specs.Tapes.{Enters, Holds, Leaves, Tells, Walk, role_event, text_at, text_event, told, walks}
 use Rattle.ion_visiting.proofs.FieldPairs.{Paired, bit, bit_other, bit_set, no_bit, paired_all, paired_more, paired_none}
 use Rattle.ion_visiting.proofs.Taped.{ends_alike, get_other, get_set, some_told, walk_tells}
 use Rattle.ion_visiting.proofs.Trees.{Told, ToldFields, ToldItems, ToldPayload, fields_from, in_one, in_sequence, in_struct, items_from, no_fields, no_items, sequence, sequence_bracket, told_by, value_told}
@@ -40,13 +39,15 @@ text_no_note : (x : Form) (w : List ℕ) → note_event (text_event x w) ≡ fal
 text_no_note Form.Str w = refl
 text_no_note _ w = refl
 
+long_note : (x : Role) (r : Range) (w : List ℕ) → is_annotation (Entry.Long x r) ≡ note_event (role_event x (Some w))
+long_note Role.Annotation r w = refl
+long_note _ r w = refl
+
 entry_note : (t : Tape) (e : Entry) (x : Event) → told t e ≡ Some x → is_annotation e ≡ note_event x
 entry_note t (Entry.Unknown Role.Annotation) x h = ap note_event (same_Some _ x h)
-entry_note t (Entry.Word Role.Annotation n l f) x h = ap note_event (same_Some _ x h)
+entry_note t (Entry.Short Role.Annotation n l f) x h = ap note_event (same_Some _ x h)
 entry_note t (Entry.Number n) x h = let y = some_told (slice_get t.numbers.items n) (λ m. part (number_payload m)) x h in ap note_event y.2
-entry_note t (Entry.Symbol Role.Value r) x h = let y = some_told (text_at t r) (λ w. part (payloads.Symbol (Some w))) x h in ap note_event y.2
-entry_note t (Entry.Symbol Role.Annotation r) x h = let y = some_told (text_at t r) (λ w. annotation (Some w)) x h in ap note_event y.2
-entry_note t (Entry.Symbol Role.Name r) x h = let y = some_told (text_at t r) (λ w. name (Some w)) x h in ap note_event y.2
+entry_note t (Entry.Long z r) x h = let y = some_told (text_at t r) (λ w. role_event z (Some w)) x h in long_note z r y.0 ∙ ap note_event y.2
 entry_note t (Entry.Text z r) x h = let y = some_told (text_at t r) (text_event z) x h in sym (text_no_note z y.0) ∙ ap note_event y.2
 entry_note t _ x h = ap note_event (same_Some _ x h)
 

@@ -7,7 +7,7 @@ use Rattle.std.proofs.lemmas.List.{drop_all, get_or-set_same, length-set}
 use Rattle.std.proofs.lemmas.Option.{cond_some, slice_get-get_or}
 use Rattle.std.proofs.lemmas.Grind.{common_steps}
 use Rattle.ion_visiting.specs.Names.{Bracket, Entry, Event, Field, Led, Number, Payload, Range, Tape, Value, annotated, annotation, closes, ended, events_of, field_events, layer_events, name, number_payload, opens, out-Payload, outs-Fields, part, within}
-use Rattle.ion_visiting.specs.Tapes.{Closes, Grows, Holds, IsBlank, Opens, Passes, Rests, Tells, Walk, Writes, events_in, symbol_event, tapes, text_at, text_event, told, walks}
+use Rattle.ion_visiting.specs.Tapes.{Closes, Grows, Holds, IsBlank, Opens, Passes, Rests, Tells, Walk, Writes, events_in, role_event, tapes, text_at, text_event, told, walks}
 use Rattle.ion_visiting.specs.laws.Led.{events_out, led_both}
 use Rattle.ion_visiting.proofs.Trees.{Told, ToldFields, ToldItems, ToldPayload, fields_from, in_one, in_sequence, in_struct, items_from, no_fields, no_items, sequence_bracket, sequence_events, told_by, value_told}
 
@@ -102,9 +102,9 @@ told_kept t u (Entry.Number i) x g h =
     let y = some_told (slice_get t.numbers.items i) (λ n. part (number_payload n)) x h in
     ap (option_map (λ n. part (number_payload n)))
     (ap (λ ns. slice_get ns i) g.numbers ∙ get_front t.numbers.items g.number i y.0 y.1) ∙ ap Some y.2
-told_kept t u (Entry.Symbol z r) x g h =
-    let y = some_told (text_at t r) (λ w. symbol_event z (Some w)) x h in
-    ap (option_map (λ w. symbol_event z (Some w))) (text_kept t u r y.0 g y.1) ∙ ap Some y.2
+told_kept t u (Entry.Long z r) x g h =
+    let y = some_told (text_at t r) (λ w. role_event z (Some w)) x h in
+    ap (option_map (λ w. role_event z (Some w))) (text_kept t u r y.0 g y.1) ∙ ap Some y.2
 told_kept t u (Entry.Text z r) x g h =
     let y = some_told (text_at t r) (text_event z) x h in
     ap (option_map (text_event z)) (text_kept t u r y.0 g y.1) ∙ ap Some y.2

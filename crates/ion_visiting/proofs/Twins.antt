@@ -5,7 +5,7 @@ use Rattle.std.specs.Option.{option_to_list}
 use Rattle.std.proofs.lemmas.Grind.{flat_map-append}
 use Rattle.std.proofs.lemmas.List.{take_all}
 use Rattle.ion_visiting.specs.Names.{Entry, Event, Led, Role, Tape, Twin, Value, events_of}
-use Rattle.ion_visiting.specs.Tapes.{Holds, IsBlank, Writes, events_before, events_in, symbol_event, tapes, told}
+use Rattle.ion_visiting.specs.Tapes.{Holds, IsBlank, Writes, events_before, events_in, role_event, tapes, told}
 use Rattle.ion_visiting.specs.Twins.{IsApart, IsBegun, TellsSecond, ToldBy, WasTold}
 use Rattle.ion_visiting.specs.laws.Led.{led_more}
 use Rattle.ion_visiting.proofs.Taped.{value_wrote}
@@ -64,9 +64,9 @@ told_on a m e second h one = record {
 }
 
 -- what a symbol writes, whatever it is
-pub symbol_taped : (a b : Tape) (x : Role) (s : Option (List ℕ)) → Writes a b (symbol_event x s) → tapes a (symbol_event x s) b
-symbol_taped a b Role.Value s h = h
-symbol_taped a b _ s h = h
+pub role_taped : (a b : Tape) (x : Role) (s : Option (List ℕ)) → Writes a b (role_event x s) → tapes a (role_event x s) b
+role_taped a b Role.Value s h = h
+role_taped a b _ s h = h
 
 -- 3. All events of a value.
 

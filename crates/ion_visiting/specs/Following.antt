@@ -11,8 +11,8 @@ pub record StartsOn (t : Tape) (a : Following) : Type 0 where
 -- what a name is
 abbrev pub is_name : Entry → Bool
 is_name (Entry.Unknown Role.Name) = true
-is_name (Entry.Symbol Role.Name r) = true
-is_name (Entry.Word Role.Name n l f) = true
+is_name (Entry.Long Role.Name r) = true
+is_name (Entry.Short Role.Name n l f) = true
 is_name _ = false
 
 -- a field begins at a place
@@ -24,8 +24,8 @@ pub record IsField (t : Tape) (i : ℕ) : Type 0 where
 -- what an annotation is
 abbrev pub is_annotation : Entry → Bool
 is_annotation (Entry.Unknown Role.Annotation) = true
-is_annotation (Entry.Symbol Role.Annotation r) = true
-is_annotation (Entry.Word Role.Annotation n l f) = true
+is_annotation (Entry.Long Role.Annotation r) = true
+is_annotation (Entry.Short Role.Annotation n l f) = true
 is_annotation _ = false
 
 -- where the payload ends whose front stands at a place

@@ -19,7 +19,7 @@ pub use Rattle.ion_visiting.specs.Building.{Built, builds, built, closed, fresh,
 pub use Rattle.ion_visiting.specs.Count.{counted, counts, no_values}
 pub use Rattle.ion_visiting.specs.Events.{Event, Led, annotation, closes, ended, events_step, field_events, layer_events, name, opens, part, stream_events, within}
 unfoldable pub use Rattle.ion_visiting.specs.Events.{events_of}
-pub use Rattle.ion_visiting.specs.Parts.{number_payload, payload_of}
+pub use Rattle.ion_visiting.specs.Parts.{body_payload, decimal_payload, number_payload, payload_of, timestamp_payload}
 pub use Rattle.ion_visiting.specs.declared.bracket.Bracket.{Bracket}
 pub use Rattle.ion_visiting.specs.declared.bracket.Bracket.TheVariants.{Fields}
 pub use Rattle.ion_visiting.specs.declared.building.Open.{Open}

@@ -3,14 +3,21 @@ use Rattle.std.specs.Prelude.{◌≡◌, ◌+◌, ◌-◌, ℕ, List, [], ◌∷
 use Rattle.std.specs.Int.{to_le_bytes, w32, w64}
 use Rattle.std.specs.List.{flat_map}
 use Rattle.std.specs.Option.{option_to_list}
-use Rattle.ion_visiting.specs.Names.{Bracket, Entry, Event, Form, Led, Number, Range, Role, Short, Spelling, Tape, Value, annotation, closes, ended, events_of, name, number_payload, opens, part}
+use Rattle.ion_visiting.specs.Names.{Bracket, Entry, Event, Form, Kind, Led, Number, Payload, Range, Role, Short, Spelling, Tape, Value, annotation, closes, decimal_payload, ended, events_of, name, number_payload, opens, part, timestamp_payload}
 use Rattle.ion_model.specs.declared.value.Payload.TheVariants as payloads
 
--- a symbol as a value, as an annotation or as the name of a field
-abbrev pub symbol_event : Role → Option (List ℕ) → Event
-symbol_event Role.Value s = part (payloads.Symbol s)
-symbol_event Role.Annotation s = annotation s
-symbol_event Role.Name s = name s
+-- what octets are read as, if there are some
+abbrev pub read_as : (List ℕ → Payload) → Option (List ℕ) → Payload
+read_as f (Some w) = f w
+read_as f None = payloads.Null Kind.Null
+
+-- a symbol as a value, as an annotation or as the name of a field; a number by its body
+abbrev pub role_event : Role → Option (List ℕ) → Event
+role_event Role.Value s = part (payloads.Symbol s)
+role_event Role.Annotation s = annotation s
+role_event Role.Name s = name s
+role_event Role.Decimal s = part (read_as decimal_payload s)
+role_event Role.Timestamp s = part (read_as timestamp_payload s)
 
 -- a string or a lob
 abbrev pub text_event : Form → List ℕ → Event
@@ -22,11 +29,11 @@ text_event Form.Blob w = part (payloads.Blob w)
 abbrev pub text_at : Tape → Range → Option (List ℕ)
 text_at t r = cond (nat_le (r.from + r.count) (length t.octets.items)) (Some (take r.count (drop r.from t.octets.items))) None
 
--- a short text: behind its first octets its last four, where it has as many
+-- few octets: behind its first octets its last four, where it has as many
 abbrev pub short_text : Short → List ℕ
 short_text s = cond (nat_le 4 s.count) (take (s.count - 4) (to_le_bytes w64 s.first) ++ to_le_bytes w32 s.last) (take s.count (to_le_bytes w64 s.first))
 
--- the text of a symbol, if it is known
+-- the text of a symbol, if it is known, or the body of a number
 abbrev pub spelled : Spelling → Option (List ℕ)
 spelled Spelling.Unknown = None
 spelled (Spelling.Short s) = Some (short_text s)
@@ -39,9 +46,9 @@ told t (Entry.Truth b) = Some (part (payloads.Truth b))
 told t (Entry.Int z) = Some (part (payloads.Int z))
 told t (Entry.Decimal b x m) = Some (part (payloads.Decimal (record { negative = b; magnitude = m; exponent = x })))
 told t (Entry.Number i) = option_map (λ n. part (number_payload n)) (slice_get t.numbers.items i)
-told t (Entry.Unknown x) = Some (symbol_event x None)
-told t (Entry.Word x n l f) = Some (symbol_event x (Some (short_text (record { count = n; last = l; first = f }))))
-told t (Entry.Symbol x r) = option_map (λ w. symbol_event x (Some w)) (text_at t r)
+told t (Entry.Unknown x) = Some (role_event x None)
+told t (Entry.Short x n l f) = Some (role_event x (Some (short_text (record { count = n; last = l; first = f }))))
+told t (Entry.Long x r) = option_map (λ w. role_event x (Some w)) (text_at t r)
 told t (Entry.Text x r) = option_map (text_event x) (text_at t r)
 told t (Entry.Open x j) = Some (opens x)
 told t (Entry.Close x) = Some (closes x)

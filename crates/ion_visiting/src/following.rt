@@ -3,13 +3,14 @@ ghost use Rattle.std.specs.Prelude.{◌≡◌, ◌+◌, ◌<◌, ◌^◌, ℕ, t
 ghost use Rattle.std.specs.Option.{is_some};
 ghost use Rattle.ion_visiting.specs.Names.{Led, closes, name, number_payload, opens, part, payload_of};
 ghost use Rattle.ion_visiting.specs.Following.{Behind, IsField, Seeks, Skips, StartsOn, Takes, behind_payload, follows, is_annotation, is_name};
-ghost use Rattle.ion_visiting.specs.Tapes.{Tells, events_in, spelled, symbol_event, text_event, told};
+ghost use Rattle.ion_visiting.specs.Tapes.{Tells, events_in, role_event, spelled, text_event, told};
 
 use crate::bracket::Bracket;
 use crate::part::Part;
 use crate::pushing::push;
 use crate::short::{Short, Spelling};
-use crate::tape::{Entry, Form, Role, Tape};
+use crate::tape::{Entry, Form, Role, Tape, number_spelled};
+use ion_atoms::Decimal;
 use ion_scalar::Number;
 use std::alloc::Global;
 
@@ -96,8 +97,8 @@ fn is_name(entry: &Entry) -> bool
     ensures { result ≡ is_name entry.now }
 {
     match entry {
-        Entry::Symbol(Role::Name, _) => true,
-        Entry::Word(Role::Name, ..) => true,
+        Entry::Long(Role::Name, _) => true,
+        Entry::Short(Role::Name, ..) => true,
         Entry::Unknown(Role::Name) => true,
         _ => false,
     }
@@ -121,8 +122,8 @@ fn is_annotation(entry: Entry) -> bool
     ensures { result ≡ is_annotation entry }
 {
     match entry {
-        Entry::Symbol(Role::Annotation, _) => true,
-        Entry::Word(Role::Annotation, ..) => true,
+        Entry::Long(Role::Annotation, _) => true,
+        Entry::Short(Role::Annotation, ..) => true,
         Entry::Unknown(Role::Annotation) => true,
         _ => false,
     }
@@ -173,9 +174,9 @@ fn behind_annotated(tape: &Tape, from: usize) -> usize
 
 // The first field of this name that isn't taken: where it stands, and its bit.
 #[tactic(auto, using(crate::proofs::Sought::field_within))]
-fn seek(tape: &Tape, frame: Frame, text: Spelling<'_>) -> Option<(usize, u64)>
+fn seek(tape: &Tape, frame: Frame, spelling: Spelling<'_>) -> Option<(usize, u64)>
     ensures { IfSome result (λ field.
-        Seeks tape.now frame (spelled text.entry) field.0 field.1) }
+        Seeks tape.now frame (spelled spelling.entry) field.0 field.1) }
 {
     let mut place = frame.free;
     let mut others = frame.taken;
@@ -184,7 +185,7 @@ fn seek(tape: &Tape, frame: Frame, text: Spelling<'_>) -> Option<(usize, u64)>
         let Some(entry) = field_at(tape, place) else {
             return None;
         };
-        if others % 2 == 0 && tape.tells_symbol(entry, Role::Name, text) {
+        if others % 2 == 0 && tape.tells_spelled(entry, Role::Name, spelling) {
             return Some((place, bit));
         }
         place = behind_value(tape, place + 1);
@@ -215,6 +216,18 @@ fn skip_taken(tape: &Tape, frame: Frame) -> Option<Frame>
     Some(Frame { free, taken })
 }
 
+// Whether an entry tells the number that is spelled so.
+#[inline(never)]
+fn tells_read(tape: &Tape, entry: &Entry, role: Role, spelling: Spelling<'_>) -> bool
+    ensures { result ≡ true → told tape.now entry.now
+        ≡ Some (role_event role (spelled spelling.entry)) }
+{
+    match number_spelled(role, spelling) {
+        Some(number) => tape.tells_number(entry, &number),
+        None => false,
+    }
+}
+
 impl Following<'_> {
     /// Whether what another tape tells is found from here on. Where it isn't, the state means
     /// nothing any more.
@@ -239,14 +252,14 @@ impl Following<'_> {
         ensures some { result ≡ true → is_some (told other.now entry) ≡ true }
     {
         match entry {
-            Entry::Unknown(role) => self.finds_symbol(role, Spelling::Unknown),
-            Entry::Symbol(role, range) => match other.text(range) {
-                Some(text) => self.finds_symbol(role, Spelling::Long(text)),
+            Entry::Unknown(role) => self.finds_spelled(role, Spelling::Unknown),
+            Entry::Short(role, count, last, first) => {
+                self.finds_spelled(role, Spelling::Short(Short { count, last, first }))
+            }
+            Entry::Long(role, range) => match other.text(range) {
+                Some(octets) => self.finds_spelled(role, Spelling::Long(octets)),
                 None => false,
             },
-            Entry::Word(role, count, last, first) => {
-                self.finds_symbol(role, Spelling::Short(Short { count, last, first }))
-            }
             Entry::Text(form, range) => match other.text(range) {
                 Some(octets) => self.finds_text(form, octets),
                 None => false,
@@ -260,12 +273,16 @@ impl Following<'_> {
             Entry::Null(kind) => self.finds_part(&Part::Null(kind)),
             Entry::Truth(truth) => self.finds_part(&Part::Truth(truth)),
             Entry::Int(value) => matches!(self.take(), Some(Entry::Int(own)) if *own == value),
-            Entry::Decimal(negative, exponent, magnitude) => {
-                let Some(Entry::Decimal(sign, power, size)) = self.take() else {
-                    return false;
-                };
-                *sign == negative && *power == exponent && *size == magnitude
-            }
+            Entry::Decimal(negative, exponent, magnitude) => match self.take() {
+                Some(Entry::Decimal(sign, power, size)) => {
+                    *sign == negative && *power == exponent && *size == magnitude
+                }
+                Some(own) => match Decimal::new(negative, u128::from(magnitude), exponent) {
+                    Some(decimal) => self.tape.tells_number(own, &Number::Decimal(decimal)),
+                    None => false,
+                },
+                None => false,
+            },
         }
     }
 
@@ -274,7 +291,7 @@ impl Following<'_> {
         ensures { result ≡ true → follows self.old (part (payload_of said.now)) self.new }
     {
         match self.take() {
-            Some(entry) => self.tape.tells_part(*entry, said),
+            Some(entry) => self.tape.tells_part(entry, said),
             None => false,
         }
     }
@@ -285,7 +302,7 @@ impl Following<'_> {
             follows self.old (part (number_payload number.now)) self.new }
     {
         match self.take() {
-            Some(entry) => self.tape.tells_number(*entry, number),
+            Some(entry) => self.tape.tells_number(entry, number),
             None => false,
         }
     }
@@ -295,28 +312,32 @@ impl Following<'_> {
         ensures { result ≡ true → follows self.old (text_event form octets.now) self.new }
     {
         match self.take() {
-            Some(entry) => self.tape.tells_text(*entry, form, octets),
+            Some(entry) => self.tape.tells_text(entry, form, octets),
             None => false,
         }
     }
 
     #[inline(always)]
-    fn finds_symbol(&mut self, role: Role, text: Spelling<'_>) -> bool
-        ensures { result ≡ true → follows self.old (symbol_event role (spelled text.entry)) self.new }
+    fn finds_spelled(&mut self, role: Role, spelling: Spelling<'_>) -> bool
+        ensures { result ≡ true →
+            follows self.old (role_event role (spelled spelling.entry)) self.new }
     {
         if role == Role::Name {
-            return self.finds_name(text);
+            return self.finds_name(spelling);
         }
         match self.take() {
-            Some(entry) => self.tape.tells_symbol(entry, role, text),
+            Some(entry) => {
+                self.tape.tells_spelled(entry, role, spelling)
+                    || tells_read(self.tape, entry, role, spelling)
+            }
             None => false,
         }
     }
 
-    fn finds_name(&mut self, text: Spelling<'_>) -> bool
-        ensures { result ≡ true → follows self.old (name (spelled text.entry)) self.new }
+    fn finds_name(&mut self, spelling: Spelling<'_>) -> bool
+        ensures { result ≡ true → follows self.old (name (spelled spelling.entry)) self.new }
     {
-        let Some((place, bit)) = seek(self.tape, self.frame, text) else {
+        let Some((place, bit)) = seek(self.tape, self.frame, spelling) else {
             return false;
         };
         let Some(taken) = self.frame.taken.checked_add(bit) else {

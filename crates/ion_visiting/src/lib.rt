@@ -27,7 +27,7 @@ pub use building::Building;
 pub use count::Count;
 pub use following::{Following, Frames};
 pub use outlining::Outlining;
-pub use part::{Part, number_kept, part_kept, text_kept};
+pub use part::{NumberBody, Part, number_kept, part_kept, text_kept};
 pub use recent_symbols::RecentSymbols;
 pub use table_filter::{TableFilter, is_fields};
 pub use tape::Tape;

@@ -17,6 +17,13 @@ pub enum Part<'a> {
     Blob(&'a [u8]),
 }
 
+/// A number as binary encodes it, by its body (Ion 1.0, "Ion Binary Encoding", decimal, timestamp).
+#[derive(Clone, Copy)]
+pub enum NumberBody<'a> {
+    Decimal(&'a [u8]),
+    Timestamp(&'a [u8]),
+}
+
 /// A text is UTF-8. Does nothing.
 #[inline(always)]
 pub fn text_kept(_text: &str)

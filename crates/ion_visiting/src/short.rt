@@ -1,5 +1,5 @@
-//! Symbols by their texts, those as short as most names as numbers.
-ghost use Rattle.std.specs.Prelude.{◌≡◌, ◌-◌, ◌<◌, ◌≤◌, IfSome, drop, length, option_map, take};
+//! Symbols by their texts and numbers by their bodies, of which those as short as most are as numbers.
+ghost use Rattle.std.specs.Prelude.{◌≡◌, ◌-◌, ◌<◌, ◌≤◌, IfSome, Some, drop, length, option_map, take};
 ghost use Rattle.std.specs.Int.{to_le_bytes, w32, w64};
 ghost use Rattle.ion_visiting.specs.Tapes.{short_text, spelled};
 
@@ -108,10 +108,10 @@ fn few_of(text: &[u8]) -> u64
     u64::from_le_bytes(seen)
 }
 
-/// What a symbol is, as a tape writes it down.
+/// What a tape writes down of a symbol, or of a number as it is encoded.
 #[derive(Clone, Copy)]
 pub(crate) enum Spelling<'a> {
-    /// It has no known text.
+    /// A symbol that has no known text.
     Unknown,
     Short(Short),
     Long(&'a [u8]),
@@ -122,12 +122,19 @@ impl<'a> Spelling<'a> {
     pub(crate) fn of(text: Option<&'a str>) -> Spelling<'a>
         ensures { spelled result ≡ option_map (λ t. t.now) text.entry }
     {
-        let Some(text) = text else {
-            return Spelling::Unknown;
-        };
-        match Short::of(text.as_bytes()) {
+        match text {
+            Some(text) => Spelling::of_octets(text.as_bytes()),
+            None => Spelling::Unknown,
+        }
+    }
+
+    #[inline(always)]
+    pub(crate) fn of_octets(octets: &'a [u8]) -> Spelling<'a>
+        ensures { spelled result ≡ Some octets.now }
+    {
+        match Short::of(octets) {
             Some(short) => Spelling::Short(short),
-            None => Spelling::Long(text.as_bytes()),
+            None => Spelling::Long(octets),
         }
     }
 }

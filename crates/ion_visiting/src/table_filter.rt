@@ -1,13 +1,13 @@
 //! Local symbol tables, which are kept from a visitor (Ion 1.0, "Symbols", "Local Symbol Tables").
 ghost use Rattle.std.specs.Prelude.{◌≡◌, ◌++◌, ◌∷◌, [], List, None, Some, map, true, false};
-ghost use Rattle.ion_visiting.specs.Names.{Event, Led, Value as AnyValue, annotation, closes, events_of, name, names_table, number_payload, opens, part, payload_of};
+ghost use Rattle.ion_visiting.specs.Names.{Event, Led, Value as AnyValue, annotation, body_payload, closes, events_of, name, names_table, number_payload, opens, part, payload_of};
 ghost use Rattle.ion_model.specs.declared.value.Payload.TheVariants as payloads;
 ghost use Rattle.ion_visiting.specs.Tables.{Hears, IsTable, LetsPass, Tells, WasTold, heard, is_fields, is_null_struct, is_of_table, table_of};
 ghost use Rattle.ion_visiting.specs.declared.table_filter.Table.TheVariants as tables;
 
 use crate::bracket::Bracket;
 use crate::building::Building;
-use crate::part::Part;
+use crate::part::{NumberBody, Part};
 use crate::telling::{tell_annotation, tell_annotations, tell_name, tell_symbol};
 use crate::visitor::Visitor;
 use ion_model::{Kind, Sequence, Symbol, Value};
@@ -144,11 +144,14 @@ impl TableFilter {
     }
 
     // One annotation more is kept.
-    fn keep(&mut self, symbol: Symbol) -> bool
+    fn keep(&mut self, symbol: &Symbol) -> bool
         ensures { result ≡ true →
-            self.new ≡ record self.old { notes = self.old.notes ++ symbol ∷ [] } }
+            self.new ≡ record self.old { notes = self.old.notes ++ symbol.now ∷ [] } }
     {
-        self.notes.push(symbol).is_ok()
+        match symbol.copy() {
+            Ok(copy) => self.notes.push(copy).is_ok(),
+            Err(_) => false,
+        }
     }
 
     /// A part.
@@ -173,6 +176,28 @@ impl TableFilter {
             return self.enter_table() && self.tables.number(number);
         }
         self.let_pass(visitor) && visitor.number(number)
+    }
+
+    /// A number as it is encoded. Answers `None`, and does nothing, where it has to be told by
+    /// `number`: where the visitor says so, or what is told may be a table.
+    #[inline(always)]
+    pub fn number_body<V: Visitor>(
+        &mut self,
+        body: &NumberBody<'_>,
+        visitor: &mut V,
+    ) -> Option<bool>
+        ensures told { result ≡ Some true → Tells V.takes (part (body_payload body.now))
+            self.old self.new visitor.old visitor.new }
+        ensures none { result ≡ None → (self.new ≡ self.old) × (visitor.new ≡ visitor.old) }
+    {
+        if self.may_be_table() {
+            return None;
+        }
+        match visitor.number_body(body) {
+            Some(true) => Some(self.lets_pass()),
+            Some(false) => Some(false),
+            None => None,
+        }
     }
 
     /// A symbol that is a value.
@@ -226,9 +251,9 @@ impl TableFilter {
 
     /// An annotation of the value that follows.
     #[inline(always)]
-    pub fn annotation<V: Visitor>(&mut self, symbol: Symbol, visitor: &mut V) -> bool
+    pub fn annotation<V: Visitor>(&mut self, symbol: &Symbol, visitor: &mut V) -> bool
         ensures { result ≡ true →
-            Tells V.takes (annotation symbol) self.old self.new visitor.old visitor.new }
+            Tells V.takes (annotation symbol.now) self.old self.new visitor.old visitor.new }
     {
         match self.table {
             Table::Unknown => {
@@ -240,24 +265,19 @@ impl TableFilter {
             }
             Table::No => self.pass_annotation(symbol, visitor),
             Table::Noted => self.keep(symbol),
-            Table::Yes => {
-                let told = tell_annotation(&symbol, &mut self.tables);
-                drop(symbol);
-                told
-            }
+            Table::Yes => tell_annotation(symbol, &mut self.tables),
         }
     }
 
     // An annotation of what is no table.
-    fn pass_annotation<V: Visitor>(&mut self, symbol: Symbol, visitor: &mut V) -> bool
+    #[inline(always)]
+    fn pass_annotation<V: Visitor>(&mut self, symbol: &Symbol, visitor: &mut V) -> bool
         requires { is_of_table self.old.table true ≡ false }
-        ensures { result ≡ true → (es : List Event) → WasTold self.old es →
-            LetsPass self.new
-            × Hears V.takes (heard es) (es ++ annotation symbol ∷ []) visitor.old visitor.new }
+        ensures { result ≡ true → (es : List Event) → WasTold self.old es → LetsPass self.new
+            × Hears V.takes (heard es) (es ++ annotation symbol.now ∷ [])
+            visitor.old visitor.new }
     {
-        let told = self.let_pass(visitor) && tell_annotation(&symbol, visitor);
-        drop(symbol);
-        told
+        self.let_pass(visitor) && tell_annotation(symbol, visitor)
     }
 
     /// The end of a value of the top level: the local symbol table, if it was one. What is told next
@@ -344,7 +364,11 @@ impl TableFilter {
     {
         match Symbol::known(self.alloc, text) {
             Err(_) => false,
-            Ok(symbol) => self.annotation(symbol, visitor),
+            Ok(symbol) => {
+                let told = self.annotation(&symbol, visitor);
+                drop(symbol);
+                told
+            }
         }
     }
 

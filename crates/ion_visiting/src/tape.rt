@@ -2,18 +2,18 @@
 ghost use Rattle.std.specs.Prelude.{◌≡◌, ◌+◌, ◌++◌, ◌∷◌, [], ℕ, true, IfSome, Some, option_map, slice_get};
 ghost use Rattle.std.specs.List.{flat_map};
 ghost use Rattle.std.specs.Option.{is_some, option_to_list};
-ghost use Rattle.ion_visiting.specs.Names.{Led, closes, number_payload, opens, part, payload_of};
-ghost use Rattle.ion_visiting.specs.Tapes.{Grows, IsBlank, Rests, Writes, events_before, events_in, short_text, spelled, symbol_event, text_at, text_event, told};
+ghost use Rattle.ion_visiting.specs.Names.{Led, body_payload, closes, number_payload, opens, part, payload_of};
+ghost use Rattle.ion_visiting.specs.Tapes.{Grows, IsBlank, Rests, Writes, events_before, events_in, short_text, spelled, role_event, text_at, text_event, told};
 
 use crate::bracket::Bracket;
 use crate::octets::are_same;
-use crate::part::Part;
+use crate::part::{NumberBody, Part};
 use crate::pushing::push;
 use crate::short::{Short, Spelling};
 use crate::visitor::Visitor;
 use ion_atoms::{Decimal, Whole};
 use ion_model::Kind;
-use ion_scalar::Number;
+use ion_scalar::{Number, decimal_of, timestamp_of};
 use std::alloc::Global;
 use std::str;
 
@@ -24,12 +24,16 @@ pub(crate) struct Range {
     count: u32,
 }
 
-/// What a symbol is there.
+/// What a symbol is there, or a number that is written down as binary encodes it.
 #[derive(Clone, Copy, PartialEq, Eq)]
 pub(crate) enum Role {
     Value,
     Annotation,
     Name,
+    /// The body of a decimal.
+    Decimal,
+    /// The body of a timestamp.
+    Timestamp,
 }
 
 /// What octets are there.
@@ -53,9 +57,9 @@ pub(crate) enum Entry {
     Number(u32),
     /// A symbol of unknown text.
     Unknown(Role),
-    Symbol(Role, Range),
-    /// A symbol of a text of at most 12 octets, by the numbers of `Short`.
-    Word(Role, u8, u32, u64),
+    /// At most 12 octets, by the numbers of a `Short`.
+    Short(Role, u8, u32, u64),
+    Long(Role, Range),
     Text(Form, Range),
     /// With the entry behind the close, once that is there.
     Open(Bracket, u32),
@@ -65,9 +69,9 @@ pub(crate) enum Entry {
 const _: () = prove!(size_of::<Entry>() == 16);
 
 /// The visitor that writes down what it is told, to be told again or to be found there by
-/// `Following`. An event takes 16 octets, and the text of a string, a lob or a symbol of more than 12
-/// octets as many as it has. A timestamp takes 40 more, and so does an int outside of 64 bits or a
-/// decimal whose magnitude is.
+/// `Following`. An event takes 16 octets. A string or a lob takes as many more as it has, and so does
+/// what has more than 12 of a symbol or of a number as binary encodes it. Other timestamps take 40
+/// more, and so does an int outside of 64 bits or another decimal whose magnitude is.
 ///
 /// It answers `false` where memory was refused, and beyond 2^32-1 events, numbers or octets of
 /// texts; `clear` begins anew.
@@ -133,17 +137,17 @@ impl Tape {
     }
 
     #[inline(always)]
-    pub(crate) fn write_symbol(&mut self, role: Role, text: Option<&str>) -> bool
+    pub(crate) fn write(&mut self, role: Role, spelling: Spelling<'_>) -> bool
         ensures { result ≡ true → Writes self.old self.new
-            (symbol_event role (option_map (λ t. t.now) text.entry)) }
+            (role_event role (spelled spelling.entry)) }
     {
-        match Spelling::of(text) {
+        match spelling {
             Spelling::Unknown => self.put(Entry::Unknown(role)),
             Spelling::Short(Short { count, last, first }) => {
-                self.put(Entry::Word(role, count, last, first))
+                self.put(Entry::Short(role, count, last, first))
             }
-            Spelling::Long(text) => match self.put_text(text) {
-                Some(range) => self.put(Entry::Symbol(role, range)),
+            Spelling::Long(octets) => match self.put_text(octets) {
+                Some(range) => self.put(Entry::Long(role, range)),
                 None => false,
             },
         }
@@ -206,22 +210,22 @@ impl Tape {
         }
     }
 
-    /// Whether this entry tells this symbol.
+    /// Whether this entry tells this symbol, or this number by the same octets.
     #[inline(always)]
-    pub(crate) fn tells_symbol(&self, entry: &Entry, role: Role, text: Spelling<'_>) -> bool
+    pub(crate) fn tells_spelled(&self, entry: &Entry, role: Role, spelling: Spelling<'_>) -> bool
         ensures { result ≡ true → told self.now entry.now
-            ≡ Some (symbol_event role (spelled text.entry)) }
+            ≡ Some (role_event role (spelled spelling.entry)) }
     {
-        match (entry, text) {
+        match (entry, spelling) {
             (Entry::Unknown(own), Spelling::Unknown) => *own == role,
-            (Entry::Word(own, count, last, first), Spelling::Short(short)) => {
+            (Entry::Short(own, count, last, first), Spelling::Short(short)) => {
                 *own == role
                     && *first == short.first
                     && *last == short.last
                     && *count == short.count
             }
-            (Entry::Symbol(own, range), Spelling::Long(text)) => {
-                *own == role && self.has_text(*range, text)
+            (Entry::Long(own, range), Spelling::Long(octets)) => {
+                *own == role && self.has_text(*range, octets)
             }
             _ => false,
         }
@@ -229,24 +233,24 @@ impl Tape {
 
     /// Whether this entry tells these octets.
     #[inline(always)]
-    pub(crate) fn tells_text(&self, entry: Entry, form: Form, octets: &[u8]) -> bool
-        ensures { result ≡ true → told self.now entry ≡ Some (text_event form octets.now) }
+    pub(crate) fn tells_text(&self, entry: &Entry, form: Form, octets: &[u8]) -> bool
+        ensures { result ≡ true → told self.now entry.now ≡ Some (text_event form octets.now) }
     {
         match entry {
-            Entry::Text(own, range) => own == form && self.has_text(range, octets),
+            Entry::Text(own, range) => *own == form && self.has_text(*range, octets),
             _ => false,
         }
     }
 
     /// Whether this entry tells this part.
     #[inline(always)]
-    pub(crate) fn tells_part(&self, entry: Entry, said: &Part<'_>) -> bool
-        ensures { result ≡ true → told self.now entry ≡ Some (part (payload_of said.now)) }
+    pub(crate) fn tells_part(&self, entry: &Entry, said: &Part<'_>) -> bool
+        ensures { result ≡ true → told self.now entry.now ≡ Some (part (payload_of said.now)) }
     {
         match said {
-            Part::Null(kind) => matches!(entry, Entry::Null(own) if own == *kind),
-            Part::Truth(truth) => matches!(entry, Entry::Truth(own) if own == *truth),
-            Part::Symbol(text) => self.tells_symbol(&entry, Role::Value, Spelling::of(Some(text))),
+            Part::Null(kind) => matches!(entry, Entry::Null(own) if *own == *kind),
+            Part::Truth(truth) => matches!(entry, Entry::Truth(own) if *own == *truth),
+            Part::Symbol(text) => self.tells_spelled(entry, Role::Value, Spelling::of(Some(text))),
             Part::Str(text) => self.tells_text(entry, Form::Str, text.as_bytes()),
             Part::Clob(octets) => self.tells_text(entry, Form::Clob, octets),
             Part::Blob(octets) => self.tells_text(entry, Form::Blob, octets),
@@ -255,37 +259,46 @@ impl Tape {
 
     /// Whether this entry tells this number.
     #[inline(always)]
-    pub(crate) fn tells_number(&self, entry: Entry, number: &Number) -> bool
-        ensures { result ≡ true → told self.now entry ≡ Some (part (number_payload number.now)) }
+    pub(crate) fn tells_number(&self, entry: &Entry, number: &Number) -> bool
+        ensures { result ≡ true →
+            told self.now entry.now ≡ Some (part (number_payload number.now)) }
     {
         if let (Entry::Int(own), Number::Int(whole)) = (entry, number) {
-            return whole.get() == i128::from(own);
+            return whole.get() == i128::from(*own);
         }
         match (entry, number) {
             (Entry::Decimal(negative, exponent, magnitude), Number::Decimal(decimal)) => {
-                decimal.magnitude() == u128::from(magnitude)
-                    && decimal.exponent() == exponent
-                    && decimal.negative() == negative
+                decimal.magnitude() == u128::from(*magnitude)
+                    && decimal.exponent() == *exponent
+                    && decimal.negative() == *negative
             }
-            (Entry::Number(place), _) => self.is_number(place, number),
+            (Entry::Number(place), _) => self.is_number(*place, number),
+            (Entry::Short(role, count, last, first), _) => {
+                let (count, last, first) = (*count, *last, *first);
+                spells(*role, Spelling::Short(Short { count, last, first }), number)
+            }
+            (Entry::Long(role, range), _) => match self.text(*range) {
+                Some(octets) => spells(*role, Spelling::Long(octets), number),
+                None => false,
+            },
             _ => false,
         }
     }
 
     /// Whether this entry tells that these brackets open.
     #[inline(always)]
-    pub(crate) fn tells_open(&self, entry: Entry, bracket: Bracket) -> bool
-        ensures { result ≡ true → told self.now entry ≡ Some (opens bracket) }
+    pub(crate) fn tells_open(&self, entry: &Entry, bracket: Bracket) -> bool
+        ensures { result ≡ true → told self.now entry.now ≡ Some (opens bracket) }
     {
-        matches!(entry, Entry::Open(own, _) if own == bracket)
+        matches!(entry, Entry::Open(own, _) if *own == bracket)
     }
 
     /// Whether this entry tells that these brackets close.
     #[inline(always)]
-    pub(crate) fn tells_close(&self, entry: Entry, bracket: Bracket) -> bool
-        ensures { result ≡ true → told self.now entry ≡ Some (closes bracket) }
+    pub(crate) fn tells_close(&self, entry: &Entry, bracket: Bracket) -> bool
+        ensures { result ≡ true → told self.now entry.now ≡ Some (closes bracket) }
     {
-        matches!(entry, Entry::Close(own) if own == bracket)
+        matches!(entry, Entry::Close(own) if *own == bracket)
     }
 
     // Whether this number stands there.
@@ -358,14 +371,14 @@ impl Tape {
                 Some(number) => visitor.number(*number),
                 None => false,
             },
-            Entry::Unknown(role) => tell_symbol(role, None, visitor),
-            Entry::Symbol(role, range) => match self.text(range) {
+            Entry::Unknown(role) => tell_unknown(role, visitor),
+            Entry::Short(role, count, last, first) => {
+                tell_short(role, Short { count, last, first }, visitor)
+            }
+            Entry::Long(role, range) => match self.text(range) {
                 Some(octets) => tell_known(role, octets, visitor),
                 None => false,
             },
-            Entry::Word(role, count, last, first) => {
-                tell_short(role, Short { count, last, first }, visitor)
-            }
             Entry::Text(form, range) => match self.text(range) {
                 Some(octets) => tell_text(form, octets, visitor),
                 None => false,
@@ -401,37 +414,129 @@ fn short_entry(number: &Number) -> Option<Entry>
     }
 }
 
+/// How a number is written down by its body.
 #[inline(always)]
-fn tell_symbol<V: Visitor>(role: Role, text: Option<&str>, visitor: &mut V) -> bool
-    ensures { result ≡ true → V.takes visitor.old
-        (symbol_event role (option_map (λ t. t.now) text.entry)) visitor.new }
+pub(crate) fn spelling_of<'a>(body: &NumberBody<'a>) -> (Role, Spelling<'a>)
+    ensures { role_event result.0 (spelled result.1) ≡ part (body_payload body.now) }
 {
-    match role {
-        Role::Value => match text {
-            None => visitor.unknown_symbol(),
-            Some(text) => visitor.part(&Part::Symbol(text)),
-        },
-        Role::Annotation => visitor.annotation(text),
-        Role::Name => visitor.name(text),
+    match body {
+        NumberBody::Decimal(octets) => (Role::Decimal, Spelling::of_octets(octets)),
+        NumberBody::Timestamp(octets) => (Role::Timestamp, Spelling::of_octets(octets)),
     }
 }
 
-// A symbol whose text these octets are.
+// The number of this body, if it is one.
+fn number_of(role: Role, body: &[u8]) -> Option<Number>
+    ensures { IfSome result (λ n. role_event role (Some body.now) ≡ part (number_payload n)) }
+{
+    match role {
+        Role::Decimal => match decimal_of(body) {
+            Ok(decimal) => Some(Number::Decimal(decimal)),
+            Err(_) => None,
+        },
+        Role::Timestamp => match timestamp_of(body) {
+            Ok(timestamp) => Some(Number::Timestamp(timestamp)),
+            Err(_) => None,
+        },
+        Role::Value | Role::Annotation | Role::Name => None,
+    }
+}
+
+/// The number that is spelled so, if it is one.
+#[inline(never)]
+pub(crate) fn number_spelled(role: Role, spelling: Spelling<'_>) -> Option<Number>
+    ensures { IfSome result (λ n. role_event role (spelled spelling.entry)
+        ≡ part (number_payload n)) }
+{
+    match spelling {
+        Spelling::Unknown => None,
+        Spelling::Short(short) => {
+            if short.count > 12 {
+                return None;
+            }
+            number_of(role, &short.octets()[..short.count as usize])
+        }
+        Spelling::Long(octets) => number_of(role, octets),
+    }
+}
+
+#[inline(always)]
+fn is_same(first: &Number, second: &Number) -> bool
+    ensures { result ≡ true → first.now ≡ second.now }
+{
+    first == second
+}
+
+// Whether this number is spelled so.
+fn spells(role: Role, spelling: Spelling<'_>, number: &Number) -> bool
+    ensures { result ≡ true → role_event role (spelled spelling.entry)
+        ≡ part (number_payload number.now) }
+{
+    match number_spelled(role, spelling) {
+        Some(own) => is_same(&own, number),
+        None => false,
+    }
+}
+
+#[inline(always)]
+fn tell_unknown<V: Visitor>(role: Role, visitor: &mut V) -> bool
+    ensures { result ≡ true → V.takes visitor.old (role_event role None) visitor.new }
+{
+    match role {
+        Role::Value => visitor.unknown_symbol(),
+        Role::Annotation => visitor.annotation(None),
+        Role::Name => visitor.name(None),
+        Role::Decimal | Role::Timestamp => false,
+    }
+}
+
+// What these octets are in this role.
 #[inline(always)]
 fn tell_known<V: Visitor>(role: Role, octets: &[u8], visitor: &mut V) -> bool
     ensures { result ≡ true → V.takes visitor.old
-        (symbol_event role (Some octets.now)) visitor.new }
+        (role_event role (Some octets.now)) visitor.new }
 {
-    match str::from_utf8(octets) {
-        Ok(text) => tell_symbol(role, Some(text), visitor),
-        Err(_) => false,
+    match role {
+        Role::Value => match str::from_utf8(octets) {
+            Ok(text) => visitor.part(&Part::Symbol(text)),
+            Err(_) => false,
+        },
+        Role::Annotation => match str::from_utf8(octets) {
+            Ok(text) => visitor.annotation(Some(text)),
+            Err(_) => false,
+        },
+        Role::Name => match str::from_utf8(octets) {
+            Ok(text) => visitor.name(Some(text)),
+            Err(_) => false,
+        },
+        Role::Decimal => tell_body(&NumberBody::Decimal(octets), visitor),
+        Role::Timestamp => tell_body(&NumberBody::Timestamp(octets), visitor),
+    }
+}
+
+// A number as it is encoded, to who keeps it so, else the number.
+fn tell_body<V: Visitor>(body: &NumberBody<'_>, visitor: &mut V) -> bool
+    ensures { result ≡ true → V.takes visitor.old (part (body_payload body.now)) visitor.new }
+{
+    if let Some(went_on) = visitor.number_body(body) {
+        return went_on;
+    }
+    match body {
+        NumberBody::Decimal(octets) => match decimal_of(octets) {
+            Ok(decimal) => visitor.number(Number::Decimal(decimal)),
+            Err(_) => false,
+        },
+        NumberBody::Timestamp(octets) => match timestamp_of(octets) {
+            Ok(timestamp) => visitor.number(Number::Timestamp(timestamp)),
+            Err(_) => false,
+        },
     }
 }
 
 #[inline(never)]
 fn tell_short<V: Visitor>(role: Role, text: Short, visitor: &mut V) -> bool
     ensures { result ≡ true → V.takes visitor.old
-        (symbol_event role (Some (short_text text))) visitor.new }
+        (role_event role (Some (short_text text))) visitor.new }
 {
     if text.count > 12 {
         return false;
@@ -463,7 +568,7 @@ impl Visitor for Tape {
         match said {
             Part::Null(kind) => self.put(Entry::Null(*kind)),
             Part::Truth(truth) => self.put(Entry::Truth(*truth)),
-            Part::Symbol(text) => self.write_symbol(Role::Value, Some(text)),
+            Part::Symbol(text) => self.write(Role::Value, Spelling::of(Some(text))),
             Part::Str(text) => self.write_text(Form::Str, text.as_bytes()),
             Part::Clob(octets) => self.write_text(Form::Clob, octets),
             Part::Blob(octets) => self.write_text(Form::Blob, octets),
@@ -479,18 +584,29 @@ impl Visitor for Tape {
     }
 
     #[inline(always)]
+    fn keeps_number_bodies(&self) -> bool {
+        true
+    }
+
+    #[inline(always)]
+    fn number_body(&mut self, body: &NumberBody<'_>) -> Option<bool> {
+        let (role, spelling) = spelling_of(body);
+        Some(self.write(role, spelling))
+    }
+
+    #[inline(always)]
     fn unknown_symbol(&mut self) -> bool {
         self.put(Entry::Unknown(Role::Value))
     }
 
     #[inline(always)]
     fn annotation(&mut self, text: Option<&str>) -> bool {
-        self.write_symbol(Role::Annotation, text)
+        self.write(Role::Annotation, Spelling::of(text))
     }
 
     #[inline(always)]
     fn name(&mut self, text: Option<&str>) -> bool {
-        self.write_symbol(Role::Name, text)
+        self.write(Role::Name, Spelling::of(text))
     }
 
     #[inline(always)]

@@ -1,13 +1,13 @@
 //! Two values, the second of which is compared with the first as it is told.
 ghost use Rattle.std.specs.Prelude.{◌≡◌, ◌+◌, ◌<◌, ◌^◌, List, IfSome, Some, true, false, option_map, slice_get};
-ghost use Rattle.ion_visiting.specs.Names.{Event, annotation, closes, name, number_payload, opens, part, payload_of};
-ghost use Rattle.ion_visiting.specs.Tapes.{IsBlank, events_in, symbol_event};
+ghost use Rattle.ion_visiting.specs.Names.{Event, annotation, body_payload, closes, name, number_payload, opens, part, payload_of};
+ghost use Rattle.ion_visiting.specs.Tapes.{IsBlank, events_in, role_event, spelled};
 ghost use Rattle.ion_visiting.specs.Twins.{IsApart, IsBegun, TellsSecond, WasTold, is_twin};
 
 use crate::bracket::Bracket;
-use crate::part::Part;
+use crate::part::{NumberBody, Part};
 use crate::short::Spelling;
-use crate::tape::{Entry, Role, Tape};
+use crate::tape::{Entry, Role, Tape, spelling_of};
 use crate::visitor::Visitor;
 use ion_scalar::Number;
 use std::alloc::Global;
@@ -112,24 +112,24 @@ impl Twin {
 
     #[inline(always)]
     #[tactic(auto, using(crate::proofs::Twins::told_along))]
-    fn symbol(&mut self, role: Role, text: Option<&str>) -> bool
+    fn spelled(&mut self, role: Role, spelling: Spelling<'_>) -> bool
         ensures { result ≡ true → TellsSecond self.old
-            (symbol_event role (option_map (λ t. t.now) text.entry)) self.new }
+            (role_event role (spelled spelling.entry)) self.new }
     {
         match self.next() {
-            Some(entry) if self.first.tells_symbol(entry, role, Spelling::of(text)) => self.pass(),
-            _ => self.other_symbol(role, text),
+            Some(entry) if self.first.tells_spelled(entry, role, spelling) => self.pass(),
+            _ => self.other_spelled(role, spelling),
         }
     }
 
     // What follows tells the second tape what isn't the first's next entry.
 
     #[inline(never)]
-    fn other_symbol(&mut self, role: Role, text: Option<&str>) -> bool
+    fn other_spelled(&mut self, role: Role, spelling: Spelling<'_>) -> bool
         ensures { result ≡ true → TellsSecond self.old
-            (symbol_event role (option_map (λ t. t.now) text.entry)) self.new }
+            (role_event role (spelled spelling.entry)) self.new }
     {
-        self.part_ways() && self.second.write_symbol(role, text)
+        self.part_ways() && self.second.write(role, spelling)
     }
 
     #[inline(never)]
@@ -170,7 +170,7 @@ impl Visitor for Twin {
     #[tactic(auto, using(crate::proofs::Twins::told_along))]
     fn part(&mut self, said: &Part<'_>) -> bool {
         match self.next() {
-            Some(entry) if self.first.tells_part(*entry, said) => self.pass(),
+            Some(entry) if self.first.tells_part(entry, said) => self.pass(),
             _ => self.other_part(said),
         }
     }
@@ -179,31 +179,48 @@ impl Visitor for Twin {
     #[tactic(auto, using(crate::proofs::Twins::told_along))]
     fn number(&mut self, number: Number) -> bool {
         match self.next() {
-            Some(entry) if self.first.tells_number(*entry, &number) => self.pass(),
+            Some(entry) if self.first.tells_number(entry, &number) => self.pass(),
             _ => self.other_number(number),
         }
     }
 
     #[inline(always)]
+    fn keeps_number_bodies(&self) -> bool {
+        true
+    }
+
+    // Other octets than those of the first may be the same number.
+    #[inline(always)]
+    #[tactic(auto, using(crate::proofs::Twins::told_along))]
+    fn number_body(&mut self, body: &NumberBody<'_>) -> Option<bool> {
+        let (role, spelling) = spelling_of(body);
+        match self.next() {
+            Some(entry) if self.first.tells_spelled(entry, role, spelling) => Some(self.pass()),
+            Some(_) => None,
+            None => Some(self.other_spelled(role, spelling)),
+        }
+    }
+
+    #[inline(always)]
     fn unknown_symbol(&mut self) -> bool {
-        self.symbol(Role::Value, None)
+        self.spelled(Role::Value, Spelling::Unknown)
     }
 
     #[inline(always)]
     fn annotation(&mut self, text: Option<&str>) -> bool {
-        self.symbol(Role::Annotation, text)
+        self.spelled(Role::Annotation, Spelling::of(text))
     }
 
     #[inline(always)]
     fn name(&mut self, text: Option<&str>) -> bool {
-        self.symbol(Role::Name, text)
+        self.spelled(Role::Name, Spelling::of(text))
     }
 
     #[inline(always)]
     #[tactic(auto, using(crate::proofs::Twins::told_along))]
     fn open(&mut self, bracket: Bracket) -> bool {
         match self.next() {
-            Some(entry) if self.first.tells_open(*entry, bracket) => self.pass(),
+            Some(entry) if self.first.tells_open(entry, bracket) => self.pass(),
             _ => self.other_open(bracket),
         }
     }
@@ -212,7 +229,7 @@ impl Visitor for Twin {
     #[tactic(auto, using(crate::proofs::Twins::told_along))]
     fn close(&mut self, bracket: Bracket) -> bool {
         match self.next() {
-            Some(entry) if self.first.tells_close(*entry, bracket) => self.pass(),
+            Some(entry) if self.first.tells_close(entry, bracket) => self.pass(),
             _ => self.other_close(bracket),
         }
     }

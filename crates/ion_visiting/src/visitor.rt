@@ -1,14 +1,14 @@
 //! What is made of values that are told event by event.
-ghost use Rattle.std.specs.Prelude.{◌≡◌, true, None, option_map};
+ghost use Rattle.std.specs.Prelude.{◌≡◌, true, None, Some, option_map};
 ghost use Rattle.ion_model.specs.declared.value.Payload.{Payload};
 ghost use Rattle.ion_model.specs.declared.value.Payload.TheVariants as payloads;
 ghost use Rattle.ion_model.specs.declared.value.Payload.TheViews.{out-Payload};
 ghost use Rattle.ion_model.specs.Kinds.{layer_kind};
 ghost use Rattle.ion_visiting.specs.Events.{Event, part, annotation, name, opens, closes, ended};
-ghost use Rattle.ion_visiting.specs.Parts.{number_payload, payload_of};
+ghost use Rattle.ion_visiting.specs.Parts.{body_payload, number_payload, payload_of};
 
 use crate::bracket::Bracket;
-use crate::part::Part;
+use crate::part::{NumberBody, Part};
 use ion_model::Kind;
 use ion_scalar::Number;
 
@@ -55,6 +55,22 @@ pub trait Visitor {
     /// A number.
     fn number(&mut self, number: Number) -> bool
         ensures { result ≡ true → takes self.old (part (number_payload number)) self.new };
+
+    /// Whether it keeps numbers as they are encoded: then they may be told by `number_body`, and needn't be
+    /// read for it.
+    fn keeps_number_bodies(&self) -> bool {
+        false
+    }
+
+    /// The number whose body this is. Only where it is one, and where `keeps_number_bodies`. Answers `None`,
+    /// and does nothing, where it has to be told this one by `number`.
+    fn number_body(&mut self, _body: &NumberBody<'_>) -> Option<bool>
+        ensures told { result ≡ Some true →
+            takes self.old (part (body_payload _body.now)) self.new }
+        ensures none { result ≡ None → self.new ≡ self.old }
+    {
+        None
+    }
 
     /// A symbol of unknown text.
     fn unknown_symbol(&mut self) -> bool

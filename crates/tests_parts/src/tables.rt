@@ -42,7 +42,10 @@ fn tell_word<V: Visitor>(
     visitor: &mut V,
 ) -> Result<bool, Reason> {
     if let Some(text) = word.strip_suffix("::") {
-        return Ok(filter.annotation(Symbol::known(alloc, text)?, visitor));
+        let symbol = Symbol::known(alloc, text)?;
+        let told = filter.annotation(&symbol, visitor);
+        drop(symbol);
+        return Ok(told);
     }
     if let Some(text) = word.strip_suffix(':') {
         return Ok(filter.text_name(text, visitor));

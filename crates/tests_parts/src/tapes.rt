@@ -2,7 +2,8 @@
 //! call of `drop`, as in `model.rt`.
 use crate::answers::same;
 use ion_model::{Decimal, Payload, Reason, Value, Whole};
-use ion_visiting::{Building, Following, Tape, Twin, tell};
+use ion_scalar::{Number, decimal_of, timestamp_of};
+use ion_visiting::{Bracket, Building, Following, NumberBody, Part, Tape, Twin, Visitor, tell};
 use std::alloc::Global;
 use std::test::Fail;
 
@@ -182,6 +183,139 @@ fn numbers_of_any_length_are_told_again(rt: HostRuntime) -> Result<(), Fail> {
                 same(&rt, (*negative, *magnitude, *exponent), told, Some(true));
             }
         }
+    }
+    Ok(())
+}
+
+/// Tells a number as a reader of binary does: by its body, or else read.
+fn tell_number<V: Visitor>(body: &NumberBody<'_>, visitor: &mut V) -> bool {
+    if let Some(went_on) = visitor.number_body(body) {
+        return went_on;
+    }
+    match body {
+        NumberBody::Decimal(octets) => match decimal_of(octets) {
+            Ok(decimal) => visitor.number(Number::Decimal(decimal)),
+            Err(_) => false,
+        },
+        NumberBody::Timestamp(octets) => match timestamp_of(octets) {
+            Ok(timestamp) => visitor.number(Number::Timestamp(timestamp)),
+            Err(_) => false,
+        },
+    }
+}
+
+/// Tells `{n:..,t:true}`, or with its fields in the other order.
+fn tell_field<V: Visitor>(body: &NumberBody<'_>, reordered: bool, visitor: &mut V) -> bool {
+    let truth = Part::Truth(true);
+    if !visitor.open(Bracket::Fields) {
+        return false;
+    }
+    let told = match reordered {
+        false => {
+            visitor.name(Some("n"))
+                && tell_number(body, visitor)
+                && visitor.name(Some("t"))
+                && visitor.part(&truth)
+        }
+        true => {
+            visitor.name(Some("t"))
+                && visitor.part(&truth)
+                && visitor.name(Some("n"))
+                && tell_number(body, visitor)
+        }
+    };
+    told && visitor.close(Bracket::Fields)
+}
+
+/// Whether a number is told as another was, and whether it is found on that one's tape where its
+/// field stands before or behind another one.
+fn is_same_number(alloc: Global, written: &NumberBody<'_>, body: &NumberBody<'_>) -> (bool, bool) {
+    let mut tapes = Twin::new(alloc);
+    let told = tell_number(written, &mut tapes.first) && tell_number(body, &mut tapes);
+    let alike = told && tapes.are_same();
+    tapes.clear();
+    let told = tell_field(written, false, &mut tapes.first) && tell_field(body, true, &mut tapes);
+    let mut following = Following::new(alloc, &tapes.first);
+    let found = (alike, told && following.finds(&tapes.second));
+    drop(following);
+    drop(tapes);
+    found
+}
+
+/// A number is the same whatever its body is (Ion 1.0, "Ion Binary Encoding", decimal, timestamp):
+/// a VarInt, a VarUInt and an Int may begin with octets of zeros, of which none says anything.
+#[test]
+fn numbers_are_the_same_whatever_their_bodies(rt: HostRuntime) -> Result<(), Fail> {
+    let half = [0xC1, 0x05];
+    let long = [0xC1, 0, 0, 0, 0, 0, 0, 0, 0, 0, 0, 0, 0x05];
+    let year = [0xC0, 0x0F, 0xD0];
+    for row in &[
+        (NumberBody::Decimal(&half), NumberBody::Decimal(&half), true),
+        (
+            NumberBody::Decimal(&half),
+            NumberBody::Decimal(&[0x40, 0x81, 0x05]),
+            true,
+        ),
+        (NumberBody::Decimal(&half), NumberBody::Decimal(&long), true),
+        (NumberBody::Decimal(&long), NumberBody::Decimal(&half), true),
+        (NumberBody::Decimal(&long), NumberBody::Decimal(&long), true),
+        (
+            NumberBody::Decimal(&half),
+            NumberBody::Decimal(&[0xC2, 0x32]),
+            false,
+        ),
+        (
+            NumberBody::Decimal(&half),
+            NumberBody::Decimal(&[0xC1, 0x85]),
+            false,
+        ),
+        (
+            NumberBody::Timestamp(&year),
+            NumberBody::Timestamp(&year),
+            true,
+        ),
+        (
+            NumberBody::Timestamp(&year),
+            NumberBody::Timestamp(&[0xC0, 0, 0x0F, 0xD0]),
+            true,
+        ),
+        (
+            NumberBody::Timestamp(&year),
+            NumberBody::Timestamp(&[0xC0, 0x0F, 0xD1]),
+            false,
+        ),
+        (
+            NumberBody::Timestamp(&year),
+            NumberBody::Decimal(&year),
+            false,
+        ),
+    ] {
+        let found = is_same_number(rt.alloc(), &row.0, &row.1);
+        same(&rt, "the numbers", found, (row.2, row.2));
+        let turned = is_same_number(rt.alloc(), &row.1, &row.0);
+        same(&rt, "turned round", turned, (row.2, row.2));
+    }
+    Ok(())
+}
+
+/// A number that is kept by its body is told as the number to who builds values.
+#[test]
+fn a_body_is_told_again_as_its_number(rt: HostRuntime) -> Result<(), Fail> {
+    let alloc = rt.alloc();
+    for body in &[
+        [0xC1, 0x05].as_slice(),
+        [0xC1, 0, 0, 0, 0, 0, 0, 0, 0, 0, 0, 0, 0x05].as_slice(),
+    ] {
+        let mut tape = Tape::new(alloc);
+        let mut building = Building::new(alloc);
+        let told = tell_number(&NumberBody::Decimal(body), &mut tape) && tape.tell(&mut building);
+        let built = building.take();
+        let half = number(alloc, false, 5, Some(-1));
+        same(&rt, "half", told && built == half, true);
+        drop(half);
+        drop(built);
+        drop(building);
+        drop(tape);
     }
     Ok(())
 }

@@ -174,7 +174,7 @@ impl BinaryWalk<'_> {
         if let None = self.wrapper_end() {
             return Err(Reason::Malformed);
         }
-        let symbol = self.context.resolve(id)?;
+        let symbol = self.context.symbol(id)?;
         heard(self.filter.annotation(symbol, visitor))?;
         self.phase = self.behind_annotation(stop);
         Ok(Effect::Goes)

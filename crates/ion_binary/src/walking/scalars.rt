@@ -1,18 +1,18 @@
 //! Scalars, whose octets are their body: told apart here alone.
-ghost use Rattle.std.specs.Prelude.{◌≡◌, ◌≢◌, ◌↔◌, IsTrue, Ok, Err, MatchResult, OnOk, IfErr};
+ghost use Rattle.std.specs.Prelude.{◌≡◌, ◌≢◌, ◌↔◌, IsTrue, Ok, Err, MatchResult, OnOk, IfErr, is_ok, true};
 ghost use Rattle.std.specs.Char.{is_ascii};
 ghost use Rattle.std.specs.List.{list_all};
 ghost use Rattle.std.specs.Str.{IsUtf8};
-ghost use Rattle.ion_binary.specs.Names.{Memory, TellsAs, as_decimal, as_timestamp, decimal_of_body, int_of, judge, symbol_of, text_of, timestamp_of_body, uint_field};
+ghost use Rattle.ion_binary.specs.Names.{Memory, TellsAs, as_decimal, as_timestamp, decimal_of_body, int_of, judge, number_of, symbol_of, text_of, timestamp_of_body, uint_field};
 ghost use Rattle.ion_model.specs.declared.value.Payload.TheVariants as payloads;
 
 use super::heard;
 use crate::form::Scalar;
 use crate::walking::unread::is_scalar;
 use ion_model::{Reason, Symbol, Whole};
-use ion_scalar::{Number, decimal_of, timestamp_of, uint_of};
+use ion_scalar::{Number, decimal_of, is_decimal_body, is_timestamp_body, timestamp_of, uint_of};
 use ion_symtab::Context;
-use ion_visiting::{Part, TableFilter, Visitor};
+use ion_visiting::{NumberBody, Part, TableFilter, Visitor};
 
 /// Tells the scalar that a body is (Ion 1.0, "Ion Binary Encoding", typed value formats). A visitor
 /// that heeds nothing of a part isn't told which: that it is one is enough.
@@ -57,8 +57,8 @@ fn read_scalar<V: Visitor>(
 {
     match scalar {
         Scalar::Symbol => tell_symbol(context, body, filter, visitor),
-        Scalar::Decimal => tell_decimal(body, filter, visitor),
-        Scalar::Timestamp => tell_timestamp(body, filter, visitor),
+        Scalar::Decimal => tell_number(&NumberBody::Decimal(body), filter, visitor),
+        Scalar::Timestamp => tell_number(&NumberBody::Timestamp(body), filter, visitor),
         Scalar::Str => tell_text(body, filter, visitor),
         Scalar::Clob => heard(filter.part(&Part::Clob(body), visitor)),
         Scalar::Blob => heard(filter.part(&Part::Blob(body), visitor)),
@@ -111,6 +111,69 @@ fn tell_text<V: Visitor>(
 {
     let text = text_of(body)?;
     heard(filter.part(&Part::Str(text), visitor))
+}
+
+// A decimal or a timestamp: as it is encoded where the visitor keeps it so.
+#[inline(always)]
+fn tell_number<V: Visitor>(
+    body: &NumberBody<'_>,
+    filter: &mut TableFilter,
+    visitor: &mut V,
+) -> Result<(), Reason>
+    ensures told { OnOk result (TellsAs V.takes (number_of body.now)
+        filter.old filter.new visitor.old visitor.new) }
+    ensures refused { IfErr result (λ reason. reason ≢ Memory → number_of body.now ≡ Err reason) }
+{
+    if visitor.keeps_number_bodies() && is_body(body) {
+        return keep_number(body, filter, visitor);
+    }
+    read_number(body, filter, visitor)
+}
+
+// Whether it is the body of such a number.
+#[inline(always)]
+fn is_body(body: &NumberBody<'_>) -> bool
+    ensures { result ≡ is_ok (number_of body.now) }
+{
+    match body {
+        NumberBody::Decimal(octets) => is_decimal_body(octets),
+        NumberBody::Timestamp(octets) => is_timestamp_body(octets),
+    }
+}
+
+// A number that may be told as it is encoded.
+#[inline(always)]
+fn keep_number<V: Visitor>(
+    body: &NumberBody<'_>,
+    filter: &mut TableFilter,
+    visitor: &mut V,
+) -> Result<(), Reason>
+    requires { is_ok (number_of body.now) ≡ true }
+    ensures told { OnOk result (TellsAs V.takes (number_of body.now)
+        filter.old filter.new visitor.old visitor.new) }
+    ensures refused { IfErr result (λ reason. reason ≢ Memory → number_of body.now ≡ Err reason) }
+{
+    match filter.number_body(body, visitor) {
+        Some(went_on) => heard(went_on),
+        None => read_number(body, filter, visitor),
+    }
+}
+
+// A number that is read.
+#[inline(always)]
+fn read_number<V: Visitor>(
+    body: &NumberBody<'_>,
+    filter: &mut TableFilter,
+    visitor: &mut V,
+) -> Result<(), Reason>
+    ensures told { OnOk result (TellsAs V.takes (number_of body.now)
+        filter.old filter.new visitor.old visitor.new) }
+    ensures refused { IfErr result (λ reason. reason ≢ Memory → number_of body.now ≡ Err reason) }
+{
+    match body {
+        NumberBody::Decimal(octets) => tell_decimal(octets, filter, visitor),
+        NumberBody::Timestamp(octets) => tell_timestamp(octets, filter, visitor),
+    }
 }
 
 #[inline(never)]

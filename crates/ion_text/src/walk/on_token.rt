@@ -222,7 +222,9 @@ impl TextWalk<'_> {
             result self.new visitor.old visitor.new }
         ensures setting { SameSetting self.old self.new }
     {
-        heard(self.filter.annotation(symbol, visitor))?;
+        let told = self.filter.annotation(&symbol, visitor);
+        drop(symbol);
+        heard(told)?;
         self.noted = true;
         Ok(Effect::Goes)
     }
@@ -238,7 +240,10 @@ impl TextWalk<'_> {
             result self.new visitor.old visitor.new }
         ensures setting { SameSetting self.old self.new }
     {
-        heard(self.filter.annotation(Symbol::unknown(), visitor))?;
+        let symbol = Symbol::unknown();
+        let told = self.filter.annotation(&symbol, visitor);
+        drop(symbol);
+        heard(told)?;
         self.noted = true;
         Ok(Effect::Late(Reason::KeywordAsName))
     }

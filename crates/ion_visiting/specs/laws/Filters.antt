@@ -2,8 +2,9 @@
 use Rattle.std.proofs.Common.{◌≡◌, ℕ, List, [], ◌∷◌, ◌++◌, map, Bool, true, false, Option, Some, None, refl, ap, sym, subst, ◌∙◌}
 use Rattle.std.specs.Prelude.{◌&&◌, if◌then◌else◌}
 use Rattle.std.specs.List.{flat_map}
+use Rattle.std.proofs.lemmas.Bool.{false≢true}
 use Rattle.std.proofs.lemmas.List.{append-nil, append_assoc, map-append}
-use Rattle.ion_visiting.specs.Names.{Bracket, Built, Event, Kind, Layer, Led, Number, Payload-F, Table, TableFilter, Value, annotation, builds, closes, events_of, field_events, fresh, is_fields, is_table, is_table_of, layer_events, layer_kind, names_table, number_payload, out-Payload, part, value_in, without_value}
+use Rattle.ion_visiting.specs.Names.{Bracket, Built, Event, Kind, Layer, Led, Number, Payload, Payload-F, Table, TableFilter, Value, annotation, builds, closes, events_of, field_events, fresh, is_fields, is_table, is_table_of, layer_events, layer_kind, names_table, number_payload, out-Payload, part, value_in, without_value}
 use Rattle.ion_model.specs.declared.value.Payload.TheVariants as payloads
 use Rattle.ion_visiting.specs.Tables.{AreKept, Hears, IsTable, LetsPass, Symbols, WasTold, begins_struct, heard, heard_by, is_null_struct, is_of_table, table_after, table_behind, table_by, table_of}
 use Rattle.ion_visiting.specs.laws.Built.{value_built}
@@ -96,6 +97,11 @@ pub number_null : (n : Number) → is_null_struct (number_payload n) ≡ false
 number_null (Number.Int z) = refl
 number_null _ = refl
 
+plain_of : (t : Table) (b : Bool) → is_of_table t true ≡ false → is_of_table t b ≡ false
+plain_of Table.Noted b h = absurd (false≢true (sym h))
+plain_of Table.Yes b h = absurd (false≢true (sym h))
+plain_of _ b h = refl
+
 -- an event that is no annotation
 abbrev pub IsOther : Event → Type 0
 IsOther (annotation s) = ⊥
@@ -170,6 +176,14 @@ module _ {V : Type 0} (takes : V → Event → V → Type 0) where
       let i = passes es h in
       heard_on es e mid a b i.0 (behind_is es e f false other h test)
       (hears_both (heard es) es (es ++ e ∷ []) a m b i.1 (hears_one es e m b k))
+
+  -- a part of what is seen to be no table
+  pub part_passes : (p : Payload) (f mid : TableFilter) (a b : V) → is_of_table f.table true ≡ false
+      → ((es : List Event) → WasTold f es → LetsPass mid × (heard es ≡ es)) → takes a (part p) b
+      → (es : List Event) → WasTold f es → WasTold mid (es ++ part p ∷ []) × Hears takes (heard es) (heard (es ++ part p ∷ [])) a b
+  part_passes p f mid a b plain passes k =
+      visitor_tells (part p) f mid a a b tt (plain_of f.table (begins_struct (part p)) plain)
+      (λ es h. let i = passes es h in (i.0, hears_none (heard es) es a (sym i.1))) k
 
   -- 4. Annotations.
 

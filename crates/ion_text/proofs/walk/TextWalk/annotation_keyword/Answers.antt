@@ -9,6 +9,6 @@ returns-clause-does g c = λ fs ss h.
       fs,
       ss ++ None ∷ [],
       ap (λ n. late Reason.KeywordAsName (at r.start r.context fs (ss ++ None ∷ []) n)) (sym c.requires),
-      notes_went g.V.Visitor.takes r _ None c.args.visitor.now c.annotation.new.visitor c.requires refl refl refl
-          (subst (λ s. Tells g.V.Visitor.takes (annotation s) r.filter c.annotation.new.self c.args.visitor.now c.annotation.new.visitor) c.unknown.ensures (c.annotation.ensures c.in_ok-heard.ensures.ok)) fs ss h,
+      notes_went g.V.Visitor.takes r _ None c.args.visitor.now c.annotation-told.new.visitor c.requires refl refl refl
+          (subst (λ s. Tells g.V.Visitor.takes (annotation s) r.filter c.annotation-told.new.self c.args.visitor.now c.annotation-told.new.visitor) c.unknown-symbol.ensures (c.annotation-told.ensures c.in_ok-heard.ensures.ok)) fs ss h,
     )

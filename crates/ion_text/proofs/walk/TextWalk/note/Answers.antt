@@ -9,6 +9,6 @@ returns-clause-does g c = λ fs ss h.
       fs,
       ss ++ c.args.symbol ∷ [],
       ap (λ n. goes (at r.start r.context fs (ss ++ c.args.symbol ∷ []) n)) (sym c.requires),
-      notes_went g.V.Visitor.takes r _ c.args.symbol c.args.visitor.now c.annotation.new.visitor c.requires refl refl refl
-          (c.annotation.ensures c.in_ok-heard.ensures.ok) fs ss h,
+      notes_went g.V.Visitor.takes r _ c.args.symbol c.args.visitor.now c.annotation-told.new.visitor c.requires refl refl refl
+          (c.annotation-told.ensures c.in_ok-heard.ensures.ok) fs ss h,
     )
