@@ -26,3 +26,4 @@ pub mod Staying
 pub mod Unread
 pub mod WholeFields
 pub mod Descriptors
+mod WholeItems

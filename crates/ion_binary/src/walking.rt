@@ -23,6 +23,7 @@ mod scalars;
 mod unread;
 mod whole_fields;
 mod whole_headers;
+mod whole_items;
 
 /// A container that isn't whole yet, by the octet at which it ends.
 #[derive(Clone, Copy)]

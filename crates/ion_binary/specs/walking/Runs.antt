@@ -2,6 +2,7 @@
 use Rattle.std.specs.Prelude.{◌≡◌, ◌≢◌, ◌<◌, ◌≤◌, ℕ, ◌+◌, ◌-◌, ◌^◌, List, [], ◌∷◌, length, take, drop, Bool, true, false, Option, None, Result, Ok, Err}
 use Rattle.ion_binary.specs.Names.Below.{BinaryWalk, Effect, Event, Form, Gives, Goes, InNumber, Memory, Purpose, Ready, Reason, Refusal, Scalar, Value, VarUInt, Walked, heard}
 use Rattle.ion_binary.specs.Grammar.{Header}
+use Rattle.ion_binary.specs.declared.walking.whole_items.Item.{Item}
 use Rattle.ion_binary.specs.machine.EachOctet.{hollow, initial, unfit}
 use Rattle.ion_binary.specs.machine.Frames.{Frame}
 use Rattle.ion_binary.specs.machine.Pieces.{led}
@@ -47,6 +48,15 @@ pub record HasScalar (r : BinaryWalk) (piece : List ℕ) (named : ℕ) (t : Scal
   pub header : Header (Form.Scalar t) (to - front) (take (front - named) (drop named piece))
   pub full : hollow (Form.Scalar t) (to - front) ≡ None
   pub inside : IsWithin (open_containers r) (r.used + to)
+
+-- at the front of a piece lies the header of a scalar with its body, which ends before this octet
+pub record HasItem (r : BinaryWalk) (end : ℕ) (piece : List ℕ) (item : Item) : Type 0 where
+  pub some : 0 < item.front
+  pub few : item.front ≤ item.to
+  pub within : item.to ≤ length piece
+  pub header : Header (Form.Scalar item.scalar) (item.to - item.front) (take item.front piece)
+  pub full : hollow (Form.Scalar item.scalar) (item.to - item.front) ≡ None
+  pub before : r.used + item.to < end
 
 -- the run led where the reader stands for these containers
 abbrev pub Led : Run → BinaryWalk → List Frame → Type 0

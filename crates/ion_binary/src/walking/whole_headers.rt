@@ -68,6 +68,11 @@ impl BinaryWalk<'_> {
     {
         let opening = opening_of(piece[0]);
         if let Some((form, front, size)) = header_at(opening, piece) {
+            if let Some(end) = self.items_end() {
+                if let Some(item) = self.item_of(form, front, size, end, piece) {
+                    return self.read_items(item, end, piece, visitor);
+                }
+            }
             if let None = self.unfit(form, self.used + front as u64 + size) {
                 return self.read_header(form, front, size, piece, visitor);
             }
