@@ -242,59 +242,73 @@ fn is_same_number(alloc: Global, written: &NumberBody<'_>, body: &NumberBody<'_>
     found
 }
 
+/// The same of octets, of two timestamps or of two decimals.
+fn are_same_number(alloc: Global, timestamps: bool, written: &[u8], octets: &[u8]) -> (bool, bool) {
+    if timestamps {
+        return is_same_number(
+            alloc,
+            &NumberBody::Timestamp(written),
+            &NumberBody::Timestamp(octets),
+        );
+    }
+    is_same_number(
+        alloc,
+        &NumberBody::Decimal(written),
+        &NumberBody::Decimal(octets),
+    )
+}
+
+/// Whether octets are the same as a timestamp and as a decimal.
+fn is_decimal_too(alloc: Global, octets: &[u8]) -> (bool, bool) {
+    is_same_number(
+        alloc,
+        &NumberBody::Timestamp(octets),
+        &NumberBody::Decimal(octets),
+    )
+}
+
 /// A number is the same whatever its body is (Ion 1.0, "Ion Binary Encoding", decimal, timestamp):
 /// a VarInt, a VarUInt and an Int may begin with octets of zeros, of which none says anything.
 #[test]
-fn numbers_are_the_same_whatever_their_bodies(rt: HostRuntime) -> Result<(), Fail> {
-    let half = [0xC1, 0x05];
-    let long = [0xC1, 0, 0, 0, 0, 0, 0, 0, 0, 0, 0, 0, 0x05];
-    let year = [0xC0, 0x0F, 0xD0];
-    for row in &[
-        (NumberBody::Decimal(&half), NumberBody::Decimal(&half), true),
-        (
-            NumberBody::Decimal(&half),
-            NumberBody::Decimal(&[0x40, 0x81, 0x05]),
-            true,
-        ),
-        (NumberBody::Decimal(&half), NumberBody::Decimal(&long), true),
-        (NumberBody::Decimal(&long), NumberBody::Decimal(&half), true),
-        (NumberBody::Decimal(&long), NumberBody::Decimal(&long), true),
-        (
-            NumberBody::Decimal(&half),
-            NumberBody::Decimal(&[0xC2, 0x32]),
-            false,
-        ),
-        (
-            NumberBody::Decimal(&half),
-            NumberBody::Decimal(&[0xC1, 0x85]),
-            false,
-        ),
-        (
-            NumberBody::Timestamp(&year),
-            NumberBody::Timestamp(&year),
-            true,
-        ),
-        (
-            NumberBody::Timestamp(&year),
-            NumberBody::Timestamp(&[0xC0, 0, 0x0F, 0xD0]),
-            true,
-        ),
-        (
-            NumberBody::Timestamp(&year),
-            NumberBody::Timestamp(&[0xC0, 0x0F, 0xD1]),
-            false,
-        ),
-        (
-            NumberBody::Timestamp(&year),
-            NumberBody::Decimal(&year),
-            false,
-        ),
+fn a_decimal_is_the_same_whatever_its_body(rt: HostRuntime) -> Result<(), Fail> {
+    let alloc = rt.alloc();
+    let half = [0xC1, 0x05].as_slice();
+    for body in &[
+        [0xC1, 0x05].as_slice(),
+        [0x40, 0x81, 0x05].as_slice(),
+        [0xC1, 0, 0, 0, 0, 0, 0, 0, 0, 0, 0, 0, 0x05].as_slice(),
     ] {
-        let found = is_same_number(rt.alloc(), &row.0, &row.1);
-        same(&rt, "the numbers", found, (row.2, row.2));
-        let turned = is_same_number(rt.alloc(), &row.1, &row.0);
-        same(&rt, "turned round", turned, (row.2, row.2));
+        let found = are_same_number(alloc, false, half, body);
+        same(&rt, "half", found, (true, true));
+        let turned = are_same_number(alloc, false, body, half);
+        same(&rt, "half, turned round", turned, (true, true));
+        let alike = are_same_number(alloc, false, body, body);
+        same(&rt, "the same body", alike, (true, true));
     }
+    for body in &[[0xC2, 0x32].as_slice(), [0xC1, 0x85].as_slice()] {
+        let found = are_same_number(alloc, false, half, body);
+        same(&rt, "another", found, (false, false));
+    }
+    Ok(())
+}
+
+#[test]
+fn a_timestamp_is_the_same_whatever_its_body(rt: HostRuntime) -> Result<(), Fail> {
+    let alloc = rt.alloc();
+    let year = [0xC0, 0x0F, 0xD0].as_slice();
+    for body in &[
+        [0xC0, 0x0F, 0xD0].as_slice(),
+        [0xC0, 0, 0x0F, 0xD0].as_slice(),
+    ] {
+        let found = are_same_number(alloc, true, year, body);
+        same(&rt, "the year 2000", found, (true, true));
+        let turned = are_same_number(alloc, true, body, year);
+        same(&rt, "turned round", turned, (true, true));
+    }
+    let next = are_same_number(alloc, true, year, [0xC0, 0x0F, 0xD1].as_slice());
+    same(&rt, "the year 2001", next, (false, false));
+    let decimal = is_decimal_too(alloc, year);
+    same(&rt, "a decimal", decimal, (false, false));
     Ok(())
 }
 
