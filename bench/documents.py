@@ -187,4 +187,5 @@ def main():
             written += out.write(framed(10, source.randbytes(1 << 20)))
 
 
-main()
+if __name__ == "__main__":
+    main()

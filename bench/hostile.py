@@ -14,35 +14,13 @@ import subprocess
 import sys
 import tempfile
 
-MARKER = b"\xe0\x01\x00\xea"
+from documents import MARKER, framed, text, uint, var_uint
+
 MIB = 1 << 20
 MILLION = 1000000
 SECONDS = 120
 SMALL = 32 * MIB  # for what has to be read in flat memory
 LARGE = 4 << 30
-
-
-def var_uint(number):
-    octets = [0x80 | number & 0x7F]
-    number >>= 7
-    while number:
-        octets.insert(0, number & 0x7F)
-        number >>= 7
-    return bytes(octets)
-
-
-def uint(number):
-    return number.to_bytes((number.bit_length() + 7) // 8, "big")
-
-
-def framed(code, body):
-    if len(body) < 14:
-        return bytes([code << 4 | len(body)]) + body
-    return bytes([code << 4 | 14]) + var_uint(len(body)) + body
-
-
-def text(value):
-    return framed(8, value.encode())
 
 
 def field(name, value):
