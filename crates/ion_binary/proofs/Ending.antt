@@ -19,7 +19,7 @@ pub bare_in : (fs : List Frame) (p : Payload) → IsBareIn fs (bare p)
 bare_in (frames.Annotated end ss ∷ fs) p = refl
 bare_in _ p = tt
 
-unwrapped : (fs : List Frame) (v : Value) → HoldsNoWrapper fs → IsBareIn fs v
+pub unwrapped : (fs : List Frame) (v : Value) → HoldsNoWrapper fs → IsBareIn fs v
 unwrapped (frames.Annotated end ss ∷ fs) v h = absurd h
 unwrapped _ v h = tt
 

@@ -27,3 +27,5 @@ pub mod Unread
 pub mod WholeFields
 pub mod Descriptors
 mod WholeItems
+mod WholeLeaves
+mod WholeWrappers

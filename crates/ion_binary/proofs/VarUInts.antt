@@ -1,13 +1,19 @@
 -- VarUInts that have come, in a reader that holds no values: names, annotations, and what goes on.
-use Rattle.std.proofs.Common.{◌≡◌, ℕ, ◌+◌, ◌-◌, ◌*◌, ◌^◌, ◌≤◌, ◌<◌, List, [], ◌∷◌, ◌++◌, Bool, true, false, Option, Some, None, Ok, refl, ap, sym, subst, ◌∙◌, arith}
+use Rattle.std.proofs.Common.{◌≡◌, ℕ, zero, suc, take, ◌+◌, ◌-◌, ◌*◌, ◌^◌, ◌≤◌, ◌<◌, List, [], ◌∷◌, ◌++◌, Bool, true, false, Option, Some, None, Ok, refl, ap, sym, subst, ◌∙◌, arith}
 use Rattle.std.specs.Prelude.{◌==◌, nat_lt, if◌then◌else◌}
 use Rattle.std.proofs.lemmas.Bool.Decides.{nat_tests}
-use Rattle.ion_binary.specs.Names.{BinaryWalk, Container, Does, DoesAlone, Event, Frame, Goes, Hears, Holds, InNumber, IsInside, Malformed, Purpose, Ready, Setting, Spot, Tells, TooLarge, WasTold, annotation, annotation_came, at, behind_annotation, body_so_far, containers_of, fields_end, goes, heard, longer, name_came, name_of, number_came, on_number, open_containers, refuses, resolve, spot_of, told, wrapper_end}
+use Rattle.ion_binary.specs.Names.{BinaryWalk, Container, Does, DoesAlone, Event, Frame, Goes, Hears, Holds, InNumber, IsInside, Malformed, Purpose, Ready, Setting, Spot, Tells, TooLarge, VarUInt, WasTold, annotation, annotation_came, at, behind_annotation, body_so_far, containers_of, fields_end, goes, heard, longer, name_came, name_of, number_came, on_number, open_containers, refuses, resolve, spot_of, told, wrapper_end}
 use Rattle.ion_binary.specs.machine.Frames as frames
 use Rattle.ion_binary.specs.walking.Holds.{Name}
+use Rattle.ion_binary.specs.laws.reading.Complete.{length_VarUInt}
 use Rattle.ion_binary.proofs.Tellings.{note_told}
 
 -- 1. The id of a field's name.
+
+-- it has an octet
+pub number_some : (size : ℕ) (w : List ℕ) (n : ℕ) → VarUInt (take size w) n → 0 < size
+number_some zero w n v = absurd (omega (arith, length_VarUInt (take 0 w) n v))
+number_some (suc size) w n v = omega arith
 
 pub name_does : (r new : BinaryWalk) (id end : ℕ) → Some end ≡ fields_end (open_containers r) → r.used < end
     → ((k : Container) (ks : List Container) → open_containers r ≡ k ∷ ks → open_containers new ≡ Container.Named end ∷ ks)

@@ -10,7 +10,7 @@ use Rattle.ion_symtab.specs.Walks.{DoesWalk}
 use Rattle.ion_symtab.proofs.Walking.{not_failed, went_over, went_to_end}
 use Rattle.ion_binary.specs.machine.EachOctet.{moved}
 use Rattle.ion_binary.specs.walking.Holds.{Name}
-use Rattle.ion_binary.specs.walking.Runs.{Led, TakesUp, Took, gave}
+use Rattle.ion_binary.specs.walking.Runs.{CountsOn, Led, TakesUp, Took, gave}
 use Rattle.ion_binary.proofs.Insides.{body_ends, refused_whole}
 use Rattle.ion_binary.proofs.PieceEnds.{LeadsFromStart, leads_by, leads_to_end, leads_to_value, whole_rest, within_rest}
 use Rattle.ion_binary.proofs.Shells.{emptied, shells_of}
@@ -104,6 +104,15 @@ module _ {V : Type 0} (takes : V → Event → V → Type 0) (r : BinaryWalk) (f
     went = record { holds = h; hears = hears_none takes (heard (told fs)) (heard (told fs)) a refl };
   }
 
+  -- they led where the reader is
+  pub led_took : (i : ℕ) (s : BinaryWalk) (a b : V) → s.used ≡ r.used + i → LedOn i s a b → Took takes (told fs) r.used (run_of r fs) piece (Ok Goes) s a b
+  led_took i s a b used h =
+      let count : i ≡ s.used - r.used = omega (arith, used) in (
+        h.frames,
+        ap (λ j. run_of r fs (take j piece)) (sym count) ∙ (ap (run_of r fs) (sym (append-nil (take i piece))) ∙ h.leads.onward []),
+        h.went,
+      )
+
   module _ (i : ℕ) (s : BinaryWalk) (a m b : V) (catalog : s.catalog ≡ r.catalog) (limits : s.limits ≡ r.limits) (used : s.used ≡ r.used + i) (before : LedOn i s a m) (new : BinaryWalk) where
     abbrev rest : List ℕ
     rest = take (length piece - i) (drop i piece)
@@ -153,6 +162,16 @@ module _ {V : Type 0} (takes : V → Event → V → Type 0) (r : BinaryWalk) (f
         ∙ (ap (λ k. run r.catalog.now r.limits k (machine_of s before.frames) rest) (sym used)
         ∙ (ap (λ l. run r.catalog.now l s.used (machine_of s before.frames) rest) (sym limits)
         ∙ (ap (λ (g : _). run g.now s.limits s.used (machine_of s before.frames) rest) (sym catalog) ∙ took other)))))
+
+    -- what a method did behind them is what it did with them
+    pub led_on_took : (result : Result Effect Reason) → i ≤ length piece → CountsOn s.used new.used rest
+        → Took takes (told before.frames) s.used (run_of s before.frames) rest result new m b
+        → Took takes (told fs) r.used (run_of r fs) piece result new a b
+    led_on_took (Ok Goes) small up took = led_took (new.used - r.used) new a b (omega (arith, up.0, used)) (led_on_more up took)
+    led_on_took (Ok Gives) small up took =
+        let to : r.used + (new.used - r.used) ≡ new.used = omega (arith, up.0, used) in
+        subst (λ (j : ℕ). Reached takes (told fs) (run_of r fs (take (new.used - r.used) piece)) j Gives new a b) to (led_on_gives up took).1.1
+    led_on_took (Err reason) small up took = led_on_refused reason small took
 
   pub led_on_end : (i : ℕ) (s : BinaryWalk) (a b : V) → length piece ≤ i → LedOn i s a b
       → Walks takes (told fs) r.used (run_of r fs) piece (Ok (record { used = length piece; ended = false })) s a b

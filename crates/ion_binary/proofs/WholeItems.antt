@@ -1,5 +1,5 @@
 -- Scalars of a list or an s-expression that lie whole in a piece, in a reader that holds no values.
-use Rattle.std.proofs.Common.{◌≡◌, ℕ, ◌+◌, ◌-◌, Some, None, List, [], ◌∷◌, ◌++◌, length, take, drop, append-nil, false, Ok, Err, refl, ap, sym, subst, ◌∙◌, arith}
+use Rattle.std.proofs.Common.{◌≡◌, ℕ, ◌+◌, ◌-◌, Some, None, List, ◌∷◌, ◌++◌, length, take, drop, false, Ok, Err, refl, ap, sym, subst, ◌∙◌, arith}
 use Rattle.std.specs.Prelude.{◌==◌, ◌≢◌}
 use Rattle.std.proofs.lemmas.Grind.{common_steps}
 use Rattle.std.proofs.lemmas.List.{length-take-le}
@@ -17,18 +17,8 @@ use Rattle.ion_binary.proofs.Ending.{isnt_at}
 use Rattle.ion_binary.proofs.Insides.{with_phase}
 use Rattle.ion_binary.proofs.Staying.{items_stay}
 use Rattle.ion_binary.proofs.Tellings.{does_alone}
-use Rattle.ion_binary.proofs.WalkRuns.{LedOn, front_did}
+use Rattle.ion_binary.proofs.WalkRuns.{front_did}
 use Rattle.ion_binary.proofs.WholeHeaders.{moved_on}
-
--- so many octets of a piece led where the reader is
-pub led_took : {V : Type 0} (takes : V → Event → V → Type 0) (r new : BinaryWalk) (fs : List Frame) (piece : List ℕ) (i : ℕ) (a b : V) → new.used ≡ r.used + i
-    → LedOn takes r fs piece i new a b → Took takes (told fs) r.used (run_of r fs) piece (Ok Goes) new a b
-led_took takes r new fs piece i a b used h =
-    let count : i ≡ new.used - r.used = omega (arith, used) in (
-      h.frames,
-      ap (λ j. run_of r fs (take j piece)) (sym count) ∙ (ap (run_of r fs) (sym (append-nil (take i piece))) ∙ h.leads.onward []),
-      h.went,
-    )
 
 module _ {V : Type 0} (takes : V → Event → V → Type 0) (r : BinaryWalk) (end : ℕ) (ready : r.phase ≡ Ready) (is : Some end ≡ items_end (open_containers r))
     (piece : List ℕ) (item : Item) (has : HasItem r end piece item) where

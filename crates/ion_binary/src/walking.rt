@@ -24,6 +24,8 @@ mod unread;
 mod whole_fields;
 mod whole_headers;
 mod whole_items;
+mod whole_leaves;
+mod whole_wrappers;
 
 /// A container that isn't whole yet, by the octet at which it ends.
 #[derive(Clone, Copy)]

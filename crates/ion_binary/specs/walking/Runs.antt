@@ -1,13 +1,16 @@
 -- What a reader that holds no values did over octets: what a run of the machine does, for all containers that it may stand for.
 use Rattle.std.specs.Prelude.{◌≡◌, ◌≢◌, ◌<◌, ◌≤◌, ℕ, ◌+◌, ◌-◌, ◌^◌, List, [], ◌∷◌, length, take, drop, Bool, true, false, Option, None, Result, Ok, Err}
-use Rattle.ion_binary.specs.Names.Below.{BinaryWalk, Effect, Event, Form, Gives, Goes, InNumber, Memory, Purpose, Ready, Reason, Refusal, Scalar, Value, VarUInt, Walked, heard}
+use Rattle.ion_binary.specs.Names.Below.{BinaryWalk, Effect, Event, Form, Gives, Goes, InNumber, Memory, Purpose, Ready, Reason, Refusal, Value, VarUInt, Walked, heard}
 use Rattle.ion_binary.specs.Grammar.{Header}
+use Rattle.ion_binary.specs.declared.walking.whole_fields.FieldLeaf.{FieldLeaf}
 use Rattle.ion_binary.specs.declared.walking.whole_items.Item.{Item}
+use Rattle.ion_binary.specs.declared.walking.whole_wrappers.Note.{Note}
 use Rattle.ion_binary.specs.machine.EachOctet.{hollow, initial, unfit}
 use Rattle.ion_binary.specs.machine.Frames.{Frame}
 use Rattle.ion_binary.specs.machine.Pieces.{led}
 use Rattle.ion_binary.specs.machine.Run.{Run, run}
 use Rattle.ion_binary.specs.machine.Views.{body_so_far}
+use Rattle.ion_binary.specs.walking.Leaves.{LeafHeader}
 use Rattle.ion_binary.specs.walking.Holds.{GaveOut, Holds, IsWithin, WentOn, machine_of, open_containers, shells, told}
 
 -- the run over octets of the machine that a reader stands for, with these containers
@@ -40,14 +43,13 @@ pub record HasName (r : BinaryWalk) (piece : List ℕ) (id size : ℕ) : Type 0 
   pub within : size ≤ length piece
   pub inside : IsWithin (open_containers r) (r.used + size)
 
--- behind `named` octets of a piece lies the header of a scalar with its body, which goes from `front` on, and all in the struct that is open
-pub record HasScalar (r : BinaryWalk) (piece : List ℕ) (named : ℕ) (t : Scalar) (front to : ℕ) : Type 0 where
-  pub behind : named < front
-  pub few : front ≤ to
-  pub within : to ≤ length piece
-  pub header : Header (Form.Scalar t) (to - front) (take (front - named) (drop named piece))
-  pub full : hollow (Form.Scalar t) (to - front) ≡ None
-  pub inside : IsWithin (open_containers r) (r.used + to)
+-- behind `named` octets of a piece lies the header of a leaf with its body, which ends before this octet or at it
+pub record HasField (r : BinaryWalk) (end : ℕ) (piece : List ℕ) (named : ℕ) (field : FieldLeaf) : Type 0 where
+  pub behind : named < field.front
+  pub few : field.front ≤ field.to
+  pub within : field.to ≤ length piece
+  pub header : LeafHeader field.leaf (field.to - field.front) (take (field.front - named) (drop named piece))
+  pub inside : r.used + field.to ≤ end
 
 -- at the front of a piece lies the header of a scalar with its body, which ends before this octet
 pub record HasItem (r : BinaryWalk) (end : ℕ) (piece : List ℕ) (item : Item) : Type 0 where
@@ -57,6 +59,15 @@ pub record HasItem (r : BinaryWalk) (end : ℕ) (piece : List ℕ) (item : Item)
   pub header : Header (Form.Scalar item.scalar) (item.to - item.front) (take item.front piece)
   pub full : hollow (Form.Scalar item.scalar) (item.to - item.front) ≡ None
   pub before : r.used + item.to < end
+
+-- behind `front` octets of a piece, which are the header of a wrapper whose body has `size` octets, lies its only annotation
+pub record HasNote (piece : List ℕ) (front size : ℕ) (note : Note) : Type 0 where
+  pub behind : front ≤ note.id_at
+  pub few : note.id_at ≤ note.to
+  pub within : note.to ≤ length piece
+  pub count : VarUInt (take (note.id_at - front) (drop front piece)) (note.to - note.id_at)
+  pub is : VarUInt (take (note.to - note.id_at) (drop note.id_at piece)) note.id
+  pub inside : note.to < front + size
 
 -- the run led where the reader stands for these containers
 abbrev pub Led : Run → BinaryWalk → List Frame → Type 0

@@ -74,8 +74,8 @@ impl BinaryWalk<'_> {
         if let Phase::Ready = self.phase {
             return self.read_opening(piece, visitor);
         }
-        if let Some((id, size)) = self.whole_name(piece) {
-            return self.read_field(id, size, piece, visitor);
+        if let Some((id, size, end)) = self.whole_name(piece) {
+            return self.read_field(id, size, end, piece, visitor);
         }
         if let Some((scalar, size)) = self.ending(piece) {
             return self.read_end(scalar, &piece[..size], visitor);

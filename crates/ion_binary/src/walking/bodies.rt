@@ -142,7 +142,11 @@ impl BinaryWalk<'_> {
         self.proceed(visitor)
     }
 
-    fn begin_wrapper<V: Visitor>(&mut self, size: u64, visitor: &mut V) -> Result<Effect, Reason>
+    pub(super) fn begin_wrapper<V: Visitor>(
+        &mut self,
+        size: u64,
+        visitor: &mut V,
+    ) -> Result<Effect, Reason>
         requires used { self.old.used < 2 ^ 63 }
         requires size { size < 2 ^ 63 }
         ensures does { (fs : List AnyFrame) → Holds self.old fs → HoldsNoWrapper fs → AreAround fs →

@@ -266,7 +266,7 @@ impl BinaryWalk<'_> {
 
     /// The same where the innermost container may be whole: where it is empty, or the pad was its
     /// last.
-    fn proceed_or_end<V: Visitor>(&mut self, visitor: &mut V) -> Result<Effect, Reason>
+    pub(super) fn proceed_or_end<V: Visitor>(&mut self, visitor: &mut V) -> Result<Effect, Reason>
         ensures does { (fs : List AnyFrame) → Holds self.old fs → Does V.takes (told fs)
             (proceed (setting_of self.old) (spot_of self.old) fs)
             result self.new visitor.old visitor.new }

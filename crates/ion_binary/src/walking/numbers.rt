@@ -1,6 +1,8 @@
 //! VarUInts: lengths, and the ids of field names and annotations.
-ghost use Rattle.std.specs.Prelude.{◌≡◌, ◌+◌, ◌<◌, ◌^◌, List, IfSome, length};
-ghost use Rattle.ion_binary.specs.Names.{Does, DoesAlone, Frame as AnyFrame, HasName, Holds, Moves, annotation_came, behind_annotation, count_came, longer, name_came, number_came, on_number, resolve, setting_of, spot_of, told, unsized};
+ghost use Rattle.std.specs.Prelude.{◌≡◌, ◌+◌, ◌<◌, ◌^◌, List, IfSome, Some, length};
+ghost use Rattle.ion_binary.specs.Names.{Does, DoesAlone, Frame as AnyFrame, HasName, Holds, Moves, annotation_came, behind_annotation, count_came, fields_end, longer, name_came, number_came, on_number, open_containers, resolve, setting_of, spot_of, told, unsized};
+ghost use Rattle.ion_binary.specs.declared.state.Phase.TheVariants as phases;
+ghost use Rattle.ion_binary.specs.declared.state.Purpose.TheVariants as purposes;
 ghost use Rattle.ion_binary.specs.machine.EachOctet.{moved};
 
 use super::{BinaryWalk, Container, heard};
@@ -98,18 +100,32 @@ impl BinaryWalk<'_> {
     }
 
     /// The id of a field's name at the front of a piece, if such a name begins here and all its
-    /// octets are there and in its struct: and how many they are.
+    /// octets are there and in its struct: and how many they are, and where the struct ends.
     #[inline(always)]
-    pub(super) fn whole_name(&self, piece: &[u8]) -> Option<(u64, usize)>
+    pub(super) fn whole_name(&self, piece: &[u8]) -> Option<(u64, usize, u64)>
         requires room { self.now.used + length piece.now < 2 ^ 63 }
-        ensures { IfSome result (λ name. HasName self.now piece.now name.0 name.1) }
+        ensures is { IfSome result (λ name. HasName self.now piece.now name.0 name.1) }
+        ensures fields { IfSome result (λ name. Some name.2 ≡ fields_end (open_containers self.now)) }
     {
         let Phase::InNumber(Purpose::FieldName, 0) = self.phase else {
             return None;
         };
         let end = self.fields_end()?;
+        let (id, size) = self.name_in(end, piece)?;
+        Some((id, size, end))
+    }
+
+    /// The same where such a name begins, in a struct that ends at the octet `end`.
+    #[inline(always)]
+    #[tactic(auto, using(crate::proofs::VarUInts::number_some))]
+    pub(super) fn name_in(&self, end: u64, piece: &[u8]) -> Option<(u64, usize)>
+        requires room { self.now.used + length piece.now < 2 ^ 63 }
+        requires phase { self.now.phase ≡ phases.InNumber purposes.FieldName 0 }
+        requires fields { Some end ≡ fields_end (open_containers self.now) }
+        ensures { IfSome result (λ name. HasName self.now piece.now name.0 name.1) }
+    {
         let (id, size) = number(piece)?;
-        if size == 0 || self.used + size as u64 > end {
+        if self.used + size as u64 > end {
             return None;
         }
         Some((id, size))

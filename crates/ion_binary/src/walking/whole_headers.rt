@@ -104,6 +104,9 @@ impl BinaryWalk<'_> {
             self.used += end as u64;
             return self.scalar(scalar, &piece[front..end], visitor);
         }
+        if form == Form::Wrapper {
+            return self.read_wrapper(front, size, piece, visitor);
+        }
         self.used += front as u64;
         self.begin(form, size, visitor)
     }

@@ -95,11 +95,11 @@ nameless_none : (fs : List Frame) (form : Form) → nameless fs Form.Struct ≡ 
 nameless_none (frames.Named end ms (Err e) ∷ fs) form h = absurd cc
 nameless_none _ form h = refl
 
-admits_plain : (fs : List Frame) (form : Form) → is_pad form ≡ false → is_wrapper form ≡ false → nameless fs Form.Struct ≡ None → Admits fs form
+pub admits_plain : (fs : List Frame) (form : Form) → is_pad form ≡ false → is_wrapper form ≡ false → nameless fs Form.Struct ≡ None → Admits fs form
 admits_plain fs form p w h = record { fitting = stray_none fs form p w; named = nameless_none fs form h }
 
 -- all forms but a pad may end at the same places
-ends_as : (l : Limits) (start : ℕ) (fs : List Frame) (form : Form) (to : ℕ) → BodyMayEnd l start fs Form.Struct to → BodyMayEnd l start fs form to
+pub ends_as : (l : Limits) (start : ℕ) (fs : List Frame) (form : Form) (to : ℕ) → BodyMayEnd l start fs Form.Struct to → BodyMayEnd l start fs form to
 ends_as l start [] form to r = λ p. r refl
 ends_as l start (frames.Annotated end ss ∷ fs) form to r = r
 ends_as l start _ form to r = r
@@ -385,7 +385,7 @@ module _ (g : Catalog) (l : Limits) where
       ∙ ap (λ ph. led (at (moved spot mid3) (frames.Annotated end ss ∷ fs) ph)) (cond-true _ _ _ (eq-eqb mid3 mid3 refl)))
       k)))
 
-  one_run : (spot : Spot) (fs : List Frame) (to : ℕ) (p : Payload) → to ≡ spot.used + 1 → nameless fs Form.Struct ≡ None
+  pub one_run : (spot : Spot) (fs : List Frame) (to : ℕ) (p : Payload) → to ≡ spot.used + 1 → nameless fs Form.Struct ≡ None
       → BodyMayEnd l spot.start fs Form.Struct to
       → run_after (spot.used + 1) (one_octet (under g l) (moved spot (spot.used + 1)) fs p) ≡ run_after to (deliver (under g l) (moved spot to) fs (bare p))
   one_run spot fs to p e a r = rw (← e) (ap (λ o. run_after to (unless o (deliver (under g l) (moved spot to) fs (bare p))))

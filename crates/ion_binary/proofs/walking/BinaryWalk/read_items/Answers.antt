@@ -2,8 +2,8 @@ use Rattle.std.proofs.Common.{rules, ◌≡◌, ◌+◌, ◌-◌, ℕ, length, t
 use Rattle.std.proofs.lemmas.Grind.{common_steps}
 use Rattle.std.specs.Option.{IfSome}
 use Rattle.ion_binary.specs.Names.{HasItem}
-use Rattle.ion_binary.proofs.WalkRuns.{LedOn, led_on_more, led_on_refused}
-use Rattle.ion_binary.proofs.WholeItems.{item_refused, item_took, led_took}
+use Rattle.ion_binary.proofs.WalkRuns.{LedOn, led_on_more, led_on_refused, led_took}
+use Rattle.ion_binary.proofs.WholeItems.{item_refused, item_took}
 use Rattle.ion_binary.proofs.walking.BinaryWalk.read_items.Goals as goal
 
 pub loop-next-preserved : goal.loop-next-preserved
@@ -58,5 +58,5 @@ returns-in-Err-clause-does g c = λ fs h.
 
 pub returns-clause-does : goal.returns-clause-does
 returns-clause-does g c = λ fs h.
-    led_took g.V.Visitor.takes c.args.self.now c.loop-next.self fs c.args.piece.now c.loop-next.at c.args.visitor.now c.loop-next.visitor
+    led_took g.V.Visitor.takes c.args.self.now fs c.args.piece.now c.loop-next.at c.loop-next.self c.args.visitor.now c.loop-next.visitor
     c.loop-next.invariant.used (c.loop-next.invariant.ran fs h)

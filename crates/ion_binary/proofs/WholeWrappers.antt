@@ -1,0 +1,219 @@
+-- Wrappers with one annotation, in a reader that holds no values.
+use Rattle.std.proofs.Common.{◌≡◌, ℕ, ◌+◌, ◌-◌, ◌<◌, ◌≤◌, List, [], ◌∷◌, ◌++◌, length, take, drop, Option, Ok, Err, Result, true, refl, ap, sym, subst, ◌∙◌, arith}
+use Rattle.std.specs.Prelude.{◌==◌, ◌≢◌, if◌then◌else◌}
+use Rattle.std.proofs.lemmas.Grind.{common_steps}
+use Rattle.std.proofs.lemmas.List.{drop-drop, length-take-le}
+use Rattle.std.proofs.Math.Seq.{take-add}
+use Rattle.ion_binary.specs.Names.{AreAround, BinaryWalk, Container, Does, Effect, Event, Form, Frame, Goes, HasLeaf, HasNote, Hears, Holds, HoldsNoWrapper, InNumber, IsBehind, LeafHeader, Memory, Opens, Outcome, Purpose, Ready, Reason, TableFilter, Tells, TellsAs, Value, WasTold, annotated, annotation, annotation_came, at, bare, deliver, events_of, goes, heard, judge_leaf, judged, led, open_containers, part, resolve, run_after, run_of, run_via, setting_of, spot_of, told}
+use Rattle.ion_binary.specs.declared.walking.whole_leaves.Leaf.{Leaf}
+use Rattle.ion_binary.specs.declared.walking.whole_wrappers.Note.{Note}
+use Rattle.ion_binary.specs.machine.EachOctet.{moved}
+use Rattle.ion_binary.specs.machine.Frames as frames
+use Rattle.ion_binary.specs.walking.Holds.{told_in}
+use Rattle.ion_binary.specs.walking.Runs.{Took}
+use Rattle.ion_binary.specs.laws.reading.Complete.{count_goes, length_VarUInt, number_run}
+use Rattle.ion_visiting.specs.laws.Filters.{hears_both}
+use Rattle.ion_binary.proofs.Ending.{does_same, is_at, unwrapped}
+use Rattle.ion_binary.proofs.PieceEnds.{whole_rest}
+use Rattle.ion_binary.proofs.Shells.{may_begin}
+use Rattle.ion_binary.proofs.Tellings.{does_more, part_told, wrapped_told}
+use Rattle.ion_binary.proofs.WalkRuns.{front_did}
+use Rattle.ion_binary.proofs.WholeHeaders.{front_run, moved_on}
+use Rattle.ion_binary.proofs.WholeLeaves.{leaf_run}
+
+module _ (r : BinaryWalk) (piece : List ℕ) (front size : ℕ) (note : Note) (o : Opens r piece Form.Wrapper front size) (n : HasNote piece front size note) where
+  abbrev pub stop : ℕ
+  stop = r.used + note.to
+
+  abbrev pub end : ℕ
+  end = r.used + front + size
+
+  -- the annotation has come
+  abbrev pub came : List Frame → Outcome
+  came fs = annotation_came (moved (spot_of r) stop) (frames.Annotated end [] ∷ fs) stop (resolve r.context note.id)
+
+  abbrev header : List ℕ
+  header = take front piece
+
+  abbrev count : List ℕ
+  count = take (note.id_at - front) (drop front piece)
+
+  abbrev id : List ℕ
+  id = take (note.to - note.id_at) (drop note.id_at piece)
+
+  octets : take note.to piece ≡ header ++ (count ++ id)
+  octets =
+      let behind = n.behind in
+      let few = n.few in
+      let whole : front + ((note.id_at - front) + (note.to - note.id_at)) ≡ note.to = omega arith in
+      let there : front + (note.id_at - front) ≡ note.id_at = omega arith in
+      ap (λ k. take k piece) (sym whole)
+      ∙ (take-add front ((note.id_at - front) + (note.to - note.id_at)) piece
+      ∙ ap (λ w. header ++ w)
+      (take-add (note.id_at - front) (note.to - note.id_at) (drop front piece)
+      ∙ ap (λ w. count ++ take (note.to - note.id_at) w)
+      (drop-drop (note.id_at - front) front piece ∙ ap (λ k. drop k piece) there)))
+
+  -- over it the machine comes to that
+  pub note_run : (fs : List Frame) → Holds r fs → run_of r fs (take note.to piece) ≡ run_after stop (came fs)
+  note_run fs h =
+      let behind = n.behind in
+      let few = n.few in
+      let within = n.within in
+      let inside = n.inside in
+      let mid = r.used + front in
+      let mid2 = r.used + note.id_at in
+      let size1 : length header ≡ front = length-take-le front piece o.within in
+      let size2 : length count ≡ note.id_at - front = grind (arith, common_steps) in
+      let size3 : length id ≡ note.to - note.id_at = grind (arith, common_steps) in
+      let some : 0 < note.to - note.id_at = omega (arith, length_VarUInt id note.id n.is, size3) in
+      let ends : mid2 + (note.to - note.id_at) ≡ stop = omega arith in
+      let fs2 = frames.Annotated end [] ∷ fs in
+      ap (run_of r fs) octets
+      ∙ run_via r.catalog.now r.limits r.used mid _ (at (moved (spot_of r) mid) fs2 (InNumber Purpose.AnnotationsLength 0)) _ header (count ++ id)
+      (omega (arith, size1)) (front_run r fs h piece front size Form.Wrapper o)
+      (run_via r.catalog.now r.limits mid mid2 _ (at (moved (spot_of r) mid2) fs2 (InNumber (Purpose.Annotation stop) 0)) _ count id
+      (omega (arith, size2))
+      (number_run r.catalog.now r.limits (moved (spot_of r) mid) fs2 Purpose.AnnotationsLength count (note.to - note.id_at) mid2 n.count (omega (arith, size2)) (omega arith)
+      ∙ (ap (run_after mid2) (count_goes r.catalog.now r.limits (moved (spot_of r) mid2) fs end (note.to - note.id_at) [] some (omega arith))
+      ∙ ap (λ k. run_after mid2 (goes (at (moved (spot_of r) mid2) fs2 (InNumber (Purpose.Annotation k) 0)))) ends))
+      (number_run r.catalog.now r.limits (moved (spot_of r) mid2) fs2 (Purpose.Annotation stop) id note.id stop n.is (omega (arith, size3)) (omega arith)))
+
+  -- where its id has a symbol, the value comes
+  noted_run : (s : Option (List ℕ)) → resolve r.context note.id ≡ Ok s → (fs : List Frame) → Holds r fs
+      → run_of r fs (take note.to piece) ≡ led (at (moved (spot_of r) stop) (frames.Annotated end (s ∷ []) ∷ fs) Ready)
+  noted_run s is fs h =
+      let last : (stop == stop) ≡ true = is_at stop stop refl in
+      note_run fs h
+      ∙ (ap (λ x. run_after stop (annotation_came (moved (spot_of r) stop) (frames.Annotated end [] ∷ fs) stop x)) is
+      ∙ ap (λ t. led (at (moved (spot_of r) stop) (frames.Annotated end (s ∷ []) ∷ fs) (if t then Ready else InNumber (Purpose.Annotation stop) 0))) last)
+
+  module _ (leaf : Leaf) (from to : ℕ) (v : HasLeaf (take (length piece - note.to) (drop note.to piece)) leaf from to) (ends : stop + to ≡ end) where
+    abbrev rest : List ℕ
+    rest = take (length piece - note.to) (drop note.to piece)
+
+    abbrev pub body : List ℕ
+    body = take (to - from) (drop from rest)
+
+    -- the leaf is judged in the wrapper
+    abbrev pub judged_noted : Option (List ℕ) → List Frame → Outcome
+    judged_noted s fs = judged (setting_of r) (moved (spot_of r) end) (frames.Annotated end (s ∷ []) ∷ fs) (judge_leaf r.context leaf body)
+
+    size_rest : length rest ≡ length piece - note.to
+    size_rest = let within = n.within in grind (arith, common_steps)
+
+    pub leaf_within : note.to + to ≤ length piece
+    leaf_within = let inner = v.within in let within = n.within in omega (arith, size_rest)
+
+    -- over the leaf, too, it comes to that
+    pub noted_leaf_run : (s : Option (List ℕ)) → resolve r.context note.id ≡ Ok s → (fs : List Frame) → Holds r fs
+        → run_of r fs (take (note.to + to) piece) ≡ run_after (r.used + (note.to + to)) (judged_noted s fs)
+    noted_leaf_run s is fs h =
+        let few = v.few in
+        let inner = v.within in
+        let size_front : length (take note.to piece) ≡ note.to = length-take-le note.to piece n.within in
+        let size_body : length body ≡ to - from = grind (arith, common_steps) in
+        let whole : from + (to - from) ≡ to = omega arith in
+        let split : take to rest ≡ take from rest ++ body = ap (λ k. take k rest) (sym whole) ∙ take-add from (to - from) rest in
+        let all : length (take from rest ++ body) ≡ to = ap length (sym split) ∙ length-take-le to rest inner in
+        let there : r.used + (note.to + to) ≡ end = omega (arith, ends) in
+        ap (run_of r fs) (take-add note.to to piece
+        ∙ ap (λ w. take note.to piece ++ w) (ap (λ w. take to w) (sym (whole_rest piece note.to)) ∙ split))
+        ∙ (run_via r.catalog.now r.limits r.used stop _ (at (moved (spot_of r) stop) (frames.Annotated end (s ∷ []) ∷ fs) Ready) _ (take note.to piece)
+        (take from rest ++ body) (omega (arith, size_front)) (noted_run s is fs h)
+        (leaf_run r.catalog.now r.limits (moved (spot_of r) stop) (frames.Annotated end (s ∷ []) ∷ fs) leaf (take from rest) body end
+        (subst (λ k. LeafHeader leaf k (take from rest)) (sym size_body) v.header) refl (omega (arith, all, ends)) refl)
+        ∙ ap (λ j. run_after j (judged_noted s fs)) (sym there))
+
+  module _ {V : Type 0} (takes : V → Event → V → Type 0) (g0 g : TableFilter) (s : Option (List ℕ)) (is : resolve r.context note.id ≡ Ok s) (a m b : V)
+      (begun : (fs : List Frame) → Holds (record r { used = stop }) fs → AreAround fs → WasTold g0 (told_in fs) × Hears takes (heard (told fs)) (heard (told_in fs)) a m)
+      (tells : Tells takes (annotation s) g0 g m b) where
+    may : (fs : List Frame) → Holds r fs → HoldsNoWrapper fs × AreAround fs
+    may fs h = may_begin r fs h Form.Wrapper (r.used + front + size) o.fits
+
+    -- the annotation is told
+    noted_told : (fs : List Frame) → Holds r fs → WasTold g (told_in fs ++ annotation s ∷ [])
+        × Hears takes (heard (told fs)) (heard (told_in fs ++ annotation s ∷ [])) a b
+    noted_told fs h =
+        let start = begun fs (moved_on r fs h note.to) (may fs h).1 in
+        let i = tells (told_in fs) start.0 in (
+          i.0,
+          hears_both takes (heard (told fs)) (heard (told_in fs)) (heard (told_in fs ++ annotation s ∷ [])) a m b start.1 i.1,
+        )
+
+    -- the wrapper is open
+    module _ (w : BinaryWalk) (pushes : open_containers w ≡ Container.Annotated end ∷ open_containers r) where
+      abbrev pub opened : BinaryWalk
+      opened = record r { used = stop; frames = w.frames; phase = Ready; filter = g }
+
+      pub noted_took : (fs : List Frame) → Holds r fs → Took takes (told fs) r.used (run_of r fs) piece (Ok Goes) opened a b
+      noted_took fs h =
+          let around = may fs h in
+          let i = noted_told fs h in
+          let k : stop - r.used ≡ note.to = omega arith in (
+            frames.Annotated end (s ∷ []) ∷ fs,
+            ap (λ j. run_of r fs (take j piece)) k ∙ noted_run s is fs h,
+            record {
+              holds = record {
+                containers = pushes ∙ ap (λ cs. Container.Annotated end ∷ cs) h.containers;
+                named = tt;
+                open_there = around;
+                inside = tt;
+                was_told = i.0;
+              };
+              hears = i.1;
+            },
+          )
+
+    -- the leaf is told, and the wrapper ends with it
+    module _ (leaf : Leaf) (from to : ℕ) (v : HasLeaf (take (length piece - note.to) (drop note.to piece)) leaf from to) (ends : stop + to ≡ end)
+        (f : TableFilter) (new : BinaryWalk) (result : Result Effect Reason) (c d : V) where
+      abbrev pub closed : BinaryWalk
+      closed = record r { used = end; filter = f }
+
+      noted_leaf_does : TellsAs takes (judge_leaf r.context leaf (body leaf from to v ends)) g f b c
+          → ((fs : List Frame) (x : Value) → IsBehind closed fs x
+          → Does takes (told_in fs ++ events_of x) (deliver (setting_of closed) (spot_of closed) fs x) result new c d)
+          → (fs : List Frame) → Holds r fs → Does takes (told fs) (judged_noted leaf from to v ends s fs) result new a d
+      noted_leaf_does said ended fs h =
+          let around = may fs h in
+          let i = noted_told fs h in
+          let p = said.0 in
+          let es = told_in fs ++ annotation s ∷ [] in
+          let more : es ++ part p ∷ [] ≡ told_in fs ++ events_of (annotated (s ∷ []) p) =
+          part_told (frames.Annotated end (s ∷ []) ∷ fs) p said.2 ∙ wrapped_told end (s ∷ []) fs (bare p) refl in
+          let k = said.3 es i.0 in
+          does_same takes (told fs) (judged_noted leaf from to v ends s fs) (deliver (setting_of r) (moved (spot_of r) end) fs (annotated (s ∷ []) p)) result new a d
+          (ap (judged (setting_of r) (moved (spot_of r) end) (frames.Annotated end (s ∷ []) ∷ fs)) said.1)
+          (does_more takes (told fs) (told_in fs ++ events_of (annotated (s ∷ []) p)) _ result new a c d
+          (subst (λ w. Hears takes (heard (told fs)) (heard w) a c) more
+          (hears_both takes (heard (told fs)) (heard es) (heard (es ++ part p ∷ [])) a b c i.1 k.1))
+          (ended fs (annotated (s ∷ []) p) (record {
+            containers = h.containers;
+            around = around.1;
+            bare = unwrapped fs (annotated (s ∷ []) p) around.0;
+            was_told = subst (λ w. WasTold f w) more k.0;
+          })))
+
+      pub noted_leaf_took : TellsAs takes (judge_leaf r.context leaf (body leaf from to v ends)) g f b c → new.used ≡ end
+          → ((fs : List Frame) (x : Value) → IsBehind closed fs x
+          → Does takes (told_in fs ++ events_of x) (deliver (setting_of closed) (spot_of closed) fs x) result new c d)
+          → (fs : List Frame) → Holds r fs → Took takes (told fs) r.used (run_of r fs) piece result new a d
+      noted_leaf_took said used ended fs h =
+          front_did takes r fs h piece new a d (note.to + to) (judged_noted leaf from to v ends s fs) (leaf_within leaf from to v ends)
+          (noted_leaf_run leaf from to v ends s is fs h) result (omega (arith, used, ends)) (noted_leaf_does said ended fs h)
+
+      -- or refused
+      pub noted_leaf_refused : (reason : Reason) → (reason ≢ Memory → judge_leaf r.context leaf (body leaf from to v ends) ≡ Err reason) → new.used ≡ end
+          → (fs : List Frame) → Holds r fs → Took takes (told fs) r.used (run_of r fs) piece (Err reason) new a d
+      noted_leaf_refused reason refused used fs h =
+          front_did takes r fs h piece new a d (note.to + to) (judged_noted leaf from to v ends s fs) (leaf_within leaf from to v ends)
+          (noted_leaf_run leaf from to v ends s is fs h) (Err reason) (omega (arith, used, ends))
+          (λ other. ap (judged (setting_of r) (moved (spot_of r) end) (frames.Annotated end (s ∷ []) ∷ fs)) (refused other))
+
+  -- the id has no symbol
+  pub note_refused : {V : Type 0} (takes : V → Event → V → Type 0) (new : BinaryWalk) (reason : Reason) (a b : V) → resolve r.context note.id ≡ Err reason → new.used ≡ stop
+      → (fs : List Frame) → Holds r fs → Took takes (told fs) r.used (run_of r fs) piece (Err reason) new a b
+  note_refused takes new reason a b is used fs h =
+      front_did takes r fs h piece new a b note.to (came fs) n.within (note_run fs h) (Err reason) used
+      (λ other. ap (annotation_came (moved (spot_of r) stop) (frames.Annotated end [] ∷ fs) stop) is)
