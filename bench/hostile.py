@@ -123,6 +123,11 @@ def nulls(octets):
     return MARKER + framed(11, b"\x0f" * (octets - 8))
 
 
+def zeros_before_a_name(octets):
+    """A struct of one field, whose name has as many zeros in front as fit: each octet of them looks for the name's end in its piece."""
+    return MARKER + framed(13, bytes(octets - 16) + field(4, b"\x10"))
+
+
 def nulls_in_text(octets):
     return b"[" + b"null," * ((octets - 8) // 5) + b"]"
 
@@ -306,6 +311,7 @@ CASES = [
     ("version markers in text", "check A", [text_markers], STREAM, SMALL),
     ("nulls", "check A", [nulls], ITEM, LARGE),
     ("nulls, to binary", "convert A --to binary", [nulls], ITEM, LARGE),
+    ("zeros before a field's name", "check A", [zeros_before_a_name], ITEM // 8, SMALL),
     ("nulls in text", "check A", [nulls_in_text], ITEM, LARGE),
     ("blanks in a list", "check A", [blanks_in_a_list], ITEM, SMALL),
     ("blanks between items", "check A", [blanks_between_items], ITEM, SMALL),
