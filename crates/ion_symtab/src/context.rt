@@ -123,6 +123,10 @@ impl Context {
         if id == 0 {
             return Ok(&self.unknown);
         }
+        // `name` and `version` are common names of fields, too
+        if let Some(symbol) = self.system.as_slice().get((id - 1) as usize) {
+            return Ok(symbol);
+        }
         if id > self.max_id() as u64 {
             return Err(Reason::SymbolRange);
         }
