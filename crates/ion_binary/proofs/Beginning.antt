@@ -3,9 +3,10 @@ use Rattle.std.proofs.Common.{◌≡◌, ℕ, List, [], ◌∷◌, ◌++◌, Boo
 use Rattle.std.specs.Prelude.{if◌then◌else◌}
 use Rattle.std.proofs.lemmas.List.{append-nil}
 use Rattle.std.proofs.lemmas.Bool.{false≢true}
-use Rattle.ion_binary.specs.Names.{AreAround, AreOpen, BinaryWalk, Bracket, Container, Does, DoesAlone, Effect, Event, Fourth, Frame, Goes, Hears, Holds, HoldsNoWrapper, IsBehind, IsInside, IsNamedBy, IsPart, IsTop, Malformed, Mark, Outcome, Payload, Ready, Reason, Scalar, Slot, TableFilter, Tells, TellsAs, Value, Version, WasTold, anew, at, bare, container_of, deliver, events_of, goes, heard, is_named, judge, judged, machine_of, name, name_of, on_marker, open_containers, part, proceed, refuses, setting_of, spot_of, system_slots, told}
+use Rattle.ion_binary.specs.Names.{AreAround, AreOpen, BinaryWalk, Bracket, Container, Does, DoesAlone, Effect, Event, Fourth, Frame, Goes, Hears, Holds, HoldsNoWrapper, IsBehind, IsInside, IsNamedBy, IsPart, IsTop, Malformed, Mark, Outcome, Payload, Ready, Reason, Slot, TableFilter, Tells, TellsAs, Value, Version, WasTold, anew, at, bare, container_of, deliver, events_of, goes, heard, is_named, judge_leaf, judged, machine_of, name, name_of, on_marker, open_containers, part, proceed, refuses, setting_of, spot_of, system_slots, told}
 use Rattle.ion_visiting.specs.Events.{opens}
 use Rattle.ion_visiting.specs.laws.Filters.{hears_both}
+use Rattle.ion_binary.specs.declared.walking.whole_leaves.Leaf.{Leaf}
 use Rattle.ion_binary.specs.machine.Frames as frames
 use Rattle.ion_binary.specs.walking.Holds.{Name, told_in}
 use Rattle.ion_binary.proofs.Ending.{bare_in, does_same, is_at}
@@ -127,13 +128,13 @@ module _ {V : Type 0} (takes : V → Event → V → Type 0) (r s : BinaryWalk) 
       part_does takes r s.filter fs h around a m (begun fs h around) (record s { filter = g }) new p (deliver (setting_of r) (spot_of r) fs (bare p)) result n b leaf tells
       (ap (λ (w : BinaryWalk). open_containers w) kept) (ap (λ (w : BinaryWalk). deliver (setting_of w) (spot_of w) fs (bare p)) (sym kept)) ends
 
-  -- a scalar
-  pub scalar_does : (t : Scalar) (body : List ℕ)
-      → TellsAs takes (judge s.context t body) s.filter g m n → (fs : List Frame) → Holds r fs → AreAround fs
-      → Does takes (told fs) (judged (setting_of r) (spot_of r) fs (judge r.context t body)) result new a b
-  scalar_does t body said fs h around =
-      does_same takes (told fs) (judged (setting_of r) (spot_of r) fs (judge r.context t body)) (deliver (setting_of r) (spot_of r) fs (bare said.0)) result new a b
-      (ap (judged (setting_of r) (spot_of r) fs) (ap (λ (w : BinaryWalk). judge w.context t body) (sym kept) ∙ said.1))
+  -- a leaf
+  pub leaf_does : (leaf : Leaf) (body : List ℕ)
+      → TellsAs takes (judge_leaf s.context leaf body) s.filter g m n → (fs : List Frame) → Holds r fs → AreAround fs
+      → Does takes (told fs) (judged (setting_of r) (spot_of r) fs (judge_leaf r.context leaf body)) result new a b
+  leaf_does leaf body said fs h around =
+      does_same takes (told fs) (judged (setting_of r) (spot_of r) fs (judge_leaf r.context leaf body)) (deliver (setting_of r) (spot_of r) fs (bare said.0)) result new a b
+      (ap (judged (setting_of r) (spot_of r) fs) (ap (λ (w : BinaryWalk). judge_leaf w.context leaf body) (sym kept) ∙ said.1))
       (whole_does said.0 said.2 said.3 fs h around)
 
 -- 5. A version marker ends.

@@ -133,6 +133,13 @@ module _ {V : Type 0} (takes : V → Event → V → Type 0) (r : BinaryWalk) (f
           went = went_behind takes (told fs) (told before.frames) new took.0 a m b before.went.hears took.2;
         })
 
+    -- the same of a method that took up k octets
+    pub led_on_by : (k : ℕ) → 0 < k → k ≤ length rest → new.used ≡ s.used + k
+        → Took takes (told before.frames) s.used (run_of s before.frames) rest (Ok Goes) new m b → LedOn (i + k) new a b
+    led_on_by k some within to took =
+        let on : new.used - r.used ≡ i + k = omega (arith, to, used) in
+        subst (λ (j : ℕ). LedOn j new a b) on (led_on_more (omega (arith, some, to), omega (arith, within, to)) took)
+
     pub led_on_gives : TakesUp s.used new.used rest (Ok Gives) → Took takes (told before.frames) s.used (run_of s before.frames) rest (Ok Gives) new m b
         → Walks takes (told fs) r.used (run_of r fs) piece (Ok (record { used = new.used - r.used; ended = true })) new a b
     led_on_gives up took =

@@ -1,11 +1,9 @@
 -- Fields that lie whole in a piece, or whose names do, in a reader that holds no values.
-use Rattle.std.proofs.Common.{◌≡◌, ℕ, ◌+◌, ◌-◌, Option, Some, None, List, [], ◌∷◌, ◌++◌, length, take, drop, Result, Ok, Err, refl, ap, sym, subst, ◌∙◌, arith}
+use Rattle.std.proofs.Common.{◌≡◌, ◌≤◌, ℕ, ◌+◌, ◌-◌, Option, Some, None, List, [], ◌∷◌, ◌++◌, length, take, drop, Result, Ok, Err, refl, ap, sym, subst, ◌∙◌, arith}
 use Rattle.std.specs.Prelude.{◌≢◌}
-use Rattle.std.proofs.lemmas.Grind.{common_steps}
-use Rattle.std.proofs.lemmas.List.{drop-drop, length-take-le}
-use Rattle.std.proofs.Math.Seq.{take-add}
-use Rattle.ion_binary.specs.Names.{BinaryWalk, Does, DoesAlone, Effect, Event, Field, Frame, Goes, HasField, HasName, Hears, Holds, InNumber, IsInside, IsTelling, IsWithin, LeafHeader, Memory, Outcome, Phase, Purpose, Reason, TableFilter, Tells, TellsAs, WasTold, bare, containers_of, field_of, fields_end, heard, judge_leaf, judged, name, name_came, open_containers, part, proceed, resolve, run, run_after, run_of, run_via, setting_of, spot_of, told}
-use Rattle.ion_binary.specs.declared.walking.whole_fields.FieldLeaf.{FieldLeaf}
+use Rattle.std.proofs.lemmas.List.{length-take-le}
+use Rattle.ion_binary.specs.Names.{BinaryWalk, Does, DoesAlone, Effect, Event, Field, Frame, Goes, HasField, HasName, Hears, Holds, InNumber, IsInside, IsTelling, IsWithin, Memory, Outcome, Phase, Purpose, Reason, TableFilter, Tells, TellsAs, WasTold, bare, containers_of, field_of, fields_end, heard, judge_leaf, judged, name, name_came, open_containers, part, proceed, resolve, run, run_after, run_of, setting_of, spot_of, told}
+use Rattle.ion_binary.specs.declared.walking.whole_leaves.WholeLeaf.{WholeLeaf}
 use Rattle.ion_binary.specs.machine.EachOctet.{moved}
 use Rattle.ion_binary.specs.machine.Frames as frames
 use Rattle.ion_binary.specs.walking.Holds.{told_in}
@@ -16,9 +14,9 @@ use Rattle.ion_binary.proofs.Ending.{does_same, isnt_at}
 use Rattle.ion_binary.proofs.Insides.{with_phase}
 use Rattle.ion_binary.proofs.Staying.{fields_proceed}
 use Rattle.ion_binary.proofs.Tellings.{does_alone, does_more, field_told, name_told, part_told}
-use Rattle.ion_binary.proofs.WalkRuns.{front_did}
+use Rattle.ion_binary.proofs.WalkRuns.{LedOn, front_did, led_on_took}
 use Rattle.ion_binary.proofs.WholeHeaders.{moved_on}
-use Rattle.ion_binary.proofs.WholeLeaves.{leaf_run}
+use Rattle.ion_binary.proofs.WholeLeaves.{behind_run, body_in}
 
 in_room : (fs : List Frame) (to : ℕ) → IsWithin (containers_of fs) to → InRoom fs to
 in_room (frames.Fields end ms ∷ fs) to h = h
@@ -44,48 +42,30 @@ module _ {V : Type 0} (takes : V → Event → V → Type 0) (r : BinaryWalk) (p
       front_did takes r fs h piece new a a named o n.within (came_run r fs h piece id named n) result used
       (does_alone takes (told fs) o result new a (does fs (moved_on r fs h named)))
 
-  module _ (end : ℕ) (is : Some end ≡ fields_end (open_containers r)) (field : FieldLeaf) (has : HasField r end piece named field) (s : Option (List ℕ))
+  module _ (end : ℕ) (is : Some end ≡ fields_end (open_containers r)) (field : WholeLeaf) (has : HasField r end piece named field) (s : Option (List ℕ))
       (known : resolve r.context id ≡ Ok s) (g : TableFilter) (a m : V) (tells : Tells takes (name s) r.filter g a m) where
     abbrev to : ℕ
     to = r.used + field.to
 
     abbrev body : List ℕ
-    body = take (field.to - field.front) (drop field.front piece)
+    body = body_in piece field
 
     -- the value is judged
     abbrev ends : List Field → List Frame → Outcome
     ends ms fs = judged (setting_of r) (moved (spot_of r) to) (frames.Named end ms (Ok s) ∷ fs) (judge_leaf r.context field.leaf body)
 
-    octets : take field.to piece ≡ take named piece ++ (take (field.front - named) (drop named piece) ++ body)
-    octets =
-        let few = has.few in
-        let behind = has.behind in
-        let whole : named + ((field.front - named) + (field.to - field.front)) ≡ field.to = omega arith in
-        let at : named + (field.front - named) ≡ field.front = omega arith in
-        ap (λ k. take k piece) (sym whole)
-        ∙ (take-add named ((field.front - named) + (field.to - field.front)) piece
-        ∙ ap (λ w. take named piece ++ w)
-        (take-add (field.front - named) (field.to - field.front) (drop named piece)
-        ∙ ap (λ w. take (field.front - named) (drop named piece) ++ take (field.to - field.front) w)
-        (drop-drop (field.front - named) named piece ∙ ap (λ k. drop k piece) at)))
-
     field_run : (ms : List Field) (fs : List Frame) → run_of r (frames.Fields end ms ∷ fs) (take field.to piece) ≡ run_after to (ends ms fs)
     field_run ms fs =
-        let behind = has.behind in
-        let few = has.few in
-        let within = has.within in
-        let inside = has.inside in
-        let header = take (field.front - named) (drop named piece) in
         let count : length (take named piece) ≡ named = length-take-le named piece n.within in
-        let size : length body ≡ field.to - field.front = grind (arith, common_steps) in
-        let all : length (header ++ body) ≡ field.to - named = grind (arith, common_steps) in
         let mid = r.used + named in
+        let inside = has.1 in
+        let few = has.0.few in
+        let behind = has.0.behind in
         ap (λ (p : Phase). run r.catalog.now r.limits r.used (with_phase (spot_of r) (frames.Fields end ms ∷ fs) r.body p) (take field.to piece)) n.phase
-        ∙ (ap (run r.catalog.now r.limits r.used (with_phase (spot_of r) (frames.Fields end ms ∷ fs) r.body (InNumber Purpose.FieldName 0))) octets
-        ∙ run_via r.catalog.now r.limits r.used mid _ _ _ (take named piece) (header ++ body) (omega (arith, count))
+        ∙ behind_run piece named field has.0 r.catalog.now r.limits r.used
+        (with_phase (spot_of r) (frames.Fields end ms ∷ fs) r.body (InNumber Purpose.FieldName 0)) (moved (spot_of r) mid) (frames.Named end ms (Ok s) ∷ fs) to
         (name_run r.catalog.now r.limits (spot_of r) fs end ms (take named piece) id mid (Ok s) n.is known (omega (arith, count)) (omega arith))
-        (leaf_run r.catalog.now r.limits (moved (spot_of r) mid) (frames.Named end ms (Ok s) ∷ fs) field.leaf header body to
-        (subst (λ k. LeafHeader field.leaf k header) (sym size) has.header) refl (omega (arith, all)) inside))
+        refl refl refl inside
 
     -- a field's name is told, and behind it what its value does is done
     field_does : (new : BinaryWalk) (result : Result Effect Reason) (b : V) → new.used ≡ to
@@ -101,7 +81,7 @@ module _ {V : Type 0} (takes : V → Event → V → Type 0) (r : BinaryWalk) (p
         let before = told (frames.Fields end ms ∷ fs) in
         let i = tells before k.was_told in
         let t = name_told end fs ms s in
-        front_did takes r (frames.Fields end ms ∷ fs) k piece new a b field.to (ends ms fs) has.within (field_run ms fs) result used
+        front_did takes r (frames.Fields end ms ∷ fs) k piece new a b field.to (ends ms fs) has.0.within (field_run ms fs) result used
         (does_more takes before (told_in (frames.Named end ms (Ok s) ∷ fs)) (ends ms fs) result new a m b
         (subst (λ es. Hears takes (heard before) (heard es) a m) t i.1)
         (does ms fs (record {
@@ -152,3 +132,17 @@ module _ {V : Type 0} (takes : V → Event → V → Type 0) (r : BinaryWalk) (p
         → (fs : List Frame) → Holds r fs → Took takes (told fs) r.used (run_of r fs) piece (Err reason) new a b
     field_refused new b reason used refused = field_does new (Err reason) b used (λ ms fs h other.
         ap (judged (setting_of r) (moved (spot_of r) to) (frames.Named end ms (Ok s) ∷ fs)) (refused other))
+
+-- a name alone, behind other octets of a piece
+pub name_behind : {V : Type 0} (takes : V → Event → V → Type 0) (r : BinaryWalk) (fs : List Frame) (piece : List ℕ) (i : ℕ) (s : BinaryWalk) (a m : V)
+    → s.catalog ≡ r.catalog → s.limits ≡ r.limits → s.used ≡ r.used + i → LedOn takes r fs piece i s a m → i ≤ length piece
+    → (id named : ℕ) → HasName s (take (length piece - i) (drop i piece)) id named → (new : BinaryWalk) (result : Result Effect Reason)
+    → new.used ≡ s.used + named
+    → ((gs : List Frame) → Holds (record s { used = s.used + named }) gs
+    → DoesAlone (told gs) (name_came (moved (spot_of s) (s.used + named)) gs id) result new)
+    → Took takes (told fs) r.used (run_of r fs) piece result new a m
+name_behind takes r fs piece i s a m catalog limits used before few id named n new result to does =
+    let some = n.some in
+    let within = n.within in
+    led_on_took takes r fs piece i s a m m catalog limits used before new result few (omega (arith, some, to), omega (arith, within, to))
+    (name_took takes s (take (length piece - i) (drop i piece)) id named n new result m to does before.frames before.went.holds)

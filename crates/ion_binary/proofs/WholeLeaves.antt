@@ -1,8 +1,12 @@
 -- Leaves that lie whole in a piece, in a reader that holds no values.
-use Rattle.std.proofs.Common.{◌≡◌, ℕ, ◌+◌, List, [], ◌∷◌, ◌++◌, length, None, refl, ap, ◌∙◌, arith}
-use Rattle.ion_binary.specs.Names.{Catalog, Form, Frame, LeafHeader, Limits, Ready, Spot, at, judge_leaf, judged, nameless, on_descriptor, run, run_after, under}
+use Rattle.std.proofs.Common.{◌≡◌, ℕ, ◌+◌, ◌-◌, ◌≤◌, List, [], ◌∷◌, ◌++◌, length, take, drop, None, refl, ap, sym, subst, ◌∙◌, arith}
+use Rattle.std.proofs.lemmas.Grind.{common_steps}
+use Rattle.std.proofs.lemmas.List.{drop-drop, length-take-le}
+use Rattle.std.proofs.Math.Seq.{take-add}
+use Rattle.ion_binary.specs.Names.{Catalog, Form, Frame, HasLeaf, LeafHeader, Limits, Machine, Ready, Spot, at, judge_leaf, judged, led, nameless, on_descriptor, run, run_after, run_via, under}
 use Rattle.ion_model.specs.declared.value.Payload.TheVariants as payloads
 use Rattle.ion_binary.specs.declared.walking.whole_leaves.Leaf.{Leaf}
+use Rattle.ion_binary.specs.declared.walking.whole_leaves.WholeLeaf.{WholeLeaf}
 use Rattle.ion_binary.specs.machine.EachOctet.{moved}
 use Rattle.ion_binary.specs.laws.reading.Complete.{admits_plain, ends_as, one_run, scalar_run}
 use Rattle.ion_binary.specs.laws.reading.Stands.{BodyMayEnd}
@@ -26,3 +30,40 @@ module _ (g : Catalog) (l : Limits) (spot : Spot) (fs : List Frame) where
       scalar_run g l spot fs t h body to i.0 i.1 (admits_plain fs (Form.Scalar t) refl refl named) e (ends_as l spot.start fs (Form.Scalar t) to r)
   leaf_run (Leaf.Null k) h (b ∷ bs) to i named e r = absurd (omega (arith, i.3))
   leaf_run (Leaf.Truth t) h (b ∷ bs) to i named e r = absurd (omega (arith, i.3))
+
+-- octets at the front of a list, in three parts
+pub three_parts : (w : List ℕ) (i j k : ℕ) → i ≤ j → j ≤ k → take k w ≡ take i w ++ (take (j - i) (drop i w) ++ take (k - j) (drop j w))
+three_parts w i j k few more =
+    let whole : i + ((j - i) + (k - j)) ≡ k = omega arith in
+    let there : i + (j - i) ≡ j = omega arith in
+    ap (λ n. take n w) (sym whole)
+    ∙ (take-add i ((j - i) + (k - j)) w
+    ∙ ap (λ v. take i w ++ v)
+    (take-add (j - i) (k - j) (drop i w)
+    ∙ ap (λ v. take (j - i) (drop i w) ++ take (k - j) v) (drop-drop (j - i) i w ∙ ap (λ n. drop n w) there)))
+
+-- the body of a leaf in a piece
+abbrev pub body_in : List ℕ → WholeLeaf → List ℕ
+body_in piece it = take (it.to - it.front) (drop it.front piece)
+
+module _ (piece : List ℕ) (skipped : ℕ) (it : WholeLeaf) (has : HasLeaf piece skipped it) where
+  abbrev header_in : List ℕ
+  header_in = take (it.front - skipped) (drop skipped piece)
+
+  -- over the octets behind which it lies, and over it, the machine comes to that
+  pub behind_run : (g : Catalog) (l : Limits) (to : ℕ) (m : Machine) (spot : Spot) (fs : List Frame) (end : ℕ)
+      → run g l to m (take skipped piece) ≡ led (at spot fs Ready) → spot.used ≡ to + skipped → end ≡ to + it.to → nameless fs Form.Struct ≡ None
+      → BodyMayEnd l spot.start fs Form.Struct end
+      → run g l to m (take it.to piece) ≡ run_after end (judged (under g l) (moved spot end) fs (judge_leaf spot.context it.leaf (body_in piece it)))
+  behind_run g l to m spot fs end before at_spot ends named room =
+      let behind = has.behind in
+      let few = has.few in
+      let within = has.within in
+      let front : length (take skipped piece) ≡ skipped = length-take-le skipped piece (omega arith) in
+      let body = body_in piece it in
+      let size : length body ≡ it.to - it.front = grind (arith, common_steps) in
+      let all : length (header_in ++ body) ≡ it.to - skipped = grind (arith, common_steps) in
+      ap (run g l to m) (three_parts piece skipped it.front it.to (omega arith) few)
+      ∙ run_via g l to spot.used m (at spot fs Ready) _ (take skipped piece) (header_in ++ body) (omega (arith, front, at_spot)) before
+      (leaf_run g l spot fs it.leaf header_in body end (subst (λ k. LeafHeader it.leaf k header_in) (sym size) has.header) named
+      (omega (arith, all, at_spot, ends, behind, few)) room)

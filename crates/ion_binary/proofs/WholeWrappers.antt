@@ -1,11 +1,10 @@
 -- Wrappers with one annotation, in a reader that holds no values.
-use Rattle.std.proofs.Common.{◌≡◌, ℕ, ◌+◌, ◌-◌, ◌<◌, ◌≤◌, List, [], ◌∷◌, ◌++◌, length, take, drop, Option, Ok, Err, Result, true, refl, ap, sym, subst, ◌∙◌, arith}
+use Rattle.std.proofs.Common.{◌≡◌, ℕ, ◌+◌, ◌-◌, ◌<◌, List, [], ◌∷◌, ◌++◌, length, take, drop, Option, Ok, Err, Result, true, refl, ap, subst, ◌∙◌, arith}
 use Rattle.std.specs.Prelude.{◌==◌, ◌≢◌, if◌then◌else◌}
 use Rattle.std.proofs.lemmas.Grind.{common_steps}
-use Rattle.std.proofs.lemmas.List.{drop-drop, length-take-le}
-use Rattle.std.proofs.Math.Seq.{take-add}
-use Rattle.ion_binary.specs.Names.{AreAround, BinaryWalk, Container, Does, Effect, Event, Form, Frame, Goes, HasLeaf, HasNote, Hears, Holds, HoldsNoWrapper, InNumber, IsBehind, LeafHeader, Memory, Opens, Outcome, Purpose, Ready, Reason, TableFilter, Tells, TellsAs, Value, WasTold, annotated, annotation, annotation_came, at, bare, deliver, events_of, goes, heard, judge_leaf, judged, led, open_containers, part, resolve, run_after, run_of, run_via, setting_of, spot_of, told}
-use Rattle.ion_binary.specs.declared.walking.whole_leaves.Leaf.{Leaf}
+use Rattle.std.proofs.lemmas.List.{length-take-le}
+use Rattle.ion_binary.specs.Names.{AreAround, BinaryWalk, Container, Does, Effect, Event, Form, Frame, Goes, HasLeaf, HasNote, Hears, Holds, HoldsNoWrapper, InNumber, IsBehind, Memory, Opens, Outcome, Purpose, Ready, Reason, TableFilter, Tells, TellsAs, Value, WasTold, annotated, annotation, annotation_came, at, bare, deliver, events_of, goes, heard, judge_leaf, judged, led, machine_of, open_containers, part, resolve, run_after, run_of, run_via, setting_of, spot_of, told}
+use Rattle.ion_binary.specs.declared.walking.whole_leaves.WholeLeaf.{WholeLeaf}
 use Rattle.ion_binary.specs.declared.walking.whole_wrappers.Note.{Note}
 use Rattle.ion_binary.specs.machine.EachOctet.{moved}
 use Rattle.ion_binary.specs.machine.Frames as frames
@@ -14,12 +13,11 @@ use Rattle.ion_binary.specs.walking.Runs.{Took}
 use Rattle.ion_binary.specs.laws.reading.Complete.{count_goes, length_VarUInt, number_run}
 use Rattle.ion_visiting.specs.laws.Filters.{hears_both}
 use Rattle.ion_binary.proofs.Ending.{does_same, is_at, unwrapped}
-use Rattle.ion_binary.proofs.PieceEnds.{whole_rest}
 use Rattle.ion_binary.proofs.Shells.{may_begin}
 use Rattle.ion_binary.proofs.Tellings.{does_more, part_told, wrapped_told}
 use Rattle.ion_binary.proofs.WalkRuns.{front_did}
 use Rattle.ion_binary.proofs.WholeHeaders.{front_run, moved_on}
-use Rattle.ion_binary.proofs.WholeLeaves.{leaf_run}
+use Rattle.ion_binary.proofs.WholeLeaves.{behind_run, body_in, three_parts}
 
 module _ (r : BinaryWalk) (piece : List ℕ) (front size : ℕ) (note : Note) (o : Opens r piece Form.Wrapper front size) (n : HasNote piece front size note) where
   abbrev pub stop : ℕ
@@ -41,19 +39,6 @@ module _ (r : BinaryWalk) (piece : List ℕ) (front size : ℕ) (note : Note) (o
   abbrev id : List ℕ
   id = take (note.to - note.id_at) (drop note.id_at piece)
 
-  octets : take note.to piece ≡ header ++ (count ++ id)
-  octets =
-      let behind = n.behind in
-      let few = n.few in
-      let whole : front + ((note.id_at - front) + (note.to - note.id_at)) ≡ note.to = omega arith in
-      let there : front + (note.id_at - front) ≡ note.id_at = omega arith in
-      ap (λ k. take k piece) (sym whole)
-      ∙ (take-add front ((note.id_at - front) + (note.to - note.id_at)) piece
-      ∙ ap (λ w. header ++ w)
-      (take-add (note.id_at - front) (note.to - note.id_at) (drop front piece)
-      ∙ ap (λ w. count ++ take (note.to - note.id_at) w)
-      (drop-drop (note.id_at - front) front piece ∙ ap (λ k. drop k piece) there)))
-
   -- over it the machine comes to that
   pub note_run : (fs : List Frame) → Holds r fs → run_of r fs (take note.to piece) ≡ run_after stop (came fs)
   note_run fs h =
@@ -69,7 +54,7 @@ module _ (r : BinaryWalk) (piece : List ℕ) (front size : ℕ) (note : Note) (o
       let some : 0 < note.to - note.id_at = omega (arith, length_VarUInt id note.id n.is, size3) in
       let ends : mid2 + (note.to - note.id_at) ≡ stop = omega arith in
       let fs2 = frames.Annotated end [] ∷ fs in
-      ap (run_of r fs) octets
+      ap (run_of r fs) (three_parts piece front note.id_at note.to behind few)
       ∙ run_via r.catalog.now r.limits r.used mid _ (at (moved (spot_of r) mid) fs2 (InNumber Purpose.AnnotationsLength 0)) _ header (count ++ id)
       (omega (arith, size1)) (front_run r fs h piece front size Form.Wrapper o)
       (run_via r.catalog.now r.limits mid mid2 _ (at (moved (spot_of r) mid2) fs2 (InNumber (Purpose.Annotation stop) 0)) _ count id
@@ -88,42 +73,18 @@ module _ (r : BinaryWalk) (piece : List ℕ) (front size : ℕ) (note : Note) (o
       ∙ (ap (λ x. run_after stop (annotation_came (moved (spot_of r) stop) (frames.Annotated end [] ∷ fs) stop x)) is
       ∙ ap (λ t. led (at (moved (spot_of r) stop) (frames.Annotated end (s ∷ []) ∷ fs) (if t then Ready else InNumber (Purpose.Annotation stop) 0))) last)
 
-  module _ (leaf : Leaf) (from to : ℕ) (v : HasLeaf (take (length piece - note.to) (drop note.to piece)) leaf from to) (ends : stop + to ≡ end) where
-    abbrev rest : List ℕ
-    rest = take (length piece - note.to) (drop note.to piece)
-
-    abbrev pub body : List ℕ
-    body = take (to - from) (drop from rest)
-
+  module _ (leaf : WholeLeaf) (v : HasLeaf piece note.to leaf) (ends : r.used + leaf.to ≡ end) where
     -- the leaf is judged in the wrapper
     abbrev pub judged_noted : Option (List ℕ) → List Frame → Outcome
-    judged_noted s fs = judged (setting_of r) (moved (spot_of r) end) (frames.Annotated end (s ∷ []) ∷ fs) (judge_leaf r.context leaf body)
-
-    size_rest : length rest ≡ length piece - note.to
-    size_rest = let within = n.within in grind (arith, common_steps)
-
-    pub leaf_within : note.to + to ≤ length piece
-    leaf_within = let inner = v.within in let within = n.within in omega (arith, size_rest)
+    judged_noted s fs =
+        judged (setting_of r) (moved (spot_of r) (r.used + leaf.to)) (frames.Annotated end (s ∷ []) ∷ fs) (judge_leaf r.context leaf.leaf (body_in piece leaf))
 
     -- over the leaf, too, it comes to that
     pub noted_leaf_run : (s : Option (List ℕ)) → resolve r.context note.id ≡ Ok s → (fs : List Frame) → Holds r fs
-        → run_of r fs (take (note.to + to) piece) ≡ run_after (r.used + (note.to + to)) (judged_noted s fs)
+        → run_of r fs (take leaf.to piece) ≡ run_after (r.used + leaf.to) (judged_noted s fs)
     noted_leaf_run s is fs h =
-        let few = v.few in
-        let inner = v.within in
-        let size_front : length (take note.to piece) ≡ note.to = length-take-le note.to piece n.within in
-        let size_body : length body ≡ to - from = grind (arith, common_steps) in
-        let whole : from + (to - from) ≡ to = omega arith in
-        let split : take to rest ≡ take from rest ++ body = ap (λ k. take k rest) (sym whole) ∙ take-add from (to - from) rest in
-        let all : length (take from rest ++ body) ≡ to = ap length (sym split) ∙ length-take-le to rest inner in
-        let there : r.used + (note.to + to) ≡ end = omega (arith, ends) in
-        ap (run_of r fs) (take-add note.to to piece
-        ∙ ap (λ w. take note.to piece ++ w) (ap (λ w. take to w) (sym (whole_rest piece note.to)) ∙ split))
-        ∙ (run_via r.catalog.now r.limits r.used stop _ (at (moved (spot_of r) stop) (frames.Annotated end (s ∷ []) ∷ fs) Ready) _ (take note.to piece)
-        (take from rest ++ body) (omega (arith, size_front)) (noted_run s is fs h)
-        (leaf_run r.catalog.now r.limits (moved (spot_of r) stop) (frames.Annotated end (s ∷ []) ∷ fs) leaf (take from rest) body end
-        (subst (λ k. LeafHeader leaf k (take from rest)) (sym size_body) v.header) refl (omega (arith, all, ends)) refl)
-        ∙ ap (λ j. run_after j (judged_noted s fs)) (sym there))
+        behind_run piece note.to leaf v r.catalog.now r.limits r.used (machine_of r fs) (moved (spot_of r) stop) (frames.Annotated end (s ∷ []) ∷ fs)
+        (r.used + leaf.to) (noted_run s is fs h) refl refl refl ends
 
   module _ {V : Type 0} (takes : V → Event → V → Type 0) (g0 g : TableFilter) (s : Option (List ℕ)) (is : resolve r.context note.id ≡ Ok s) (a m b : V)
       (begun : (fs : List Frame) → Holds (record r { used = stop }) fs → AreAround fs → WasTold g0 (told_in fs) × Hears takes (heard (told fs)) (heard (told_in fs)) a m)
@@ -166,25 +127,26 @@ module _ (r : BinaryWalk) (piece : List ℕ) (front size : ℕ) (note : Note) (o
           )
 
     -- the leaf is told, and the wrapper ends with it
-    module _ (leaf : Leaf) (from to : ℕ) (v : HasLeaf (take (length piece - note.to) (drop note.to piece)) leaf from to) (ends : stop + to ≡ end)
-        (f : TableFilter) (new : BinaryWalk) (result : Result Effect Reason) (c d : V) where
+    module _ (leaf : WholeLeaf) (v : HasLeaf piece note.to leaf) (ends : r.used + leaf.to ≡ end) (f : TableFilter) (new : BinaryWalk)
+        (result : Result Effect Reason) (c d : V) (used : new.used ≡ r.used + leaf.to) where
       abbrev pub closed : BinaryWalk
-      closed = record r { used = end; filter = f }
+      closed = record r { used = r.used + leaf.to; filter = f }
 
-      noted_leaf_does : TellsAs takes (judge_leaf r.context leaf (body leaf from to v ends)) g f b c
+      noted_leaf_does : TellsAs takes (judge_leaf r.context leaf.leaf (body_in piece leaf)) g f b c
           → ((fs : List Frame) (x : Value) → IsBehind closed fs x
           → Does takes (told_in fs ++ events_of x) (deliver (setting_of closed) (spot_of closed) fs x) result new c d)
-          → (fs : List Frame) → Holds r fs → Does takes (told fs) (judged_noted leaf from to v ends s fs) result new a d
+          → (fs : List Frame) → Holds r fs → Does takes (told fs) (judged_noted leaf v ends s fs) result new a d
       noted_leaf_does said ended fs h =
           let around = may fs h in
           let i = noted_told fs h in
           let p = said.0 in
           let es = told_in fs ++ annotation s ∷ [] in
+          let to = moved (spot_of r) (r.used + leaf.to) in
           let more : es ++ part p ∷ [] ≡ told_in fs ++ events_of (annotated (s ∷ []) p) =
           part_told (frames.Annotated end (s ∷ []) ∷ fs) p said.2 ∙ wrapped_told end (s ∷ []) fs (bare p) refl in
           let k = said.3 es i.0 in
-          does_same takes (told fs) (judged_noted leaf from to v ends s fs) (deliver (setting_of r) (moved (spot_of r) end) fs (annotated (s ∷ []) p)) result new a d
-          (ap (judged (setting_of r) (moved (spot_of r) end) (frames.Annotated end (s ∷ []) ∷ fs)) said.1)
+          does_same takes (told fs) (judged_noted leaf v ends s fs) (deliver (setting_of r) to fs (annotated (s ∷ []) p)) result new a d
+          (ap (judged (setting_of r) to (frames.Annotated end (s ∷ []) ∷ fs)) said.1)
           (does_more takes (told fs) (told_in fs ++ events_of (annotated (s ∷ []) p)) _ result new a c d
           (subst (λ w. Hears takes (heard (told fs)) (heard w) a c) more
           (hears_both takes (heard (told fs)) (heard es) (heard (es ++ part p ∷ [])) a b c i.1 k.1))
@@ -195,21 +157,20 @@ module _ (r : BinaryWalk) (piece : List ℕ) (front size : ℕ) (note : Note) (o
             was_told = subst (λ w. WasTold f w) more k.0;
           })))
 
-      pub noted_leaf_took : TellsAs takes (judge_leaf r.context leaf (body leaf from to v ends)) g f b c → new.used ≡ end
+      pub noted_leaf_took : TellsAs takes (judge_leaf r.context leaf.leaf (body_in piece leaf)) g f b c
           → ((fs : List Frame) (x : Value) → IsBehind closed fs x
           → Does takes (told_in fs ++ events_of x) (deliver (setting_of closed) (spot_of closed) fs x) result new c d)
           → (fs : List Frame) → Holds r fs → Took takes (told fs) r.used (run_of r fs) piece result new a d
-      noted_leaf_took said used ended fs h =
-          front_did takes r fs h piece new a d (note.to + to) (judged_noted leaf from to v ends s fs) (leaf_within leaf from to v ends)
-          (noted_leaf_run leaf from to v ends s is fs h) result (omega (arith, used, ends)) (noted_leaf_does said ended fs h)
+      noted_leaf_took said ended fs h =
+          front_did takes r fs h piece new a d leaf.to (judged_noted leaf v ends s fs) v.within (noted_leaf_run leaf v ends s is fs h) result used
+          (noted_leaf_does said ended fs h)
 
       -- or refused
-      pub noted_leaf_refused : (reason : Reason) → (reason ≢ Memory → judge_leaf r.context leaf (body leaf from to v ends) ≡ Err reason) → new.used ≡ end
+      pub noted_leaf_refused : (reason : Reason) → (reason ≢ Memory → judge_leaf r.context leaf.leaf (body_in piece leaf) ≡ Err reason)
           → (fs : List Frame) → Holds r fs → Took takes (told fs) r.used (run_of r fs) piece (Err reason) new a d
-      noted_leaf_refused reason refused used fs h =
-          front_did takes r fs h piece new a d (note.to + to) (judged_noted leaf from to v ends s fs) (leaf_within leaf from to v ends)
-          (noted_leaf_run leaf from to v ends s is fs h) (Err reason) (omega (arith, used, ends))
-          (λ other. ap (judged (setting_of r) (moved (spot_of r) end) (frames.Annotated end (s ∷ []) ∷ fs)) (refused other))
+      noted_leaf_refused reason refused fs h =
+          front_did takes r fs h piece new a d leaf.to (judged_noted leaf v ends s fs) v.within (noted_leaf_run leaf v ends s is fs h) (Err reason) used
+          (λ other. ap (judged (setting_of r) (moved (spot_of r) (r.used + leaf.to)) (frames.Annotated end (s ∷ []) ∷ fs)) (refused other))
 
   -- the id has no symbol
   pub note_refused : {V : Type 0} (takes : V → Event → V → Type 0) (new : BinaryWalk) (reason : Reason) (a b : V) → resolve r.context note.id ≡ Err reason → new.used ≡ stop

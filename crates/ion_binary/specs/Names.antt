@@ -17,11 +17,11 @@ pub use Rattle.ion_binary.specs.machine.EachOctet.{Machine, Outcome, Setting, Sp
 pub use Rattle.ion_binary.specs.machine.Frames.{Frame}
 pub use Rattle.ion_binary.specs.machine.Pieces.{led, length-one, on_now, on_outcome, run-append, run_after, run_step, run_via, then_after, then_run}
 pub use Rattle.ion_binary.specs.machine.Run.{Run, ends_of, refused_of, run, run_on, trace, trace_of, whole, with_value}
-pub use Rattle.ion_binary.specs.machine.Views.{body_so_far, goes_on, is_in_body, malformed_unless}
+pub use Rattle.ion_binary.specs.machine.Views.{body_so_far, is_in_body, malformed_unless}
 pub use Rattle.ion_binary.specs.visiting.Brackets.{bracket_of, code_in}
-pub use Rattle.ion_binary.specs.walking.Holds.{AreAround, AreOpen, Closes, Does, DoesAlone, EndedIn, GaveOut, Holds, HoldsNoWrapper, IsBareIn, IsBehind, IsInside, IsNamedBy, IsPart, IsTelling, IsTop, IsWithin, MayBegin, Moves, SameSetting, TellsAs, WentOn, behind_annotation, container_of, containers_of, fields_end, is_named, items_end, machine_of, name_of, named_end, open_containers, setting_of, shell, shells, spot_of, told, wrapper_end}
+pub use Rattle.ion_binary.specs.walking.Holds.{AreAround, AreOpen, Closes, Does, DoesAlone, EndedIn, GaveOut, Holds, HoldsNoWrapper, IsBareIn, IsBehind, IsInside, IsNamedBy, IsPart, IsTelling, IsTop, IsWithin, MayBegin, Moves, RefusedAs, SameSetting, Steps, StepsAlone, StepsInside, TellsAs, WentOn, behind_annotation, container_of, containers_of, fields_end, is_named, items_end, machine_of, name_of, named_end, open_containers, setting_of, shell, shells, spot_of, told, wrapper_end}
 pub use Rattle.ion_binary.specs.walking.Leaves.{HasLeaf, LeafHeader, judge_leaf}
-pub use Rattle.ion_binary.specs.walking.Runs.{HasField, HasItem, HasName, HasNote, Opens, Reached, StandsFor, Told, Walks, awaits, failed, pending, refused_at, run_of, taken}
+pub use Rattle.ion_binary.specs.walking.Runs.{HasField, HasItem, HasName, HasNote, Opens, Reached, Reads, StandsFor, Told, Walks, awaits, failed, pending, refused_at, run_of, taken}
 pub use Rattle.ion_binary.specs.writer.Later.{IsLater}
 pub use Rattle.ion_binary.specs.writer.Names.{AreAmong, AreKnown, Grown, IsAmong, Resolves, all_among_more, among_last, grown, id_few, id_stays, names_resolve, names_resolve_still, same_is_equal, slots, slots_more, slots_system, starts_more, unknown_among}
 pub use Rattle.ion_binary.specs.writer.Puts.{behind, bin_puts, puts}

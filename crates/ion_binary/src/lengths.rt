@@ -1,9 +1,13 @@
 //! Numbers and lengths at the front of octets that are all here.
-ghost use Rattle.std.specs.Prelude.{◌≡◌, ◌≤◌, ◌<◌, ◌^◌, length, take, IfSome};
+ghost use Rattle.std.specs.Prelude.{◌≤◌, ◌<◌, ◌^◌, length, take, IfSome};
 ghost use Rattle.ion_binary.specs.Names.{VarUInt};
 ghost use Rattle.ion_binary.specs.machine.Framed.{Heads};
 
 use ion_scalar::{Size, read_var_uint};
+
+// A VarUInt of more octets begins with zeros that it needn't have, and is left to the walk, which
+// looks at each octet once: by any number of them it would look through a piece again and again.
+const MOST_DIGITS: usize = 16;
 
 /// The VarUInt at the front of these octets, and how many octets it has.
 #[inline(always)]
@@ -27,7 +31,8 @@ fn long_number(octets: &[u8]) -> Option<(u64, usize)>
     ensures within { IfSome result (λ read. read.1 ≤ length octets.now) }
     ensures is { IfSome result (λ read. VarUInt (take read.1 octets.now) read.0) }
 {
-    match read_var_uint(octets) {
+    let near = &octets[..octets.len().min(MOST_DIGITS)];
+    match read_var_uint(near) {
         Ok(read) => Some(read),
         Err(_) => None,
     }

@@ -1,6 +1,6 @@
 //! The reader of binary documents that holds no values: what it holds, and what each octet does.
 ghost use Rattle.std.specs.Prelude.{◌≡◌, ◌≢◌, ◌+◌, ◌-◌, ◌<◌, ◌^◌, true, false, List, OnOk, IfErr};
-ghost use Rattle.ion_binary.specs.Names.{AreAround, Does, DoesAlone, Frame as AnyFrame, Hears, Holds, IsTop, Memory, Moves, WasTold, bare, deliver, feed, heard, is_in_body, machine_of, marks, on_descriptor, on_marker, one_octet, payload_of, setting_of, spot_of, told};
+ghost use Rattle.ion_binary.specs.Names.{AreAround, DoesAlone, Frame as AnyFrame, Hears, Holds, IsTop, Memory, Moves, Steps, StepsAlone, StepsInside, WasTold, bare, deliver, feed, heard, is_in_body, machine_of, marks, on_descriptor, on_marker, one_octet, payload_of, spot_of, told};
 ghost use Rattle.ion_binary.specs.declared.state.Phase.TheVariants as phases;
 ghost use Rattle.ion_binary.specs.walking.Holds.{told_in};
 
@@ -105,9 +105,8 @@ impl BinaryWalk<'_> {
 
     /// Tells a value of one octet, for which there has to be room.
     fn one_octet<V: Visitor>(&mut self, said: &Part<'_>, visitor: &mut V) -> Result<Effect, Reason>
-        ensures does { (fs : List AnyFrame) → Holds self.old fs →
-            Does V.takes (told fs)
-            (one_octet (setting_of self.old) (spot_of self.old) fs (payload_of said.now))
+        ensures does { Steps V.takes self.old
+            (λ setting spot fs. one_octet setting spot fs (payload_of said.now))
             result self.new visitor.old visitor.new }
         ensures moves { Moves self.old self.new self.old.used }
     {
@@ -119,9 +118,8 @@ impl BinaryWalk<'_> {
 
     /// Tells a value with no value in it.
     fn whole<V: Visitor>(&mut self, said: &Part<'_>, visitor: &mut V) -> Result<Effect, Reason>
-        ensures does { (fs : List AnyFrame) → Holds self.old fs → AreAround fs →
-            Does V.takes (told fs)
-            (deliver (setting_of self.old) (spot_of self.old) fs (bare (payload_of said.now)))
+        ensures does { StepsInside V.takes self.old
+            (λ setting spot fs. deliver setting spot fs (bare (payload_of said.now)))
             result self.new visitor.old visitor.new }
         ensures moves { Moves self.old self.new self.old.used }
     {
@@ -132,8 +130,7 @@ impl BinaryWalk<'_> {
 
     /// Begins a version marker behind its first octet; it stands at the top level alone.
     fn marks(&mut self) -> Result<Effect, Reason>
-        ensures does { (fs : List AnyFrame) → Holds self.old fs → DoesAlone (told fs)
-            (marks (spot_of self.old) fs) result self.new }
+        ensures does { StepsAlone self.old (λ _ spot fs. marks spot fs) result self.new }
         ensures moves { Moves self.old self.new self.old.used }
     {
         if !self.frames.is_empty() {
@@ -150,9 +147,8 @@ impl BinaryWalk<'_> {
         visitor: &mut V,
     ) -> Result<Effect, Reason>
         requires used { self.old.used < 2 ^ 63 }
-        ensures does { (fs : List AnyFrame) → Holds self.old fs →
-            Does V.takes (told fs)
-            (on_descriptor (setting_of self.old) (spot_of self.old) fs opening)
+        ensures does { Steps V.takes self.old
+            (λ setting spot fs. on_descriptor setting spot fs opening)
             result self.new visitor.old visitor.new }
         ensures moves { Moves self.old self.new self.old.used }
     {
@@ -204,9 +200,8 @@ impl BinaryWalk<'_> {
         requires used { self.old.used < 2 ^ 63 - 1 }
         requires outside { is_in_body self.old.phase ≡ false }
         requires behind { self.old.phase ≢ phases.Ready }
-        ensures does { (fs : List AnyFrame) → Holds self.old fs →
-            Does V.takes (told fs)
-            (feed (setting_of self.old) (machine_of self.old fs) octet)
+        ensures does { Steps V.takes self.old
+            (λ setting _ fs. feed setting (machine_of self.old fs) octet)
             result self.new visitor.old visitor.new }
         ensures moves { Moves self.old self.new (self.old.used + 1) }
     {

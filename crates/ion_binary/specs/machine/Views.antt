@@ -1,6 +1,6 @@
 -- What a reader in memory keeps of the machine's phase.
-use Rattle.std.specs.Prelude.{ℕ, nat_lt, Bool, true, false, if◌then◌else◌, List, [], Option, Some, None}
-use Rattle.ion_binary.specs.Names.Below.{InBody, InPad, Malformed, Phase, Reason}
+use Rattle.std.specs.Prelude.{ℕ, Bool, true, false, if◌then◌else◌, List, [], Option, Some, None}
+use Rattle.ion_binary.specs.Names.Below.{InBody, Malformed, Phase, Reason}
 
 -- the octets of a body count only inside it
 abbrev pub body_so_far : Phase → List ℕ → List ℕ
@@ -10,12 +10,6 @@ body_so_far _ body = []
 -- no reason where it holds
 abbrev pub malformed_unless : Bool → Option Reason
 malformed_unless holds = if holds then None else Some Malformed
-
--- whether a body or a pad goes on behind the next octet
-abbrev pub goes_on : Phase → Bool
-goes_on (InBody t missing) = nat_lt 0 missing
-goes_on (InPad missing) = nat_lt 0 missing
-goes_on _ = false
 
 -- whether the next octet is one of a scalar's body
 abbrev pub is_in_body : Phase → Bool

@@ -81,6 +81,10 @@ IsPart p = layer_events (out-Payload p) ≡ part p ∷ []
 abbrev pub TellsAs : {V : Type 0} → (V → Event → V → Type 0) → Result Payload Reason → TableFilter → TableFilter → V → V → Type 0
 TellsAs takes judged f g a b = (p : Payload) × (judged ≡ Ok p) × IsPart p × Tells takes (part p) f g a b
 
+-- or the body is refused for this reason; unless memory ran out
+abbrev pub RefusedAs : Result Payload Reason → Reason → Type 0
+RefusedAs judged reason = reason ≢ Memory → judged ≡ Err reason
+
 -- 2. What was told.
 
 -- of containers around a value, the outermost first
@@ -220,6 +224,20 @@ module _ {V : Type 0} (takes : V → Event → V → Type 0) (es : List Event) w
   Closes outcome (Ok true) r a b = (fs : List Frame) × (v : Value) × (outcome ≡ deliver (setting_of r) (spot_of r) fs v) × EndedIn r fs v a b
   Closes outcome (Ok false) r a b = (fs : List Frame) × (outcome ≡ goes (machine_of r fs)) × WentOn r fs a b
   Closes outcome (Err reason) r a b = reason ≢ Memory → outcome ≡ refuses reason
+
+module _ {V : Type 0} (takes : V → Event → V → Type 0) (old : BinaryWalk) (step : Setting → Spot → List Frame → Outcome) where
+  -- a method did what this step of the machine does, whatever containers the reader stands for
+  abbrev pub Steps : Result Effect Reason → BinaryWalk → V → V → Type 0
+  Steps result new a b = (fs : List Frame) → Holds old fs → Does takes (told fs) (step (setting_of old) (spot_of old) fs) result new a b
+
+  -- the same around a value
+  abbrev pub StepsInside : Result Effect Reason → BinaryWalk → V → V → Type 0
+  StepsInside result new a b =
+      (fs : List Frame) → Holds old fs → AreAround fs → Does takes (told fs) (step (setting_of old) (spot_of old) fs) result new a b
+
+-- the same where no visitor hears anything
+abbrev pub StepsAlone : BinaryWalk → (Setting → Spot → List Frame → Outcome) → Result Effect Reason → BinaryWalk → Type 0
+StepsAlone old step result new = (fs : List Frame) → Holds old fs → DoesAlone (told fs) (step (setting_of old) (spot_of old) fs) result new
 
 -- what no octet changes
 pub record SameSetting (old new : BinaryWalk) : Type 0 where

@@ -2,15 +2,14 @@
 use Rattle.std.specs.Prelude.{◌≡◌, ◌≢◌, ◌<◌, ◌≤◌, ℕ, ◌+◌, ◌-◌, ◌^◌, List, [], ◌∷◌, length, take, drop, Bool, true, false, Option, None, Result, Ok, Err}
 use Rattle.ion_binary.specs.Names.Below.{BinaryWalk, Effect, Event, Form, Gives, Goes, InNumber, Memory, Purpose, Ready, Reason, Refusal, Value, VarUInt, Walked, heard}
 use Rattle.ion_binary.specs.Grammar.{Header}
-use Rattle.ion_binary.specs.declared.walking.whole_fields.FieldLeaf.{FieldLeaf}
-use Rattle.ion_binary.specs.declared.walking.whole_items.Item.{Item}
+use Rattle.ion_binary.specs.declared.walking.whole_leaves.WholeLeaf.{WholeLeaf}
 use Rattle.ion_binary.specs.declared.walking.whole_wrappers.Note.{Note}
 use Rattle.ion_binary.specs.machine.EachOctet.{hollow, initial, unfit}
 use Rattle.ion_binary.specs.machine.Frames.{Frame}
 use Rattle.ion_binary.specs.machine.Pieces.{led}
 use Rattle.ion_binary.specs.machine.Run.{Run, run}
 use Rattle.ion_binary.specs.machine.Views.{body_so_far}
-use Rattle.ion_binary.specs.walking.Leaves.{LeafHeader}
+use Rattle.ion_binary.specs.walking.Leaves.{HasLeaf}
 use Rattle.ion_binary.specs.walking.Holds.{GaveOut, Holds, IsWithin, WentOn, machine_of, open_containers, shells, told}
 
 -- the run over octets of the machine that a reader stands for, with these containers
@@ -43,22 +42,13 @@ pub record HasName (r : BinaryWalk) (piece : List ℕ) (id size : ℕ) : Type 0 
   pub within : size ≤ length piece
   pub inside : IsWithin (open_containers r) (r.used + size)
 
--- behind `named` octets of a piece lies the header of a leaf with its body, which ends before this octet or at it
-pub record HasField (r : BinaryWalk) (end : ℕ) (piece : List ℕ) (named : ℕ) (field : FieldLeaf) : Type 0 where
-  pub behind : named < field.front
-  pub few : field.front ≤ field.to
-  pub within : field.to ≤ length piece
-  pub header : LeafHeader field.leaf (field.to - field.front) (take (field.front - named) (drop named piece))
-  pub inside : r.used + field.to ≤ end
+-- behind `named` octets of a piece lies a leaf, which ends before this octet or at it
+abbrev pub HasField : BinaryWalk → ℕ → List ℕ → ℕ → WholeLeaf → Type 0
+HasField r end piece named field = HasLeaf piece named field × (r.used + field.to ≤ end)
 
--- at the front of a piece lies the header of a scalar with its body, which ends before this octet
-pub record HasItem (r : BinaryWalk) (end : ℕ) (piece : List ℕ) (item : Item) : Type 0 where
-  pub some : 0 < item.front
-  pub few : item.front ≤ item.to
-  pub within : item.to ≤ length piece
-  pub header : Header (Form.Scalar item.scalar) (item.to - item.front) (take item.front piece)
-  pub full : hollow (Form.Scalar item.scalar) (item.to - item.front) ≡ None
-  pub before : r.used + item.to < end
+-- at the front of a piece lies a leaf, which ends before this octet
+abbrev pub HasItem : BinaryWalk → ℕ → List ℕ → WholeLeaf → Type 0
+HasItem r end piece item = HasLeaf piece 0 item × (r.used + item.to < end)
 
 -- behind `front` octets of a piece, which are the header of a wrapper whose body has `size` octets, lies its only annotation
 pub record HasNote (piece : List ℕ) (front size : ℕ) (note : Note) : Type 0 where
@@ -101,6 +91,10 @@ module _ {V : Type 0} (takes : V → Event → V → Type 0) (es : List Event) w
       Stopped false = (walked.used ≡ length piece) × Reached (run piece) (to + walked.used) Goes r a b
       Stopped true = (0 < walked.used) × Reached (run (take walked.used piece)) (to + walked.used) Gives r a b
   Walks to run piece (Err refusal) r a b = refusal.reason ≢ Memory → run piece ≡ refused_at refusal
+
+-- so it did, whatever containers the reader stands for
+abbrev pub Reads : {V : Type 0} → (V → Event → V → Type 0) → BinaryWalk → List ℕ → Result Effect Reason → BinaryWalk → V → V → Type 0
+Reads takes old piece result new a b = (fs : List Frame) → Holds old fs → Took takes (told fs) old.used (run_of old fs) piece result new a b
 
 -- The run over these octets gave these values, and ended where the reader may stand for these containers.
 pub record StandsFor (r : BinaryWalk) (octets : List ℕ) (values : List (Value × ℕ)) (fs : List Frame) : Type 0 where

@@ -1,9 +1,9 @@
 //! Walks over pieces: octets of a body or a pad are taken up at once, else one.
 ghost use Rattle.std.specs.Prelude.{◌≡◌, ◌≢◌, ℕ, ◌+◌, ◌-◌, ◌≤◌, ◌<◌, ◌^◌, [], ◌++◌, List, true, false, length, take, None, Some, Result, IfOk, IfErr, IfSome, IsNone, IsSome};
-ghost use Rattle.ion_binary.specs.Names.{Answers, AreAround, Does, EndsOn, Event, Frame as AnyFrame, Holds, Memory, Moves, RefusesBy, SameSetting, StepsOver, Told, Value as AnyValue, Walks, WalksOn, awaits, failed, goes_on, if_ended, is_in_body, judge, judged, pending, run_of, setting_of, shells, spot_of, taken, told, trace, whole};
+ghost use Rattle.ion_binary.specs.Names.{Answers, EndsOn, Event, Frame as AnyFrame, Holds, Memory, Moves, Reads, RefusesBy, SameSetting, StepsInside, StepsOver, Told, Value as AnyValue, Walks, WalksOn, awaits, failed, if_ended, judge, judged, pending, run_of, shells, taken, told, trace, whole};
 ghost use Rattle.ion_binary.specs.declared.state.Phase.TheVariants as phases;
 ghost use Rattle.ion_binary.specs.machine.EachOctet.{moved};
-ghost use Rattle.ion_binary.specs.walking.Runs.{Led, TakesUp, Took, kept};
+ghost use Rattle.ion_binary.specs.walking.Runs.{Led, TakesUp, kept};
 ghost use Rattle.ion_symtab.specs.Walks.{DoesWalk, answer_of};
 ghost use Rattle.ion_symtab.specs.declared.items.Went.TheVariants as wents;
 
@@ -11,6 +11,8 @@ use super::{BinaryWalk, TableFilter};
 use crate::form::Scalar;
 use crate::state::{Effect, Mark, Phase};
 use crate::walking::open_body::OpenBody;
+use crate::walking::whole_headers::LEAST_OF_CONTAINERS;
+use crate::walking::whole_leaves::Leaf;
 use ion_model::{Reason, Refusal};
 use ion_symtab::{Catalog, Context, Limits, Walked, Went};
 use ion_visiting::Visitor;
@@ -49,59 +51,61 @@ impl<'a> BinaryWalk<'a> {
 }
 
 impl BinaryWalk<'_> {
-    /// Whether a body or a pad goes on behind the next octet.
-    fn goes_on(&self) -> bool
-        ensures { result ≡ goes_on self.now.phase }
-    {
-        match self.phase {
-            Phase::InBody(_, missing) => missing > 0,
-            Phase::InPad(missing) => missing > 0,
-            _ => false,
-        }
-    }
-
     /// Takes up octets at the front of a piece, which `used` counts: what the last of them did. Where
     /// they are refused, that one decided, and nothing else is known of the machine.
     fn read_piece<V: Visitor>(&mut self, piece: &[u8], visitor: &mut V) -> Result<Effect, Reason>
         requires room { self.old.used + length piece.now < 2 ^ 63 }
         requires some { 0 < length piece.now }
-        ensures does { (fs : List AnyFrame) → Holds self.old fs →
-            Took V.takes (told fs) self.old.used (run_of self.old fs) piece.now
-            result self.new visitor.old visitor.new }
+        ensures does { Reads V.takes self.old piece.now result self.new visitor.old visitor.new }
         ensures up { TakesUp self.old.used self.new.used piece.now result }
         ensures setting { SameSetting self.old self.new }
     {
-        if let Phase::Ready = self.phase {
-            return self.read_opening(piece, visitor);
+        match self.phase {
+            Phase::Ready => return self.read_opening(piece, visitor),
+            Phase::InBody(scalar, missing) => {
+                return self.read_body(scalar, missing, piece, visitor);
+            }
+            Phase::InPad(missing) if missing > 0 => {
+                self.read_pad(missing, piece);
+                return Ok(Effect::Goes);
+            }
+            _ => {}
         }
-        if let Some((id, size, end)) = self.whole_name(piece) {
-            return self.read_field(id, size, end, piece, visitor);
-        }
-        if let Some((scalar, size)) = self.ending(piece) {
-            return self.read_end(scalar, &piece[..size], visitor);
-        }
-        if self.goes_on() {
-            self.read_inside(piece)?;
-            return Ok(Effect::Goes);
+        if let Some((id, named, end)) = self.whole_name(piece) {
+            if named < piece.len() && piece[named] >= LEAST_OF_CONTAINERS {
+                self.used += named as u64;
+                return self.name_came(id);
+            }
+            return self.read_fields(id, named, end, piece, visitor);
         }
         self.feed(piece[0], visitor)
     }
 
-    /// The scalar whose body ends in this piece, and how many octets of the piece it ends with.
-    fn ending(&self, piece: &[u8]) -> Option<(Scalar, usize)>
+    /// Takes up octets of a scalar's body, of which so many are missing behind the next one: the last
+    /// of them, or all of a piece, which are kept.
+    #[inline(never)]
+    fn read_body<V: Visitor>(
+        &mut self,
+        scalar: Scalar,
+        missing: u64,
+        piece: &[u8],
+        visitor: &mut V,
+    ) -> Result<Effect, Reason>
+        requires phase { self.old.phase ≡ phases.InBody scalar missing }
+        requires room { self.old.used + length piece.now < 2 ^ 63 }
         requires some { 0 < length piece.now }
-        ensures phase { IfSome result (λ end. self.now.phase ≡ phases.InBody end.0 (end.1 - 1)) }
-        ensures some { IfSome result (λ end. 0 < end.1) }
-        ensures within { IfSome result (λ end. end.1 ≤ length piece.now) }
-        ensures none { IsNone result →
-            goes_on self.now.phase ≡ false → is_in_body self.now.phase ≡ false }
+        ensures does { Reads V.takes self.old piece.now result self.new visitor.old visitor.new }
+        ensures up { TakesUp self.old.used self.new.used piece.now result }
+        ensures setting { SameSetting self.old self.new }
     {
-        match self.phase {
-            Phase::InBody(scalar, missing) if missing < piece.len() as u64 => {
-                Some((scalar, missing as usize + 1))
-            }
-            _ => None,
+        let count = piece.len() as u64;
+        if missing < count {
+            return self.read_end(scalar, &piece[..missing as usize + 1], visitor);
         }
+        self.body.extend_from_slice(piece)?;
+        self.used += count;
+        self.phase = Phase::InBody(scalar, missing - count);
+        Ok(Effect::Goes)
     }
 
     /// Takes up the last octets of a scalar's body. A body without earlier octets is judged where
@@ -113,65 +117,21 @@ impl BinaryWalk<'_> {
         visitor: &mut V,
     ) -> Result<Effect, Reason>
         requires room { self.old.used + length octets.now < 2 ^ 63 }
-        ensures does { (fs : List AnyFrame) → Holds self.old fs → AreAround fs →
-            Does V.takes (told fs)
-            (judged (setting_of self.old) (moved (spot_of self.old)
-            (self.old.used + length octets.now)) fs
+        ensures does { StepsInside V.takes self.old
+            (λ setting spot fs. judged setting (moved spot (self.old.used + length octets.now)) fs
             (judge self.old.context scalar (self.old.body ++ octets.now)))
             result self.new visitor.old visitor.new }
         ensures moves { Moves self.old self.new (self.old.used + length octets.now) }
     {
         self.used += octets.len() as u64;
         if self.body.is_empty() {
-            return self.scalar(scalar, octets, visitor);
+            return self.leaf(Leaf::Scalar(scalar), octets, visitor);
         }
         self.body.extend_from_slice(octets)?;
         self.kept_scalar(scalar, visitor)
     }
 
-    /// Takes up the octets at the front of a piece behind which a body or a pad goes on: how many.
-    /// The only refusal is `Memory`.
-    fn read_inside(&mut self, piece: &[u8]) -> Result<usize, Reason>
-        requires room { self.old.used + length piece.now < 2 ^ 63 }
-        requires some { 0 < length piece.now }
-        requires inside { goes_on self.old.phase ≡ true }
-        ensures within { IfOk result (λ count. count ≤ length piece.now) }
-        ensures some { IfOk result (λ count. 0 < count) }
-        ensures led { IfOk result (λ count. (fs : List AnyFrame) → Holds self.old fs →
-            Led (run_of self.old fs (take count piece.now)) self.new fs) }
-        ensures used { IfOk result (λ count. self.new.used ≡ self.old.used + count) }
-        ensures memory { IfErr result (λ reason. reason ≡ Memory) }
-        ensures setting { SameSetting self.old self.new }
-    {
-        match self.phase {
-            Phase::InBody(scalar, missing) => self.read_body(scalar, missing, piece),
-            Phase::InPad(missing) => Ok(self.read_pad(missing, piece)),
-            _ => unreachable!(),
-        }
-    }
-
-    /// Keeps the octets of a body that goes on behind them.
-    fn read_body(&mut self, scalar: Scalar, missing: u64, piece: &[u8]) -> Result<usize, Reason>
-        requires phase { self.old.phase ≡ phases.InBody scalar missing }
-        requires room { self.old.used + length piece.now < 2 ^ 63 }
-        requires some { 0 < length piece.now }
-        requires more { 0 < missing }
-        ensures within { IfOk result (λ count. count ≤ length piece.now) }
-        ensures some { IfOk result (λ count. 0 < count) }
-        ensures led { IfOk result (λ count. (fs : List AnyFrame) → Holds self.old fs →
-            Led (run_of self.old fs (take count piece.now)) self.new fs) }
-        ensures used { IfOk result (λ count. self.new.used ≡ self.old.used + count) }
-        ensures memory { IfErr result (λ reason. reason ≡ Memory) }
-        ensures setting { SameSetting self.old self.new }
-    {
-        let count = missing.min(piece.len() as u64);
-        self.body.extend_from_slice(&piece[..count as usize])?;
-        self.used += count;
-        self.phase = Phase::InBody(scalar, missing - count);
-        Ok(count as usize)
-    }
-
-    /// Skips the octets of a pad that goes on behind them.
+    /// Skips the octets of a pad that goes on behind them: how many.
     fn read_pad(&mut self, missing: u64, piece: &[u8]) -> usize
         requires phase { self.old.phase ≡ phases.InPad missing }
         requires room { self.old.used + length piece.now < 2 ^ 63 }

@@ -1,48 +1,26 @@
 //! Bodies: of scalars, pads and containers.
-ghost use Rattle.std.specs.Prelude.{◌≡◌, ◌<◌, ◌^◌, List, []};
-ghost use Rattle.ion_binary.specs.Names.{AreAround, Does, Frame as AnyFrame, Holds, HoldsNoWrapper, MayBegin, Moves, begin, judge, judged, on_pad, open_struct, setting_of, sized, spot_of, told};
+ghost use Rattle.std.specs.Prelude.{◌<◌, ◌^◌, List, []};
+ghost use Rattle.ion_binary.specs.Names.{AreAround, Does, Frame as AnyFrame, Holds, HoldsNoWrapper, MayBegin, Moves, Steps, StepsInside, begin, judge, judged, on_pad, open_struct, setting_of, sized, spot_of, told};
 ghost use Rattle.ion_binary.specs.declared.form.Form.TheVariants as forms;
 
 use super::{BinaryWalk, Container, heard};
 use crate::form::{Form, ListOrSexp, Scalar, bracket_of, hollow};
 use crate::state::{Effect, Phase, Purpose};
 use crate::walking::open_body::tell_body;
-use crate::walking::scalars::tell_scalar;
+use crate::walking::whole_leaves::Leaf;
 use ion_model::Reason;
 use ion_visiting::{Bracket, Visitor};
 
 impl BinaryWalk<'_> {
-    /// Tells the scalar that a body is, whose last octet was taken up. A body without earlier octets
-    /// is judged where it stands.
-    #[inline(always)]
-    pub(super) fn scalar<V: Visitor>(
-        &mut self,
-        scalar: Scalar,
-        octets: &[u8],
-        visitor: &mut V,
-    ) -> Result<Effect, Reason>
-        ensures does { (fs : List AnyFrame) → Holds self.old fs → AreAround fs →
-            Does V.takes (told fs)
-            (judged (setting_of self.old) (spot_of self.old) fs
-            (judge self.old.context scalar octets.now))
-            result self.new visitor.old visitor.new }
-        ensures moves { Moves self.old self.new self.old.used }
-    {
-        self.begin_value(visitor)?;
-        tell_scalar(&self.context, scalar, octets, &mut self.filter, visitor)?;
-        self.ended(visitor)
-    }
-
-    /// The same where earlier octets of the body were kept.
+    /// Tells the scalar that a body is, of which earlier octets were kept, and whose last octet was
+    /// taken up.
     pub(super) fn kept_scalar<V: Visitor>(
         &mut self,
         scalar: Scalar,
         visitor: &mut V,
     ) -> Result<Effect, Reason>
-        ensures does { (fs : List AnyFrame) → Holds self.old fs → AreAround fs →
-            Does V.takes (told fs)
-            (judged (setting_of self.old) (spot_of self.old) fs
-            (judge self.old.context scalar self.old.body))
+        ensures does { StepsInside V.takes self.old
+            (λ setting spot fs. judged setting spot fs (judge self.old.context scalar self.old.body))
             result self.new visitor.old visitor.new }
         ensures moves { Moves self.old self.new self.old.used }
     {
@@ -82,14 +60,13 @@ impl BinaryWalk<'_> {
         size: u64,
         visitor: &mut V,
     ) -> Result<Effect, Reason>
-        ensures does { (fs : List AnyFrame) → Holds self.old fs → AreAround fs →
-            Does V.takes (told fs)
-            (begin (setting_of self.old) (spot_of self.old) fs (forms.Scalar scalar) size)
+        ensures does { StepsInside V.takes self.old
+            (λ setting spot fs. begin setting spot fs (forms.Scalar scalar) size)
             result self.new visitor.old visitor.new }
         ensures moves { Moves self.old self.new self.old.used }
     {
         if size == 0 {
-            return self.scalar(scalar, &[], visitor);
+            return self.leaf(Leaf::Scalar(scalar), &[], visitor);
         }
         self.body.clear();
         self.phase = Phase::InBody(scalar, size - 1);
@@ -104,9 +81,8 @@ impl BinaryWalk<'_> {
     ) -> Result<Effect, Reason>
         requires used { self.old.used < 2 ^ 63 }
         requires size { size < 2 ^ 63 }
-        ensures does { (fs : List AnyFrame) → Holds self.old fs → AreAround fs →
-            Does V.takes (told fs)
-            (begin (setting_of self.old) (spot_of self.old) fs (forms.ListOrSexp listing) size)
+        ensures does { StepsInside V.takes self.old
+            (λ setting spot fs. begin setting spot fs (forms.ListOrSexp listing) size)
             result self.new visitor.old visitor.new }
         ensures moves { Moves self.old self.new self.old.used }
     {
@@ -125,9 +101,8 @@ impl BinaryWalk<'_> {
     fn begin_struct<V: Visitor>(&mut self, size: u64, visitor: &mut V) -> Result<Effect, Reason>
         requires used { self.old.used < 2 ^ 63 }
         requires size { size < 2 ^ 63 }
-        ensures does { (fs : List AnyFrame) → Holds self.old fs → AreAround fs →
-            Does V.takes (told fs)
-            (open_struct (setting_of self.old) (spot_of self.old) fs size)
+        ensures does { StepsInside V.takes self.old
+            (λ setting spot fs. open_struct setting spot fs size)
             result self.new visitor.old visitor.new }
         ensures moves { Moves self.old self.new self.old.used }
     {
@@ -171,9 +146,7 @@ impl BinaryWalk<'_> {
     ) -> Result<Effect, Reason>
         requires used { self.old.used < 2 ^ 63 }
         requires size { size < 2 ^ 63 }
-        ensures does { (fs : List AnyFrame) → Holds self.old fs →
-            Does V.takes (told fs)
-            (sized (setting_of self.old) (spot_of self.old) fs form size)
+        ensures does { Steps V.takes self.old (λ setting spot fs. sized setting spot fs form size)
             result self.new visitor.old visitor.new }
         ensures moves { Moves self.old self.new self.old.used }
     {
@@ -192,9 +165,7 @@ impl BinaryWalk<'_> {
         missing: u64,
         visitor: &mut V,
     ) -> Result<Effect, Reason>
-        ensures does { (fs : List AnyFrame) → Holds self.old fs →
-            Does V.takes (told fs)
-            (on_pad (setting_of self.old) (spot_of self.old) fs missing)
+        ensures does { Steps V.takes self.old (λ setting spot fs. on_pad setting spot fs missing)
             result self.new visitor.old visitor.new }
         ensures moves { Moves self.old self.new self.old.used }
     {

@@ -1,6 +1,6 @@
 //! Containers that end.
 ghost use Rattle.std.specs.Prelude.{◌≡◌, ◌⊎◌, List, [], ◌∷◌, ◌++◌, IfErr, IfOk, OnOk, Ok, Err, Result, true, false};
-ghost use Rattle.ion_binary.specs.Names.{AreAround, Closes, Container as AnyContainer, Does, DoesAlone, Event, Field as AnyField, Frame as AnyFrame, Holds, IsBareIn, IsBehind, Memory, Outcome, Moves, Value as AnyValue, WasTold, container_of, containers_of, deliver, events_of, is_table, next, open_containers, proceed, setting_of, spot_of, told};
+ghost use Rattle.ion_binary.specs.Names.{AreAround, Closes, Container as AnyContainer, Does, DoesAlone, Event, Field as AnyField, Frame as AnyFrame, Holds, IsBareIn, IsBehind, Memory, Moves, Outcome, Steps, Value as AnyValue, WasTold, container_of, containers_of, deliver, events_of, is_table, next, open_containers, proceed, setting_of, spot_of, told};
 ghost use Rattle.ion_binary.specs.declared.state.Effect.TheVariants as effects;
 ghost use Rattle.ion_binary.specs.declared.state.Phase.TheVariants as phases;
 ghost use Rattle.ion_binary.specs.machine.Frames as frames;
@@ -253,9 +253,7 @@ impl BinaryWalk<'_> {
     /// Goes on behind a pad, or into a container that begins.
     #[inline(always)]
     pub(super) fn proceed<V: Visitor>(&mut self, visitor: &mut V) -> Result<Effect, Reason>
-        ensures does { (fs : List AnyFrame) → Holds self.old fs → Does V.takes (told fs)
-            (proceed (setting_of self.old) (spot_of self.old) fs)
-            result self.new visitor.old visitor.new }
+        ensures does { Steps V.takes self.old proceed result self.new visitor.old visitor.new }
         ensures moves { Moves self.old self.new self.old.used }
     {
         if self.goes_inside() {
@@ -267,9 +265,7 @@ impl BinaryWalk<'_> {
     /// The same where the innermost container may be whole: where it is empty, or the pad was its
     /// last.
     pub(super) fn proceed_or_end<V: Visitor>(&mut self, visitor: &mut V) -> Result<Effect, Reason>
-        ensures does { (fs : List AnyFrame) → Holds self.old fs → Does V.takes (told fs)
-            (proceed (setting_of self.old) (spot_of self.old) fs)
-            result self.new visitor.old visitor.new }
+        ensures does { Steps V.takes self.old proceed result self.new visitor.old visitor.new }
         ensures moves { Moves self.old self.new self.old.used }
     {
         match self.frames.pop() {

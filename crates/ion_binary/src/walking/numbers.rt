@@ -1,9 +1,8 @@
 //! VarUInts: lengths, and the ids of field names and annotations.
-ghost use Rattle.std.specs.Prelude.{◌≡◌, ◌+◌, ◌<◌, ◌^◌, List, IfSome, Some, length};
-ghost use Rattle.ion_binary.specs.Names.{Does, DoesAlone, Frame as AnyFrame, HasName, Holds, Moves, annotation_came, behind_annotation, count_came, fields_end, longer, name_came, number_came, on_number, open_containers, resolve, setting_of, spot_of, told, unsized};
+ghost use Rattle.std.specs.Prelude.{◌≡◌, ◌+◌, ◌<◌, ◌^◌, IfSome, Some, length};
+ghost use Rattle.ion_binary.specs.Names.{Does, HasName, Moves, Steps, StepsAlone, annotation_came, behind_annotation, count_came, fields_end, longer, name_came, number_came, on_number, open_containers, resolve, unsized};
 ghost use Rattle.ion_binary.specs.declared.state.Phase.TheVariants as phases;
 ghost use Rattle.ion_binary.specs.declared.state.Purpose.TheVariants as purposes;
-ghost use Rattle.ion_binary.specs.machine.EachOctet.{moved};
 
 use super::{BinaryWalk, Container, heard};
 use crate::form::Form;
@@ -15,9 +14,8 @@ use ion_visiting::Visitor;
 impl BinaryWalk<'_> {
     /// Goes on in a VarUInt, whose octets make `so_far` up to here.
     fn longer(&mut self, purpose: Purpose, so_far: u64) -> Result<Effect, Reason>
-        ensures does { (fs : List AnyFrame) → Holds self.old fs →
-            DoesAlone (told fs)
-            (longer (setting_of self.old) (spot_of self.old) fs purpose so_far)
+        ensures does { StepsAlone self.old
+            (λ setting spot fs. longer setting spot fs purpose so_far)
             result self.new }
         ensures moves { Moves self.old self.new self.old.used }
     {
@@ -32,9 +30,7 @@ impl BinaryWalk<'_> {
 
     /// Begins the length of a form, if the form may stand here.
     pub(super) fn length_follows(&mut self, form: Form) -> Result<Effect, Reason>
-        ensures does { (fs : List AnyFrame) → Holds self.old fs →
-            DoesAlone (told fs)
-            (unsized (setting_of self.old) (spot_of self.old) fs form)
+        ensures does { StepsAlone self.old (λ setting spot fs. unsized setting spot fs form)
             result self.new }
         ensures moves { Moves self.old self.new self.old.used }
     {
@@ -61,9 +57,8 @@ impl BinaryWalk<'_> {
         visitor: &mut V,
     ) -> Result<Effect, Reason>
         requires used { self.old.used < 2 ^ 63 }
-        ensures does { (fs : List AnyFrame) → Holds self.old fs →
-            Does V.takes (told fs)
-            (on_number (setting_of self.old) (spot_of self.old) fs purpose so_far octet)
+        ensures does { Steps V.takes self.old
+            (λ setting spot fs. on_number setting spot fs purpose so_far octet)
             result self.new visitor.old visitor.new }
         ensures moves { Moves self.old self.new self.old.used }
     {
@@ -85,9 +80,8 @@ impl BinaryWalk<'_> {
     ) -> Result<Effect, Reason>
         requires used { self.old.used < 2 ^ 63 }
         requires number { number < 2 ^ 63 }
-        ensures does { (fs : List AnyFrame) → Holds self.old fs →
-            Does V.takes (told fs)
-            (number_came (setting_of self.old) (spot_of self.old) fs purpose number)
+        ensures does { Steps V.takes self.old
+            (λ setting spot fs. number_came setting spot fs purpose number)
             result self.new visitor.old visitor.new }
         ensures moves { Moves self.old self.new self.old.used }
     {
@@ -134,10 +128,7 @@ impl BinaryWalk<'_> {
     /// Takes the id of a field name, behind which an octet has to be left of the struct. Whether
     /// the id has a symbol counts only if a value follows.
     pub(super) fn name_came(&mut self, id: u64) -> Result<Effect, Reason>
-        ensures does { (fs : List AnyFrame) → Holds self.old fs →
-            DoesAlone (told fs)
-            (name_came (spot_of self.old) fs id)
-            result self.new }
+        ensures does { StepsAlone self.old (λ _ spot fs. name_came spot fs id) result self.new }
         ensures moves { Moves self.old self.new self.old.used }
     {
         let Some(end) = self.fields_end() else {
@@ -157,10 +148,7 @@ impl BinaryWalk<'_> {
     fn count_came(&mut self, count: u64) -> Result<Effect, Reason>
         requires used { self.old.used < 2 ^ 63 }
         requires count { count < 2 ^ 63 }
-        ensures does { (fs : List AnyFrame) → Holds self.old fs →
-            DoesAlone (told fs)
-            (count_came (spot_of self.old) fs count)
-            result self.new }
+        ensures does { StepsAlone self.old (λ _ spot fs. count_came spot fs count) result self.new }
         ensures moves { Moves self.old self.new self.old.used }
     {
         let Some(end) = self.wrapper_end() else {
@@ -181,9 +169,8 @@ impl BinaryWalk<'_> {
         id: u64,
         visitor: &mut V,
     ) -> Result<Effect, Reason>
-        ensures does { (fs : List AnyFrame) → Holds self.old fs →
-            Does V.takes (told fs)
-            (annotation_came (spot_of self.old) fs stop (resolve self.old.context id))
+        ensures does { Steps V.takes self.old
+            (λ _ spot fs. annotation_came spot fs stop (resolve self.old.context id))
             result self.new visitor.old visitor.new }
         ensures moves { Moves self.old self.new self.old.used }
     {

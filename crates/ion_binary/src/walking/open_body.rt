@@ -1,7 +1,6 @@
 //! The body of a scalar that isn't whole yet.
 ghost use Rattle.std.specs.Prelude.{◌≡◌, ◌≢◌, ◌++◌, [], ◌<◌, ◌≤◌, true, List, Err, is_ok, length, IfErr, IfSome, OnOk};
-ghost use Rattle.ion_binary.specs.Names.{Memory, Slot, TellsAs, judge};
-ghost use Rattle.ion_binary.specs.declared.form.Scalar.TheVariants as scalars;
+ghost use Rattle.ion_binary.specs.Names.{Memory, RefusedAs, Slot, TellsAs, judge};
 
 use super::heard;
 use crate::form::Scalar;
@@ -150,26 +149,13 @@ impl OpenBody {
             judge c scalar self.now ≡ Err reason) }
     {
         match scalar {
-            Scalar::Str => self.judge_text(),
+            Scalar::Str if !self.let_go.is_text() => Err(Reason::Memory),
+            Scalar::Str if !is_utf8(&self.kept) => Err(Reason::BadUtf8),
+            Scalar::Str => Ok(()),
             Scalar::Clob => Ok(()),
             Scalar::Blob => Ok(()),
             _ => Err(Reason::Memory),
         }
-    }
-
-    fn judge_text(&self) -> Result<(), Reason>
-        ensures is { OnOk result ((c : List Slot) →
-            is_ok (judge c scalars.Str self.now) ≡ true) }
-        ensures refused { IfErr result (λ reason. reason ≢ Memory → (c : List Slot) →
-            judge c scalars.Str self.now ≡ Err reason) }
-    {
-        if !self.let_go.is_text() {
-            return Err(Reason::Memory);
-        }
-        if !is_utf8(&self.kept) {
-            return Err(Reason::BadUtf8);
-        }
-        Ok(())
     }
 }
 
@@ -184,27 +170,11 @@ pub(super) fn tell_body<V: Visitor>(
 ) -> Result<(), Reason>
     ensures told { OnOk result (TellsAs V.takes (judge context.now scalar body.now)
         filter.old filter.new visitor.old visitor.new) }
-    ensures refused { IfErr result (λ reason. reason ≢ Memory →
-        judge context.now scalar body.now ≡ Err reason) }
+    ensures refused { IfErr result (RefusedAs (judge context.now scalar body.now)) }
 {
-    match body.whole() {
-        Some(octets) => tell_scalar(context, scalar, octets, filter, visitor),
-        None => tell_unread(context, scalar, body, filter, visitor),
+    if let Some(octets) = body.whole() {
+        return tell_scalar(context, scalar, octets, filter, visitor);
     }
-}
-
-fn tell_unread<V: Visitor>(
-    context: &Context,
-    scalar: Scalar,
-    body: &OpenBody,
-    filter: &mut TableFilter,
-    visitor: &mut V,
-) -> Result<(), Reason>
-    ensures told { OnOk result (TellsAs V.takes (judge context.now scalar body.now)
-        filter.old filter.new visitor.old visitor.new) }
-    ensures refused { IfErr result (λ reason. reason ≢ Memory →
-        judge context.now scalar body.now ≡ Err reason) }
-{
     body.judge_unread(scalar)?;
     if visitor.heeds_kinds_alone() && filter.lets_pass() {
         return heard(visitor.of_kind(scalar.kind()));

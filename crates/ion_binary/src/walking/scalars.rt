@@ -1,9 +1,9 @@
 //! Scalars, whose octets are their body: told apart here alone.
-ghost use Rattle.std.specs.Prelude.{◌≡◌, ◌≢◌, ◌↔◌, IsTrue, Ok, Err, MatchResult, OnOk, IfErr, is_ok, true};
+ghost use Rattle.std.specs.Prelude.{◌≡◌, ◌↔◌, IsTrue, Ok, Err, MatchResult, OnOk, IfErr, is_ok, true};
 ghost use Rattle.std.specs.Char.{is_ascii};
 ghost use Rattle.std.specs.List.{list_all};
 ghost use Rattle.std.specs.Str.{IsUtf8};
-ghost use Rattle.ion_binary.specs.Names.{Memory, TellsAs, as_decimal, as_timestamp, decimal_of_body, int_of, judge, number_of, symbol_of, text_of, timestamp_of_body, uint_field};
+ghost use Rattle.ion_binary.specs.Names.{Memory, RefusedAs, TellsAs, as_decimal, as_timestamp, decimal_of_body, int_of, judge, number_of, symbol_of, text_of, timestamp_of_body, uint_field};
 ghost use Rattle.ion_model.specs.declared.value.Payload.TheVariants as payloads;
 
 use super::heard;
@@ -31,8 +31,7 @@ pub(super) fn tell_scalar<V: Visitor>(
 ) -> Result<(), Reason>
     ensures told { OnOk result (TellsAs V.takes (judge context.now scalar body.now)
         filter.old filter.new visitor.old visitor.new) }
-    ensures refused { IfErr result (λ reason. reason ≢ Memory →
-        judge context.now scalar body.now ≡ Err reason) }
+    ensures refused { IfErr result (RefusedAs (judge context.now scalar body.now)) }
 {
     if visitor.heeds_nothing() && is_scalar(context, scalar, body) && filter.lets_pass() {
         return heard(visitor.any_part());
@@ -52,8 +51,7 @@ fn read_scalar<V: Visitor>(
 ) -> Result<(), Reason>
     ensures told { OnOk result (TellsAs V.takes (judge context.now scalar body.now)
         filter.old filter.new visitor.old visitor.new) }
-    ensures refused { IfErr result (λ reason. reason ≢ Memory →
-        judge context.now scalar body.now ≡ Err reason) }
+    ensures refused { IfErr result (RefusedAs (judge context.now scalar body.now)) }
 {
     match scalar {
         Scalar::Symbol => tell_symbol(context, body, filter, visitor),
@@ -77,8 +75,7 @@ fn tell_int<V: Visitor>(
 ) -> Result<(), Reason>
     ensures told { OnOk result (TellsAs V.takes (int_of negative (uint_field body.now))
         filter.old filter.new visitor.old visitor.new) }
-    ensures refused { IfErr result (λ reason. reason ≢ Memory →
-        int_of negative (uint_field body.now) ≡ Err reason) }
+    ensures refused { IfErr result (RefusedAs (int_of negative (uint_field body.now))) }
 {
     let whole = int_of(negative, body)?;
     heard(filter.number(Number::Int(whole), visitor))
@@ -92,8 +89,7 @@ fn tell_symbol<V: Visitor>(
 ) -> Result<(), Reason>
     ensures told { OnOk result (TellsAs V.takes (symbol_of context.now (uint_field body.now))
         filter.old filter.new visitor.old visitor.new) }
-    ensures refused { IfErr result (λ reason. reason ≢ Memory →
-        symbol_of context.now (uint_field body.now) ≡ Err reason) }
+    ensures refused { IfErr result (RefusedAs (symbol_of context.now (uint_field body.now))) }
 {
     let symbol = symbol_of(context, body)?;
     heard(filter.symbol(symbol, visitor))
@@ -106,8 +102,7 @@ fn tell_text<V: Visitor>(
 ) -> Result<(), Reason>
     ensures told { OnOk result (TellsAs V.takes (text_of body.now)
         filter.old filter.new visitor.old visitor.new) }
-    ensures refused { IfErr result (λ reason. reason ≢ Memory →
-        text_of body.now ≡ Err reason) }
+    ensures refused { IfErr result (RefusedAs (text_of body.now)) }
 {
     let text = text_of(body)?;
     heard(filter.part(&Part::Str(text), visitor))
@@ -122,10 +117,12 @@ fn tell_number<V: Visitor>(
 ) -> Result<(), Reason>
     ensures told { OnOk result (TellsAs V.takes (number_of body.now)
         filter.old filter.new visitor.old visitor.new) }
-    ensures refused { IfErr result (λ reason. reason ≢ Memory → number_of body.now ≡ Err reason) }
+    ensures refused { IfErr result (RefusedAs (number_of body.now)) }
 {
     if visitor.keeps_number_bodies() && is_body(body) {
-        return keep_number(body, filter, visitor);
+        if let Some(went_on) = filter.number_body(body, visitor) {
+            return heard(went_on);
+        }
     }
     read_number(body, filter, visitor)
 }
@@ -141,24 +138,6 @@ fn is_body(body: &NumberBody<'_>) -> bool
     }
 }
 
-// A number that may be told as it is encoded.
-#[inline(always)]
-fn keep_number<V: Visitor>(
-    body: &NumberBody<'_>,
-    filter: &mut TableFilter,
-    visitor: &mut V,
-) -> Result<(), Reason>
-    requires { is_ok (number_of body.now) ≡ true }
-    ensures told { OnOk result (TellsAs V.takes (number_of body.now)
-        filter.old filter.new visitor.old visitor.new) }
-    ensures refused { IfErr result (λ reason. reason ≢ Memory → number_of body.now ≡ Err reason) }
-{
-    match filter.number_body(body, visitor) {
-        Some(went_on) => heard(went_on),
-        None => read_number(body, filter, visitor),
-    }
-}
-
 // A number that is read.
 #[inline(always)]
 fn read_number<V: Visitor>(
@@ -168,7 +147,7 @@ fn read_number<V: Visitor>(
 ) -> Result<(), Reason>
     ensures told { OnOk result (TellsAs V.takes (number_of body.now)
         filter.old filter.new visitor.old visitor.new) }
-    ensures refused { IfErr result (λ reason. reason ≢ Memory → number_of body.now ≡ Err reason) }
+    ensures refused { IfErr result (RefusedAs (number_of body.now)) }
 {
     match body {
         NumberBody::Decimal(octets) => tell_decimal(octets, filter, visitor),
@@ -184,8 +163,7 @@ fn tell_decimal<V: Visitor>(
 ) -> Result<(), Reason>
     ensures told { OnOk result (TellsAs V.takes (as_decimal (decimal_of_body body.now))
         filter.old filter.new visitor.old visitor.new) }
-    ensures refused { IfErr result (λ reason. reason ≢ Memory →
-        as_decimal (decimal_of_body body.now) ≡ Err reason) }
+    ensures refused { IfErr result (RefusedAs (as_decimal (decimal_of_body body.now))) }
 {
     let decimal = decimal_of(body)?;
     heard(filter.number(Number::Decimal(decimal), visitor))
@@ -199,8 +177,7 @@ fn tell_timestamp<V: Visitor>(
 ) -> Result<(), Reason>
     ensures told { OnOk result (TellsAs V.takes (as_timestamp (timestamp_of_body body.now))
         filter.old filter.new visitor.old visitor.new) }
-    ensures refused { IfErr result (λ reason. reason ≢ Memory →
-        as_timestamp (timestamp_of_body body.now) ≡ Err reason) }
+    ensures refused { IfErr result (RefusedAs (as_timestamp (timestamp_of_body body.now))) }
 {
     let timestamp = timestamp_of(body)?;
     heard(filter.number(Number::Timestamp(timestamp), visitor))

@@ -1,75 +1,35 @@
 //! Fields of a struct that lie whole in a piece and have a leaf, taken up one behind the other. Of any
 //! other the name is.
-ghost use Rattle.std.specs.Prelude.{◌≡◌, ◌+◌, ◌≤◌, ◌<◌, ◌^◌, List, Some, length, IfSome};
-ghost use Rattle.ion_binary.specs.Names.{Frame as AnyFrame, HasField, HasName, Holds, SameSetting, fields_end, open_containers, run_of, told};
-ghost use Rattle.ion_binary.specs.walking.Runs.{TakesUp, Took};
+ghost use Rattle.std.specs.Prelude.{◌≡◌, ◌+◌, ◌≤◌, ◌<◌, ◌^◌, Some, length, IfSome};
+ghost use Rattle.ion_binary.specs.Names.{HasField, HasName, Reads, SameSetting, fields_end, open_containers};
+ghost use Rattle.ion_binary.specs.walking.Runs.{TakesUp};
 
 use super::BinaryWalk;
-use super::whole_leaves::{Leaf, leaf_at, tell_leaf};
+use super::whole_leaves::{WholeLeaf, leaf_at, tell_leaf};
 use crate::state::Effect;
 use ion_model::Reason;
 use ion_visiting::Visitor;
-
-/// A leaf behind a field's name: where its body begins and where it ends.
-#[derive(Clone, Copy)]
-pub(crate) struct FieldLeaf {
-    leaf: Leaf,
-    front: usize,
-    to: usize,
-}
 
 impl BinaryWalk<'_> {
     /// The leaf behind so many octets of a piece, which are a field's name, if it is all there and
     /// in the struct, which ends at the octet `end`.
     #[inline(always)]
-    fn field_in(&self, named: usize, end: u64, piece: &[u8]) -> Option<FieldLeaf>
+    fn field_in(&self, named: usize, end: u64, piece: &[u8]) -> Option<WholeLeaf>
         requires room { self.now.used + length piece.now < 2 ^ 63 }
         requires within { named ≤ length piece.now }
         ensures { IfSome result (HasField self.now end piece.now named) }
     {
-        let (leaf, front, to) = leaf_at(&piece[named..])?;
-        let to = named + to;
-        if self.used + to as u64 > end {
+        let field = leaf_at(named, piece)?;
+        if self.used + field.to as u64 > end {
             return None;
         }
-        Some(FieldLeaf {
-            leaf,
-            front: named + front,
-            to,
-        })
+        Some(field)
     }
 
     /// Takes up a field whose name is at the front of a piece, and those behind it as long as they
     /// are leaves, in a struct that ends at the octet `end`.
-    #[inline(always)]
-    pub(super) fn read_field<V: Visitor>(
-        &mut self,
-        id: u64,
-        named: usize,
-        end: u64,
-        piece: &[u8],
-        visitor: &mut V,
-    ) -> Result<Effect, Reason>
-        requires room { self.old.used + length piece.now < 2 ^ 63 }
-        requires fields { Some end ≡ fields_end (open_containers self.old) }
-        requires name { HasName self.old piece.now id named }
-        ensures does { (fs : List AnyFrame) → Holds self.old fs →
-            Took V.takes (told fs) self.old.used (run_of self.old fs) piece.now
-            result self.new visitor.old visitor.new }
-        ensures up { TakesUp self.old.used self.new.used piece.now result }
-        ensures setting { SameSetting self.old self.new }
-    {
-        // A container or a wrapper begins behind the name.
-        if named < piece.len() && piece[named] >= 0xB0 {
-            self.used += named as u64;
-            return self.name_came(id);
-        }
-        self.read_fields(id, named, end, piece, visitor)
-    }
-
-    /// The same of any field.
     #[inline(never)]
-    fn read_fields<V: Visitor>(
+    pub(super) fn read_fields<V: Visitor>(
         &mut self,
         id: u64,
         named: usize,
@@ -80,9 +40,7 @@ impl BinaryWalk<'_> {
         requires room { self.old.used + length piece.now < 2 ^ 63 }
         requires fields { Some end ≡ fields_end (open_containers self.old) }
         requires name { HasName self.old piece.now id named }
-        ensures does { (fs : List AnyFrame) → Holds self.old fs →
-            Took V.takes (told fs) self.old.used (run_of self.old fs) piece.now
-            result self.new visitor.old visitor.new }
+        ensures does { Reads V.takes self.old piece.now result self.new visitor.old visitor.new }
         ensures up { TakesUp self.old.used self.new.used piece.now result }
         ensures setting { SameSetting self.old self.new }
     {

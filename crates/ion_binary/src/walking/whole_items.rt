@@ -1,73 +1,37 @@
-//! Scalars of a list or an s-expression that lie whole in a piece, taken up one behind the other.
-//! The last one, with which the container ends, is left to the walk, and so is any that may not
-//! stand there.
-ghost use Rattle.std.specs.Prelude.{◌≡◌, ◌+◌, ◌<◌, ◌≤◌, ◌^◌, List, None, Some, IfSome, length, take};
-ghost use Rattle.ion_binary.specs.Names.{Frame as AnyFrame, HasItem, Header, Holds, SameSetting, hollow, items_end, open_containers, run_of, told};
+//! Leaves of a list or an s-expression that lie whole in a piece, taken up one behind the other. The
+//! last one, with which the container ends, is left to the walk, and so is any that may not stand
+//! there.
+ghost use Rattle.std.specs.Prelude.{◌≡◌, ◌+◌, ◌<◌, ◌^◌, None, Some, IfSome, length};
+ghost use Rattle.ion_binary.specs.Names.{HasItem, Reads, SameSetting, items_end, open_containers};
 ghost use Rattle.ion_binary.specs.declared.state.Phase.TheVariants as phases;
-ghost use Rattle.ion_binary.specs.walking.Runs.{TakesUp, Took};
+ghost use Rattle.ion_binary.specs.walking.Runs.{TakesUp};
 
 use super::BinaryWalk;
-use super::whole_headers::{header_at, scalar_in};
-use crate::form::{Form, Scalar, opening_of};
+use super::whole_leaves::{WholeLeaf, leaf_at, tell_leaf};
 use crate::state::Effect;
-use crate::walking::scalars::tell_scalar;
 use ion_model::Reason;
 use ion_visiting::Visitor;
 
-/// A scalar at the front of a piece: where its body begins and where it ends.
-#[derive(Clone, Copy)]
-pub(crate) struct Item {
-    scalar: Scalar,
-    front: usize,
-    to: usize,
-}
-
 impl BinaryWalk<'_> {
-    /// The scalar whose header is at the front of a piece, if it is all there and ends before this
-    /// octet.
+    /// The leaf at the front of a piece, if it is all there and ends before the octet `end`.
     #[inline(always)]
-    pub(super) fn item_of(
-        &self,
-        form: Form,
-        front: usize,
-        size: u64,
-        end: u64,
-        piece: &[u8],
-    ) -> Option<Item>
-        requires room { self.now.used + length piece.now < 2 ^ 63 }
-        requires some { 0 < front }
-        requires within { front ≤ length piece.now }
-        requires header { Header form size (take front piece.now) }
-        requires full { hollow form size ≡ None }
-        ensures { IfSome result (HasItem self.now end piece.now) }
-    {
-        let scalar = scalar_in(form, size, piece.len() - front)?;
-        let to = front + size as usize;
-        if self.used + to as u64 >= end {
-            return None;
-        }
-        Some(Item { scalar, front, to })
-    }
-
-    /// The scalar at the front of a piece, if it is all there and ends before this octet.
-    #[inline(always)]
-    fn item_before(&self, end: u64, piece: &[u8]) -> Option<Item>
+    fn item_before(&self, end: u64, piece: &[u8]) -> Option<WholeLeaf>
         requires room { self.now.used + length piece.now < 2 ^ 63 }
         ensures { IfSome result (HasItem self.now end piece.now) }
     {
-        if piece.is_empty() {
+        let item = leaf_at(0, piece)?;
+        if self.used + item.to as u64 >= end {
             return None;
         }
-        let (form, front, size) = header_at(opening_of(piece[0]), piece)?;
-        self.item_of(form, front, size, end, piece)
+        Some(item)
     }
 
-    /// Takes up this scalar at the front of a piece and those behind it, in a container that ends at
+    /// Takes up this leaf at the front of a piece and those behind it, in a container that ends at
     /// the octet `end`.
     #[inline(never)]
     pub(super) fn read_items<V: Visitor>(
         &mut self,
-        first: Item,
+        first: WholeLeaf,
         end: u64,
         piece: &[u8],
         visitor: &mut V,
@@ -76,9 +40,7 @@ impl BinaryWalk<'_> {
         requires ready { self.old.phase ≡ phases.Ready }
         requires items { Some end ≡ items_end (open_containers self.old) }
         requires item { HasItem self.old end piece.now first }
-        ensures does { (fs : List AnyFrame) → Holds self.old fs →
-            Took V.takes (told fs) self.old.used (run_of self.old fs) piece.now
-            result self.new visitor.old visitor.new }
+        ensures does { Reads V.takes self.old piece.now result self.new visitor.old visitor.new }
         ensures up { TakesUp self.old.used self.new.used piece.now result }
         ensures setting { SameSetting self.old self.new }
     {
@@ -88,7 +50,7 @@ impl BinaryWalk<'_> {
             let behind = &piece[at..];
             let body = &behind[item.front..item.to];
             self.used += item.to as u64;
-            match tell_scalar(&self.context, item.scalar, body, &mut self.filter, visitor) {
+            match tell_leaf(&self.context, item.leaf, body, &mut self.filter, visitor) {
                 Ok(()) => {
                     at += item.to;
                     next = self.item_before(end, &piece[at..]);

@@ -1,9 +1,9 @@
 //! Wrappers with one annotation, taken up with it at once, and with the leaf behind it if that is
 //! all there, too. Of any other the header is.
-ghost use Rattle.std.specs.Prelude.{◌+◌, ◌≤◌, ◌<◌, ◌^◌, List, length, IfSome};
-ghost use Rattle.ion_binary.specs.Names.{Frame as AnyFrame, HasNote, Holds, Opens, SameSetting, run_of, told};
+ghost use Rattle.std.specs.Prelude.{◌+◌, ◌≤◌, ◌<◌, ◌^◌, length, IfSome};
+ghost use Rattle.ion_binary.specs.Names.{HasNote, Opens, Reads, SameSetting};
 ghost use Rattle.ion_binary.specs.declared.form.Form.TheVariants as forms;
-ghost use Rattle.ion_binary.specs.walking.Runs.{TakesUp, Took};
+ghost use Rattle.ion_binary.specs.walking.Runs.{TakesUp};
 
 use super::whole_leaves::{leaf_at, tell_leaf};
 use super::{BinaryWalk, Container, heard};
@@ -43,7 +43,7 @@ fn note_in(front: usize, size: u64, piece: &[u8]) -> Option<Note>
 
 impl BinaryWalk<'_> {
     /// Takes up the header of a wrapper that may stand here, with its annotation if that is the only
-    /// one and all there.
+    /// one and all there, and with the leaf behind that if it is all there and fills the wrapper.
     #[inline(never)]
     pub(super) fn read_wrapper<V: Visitor>(
         &mut self,
@@ -54,53 +54,30 @@ impl BinaryWalk<'_> {
     ) -> Result<Effect, Reason>
         requires room { self.old.used + length piece.now < 2 ^ 63 }
         requires opens { Opens self.old piece.now forms.Wrapper front size }
-        ensures does { (fs : List AnyFrame) → Holds self.old fs →
-            Took V.takes (told fs) self.old.used (run_of self.old fs) piece.now
-            result self.new visitor.old visitor.new }
+        ensures does { Reads V.takes self.old piece.now result self.new visitor.old visitor.new }
         ensures up { TakesUp self.old.used self.new.used piece.now result }
         ensures setting { SameSetting self.old self.new }
     {
-        if let Some(note) = note_in(front, size, piece) {
-            return self.read_note(note, front, size, piece, visitor);
-        }
-        self.used += front as u64;
-        self.begin_wrapper(size, visitor)
-    }
-
-    /// Takes up a wrapper up to its annotation, and with the leaf behind that if it is all there and
-    /// fills the wrapper.
-    #[inline(always)]
-    fn read_note<V: Visitor>(
-        &mut self,
-        note: Note,
-        front: usize,
-        size: u64,
-        piece: &[u8],
-        visitor: &mut V,
-    ) -> Result<Effect, Reason>
-        requires room { self.old.used + length piece.now < 2 ^ 63 }
-        requires opens { Opens self.old piece.now forms.Wrapper front size }
-        requires note { HasNote piece.now front size note }
-        ensures does { (fs : List AnyFrame) → Holds self.old fs →
-            Took V.takes (told fs) self.old.used (run_of self.old fs) piece.now
-            result self.new visitor.old visitor.new }
-        ensures up { TakesUp self.old.used self.new.used piece.now result }
-        ensures setting { SameSetting self.old self.new }
-    {
-        let end = self.used + front as u64 + size;
+        let Some(note) = note_in(front, size, piece) else {
+            self.used += front as u64;
+            return self.begin_wrapper(size, visitor);
+        };
+        let begin = self.used;
+        let end = begin + front as u64 + size;
         self.used += note.to as u64;
         self.begin_value(visitor)?;
+        // The proof names the arms of what is refused here, so they are no `?`.
         let symbol = match self.context.symbol(note.id) {
             Ok(symbol) => symbol,
             Err(reason) => return Err(reason),
         };
         heard(self.filter.annotation(symbol, visitor))?;
-        let behind = &piece[note.to..];
-        if let Some((leaf, from, to)) = leaf_at(behind) {
-            if self.used + to as u64 == end {
-                self.used = end;
-                let body = &behind[from..to];
-                return match tell_leaf(&self.context, leaf, body, &mut self.filter, visitor) {
+        if let Some(noted) = leaf_at(note.to, piece) {
+            let to = begin + noted.to as u64;
+            if to == end {
+                self.used = to;
+                let body = &piece[noted.front..noted.to];
+                return match tell_leaf(&self.context, noted.leaf, body, &mut self.filter, visitor) {
                     Ok(()) => self.ended(visitor),
                     Err(reason) => Err(reason),
                 };

@@ -9,28 +9,24 @@ returns-in_err-used-clause-answers c =
 
 pub returns-then-not-ended-clause-stands : goal.returns-then-not-ended-clause-stands
 returns-then-not-ended-clause-stands c =
-    let walked = c.in_ok-used.field-0 in
     let kept = record c.args.self.now { walk = c.walk.new.self; build = c.walk.new.visitor } in
-    goes_stands c.args.self.now kept c.args.piece.now walked c.in_ok-used.ensures.setting c.in_ok-used.ensures.leaves c.in_ok-used.ensures.tells
+    goes_stands c.args.self.now kept c.args.piece.now c.in_ok-used.field-0 c.in_ok-used.ensures.setting c.in_ok-used.ensures.leaves c.in_ok-used.ensures.tells
     c.if-not-ended.true
 
 pub returns-then-not-ended-clause-answers : goal.returns-then-not-ended-clause-answers
 returns-then-not-ended-clause-answers c =
-    let walked = c.in_ok-used.field-0 in
     let kept = record c.args.self.now { walk = c.walk.new.self; build = c.walk.new.visitor } in
-    goes_answers c.args.self.now kept c.args.piece.now walked c.in_ok-used.ensures.setting c.in_ok-used.ensures.leaves c.in_ok-used.ensures.tells
+    goes_answers c.args.self.now kept c.args.piece.now c.in_ok-used.field-0 c.in_ok-used.ensures.setting c.in_ok-used.ensures.leaves c.in_ok-used.ensures.tells
     c.if-not-ended.true
 
 pub returns-in-Some-clause-stands : goal.returns-in-Some-clause-stands
 returns-in-Some-clause-stands c =
-    let walked = c.in_ok-used.field-0 in
     let kept = record c.args.self.now { walk = c.walk.new.self; build = c.walk.new.visitor } in
-    gives_stands c.args.self.now kept c.args.piece.now walked c.in_ok-used.ensures.setting c.in_ok-used.ensures.leaves c.in_ok-used.ensures.tells
+    gives_stands c.args.self.now kept c.args.piece.now c.in_ok-used.field-0 c.in_ok-used.ensures.setting c.in_ok-used.ensures.leaves c.in_ok-used.ensures.tells
     c.if-not-ended.false c.in-Some.value c.take.result c.take.new.self c.in-Some.is c.take.ensures.value c.take.ensures.left
 
 pub returns-in-Some-clause-answers : goal.returns-in-Some-clause-answers
 returns-in-Some-clause-answers c =
-    let walked = c.in_ok-used.field-0 in
     let kept = record c.args.self.now { walk = c.walk.new.self; build = c.walk.new.visitor } in
-    gives_answers c.args.self.now kept c.args.piece.now walked c.in_ok-used.ensures.setting c.in_ok-used.ensures.leaves c.in_ok-used.ensures.tells
+    gives_answers c.args.self.now kept c.args.piece.now c.in_ok-used.field-0 c.in_ok-used.ensures.setting c.in_ok-used.ensures.leaves c.in_ok-used.ensures.tells
     c.if-not-ended.false c.in-Some.value c.take.result c.take.new.self c.in-Some.is c.take.ensures.value c.take.ensures.left

@@ -10,9 +10,9 @@ pub returns-then-size-eq0-clause-does : goal.returns-then-size-eq0-clause-does
 returns-then-size-eq0-clause-does g c = λ fs h around.
     let r = c.args.self.now in
     let ended = judged (setting_of r) (spot_of r) fs (judge r.context c.args.scalar []) in
-    does_same g.V.Visitor.takes (told fs) _ ended c.scalar.result c.scalar.new.self c.args.visitor.now c.scalar.new.visitor
+    does_same g.V.Visitor.takes (told fs) _ ended c.leaf.result c.leaf.new.self c.args.visitor.now c.leaf.new.visitor
     (ap (λ b. if b then ended else goes (in_body (spot_of r) fs c.args.scalar (c.args.size - 1) [])) (is_at c.args.size 0 c.if-size-eq0.true))
-    (c.scalar.ensures.does fs h around)
+    (c.leaf.ensures.does fs h around)
 
 pub returns-clause-does : goal.returns-clause-does
 returns-clause-does g c = λ fs h around.

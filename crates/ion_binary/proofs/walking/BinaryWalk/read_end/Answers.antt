@@ -10,10 +10,10 @@ returns-then-is_empty-clause-does g c = λ fs h around.
     let r = c.args.self.now in
     let octets = c.args.octets.now in
     let n = record r { used = r.used + length octets } in
-    does_same g.V.Visitor.takes (told fs) _ _ c.scalar.result c.scalar.new.self c.args.visitor.now c.scalar.new.visitor
+    does_same g.V.Visitor.takes (told fs) _ _ c.leaf.result c.leaf.new.self c.args.visitor.now c.leaf.new.visitor
     (ap (λ (w : List ℕ). judged (setting_of r) (moved (spot_of r) (r.used + length octets)) fs (judge r.context c.args.scalar (w ++ octets)))
     (c.is_empty.ensures c.if-is_empty.true))
-    (c.scalar.ensures.does fs (stays r n fs refl refl refl h.inside h) around)
+    (c.leaf.ensures.does fs (stays r n fs refl refl refl h.inside h) around)
 
 pub returns-clause-does : goal.returns-clause-does
 returns-clause-does g c = λ fs h around.

@@ -1,25 +1,17 @@
 use Rattle.ion_binary.specs.Names.{machine_of}
-use Rattle.ion_binary.proofs.WalkRuns.{ends_does, ends_run, ends_used, front_did, inside_took, octet_run}
+use Rattle.ion_binary.proofs.WalkRuns.{front_did, inside_took, octet_run}
+use Rattle.ion_binary.proofs.WholeFields.{name_took}
 use Rattle.ion_binary.proofs.walking.BinaryWalk.read_piece.Goals as goal
 
-pub returns-in-Some-ending-clause-does : goal.returns-in-Some-ending-clause-does
-returns-in-Some-ending-clause-does g c = λ fs h.
-    let r = c.args.self.now in
-    let piece = c.args.piece.now in
-    let t = c.in-Some-ending.scalar in
-    let k = c.in-Some-ending.size in
-    let e = c.in-Some-ending.ensures in
-    let new = c.read_end.new.self in
-    let a = c.args.visitor.now in
-    let b = c.read_end.new.visitor in
-    front_did g.V.Visitor.takes r fs h piece new a b k _ e.within (ends_run g.V.Visitor.takes r fs h piece new a b t k e.phase e.some e.within) c.read_end.result
-    (ends_used g.V.Visitor.takes r fs h piece new a b t k e.phase e.some e.within c.read_end.ensures.moves.used)
-    (ends_does g.V.Visitor.takes r fs h piece new a b t k e.phase e.some e.within c.read_end.result c.read_end.ensures.does)
+pub returns-then-piece-named-ge-LEAST_OF_CONTAINERS-clause-does : goal.returns-then-piece-named-ge-LEAST_OF_CONTAINERS-clause-does
+returns-then-piece-named-ge-LEAST_OF_CONTAINERS-clause-does g c =
+    name_took g.V.Visitor.takes c.args.self.now c.args.piece.now c.in-Some.id c.in-Some.named c.in-Some.ensures.is c.name_came.new.self c.name_came.result
+    c.args.visitor.now c.name_came.ensures.moves.used c.name_came.ensures.does
 
-pub returns-then-goes_on-clause-does : goal.returns-then-goes_on-clause-does
-returns-then-goes_on-clause-does g c = λ fs h.
-    inside_took g.V.Visitor.takes c.args.self.now c.read_inside.new.self fs c.args.piece.now c.in_ok-read_inside.field-0 c.args.visitor.now
-    c.in_ok-read_inside.ensures.used (c.in_ok-read_inside.ensures.led fs h)
+pub returns-in-InPad-clause-does : goal.returns-in-InPad-clause-does
+returns-in-InPad-clause-does g c = λ fs h.
+    inside_took g.V.Visitor.takes c.args.self.now c.read_pad.new.self fs c.args.piece.now c.read_pad.result c.args.visitor.now
+    c.read_pad.ensures.moves.used (c.read_pad.ensures.led fs h)
 
 pub returns-clause-does : goal.returns-clause-does
 returns-clause-does g c = λ fs h.

@@ -1,7 +1,7 @@
 use Rattle.std.proofs.Common.{sym, ◌∙◌}
 use Rattle.ion_binary.proofs.Judged.{on_ok}
 use Rattle.ion_binary.proofs.Unread.{kind_unread, unread_told}
-use Rattle.ion_binary.proofs.walking.open_body.tell_unread.Goals as goal
+use Rattle.ion_binary.proofs.walking.open_body.tell_body.Goals as goal
 
 pub returns-then-lets_pass-clause-told : goal.returns-then-lets_pass-clause-told
 returns-then-lets_pass-clause-told g c = on_ok c.heard.result c.heard.ensures.ok (λ w.
