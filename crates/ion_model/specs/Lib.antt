@@ -12,5 +12,6 @@ pub mod Hashed
 pub mod Normal
 pub mod Parting
 pub mod Paths
+pub mod Held
 pub mod laws
 pub mod Names

@@ -7,27 +7,49 @@ ghost use Rattle.ion_model.specs.Symbols.{IsText, has_text, symbol_same, symbol_
 use ion_atoms::Reason;
 use std::alloc::Global;
 use std::cmp::Ordering;
+use std::fmt::{self, Debug, Formatter};
 use std::marker::Model;
 use std::rc::RcStr;
+use std::str;
+
+/// So many octets of a text stand in the symbol itself: nearly all names of fields are no longer.
+const MOST_SHORT: usize = 14;
 
 /// A symbol: a text, or unknown where nothing is known of it but that it has no text (Ion 1.0,
-/// "Symbols"). Copies share the text's memory.
-#[derive(Debug, Drop)]
+/// "Symbols"). A text of at most 14 octets takes no memory; copies share that of a longer one.
+#[derive(Drop)]
 pub struct Symbol {
-    text: Option<RcStr>,
+    held: Held,
+}
+
+/// What a symbol holds of its text.
+#[derive(Drop)]
+enum Held {
+    Unknown,
+    /// So many octets at the front are the text.
+    Short(u8, [u8; MOST_SHORT]),
+    Shared(RcStr),
 }
 
 impl Model for Symbol {
-    ghost use Rattle.std.specs.Prelude.{Option, List, ℕ, option_map};
-    ghost use Rattle.std.specs.Rc.{rc_str_bytes};
+    ghost use Rattle.std.specs.Prelude.{Option, List, ℕ};
+    ghost use Rattle.ion_model.specs.Held.{IsHeld, held_text};
 
     ghost Value = { Option (List ℕ) };
 
-    ghost view = { λ s. option_map rc_str_bytes s.text };
+    ghost view = { λ s. held_text s.held };
 
     ghost use Rattle.ion_model.specs.Symbols.{IsText};
 
-    ghost invariant = { λ s. IsText (option_map rc_str_bytes s.text) };
+    ghost invariant = { λ s. IsText (held_text s.held) × IsHeld s.held };
+}
+
+impl Debug for Symbol {
+    fn fmt<W: fmt::Write>(&self, f: &mut Formatter<W>) -> fmt::Result {
+        f.debug_struct("Symbol")
+            .field("text", &self.text())
+            .finish()
+    }
 }
 
 impl Symbol {
@@ -35,31 +57,47 @@ impl Symbol {
     pub fn unknown() -> Symbol
         ensures { result ≡ None }
     {
-        Symbol { text: None }
+        Symbol {
+            held: Held::Unknown,
+        }
     }
 
     /// The symbol of this text. The only refusal is `Memory`.
     pub fn known(alloc: Global, text: &str) -> Result<Symbol, Reason>
         ensures { MatchResult result (λ s. s ≡ Some text.now) (λ r. r ≡ reasons.Memory) }
     {
+        let octets = text.as_bytes();
+        let count = octets.len();
+        if count <= MOST_SHORT {
+            let mut front = [0; MOST_SHORT];
+            front[..count].copy_from_slice(octets);
+            return Ok(Symbol {
+                held: Held::Short(count as u8, front),
+            });
+        }
         let text = RcStr::from_str(alloc, text)?;
-        Ok(Symbol { text: Some(text) })
+        Ok(Symbol {
+            held: Held::Shared(text),
+        })
     }
 
     /// What a symbol keeps about itself: its text, where it is known, is UTF-8. Does nothing.
     pub fn kept(&self)
         ensures { IsText self.now }
     {
-        let _text = &self.text;
+        let _held = &self.held;
     }
 
     /// The text, `None` where it is unknown. Takes no memory.
     pub fn text(&self) -> Option<&str>
         ensures { option_map (λ t. t.now) result ≡ self.now }
     {
-        match &self.text {
-            None => None,
-            Some(text) => Some(text.as_str()),
+        match &self.held {
+            Held::Unknown => None,
+            Held::Short(count, front) => {
+                Some(unsafe { str::from_utf8_unchecked(&front[..*count as usize]) })
+            }
+            Held::Shared(text) => Some(text.as_str()),
         }
     }
 
@@ -84,17 +122,16 @@ impl Symbol {
         }
     }
 
-    /// An equal symbol, which shares the text. The only refusal is `Memory`.
+    /// An equal symbol, which shares the memory of the text. The only refusal is `Memory`.
     pub fn copy(&self) -> Result<Symbol, Reason>
         ensures { MatchResult result (λ s. s ≡ self.now) (λ r. r ≡ reasons.Memory) }
     {
-        match &self.text {
-            None => Ok(Symbol::unknown()),
-            Some(text) => {
-                let text = text.clone()?;
-                Ok(Symbol { text: Some(text) })
-            }
-        }
+        let held = match &self.held {
+            Held::Unknown => Held::Unknown,
+            Held::Short(count, front) => Held::Short(*count, *front),
+            Held::Shared(text) => Held::Shared(text.clone()?),
+        };
+        Ok(Symbol { held })
     }
 
     /// Whether both are unknown, or both have the same text. Takes no memory.

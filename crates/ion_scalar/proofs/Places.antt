@@ -44,7 +44,7 @@ one_digit base n b some small =
     rw (digits_of_step base n b some, front, back) refl
 
 -- a number that leaves the sign bit free takes the sign
-signed_one : (base bit rest : ℕ) (negative : Bool) → 2 ≤ base → bit ≤ base → rest < bit
+pub signed_one : (base bit rest : ℕ) (negative : Bool) → 2 ≤ base → bit ≤ base → rest < bit
     → signed_digits bit negative (digits_of base rest) ≡ (sign_bit bit negative + rest) ∷ []
 signed_one base bit zero negative b less small =
     let alone : sign_bit bit negative ≡ sign_bit bit negative + 0 = omega arith in
@@ -62,7 +62,7 @@ signed_append bit x negative (d ∷ ds) some =
     elim (nat_lt d bit) as (λ v. with_sign bit negative d (ds ++ x ∷ []) v ≡ with_sign bit negative d ds v ++ x ∷ []) [ true ↦ refl | false ↦ refl ]
 
 -- another one has its last digit behind the sign
-signed_more : (base bit rest : ℕ) (negative : Bool) → 2 ≤ base → 0 < bit → bit ≤ rest
+pub signed_more : (base bit rest : ℕ) (negative : Bool) → 2 ≤ base → 0 < bit → bit ≤ rest
     → signed_digits bit negative (digits_of base rest) ≡ signed_digits bit negative (digits_of base (rest / base)) ++ (rest % base) ∷ []
 signed_more base bit rest negative b some enough = elim (leb_tells base rest) [
   | inl many ↦

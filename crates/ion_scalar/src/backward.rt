@@ -10,6 +10,9 @@ use std::marker::Model;
 /// 38 digits and an offset.
 pub const ROOM: usize = 64;
 
+/// Ten to the nineteenth: a number below it fits 64 bits.
+const TEN_TO_19: u128 = 10_000_000_000_000_000_000;
+
 /// Octets that are written from the last to the first, as the digits of a number come. Contracts
 /// see those that are written.
 #[derive(Drop)]
@@ -132,22 +135,23 @@ impl Backward {
         self.start = start;
     }
 
-    /// Writes a number of 128 bits in decimal.
+    /// Writes a number beyond 64 bits in decimal. Its last nineteen digits fit those, and so do the
+    /// others: a division of 128 bits takes ten times as long.
     pub fn push_long_decimal(&mut self, value: u128)
-        requires { length self.old + 39 ≤ ROOM }
+        requires room { length self.old + 39 ≤ ROOM }
+        requires long { (2 ^ 64 ≤ value) × (value ≤ 2 ^ 127) }
         ensures text { self.new ≡ decimal value ++ self.old }
         ensures few { length self.new ≤ length self.old + 39 }
     {
         let mut start = self.start;
-        let mut rest = value;
-        while rest >= 10 {
+        let mut last = (value % TEN_TO_19) as u64;
+        for _ in 0..19_u8 {
             start -= 1;
-            self.octets[start] = b'0' + (rest % 10) as u8;
-            rest /= 10;
+            self.octets[start] = b'0' + (last % 10) as u8;
+            last /= 10;
         }
-        start -= 1;
-        self.octets[start] = b'0' + rest as u8;
         self.start = start;
+        self.push_decimal((value / TEN_TO_19) as u64);
     }
 }
 

@@ -36,7 +36,8 @@ pub fn digit_at(octets: &[u8], at: usize, base: u32) -> Option<u32>
     char::from(octet).to_digit(base)
 }
 
-/// One digit more, up to the cap; few numbers are so large that it takes more than 64 bits.
+/// One digit more, up to the cap; few numbers are so large that it takes more than 64 bits, and of
+/// those few come near the cap.
 #[inline(always)]
 pub fn more(value: u128, base: u32, digit: u32) -> u128
     requires { (value ≤ 2 ^ 127) × (base ≤ 16) × (digit < base) }
@@ -44,6 +45,9 @@ pub fn more(value: u128, base: u32, digit: u32) -> u128
 {
     if value < 1 << 59 {
         return u128::from(value as u64 * u64::from(base) + u64::from(digit));
+    }
+    if value < 1 << 122 {
+        return value * u128::from(base) + u128::from(digit);
     }
     value
         .saturating_mul(u128::from(base))

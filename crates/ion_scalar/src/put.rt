@@ -97,11 +97,44 @@ pub fn put_decimal(decimal: &Decimal, out: &mut Vec<u8>) -> Result<(), Reason>
     if !negative && magnitude == 0 && exponent == 0 {
         return Ok(());
     }
+    let power = Signed::new(exponent < 0, u64::from(exponent.unsigned_abs()));
+    // most have few octets, and there is room
+    let few = power.magnitude < 64 && 0 < magnitude && magnitude < 1 << 23;
+    if few && out.capacity() - out.len() >= 4 {
+        put_few(power, negative, magnitude as u32, out);
+        return Ok(());
+    }
     let mut octets = Backward::new();
     int_before(&mut octets, negative, magnitude);
-    let power = Signed::new(exponent < 0, u64::from(exponent.unsigned_abs()));
     var_int_before(&mut octets, power);
     append(octets.written(), out)
+}
+
+// The exponent in one octet and the coefficient in one to three, for which there is room: they are
+// written at once.
+#[inline(always)]
+fn put_few(power: Signed, negative: bool, magnitude: u32, out: &mut Vec<u8>)
+    requires power { power.magnitude < 64 }
+    requires magnitude { (0 < magnitude) × (magnitude < 2 ^ 23) }
+    requires room { vec_len out.old + 4 ≤ vec_capacity out.old }
+    ensures { out.new.items ≡ out.old.items
+        ++ (var_int_octets power.negative power.magnitude ++ int_octets negative magnitude) }
+{
+    out.push_reserved(128 + (sign_bit(64, power.negative) + power.magnitude as u8));
+    let sign = sign_bit(128, negative);
+    if magnitude < 0x80 {
+        out.push_reserved(sign + magnitude as u8);
+        return;
+    }
+    let last = (magnitude % 0x100) as u8;
+    if magnitude < 0x8000 {
+        out.push_reserved(sign + (magnitude / 0x100) as u8);
+        out.push_reserved(last);
+        return;
+    }
+    out.push_reserved(sign + (magnitude / 0x1_0000) as u8);
+    out.push_reserved((magnitude / 0x100 % 0x100) as u8);
+    out.push_reserved(last);
 }
 
 /// Writes a VarUInt in front of what is written. So do the others below.

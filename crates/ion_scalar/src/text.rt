@@ -62,7 +62,8 @@ fn decimal_before(octets: &mut Backward, value: Decimal)
 }
 
 fn signed_before(octets: &mut Backward, negative: bool, magnitude: u128)
-    requires { length octets.old + 40 ≤ ROOM }
+    requires room { length octets.old + 40 ≤ ROOM }
+    requires bound { magnitude ≤ 2 ^ 127 }
     ensures text { octets.new ≡ minus negative ++ (decimal magnitude ++ octets.old) }
     ensures few { length octets.new ≤ length octets.old + 40 }
     ensures few_of_small { magnitude < 2 ^ 64 → length octets.new ≤ length octets.old + 21 }
@@ -73,9 +74,10 @@ fn signed_before(octets: &mut Backward, negative: bool, magnitude: u128)
     }
 }
 
-// Nearly all numbers fit 64 bits, and a division of those takes a tenth of the time of one of 128.
+// Nearly all numbers fit 64 bits.
 fn digits_before(octets: &mut Backward, value: u128)
-    requires { length octets.old + 39 ≤ ROOM }
+    requires room { length octets.old + 39 ≤ ROOM }
+    requires bound { value ≤ 2 ^ 127 }
     ensures text { octets.new ≡ decimal value ++ octets.old }
     ensures few { length octets.new ≤ length octets.old + 39 }
     ensures few_of_small { value < 2 ^ 64 → length octets.new ≤ length octets.old + 20 }

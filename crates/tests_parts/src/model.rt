@@ -21,12 +21,18 @@ fn is_copied(rt: &impl Abort, name: &Symbol, text: &str) -> Result<(), Reason> {
     Ok(())
 }
 
+/// Of few octets, of 14, which a symbol holds itself, and of 15.
+static TEXTS: [&str; 4] = ["", "name", "fourteen_octet", "fifteen__octets"];
+
 #[test]
 fn symbols(rt: HostRuntime) -> Result<(), Fail> {
-    let name = Symbol::known(rt.alloc(), "name")?;
-    let copied = is_copied(&rt, &name, "name");
-    drop(name);
-    Ok(copied?)
+    for text in &TEXTS {
+        let name = Symbol::known(rt.alloc(), *text)?;
+        let copied = is_copied(&rt, &name, *text);
+        drop(name);
+        copied?;
+    }
+    Ok(())
 }
 
 /// Neither a name nor the empty text is the unknown symbol.

@@ -82,7 +82,7 @@ impl BinaryWalk<'_> {
     }
 
     /// Takes up octets of a scalar's body, of which so many are missing behind the next one: the last
-    /// of them, or all of a piece, which are kept.
+    /// of them, or all of a piece, which are kept. Inlined into `go_on`, it would slow that down.
     #[inline(never)]
     fn read_body<V: Visitor>(
         &mut self,

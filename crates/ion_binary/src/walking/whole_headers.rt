@@ -57,10 +57,10 @@ impl BinaryWalk<'_> {
         if piece[0] < LEAST_OF_CONTAINERS {
             if let Some(whole) = leaf_at(0, piece) {
                 let to = self.used + whole.to as u64;
-                if let Some(end) = self.items_end() {
-                    if to < end {
-                        return self.read_items(whole, end, piece, visitor);
-                    }
+                if let Some(end) = self.items_end()
+                    && to < end
+                {
+                    return self.read_items(whole, end, piece, visitor);
                 }
                 // a leaf may stand where a struct may
                 if let None = self.unfit(Form::Struct, to) {
@@ -68,14 +68,14 @@ impl BinaryWalk<'_> {
                     return self.leaf(whole.leaf, &piece[whole.front..whole.to], visitor);
                 }
             }
-        } else if let Some((form, front, size)) = header_at(opening_of(piece[0]), piece) {
-            if let None = self.unfit(form, self.used + front as u64 + size) {
-                if form == Form::Wrapper {
-                    return self.read_wrapper(front, size, piece, visitor);
-                }
-                self.used += front as u64;
-                return self.begin(form, size, visitor);
+        } else if let Some((form, front, size)) = header_at(opening_of(piece[0]), piece)
+            && let None = self.unfit(form, self.used + front as u64 + size)
+        {
+            if form == Form::Wrapper {
+                return self.read_wrapper(front, size, piece, visitor);
             }
+            self.used += front as u64;
+            return self.begin(form, size, visitor);
         }
         self.used += 1;
         self.on_descriptor(opening_of(piece[0]), visitor)

@@ -16,8 +16,8 @@ returns-in-None-clause-does g c = λ fs h.
     (leaf_fits r fs h piece it has c.requires.ready fits) c.leaf.result c.leaf.ensures.moves.used
     (c.leaf.ensures.does fs (moved_on r fs h it.to) (may_begin r fs h Form.Struct (r.used + it.to) fits))
 
-pub returns-in-None-unfit-clause-does : goal.returns-in-None-unfit-clause-does
-returns-in-None-unfit-clause-does g c = λ fs h.
+pub returns-else-piece-lt-LEAST_OF_CONTAINERS-clause-does : goal.returns-else-piece-lt-LEAST_OF_CONTAINERS-clause-does
+returns-else-piece-lt-LEAST_OF_CONTAINERS-clause-does g c = λ fs h.
     let r = c.args.self.now in
     let piece = c.args.piece.now in
     let form = c.in-Some-header_at.form in

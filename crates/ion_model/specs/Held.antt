@@ -1,0 +1,15 @@
+-- What a symbol holds of its text.
+use Rattle.std.specs.Prelude.{ℕ, List, Option, None, Some, ◌≤◌, take}
+use Rattle.std.specs.Rc.{rc_str_bytes}
+use Rattle.ion_model.specs.declared.symbol.Held.{Held}
+
+-- the text
+abbrev pub held_text : Held → Option (List ℕ)
+held_text Held.Unknown = None
+held_text (Held.Short count front) = Some (take count front)
+held_text (Held.Shared text) = Some (rc_str_bytes text)
+
+-- a short text is a front of what is held
+abbrev pub IsHeld : Held → Type 0
+IsHeld (Held.Short count front) = count ≤ 14
+IsHeld _ = Unit {0}
