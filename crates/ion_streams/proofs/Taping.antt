@@ -3,8 +3,7 @@ use Rattle.std.proofs.Common.{◌≡◌, ℕ, ◌+◌, ◌++◌, [], List, true,
 use Rattle.std.proofs.lemmas.Option.{same_Some}
 use Rattle.ion_streams.specs.Names.{Alike, AreHeld, AreOnTapes, Built, Catalog, Course, Event, HeldNext, Holds, IfAlike, Inlet, IsApart, IsBegun, IsBlank, IsMet, IsParting, IsPath, Items, Led, Limits, MetBoth, Part, Parted, ReadState, Tape, TellsSecond, ToldNext, Twin, Value, WasTold, builds, events_in, events_of, fresh, same, tapes, value_in}
 use Rattle.ion_model.specs.laws.Equivalence.{same-equiv}
-use Rattle.ion_visiting.specs.Following.{StartsOn, follows}
-use Rattle.ion_visiting.specs.declared.following.Following.{Following}
+use Rattle.ion_visiting.specs.Following.{IsFound}
 use Rattle.ion_visiting.specs.laws.Built.{events_one, value_built}
 use Rattle.ion_visiting.proofs.Followed.{followed}
 use Rattle.ion_visiting.proofs.Taped.{value_tells, value_wrote}
@@ -17,9 +16,9 @@ built_on t v w a b new led is held =
     (subst (λ (es : List Event). Led builds es a b) (value_tells v t held) led) in
     same_Some w v (sym is ∙ ap (λ (x : Built). value_in x.place) (value_built v b told))
 
--- where a tape is told and found on another, the values that they hold are equivalent
-pub found_on : (t u : Tape) (v w : Value) (a b : Following) → StartsOn t a → Led follows (events_in u) a b → Holds t v → Holds u w → same v w ≡ true
-found_on t u v w a b starts led h k = followed t v w a b h starts (subst (λ (es : List Event). Led follows es a b) (value_tells w u k) led)
+-- where what a tape tells is found on another, the values that they hold are equivalent
+pub found_on : (t u : Tape) (v w : Value) → IsFound t (events_in u) → Holds t v → Holds u w → same v w ≡ true
+found_on t u v w found h k = followed t v w h (subst (IsFound t) (value_tells w u k) found)
 
 -- where the second was told what the first tells, the two values are the same
 pub same_on : (t : Twin) (v w : Value) → events_in t.first ≡ events_of w → Holds t.first v → same v w ≡ true

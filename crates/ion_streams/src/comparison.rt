@@ -6,7 +6,7 @@ ghost use Rattle.ion_streams.specs.Compared.{IsCompared};
 use crate::piece_reader::{PieceReader, ReadState};
 use ion_model::{Path, Refusal, Value, parting};
 use ion_symtab::{Fault, Inlet, Items};
-use ion_visiting::{Building, Count, Following, Frames, Tape, Twin, Visitor};
+use ion_visiting::{Building, Count, Following, Tape, Twin, Visitor};
 use std::alloc::Global;
 use std::mem;
 
@@ -61,7 +61,7 @@ impl Course {
         alloc: Global,
         gave: (bool, bool),
         tapes: &mut Twin,
-        frames: &mut Frames,
+        following: &mut Following,
     ) -> Result<(), Fault>
         requires { count_of self.old + 1 < 2 ^ 64 }
         ensures met { OnOk result ((v w : Option Value) → is_some v ≡ gave.0 → is_some w ≡ gave.1 →
@@ -75,7 +75,7 @@ impl Course {
         let index = *values + 1;
         match gave {
             (false, false) => {}
-            (true, true) => match parting_on(alloc, tapes, frames)? {
+            (true, true) => match parting_on(alloc, tapes, following)? {
                 None => *values = index,
                 Some(path) => self.part(index, path),
             },
@@ -114,7 +114,11 @@ impl Course {
 /// equivalent. Those that were told the same, as equivalent values mostly are, were compared so.
 #[inline(always)]
 #[tactic(auto, using(crate::proofs::Taping::parted_on))]
-fn parting_on(alloc: Global, tapes: &mut Twin, frames: &mut Frames) -> Result<Option<Path>, Fault>
+fn parting_on(
+    alloc: Global,
+    tapes: &mut Twin,
+    following: &mut Following,
+) -> Result<Option<Path>, Fault>
     ensures { MatchResult result (λ path. (v w : Value) → Holds tapes.old.first v →
         WasTold tapes.old (events_of w) → IsParting path v w) (λ fault. fault ≡ Fault.Memory) }
 {
@@ -124,7 +128,7 @@ fn parting_on(alloc: Global, tapes: &mut Twin, frames: &mut Frames) -> Result<Op
     if !tapes.part_ways() {
         return Err(Fault::Memory);
     }
-    parting_apart(alloc, &mut tapes.first, &mut tapes.second, frames)
+    parting_apart(alloc, &mut tapes.first, &mut tapes.second, following)
 }
 
 /// Whether both values were told the same.
@@ -144,29 +148,26 @@ fn parting_apart(
     alloc: Global,
     left: &mut Tape,
     right: &mut Tape,
-    frames: &mut Frames,
+    following: &mut Following,
 ) -> Result<Option<Path>, Fault>
     ensures { MatchResult result (λ path. (v w : Value) → Holds left.old v → Holds right.old w →
         IsParting path v w) (λ fault. fault ≡ Fault.Memory) }
 {
-    if is_found(alloc, left, right, frames) {
+    if is_found(left, right, following) {
         return Ok(None);
     }
     parting_built(alloc, left, right)
 }
 
 /// Whether the value that the right tape holds is found on the left one. It needn't be, where the
-/// two are equivalent. The memory of the search is used again.
+/// two are equivalent.
+#[inline(always)]
 #[tactic(auto, using(crate::proofs::Taping::found_on))]
-fn is_found(alloc: Global, left: &Tape, right: &Tape, frames: &mut Frames) -> bool
+fn is_found(left: &Tape, right: &Tape, following: &mut Following) -> bool
     ensures { result ≡ true → (v w : Value) → Holds left.now v → Holds right.now w →
         same v w ≡ true }
 {
-    let taken = mem::replace(frames, Frames::new(alloc));
-    let mut following = Following::with_frames(left, taken);
-    let found = following.finds(right);
-    drop(mem::replace(frames, following.into_frames()));
-    found
+    following.finds(left, right)
 }
 
 /// The same of values that are built. Each tape's memory is let go before the next value is built.
@@ -318,7 +319,7 @@ fn compare_places<I: Items + Drop, J: Items + Drop, L: Inlet, R: Inlet>(
         IsReadCause L.Inlet reads left.old left.new fault
         ⊎ IsReadCause R.Inlet reads right.old right.new fault) }
 {
-    let mut frames = Frames::new(alloc);
+    let mut following = Following::new(alloc);
     let mut tapes = Twin::new(alloc);
     loop {
         tapes.clear();
@@ -332,7 +333,7 @@ fn compare_places<I: Items + Drop, J: Items + Drop, L: Inlet, R: Inlet>(
         }
         let other = read_next(right_place, right, compared, &mut tapes)?;
         let gave = (found.is_some(), other.is_some());
-        course.meet(alloc, gave, &mut tapes, &mut frames)?;
+        course.meet(alloc, gave, &mut tapes, &mut following)?;
         if !left_place.is_open() && !right_place.is_open() {
             return Ok(course.verdict(right_place));
         }

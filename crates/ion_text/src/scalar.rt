@@ -1,8 +1,8 @@
 //! The values of one token (Ion 1.0, "Ion Text Encoding"). Each function appends to `out`, and its
 //! only fault is `Memory`, on which some of the octets may stand there.
-ghost use Rattle.std.specs.Prelude.{◌≡◌, ◌++◌, OnOk, IsOkUnless, IsUtf8, MatchResult, string_bytes};
+ghost use Rattle.std.specs.Prelude.{◌≡◌, ◌++◌, ◌||◌, OnOk, IsOkUnless, IsUtf8, MatchResult, string_bytes};
 ghost use Rattle.std.specs.List.{list_all};
-ghost use Rattle.ion_text.specs.Names.{KeptPayload, begins_identifier, blob_text, clob_text, is_identifier, is_unquoted, is_word_octet, known_text, layer_text, null_text, number_text, out-Payload, payload_of, symbol_text, truth_text};
+ghost use Rattle.ion_text.specs.Names.{KeptPayload, begins_identifier, blob_text, clob_text, is_identifier, is_letter, is_unquoted, is_word_octet, known_text, layer_text, null_text, number_text, out-Payload, payload_of, symbol_text, truth_text};
 ghost use Rattle.ion_atoms.specs.declared.refusal.Reason.TheVariants as reasons;
 ghost use Rattle.ion_symtab.specs.declared.fault.Fault.TheVariants as faults;
 
@@ -26,7 +26,15 @@ fn begins_identifier(octet: u8) -> bool
 fn is_word_octet(octet: u8) -> bool
     ensures { result ≡ is_word_octet octet }
 {
-    octet.is_ascii_alphabetic() || octet == b'_' || octet == b'$' || octet.is_ascii_digit()
+    octet.is_ascii_alphabetic() || is_word_octet_beside_letters(octet)
+}
+
+/// `_`, `$` or a digit. Most octets are letters, which are told first; inlined, this would be.
+#[inline(never)]
+fn is_word_octet_beside_letters(octet: u8) -> bool
+    ensures { is_word_octet octet ≡ (is_letter octet || result) }
+{
+    octet == b'_' || octet == b'$' || octet.is_ascii_digit()
 }
 
 fn are_word_octets(octets: &[u8]) -> bool

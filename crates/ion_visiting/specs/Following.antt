@@ -1,12 +1,7 @@
 -- Finding on a tape what another tells, event by event.
 use Rattle.std.specs.Prelude.{◌≡◌, ◌+◌, ◌/◌, ◌%◌, ◌^◌, ◌++◌, ℕ, suc, [], ◌∷◌, List, slice_get, Bool, true, false, Option, Some}
-use Rattle.ion_visiting.specs.Names.{Bracket, Entry, Event, Following, Frame, Role, Tape, closes, ended, name, opens}
+use Rattle.ion_visiting.specs.Names.{Bracket, Entry, Event, Following, Frame, Led, Role, Tape, closes, ended, name, opens}
 use Rattle.ion_visiting.specs.Tapes.{Tells}
-
--- at the front of a tape
-pub record StartsOn (t : Tape) (a : Following) : Type 0 where
-  pub tape : a.tape.now ≡ t
-  pub at : a.at ≡ 0
 
 -- what a name is
 abbrev pub is_name : Entry → Bool
@@ -49,8 +44,8 @@ pub data Skips (t : Tape) (f n : ℕ) : ℕ → ℕ → Type 0 where
   one_skipped : (g m h : ℕ) → Skips t f n g m → IsField t g → m % 2 ≡ 1 → ((j : ℕ) → Behind t (g + 1) j → h ≡ j) → Skips t f n h (m / 2)
 
 -- one entry on
-pub record Takes (a : Following) (e : Entry) (b : Following) : Type 0 where
-  pub there : slice_get a.tape.now.entries.items a.at ≡ Some e
+pub record Takes (t : Tape) (a : Following) (e : Entry) (b : Following) : Type 0 where
+  pub there : slice_get t.entries.items a.at ≡ Some e
   pub is : b ≡ record a { at = a.at + 1 }
 
 -- a field of this name that isn't taken, at a place, by its bit
@@ -63,25 +58,22 @@ pub record Seeks (t : Tape) (f : Frame) (s : Option (List ℕ)) (place bit : ℕ
   pub is_bit : bit ≡ 2 ^ k
 
 -- the event there is this one
-pub record Finds (a : Following) (e : Event) (b : Following) : Type 0 where
-  pub tells : Tells a.tape.now a.at e
+pub record Finds (t : Tape) (a : Following) (e : Event) (b : Following) : Type 0 where
+  pub tells : Tells t a.at e
   pub is : b ≡ record a { at = a.at + 1 }
 
 -- a field of this name is taken, and those at the front that are taken are passed
-pub record Names (a : Following) (s : Option (List ℕ)) (b : Following) : Type 0 where
+pub record Names (t : Tape) (a : Following) (s : Option (List ℕ)) (b : Following) : Type 0 where
   pub place : ℕ
   pub bit : ℕ
-  pub seeks : Seeks a.tape.now a.frame s place bit
-  pub skips : Skips a.tape.now a.frame.free (a.frame.taken + bit) b.frame.free b.frame.taken
-  pub tape : b.tape ≡ a.tape
+  pub seeks : Seeks t a.frame s place bit
+  pub skips : Skips t a.frame.free (a.frame.taken + bit) b.frame.free b.frame.taken
   pub at : b.at ≡ place + 1
   pub outer : b.outer ≡ a.outer
 
 -- into brackets; the frame around them is kept
-pub record Descends (a : Following) (x : Bracket) (b : Following) : Type 0 where
-  pub end : ℕ
-  pub there : slice_get a.tape.now.entries.items a.at ≡ Some (Entry.Open x end)
-  pub tape : b.tape ≡ a.tape
+pub record Descends (t : Tape) (a : Following) (x : Bracket) (b : Following) : Type 0 where
+  pub tells : Tells t a.at (opens x)
   pub at : b.at ≡ a.at + 1
   pub frame : b.frame ≡ record { free = a.at + 1; taken = 0 }
   pub outer : b.outer.items ≡ a.outer.items ++ a.frame ∷ []
@@ -92,16 +84,22 @@ place_in Bracket.Fields a = a.frame.free
 place_in _ a = a.at
 
 -- out of brackets
-pub record Ascends (a : Following) (x : Bracket) (b : Following) : Type 0 where
-  pub there : slice_get a.tape.now.entries.items (place_in x a) ≡ Some (Entry.Close x)
-  pub tape : b.tape ≡ a.tape
+pub record Ascends (t : Tape) (a : Following) (x : Bracket) (b : Following) : Type 0 where
+  pub there : slice_get t.entries.items (place_in x a) ≡ Some (Entry.Close x)
   pub at : b.at ≡ place_in x a + 1
   pub outer : a.outer.items ≡ b.outer.items ++ b.frame ∷ []
 
--- where finding an event leads
-abbrev pub follows : Following → Event → Following → Type 0
-follows a (name s) b = Names a s b
-follows a (opens x) b = Descends a x b
-follows a (closes x) b = Ascends a x b
-follows a ended b = b ≡ a
-follows a e b = Finds a e b
+-- where finding an event on a tape leads
+abbrev pub follows : Tape → Following → Event → Following → Type 0
+follows t a (name s) b = Names t a s b
+follows t a (opens x) b = Descends t a x b
+follows t a (closes x) b = Ascends t a x b
+follows t a ended b = b ≡ a
+follows t a e b = Finds t a e b
+
+-- events are found on a tape from its front on
+pub record IsFound (t : Tape) (es : List Event) : Type 0 where
+  pub from : Following
+  pub to : Following
+  pub front : from.at ≡ 0
+  pub led : Led (follows t) es from to

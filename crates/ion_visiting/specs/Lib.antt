@@ -9,5 +9,4 @@ pub mod Tapes
 pub mod Twins
 pub mod Following
 pub mod laws
-pub mod Octets
 pub mod Names

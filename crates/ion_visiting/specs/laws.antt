@@ -1,5 +1,6 @@
 -- What follows from the definitions of events and of visitors.
 pub mod Led
+pub mod Trees
 pub mod KeptEvents
 pub mod Built
 pub mod Counted

@@ -1,17 +1,14 @@
 //! Finding on one tape the value of another, the fields of a struct in any order.
-ghost use Rattle.std.specs.Prelude.{◌≡◌, ◌+◌, ◌<◌, ◌^◌, ℕ, true, IfSome, Some, option_map, slice_get};
+ghost use Rattle.std.specs.Prelude.{◌≡◌, ◌+◌, ◌<◌, ◌^◌, ℕ, true, IfSome, Some, slice_get};
 ghost use Rattle.std.specs.Option.{is_some};
-ghost use Rattle.ion_visiting.specs.Names.{Led, closes, name, number_payload, opens, part, payload_of};
-ghost use Rattle.ion_visiting.specs.Following.{Behind, IsField, Seeks, Skips, StartsOn, Takes, behind_payload, follows, is_annotation, is_name};
-ghost use Rattle.ion_visiting.specs.Tapes.{Tells, events_in, role_event, spelled, text_event, told};
+ghost use Rattle.ion_visiting.specs.Names.{Led, closes, name, opens};
+ghost use Rattle.ion_visiting.specs.Following.{Behind, IsField, IsFound, Seeks, Skips, Takes, behind_payload, follows, is_annotation, is_name};
+ghost use Rattle.ion_visiting.specs.Tapes.{events_in, spelled, told};
 
 use crate::bracket::Bracket;
-use crate::part::Part;
 use crate::pushing::push;
 use crate::short::{Short, Spelling};
-use crate::tape::{Entry, Form, Role, Tape, number_spelled};
-use ion_atoms::Decimal;
-use ion_scalar::Number;
+use crate::tape::{Entry, Role, Tape};
 use std::alloc::Global;
 
 /// Which fields of a struct are still to come.
@@ -25,68 +22,63 @@ pub(crate) struct Frame {
 
 /// Finds on a tape what another tells: the items of lists and s-expressions in their order, each
 /// field of a struct as the first of its name that isn't taken yet, of the 64 fields from the first
-/// on that is free.
-///
-/// It answers `false` where what the other tells isn't there, and may do so of equivalent values:
-/// where a field stands further off, where fields of one name stand in another order, or where
-/// memory was refused. It takes memory for the containers that are open, 16 octets for each.
+/// on that is free. The memory of one search, 16 octets for each container that is open, serves the
+/// next.
 #[derive(Drop)]
-pub struct Following<'a> {
-    tape: &'a Tape,
+pub struct Following {
     at: usize,
     frame: Frame,
     /// The frames around, the innermost last.
     outer: Vec<Frame>,
 }
 
-/// The memory that a `Following` took, for the next.
-#[derive(Drop)]
-pub struct Frames {
-    outer: Vec<Frame>,
-}
-
-impl Frames {
-    /// None yet. Takes no memory.
-    pub fn new(alloc: Global) -> Frames {
-        Frames {
+impl Following {
+    /// Of no search yet. Takes no memory.
+    pub fn new(alloc: Global) -> Following {
+        Following {
+            at: 0,
+            frame: Frame { free: 0, taken: 0 },
             outer: Vec::new(alloc),
         }
     }
-}
 
-impl<'a> Following<'a> {
-    /// At the front of a tape. Takes no memory.
-    pub fn new(alloc: Global, tape: &'a Tape) -> Following<'a>
-        ensures { StartsOn tape.now result }
+    /// Whether what another tape tells is found on this one, from front to end.
+    ///
+    /// It answers `false` where that isn't there, and may do so of equivalent values: where a field
+    /// stands further off, where fields of one name stand in another order, or where memory was
+    /// refused.
+    #[inline(always)]
+    pub fn finds(&mut self, tape: &Tape, other: &Tape) -> bool
+        ensures { result ≡ true → IsFound tape.now (events_in other.now) }
     {
-        Following::with_frames(tape, Frames::new(alloc))
+        self.at = 0;
+        self.frame = Frame { free: 0, taken: 0 };
+        self.outer.clear();
+        self.goes_on(tape, other)
     }
 
-    /// The same with the memory of one before.
-    pub fn with_frames(tape: &'a Tape, frames: Frames) -> Following<'a>
-        ensures { StartsOn tape.now result }
+    // Whether all that another tape tells is found from here on. Where it isn't, the state means
+    // nothing any more.
+    #[inline(always)]
+    fn goes_on(&mut self, tape: &Tape, other: &Tape) -> bool
+        ensures { result ≡ true →
+            Led (follows tape.now) (events_in other.now) self.old self.new }
     {
-        let mut outer = frames.outer;
-        outer.clear();
-        Following {
-            tape,
-            at: 0,
-            frame: Frame { free: 0, taken: 0 },
-            outer,
+        let entries = other.entries.as_slice();
+        for entry in entries {
+            if !self.finds_entry(tape, other, entry) {
+                return false;
+            }
         }
-    }
-
-    /// Its memory, for the next.
-    pub fn into_frames(self) -> Frames {
-        Frames { outer: self.outer }
+        true
     }
 
     // The entry there; goes behind it.
     #[inline(always)]
-    fn take(&mut self) -> Option<&'a Entry>
-        ensures { IfSome result (λ entry. Takes self.old entry.now self.new) }
+    fn take<'a>(&mut self, tape: &'a Tape) -> Option<&'a Entry>
+        ensures { IfSome result (λ entry. Takes tape.now self.old entry.now self.new) }
     {
-        let entry = self.tape.entries.get(self.at)?;
+        let entry = tape.entries.get(self.at)?;
         self.at += 1;
         Some(entry)
     }
@@ -216,135 +208,44 @@ fn skip_taken(tape: &Tape, frame: Frame) -> Option<Frame>
     Some(Frame { free, taken })
 }
 
-// Whether an entry tells the number that is spelled so.
-#[inline(never)]
-fn tells_read(tape: &Tape, entry: &Entry, role: Role, spelling: Spelling<'_>) -> bool
-    ensures { result ≡ true → told tape.now entry.now
-        ≡ Some (role_event role (spelled spelling.entry)) }
-{
-    match number_spelled(role, spelling) {
-        Some(number) => tape.tells_number(entry, &number),
-        None => false,
-    }
-}
-
-impl Following<'_> {
-    /// Whether what another tape tells is found from here on. Where it isn't, the state means
-    /// nothing any more.
-    #[inline(always)]
-    pub fn finds(&mut self, other: &Tape) -> bool
-        ensures { result ≡ true → Led follows (events_in other.now) self.old self.new }
-    {
-        let entries = other.entries.as_slice();
-        for entry in entries {
-            if !self.finds_entry(other, *entry) {
-                return false;
-            }
-        }
-        true
-    }
-
+impl Following {
     // Whether what this entry of the other tape tells is found.
     #[inline(always)]
-    fn finds_entry(&mut self, other: &Tape, entry: Entry) -> bool
+    fn finds_entry(&mut self, tape: &Tape, other: &Tape, entry: &Entry) -> bool
         ensures told { result ≡ true →
-            IfSome (told other.now entry) (λ e. follows self.old e self.new) }
-        ensures some { result ≡ true → is_some (told other.now entry) ≡ true }
+            IfSome (told other.now entry.now) (λ e. follows tape.now self.old e self.new) }
+        ensures some { result ≡ true → is_some (told other.now entry.now) ≡ true }
     {
-        match entry {
-            Entry::Unknown(role) => self.finds_spelled(role, Spelling::Unknown),
-            Entry::Short(role, count, last, first) => {
-                self.finds_spelled(role, Spelling::Short(Short { count, last, first }))
+        match *entry {
+            Entry::Unknown(Role::Name) => self.finds_name(tape, Spelling::Unknown),
+            Entry::Short(Role::Name, count, last, first) => {
+                self.finds_name(tape, Spelling::Short(Short { count, last, first }))
             }
-            Entry::Long(role, range) => match other.text(range) {
-                Some(octets) => self.finds_spelled(role, Spelling::Long(octets)),
+            Entry::Long(Role::Name, range) => match other.text(range) {
+                Some(octets) => self.finds_name(tape, Spelling::Long(octets)),
                 None => false,
             },
-            Entry::Text(form, range) => match other.text(range) {
-                Some(octets) => self.finds_text(form, octets),
-                None => false,
-            },
-            Entry::Number(place) => match other.number_at(place) {
-                Some(number) => self.finds_number(number),
-                None => false,
-            },
-            Entry::Open(bracket, _) => self.finds_open(bracket),
-            Entry::Close(bracket) => self.finds_close(bracket),
-            Entry::Null(kind) => self.finds_part(&Part::Null(kind)),
-            Entry::Truth(truth) => self.finds_part(&Part::Truth(truth)),
-            Entry::Int(value) => matches!(self.take(), Some(Entry::Int(own)) if *own == value),
-            Entry::Decimal(negative, exponent, magnitude) => match self.take() {
-                Some(Entry::Decimal(sign, power, size)) => {
-                    *sign == negative && *power == exponent && *size == magnitude
-                }
-                Some(own) => match Decimal::new(negative, u128::from(magnitude), exponent) {
-                    Some(decimal) => self.tape.tells_number(own, &Number::Decimal(decimal)),
-                    None => false,
-                },
+            Entry::Open(bracket, _) => self.finds_open(tape, bracket),
+            Entry::Close(bracket) => self.finds_close(tape, bracket),
+            _ => match self.take(tape) {
+                Some(own) => tape.tells_as(own, other, entry),
                 None => false,
             },
         }
     }
 
-    #[inline(always)]
-    fn finds_part(&mut self, said: &Part<'_>) -> bool
-        ensures { result ≡ true → follows self.old (part (payload_of said.now)) self.new }
-    {
-        match self.take() {
-            Some(entry) => self.tape.tells_part(entry, said),
-            None => false,
-        }
-    }
-
-    #[inline(always)]
-    fn finds_number(&mut self, number: &Number) -> bool
+    fn finds_name(&mut self, tape: &Tape, spelling: Spelling<'_>) -> bool
         ensures { result ≡ true →
-            follows self.old (part (number_payload number.now)) self.new }
+            follows tape.now self.old (name (spelled spelling.entry)) self.new }
     {
-        match self.take() {
-            Some(entry) => self.tape.tells_number(entry, number),
-            None => false,
-        }
-    }
-
-    #[inline(always)]
-    fn finds_text(&mut self, form: Form, octets: &[u8]) -> bool
-        ensures { result ≡ true → follows self.old (text_event form octets.now) self.new }
-    {
-        match self.take() {
-            Some(entry) => self.tape.tells_text(entry, form, octets),
-            None => false,
-        }
-    }
-
-    #[inline(always)]
-    fn finds_spelled(&mut self, role: Role, spelling: Spelling<'_>) -> bool
-        ensures { result ≡ true →
-            follows self.old (role_event role (spelled spelling.entry)) self.new }
-    {
-        if role == Role::Name {
-            return self.finds_name(spelling);
-        }
-        match self.take() {
-            Some(entry) => {
-                self.tape.tells_spelled(entry, role, spelling)
-                    || tells_read(self.tape, entry, role, spelling)
-            }
-            None => false,
-        }
-    }
-
-    fn finds_name(&mut self, spelling: Spelling<'_>) -> bool
-        ensures { result ≡ true → follows self.old (name (spelled spelling.entry)) self.new }
-    {
-        let Some((place, bit)) = seek(self.tape, self.frame, spelling) else {
+        let Some((place, bit)) = seek(tape, self.frame, spelling) else {
             return false;
         };
         let Some(taken) = self.frame.taken.checked_add(bit) else {
             return false;
         };
         let free = self.frame.free;
-        let Some(frame) = skip_taken(self.tape, Frame { free, taken }) else {
+        let Some(frame) = skip_taken(tape, Frame { free, taken }) else {
             return false;
         };
         self.frame = frame;
@@ -353,10 +254,10 @@ impl Following<'_> {
     }
 
     #[inline(always)]
-    fn finds_open(&mut self, bracket: Bracket) -> bool
-        ensures { result ≡ true → follows self.old (opens bracket) self.new }
+    fn finds_open(&mut self, tape: &Tape, bracket: Bracket) -> bool
+        ensures { result ≡ true → follows tape.now self.old (opens bracket) self.new }
     {
-        let Some(Entry::Open(own, _)) = self.take() else {
+        let Some(Entry::Open(own, _)) = self.take(tape) else {
             return false;
         };
         let frame = Frame {
@@ -369,13 +270,13 @@ impl Following<'_> {
     }
 
     #[inline(always)]
-    fn finds_close(&mut self, bracket: Bracket) -> bool
-        ensures { result ≡ true → follows self.old (closes bracket) self.new }
+    fn finds_close(&mut self, tape: &Tape, bracket: Bracket) -> bool
+        ensures { result ≡ true → follows tape.now self.old (closes bracket) self.new }
     {
         if bracket == Bracket::Fields {
             self.at = self.frame.free;
         }
-        let Some(Entry::Close(own)) = self.take() else {
+        let Some(Entry::Close(own)) = self.take(tape) else {
             return false;
         };
         let Some(frame) = self.outer.pop() else {

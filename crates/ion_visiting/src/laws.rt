@@ -1,7 +1,7 @@
 //! Laws of events and of visitors. Each stands on an empty function: its contract is the law.
 ghost use Rattle.std.specs.Prelude.{◌≡◌, ◌-◌, ◌^◌, ◌++◌, List, length, min, true, Some};
-ghost use Rattle.ion_visiting.specs.Names.{AreKept, Built, Count, Event, Following, IsKept, Led, Outlining, Tape, Twin, Value, builds, counts, events_of, fresh, no_values, outline_of, same, stream_events};
-ghost use Rattle.ion_visiting.specs.Following.{StartsOn, follows};
+ghost use Rattle.ion_visiting.specs.Names.{AreKept, Built, Count, Event, IsKept, Led, Outlining, Tape, Twin, Value, builds, counts, events_of, fresh, no_values, outline_of, same, stream_events};
+ghost use Rattle.ion_visiting.specs.Following.{IsFound};
 ghost use Rattle.ion_visiting.specs.KeptEvents.{AreKeptEvents};
 ghost use Rattle.ion_visiting.specs.Outlining.{no_outline, outline_in, outlines};
 ghost use Rattle.ion_visiting.specs.Tapes.{Holds, IsBlank, events_in, tapes};
@@ -71,6 +71,5 @@ pub fn second_told()
 /// Where a tape holds a value, and the events of another were found there from its front on, the two
 /// are equivalent.
 pub fn value_followed()
-    ensures { (t : Tape) (v w : Value) (a b : Following) → Holds t v → StartsOn t a
-        → Led follows (events_of w) a b → same v w ≡ true }
+    ensures { (t : Tape) (v w : Value) → Holds t v → IsFound t (events_of w) → same v w ≡ true }
 {}

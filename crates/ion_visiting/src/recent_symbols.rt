@@ -13,7 +13,11 @@ const PLACES: usize = 128;
 /// So many symbols are made before any is kept, since a small document has few and wouldn't gain.
 const FEW: u8 = 8;
 
-/// How many octets the text of a kept symbol has at most, so that what is kept stays small.
+/// How many octets the text of a kept symbol has at least, since shorter ones stand in the symbol
+/// itself and share nothing.
+const SHORTEST: usize = 15;
+
+/// How many it has at most, so that what is kept stays small.
 const LONGEST: usize = 64;
 
 /// Symbols met lately, each at a place that a cheap hash of its text tells. The names of fields and
@@ -50,7 +54,7 @@ impl RecentSymbols {
     pub fn symbol(&mut self, text: &str) -> Result<Symbol, Reason>
         ensures { MatchResult result (λ s. s ≡ Some text.now) (λ r. r ≡ reasons.Memory) }
     {
-        if text.len() > LONGEST {
+        if text.len() < SHORTEST || text.len() > LONGEST {
             return Symbol::known(self.alloc, text);
         }
         let place = place_of(text.as_bytes());

@@ -1,5 +1,5 @@
 //! Symbols by their texts and numbers by their bodies, of which those as short as most are as numbers.
-ghost use Rattle.std.specs.Prelude.{◌≡◌, ◌-◌, ◌<◌, ◌≤◌, IfSome, Some, drop, length, option_map, take};
+ghost use Rattle.std.specs.Prelude.{◌≡◌, ◌+◌, ◌<◌, ◌≤◌, ◌∷◌, [], IfSome, Some, length, option_map, slice_index, take};
 ghost use Rattle.std.specs.Int.{to_le_bytes, w32, w64};
 ghost use Rattle.ion_visiting.specs.Tapes.{short_text, spelled};
 
@@ -27,15 +27,15 @@ impl Short {
         if count >= 8 {
             return Some(Short {
                 count: count as u8,
-                last: back_of(text),
-                first: eight_of(text),
+                last: four_at(text, count - 4),
+                first: eight_at(text, 0),
             });
         }
         if count >= 4 {
             return Some(Short {
                 count: count as u8,
-                last: back_of(text),
-                first: u64::from(four_of(text)),
+                last: four_at(text, count - 4),
+                first: u64::from(four_at(text, 0)),
             });
         }
         Some(Short {
@@ -60,37 +60,35 @@ impl Short {
     }
 }
 
-// The first eight octets of a text.
+// The eight octets there, as one number.
 #[inline(always)]
-fn eight_of(text: &[u8]) -> u64
-    requires { 8 ≤ length text.now }
-    ensures { to_le_bytes w64 result ≡ take 8 text.now }
+fn eight_at(octets: &[u8], at: usize) -> u64
+    requires { at + 8 ≤ length octets.now }
+    ensures { to_le_bytes w64 result ≡ slice_index octets.now at ∷ slice_index octets.now (at + 1)
+        ∷ slice_index octets.now (at + 2) ∷ slice_index octets.now (at + 3)
+        ∷ slice_index octets.now (at + 4) ∷ slice_index octets.now (at + 5)
+        ∷ slice_index octets.now (at + 6) ∷ slice_index octets.now (at + 7) ∷ [] }
 {
-    let mut octets = [0; 8];
-    octets.copy_from_slice(&text[..8]);
-    u64::from_le_bytes(octets)
+    u64::from_le_bytes([
+        octets[at],
+        octets[at + 1],
+        octets[at + 2],
+        octets[at + 3],
+        octets[at + 4],
+        octets[at + 5],
+        octets[at + 6],
+        octets[at + 7],
+    ])
 }
 
-// Its first four.
+// The four octets there, as one number.
 #[inline(always)]
-fn four_of(text: &[u8]) -> u32
-    requires { 4 ≤ length text.now }
-    ensures { to_le_bytes w32 result ≡ take 4 text.now }
+fn four_at(octets: &[u8], at: usize) -> u32
+    requires { at + 4 ≤ length octets.now }
+    ensures { to_le_bytes w32 result ≡ slice_index octets.now at ∷ slice_index octets.now (at + 1)
+        ∷ slice_index octets.now (at + 2) ∷ slice_index octets.now (at + 3) ∷ [] }
 {
-    let mut octets = [0; 4];
-    octets.copy_from_slice(&text[..4]);
-    u32::from_le_bytes(octets)
-}
-
-// Its last four.
-#[inline(always)]
-fn back_of(text: &[u8]) -> u32
-    requires { 4 ≤ length text.now }
-    ensures { to_le_bytes w32 result ≡ drop (length text.now - 4) text.now }
-{
-    let mut octets = [0; 4];
-    octets.copy_from_slice(&text[text.len() - 4..]);
-    u32::from_le_bytes(octets)
+    u32::from_le_bytes([octets[at], octets[at + 1], octets[at + 2], octets[at + 3]])
 }
 
 // All octets of a text of fewer than four.

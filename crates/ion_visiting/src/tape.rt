@@ -6,7 +6,6 @@ ghost use Rattle.ion_visiting.specs.Names.{Led, body_payload, closes, number_pay
 ghost use Rattle.ion_visiting.specs.Tapes.{Grows, IsBlank, Rests, Writes, events_before, events_in, short_text, spelled, role_event, text_at, text_event, told};
 
 use crate::bracket::Bracket;
-use crate::octets::are_same;
 use crate::part::{NumberBody, Part};
 use crate::pushing::push;
 use crate::short::{Short, Spelling};
@@ -175,14 +174,6 @@ impl Tape {
         self.put(Entry::Number(place as u32))
     }
 
-    /// The number that stands there.
-    #[inline(always)]
-    pub(crate) fn number_at(&self, place: u32) -> Option<&Number>
-        ensures { option_map (λ n. n.now) result ≡ slice_get self.now.numbers.items place }
-    {
-        self.numbers.get(place as usize)
-    }
-
     /// The text that stands there.
     #[inline(always)]
     pub(crate) fn text(&self, range: Range) -> Option<&[u8]>
@@ -201,11 +192,8 @@ impl Tape {
     fn has_text(&self, range: Range, text: &[u8]) -> bool
         ensures { result ≡ true → text_at self.now range ≡ Some text.now }
     {
-        if range.count as usize != text.len() {
-            return false;
-        }
         match self.text(range) {
-            Some(own) => are_same(own, text),
+            Some(own) => own == text,
             None => false,
         }
     }
@@ -272,16 +260,98 @@ impl Tape {
                     && decimal.exponent() == *exponent
                     && decimal.negative() == *negative
             }
-            (Entry::Number(place), _) => self.is_number(*place, number),
-            (Entry::Short(role, count, last, first), _) => {
-                let (count, last, first) = (*count, *last, *first);
-                spells(*role, Spelling::Short(Short { count, last, first }), number)
+            _ => self.is_number(entry, number),
+        }
+    }
+
+    // The same of a number in whatever form.
+    #[inline(never)]
+    fn is_number(&self, entry: &Entry, number: &Number) -> bool
+        ensures { result ≡ true →
+            told self.now entry.now ≡ Some (part (number_payload number.now)) }
+    {
+        if let Entry::Number(place) = entry {
+            return match self.numbers.get(*place as usize) {
+                Some(own) => is_same(own, number),
+                None => false,
+            };
+        }
+        match self.number_in(entry) {
+            Some(own) => is_same(&own, number),
+            None => false,
+        }
+    }
+
+    // The number that this entry tells, in whatever form.
+    fn number_in(&self, entry: &Entry) -> Option<Number>
+        ensures { IfSome result (λ n. told self.now entry.now ≡ Some (part (number_payload n))) }
+    {
+        match *entry {
+            Entry::Int(value) => Some(Number::Int(Whole::new(i128::from(value))?)),
+            Entry::Decimal(negative, exponent, magnitude) => {
+                let decimal = Decimal::new(negative, u128::from(magnitude), exponent)?;
+                Some(Number::Decimal(decimal))
             }
-            (Entry::Long(role, range), _) => match self.text(*range) {
-                Some(octets) => spells(*role, Spelling::Long(octets), number),
+            Entry::Number(place) => self.numbers.get(place as usize).copied(),
+            Entry::Short(role, count, last, first) if count <= 12 => {
+                let short = Short { count, last, first };
+                number_of(role, &short.octets()[..count as usize])
+            }
+            Entry::Long(role, range) => number_of(role, self.text(range)?),
+            _ => None,
+        }
+    }
+
+    /// Whether this entry tells what an entry of another tape tells.
+    #[inline(always)]
+    pub(crate) fn tells_as(&self, own: &Entry, other: &Tape, entry: &Entry) -> bool
+        ensures told { result ≡ true → told self.now own.now ≡ told other.now entry.now }
+        ensures some { result ≡ true → is_some (told other.now entry.now) ≡ true }
+    {
+        self.is_written_as(own, other, entry) || self.is_number_as(own, other, entry)
+    }
+
+    // Whether both are written down alike.
+    #[inline(always)]
+    fn is_written_as(&self, own: &Entry, other: &Tape, entry: &Entry) -> bool
+        ensures told { result ≡ true → told self.now own.now ≡ told other.now entry.now }
+        ensures some { result ≡ true → is_some (told other.now entry.now) ≡ true }
+    {
+        match *entry {
+            Entry::Null(kind) => matches!(own, Entry::Null(null) if *null == kind),
+            Entry::Truth(truth) => matches!(own, Entry::Truth(own) if *own == truth),
+            Entry::Int(value) => matches!(own, Entry::Int(own) if *own == value),
+            Entry::Decimal(negative, exponent, magnitude) => match own {
+                Entry::Decimal(sign, power, size) => {
+                    *sign == negative && *power == exponent && *size == magnitude
+                }
+                _ => false,
+            },
+            Entry::Unknown(role) => self.tells_spelled(own, role, Spelling::Unknown),
+            Entry::Short(role, count, last, first) => {
+                self.tells_spelled(own, role, Spelling::Short(Short { count, last, first }))
+            }
+            Entry::Long(role, range) => match other.text(range) {
+                Some(octets) => self.tells_spelled(own, role, Spelling::Long(octets)),
                 None => false,
             },
-            _ => false,
+            Entry::Text(form, range) => match other.text(range) {
+                Some(octets) => self.tells_text(own, form, octets),
+                None => false,
+            },
+            Entry::Number(_) | Entry::Open(..) | Entry::Close(_) => false,
+        }
+    }
+
+    // Whether both are the same number.
+    #[inline(never)]
+    fn is_number_as(&self, own: &Entry, other: &Tape, entry: &Entry) -> bool
+        ensures told { result ≡ true → told self.now own.now ≡ told other.now entry.now }
+        ensures some { result ≡ true → is_some (told other.now entry.now) ≡ true }
+    {
+        match other.number_in(entry) {
+            Some(number) => self.tells_number(own, &number),
+            None => false,
         }
     }
 
@@ -299,17 +369,6 @@ impl Tape {
         ensures { result ≡ true → told self.now entry.now ≡ Some (closes bracket) }
     {
         matches!(entry, Entry::Close(own) if *own == bracket)
-    }
-
-    // Whether this number stands there.
-    #[inline(never)]
-    fn is_number(&self, place: u32, number: &Number) -> bool
-        ensures { result ≡ true → slice_get self.now.numbers.items place ≡ Some number.now }
-    {
-        match self.number_at(place) {
-            Some(own) => own == number,
-            None => false,
-        }
     }
 
     /// Tells a visitor what was written down; `false` where the visitor answered so, of which the
@@ -357,18 +416,8 @@ impl Tape {
         match entry {
             Entry::Null(kind) => visitor.part(&Part::Null(kind)),
             Entry::Truth(truth) => visitor.part(&Part::Truth(truth)),
-            Entry::Int(value) => match Whole::new(i128::from(value)) {
-                Some(whole) => visitor.number(Number::Int(whole)),
-                None => false,
-            },
-            Entry::Decimal(negative, exponent, magnitude) => {
-                match Decimal::new(negative, u128::from(magnitude), exponent) {
-                    Some(decimal) => visitor.number(Number::Decimal(decimal)),
-                    None => false,
-                }
-            }
-            Entry::Number(place) => match self.number_at(place) {
-                Some(number) => visitor.number(*number),
+            Entry::Int(_) | Entry::Decimal(..) | Entry::Number(_) => match self.number_in(&entry) {
+                Some(number) => visitor.number(number),
                 None => false,
             },
             Entry::Unknown(role) => tell_unknown(role, visitor),
@@ -426,37 +475,23 @@ pub(crate) fn spelling_of<'a>(body: &NumberBody<'a>) -> (Role, Spelling<'a>)
 }
 
 // The number of this body, if it is one.
-fn number_of(role: Role, body: &[u8]) -> Option<Number>
-    ensures { IfSome result (λ n. role_event role (Some body.now) ≡ part (number_payload n)) }
+fn read_body(body: &NumberBody<'_>) -> Option<Number>
+    ensures { IfSome result (λ n. body_payload body.now ≡ number_payload n) }
 {
-    match role {
-        Role::Decimal => match decimal_of(body) {
-            Ok(decimal) => Some(Number::Decimal(decimal)),
-            Err(_) => None,
-        },
-        Role::Timestamp => match timestamp_of(body) {
-            Ok(timestamp) => Some(Number::Timestamp(timestamp)),
-            Err(_) => None,
-        },
-        Role::Value | Role::Annotation | Role::Name => None,
+    match body {
+        NumberBody::Decimal(octets) => Some(Number::Decimal(decimal_of(octets).ok()?)),
+        NumberBody::Timestamp(octets) => Some(Number::Timestamp(timestamp_of(octets).ok()?)),
     }
 }
 
-/// The number that is spelled so, if it is one.
-#[inline(never)]
-pub(crate) fn number_spelled(role: Role, spelling: Spelling<'_>) -> Option<Number>
-    ensures { IfSome result (λ n. role_event role (spelled spelling.entry)
-        ≡ part (number_payload n)) }
+// The number of these octets in this role, if they are the body of one.
+fn number_of(role: Role, octets: &[u8]) -> Option<Number>
+    ensures { IfSome result (λ n. role_event role (Some octets.now) ≡ part (number_payload n)) }
 {
-    match spelling {
-        Spelling::Unknown => None,
-        Spelling::Short(short) => {
-            if short.count > 12 {
-                return None;
-            }
-            number_of(role, &short.octets()[..short.count as usize])
-        }
-        Spelling::Long(octets) => number_of(role, octets),
+    match role {
+        Role::Decimal => read_body(&NumberBody::Decimal(octets)),
+        Role::Timestamp => read_body(&NumberBody::Timestamp(octets)),
+        Role::Value | Role::Annotation | Role::Name => None,
     }
 }
 
@@ -465,17 +500,6 @@ fn is_same(first: &Number, second: &Number) -> bool
     ensures { result ≡ true → first.now ≡ second.now }
 {
     first == second
-}
-
-// Whether this number is spelled so.
-fn spells(role: Role, spelling: Spelling<'_>, number: &Number) -> bool
-    ensures { result ≡ true → role_event role (spelled spelling.entry)
-        ≡ part (number_payload number.now) }
-{
-    match number_spelled(role, spelling) {
-        Some(own) => is_same(&own, number),
-        None => false,
-    }
 }
 
 #[inline(always)]
@@ -521,15 +545,9 @@ fn tell_body<V: Visitor>(body: &NumberBody<'_>, visitor: &mut V) -> bool
     if let Some(went_on) = visitor.number_body(body) {
         return went_on;
     }
-    match body {
-        NumberBody::Decimal(octets) => match decimal_of(octets) {
-            Ok(decimal) => visitor.number(Number::Decimal(decimal)),
-            Err(_) => false,
-        },
-        NumberBody::Timestamp(octets) => match timestamp_of(octets) {
-            Ok(timestamp) => visitor.number(Number::Timestamp(timestamp)),
-            Err(_) => false,
-        },
+    match read_body(body) {
+        Some(number) => visitor.number(number),
+        None => false,
     }
 }
 

@@ -132,7 +132,7 @@ impl Twin {
         self.part_ways() && self.second.write(role, spelling)
     }
 
-    #[inline(never)]
+    #[inline(always)]
     fn other_part(&mut self, said: &Part<'_>) -> bool
         ensures { result ≡ true →
             TellsSecond self.old (part (payload_of said.now)) self.new }
@@ -140,7 +140,7 @@ impl Twin {
         self.part_ways() && self.second.part(said)
     }
 
-    #[inline(never)]
+    #[inline(always)]
     fn other_number(&mut self, number: Number) -> bool
         ensures { result ≡ true →
             TellsSecond self.old (part (number_payload number)) self.new }
@@ -148,14 +148,14 @@ impl Twin {
         self.part_ways() && self.second.number(number)
     }
 
-    #[inline(never)]
+    #[inline(always)]
     fn other_open(&mut self, bracket: Bracket) -> bool
         ensures { result ≡ true → TellsSecond self.old (opens bracket) self.new }
     {
         self.part_ways() && self.second.open(bracket)
     }
 
-    #[inline(never)]
+    #[inline(always)]
     fn other_close(&mut self, bracket: Bracket) -> bool
         ensures { result ≡ true → TellsSecond self.old (closes bracket) self.new }
     {

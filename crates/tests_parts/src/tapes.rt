@@ -38,8 +38,8 @@ fn taped(alloc: Global, value: Value) -> Tape {
 /// Whether the second value is found on the tape of the first. Both are let go.
 fn is_found(alloc: Global, written: Value, value: Value) -> bool {
     let (tape, other) = (taped(alloc, written), taped(alloc, value));
-    let mut following = Following::new(alloc, &tape);
-    let found = following.finds(&other);
+    let mut following = Following::new(alloc);
+    let found = following.finds(&tape, &other);
     drop(following);
     drop(tape);
     drop(other);
@@ -75,8 +75,11 @@ fn is_twin(alloc: Global, written: Value, value: Value) -> (bool, bool) {
     let told = tell(&written, &mut tapes.first) && tell(&value, &mut tapes);
     let alike = told && tapes.are_same();
     let parted = tapes.part_ways();
-    let mut following = Following::new(alloc, &tapes.first);
-    let found = (alike, parted && following.finds(&tapes.second));
+    let mut following = Following::new(alloc);
+    let found = (
+        alike,
+        parted && following.finds(&tapes.first, &tapes.second),
+    );
     drop(following);
     drop(tapes);
     drop(written);
@@ -104,10 +107,9 @@ fn twins_part_where_they_are_told_otherwise(rt: HostRuntime) -> Result<(), Fail>
 fn are_found(alloc: Global, written: Value, first: Value, second: Value) -> (bool, bool) {
     let tape = taped(alloc, written);
     let (first, second) = (taped(alloc, first), taped(alloc, second));
-    let mut following = Following::new(alloc, &tape);
-    let found = following.finds(&first);
-    let mut following = Following::with_frames(&tape, following.into_frames());
-    let other = following.finds(&second);
+    let mut following = Following::new(alloc);
+    let found = following.finds(&tape, &first);
+    let other = following.finds(&tape, &second);
     drop(following);
     drop(tape);
     drop(first);
@@ -235,8 +237,8 @@ fn is_same_number(alloc: Global, written: &NumberBody<'_>, body: &NumberBody<'_>
     let alike = told && tapes.are_same();
     tapes.clear();
     let told = tell_field(written, false, &mut tapes.first) && tell_field(body, true, &mut tapes);
-    let mut following = Following::new(alloc, &tapes.first);
-    let found = (alike, told && following.finds(&tapes.second));
+    let mut following = Following::new(alloc);
+    let found = (alike, told && following.finds(&tapes.first, &tapes.second));
     drop(following);
     drop(tapes);
     found
