@@ -1,9 +1,9 @@
 -- Pieces that are read.
-use Rattle.std.proofs.Common.{◌≡◌, ℕ, ◌+◌, ◌-◌, ◌≤◌, ◌<◌, ◌⊎◌, inl, inr, List, [], ◌∷◌, ◌++◌, ◌==◌, length, take, drop, refl, ap, sym, subst, ◌∙◌, arith, Bool, true, false, append_assoc, length-take, length-drop}
+use Rattle.std.proofs.Common.{◌≡◌, ℕ, ◌+◌, ◌-◌, ◌≤◌, ◌<◌, List, [], ◌∷◌, ◌++◌, ◌==◌, length, take, drop, refl, ap, ◌∙◌, arith, Bool, true, false, append_assoc, length-take, length-drop}
 use Rattle.std.proofs.lemmas.List.{drop-take, take-take, drop-append-le, take-append-le, length-take-le}
 use Rattle.std.proofs.lemmas.Bool.Decides.{nat_tests}
 use Rattle.std.proofs.Math.Seq.{take-append-add}
-use Rattle.ion_streams.specs.Names.{AnsweredEnd, HasToAsk, Heard, Inlet, Items, NoReadFailed, NoneFailed, PieceReader, between}
+use Rattle.ion_streams.specs.Names.{AnsweredEnd, Heard, Inlet, between}
 use Rattle.ion_symtab.specs.Told.{Told}
 
 cut_front : (piece : List ℕ) (at end : ℕ) → at ≤ end → drop at (take end piece) ≡ between piece at end
@@ -58,19 +58,3 @@ module _ {S : Type 0} (R : Inlet S) (old new : S) where
         answered = answered (count == 0) (λ e. let none : count ≡ 0 = grind (arith, nat_tests) in (ended none, end none))
             (λ e. let some : 0 < count = grind (arith, nat_tests) in going some);
       }
-
-module _ {S X : Type 0} (R : Inlet S) (I : Items X) where
-  -- a device whose end was answered before isn't asked again
-  pub ended_unasked : (old now new : S) (source : PieceReader X) → NoReadFailed R old now → (R.has_failed new ≡ false) ⊎ ((new ≡ now) × (source.ended ≡ true))
-      → NoReadFailed R old new
-  ended_unasked old now new source before (inl fine) = record { either = inr fine }
-  ended_unasked old now new source before (inr both) = subst (λ x. NoReadFailed R old x) (sym both.0) before
-
-  pub ended_heard : (now new : S) (source : PieceReader X) → NoneFailed R I now source → (R.has_failed new ≡ false) ⊎ ((new ≡ now) × (source.ended ≡ true))
-      → R.has_failed new ≡ false
-  ended_heard now new source before (inl fine) = fine
-  ended_heard now new source before (inr both) = ap (λ x. R.has_failed x) both.0 ∙ go before.either
-    where
-      go : (R.has_failed now ≡ false) ⊎ HasToAsk I source → R.has_failed now ≡ false
-      go (inl fine) = fine
-      go (inr asks) = let e = sym asks.going ∙ both.1 in absurd cc

@@ -1,6 +1,6 @@
 -- Two documents that are read in turn, and the values that are written down of both.
-use Rattle.std.proofs.Common.{◌≡◌, ◌⊎◌, ℕ, ◌+◌, ◌*◌, ◌<◌, ◌≤◌, ◌^◌, List, [], ◌∷◌, ◌++◌, length, refl, sym, subst, ◌∙◌, append-nil, Bool, true, false, Result, Ok, Option, Some, None, IfSome, IsNone, is_some, option_to_list}
-use Rattle.ion_streams.specs.Names.{AreHeld, AtOneEnd, Catalog, Course, Ended, Fault, Grows, HandedOn, HasTold, HeldNext, IfAlike, IfClosed, IfOpen, Inlet, IsFront, IsInTurn, IsMet, IsOpen, IsReady, IsWithin, Items, Limits, Open, ReadState, Refused, Sought, Stood, StoodEach, Value, count_of, format_of, reads_of, telling, work_of}
+use Rattle.std.proofs.Common.{◌≡◌, ◌⊎◌, ℕ, ◌+◌, ◌*◌, ◌<◌, ◌≤◌, ◌^◌, List, [], ◌∷◌, ◌++◌, length, refl, sym, ◌∙◌, append-nil, Bool, true, false, Result, Ok, Option, Some, None, IfSome, IsNone, is_some, option_to_list}
+use Rattle.ion_streams.specs.Names.{Alike, AreHeld, AtOneEnd, Catalog, Course, Fault, Grows, HandedOn, HasTold, HeldNext, IfAlike, IfClosed, IfOpen, Inlet, IsFront, IsInTurn, IsMet, IsOpen, IsReady, IsWithin, Items, Limits, Open, ReadState, Refused, Sought, Stood, StoodEach, Value, count_of, format_of, reads_of, telling, work_of}
 use Rattle.ion_streams.proofs.Courses.{Meets, meets_more}
 use Rattle.ion_streams.proofs.Steps.{plain_next, stood_plain}
 use Rattle.ion_streams.proofs.Turns.{Turn, WasAsked, ahead, in_turn, left_on, level_on, right_on, stood_end}
@@ -15,15 +15,12 @@ pub none_of : (found : Option ℕ) (v : Option Value) → is_some v ≡ is_some 
 none_of None v is none = refl
 none_of (Some n) _ is none = absurd cc
 
-none_told : (found : Option ℕ) (v : Option Value) → is_some v ≡ is_some found → found ≡ None → v ≡ None
-none_told None None is none = refl
-none_told _ _ is none = absurd cc
-
 -- a document that is closed stays as it is, and tells nothing
 pub closed_same : {S X : Type 0} (old now : S) (place after : ReadState X) (found : Option ℕ) (v : Option Value) → is_some v ≡ is_some found
     → Closed old now place after found → IfClosed place ((after ≡ place) × (v ≡ None))
 closed_same old now (Open source) after found v is h = tt
-closed_same old now _ after found v is h = let none : found ≡ None = let e = h.0 in cc in (h.2, none_told found v is none)
+closed_same old now _ after found None is h = (h.2, refl)
+closed_same old now _ after found (Some v) is h = let none = h.0 in absurd cc
 
 pub closed_kept : {S X : Type 0} (old now : S) (place after : ReadState X) (found : Option ℕ) → Closed old now place after found
     → IfClosed place ((after ≡ place) × (now ≡ old))
@@ -31,16 +28,14 @@ closed_kept old now (Open source) after found h = tt
 closed_kept old now _ after found h = (h.2, h.1)
 
 -- where two values are told of streams that didn't part, they were to be compared, and the tapes hold them
-pub are_held : {X Y : Type 0} (course : Course) (left left' : ReadState X) (right right' : ReadState Y) (compared : Bool) (P Q : Value → Type 0) (v w : Option Value)
-    → (compared ≡ false → IfAlike course (λ n. IfOpen left (λ source. IfOpen right (λ source. ⊥)))) → IfClosed left ((left' ≡ left) × (v ≡ None))
-    → IfClosed right ((right' ≡ right) × (w ≡ None)) → IfSome v (λ x. compared ≡ true → P x) → IfSome w (λ x. compared ≡ true → Q x)
-    → IfAlike course (λ n. AreHeld P Q v w)
-are_held (Course.Alike n) left left' right right' true P Q (Some v) (Some w) not a b h k = (h refl, k refl)
-are_held (Course.Alike n) (Open source) left' (Open other) right' false P Q (Some v) (Some w) not a b h k = absurd (not refl)
-are_held (Course.Alike n) (Open source) left' Ended right' false P Q (Some v) (Some w) not a b h k = absurd (let e = b.1 in cc)
-are_held (Course.Alike n) (Open source) left' (Refused r) right' false P Q (Some v) (Some w) not a b h k = absurd (let e = b.1 in cc)
-are_held (Course.Alike n) Ended left' right right' false P Q (Some v) (Some w) not a b h k = absurd (let e = a.1 in cc)
-are_held (Course.Alike n) (Refused r) left' right right' false P Q (Some v) (Some w) not a b h k = absurd (let e = a.1 in cc)
+pub are_held : {X Y : Type 0} (course : Course) (left left' : ReadState X) (right right' : ReadState Y) (compared : Bool) (P Q : Value → Type 0)
+    (v w : Option Value) → (compared ≡ false → IfAlike course (λ n. IfOpen left (λ source. IfOpen right (λ source. ⊥))))
+    → IfClosed left ((left' ≡ left) × (v ≡ None)) → IfClosed right ((right' ≡ right) × (w ≡ None)) → IfSome v (λ x. compared ≡ true → P x)
+    → IfSome w (λ x. compared ≡ true → Q x) → IfAlike course (λ n. AreHeld P Q v w)
+are_held (Alike n) left left' right right' true P Q (Some v) (Some w) not a b h k = (h refl, k refl)
+are_held (Alike n) (Open source) left' (Open other) right' false P Q (Some v) (Some w) not a b h k = absurd (not refl)
+are_held (Alike n) (Open source) left' right right' false P Q (Some v) (Some w) not a b h k = let none = b.1 in absurd cc
+are_held (Alike n) left left' right right' false P Q (Some v) (Some w) not a b h k = let none = a.1 in absurd cc
 are_held _ left left' right right' compared P Q _ _ not a b h k = tt
 
 -- a document that can be read on can be walked on
@@ -60,30 +55,14 @@ module _ {S X : Type 0} (R : Inlet S) (I : Items X) (g : Catalog) (l : Limits) (
   pub taped : (old now : S) (place after : ReadState X) (s : List Value) (P : Value → Type 0) (found : Option ℕ) → Closed old now place after found
       → ((given : List (Value × ℕ)) → StoodEach R (telling I []) g l first old place given → HeldNext P R I g l first now after given found)
       → Stood R (telling I []) g l first old place s → NextHeld P found now after s
-  taped old now (Open source) after s P found closed tells h = go found (tells h.given h.each)
-    where
-      go : (found : Option ℕ) → HeldNext P R I g l first now after h.given found → NextHeld P found now after s
-      go None each = record {
-        value = None;
-        is = refl;
-        there = tt;
-        stood = subst (λ (x : List Value). Stood R (telling I []) g l first now after x) (h.values ∙ sym (append-nil s))
-            (stood_plain R (telling I []) g l first now after h.given each);
-      }
-      go (Some used) told = record {
-        value = Some told.0;
-        is = refl;
-        there = told.1;
-        stood = subst (λ (x : List Value). Stood R (telling I []) g l first now after x)
-            (plain_next h.given (Some (told.0, used)) (Some told.0) s h.values refl)
-            (stood_plain R (telling I []) g l first now after (h.given ++ (told.0, used) ∷ []) told.2);
-      }
-  taped old now place after s P found closed tells h = still closed.0 closed.1 closed.2
-    where
-      still : ◌≡◌ {A = Result (Option ℕ) Fault} (Ok found) (Ok None) → now ≡ old → after ≡ place → NextHeld P found now after s
-      still e same kept =
-          let none : found ≡ None = cc in
-          rw none (record { value = None; is = refl; there = tt; stood = rw (same, kept, append-nil s) h })
+  taped old now (Open source) after s P None closed tells h =
+      record { value = None; is = refl; there = tt; stood = rw (append-nil s, sym h.values) (stood_plain R (telling I []) g l _ _ after _ (tells _ h.each)) }
+  taped old now (Open source) after s P (Some used) closed tells h =
+      let told = tells h.given h.each in
+      let values = sym (plain_next h.given (Some (told.0, used)) (Some told.0) s h.values refl) in
+      record { value = Some told.0; is = refl; there = told.1; stood = rw values (stood_plain R (telling I []) g l _ _ after _ told.2) }
+  taped old now _ after s P None closed tells h = record { value = None; is = refl; there = tt; stood = rw (closed.1, closed.2, append-nil s) h }
+  taped old now _ after s P (Some used) closed tells h = let none = closed.0 in absurd cc
 
 module _ {S T X Y : Type 0} (L : Inlet S) (R : Inlet T) (I : Items X) (J : Items Y) (first_left : S) (first_right : T) (left_begun : ReadState X)
     (right_begun : ReadState Y) where
@@ -132,11 +111,8 @@ module _ {S T X Y : Type 0} (L : Inlet S) (R : Inlet T) (I : Items X) (J : Items
         → IsInTurn L R (format_of I g k) (format_of J h l) first_left left_now first_right right
         × (AtOneEnd L first_left left_now × AtOneEnd R first_right right)
     left_in_turn on = (
-      in_turn L R (telling I []) (telling J []) g h k l first_left first_right left_after left_now right _ on.next.stood on.asked,
-      (
-        stood_end L (telling I []) g k first_left left_now left_after _ on.next.stood,
-        stood_end R (telling J []) h l first_right right right_place on.t on.right_stood,
-      ),
+      in_turn L R (telling I []) (telling J []) g h k l _ _ left_after _ _ _ on.next.stood on.asked,
+      (stood_end L (telling I []) g k _ _ left_after _ on.next.stood, stood_end R (telling J []) h l _ _ right_place _ on.right_stood),
     )
 
     pub both_in_turn : {right_now : T} {right_after : ReadState Y} {Q : Value → Type 0} {other : Option ℕ}
@@ -144,70 +120,52 @@ module _ {S T X Y : Type 0} (L : Inlet S) (R : Inlet T) (I : Items X) (J : Items
         → BothOn g h k l left_now right_now left_after right_after Q other (on.s ++ option_to_list on.next.value) on.t
         → IsInTurn L R (format_of I g k) (format_of J h l) first_left left_now first_right right_now
         × (AtOneEnd L first_left left_now × AtOneEnd R first_right right_now)
-    both_in_turn {right_now = right_now} {right_after = right_after} on both = (
-      in_turn L R (telling I []) (telling J []) g h k l first_left first_right left_after left_now right_now _ on.next.stood both.turn.asked,
-      (
-        stood_end L (telling I []) g k first_left left_now left_after _ on.next.stood,
-        stood_end R (telling J []) h l first_right right_now right_after _ both.next.stood,
-      ),
+    both_in_turn {right_after = right_after} on both = (
+      in_turn L R (telling I []) (telling J []) g h k l _ _ left_after _ _ _ on.next.stood both.turn.asked,
+      (stood_end L (telling I []) g k _ _ left_after _ on.next.stood, stood_end R (telling J []) h l _ _ right_after _ both.next.stood),
     )
 
   module _ (settled : (g : Catalog) (k : Limits) (u w : List ℕ) → Grows (I.trace g k u) (I.trace g k (u ++ w))) where
-    pub left_goes : (course : Course) (left left_now : S) (right : T) (left_place left_after : ReadState X) (right_place : ReadState Y)
-        (P : Value → Type 0) (found : Option ℕ) → SideBySide course left right left_place right_place
-        → Closed left left_now left_place left_after found →
-        ((g : Catalog) (k : Limits) (first : S) (given : List (Value × ℕ)) → StoodEach L (telling I []) g k first left left_place given
-        → HeldNext P L I g k first left_now left_after given found) →
-        (found ≡ None → IfOpen left_after (λ source. ⊥)) → HandedOn L left left_now → (g h : Catalog) (k l : Limits)
-        → Stood L (telling I []) g k first_left first_left left_begun [] → Stood R (telling J []) h l first_right first_right right_begun []
-        → LeftOn g h k l course left_now right left_place left_after right_place P found
+    pub left_goes : (course : Course) (left left_now : S) (right : T) (left_place left_after : ReadState X) (right_place : ReadState Y) (P : Value → Type 0)
+        (found : Option ℕ) → SideBySide course left right left_place right_place → Closed left left_now left_place left_after found
+        → ((g : Catalog) (k : Limits) (first : S) (given : List (Value × ℕ)) → StoodEach L (telling I []) g k first left left_place given
+        → HeldNext P L I g k first left_now left_after given found) → (found ≡ None → IfOpen left_after (λ source. ⊥)) → HandedOn L left left_now
+        → (g h : Catalog) (k l : Limits) → Stood L (telling I []) g k first_left first_left left_begun []
+        → Stood R (telling J []) h l first_right first_right right_begun [] → LeftOn g h k l course left_now right left_place left_after right_place P found
     left_goes course left left_now right left_place left_after right_place P found i closed tells ends on g h k l a b =
         let w = i.stood g h k l a b in
         let next = taped L I g k first_left left left_now left_place left_after w.0 P found closed (tells g k first_left) w.2 in
-        record {
-          s = w.0;
-          t = w.1;
-          next = next;
-          right_stood = w.3;
-          meets = w.4;
-          ahead = ahead left_place left_after w.0 w.1 next.value w.5.level
-              (closed_same left left_now left_place left_after found next.value next.is closed) (λ none. ends (none_of found next.value next.is none));
-          asked = left_on L R (telling I []) (telling J []) g h k l first_left first_right (settled g k) left_place left_after left left_now right _ closed on
-              w.5.asked;
-        }
+        let further = left_on L R (telling I []) (telling J []) g h k l _ _ (settled g k) left_place left_after _ _ _ _ closed on w.5.asked in
+        let same = closed_same left left_now _ _ found _ next.is closed in
+        let before = ahead left_place left_after _ _ next.value w.5.level same (λ none. ends (none_of _ _ next.is none)) in
+        record { s = w.0; t = w.1; next = next; right_stood = w.3; meets = w.4; ahead = before; asked = further }
 
     pub right_goes : ((r : X) (u : List ℕ) (given : List (Value × ℕ)) → I.told r u given [] → IsNone (I.awaits r)
-        → (I.trace (I.catalog r) (I.limits r) u).given ≡ given) →
-        ((r : X) (u : List ℕ) (given : List (Value × ℕ)) → I.told r u given []
-        → IfSome (I.awaits r) (λ octet. IsFront given (I.trace (I.catalog r) (I.limits r) (u ++ octet ∷ [])).given)) →
-        (course : Course) (left : S) (right right_now : T) (left_place left_after : ReadState X) (right_place right_after : ReadState Y)
-        (P Q : Value → Type 0) (left_found found : Option ℕ) → IfOpen left_after (IsReady I)
-        → ((refusal : _) → left_after ≡ Refused refusal → ⊥) → Closed right right_now right_place right_after found →
-        ((h : Catalog) (l : Limits) (first : T) (given : List (Value × ℕ)) → StoodEach R (telling J []) h l first right right_place given
-        → HeldNext Q R J h l first right_now right_after given found) →
-        ((h : Catalog) (l : Limits) (first : T) (t : List Value) → Stood R (telling J []) h l first right right_place t
+        → (I.trace (I.catalog r) (I.limits r) u).given ≡ given)
+        → ((r : X) (u : List ℕ) (given : List (Value × ℕ)) → I.told r u given []
+        → IfSome (I.awaits r) (λ octet. IsFront given (I.trace (I.catalog r) (I.limits r) (u ++ octet ∷ [])).given))
+        → (course : Course) (left : S) (right right_now : T) (left_place left_after : ReadState X) (right_place right_after : ReadState Y)
+        (P Q : Value → Type 0) (left_found found : Option ℕ) → IfOpen left_after (IsReady I) → ((refusal : _) → left_after ≡ Refused refusal → ⊥)
+        → Closed right right_now right_place right_after found
+        → ((h : Catalog) (l : Limits) (first : T) (given : List (Value × ℕ)) → StoodEach R (telling J []) h l first right right_place given
+        → HeldNext Q R J h l first right_now right_after given found)
+        → ((h : Catalog) (l : Limits) (first : T) (t : List Value) → Stood R (telling J []) h l first right right_place t
         → Sought R (format_of J h l) first right right_now (length t)) → (g h : Catalog) (k l : Limits)
         (on : LeftOn g h k l course left right left_place left_after right_place P left_found)
         → BothOn g h k l left right_now left_after right_after Q found (on.s ++ option_to_list on.next.value) on.t
     right_goes so_far with_next course left right right_now left_place left_after right_place right_after P Q left_found found ready kept
         closed tells sought g h k l on =
         let next = taped R J h l first_right right right_now right_place right_after on.t Q found closed (tells h l first_right) on.right_stood in
-        record {
-          next = next;
-          turn = record {
-            level = level_on left_after (on.s ++ option_to_list on.next.value) on.t next.value on.ahead;
-            asked = right_on L R (telling I []) (telling J []) g h k l first_left first_right (settled g k) so_far with_next left_after left right right_now
-                (on.s ++ option_to_list on.next.value) on.t on.next.stood (ready_told I left_after ready) kept on.ahead
-                (sought h l first_right on.t on.right_stood) on.asked;
-          };
-        }
+        let asked = right_on L R (telling I []) (telling J []) g h k l _ _ (settled g k) so_far with_next left_after _ _ _ _ on.t on.next.stood
+        (ready_told I left_after ready) kept on.ahead (sought h l first_right on.t on.right_stood) on.asked in
+        record { next = next; turn = record { level = level_on left_after _ on.t next.value on.ahead; asked = asked } }
 
     -- with the next value of each, or its end, two streams compare as the course behind it says
-    pub both_met : (course after : Course) (left left_now : S) (right right_now : T) (left_place left_after : ReadState X) (right_place right_after : ReadState Y)
-        (compared : Bool) (P Q : Value → Type 0) (found other : Option ℕ) (gave other_gave : Bool)
-        → (compared ≡ false → IfAlike course (λ n. IfOpen left_place (λ source. IfOpen right_place (λ source. ⊥)))) →
-        ((v w : Option Value) → is_some v ≡ gave → is_some w ≡ other_gave → IfAlike course (λ n. AreHeld P Q v w) → IsMet course v w after) →
-        gave ≡ is_some found → other_gave ≡ is_some other → Closed left left_now left_place left_after found
+    pub both_met : (course after : Course) (left left_now : S) (right right_now : T) (left_place left_after : ReadState X)
+        (right_place right_after : ReadState Y) (compared : Bool) (P Q : Value → Type 0) (found other : Option ℕ) (gave other_gave : Bool)
+        → (compared ≡ false → IfAlike course (λ n. IfOpen left_place (λ source. IfOpen right_place (λ source. ⊥))))
+        → ((v w : Option Value) → is_some v ≡ gave → is_some w ≡ other_gave → IfAlike course (λ n. AreHeld P Q v w) → IsMet course v w after)
+        → gave ≡ is_some found → other_gave ≡ is_some other → Closed left left_now left_place left_after found
         → Closed right right_now right_place right_after other → (found ≡ None → IfOpen left_after (λ source. ⊥))
         → (other ≡ None → IfOpen right_after (λ source. ⊥)) → (g h : Catalog) (k l : Limits)
         (on : LeftOn g h k l course left_now right left_place left_after right_place (λ v. compared ≡ true → P v) found)
@@ -215,14 +173,11 @@ module _ {S T X Y : Type 0} (L : Inlet S) (R : Inlet T) (I : Items X) (J : Items
         → Meets after left_after right_after (on.s ++ option_to_list on.next.value) (on.t ++ option_to_list both.next.value)
     both_met course after left left_now right right_now left_place left_after right_place right_after compared P Q found other gave other_gave compares met
         is is_other closed other_closed ends other_ends g h k l on both =
-        let v = on.next.value in
-        let w = both.next.value in
-        let was = closed_same left left_now left_place left_after found v on.next.is closed in
-        let other_was = closed_same right right_now right_place right_after other w both.next.is other_closed in
-        let held = are_held course left_place left_after right_place right_after compared P Q v w compares was other_was on.next.there both.next.there in
-        meets_more course after left_place left_after right_place right_after on.s on.t v w
-        (met v w (on.next.is ∙ sym is) (both.next.is ∙ sym is_other) held) on.meets was other_was
-        (λ none. ends (none_of found v on.next.is none)) (λ none. other_ends (none_of other w both.next.is none))
+        let was = closed_same left left_now left_place left_after found _ on.next.is closed in
+        let other_was = closed_same right right_now right_place right_after other _ both.next.is other_closed in
+        let held = are_held course left_place _ right_place _ compared P Q _ _ compares was other_was on.next.there both.next.there in
+        meets_more course after left_place left_after right_place right_after _ _ _ _ (met _ _ (on.next.is ∙ sym is) (both.next.is ∙ sym is_other) held)
+        on.meets was other_was (λ none. ends (none_of _ _ on.next.is none)) (λ none. other_ends (none_of _ _ both.next.is none))
 
 -- what a reader that told what octets are has given
 module _ {X : Type 0} (I : Items X) (has_told : (r : X) (u : List ℕ) (s : List (Value × ℕ)) (es : List _) → I.told r u s es

@@ -12,20 +12,6 @@ pub none_failed : {A : Type 0} (failed : Option A) → failed ≡ None → IsNon
 none_failed None h = refl
 none_failed (Some r) h = absurd cc
 
-module _ {S X : Type 0} (R : Inlet S) (I : Items X) (now : S) where
-  -- something came of the document
-  pub was_asked : (source : PieceReader X) → (HasToAsk I source → ⊥) → NoneFailed R I now source → R.has_failed now ≡ false
-  was_asked source came h = go h.either
-    where
-      go : (R.has_failed now ≡ false) ⊎ HasToAsk I source → R.has_failed now ≡ false
-      go (inl fine) = fine
-      go (inr asks) = absurd (came asks)
-
-  -- where something was found, no read of the device has failed
-  pub gave_some : {A : Type 0} (source : PieceReader X) (found : Option A) (v : A) → found ≡ Some v → (HasToAsk I source → found ≡ None) → NoneFailed R I now source
-      → R.has_failed now ≡ false
-  gave_some source found v is nothing h = was_asked source (λ asks. let none = sym is ∙ nothing asks in absurd cc) h
-
 module _ {X : Type 0} (I : Items X) where
   -- a document of which nothing was read has to ask its device first
   pub asks_begun : (source : PieceReader X) (items : X) → I.failed items ≡ None → I.pending items ≡ 0 → source.items ≡ items → (source.at ≡ 0) × (source.end ≡ 0)
