@@ -7,9 +7,9 @@ many.ion: one struct of 20,000 ints. The second of each is called sixty_turned.i
 import sys
 
 
-def struct(names, value, turned):
-    """A struct of these names, each with its value by number."""
-    fields = [f"{name}:{value(number)}" for number, name in enumerate(names)]
+def struct(names, values, turned):
+    """A struct of these names, each with its value."""
+    fields = [f"{name}:{value}" for name, value in zip(names, values)]
     return "{" + ",".join(reversed(fields) if turned else fields) + "}"
 
 
@@ -17,17 +17,18 @@ def sixty(turned):
     """Twenty structs of sixty structs of sixty ints."""
     outer, inner = ([f"{word}{number}" for number in range(60)] for word in ("field", "name"))
     for record in range(20):
-        yield struct(outer, lambda field: struct(inner, lambda at: (field * 61 + at * 7 + record) % 100_000, turned), turned)  # noqa: B023
+        ints = [[(field * 61 + place * 7 + record) % 100_000 for place in range(60)] for field in range(60)]
+        yield struct(outer, [struct(inner, row, turned) for row in ints], turned)
 
 
 def one_name(turned):
     """A struct of 3,000 fields of one name."""
-    yield struct(["a"] * 3_000, str, turned)
+    yield struct(["a"] * 3_000, range(3_000), turned)
 
 
 def many(turned):
     """A struct of 20,000 fields."""
-    yield struct([f"name{number}" for number in range(20_000)], str, turned)
+    yield struct([f"name{number}" for number in range(20_000)], range(20_000), turned)
 
 
 def main():
