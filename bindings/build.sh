@@ -50,7 +50,10 @@ hints() {
 
 python_package() {
     package=$folder/python/pureefjord
-    cp "$here"/python/pureefjord/*.py "$here/python/pureefjord/py.typed" "$top/tools/ion_lines.py" "$top/tools/ion_places.py" "$lib/libpureefjord.so" "$package"
+    cp "$here"/python/pureefjord/*.py "$here/python/pureefjord/py.typed" "$lib/libpureefjord.so" "$package"
+    for module in differences layout lines places rules; do # what assert_same_ion tells
+        sed 's/^from ion_/from .ion_/' "$top/tools/ion_$module.py" > "$package/ion_$module.py"
+    done
     rm -f "$folder"/pureefjord-*.whl
     python3 "$here/python/wheel.py" "$package" "$version" "$folder"
 }

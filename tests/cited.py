@@ -9,7 +9,7 @@ import subprocess
 import sys
 
 ROOT = os.path.dirname(os.path.dirname(os.path.abspath(__file__)))
-SKIPPED = re.compile(r"(^|/)out(/|$)|[^\w./-]|^/|\.\.|NAME|PATH|FUNCTION|^-|^1/2$|^small\.10n$|^PROOF\.txt$|^(include|lib)/|^dist/")  # no files of the repository
+SKIPPED = re.compile(r"(^|/)out(/|$)|[^\w./-]|^/|\.\.|NAME|PATH|FUNCTION|^-|^1/2$|^small\.10n$|^PROOF\.txt$|^PUREEFJORD/|^(include|lib)/|^dist/")  # no files of the repository
 PATH = re.compile(r"(^[\w.-]*/[\w./-]*$)|\.(rt|antt|py|sh|md|txt|rs|yml|h|c|10n|ion|1)$")
 FUNCTION = re.compile(r"\s*(?:pub(?:\([a-z]+\))? )?(?:const )?(?:extern \"C\" )?fn (\w+)")
 

@@ -3,10 +3,11 @@
 tests/deciding.py PROGRAM [COUNT [SEED]].
 
 `rows` below is crates/ion_binary/specs/Deciding.antt in Python, row by row. It is no reader: `Search` looks for everything that
-stands open behind whole pieces of the grammar (tests/grammar.py), and each row says behind which of these the next octets decide.
+stands open behind whole pieces of the grammar (tools/ion_grammar.py), and each row says behind which of these the next octets decide.
 So it knows which octet decides and for which reasons, and the smallest number answers. All rows decide on one octet, or the table
-contradicts itself; that counts as wrong too. Documents: soups of telling octets, whole documents with some octets changed, and
-all of up to two octets behind the marker, under small limits and without a catalog. Prints what differs and the count.
+contradicts itself; that counts as wrong too. Documents: soups of telling octets, whole documents, some of them by
+`pureefjord generate`, with some octets changed, and all of up to two octets behind the marker, under small limits and without a
+catalog. Prints what differs and the count.
 """
 import concurrent.futures
 import itertools
@@ -16,11 +17,15 @@ import subprocess
 import sys
 import tempfile
 
-from grammar import FOLLOWS, SCALARS, SYSTEM, Refused, behind_table, field, header, item, judge, opening, pad, resolve, value, var_uint
+sys.dont_write_bytecode = True
+sys.path.insert(0, os.path.join(os.path.dirname(os.path.dirname(os.path.abspath(__file__))), "tools"))
+from ion_choices import Choices
+from ion_documents import Document
+from ion_grammar import FOLLOWS, SCALARS, SYSTEM, Refused, behind_table, field, header, item, judge, opening, pad, resolve, value, var_uint
 from rows import DOCUMENTS, MARKER
 
 NUMBERS = {"TooLarge": 3, "Malformed": 4, "Float": 5, "RepeatedField": 11, "SymbolRange": 8, "MissingImport": 10, "TableTooLarge": 12}
-NUMBERS |= {"NullTable": 13, "BadUtf8": 15, "Depth": 19, "ItemTooLong": 20, "Version": 21}
+NUMBERS.update({"NullTable": 13, "BadUtf8": 15, "Depth": 19, "ItemTooLong": 20, "Version": 21})
 CONTAINERS = {"list", "sexp", "struct", "ordered"}
 
 
@@ -352,8 +357,16 @@ def soup(chance):
     return MARKER + bytes(chance.choices(TELLING, k=chance.randint(1, 14)))
 
 
+def generated(chance):
+    """A short random document."""
+    while True:
+        octets = Document(Choices(chance=chance), True).octets
+        if 4 < len(octets) < 60:
+            return octets
+
+
 def mutant(chance):
-    octets = bytearray(chance.choice(WHOLE))
+    octets = bytearray(chance.choice(WHOLE) if chance.random() < 0.5 else generated(chance))
     for _ in range(chance.randint(1, 3)):
         at = chance.randint(0 if chance.random() < 0.05 else 4, len(octets) - 1)
         kind = chance.random()

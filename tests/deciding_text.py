@@ -3,7 +3,7 @@
 tests/deciding_text.py PROGRAM [COUNT [SEED]].
 
 `rows` below is crates/ion_text/specs/Deciding.antt in Python, row by row, for the nine reasons that have a row there. It is no reader:
-`Search` looks for all that stands open behind whole pieces of the grammar (tests/grammar_text.py), and each row says behind which of
+`Search` looks for all that stands open behind whole pieces of the grammar (tools/ion_grammar_text.py), and each row says behind which of
 these a token decides, and with which octet, or that the end does.
 
 What is proved (`deciding` in crates/ion_text/src/laws.rt) is tried of the program. A refusal for one of the nine is a row. Octets show
@@ -11,8 +11,8 @@ one row at most. Where a row decides, the program refuses there or before, and f
 `ItemTooLong`, and at that octet only for a reason with a smaller number. Where the end decides, another reason comes only as
 `ItemTooLong`, by an octet, which may be the last one. A document has no row. Where another reason comes is told, by reasons.
 
-Documents: soups of tokens, random values behind tables, whole documents with some octets changed or cut off, under small limits, with
-and without a catalog; and some with all their fronts. Not judged are refusals for other reasons where no row decides, and how many
+Documents: soups of tokens, random values behind tables, whole documents, some of them by `pureefjord generate`, with some octets changed
+or cut off, under small limits, with and without a catalog; and some with all their fronts. Not judged are refusals for other reasons where no row decides, and how many
 values there are. Prints what differs and the count.
 """
 import collections
@@ -25,9 +25,11 @@ import sys
 import tempfile
 
 from deciding import reason_of
-from grammar import Refused
-from grammar_text import BLANK, MARKER, OPENS, SYSTEM_SLOTS, VERSION, Text
-from grammar_text import begins_as_long, behind_table, colons, deepest, is_keyword, resolve
+from ion_choices import Choices
+from ion_documents import Document
+from ion_grammar import Refused
+from ion_grammar_text import BLANK, MARKER, OPENS, SYSTEM_SLOTS, VERSION, Text
+from ion_grammar_text import begins_as_long, behind_table, colons, deepest, is_keyword, resolve
 from rows import DOCUMENTS, SHELF
 
 NINE = {"SymbolRange", "ImportGap", "MissingImport", "RepeatedField", "TableTooLarge", "NullTable", "Depth", "Version", "KeywordAsName"}
@@ -301,8 +303,16 @@ def soup(chance):
     return b"".join(chance.choice([b"", b" ", b"\n"]) + chance.choice(chance.choice(kinds)) for _ in range(chance.randint(1, 9)))
 
 
+def generated(chance):
+    """A short random document."""
+    while True:
+        octets = Document(Choices(chance=chance), False).octets
+        if len(octets) < 120:
+            return octets
+
+
 def mutant(chance):
-    octets = bytearray(chance.choice(TEXTS) if chance.random() < 0.2 else whole(chance))
+    octets = bytearray(chance.choice([lambda _: chance.choice(TEXTS), generated, whole, whole, whole])(chance))
     for _ in range(chance.choice([0, 1, 1, 2])):
         at = chance.randint(0, len(octets))
         octets[at : at + chance.choice([0, 1, 1])] = chance.choice([b"", bytes([chance.choice(ALPHABET)])])
@@ -361,7 +371,7 @@ def main():
     counts, firsts, failed = collections.Counter(), {}, 0
     with concurrent.futures.ProcessPoolExecutor() as pool:
         for some, shown, wrong in pool.map(tried, parts):
-            counts, firsts, failed = counts + some, shown | firsts, failed + len(wrong)
+            counts, firsts, failed = counts + some, {**shown, **firsts}, failed + len(wrong)
             for line in wrong[:20]:
                 print(line, flush=True)
     for first in sorted(firsts):

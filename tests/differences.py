@@ -10,9 +10,10 @@ import tempfile
 
 sys.dont_write_bytecode = True
 sys.path.insert(0, os.path.join(os.path.dirname(os.path.dirname(os.path.abspath(__file__))), "tools"))
-from ion_differences import of_pair, pairs_of
-from ion_layout import json_of, pretty_lines
+from ion_differences import Search
+from ion_layout import Json, pretty_lines
 from ion_lines import texts_at, value_in
+from ion_rules import Rules
 
 COUNT = 250
 SCALARS = ["1", "-7", "1.0", "1.00", "0.", "-0.", "12d5", "1d-45", '"a"', '"a,b:{}\\"\\n"', "a", "'a b'", "'1'", "$0", "true", "null", "null.int"]
@@ -52,19 +53,20 @@ def wrong(program, paths):
     """What is wrong with the answers about two documents, or nothing."""
     lines = [lines_of(program, path) for path in paths]
     status = subprocess.run([program, "compare", *paths], capture_output=True).returncode
-    found = [difference for pair in pairs_of(*lines) for difference in of_pair(*pair)]
+    search = Search(Rules())
+    found = [difference for pair in search.of_documents(*lines) for difference in search.between(*pair)]
     if bool(found) != (status == 1):
         return f"compare ends with {status}, and there are {len(found)} differences"
     for side in range(2):
         for place in (difference[side] for difference in found if difference[side]):
-            number, _, path = place.place.partition(" ")
+            number, _, path = place.path.partition(" ")
             if place.value.text not in texts_at(lines[side][int(number) - 1], path):
-                return f"{place.place} has no {place.value.text}"
+                return f"{place.path} has no {place.value.text}"
     values = [value_in(line) for line in lines[0]]
     if not same(program, paths[0], "".join(f"{line}\n" for each in values for line in pretty_lines(each))):
         return "indented text isn't the same data"
-    for each in values:
-        json.loads(json_of(each, True))
+    for line in b"".join(Json(True).pieces(f"{line}\n".encode() for line in lines[0])).splitlines():
+        json.loads(line)
     return None
 
 

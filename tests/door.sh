@@ -12,7 +12,7 @@ plain_path=$PATH
 PATH=$folder/bin:$top/tools:$PATH
 TMPDIR=$folder/tmp
 HOME=$folder/kept
-unset NO_COLOR ION_CMD
+unset NO_COLOR ION_CMD PUREEFJORD_LIBRARY
 export PATH TMPDIR HOME GIT_CONFIG_NOSYSTEM=1
 failed=0
 passed=0
@@ -58,7 +58,7 @@ words() {
     run pureefjord diff a.ion; gives 'one file to diff' 3 'pureefjord: the following arguments are required: RIGHT; pureefjord help diff tells its words'
     run pureefjord diff a.ion .; gives 'a file and a folder' 3 'pureefjord: two files or two folders'
     run pureefjord diff - -; gives 'standard input twice' 3 'pureefjord: standard input is read once'
-    run pureefjord to txt a.ion; has 'no encoding' 3 'pureefjord: argument text|binary: invalid choice: '
+    run pureefjord to txt a.ion; has 'no encoding' 3 'pureefjord: argument text|binary|json: invalid choice: '
     run pureefjord to text . ; gives 'a folder to standard output' 3 'pureefjord: a folder goes to a folder: -o OUT'
     run pureefjord check --depth 0 a.ion; has 'a wrong depth' 3 '0 is none of 1 to 128'
     run pureefjord check --item 2G a.ion; has 'a wrong item' 3 '2G is none of 1 to 1G'
@@ -79,32 +79,32 @@ checks() {
     echo '1 2 3' | ion_cmd convert - --to binary > logs/c.10n
     echo '1e0' > 'logs/in a folder/.hidden/d.ion'; echo '1e0' > logs/d.txt; echo '1e0' > logs/.e.ion
     run pureefjord check logs
-    gives 'check, all broken records' 2 'logs/a.json:2:16: Unexpected: an octet that cannot stand there (if it is the first: compressed, UTF-16, or a byte order mark?)
+    gives 'check, all broken records' 2 'logs/a.json:2:16: Unexpected: an octet that cannot stand there; a comma or } was expected
     {"id":2,"to":x y}
                    ^
-logs/a.json:4:1: Unexpected: an octet that cannot stand there (if it is the first: compressed, UTF-16, or a byte order mark?)
+logs/a.json:4:1: Unexpected: an octet that cannot stand there; a field name or } was expected
     {"id":4}
     ^
 logs/a.json:5:20: Malformed: a number, word, timestamp, length or marker of no form that Ion has
       {"id":5,"to":1..0}
                        ^
-logs/a.json:6:18: Float: a float (1e0, nan, +inf); it is Ion, but this program reads null.float alone
+logs/a.json:6:18: Float: a float (1e0, nan, +inf); it is Ion, but this program reads null.float alone; pureefjord floats makes it 9d-05, and --floats reads it so
     {"id":6,"é":9e-05}
                      ^
-logs/a.json:8:18: Unexpected: an octet that cannot stand there (if it is the first: compressed, UTF-16, or a byte order mark?)
+logs/a.json:8:18: Unexpected: an octet that cannot stand there; an escape such as \n or the end " was expected
     {"id":8,"end":"no
                      ^
-logs/a.json:9:7: Incomplete: the input ends inside something that began
+logs/a.json:9:7: Incomplete: the input ends inside something that began; a comma or } was expected
     {"id":9
           ^
 logs/c.10n: accepted 3
-logs/in a folder/b.ion:5:7: Unexpected: an octet that cannot stand there (if it is the first: compressed, UTF-16, or a byte order mark?)
+logs/in a folder/b.ion:5:7: Unexpected: an octet that cannot stand there; a comma or ] was expected
         2 3
           ^
-logs/in a folder/b.ion:12:6: Unexpected: an octet that cannot stand there (if it is the first: compressed, UTF-16, or a byte order mark?)
+logs/in a folder/b.ion:12:6: Unexpected: an octet that cannot stand there; a value was expected
       c: )
          ^
-3 documents: 1 accepted, 2 refused (8 places)'
+3 documents: 1 accepted, 2 refused (8 places); 1 other file was left out'
     run pureefjord check -q --most 2 logs/a.json logs/c.10n; is 'check -q --most 2' "$status $(printf '%s\n' "$out" | grep -v '^    ' | cut -c 1-43)" '2 logs/a.json:2:16: Unexpected: an octet that
 logs/a.json:4:1: Unexpected: an octet that 
 logs/a.json: what stands behind this isn'"'"'t 
@@ -183,7 +183,7 @@ left.ion and right.json: 7 differences"
     run pureefjord diff long.ion long.2.ion; is 'diff, values put in' "$status $(printf '%s\n' "$out" | grep @@ | tr '\n' ' ')" '1 @@ 51 v @@ @@ 101 @@ @@ 3001 @@ @@ 4002 @@ '
     awk 'BEGIN { for (i = 0; i < 3000; i++) print "{id:" i ",v:1}" }' > all.ion; sed 's/v:1/v:2/' all.ion > all.2.ion
     run pureefjord diff -q all.ion all.2.ion; gives 'diff, every value' 1 'all.ion and all.2.ion: 3000 differences'
-    echo '[1,,2]' > bad.ion; run pureefjord diff one.ion bad.ion; gives 'diff, one refused' 2 'bad.ion:1:4: Unexpected: an octet that cannot stand there (if it is the first: compressed, UTF-16, or a byte order mark?)
+    echo '[1,,2]' > bad.ion; run pureefjord diff one.ion bad.ion; gives 'diff, one refused' 2 'bad.ion:1:4: Unexpected: an octet that cannot stand there; a value or ] was expected
     [1,,2]
        ^
 one.ion and bad.ion: right refused'
@@ -193,13 +193,13 @@ one.ion and bad.ion: right refused'
     mkdir -p old/deep new/deep .git; cp left.ion old/deep/a.ion; cp right.json new/deep/a.json; cp one.ion old/b.ion; ion_cmd convert one.ion --to binary > new/b.10n
     cp one.ion old/gone.ion; cp one.ion new/come.ion; cp one.ion old/c.ion; cp bad.ion new/c.ion
     run pureefjord diff -q old new
-    is 'diff, two folders' "$status $(printf '%s\n' "$out" | grep -v '^    ')" '2 old/b.ion and new/b.10n: equivalent 1
-new/c.ion:1:4: Unexpected: an octet that cannot stand there (if it is the first: compressed, UTF-16, or a byte order mark?)
+    is 'diff, two folders' "$status $(printf '%s\n' "$out" | grep -v '^    ')" '2 new/c.ion:1:4: Unexpected: an octet that cannot stand there; a value or ] was expected
 old/c.ion and new/c.ion: right refused
 new/come.ion: only in new
 old/deep/a.ion and new/deep/a.json: 7 differences
 old/gone.ion: only in old
 5 documents: 1 equivalent, 3 different, 1 refused'
+    mkdir none nothing; run pureefjord diff none nothing; gives 'diff, two empty folders' 4 'pureefjord: none and nothing: no document in these folders'
     run python3 "$top/tests/differences.py" "$program"; gives 'diff of random documents' 0 '250 pairs: as the program says'
     run pureefjord diff --format json old new; is 'diff, two folders, JSON' "$status $(printf '%s\n' "$out" | grep -c '^{"verdict"')" '2 5'
 }
@@ -210,15 +210,15 @@ pages() {
     echo '{id:1,text:"<b>&</b>",list:[1,2,3,4,5,6,7,8,9]} same' > old/a.ion; echo '{id:2,text:"<i>",list:[1,2,3,4,5,6,7,8,9]} same' > new/a.ion
     echo 1 > old/b.ion; echo 1 > new/b.ion; echo '1 ]' > old/c.ion; echo 1 > new/c.ion
     run pureefjord diff -q old/a.ion new/a.ion --html page.html; gives 'a page' 1 'old/a.ion and new/a.ion: 2 differences'
-    is 'a page has both sides, marked' "$(grep -c '<td class="minus">  id: 1,</td><td class="plus">  id: 2,</td>' page.html) $(grep -c '&lt;b&gt;&amp;&lt;/b&gt;' page.html)" '1 1'
+    is 'a page has both sides, marked' "$(grep -c '<td class="minus">  id: <mark>1</mark>,</td><td class="plus">  id: <mark>2</mark>,</td>' page.html) $(grep -c '&lt;<mark>b&gt;&amp;&lt;/b</mark>&gt;' page.html)" '1 1'
     is 'a page folds what is equal' "$(grep -c '<summary>10 equal lines</summary>' page.html)" 1
     is 'a page needs no network' "$(grep -c -i -e http -e 'src=' -e '@import' -e 'url(' page.html)" 0
     is 'a page is whole' "$(tail -n 1 page.html)" '</body></html>'
-    run pureefjord diff -q old new --html page.html; is 'a page of two folders' "$status $(grep -o '<h2>[^<]*' page.html | cut -c 5- | tr '\n' '|')" '2 old/a.ion and new/a.ion|old/b.ion and new/b.ion: equivalent 1|old/c.ion and new/c.ion: left refused|'
+    run pureefjord diff -q old new --html page.html; is 'a page of two folders' "$status $(grep -o '<h2 id=[^<]*' page.html | cut -d '>' -f 2 | tr '\n' '|')" '2 old/a.ion and new/a.ion|old/c.ion and new/c.ion: left refused|'
     is 'a page tells a refusal' "$(grep -c 'old/c.ion:1:3: Unexpected' page.html)" 1
     run pureefjord diff old/a.ion new/a.ion --html absent/page.html; has 'a page, no folder' 4 'No such file or directory'
     run pureefjord diff old/a.ion new/a.ion --html /dev/full; gives 'a page, no file' 4 'pureefjord: /dev/full is no file that can be replaced'
-    run pureefjord diff absent new/a.ion --html page.html; is 'a page of what is not there' "$status $(grep -c 'fault Open' page.html)" '4 2'
+    run pureefjord diff absent new/a.ion --html page.html; is 'a page of what is not there' "$status $(grep -c 'fault Open' page.html)" '4 3'
     is 'a page leaves nothing beside it' "$(ls -A | tr '\n' ' ')" 'new old page.html '
 }
 
@@ -266,6 +266,7 @@ print(repr(lines("data.json")) == repr(lines("back.json")), len(lines("back.json
     is 'JSON read again is the same Ion' "$(ion_cmd compare data.json back.json)" 'equivalent 300'
     echo '{"x":9e-05,"y":"1e5"}' > float.json; run pureefjord floats float.json; gives 'floats' 0 '{"x":9d-05,"y":"1e5"}'
     run pureefjord floats -o decimals.json float.json; run pureefjord json decimals.json; gives 'a float, as a decimal and back' 0 '{"x":0.00009,"y":"1e5"}'
+    run python3 "$top/tests/layout.py" "$program"; has 'indented text and JSON, however cut' 0 '1500 documents: as they have to be'
     run ion_floats_to_decimals data.10n; gives 'floats of binary' 2 'ion_floats_to_decimals: data.10n is binary; floats of text alone are written'
     run ion_floats_to_decimals absent; gives 'floats, a missing file' 4 'ion_floats_to_decimals: absent: No such file or directory'
     run ion_floats_to_decimals a b; has 'floats, two names' 3 'usage: ion_floats_to_decimals [FILE]'
@@ -277,7 +278,7 @@ print(repr(lines("data.json")) == repr(lines("back.json")), len(lines("back.json
         out=$(pureefjord $command all.ion 2>&1 > /dev/full); status=$?; has "$command, a full device" 4 'fault Write'
         out=$({ pureefjord $command long.ion; echo "ended $?" >&2; } 2>&1 > >(head -c 1 > /dev/null)); is "$command, a missing file before a closed pipe" "${out##*ended }" 4
         awk 'BEGIN { for (i = 0; i < 90000; i++) print "[\"some text to fill a pipe\"]" }' > great.ion
-        out=$({ { pureefjord $command great.ion; echo "ended $?" >&2; } | head -c 1 > /dev/null; } 2>&1); is "$command, a closed pipe" "$(printf '%s\n' "$out" | grep -c 'fault Write') ${out##*ended }" '1 4'
+        out=$({ { pureefjord $command great.ion; echo "ended $?" >&2; } | head -c 1 > /dev/null; } 2>&1); is "$command, a closed pipe" "$(printf '%s\n' "$out" | grep -c -v ended) ${out##*ended }" '0 141'
     done
 }
 
@@ -296,12 +297,12 @@ converts() {
     clean
     mkdir -p 'in/a folder' in/.git
     echo '{"a":1}' > in/a.json; echo '[x]' > 'in/a folder/b.ion'; echo 1 | ion_cmd convert - --to binary > in/c.10n; echo text > in/read.me; echo '1 ]' > in/.git/x.ion
-    run pureefjord to binary in -o out; gives 'to, a folder' 0 'out: 3 documents'
+    run pureefjord to binary in -o out; gives 'to, a folder' 0 'out: 3 documents; 1 other file was left out'
     is 'to, the files of the folder' "$(cd out && find . -type f | LC_ALL=C sort | tr '\n' ' ')" './a folder/b.10n ./a.10n ./c.10n '
     run pureefjord diff -q in out; has 'to, the same data' 0 '3 documents: 3 equivalent'
     (umask 027; pureefjord to text in -o rights > /dev/null); is 'to, the rights of a folder' "$(stat -c %a rights rights/a.ion | tr '\n' ' ')" '750 640 '
     run pureefjord to text out -o out; gives 'to, a folder that is there' 4 'pureefjord: out is there already, and no empty folder'
-    mkdir fresh; run pureefjord to text in -o fresh/; gives 'to, an empty folder' 0 'fresh: 3 documents'
+    mkdir fresh; run pureefjord to text in -o fresh/; gives 'to, an empty folder' 0 'fresh: 3 documents; 1 other file was left out'
     echo '1 ]' > in/broken.ion; run pureefjord to binary in -o none; has 'to, one refused' 2 'in/broken.ion:1:3: Unexpected'
     is 'to, one refused: no folder' "$(ls -A | tr '\n' ' ')" 'fresh in out rights '
     rm in/broken.ion; echo 1 > in/a.ion; run pureefjord to binary in -o none; gives 'to, two of one name' 4 'pureefjord: a.ion and a.json would both be a.10n'; rm in/a.ion
@@ -354,6 +355,12 @@ terminals() {
     is 'progress on a terminal' "$(ION_CMD=./slow shown pureefjord check great.ion | grep -c '% of 126 KB, .*/s, .* left')" 1
     is 'no progress in a pipe' "$(ION_CMD=./slow pureefjord check great.ion 2>&1 | grep -c %)" 0
     is 'progress of a conversion' "$(ION_CMD=./slow shown -o told pureefjord cat great.ion | grep -c '% of 126 KB')" 1
+    is 'a terminal that can do nothing: colours' "$(TERM=dumb shown pureefjord pretty a.ion | cat -v | tr '\n' ' ') $(TERM=dumb shown pureefjord check a.ion | cat -v) $(TERM=dumb shown pureefjord diff a.ion c.ion | cat -v | grep -c '\^\[')" '{   a: 1 } x  a.ion: accepted 2 0'
+    is 'a terminal that can do nothing: progress' "$(ION_CMD=./slow TERM=dumb "$top/tests/on_terminal.py" pureefjord check great.ion | tr -d '\r' | cat -v)" 'great.ion: accepted 5000'
+    is 'a narrow terminal: progress in one row' "$(ION_CMD=./slow "$top/tests/on_terminal.py" sh -c 'stty cols 20; pureefjord check great.ion; pureefjord cat great.ion > told' | tr '\r' '\n' | sed 's/\x1b\[K//g' | awk '/%/ { shown++; if (length($0) > 19) wide++ } END { print (shown > 2), wide + 0 }')" '1 0'
+    { echo '['; awk 'BEGIN { for (i = 0; i < 60000; i++) print "[\"some text\"]," }'; echo '1]'; } > one.ion; sed 's/some text/same text/' one.ion > two.ion
+    printf '#!/bin/sh\n[ "$1" = compare ] || { { head -c 300000; sleep 2; cat; } | "%s" "$@"; exit; }\nexec "%s" "$@"\n' "$program" "$program" > later; chmod +x later
+    is 'progress where differences are looked for' "$(ION_CMD=./later shown pureefjord diff -q one.ion two.ion | grep -c '% of 1.8 MB')" 1
     is 'no progress between lines' "$(ION_CMD=./slow shown pureefjord cat great.ion | grep -c %)" 0
 }
 
@@ -376,9 +383,10 @@ catalogs() {
     run pureefjord check --catalog absent uses.ion; gives 'no such catalog' 4 'pureefjord: absent: fault Open: the file cannot be opened (is it there, and may you read it?)'
     run ion_where --catalog absent uses.ion; gives 'ion_where, no such catalog' 4 'ion_where: absent: fault Open: the file cannot be opened (is it there, and may you read it?)'
     run ion_where --catalog tables uses.ion; has 'ion_where, a folder as catalog' 4 'ion_where: tables: fault Read'
-    for script in ion_check_all 'ion_compare_trees tables tables' check_list compare_list; do
-        words=${script#* }; [ "$words" != "$script" ] || words=-; script=${script%% *}
-        [ "$script" != ion_check_all ] || words=
+    run ion_compare_trees --catalog absent tables tables; has 'ion_compare_trees, no such catalog' 4 'ion_compare_trees: absent: fault Open'
+    run ion_compare_trees --catalog no.ion tables tables; has 'ion_compare_trees, a refused catalog' 2 'no.ion:1:3: BadTable'
+    for script in ion_check_all check_list compare_list; do
+        words=-; [ "$script" != ion_check_all ] || words=
         absent=4 refused=2
         case $script in *_list) absent=75 refused=4 ;; esac
         run "$script" --catalog absent $words; gives "$script, no such catalog" "$absent" "$script: absent: fault Open"
@@ -447,8 +455,8 @@ faults() {
         is "$words, no program: nothing is written" "$(ls | tr '\n' ' ')" 'a.ion good list pairs '
     done
     out=$(ls a.ion list | ion_check_all 2>&1); status=$?; has 'ion_check_all, lines for NULs' 3 'ion_check_all: no NUL stands after the names; find has -print0 for that'
-    run ion_at a.ion 1 user.name; gives 'ion_at, a wrong path' 1 'ion_at: nothing stands at 1 user.name of a.ion'
-    run pureefjord at a.ion 7; gives 'at, a wrong number' 1 'pureefjord: nothing stands at 7 of a.ion'
+    run ion_at a.ion 1 user.name; gives 'ion_at, a wrong path' 1 'ion_at: nothing stands at 1 user.name of a.ion; a place is as 1 tags [2], counted from 1'
+    run pureefjord at a.ion 7; gives 'at, a wrong number' 1 'pureefjord: nothing stands at 7 of a.ion; a place is as 1 tags [2], counted from 1'
     ln -s loop loop; run pureefjord check loop; has 'a file that cannot be opened' 4 'loop: fault Open'; rm loop
     chmod 000 list; if [ ! -r list ]; then run pureefjord check list; has 'an unreadable file' 4 'list: fault Open'; else echo 'left out: an unreadable file (root reads all)'; fi; chmod 644 list
     for words in 'check a.ion' 'diff a.ion a.ion' 'help' 'help json' 'at a.ion 1' 'floats a.ion' '--version'; do
@@ -462,16 +470,17 @@ faults() {
     out=$(pureefjord check - 2>&1 <&-); status=$?; has 'check, no standard input' 4 '-: fault Open'
     without_reader='import os, subprocess, sys; there, here = os.pipe(); os.close(there); sys.exit(subprocess.run(sys.argv[1:], stdout=here).returncode)'
     for words in 'pureefjord check a.ion' 'pureefjord diff a.ion a.ion' 'pureefjord help' 'pureefjord at a.ion 1' 'pureefjord cat a.ion' 'pureefjord json a.ion' 'pureefjord floats a.ion' 'ion_at a.ion 1' 'ion_json a.ion' 'ion_pretty a.ion' 'ion_floats_to_decimals a.ion'; do
-        run python3 -c "$without_reader" $words; has "$words, no reader" 4 'fault Write'
+        run python3 -c "$without_reader" $words; gives "$words, no reader" 243 ''
     done
-    mkdir with; mkfifo with/pipe.ion; ln -s absent with/gone.ion; run pureefjord check with; gives 'check, a pipe and a broken link in a folder' 4 'with/gone.ion: fault Open: the file cannot be opened (is it there, and may you read it?)'
+    mkdir with; mkfifo with/pipe.ion; ln -s absent with/gone.ion; run pureefjord check with; gives 'check, a pipe and a broken link in a folder' 4 'with/gone.ion: fault Open: the file cannot be opened: No such file or directory
+1 document: 0 accepted, 0 refused (0 places), 1 without an answer; 1 other file was left out'
     printf '#!/bin/sh\nkill -9 $$\n' > killed; chmod +x killed
     for words in 'check a.ion' 'diff a.ion a.ion' 'cat a.ion' 'pretty a.ion' 'json a.ion' 'at a.ion 1' 'to text a.ion -o out'; do
         run env ION_CMD=./killed pureefjord $words; is "$words, a program that is killed" "$status" 4
     done
     run env ION_CMD=./killed check_list list; is 'check_list, a program that is killed' "$status" 75
     run env ION_CMD=./killed ion_where a.ion; gives 'ion_where, a program that is killed' 4 'a.ion: ion_cmd ended early'
-    echo ']' > b.ion; out=$(ion_where b.ion 2>&1 > /dev/full); status=$?; gives 'ion_where, a full device' 4 'ion_where: fault Write: No space left on device'
+    echo ']' > b.ion; out=$(ion_where b.ion 2>&1 > /dev/full); status=$?; gives 'ion_where, a full device' 4 'ion_where: standard output: fault Write: No space left on device'
 }
 
 installed() {
@@ -489,6 +498,62 @@ installed() {
     is 'installed, modules beside each other' "$(ls prefix/share/pureefjord | grep -c -e '^ion_lines.py$' -e '^VERSION$')" 2
 }
 
+# Random documents, and commands that are tried by them; tests/try_writer.py tries more, and takes a minute or more.
+writers() {
+    clean
+    run pureefjord generate -o made --seed 7 --count 12; gives 'generate' 0 'made: 12 documents by the seed 7'
+    run pureefjord generate -o again --seed 7 --count 12; run diff -r made again; gives 'generate, the same again' 0 ''
+    run pureefjord diff -q made/documents made/values; has 'what is generated carries its values' 0 '12 equivalent, 0 different, 0 refused'
+    run pureefjord generate -o made; gives 'generate, a folder that is there' 4 'pureefjord: made is there already, and no empty folder'
+    run pureefjord generate --count 12; has 'generate without a folder' 3 'the following arguments are required: -o/--output'
+    run pureefjord generate -o binary --binary --count 9; is 'generate, one encoding' "$(ls binary/documents | grep -vc '10n$')" 0
+    run pureefjord generate -o plain --plain --text --count 20; is 'generate, plain' "$(cat plain/documents/*.ion | grep -c '/[*/] *c')" 0
+    run pureefjord generate -o bad --refused --count 12; is 'generate --refused' "$(cat bad/reasons.txt | wc -l)" 12
+    run pureefjord check bad/documents; has 'what has to be refused is refused' 2 '12 documents: 0 accepted, 12 refused'
+    is 'for these reasons' "$(cut -f 2 bad/reasons.txt)" "$(printf '%s\n' "$out" | sed -n 's/^bad[^ ]* \(octet [0-9]*: \)\{0,1\}\([A-Z][A-Za-z0-9]*\): .*/\2/p')"
+    printf '#!/bin/sh\nion_cmd convert "$1" --to text | sed s/-0d/0d/ > "$2"\n' > drops; printf '#!/bin/sh\nkill -9 $$\n' > killed
+    printf '#!/bin/sh\ncat "$1" > "$2"; grep -q true "$1" && exit 7; exit 0\n' > fails; chmod +x drops killed fails
+    run pureefjord try-writer './drops {in} {out}' -o wrong; has 'a writer that is wrong' 1 'shrunk to 4 octets of text)
+    -0d0
+  - -0d0
+  + 0d0
+try-writer: 1000 documents'
+    is 'what is kept of it' "$(cat wrong/1/input.ion wrong/1/input_values.ion wrong/1/output.ion wrong/1/output_values.ion | tr '\n' ' ')" '-0d0-0d0 0d0 0d0 '
+    run pureefjord try-writer 'cat {in}' --count 50; gives 'a writer that copies' 0 'try-writer: 50 documents, none wrong'
+    run pureefjord try-writer cat --count 50 -o none; gives 'over standard streams' 0 'try-writer: 50 documents, none wrong'; is 'nothing is kept of it' "$(ls none 2>&1 | wc -l)" 1
+    run pureefjord try-writer './fails {in} {out}' --most 1; has 'a writer that fails' 1 '1: status 7 (document'
+    run pureefjord try-writer './killed {in} {out}' --count 3; has 'a writer that is killed' 1 '1: signal 9 (document'
+    run pureefjord try-writer true --text --count 3; has 'a writer that writes nothing' 1 '1: different 1'
+    run pureefjord try-writer 'sleep 9' --seconds 1 --count 1; has 'a writer that is slow' 1 '1: no answer in 1 second ('
+    out=$("$top/tests/on_terminal.py" pureefjord try-writer 'sleep 2' --count 1); status=$?; has 'how far it is, on a terminal' 0 '0 of 1 documents, 0 wrong'
+    run pureefjord try-writer './absent {in}'; gives 'no writer' 4 'pureefjord: ./absent: No such file or directory'
+    run pureefjord try-writer ''; gives 'no words of a writer' 3 'pureefjord: a command is wanted'
+    run pureefjord try-writer "'"; has 'a quote alone' 3 'pureefjord: '
+    run pureefjord try-reader 'ion_cmd check {in}' --count 50; gives 'a reader' 0 'try-reader: 50 documents, none wrong'
+    run pureefjord try-reader true --most 1; has 'a reader that takes everything' 1 '1: accepts what is no document: '
+    run pureefjord try-reader false --most 1; has 'a reader that takes nothing' 1 '1: refuses a document: status 1 (document'
+    run pureefjord inspect "$top/examples/cut.10n"; has 'inspect, a refusal' 2 '       6   0  21                       cut  int, 1 octet
+'"$top/examples/cut.10n: octet 7: Incomplete"
+    printf '\340\001\000\352\356\224\201\203\336\220\206\272\331\204\201t\205!\001\210!\002\207\262\201z\266q\012q\013q\014' > import.10n
+    echo '$ion_shared_symbol_table::{name:"t",symbols:["p","q"]}' > tables.ion
+    run pureefjord inspect import.10n --catalog tables.ion; has 'inspect, a catalog' 0 '$11 q  symbol'; has 'inspect, a local table' 0 '$12 = "z"'
+    run pureefjord inspect import.10n; has 'inspect, an import that the catalog lacks' 2 'octet 26: MissingImport'
+    run pureefjord inspect "$top/examples/short.ion"; has 'inspect, a text' 4 "pureefjord: $top/examples/short.ion is text"
+    run pureefjord inspect absent; has 'inspect, no file' 4 'absent: fault Open'
+    run python3 "$top/tests/generated.py" "$program" 100; has 'documents as they were spelled' 0 ' passed, 0 failed'
+    run python3 "$top/tests/inspected.py" "$program" 60; gives 'inspect, random documents' 0 '120 passed, 0 failed'
+}
+
+# Tests in files of their own, each of which tells its rows
+
+beside() {
+    for test in folders messages library diff machines; do
+        run bash "$top/tests/$test.sh" "$program"
+        is "tests/$test.sh" "$status" 0
+        printf '%s\n' "$out"
+    done
+}
+
 words
 checks
 differs
@@ -501,8 +566,10 @@ terminals
 catalogs
 versions
 merges
+writers
 faults
 installed
+beside
 is 'no temporary file is left' "$(ls -A "$folder/tmp")" ''
 echo "$passed passed, $failed failed"
 [ "$failed" = 0 ]

@@ -1,5 +1,5 @@
 #!/bin/sh
-# Runs the blocks of docs/MANY_MACHINES.md whose engines are installed (GNU parallel, rsync, Slurm with a node that is up):
+# Runs the blocks of docs/MANY_MACHINES.md whose engines are installed (GNU parallel, rsync, Dask, Slurm with a node that is up):
 # tests/many_machines.sh PROGRAM. Of some hundred documents one is refused, one is missing and one can't be read; each engine
 # has to tell of them and count all as one run of check_list does. Hosts are folders: see `ssh` below.
 set -u
@@ -104,6 +104,73 @@ if command -v parallel > /dev/null; then
     cat great.10n great.10n > twice.10n; is 'documents one after another, binary' "$(ion_cmd compare twice.10n joined.10n)" 'equivalent 180000'
 else
     echo 'left out: one machine, several hosts, one great text (no GNU parallel)'
+fi
+
+# Of 5,000 documents `split` names the lists list.00 to list.89 and then list.9000 to list.9009: each task has to take its own.
+mkdir great && (
+    cd great && mkdir data && cp "../data/a document 0.10n" data/0.10n && touch data/missing.10n
+    cp ../data/float.10n data && seq 1 4998 | while read -r number; do ln data/0.10n "data/$number.10n"; done
+    rm data/0.10n && bash -c "$first" && rm data/missing.10n
+    for task in $(seq 0 $(($(ls lists | wc -l) - 1))); do SLURM_ARRAY_TASK_ID=$task sh "$EXAMPLES/slurm_array.sh"; done > told
+)
+is 'Slurm, 5,000 documents: lists' "$(ls great/lists | wc -l) $(ls great/lists | tail -n 1)" '100 list.9009'
+is 'Slurm, 5,000 documents by its script' "$(cd great && summed told)" 'data/float.10n	2	refused 5 Float
+data/missing.10n	4	fault Open
+5000 documents'
+
+# The scheduler of Dask and two workers, of which one is ended by its id while it has tasks. A task takes them half a second.
+dask() {
+    mkdir old new dask dask/bin
+    number=0
+    while [ $number -lt 200 ]; do
+        echo "{id:$number}" > "old/a document $number.ion"
+        echo "{\"id\":$number}" > "new/a document $number.json"
+        number=$((number + 1))
+    done
+    echo '{id:1}' > "$(printf 'old/an escape \033[1m.ion')"; echo '{id:2}' > "$(printf 'new/an escape \033[1m.json')"
+    echo '{id:7}' > 'new/a document 6.json'; echo '[1,,2]' > 'new/a document 150.json'; ln -s itself.ion old/itself.ion; echo 1 > new/itself.ion; echo 1 > old/gone.ion
+    printf '#!/bin/sh\necho "$WORKER" >> "%s/dask/told"\nsleep 0.5\nexec "%s/tools/compare_list" "$@"\n' "$PWD" "$top" > dask/bin/compare_list
+    chmod +x dask/bin/compare_list
+    port=$("$python" -c 'import socket; s = socket.socket(); s.bind(("127.0.0.1", 0)); print(s.getsockname()[1])')
+    SCHEDULER=tcp://127.0.0.1:$port
+    export SCHEDULER
+    "$python" -m distributed.cli.dask_scheduler --host 127.0.0.1 --port "$port" --no-dashboard > dask/scheduler 2>&1 &
+    scheduler=$!
+    for name in a b; do
+        WORKER=$name PATH=$PWD/dask/bin:$PATH "$python" -m distributed.cli.dask_worker "$SCHEDULER" --host 127.0.0.1 --no-nanny --no-dashboard --nthreads 1 --local-directory "$PWD/dask" > "dask/worker.$name" 2>&1 &
+        echo $! > "dask/id.$name"
+    done
+    runs_dask() { block Dask | sed -n 3p | sed "s|^|'$python' |; s| 50\$| 10|" > "$folder/commands"; bash "$folder/commands" > dask/out 2> dask/errors < /dev/null; echo $? > dask/status; }
+    runs_dask & client=$!
+    until [ "$(grep -c a dask/told 2> /dev/null)" -ge 3 ] 2> /dev/null || [ -e dask/status ]; do sleep 0.1; done
+    kill -9 "$(cat dask/id.a)"; grep -c a dask/told > dask/before
+    wait "$client"
+    kill "$(cat dask/id.b)" "$scheduler" 2> /dev/null
+    wait
+}
+
+# dask_wanted: what has to come, by a run of compare_list over the same pairs.
+dask_wanted() {
+    for name in old/*.ion; do
+        other=new/$(basename "$name" .ion); [ -e "$other.json" ] && other=$other.json || other=$other.ion
+        if [ -e "$other" ]; then printf '%s\0%s\0' "$name" "$other"; fi
+    done | compare_list -0 - | grep -v '^#'
+    printf 'old/gone.ion\t\t1\tonly in old\n'
+    printf 'old/itself.ion\tnew/itself.ion\t4\tfault Open\n'
+}
+
+python=
+for each in python3 /usr/bin/python3; do
+    if [ -z "$python" ] && "$each" -c 'import distributed' 2> /dev/null; then python=$each; fi
+done
+if [ -n "$python" ]; then
+    dask
+    is 'Dask, its status' "$(cat dask/status)" 4
+    is 'Dask, all that one run tells' "$(sed '$d' dask/out | LC_ALL=C sort)" "$(dask_wanted | LC_ALL=C sort -u)"
+    is 'Dask, no pair is lost with a worker' "$(tail -n 1 dask/out)" '202 of 202 pairs were compared'
+    is 'Dask, both workers had tasks, and one none after its end' "$(grep -c b dask/told | awk '{ print ($1 > 3) }') $(($(grep -c a dask/told) - $(cat dask/before)))" '1 0'
+else
+    echo 'left out: Dask (no Python package distributed)'
 fi
 
 if command -v sbatch > /dev/null && sinfo -h -t idle,mix -o %n 2> /dev/null | grep -q .; then

@@ -29,7 +29,8 @@ def main(words):
             os.write(1, block)
     except OSError:  # how a terminal ends
         pass
-    return os.waitstatus_to_exitcode(os.waitpid(number, 0)[1])
+    status = os.waitpid(number, 0)[1]
+    return os.WEXITSTATUS(status) if os.WIFEXITED(status) else -os.WTERMSIG(status)
 
 
 sys.exit(main(sys.argv[1:]))

@@ -30,14 +30,14 @@ def rows(text):
 
 def lines(text, heading):
     """The command lines under a heading, but those of `rt`."""
-    section = text.split(f"## {heading}\n")[1].split("\n## ")[0]
+    section = re.sub("```.*?```", "", text.split(f"## {heading}\n")[1].split("\n## ")[0], flags=re.DOTALL)
     found = [line.strip() for line in section.splitlines() if line.startswith("    ")]
     return [line for line in found if not re.search(r"(^|&& )rt ", line)]
 
 
 def absent_names(text):
     """The documents that the lines of `rt` name and that aren't there."""
-    names = set(re.findall(r"\.\./\.\./(examples/\S+)", text.split("## Install\n")[1].split("\n## ")[0]))
+    names = set(re.findall(r"\.\./\.\./(examples/[\w.]+)", text.split("## Install\n")[1].split("\n## ")[0]))
     return [f"no {name}" for name in sorted(names) if not os.path.exists(os.path.join(TOP, name))] or [None]
 
 

@@ -90,11 +90,12 @@ tarball() {
     began=$(date +%s%N)
     export HOME="$folder/home"
     mkdir "$HOME"
-    lines_of "$top/README.md" '### From a release' | grep -v -e '\.deb' -e '\.whl' > "$folder/install"
+    lines_of "$top/README.md" '### From a release (none is published yet)' | grep -v -e '\.deb' -e '\.whl' > "$folder/install"
     well 'the lines that install' bash -ec "cd '$dist'; $(cat "$folder/install"); ion_cmd --help || [ \$? = 3 ]; man -w ion_cmd"
     prefix=$HOME/.local
     printf '{"a": 1}\n{"a": 2}\n{"a": ,}\n' > "$folder/broken.json"
     is 'the place of a broken line' "$(PATH="$prefix/bin:$PATH" ion_where "$folder/broken.json" 2>&1 | sed -n '1s/.*broken.json:\([0-9:]*\).*/\1/p')" '3:7:'
+    is 'small files go by the library' "$("$prefix/bin/pureefjord" --version)" "pureefjord ${version%+unproved}, with $prefix/lib/libpureefjord.so"
     echo "to the place of a broken line: $((($(date +%s%N) - began) / 1000000)) ms"
     well 'the lines of the README' python3 "$top/tests/readme.py" "$prefix/bin/ion_cmd" "$prefix"
     tail -n 1 "$folder/told"
@@ -174,7 +175,7 @@ def test_differs():
     try:
         pureefjord.assert_same_ion(b"{a: 1}", b"{a: 2}")
     except AssertionError as it:
-        assert "value 1 at a differs" in str(it)
+        assert "@@ 1 a @@" in str(it)
     else:
         raise AssertionError("they differ")
 
@@ -242,9 +243,12 @@ END
     mkdir "$folder/runner"
     well 'the steps of CI' steps
     cp "$top/examples/cut.10n" "$folder/repository/broken.10n"
-    is 'CI tells what is broken' "$(steps 2>&1 | grep -c 'broken.10n:.*Incomplete')" 1
+    is 'CI tells what is broken' "$(steps 2>&1 | grep -c '^::error file=./broken.10n,title=Incomplete')" 1
     steps > /dev/null 2>&1
     is 'and fails' "$([ $? -ne 0 ] && echo fails)" fails
+    rm "$folder/repository/broken.10n" "$folder/repository/tests/actual"/*
+    steps > /dev/null 2>&1
+    is 'CI fails where a test wrote nothing' "$([ $? -ne 0 ] && echo fails)" fails
 }
 
 whole

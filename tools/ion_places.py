@@ -22,7 +22,7 @@ REASONS = {
     "BadUtf8": "octets of a text that are no UTF-8",
     "BadBase64": "a blob whose content is no Base64, padding included",
     "Ambiguous": "operators that end in - before a digit; with a space between it is read",
-    "Unexpected": "an octet that cannot stand there (if it is the first: compressed, UTF-16, or a byte order mark?)",
+    "Unexpected": "an octet that cannot stand there",
     "Depth": "containers inside each other deeper than the limit; --depth goes up to 128",
     "ItemTooLong": "one top-level value of more octets than the limit; --item goes up to 1073741824",
     "Version": "a version marker of another Ion than 1.0",
@@ -38,11 +38,35 @@ FAULTS = {
 }
 # What is Ion, or may be, and isn't read: a refusal for one of these says nothing against a document.
 BEYOND = {"Float", "TooLarge", "ImportGap", "MissingImport", "TableTooLarge", "Ambiguous", "Depth", "ItemTooLong", "Version"}
-CONTROL = {code: " " for code in [*range(32), 127]}
+UTF_16, UTF_8 = "it is UTF-16; iconv -f UTF-16", " -t UTF-8 writes what is read"
+# What begins so is another kind of file.
+FRONTS = {
+    b"\xef\xbb\xbf": "a byte order mark; tail -c +4 leaves it out",
+    b"\xff\xfe": UTF_16 + UTF_8,
+    b"\xfe\xff": UTF_16 + UTF_8,
+    b"\x1f\x8b": "it is compressed by gzip; gzip -dc writes what is read, and a file named .gz is read so",
+    b"\x28\xb5\x2f\xfd": "it is compressed by zstd; zstd -dc writes what is read",
+    b"\xfd7zXZ": "it is compressed by xz; xz -dc writes what is read",
+    **{b"BZh%d1AY" % level: "it is compressed by bzip2; bzip2 -dc writes what is read" for level in range(1, 10)},
+    b"PK\x03\x04": "it is a zip archive",
+    b"PAR1\x15": "it is Parquet",
+    b"%PDF": "it is a PDF",
+    b"<": "HTML and XML begin so",
+    b"#": "YAML and scripts begin so; a comment of Ion begins with //",
+    b"---": "YAML begins so",
+}
+# A number at the end of some octets, with the one behind it; its exponent stands behind an e.
+NUMBER = re.compile(rb"(?<![\w.+-])(-?[0-9][0-9_]*(?:\.[0-9_]*)?)(?:[eE]([+-]?[0-9]+)|[dD][+-]?[0-9]+)?[^0-9]?$")
+CONTROL = {code: " " for code in [*range(32), *range(127, 160)]}
 
 
 def in_words(reason):
     return REASONS.get(reason) or FAULTS.get(reason) or "see the page ion_cmd(1)"
+
+
+def shown(name):
+    """A name as it is printed: on one line, and so that it moves no terminal."""
+    return re.sub("[\x00-\x1f\x7f-\x9f]", "?", name)
 
 
 def octets(file, start, count):
@@ -62,8 +86,8 @@ def of_binary(name, file, offset, reason):
     """The octet that decides stands in brackets among those around it."""
     start = max(offset - 13, 0)
     before, decides, after = (octets(file, *span) for span in ((start, offset - 1 - start), (offset - 1, 1), (offset, 6)))
-    shown = f"{start:>8}:{hexadecimal(before)} [{hexadecimal(decides)[1:]}]{hexadecimal(after)}"
-    return [f"{name}: octet {offset}: {reason}: {in_words(reason)}", shown]
+    around = f"{start:>8}:{hexadecimal(before)} [{hexadecimal(decides)[1:]}]{hexadecimal(after)}"
+    return [f"{shown(name)}: octet {offset}: {reason}: {in_words(reason)}", around]
 
 
 def lines_before(file, end, start=0):
@@ -91,8 +115,25 @@ def width(part):
     return sum(octet & 0xC0 != 0x80 for octet in part)
 
 
-def of_text(name, file, offset, reason, line=None, begin=None):
-    """With at most 60 octets before the place, and the rest of the line up to 18. The line and its begin may be known already."""
+def kind_by_front(file, offset):
+    """What kind of file this is, where its front shows it and was refused; else nothing."""
+    front = octets(file, 0, 8) if offset <= 8 else b""
+    if front[1:2] == b"\0" and front[:1].strip() or front[:1] == b"\0" and front[1:2].strip(b"\0 \t\r\n"):
+        return UTF_16 + ("BE" if front[:1] == b"\0" else "LE") + UTF_8
+    return next((kind for begin, kind in FRONTS.items() if front.startswith(begin)), "")
+
+
+def cure(reason, front):
+    """What can be done about a number at the end of these octets, or nothing."""
+    number = NUMBER.search(front)
+    if reason == "Float" and number and number[2]:
+        return f"pureefjord floats makes it {number[1].decode()}d{number[2].decode()}, and --floats reads it so"
+    return 'a string, "123..", keeps all digits' if reason == "TooLarge" and number else ""
+
+
+def of_text(name, file, offset, reason, line=None, begin=None, more=""):
+    """With at most 60 octets before the place, and the rest of the line up to 18. The line and its begin may be known already, and
+    more to be said than the reason."""
     before = max(offset - 1, 0)
     if line is None:
         count, begin = lines_before(file, before)
@@ -105,9 +146,10 @@ def of_text(name, file, offset, reason, line=None, begin=None):
         front = front.lstrip(bytes(range(0x80, 0xC0)))
     rest = octets(file, before, 18).split(b"\n")[0]
     rest = plain(rest if ascii_alone else rest.decode("utf-8", "ignore").encode() or rest, ascii_alone).rstrip(" ")
-    shown = plain(front, ascii_alone)
     caret = " " * (len(front) if ascii_alone else width(front)) + "^"
-    return [f"{name}:{line}:{max(column, 1)}: {reason}: {in_words(reason)}", f"    {shown}{rest}", f"    {caret}"]
+    more = kind_by_front(file, offset) or more or cure(reason, octets(file, max(begin, before - 200), min(200, before - begin) + 1))
+    why = in_words(reason) + (f"; {more}" if more else "")
+    return [f"{shown(name)}:{line}:{max(column, 1)}: {reason}: {why}", f"    {plain(front, ascii_alone)}{rest}", f"    {caret}"]
 
 
 def column_at(file, begin, before):
@@ -122,6 +164,6 @@ def column_at(file, begin, before):
     return count
 
 
-def where(name, file, offset, reason):
+def where(name, file, offset, reason, more=""):
     """The lines that tell where a document is refused; `file` is read from its begin."""
-    return of_binary(name, file, offset, reason) if is_binary(file) else of_text(name, file, offset, reason)
+    return of_binary(name, file, offset, reason) if is_binary(file) else of_text(name, file, offset, reason, more=more)

@@ -1,4 +1,5 @@
 """How far the reading of files is, shown on a terminal: octets, rate and time left. Read by pureefjord."""
+import collections
 import contextlib
 import os
 import sys
@@ -7,6 +8,7 @@ import time
 
 UNITS = ("octets", "KB", "MB", "GB", "TB")
 FIRST, EACH = 1.0, 0.25  # seconds before it shows itself, and between two times
+LATELY = 20  # so many times make the rate
 
 
 def size(octets):
@@ -17,8 +19,21 @@ def size(octets):
     return f"{amount:.0f} {UNITS[unit]}" if unit == 0 or amount >= 100 else f"{amount:.1f} {UNITS[unit]}"
 
 
+def sizes_of(paths):
+    """How many octets these files have, where a terminal shows it."""
+    return sum(os.stat(path).st_size for path in paths if os.path.isfile(path)) if sys.stderr.isatty() else 0
+
+
 def left(seconds):
     return f"{seconds:.0f} s left" if seconds < 120 else f"{seconds / 60:.0f} min left"
+
+
+def columns():
+    """How wide the terminal is that shows the errors."""
+    try:
+        return os.get_terminal_size(sys.stderr.fileno()).columns or 80
+    except (OSError, ValueError):
+        return 80
 
 
 class Meter:
@@ -26,8 +41,9 @@ class Meter:
 
     def __init__(self, total, on=True):
         self.total, self.done, self.files, self.shown = total, 0, set(), False
-        self.lock, self.ended, self.begun = threading.Lock(), threading.Event(), time.monotonic()
-        self.on = on and total > 0 and sys.stderr.isatty()
+        self.lock, self.ended = threading.Lock(), threading.Event()
+        self.lately = collections.deque([(time.monotonic(), 0)], LATELY)  # when so many octets had been read
+        self.on = on and total > 0 and sys.stderr.isatty() and os.environ.get("TERM") != "dumb"
 
     def __enter__(self):
         if self.on:
@@ -45,7 +61,7 @@ class Meter:
             wait = EACH
             with self.lock, contextlib.suppress(OSError, ValueError):
                 if not self.ended.is_set():
-                    sys.stderr.write(f"\r\033[K{self.line()}")
+                    sys.stderr.write(f"\r\033[K{self.line()[: columns() - 1]}")
                     sys.stderr.flush()
                     self.shown = True
 
@@ -54,7 +70,9 @@ class Meter:
         octets = self.done + sum(os.lseek(file.fileno(), 0, os.SEEK_CUR) for file in self.files)
         if octets >= self.total:
             return ""
-        rate = octets / max(time.monotonic() - self.begun, 0.001)
+        self.lately.append((time.monotonic(), octets))
+        (begun, before), (now, _) = self.lately[0], self.lately[-1]
+        rate = (octets - before) / max(now - begun, 0.001)
         told = f"{100 * octets // self.total} % of {size(self.total)}, {size(rate)}/s"
         return f"{told}, {left((self.total - octets) / rate)}" if rate > 0 else told
 
@@ -63,6 +81,12 @@ class Meter:
             sys.stderr.write("\r\033[K")
             sys.stderr.flush()
             self.shown = False
+
+    def again(self, file):
+        """Says that a file is read once more."""
+        with self.lock:
+            self.total += os.fstat(file.fileno()).st_size
+            os.lseek(file.fileno(), 0, os.SEEK_SET)
 
     @contextlib.contextmanager
     def watch(self, file):
@@ -75,6 +99,11 @@ class Meter:
             with self.lock:
                 self.files.discard(file)
                 self.done += os.fstat(file.fileno()).st_size
+
+    def count(self, octets):
+        """Counts what was read without being watched."""
+        with self.lock:
+            self.done += octets
 
     def print(self, text, to=None):
         """Writes lines without the meter between them."""

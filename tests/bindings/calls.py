@@ -105,18 +105,31 @@ def many():
 def asserted(left, right):
     try:
         ion.assert_same_ion(left, right)
-    except AssertionError as it:
+    except (AssertionError, TypeError) as it:
         return str(it)
     return None
 
 
 def asserts():
+    head = "left and right: {}\n--- left\n+++ right\n"
+    one = head.format("1 difference")
     is_("the same", asserted(b"{a:1,b:2}", b"{b:2,a:1}"), None)
-    is_("a difference", asserted(b'1 {n:[1,x::"old"]}', b'1 {n:[1,x::"new"]}'), 'value 2 at n [2] differs\nleft:  x::"old"\nright: x::"new"')
-    is_("fields that stand twice", asserted(b"{a:1,a:2}", b"{a:2}"), "value 1 at a differs\nleft:  1\nleft:  2\nright: 2")
-    is_("a value that is missing", asserted(b"1 2", b"1"), "value 2 differs\nleft:  2\nright: (nothing)")
-    is_("a float", asserted(b"1 1e0", b"1"), "left can't be read: Float at octet 5: a float (1e0, nan, +inf); it is Ion, but this program reads null.float alone")
-    is_("a refused side", asserted(b"1", b"1 ]"), "right is no Ion document: Unexpected at octet 3")
+    is_("a difference", asserted(b'1 {n:[1,x::"old"]}', b'1 {n:[1,x::"new"]}'), one + '@@ 2 n [2] @@\n- x::"old"\n+ x::"new"')
+    is_("all differences", asserted(b"[1,2]", b"[9,2,3]"), head.format("2 differences") + "@@ 1 [1] @@\n- 1\n+ 9\n@@ 1 [3] @@\n+ 3")
+    is_("digits", asserted(b"1.0", b"1.00"), one + "@@ 1 @@ one number, but in Ion two values: digits count\n- 1.0\n+ 1.00")
+    is_("fields that stand twice", asserted(b"{a:1,a:2}", b"{a:2}"), one + "@@ 1 a @@\n- 1")
+    is_("a value that is missing", asserted(b"1 2", b"1"), one + "@@ 2 @@\n- 2")
+    is_("a str", asserted('{a:"é"}', '{a:"è"}'.encode()), one + '@@ 1 a @@\n- "é"\n+ "è"')
+    is_("long strings", len(asserted('"' + "x" * 300_000 + 'a"', '"' + "x" * 300_000 + 'b"')) < 500, True)
+    many = asserted(" ".join(map(str, range(30))), " ".join(map(str, range(100, 130)))).split("\n")
+    is_("many differences", (many[0], many[-1], len(many)), ("left and right: 30 differences", ".. and 20 more", 34))
+    is_("a great value", asserted("[" + "1," * 300 + "1]", "x::1").split("\n")[-1], ".. and more lines")
+    is_("a float", asserted(b"1 1e0", b"1").split(": a float")[0], "left can't be read:\nleft:1:5: Float")
+    refused = "right is no Ion document:\nright:2:3: Unexpected: an octet that cannot stand there\n    1 ]\n      ^"
+    is_("a refused side", asserted(b"1", b"1\n1 ]"), refused)
+    wanted = "a document is bytes or the like, a pathlib.Path, or a str of Ion text; this is "
+    is_("a dict", asserted({"a": 1}, b"1"), wanted + "dict")
+    is_("a number", asserted(b"1", 1), wanted + "int")
 
 
 for tried in (answers, refusals, kinds, many, asserts):

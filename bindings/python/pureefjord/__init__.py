@@ -181,39 +181,25 @@ def compare_each(
 
 
 def assert_same_ion(
-    left: Document, right: Document, *, catalog: Document = b"", depth: int = _DEPTH, item: int = _ITEM
+    left: Union[Document, str], right: Union[Document, str], *, catalog: Document = b"", depth: int = _DEPTH, item: int = _ITEM
 ) -> None:
-    """Fails, as `assert` does, unless the documents have equivalent streams: with the path, and what stands there in both.
+    """Fails, as `assert` does, unless the documents have equivalent streams: with what differs, its places and both sides.
 
-    For tests, under pytest or any other runner: `assert_same_ion(pathlib.Path("expected.ion"), writer.octets())`.
+    For tests, under pytest or any other runner: `assert_same_ion(pathlib.Path("expected.ion"), writer.octets())`. A str is text
+    of Ion.
     """
     __tracebackhide__ = True
+    from . import _asserting
+
+    sides = []
+    for side in (left, right):
+        if not _asserting.is_document(side):
+            raise TypeError(f"a document is bytes or the like, a pathlib.Path, or a str of Ion text; this is {type(side).__name__}")
+        sides.append(side.encode() if isinstance(side, str) else side)
     limits = {"catalog": catalog, "depth": depth, "item": item}
-    verdict = compare(left, right, **limits)  # type: ignore[arg-type]
+    verdict = compare(*sides, **limits)  # type: ignore[arg-type]
     if isinstance(verdict, Equivalent):
         return
     if isinstance(verdict, Refused):
-        raise AssertionError(_why_refused(verdict))
-    lines = [f"value {verdict.index}" + (f" at {verdict.path}" if verdict.path else "") + " differs"]
-    for side, document in (("left", left), ("right", right)):
-        lines += [f"{side + ':':<6} {text}" for text in _texts_at(to_text(document, **limits), verdict)]  # type: ignore[arg-type]
-    raise AssertionError("\n".join(lines))
-
-
-def _why_refused(refused: Refused) -> str:
-    """Whether a side is no Ion, or Ion that this library doesn't read, or may be."""
-    from .ion_places import BEYOND, in_words
-
-    if refused.reason in BEYOND:
-        return f"{refused.side} can't be read: {refused.reason} at octet {refused.offset}: {in_words(refused.reason)}"
-    return f"{refused.side} is no Ion document: {refused.reason} at octet {refused.offset}"
-
-
-def _texts_at(text: bytes, difference: Different) -> List[str]:
-    """What stands at a difference, as text: of a name that stands several times each, and `(nothing)` where there is none."""
-    from .ion_lines import texts_at
-
-    lines = text.decode().split("\n")[:-1]
-    if len(lines) < difference.index:
-        return ["(nothing)"]
-    return texts_at(lines[difference.index - 1], difference.path) or ["(nothing)"]
+        raise AssertionError(_asserting.refused(verdict.side, sides[verdict.side == "right"], verdict.offset, verdict.reason))
+    raise AssertionError(_asserting.different(*(to_text(side, **limits) for side in sides)))  # type: ignore[arg-type]

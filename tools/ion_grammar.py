@@ -1,11 +1,10 @@
 """What binary values are: crates/ion_binary/specs/{Opening,Judge,Grammar}.antt and the local tables of ion_symtab/specs/Next.antt
-under no catalog, written down once more in Python, for tests/deciding.py. Nothing here is taken from the program."""
-import calendar
+under no catalog, written down once more in Python: for `pureefjord inspect` and tests/deciding.py. Nothing here is taken from the program."""
 import datetime
 
 KINDS = ["null", "bool", "int", "int", "float", "decimal", "timestamp", "symbol", "string", "clob", "blob", "list", "sexp", "struct"]
 FORMS = {2: "int", 3: "negative", 5: "decimal", 6: "timestamp", 7: "symbol", 8: "string", 9: "clob", 10: "blob"}
-FORMS |= {11: "list", 12: "sexp", 13: "struct", 14: "wrapper"}
+FORMS.update({11: "list", 12: "sexp", 13: "struct", 14: "wrapper"})
 SCALARS = {"int", "negative", "decimal", "timestamp", "symbol", "string", "clob", "blob"}
 SYSTEM = [b"$ion", b"$ion_1_0", b"$ion_symbol_table", b"name", b"version", b"imports", b"symbols", b"max_id", b"$ion_shared_symbol_table"]
 FOLLOWS = -1
@@ -122,6 +121,11 @@ def field_in(octets, least, most):
     return number, rest
 
 
+def days(year, month):
+    leap = year % 4 == 0 and (year % 100 != 0 or year % 400 == 0)
+    return 28 + leap if month == 2 else 30 + (month + month // 8) % 2
+
+
 def judge_fraction(octets):
     negative, power, rest = signed_in(octets)
     if negative and power > 38:
@@ -142,7 +146,7 @@ def judge_timestamp(body):
     if rest:
         parts[1], rest = field_in(rest, 1, 12)
     if rest:
-        parts[2], rest = field_in(rest, 1, calendar.monthrange(parts[0], parts[1])[1])
+        parts[2], rest = field_in(rest, 1, days(*parts[:2]))
     if not rest:
         return
     parts[3], rest = field_in(rest, 0, 23)

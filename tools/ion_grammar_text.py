@@ -5,7 +5,7 @@ import collections
 import datetime
 import re
 
-from grammar import SYSTEM, Refused, Value, elements, only
+from ion_grammar import SYSTEM, Refused, Value, elements, only
 
 KINDS = b"null bool int float decimal timestamp symbol string clob blob list sexp struct".split()
 KEYWORDS = [b"null", b"true", b"false", b"nan"]
