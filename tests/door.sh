@@ -2,46 +2,13 @@
 # Runs pureefjord, ion_json, ion_pretty and ion_floats_to_decimals over a built ion_cmd, and the scripts of tools/ where a program,
 # a catalog, a file, a disk or a reader fails them: tests/door.sh PROGRAM. It needs git, and jq for a look at the JSON.
 set -u
-top=$(cd "$(dirname "$0")/.." && pwd)
-program=$(realpath "$1")
-folder=$(mktemp -d)
-trap 'rm -rf "$folder"' EXIT
-mkdir "$folder/bin" "$folder/kept" "$folder/tmp" "$folder/work"
-ln -s "$program" "$folder/bin/ion_cmd"
 plain_path=$PATH
-PATH=$folder/bin:$top/tools:$PATH
-TMPDIR=$folder/tmp
+. "$(dirname "$0")/rows.sh"
+mkdir "$folder/kept"
 HOME=$folder/kept
-unset NO_COLOR ION_CMD PUREEFJORD_LIBRARY
-export PATH TMPDIR HOME GIT_CONFIG_NOSYSTEM=1
-failed=0
-passed=0
+export HOME GIT_CONFIG_NOSYSTEM=1
 new_line='
 '
-
-# is NAME FOUND WANTED
-is() {
-    if [ "$2" = "$3" ]; then
-        passed=$((passed + 1))
-    else
-        failed=$((failed + 1))
-        printf '%s:\n  %s\nis not\n  %s\n' "$1" "$2" "$3"
-    fi
-}
-
-# run COMMAND..: what it writes, errors too, and its status, in `out` and `status`.
-run() {
-    out=$("$@" 2>&1 < /dev/null)
-    status=$?
-}
-
-# gives NAME STATUS OUT: what the run before wrote and how it ended.
-gives() { is "$1" "$status $out" "$2 $3"; }
-
-# has NAME STATUS TEXT: how the run before ended, and what is somewhere in what it wrote.
-has() { case $out in *"$3"*) is "$1" "$status" "$2" ;; *) is "$1" "$status $out" "$2 ..$3.." ;; esac; }
-
-clean() { rm -rf "$folder/work"; mkdir "$folder/work"; cd "$folder/work" || exit 1; }
 
 words() {
     clean
@@ -570,6 +537,4 @@ writers
 faults
 installed
 beside
-is 'no temporary file is left' "$(ls -A "$folder/tmp")" ''
-echo "$passed passed, $failed failed"
-[ "$failed" = 0 ]
+ended

@@ -1,5 +1,5 @@
-# What scripts of tests share: rows that are counted, in a folder of their own. Read by tests/folders.sh, messages.sh, library.sh,
-# diff.sh and machines.sh, which name the program as their first word.
+# What scripts of tests share: rows that are counted, in a folder of their own. Read by tests/door.sh, tools.sh, folders.sh, messages.sh,
+# library.sh, diff.sh and machines.sh, which name the program as their first word.
 top=$(cd "$(dirname "$0")/.." && pwd)
 program=$(realpath "$1")
 folder=$(mktemp -d)

@@ -3,47 +3,18 @@
 # It needs what the scripts need (python3, find, sort and xargs that take NULs) and git. The manual page is set where groff is
 # installed, completion is tried in bash and, where it is installed, in zsh.
 set -u
-top=$(cd "$(dirname "$0")/.." && pwd)
-program=$(realpath "$1")
-folder=$(mktemp -d)
-trap 'rm -rf "$folder"' EXIT
-mkdir "$folder/bin" "$folder/kept" "$folder/tmp" "$folder/work"
-ln -s "$program" "$folder/bin/ion_cmd"
-PATH=$folder/bin:$top/tools:$PATH
-TMPDIR=$folder/tmp
+. "$(dirname "$0")/rows.sh"
+mkdir "$folder/kept"
 HOME=$folder/kept
-export PATH TMPDIR HOME GIT_CONFIG_NOSYSTEM=1
+export HOME GIT_CONFIG_NOSYSTEM=1
 cd "$folder/work" || exit 1
-failed=0
-passed=0
 new_line='
 '
-
-# is NAME FOUND WANTED
-is() {
-    if [ "$2" = "$3" ]; then
-        passed=$((passed + 1))
-    else
-        failed=$((failed + 1))
-        printf '%s:\n  %s\nis not\n  %s\n' "$1" "$2" "$3"
-    fi
-}
-
-# run COMMAND..: what it writes, errors too, and its status, in `out` and `status`.
-run() {
-    out=$("$@" 2>&1 < /dev/null)
-    status=$?
-}
-
-# gives NAME STATUS OUT: what the run before wrote and how it ended.
-gives() { is "$1" "$status $out" "$2 $3"; }
 
 # begins NAME STATUS OUT: how the run before ended, and what its first line begins with.
 begins() {
     case $out in "$3"*) is "$1" "$status" "$2" ;; *) is "$1" "$status $out" "$2 $3.." ;; esac
 }
-
-clean() { rm -rf "$folder/work"; mkdir "$folder/work"; cd "$folder/work" || exit 1; }
 
 usage_lines() {
     for script in ion_where ion_at ion_conformance ion_compare_trees ion_to check_list compare_list; do
@@ -416,6 +387,4 @@ pipes
 installed
 completed
 page
-is 'no temporary file is left' "$(ls -A "$folder/tmp")" ''
-echo "$passed passed, $failed failed"
-[ "$failed" = 0 ]
+ended
