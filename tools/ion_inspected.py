@@ -1,6 +1,8 @@
 """`pureefjord inspect`: a binary document octet by octet, of a refused one up to the octet that decides."""
 import base64
+import bisect
 import datetime
+import itertools
 import mmap
 import re
 
@@ -30,17 +32,16 @@ class Slots:
     """The texts of symbol ids behind tables and imports, as the grammar of binary asks for them; of a gap None."""
 
     def __init__(self, runs):
-        self.runs = runs
+        self.runs, self.ends = runs, list(itertools.accumulate(count for count, _ in runs))
 
     def __len__(self):
-        return sum(count for count, _ in self.runs)
+        return self.ends[-1]
 
     def __getitem__(self, at):
-        for count, slots in self.runs:
-            if at < count:
-                return slots[at] if at < len(slots) and slots[at] is not ion_grammar_text.GAP else None
-            at -= count
-        raise IndexError
+        run = bisect.bisect_right(self.ends, at)
+        count, slots = self.runs[run]
+        at -= self.ends[run] - count
+        return slots[at] if at < len(slots) and slots[at] is not ion_grammar_text.GAP else None
 
 
 class Inspection:
@@ -48,7 +49,7 @@ class Inspection:
 
     def __init__(self, held, stop, catalog):
         self.octets, self.stop, self.catalog, self.at = held, stop, catalog, 0
-        self.runs = ion_grammar_text.SYSTEM_SLOTS
+        self.slots = Slots(ion_grammar_text.SYSTEM_SLOTS)
 
     def tell(self, end, depth, text):
         """A row for each so many octets; the first has the text."""
@@ -66,8 +67,7 @@ class Inspection:
 
     def name(self, id):
         """An id with its text."""
-        slots = Slots(self.runs)
-        text = slots[id - 1] if 0 < id <= len(slots) else None
+        text = self.slots[id - 1] if 0 < id <= len(self.slots) else None
         shown = None if text is None else text.decode(errors="replace")
         return f"${id}" if shown is None else f"${id} {shown if shown in SYSTEM_NAMES else symbol(shown)}"
 
@@ -77,7 +77,7 @@ class Inspection:
         while self.at < len(self.octets):
             if self.octets[self.at : self.at + 4] == MARKER:
                 self.tell(self.at + 4, 0, "version marker: Ion 1.0, the ids are those of the system symbols")
-                self.runs = ion_grammar_text.SYSTEM_SLOTS
+                self.slots = Slots(ion_grammar_text.SYSTEM_SLOTS)
             else:
                 self.item(0, "", self.table())
 
@@ -87,8 +87,9 @@ class Inspection:
             found = header(self.octets, self.at)
             if not found or found[0] != "wrapper":
                 return None
-            parsed = value(Slots(self.runs), self.octets[self.at : found[2] + found[1]], 0)
-            return ion_grammar_text.behind_table(self.runs, parsed[0], self.catalog) if parsed and parsed[0].is_table() else None
+            parsed = value(self.slots, self.octets[self.at : found[2] + found[1]], 0)
+            is_table = parsed and parsed[0].is_table()
+            return Slots(ion_grammar_text.behind_table(self.slots.runs, parsed[0], self.catalog)) if is_table else None
         except (Refused, IndexError):
             return None
 
@@ -126,8 +127,8 @@ class Inspection:
             self.number(depth + 1, lambda number: f"{self.name(number)}::")
         self.item(depth + 1, "", table)
         if table:
-            self.runs = table
-            self.closing(depth, f"the greatest id is ${len(Slots(table))}")
+            self.slots = table
+            self.closing(depth, f"the greatest id is ${len(table)}")
 
     def number(self, depth, words):
         """A VarUInt outside of a body."""
@@ -154,7 +155,7 @@ class Inspection:
 
     def symbols(self, depth, end, table):
         """The slots that a table gives: the last ones of those behind it."""
-        id = len(Slots(table)) - table[-1][0] + 1
+        id = len(table) - table.runs[-1][0] + 1
         while self.at < end:
             is_pad = opening(self.octets[self.at])[1:2] == ("pad",)
             self.item(depth, "" if is_pad else f"${id} = ")
