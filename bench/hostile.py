@@ -4,8 +4,8 @@
 Each case is measured at a quarter, a half and the whole of its size: processor time, and the peak of memory, also as a multiple of
 the octets read. A cost that grows with the octets doubles from column to column; one that grows with their square takes four times
 as long. PART (usually 1) is a factor on all sizes. A run is stopped after 120 seconds, and has no more memory than the limit that
-is printed (as by `ulimit -v`). The octets are the same at each call. Of a shared library (`bindings/build.sh`) the colliding symbols are
-converted in process, by the Python package, which draws a seed; the interpreter's own time and memory are part of it.
+is printed (as by `ulimit -v`); the script ends with 1 where one was stopped or told of a fault. A CASE may be a part of a name. The octets
+are the same at each call. Of a shared library (`bindings/build.sh`) the colliding symbols are converted in process, by the Python package, which draws a seed; the interpreter's own time and memory are part of it.
 """
 import os
 import random
@@ -20,6 +20,7 @@ MIB = 1 << 20
 MILLION = 1000000
 SECONDS = 120
 SMALL = 32 * MIB  # for what has to be read in flat memory
+BOUND = 64 * MIB  # for documents of a quarter of a MiB that might ask for much
 LARGE = 4 << 30
 
 
@@ -290,6 +291,134 @@ def colliding(count):
     return b"[" + b",".join(b"'%s%s%08x'" % (front, middle, place) for place in range(count)) + b"]"
 
 
+# Documents of which few octets might ask for much memory. Each is a list; the last item may tell two of them apart.
+
+LONG = 1 << 16  # octets of a text that is used again and again
+
+
+def used_again(use, open_kind):
+    """A text in a table, and uses of its id, in binary."""
+
+    def document(octets, last=1):
+        long = min(LONG, octets // 2)
+        uses = filled(use, octets - long - 64)
+        return MARKER + table(["a" * long]) + framed(11, framed(open_kind, uses) + framed(2, uint(last)))
+
+    return document
+
+
+def used_again_in_text(use):
+    def document(octets, last=1):
+        long = min(LONG, octets // 2)
+        uses = filled(use, octets - long - 64)
+        return b'$ion_symbol_table::{symbols:["' + b"a" * long + b'"]}\n[' + uses + b"%d]" % last
+
+    return document
+
+
+def repeated(item):
+    def document(octets, last=1):
+        return MARKER + framed(11, filled(item, octets - 32) + framed(2, uint(last)))
+
+    return document
+
+
+def repeated_in_text(item):
+    def document(octets, last=1):
+        return b"[" + filled(item, octets - 32) + b"%d]" % last
+
+    return document
+
+
+def within(levels, value, kind=11):
+    for _ in range(levels):
+        value = framed(kind, value)
+    return value
+
+
+def of_open_content(use):
+    """A local symbol table, in text, with such elements as open content, and a value behind it."""
+
+    def document(octets, last=1):
+        long = min(LONG, octets // 2)
+        return (b'$ion_symbol_table::{symbols:["' + b"a" * long + b'"]}\n$ion_symbol_table::{imports:$ion_symbol_table,more:['
+            + filled(use, octets - long - 160) + b"1]}\n%d" % last)
+
+    return document
+
+
+def of_ints(octets, last=1):
+    """A local symbol table, in text, with zeros as open content."""
+    return b"$ion_symbol_table::{more:[" + b"0," * ((octets - 64) // 2) + b"0]}\n%d" % last
+
+
+def growing(octets, last=1):
+    """Values that each append a symbol."""
+    return tables(octets // 24) + framed(2, uint(last))
+
+
+def shelf_of_uses(octets):
+    """A shared table with uses of a long text as open content; a list of slots; a catalog."""
+    long = min(LONG, octets // 2)
+    uses = filled(b"\x71\x0a", octets - long - 128)
+    return MARKER + table(["a" * long]) + annotated([9], framed(13, field(4, text("t")) + field(5, b"\x21\x01")
+        + field(7, framed(11, text("b"))) + field(10, framed(11, uses))))
+
+
+def shelf_of_slots(octets):
+    """A shared table of slots that have no text."""
+    return MARKER + annotated([9], framed(13, field(4, text("t")) + field(7, framed(11, b"\x0f" * (octets - 64)))))
+
+
+AMPLIFYING = [
+    ("uses of an id", used_again(b"\x71\x0a", 11)),
+    ("names by an id", used_again(var_uint(10) + b"\x11", 13)),
+    ("annotations by an id", used_again(annotated([10], b"\x11"), 11)),
+    ("uses of an id in text", used_again_in_text(b"$10,")),
+    ("names by an id in text", used_again_in_text(b"{$10:1},")),
+    ("annotations by an id in text", used_again_in_text(b"$10::1,")),
+    ("empty lists", repeated(b"\xb0")),
+    ("empty lists in text", repeated_in_text(b"[],")),
+    ("empty structs", repeated(b"\xd0")),
+    ("true and false", repeated(b"\x11\x10")),
+    ("ints of no octets", repeated(b"\x20")),
+    ("decimals of no octets", repeated(b"\x50")),
+    ("empty strings", repeated(b"\x80")),
+    ("empty blobs", repeated(b"\xa0")),
+    ("empty strings in text", repeated_in_text(b"'',")),
+    ("symbols of one octet", repeated_in_text(b"a,")),
+    ("timestamps", repeated(framed(6, b"\xc0\x81"))),
+    ("lists of one item, 13 deep", repeated(within(13, b"\x11"))),
+    ("lists of one item, 60 deep, in text", repeated_in_text(b"[" * 60 + b"1" + b"]" * 60 + b",")),
+    ("structs of one field", repeated(framed(13, field(4, b"\x11")))),
+    ("structs of one field, 60 deep, in text", repeated_in_text(b"{a:" * 60 + b"1" + b"}" * 60 + b",")),
+    ("s-expressions of one item", repeated(framed(12, b"\x11"))),
+    ("annotated values", repeated(annotated([4], b"\x11"))),
+    ("many annotations", repeated(annotated([4] * 12, b"\x11"))),
+    ("annotated lists", repeated_in_text(b"a::[" * 60 + b"]" * 60 + b",")),
+    ("open content of uses", of_open_content(b"$10,")),
+    ("open content of ints", of_ints),
+    ("an appended symbol a value", growing),
+]
+QUARTER = MIB // 4
+
+
+def differing(document):
+    return [document, lambda octets: document(octets, 2)]
+
+
+def amplifying():
+    """Each of these documents with each command, in 64 MiB."""
+    for name, document in AMPLIFYING:
+        for words, documents in [
+            ("check A", [document]), ("show A", [document]), ("convert A --to binary", [document]), ("compare A A", [document]),
+            ("compare A B", differing(document)),
+        ]:
+            yield f"{name}, {words}", words, documents, QUARTER, BOUND
+    for name, document in [("a catalog with uses", shelf_of_uses), ("a catalog of slots", shelf_of_slots)]:
+        yield name, "check A --catalog B", [lambda octets: MARKER, document], QUARTER, BOUND
+
+
 STREAM = 100 * MIB
 ITEM = 16 * MIB - 64
 # The name, the words, what each document is, their size, and the limit of memory.
@@ -349,6 +478,9 @@ CASES = [
     ("imports", "check A --catalog B", [importing, lambda count: shelf()], MILLION // 4, LARGE),
     ("a catalog of many names", "check A --catalog B", [lambda count: MARKER, catalog_of_names], MILLION // 4, LARGE),
     ("a catalog of many versions", "check A --catalog B", [lambda count: MARKER, catalog_of_versions], MILLION // 4, LARGE),
+    ("a table of 4 MB with ints as open content", "check A", [of_ints], 4 * MILLION, SMALL),
+    ("half a million values that each append a symbol", "check A", [growing], 12 * MILLION, LARGE),
+    *amplifying(),
 ]
 
 
@@ -399,8 +531,9 @@ def main():
     part = float(sys.argv[2]) if len(sys.argv) > 2 else 1
     wanted = sys.argv[3:]
     tried, program, said = cases(os.path.abspath(sys.argv[1]))
+    failed = 0
     for name, words, documents, size, limit in tried:
-        if wanted and name not in wanted:
+        if wanted and not any(words in name for words in wanted):
             continue
         columns = []
         with tempfile.TemporaryDirectory() as folder:
@@ -409,8 +542,11 @@ def main():
                 for letter, document in zip("AB", documents):
                     octets += written(document, int(size * part / share), os.path.join(folder, letter))
                 seconds, peak, told = measured(program, said(words), folder, limit)
+                failed += told.startswith(("fault", "stopped"))
                 columns.append(f"{octets / 1e6:7.1f} MB {seconds:7.2f} s {peak / MIB:7.1f} MiB {peak / octets:6.1f}x" + (f" {told}" if told else ""))
         print(f"{name} (below {limit / MIB:.0f} MiB): " + " | ".join(columns), flush=True)
+    sys.exit(failed > 0)
 
 
-main()
+if __name__ == "__main__":
+    main()

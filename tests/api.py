@@ -22,7 +22,8 @@ PAGE, WHOLE_PAGE = TOP / "docs" / "API.md", TOP / "docs" / "API_ALL.md"
 LINES = TOP / "tests" / "calls_by_task"
 TABLE = "## What the crates give beside values, readers, writers and the calls over documents"
 CRATES = (
-    "ion ion_docs ion_memory ion_model ion_atoms ion_symtab ion_text ion_binary ion_streams ion_scalar ion_tokens"
+    "ion ion_docs ion_memory ion_model ion_atoms ion_symtab ion_text ion_text_writer ion_spelling ion_binary ion_refusals ion_streams ion_scalar"
+    " ion_tokens"
 ).split()
 HEAD = """# Every call
 
@@ -82,7 +83,8 @@ PLAIN = {
         ToWrite ToWrite::new Items Items::{step, finish, held} Step Target""",
     "ion_tokens": "Scanner Scanner::{new, step, finish, looked, held, begun} Scan Begun Form Place Token Body Mark",
     "ion_binary": "BinaryReader BinaryReader::new BinaryWriter BinaryWriter::{new, put, finish}",
-    "ion_text": "TextReader TextReader::new TextWriter TextWriter::{new, put, finish} symbol_text",
+    "ion_text": "TextReader TextReader::new",
+    "ion_text_writer": "TextWriter TextWriter::{new, put, finish} symbol_text",
     "ion_streams": "Verdict Side",
     "ion_docs": "DocReader DocReader::new read_all load_catalog check show compare convert path_text",
     "ion_run": "run Sources Sources::source",

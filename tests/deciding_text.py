@@ -2,11 +2,11 @@
 """Judges random text documents by the table of refusals (docs/FORMAT.md, "Values in text"), and asks a built ion_cmd for the same:
 tests/deciding_text.py PROGRAM [COUNT [SEED]].
 
-`rows` below is crates/ion_text/specs/Deciding.antt in Python, row by row, for the nine reasons that have a row there. It is no reader:
+`rows` below is crates/ion_refusals/specs/Deciding.antt in Python, row by row, for the nine reasons that have a row there. It is no reader:
 `Search` looks for all that stands open behind whole pieces of the grammar (tools/ion_grammar_text.py), and each row says behind which of
 these a token decides, and with which octet, or that the end does.
 
-What is proved (`deciding` in crates/ion_text/src/laws.rt) is tried of the program. A refusal for one of the nine is a row. Octets show
+What is proved (`deciding` in crates/ion_refusals/src/laws/text.rt) is tried of the program. A refusal for one of the nine is a row. Octets show
 one row at most. Where a row decides, the program refuses there or before, and for no other of the nine: before the row's octet only as
 `ItemTooLong`, and at that octet only for a reason with a smaller number. Where the end decides, another reason comes only as
 `ItemTooLong`, by an octet, which may be the last one. A document has no row. Where another reason comes is told, by reasons.

@@ -76,6 +76,45 @@ if [ -e waited ]; then echo 'it waited for the right' >> err; fi
 expect 'a refused left beside a silent pipe' 2 '' 'refused left 28 Unexpected'
 wait
 
+# Standard streams that are closed: what reads or writes one finds a fault, and no file that is opened takes its place.
+# closed READS STATUS OUT WORD..: whether the words read standard input, and what they answer where it is open.
+closed() {
+    reads=$1 wanted=$2 shows=$3
+    shift 3
+    for streams in 0 1 2 01 02 12 012; do
+        closes=
+        case $streams in *0*) closes="$closes <&-" ;; esac
+        case $streams in *1*) closes="$closes >&-" ;; esac
+        case $streams in *2*) closes="$closes 2>&-" ;; esac
+        eval '"$program" "$@" < short > out 2> err' "$closes"
+        status=$?
+        answer="$wanted $shows" told=
+        case $streams in *1*) answer='4 ' told='fault Write' ;; esac
+        case $reads$streams in yes0*) answer='4 ' told='fault Read' ;; esac
+        case $streams in *2*) told= ;; esac
+        expect "$* with $streams closed" "${answer%% *}" "${answer#* }" "$told"
+    done
+}
+closed no 0 'accepted 1' check short
+closed yes 0 'accepted 1' check -
+closed yes 0 'accepted 1' check - --catalog empty
+closed yes 0 'accepted 1' check - --depth 2
+closed yes 0 "1 list depth 1 nodes 3
+accepted 1"
+closed no 0 "1 list depth 1 nodes 3
+accepted 1" show short
+closed no 0 '[5,true]' convert short --to text
+closed yes 0 '[5,true]' convert - --to text
+closed no 0 'equivalent 1' compare short long
+closed yes 0 'equivalent 1' compare - long
+closed yes 0 'equivalent 1' compare long -
+closed no 1 'different 1' compare two short
+printf '1111' > ones      # it was read as both sides
+"$program" compare ones - > out 2> err <&-; status=$?
+expect 'a file beside a closed input' 4 '' 'fault Read'
+"$program" check short --catalog - > out 2> err <&-; status=$?
+expect 'a closed input as catalog' 4 '' 'fault Read'
+
 "$program" check short > /dev/full 2> err < /dev/null; status=$?; : > out
 expect 'a full device' 4 '' 'fault Write'
 "$program" show short > /dev/full 2> err < /dev/null; status=$?; : > out

@@ -311,6 +311,13 @@ installed() {
     echo '1 2' > a.ion
     out=$(PATH=$folder/work/prefix/bin:/usr/bin:/bin ion_at a.ion 2); status=$?; gives 'an installed script' 0 2
     run install.sh prefix absent; is 'install.sh, no program' "$status" 4
+    : > prefix/bin/other
+    run install.sh --remove prefix; begins 'install.sh, the way back' 0 "removed from $folder/work/prefix: "
+    is 'install.sh leaves what it did not write' "$(cd prefix && find . -type f)" ./bin/other
+    run install.sh --remove; begins 'install.sh --remove without a folder' 3 'usage: '
+    run env "DESTDIR=$folder/work/stage" install.sh /usr "$program"
+    begins 'install.sh under DESTDIR' 0 "installed in $folder/work/stage/usr: "
+    is 'install.sh under DESTDIR, the program' "$(ls stage/usr/bin/ion_cmd)" stage/usr/bin/ion_cmd
 }
 
 completed() {

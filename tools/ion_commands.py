@@ -15,7 +15,7 @@ from ion_ordered import in_order
 from ion_places import in_words, shown
 from ion_progress import Meter, sizes_of
 from ion_reports import Finding, report
-from ion_script import Fault, Stopped, Usage, Whole, WholeFolder, as_file, full, has_reader, program, running, status_of
+from ion_script import Fault, Stopped, Usage, Whole, WholeFolder, as_file, full, has_reader, in_colour, program, running, status_of
 from ion_sources import documents, documents_in, in_folder, other_files, reads_from_terminal, stem
 
 RED, GREEN, BOLD = "31", "32", "1"
@@ -23,11 +23,6 @@ RED, GREEN, BOLD = "31", "32", "1"
 
 def painted(code, text, on):
     return f"\033[{code}m{text}\033[0m" if on else text
-
-
-def in_colour(when, stream):
-    quiet = os.environ.get("NO_COLOR") or os.environ.get("TERM") == "dumb"
-    return when == "always" or when == "auto" and stream.isatty() and not quiet
 
 
 def limits(words):

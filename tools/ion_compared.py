@@ -12,7 +12,7 @@ from ion_page import Page
 from ion_places import shown
 from ion_progress import Meter, sizes_of
 from ion_rules import Rules, left_out_words
-from ion_script import Fault, Lines, Usage, Whole, program, told
+from ion_script import Fault, Lines, Usage, Whole, in_colour, program, told
 from ion_sources import documents, documents_in, other_files, paired, reads_from_terminal
 
 COLOURS = {"-": ("31", "0"), "+": ("32", "0"), "place": ("36", "0"), "name": ("1", "0"), "mark": ("7", "27")}
@@ -30,9 +30,7 @@ class Told:
     def __init__(self, words, rules, page, meter, folders):
         self.folders, self.rules = folders, rules
         self.left_out, self.alike = collections.Counter(), 0  # of all pairs: what doesn't count, and in how many there is nothing else
-        plain = os.environ.get("NO_COLOR") or os.environ.get("TERM") == "dumb"
-        on = words.color == "always" or words.color == "auto" and sys.stdout.isatty() and not plain
-        self.paint = coloured if on else lambda _, text: text
+        self.paint = coloured if in_colour(words.color, sys.stdout) else lambda _, text: text
         self.floats = words.floats
         self.json, self.quiet, self.page, self.meter = words.format == "json", words.quiet, page, meter
         self.below, self.has_items = [], False

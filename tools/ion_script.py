@@ -43,6 +43,12 @@ def program():
     return found
 
 
+def in_colour(when, stream):
+    """Whether what goes to a stream is coloured: `always`, `never`, or `auto`, where a terminal that knows colours shows it."""
+    quiet = os.environ.get("NO_COLOR") or os.environ.get("TERM") == "dumb"
+    return when == "always" or when == "auto" and stream.isatty() and not quiet
+
+
 OPENED = []
 
 

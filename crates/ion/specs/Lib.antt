@@ -47,5 +47,5 @@ pub use Rattle.ion_symtab.specs.declared.inlet.Inlet
 pub use Rattle.ion_symtab.specs.declared.limits.Limits
 pub use Rattle.ion_symtab.specs.declared.outlet.Outlet
 pub use Rattle.ion_symtab.specs.declared.target.Target
-pub use Rattle.ion_text.specs.Output as TextOutput
+pub use Rattle.ion_spelling.specs.Output as TextOutput
 pub mod Names

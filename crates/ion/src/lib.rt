@@ -5,6 +5,7 @@
 
 mod documents;
 mod each;
+pub mod laws;
 mod one_by_one;
 mod position;
 mod spot;
@@ -16,7 +17,7 @@ pub use each::Each;
 pub use ion_binary::BinaryWriter;
 pub use ion_docs::{
     DocReader, InMemory, PathText, Side, Target, Verdict, check, compare, convert,
-    convert_with_hasher, in_memory, laws, load_catalog, path_text, read_all, read_document, show,
+    convert_with_hasher, in_memory, load_catalog, path_text, read_all, read_document, show,
     spelling_of_path, visit,
 };
 pub use ion_model::{
@@ -26,7 +27,7 @@ pub use ion_model::{
 pub use ion_symtab::{
     Catalog, Failed, Fault, FromRead, Inlet, Limits, Outlet, SharedTable, ToWrite,
 };
-pub use ion_text::{SymbolText, TextWriter, spelling_of, symbol_text, text_of};
+pub use ion_text_writer::{SymbolText, TextWriter, spelling_of, symbol_text, text_of};
 pub use one_by_one::{Values, values_by};
 pub use position::{Position, position_of};
 pub use stop::Stop;

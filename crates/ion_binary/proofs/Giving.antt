@@ -1,9 +1,12 @@
 -- Values of the top level that were told and ended: given, or local symbol tables.
-use Rattle.std.proofs.Common.{◌≡◌, List, [], Bool, true, false, Option, Some, None, Ok, refl, ap, sym, subst, ◌∙◌}
+use Rattle.std.proofs.Common.{◌≡◌, ◌⊎◌, List, [], Bool, true, false, Option, Some, None, Result, Ok, Err, refl, ap, sym, subst, ◌∙◌, inl, inr}
 use Rattle.std.specs.Prelude.{if◌then◌else◌}
-use Rattle.ion_binary.specs.Names.{BinaryWalk, DoesAlone, Gives, Goes, Holds, IsInside, Ready, Slot, Value, WasTold, anew, at, deliver, events_of, gives, goes, heard, heard_by, is_table, machine_of, next, open_containers, setting_of, spot_of, table_of, turned}
+use Rattle.ion_binary.specs.Names.{BinaryWalk, DoesAlone, Effect, Gives, Goes, Holds, IsInside, Memory, Ready, Reason, Slot, Value, WasTold, anew, at, deliver, events_of, gives, goes, heard, heard_by, is_table, machine_of, next, open_containers, setting_of, spot_of, table_of, turned}
 use Rattle.ion_visiting.specs.declared.table_filter.Table.{Table}
+use Rattle.ion_symtab.specs.laws.Pruned.{next_pruned}
+use Rattle.ion_visiting.specs.Skims.{pruned}
 use Rattle.ion_visiting.specs.laws.Filters.{table_told}
+use Rattle.ion_visiting.specs.laws.Skims.{table_pruned}
 
 none_of : (b : Bool) (v : Value) → None ≡ (if b then Some v else None) → b ≡ false
 none_of false v h = refl
@@ -31,7 +34,8 @@ heard_table v named = ap (λ t. heard_by t (events_of v)) (table_told v ∙ ap (
 
 -- the table that was taken is one
 pub table_is : (v : Value) (taken : Option Value) (t : Value) → taken ≡ Some t → taken ≡ table_of v → is_table t ≡ true
-table_is v taken t is h = ap is_table (same_of (is_table v) v t (sym is ∙ h)) ∙ some_of (is_table v) v t (sym is ∙ h)
+table_is v taken t is h =
+    ap is_table (same_of (is_table v) (pruned v) t (sym is ∙ h)) ∙ (table_pruned v ∙ some_of (is_table v) (pruned v) t (sym is ∙ h))
 
 module _ (r new : BinaryWalk) (none : open_containers new ≡ []) (phase : new.phase ≡ Ready) (v : Value) where
   held : WasTold new.filter [] → Holds new []
@@ -42,7 +46,7 @@ module _ (r new : BinaryWalk) (none : open_containers new ≡ []) (phase : new.p
       → machine_of new [] ≡ at (anew r.used r.context) [] Ready
       → DoesAlone (events_of v) (deliver (setting_of r) (spot_of r) [] v) (Ok Gives) new
   gives_out taken is h machine =
-      let plain = none_of (is_table v) v (sym is ∙ h.0) in (
+      let plain = none_of (is_table v) (pruned v) (sym is ∙ h.0) in (
         v,
         ap (λ b. if b then turned r.used (next r.context v r.catalog.now) else gives v (at (anew r.used r.context) [] Ready)) plain
             ∙ ap (gives v) (sym machine),
@@ -55,12 +59,28 @@ module _ (r new : BinaryWalk) (none : open_containers new ≡ []) (phase : new.p
       → (is_table t ≡ true → next r.context t r.catalog.now ≡ Ok d) → machine_of new [] ≡ at (anew r.used d) [] Ready
       → DoesAlone (events_of v) (deliver (setting_of r) (spot_of r) [] v) (Ok Goes) new
   table_goes taken t d is h applied machine =
-      let named = some_of (is_table v) v t (sym is ∙ h.0) in
-      let same = same_of (is_table v) v t (sym is ∙ h.0) in (
+      let named = some_of (is_table v) (pruned v) t (sym is ∙ h.0) in
+      let same = same_of (is_table v) (pruned v) t (sym is ∙ h.0) in (
         [],
         ap (λ b. if b then turned r.used (next r.context v r.catalog.now) else gives v (at (anew r.used r.context) [] Ready)) named
+            ∙ (ap (turned r.used) (sym (next_pruned r.context v r.catalog.now))
             ∙ (ap (λ w. turned r.used (next r.context w r.catalog.now)) (sym same)
-            ∙ (ap (turned r.used) (applied (ap is_table same ∙ named)) ∙ ap goes (sym machine))),
+            ∙ (ap (turned r.used) (applied (ap is_table same ∙ (table_pruned v ∙ named))) ∙ ap goes (sym machine)))),
         held h.1,
         sym (heard_table v named),
       )
+
+-- it is refused
+pub table_refused : (r new : BinaryWalk) (v : Value) (taken : Option Value) (t : Value) (reason : Reason) (result : Result Effect Reason) → taken ≡ Some t
+    → taken ≡ table_of v → ((reason ≡ Memory) ⊎ (next r.context t r.catalog.now ≡ Err reason)) → result ≡ Err reason
+    → DoesAlone (events_of v) (deliver (setting_of r) (spot_of r) [] v) result new
+table_refused r new v taken t reason result is h refused err =
+    let named = some_of (is_table v) (pruned v) t (sym is ∙ h) in
+    let same = same_of (is_table v) (pruned v) t (sym is ∙ h) in
+    subst (λ a. DoesAlone (events_of v) (deliver (setting_of r) (spot_of r) [] v) a new) (sym err) (λ other.
+    ap (λ b. if b then turned r.used (next r.context v r.catalog.now) else gives v (at (anew r.used r.context) [] Ready)) named
+    ∙ ap (turned r.used) (sym (next_pruned r.context v r.catalog.now) ∙ (ap (λ w. next r.context w r.catalog.now) (sym same) ∙ of_two other refused)))
+  where
+    of_two : ((reason ≡ Memory) → ⊥) → (reason ≡ Memory) ⊎ (next r.context t r.catalog.now ≡ Err reason) → next r.context t r.catalog.now ≡ Err reason
+    of_two other (inl m) = absurd (other m)
+    of_two other (inr e) = e

@@ -11,10 +11,9 @@ use Rattle.std.proofs.lemmas.List.Elements.{All-weaker}
 use Rattle.std.proofs.lemmas.List.Sums.{AllPass-from_list_all}
 use Rattle.std.proofs.lemmas.Str.{IsCharBoundary-from_take, IsUtf8-append, IsUtf8-drop, IsUtf8-from_ascii}
 use Rattle.std.proofs.lemmas.Str.Ascii.{IsAscii-from_all}
-use Rattle.ion_binary.specs.Names.{BadUtf8, DecimalParts, Event, IsScalar, LetsPass, Payload, Reason, Scalar, Slot, TableFilter, TellsAs, TimestampParts, WasTold, as_decimal, as_timestamp, decimal_of_body, heard, int_of, is_blob, is_clob, is_decimal, is_int, is_negative, is_of_table, is_string, is_symbol, is_timestamp, judge, layer_kind, outs-Blob, outs-Clob, outs-Decimal, outs-Int, outs-Str, outs-Symbol, outs-Timestamp, part, positional, resolve, scalar_kind, timestamp_of_body, uint_field}
+use Rattle.ion_binary.specs.Names.{BadUtf8, DecimalParts, Event, IsScalar, Payload, Reason, Scalar, Slot, TableFilter, Tells, TellsAs, TimestampParts, as_decimal, as_timestamp, decimal_of_body, int_of, is_blob, is_clob, is_decimal, is_int, is_negative, is_string, is_symbol, is_timestamp, judge, layer_kind, outs-Blob, outs-Clob, outs-Decimal, outs-Int, outs-Str, outs-Symbol, outs-Timestamp, part, positional, resolve, scalar_kind, timestamp_of_body, uint_field}
 use Rattle.ion_model.specs.declared.value.Payload.TheVariants as payloads
 use Rattle.ion_model.specs.declared.value.Payload.TheViews as views
-use Rattle.ion_visiting.specs.laws.Filters.{part_passes}
 use Rattle.ion_binary.specs.laws.reading.Judged.{scalar_leaf, judge_scalar, judge_sound}
 use Rattle.ion_binary.proofs.Scalars.{no_text}
 
@@ -106,18 +105,17 @@ as_form c t x body e h = subst (λ t. is_ok (judge c t body) ≡ true) (sym e) h
 -- 2. What is told of them.
 
 module _ {V : Type 0} (takes : V → Event → V → Type 0) (c : List Slot) (t : Scalar) (body : List ℕ) (f g : TableFilter) (a b : V)
-    (plain : is_of_table f.table true ≡ false) (passes : (es : List Event) → WasTold f es → LetsPass g × (heard es ≡ es))
-    (went : (p : Payload) → IsScalar c body t p → takes a (part p) b) where
+    (went : (p : Payload) → IsScalar c body t p → Tells takes (part p) f g a b) where
   unread_by : (r : Result Payload Reason) → judge c t body ≡ r → is_ok r ≡ true → TellsAs takes (judge c t body) f g a b
   unread_by (Ok p) e h = (
     p,
     e,
     (scalar_leaf c body t p (judge_sound c t body p e)).event,
-    part_passes takes p f g a b plain passes (went p (judge_sound c t body p e)),
+    went p (judge_sound c t body p e),
   )
   unread_by (Err reason) e h = absurd (false≢true h)
 
-  -- it is told to a visitor that goes on whichever it is, where it is part of no table
+  -- it is told where a filter and its visitor go on whichever it is
   pub unread_told : is_ok (judge c t body) ≡ true → TellsAs takes (judge c t body) f g a b
   unread_told h = unread_by (judge c t body) refl h
 

@@ -1,9 +1,8 @@
 //! Laws of binary documents. Each stands on an empty function: its contract is the law.
-ghost use Rattle.std.specs.Prelude.{◌↔◌, ℕ, List, ◌≡◌, false, ◌⊎◌, ◌<◌, ◌≤◌, ◌++◌, Bool, length, map, take, Some, None, Err};
-ghost use Rattle.ion_binary.specs.Names.{AreKept, AreOctets, Binary, Decides, Document, FitsIn, Form, Header, Incomplete, IsHeader, IsKept, Kind, Led, Limits, NoTables, Null, Reason, Refusal, Slot, Table, Took, Truth, Value, behind, bin_of, events_of, nodes, nothing_yet, null_octet, opening_of, puts, stream_events, trace, truth_octet};
+ghost use Rattle.std.specs.Prelude.{◌↔◌, ℕ, List, ◌≡◌, false, ◌⊎◌, ◌<◌, ◌≤◌, Bool, length, map};
+ghost use Rattle.ion_binary.specs.Names.{AreKept, AreOctets, Binary, Document, FitsIn, Form, Header, IsHeader, IsKept, Kind, Led, Limits, NoTables, Null, Slot, Table, Took, Truth, Value, behind, bin_of, events_of, nodes, nothing_yet, null_octet, opening_of, puts, stream_events, truth_octet};
 ghost use Rattle.ion_atoms.specs.declared.kind.Kind.TheVariants as kinds;
 ghost use Rattle.ion_symtab.specs.laws.ContextTexts.{AreTextTables};
-ghost use Rattle.ion_binary.specs.Deciding.{Answers};
 ghost use Rattle.ion_binary.specs.visiting.BinaryOut.{Encoded, Encodes, no_octets, with_value, wraps_next};
 ghost use Rattle.ion_binary.specs.writer.Calls.{WritesEach};
 ghost use Rattle.ion_binary.specs.laws.reading.Rows.{AreDocuments, worked_documents};
@@ -31,20 +30,6 @@ pub fn round_trip()
         AreKept s → NoTables s → FitsIn l s → Document g l (bin_of s) s }
     ensures again { (g h : List Table) (l m : Limits) (u : List ℕ) (s : List Value) →
         AreTextTables g → AreOctets u → Document g l u s → FitsIn m s → Document h m (bin_of s) s }
-{}
-
-/// Each refusal is one that the table of the format has, and each row of the table refuses.
-pub fn refusals()
-    ensures answers { (g : List Table) (l : Limits) (u : List ℕ) (r : Refusal) →
-        (trace g l u).refused ≡ Some r → (r.offset ≤ length u)
-        × Answers g l (take r.offset u) r.reason }
-    ensures refuses { (g : List Table) (l : Limits) (u : List ℕ) (k : ℕ) (e : Reason) → k ≤ length u
-        →
-        Decides g l (take k u) e → (r : Refusal) × ((trace g l u).refused ≡ Some r)
-        × (r.offset ≡ k) }
-    ensures ends { (g : List Table) (l : Limits) (u : List ℕ) (r : Refusal) → (trace g l u).refused
-        ≡ None →
-        (trace g l u).ends ≡ Err r → r ≡ record { offset = length u; reason = Incomplete } }
 {}
 
 /// A value has at most as many nodes as octets.

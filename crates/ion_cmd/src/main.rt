@@ -5,13 +5,23 @@ use ion_run::{FileSystem, RandomHasher, refuse_words, run_arguments};
 use ion_symtab::ToWrite;
 use ion_words::WordsError;
 use std::env;
+use std::fs::File;
 use std::io::BufWriter;
 use std::process::ExitCode;
 
 /// So many octets of the output are kept back before they go out together.
 const KEPT_BACK: usize = 65536;
 
+/// A standard stream that was closed at the start is the root folder from here on, which answers reads and
+/// writes with an error. Otherwise the first document opened would take its number, and be read in its place.
+const ROOT: &str = "/";
+
 fn main(rt: HostRuntime) -> ExitCode {
+    let standard = [
+        File::open(&rt, ROOT),
+        File::open(&rt, ROOT),
+        File::open(&rt, ROOT),
+    ];
     let mut err = ToWrite::new(rt.stderr());
     let status = match BufWriter::with_capacity(rt.alloc(), KEPT_BACK, rt.stdout()) {
         Ok(buffered) => {
@@ -30,5 +40,6 @@ fn main(rt: HostRuntime) -> ExitCode {
         }
         Err(_) => refuse_words(WordsError::Memory, &mut err).code(),
     };
+    drop(standard);
     ExitCode::from(status)
 }

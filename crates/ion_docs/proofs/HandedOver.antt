@@ -7,9 +7,9 @@ use Rattle.ion_symtab.specs.laws.Took.{Front-none}
 use Rattle.ion_binary.specs.Output as binary
 use Rattle.ion_binary.specs.visiting.BinaryOut.{Encoded, Encodes, of_values, with_end, with_value, without_whole, wraps_next}
 use Rattle.ion_binary.proofs.BinaryTold as binary_told
-use Rattle.ion_text.specs.Output as text
-use Rattle.ion_text.specs.visiting.TextOut.{Writes, Written, lines, no_text, with_end as with_line, with_item, without_lines}
-use Rattle.ion_text.proofs.TextTold as text_told
+use Rattle.ion_spelling.specs.Output as text
+use Rattle.ion_spelling.specs.TextOut.{Writes, Written, lines, no_text, with_end as with_line, with_item, without_lines}
+use Rattle.ion_spelling.specs.laws.TextTold as text_told
 use Rattle.ion_docs.specs.laws.Encodings.{behind_one}
 
 -- of what a value adds, a device that wasn't written to took nothing

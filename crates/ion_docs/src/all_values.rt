@@ -1,6 +1,6 @@
 //! All values of a document.
 ghost use Rattle.std.specs.Prelude.{◌≡◌, ◌≢◌, ◌+◌, ◌^◌, ◌<◌, ◌≤◌, false, List, length, IfOk, IfErr, OnOk, MatchResult, ◌*◌};
-ghost use Rattle.ion_docs.specs.Names.{AtOneEnd, Denotes, IsReadCause, IsRefused, ToldDocument, ToldRefused, Value, documents};
+ghost use Rattle.ion_docs.specs.Names.{AtOnce, AtOneEnd, Denotes, IsReadCause, IsRefused, ToldDocument, ToldRefused, Value, documents};
 ghost use Rattle.ion_atoms.specs.declared.refusal.Reason.TheVariants as reasons;
 
 use crate::doc_reader::DocReader;
@@ -48,6 +48,7 @@ pub fn read_document<R: Inlet>(
         IfOk result (λ answer. MatchResult answer
         (λ values. ToldDocument R.Inlet F reader.old reader.new values.items)
         (λ refusal. (s : List Value) × ToldRefused R.Inlet F reader.old reader.new s refusal)) }
+    ensures at_once { AtOnce R.Inlet (documents catalog.now limits) reader.old reader.new }
     ensures one_end { AtOneEnd R.Inlet reader.old reader.new }
     ensures few_calls { R.calls_made reader.new ≤ R.calls_made reader.old + limits.reads }
     ensures few_octets { length (R.handed reader.new)

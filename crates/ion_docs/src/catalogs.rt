@@ -1,6 +1,6 @@
 //! Catalogs from documents.
 ghost use Rattle.std.specs.Prelude.{◌≡◌, ◌+◌, ◌≤◌, false, [], IfOk, IfErr, OnOk, length, ◌*◌};
-ghost use Rattle.ion_docs.specs.Names.{AtOneEnd, IsLoaded, IsReadCause, documents};
+ghost use Rattle.ion_docs.specs.Names.{AskedWhile, AtOneEnd, DescribeTables, IsLoaded, IsReadCause, documents};
 
 use crate::doc_reader::DocReader;
 use ion_model::Refusal;
@@ -18,13 +18,16 @@ use std::alloc::Global;
 /// faults are those of `check`.
 ///
 /// The answer is right about whatever octets begin with those that `reader` handed over during the
-/// call, and end there where it answered its end.
+/// call, and end there where it answered its end. It is asked on only while they aren't refused and
+/// each value that they give describes a table.
 pub fn load_catalog<R: Inlet>(
     alloc: Global,
     reader: &mut R,
     limits: Limits,
 ) -> Result<Result<Catalog, Refusal>, Fault>
     ensures loaded { IfOk result (IsLoaded R.Inlet (documents [] limits) reader.old reader.new) }
+    ensures at_once { AskedWhile R.Inlet (documents [] limits) reader.old reader.old reader.new
+        DescribeTables }
     ensures one_end { AtOneEnd R.Inlet reader.old reader.new }
     ensures few_calls { R.calls_made reader.new ≤ R.calls_made reader.old + limits.reads }
     ensures few_octets { length (R.handed reader.new)

@@ -1,6 +1,6 @@
 //! The conversion of documents.
 ghost use Rattle.std.specs.Prelude.{◌≡◌, ℕ, ◌+◌, ◌*◌, ◌++◌, ◌^◌, ◌<◌, ◌≤◌, ◌⊎◌, List, [], length, false, IfOk, IfErr, OnOk, OnErr, option_to_list};
-ghost use Rattle.ion_docs.specs.Names.{AtOneEnd, ConvertsSoFar, IsConvertCause, IsConverted, IsFresh, IsReadCause, ReadSoFar, WritesKept, format_of};
+ghost use Rattle.ion_docs.specs.Names.{AtOnce, AtOneEnd, ConvertsSoFar, IsConvertCause, IsConverted, IsFresh, IsReadCause, ReadSoFar, WritesKept, format_of};
 
 use crate::writers::Encoder;
 use ion_model::Refusal;
@@ -34,6 +34,8 @@ pub fn convert_items<E: Encoder + Drop, I: Items + Drop, R: Inlet, W: Outlet>(
         reader.old reader.new writer.old writer.new) }
     ensures passed_on { OnOk result (W.passed writer.new ≡ W.written writer.new) }
     ensures no_write_failed { OnOk result (W.has_failed writer.new ≡ false) }
+    ensures at_once { AtOnce R.Inlet (format_of I.Items (I.catalog items) (I.limits items))
+        reader.old reader.new }
     ensures one_end { AtOneEnd R.Inlet reader.old reader.new }
     ensures few_calls { R.calls_made reader.new ≤ R.calls_made reader.old + reads }
     ensures few_octets { length (R.handed reader.new) ≤ length (R.handed reader.old) + 4096 *

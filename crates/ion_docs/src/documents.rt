@@ -1,7 +1,7 @@
 //! Whole documents of either encoding, under one catalog and limits.
 ghost use Rattle.std.specs.Prelude.{◌≡◌, ◌+◌, ◌*◌, ◌≤◌, ◌⊎◌, false, IfOk, IfErr, OnOk, OnErr, length};
-ghost use Rattle.ion_docs.specs.Names.{AtOneEnd, ConvertsSoFar, IsChecked, IsCompared, IsConvertCause, IsConverted, IsReadCause, IsShown, IsVisited, IsWriteCause, KeepsStream, ReadSoFar, ShowsSoFar, documents, encoding_of};
-ghost use Rattle.ion_streams.specs.InTurn.{IsInTurn};
+ghost use Rattle.ion_docs.specs.Names.{AtOnce, AtOneEnd, ConvertsSoFar, IsChecked, IsCompared, IsConvertCause, IsConverted, IsReadCause, IsShown, IsVisited, IsWriteCause, KeepsStream, ReadSoFar, ShowsSoFar, documents, encoding_of};
+ghost use Rattle.ion_streams.specs.InTurn.{IsInTurn, LeftInTurn};
 
 use crate::conversion::convert_items;
 use crate::doc_reader::DocReader;
@@ -9,7 +9,7 @@ use ion_binary::BinaryOut;
 use ion_model::Refusal;
 use ion_streams::{Verdict, compare_items, show_items, visit_items};
 use ion_symtab::{Catalog, Fault, Inlet, Items, Limits, Outlet, Target};
-use ion_text::TextOut;
+use ion_text_writer::TextOut;
 use ion_visiting::{Count, Visitor};
 use std::alloc::Global;
 use std::hash::{BuildHasher, BuildHasherDefault, FoldHasher};
@@ -18,7 +18,8 @@ use std::hash::{BuildHasher, BuildHasherDefault, FoldHasher};
 /// the octets of `reader` denote, or their refusal, where they are no document within `limits`.
 ///
 /// The answer is right about whatever octets begin with those that `reader` handed over during the
-/// call, and end there where it answered its end. It isn't asked on behind that end.
+/// call, and end there where it answered its end. It isn't asked on behind that end, nor once the
+/// octets that it handed over are refused.
 ///
 /// The offset of a refusal counts octets with which no document begins, or all of them; it is never
 /// `Memory`. Faults: `Memory` where a growth was refused, `Read` where the reader failed,
@@ -31,6 +32,7 @@ pub fn check<R: Inlet>(
 ) -> Result<Result<u64, Refusal>, Fault>
     ensures verdict { IfOk result (IsChecked R.Inlet (documents catalog.now limits)
         reader.old reader.new) }
+    ensures at_once { AtOnce R.Inlet (documents catalog.now limits) reader.old reader.new }
     ensures one_end { AtOneEnd R.Inlet reader.old reader.new }
     ensures few_calls { R.calls_made reader.new ≤ R.calls_made reader.old + limits.reads }
     ensures few_octets { length (R.handed reader.new)
@@ -58,6 +60,7 @@ pub fn visit<R: Inlet, V: Visitor>(
 ) -> Result<Result<u64, Refusal>, Fault>
     ensures verdict { IfOk result (IsVisited V.takes R.Inlet (documents catalog.now limits)
         reader.old reader.new visitor.old visitor.new) }
+    ensures at_once { AtOnce R.Inlet (documents catalog.now limits) reader.old reader.new }
     ensures one_end { AtOneEnd R.Inlet reader.old reader.new }
     ensures few_calls { R.calls_made reader.new ≤ R.calls_made reader.old + limits.reads }
     ensures few_octets { length (R.handed reader.new)
@@ -89,6 +92,7 @@ pub fn show<R: Inlet, W: Outlet>(
     ensures no_write_failed { OnOk result (W.has_failed writer.new ≡ false) }
     ensures so_far { OnErr result (ShowsSoFar R.Inlet ⟦<DocReader<'static> as Items>⟧ W.Outlet
         catalog.now limits reader.old reader.new writer.old writer.new) }
+    ensures at_once { AtOnce R.Inlet (documents catalog.now limits) reader.old reader.new }
     ensures one_end { AtOneEnd R.Inlet reader.old reader.new }
     ensures few_calls { R.calls_made reader.new ≤ R.calls_made reader.old + limits.reads }
     ensures few_octets { length (R.handed reader.new)
@@ -103,7 +107,7 @@ pub fn show<R: Inlet, W: Outlet>(
 }
 
 /// Writes a document that denotes the stream of another (Ion 1.0, "The Ion Data Model"), in the
-/// encoding of `target`: the one spelling that `ion_binary` or `ion_text` gives a stream. It
+/// encoding of `target`: the one spelling that `ion_binary` or `ion_text_writer` gives a stream. It
 /// denotes that stream under every catalog and all limits that admit it: `item` at least the octets
 /// of each item written, `depth` at least that of each value; in binary ids up to 2^31-1, and
 /// `depth` at least 2 where a symbol table is written.
@@ -130,6 +134,7 @@ pub fn convert<R: Inlet, W: Outlet>(
         (documents catalog.now limits) reader.old reader.new writer.old writer.new) }
     ensures passed_on { OnOk result (W.passed writer.new ≡ W.written writer.new) }
     ensures no_write_failed { OnOk result (W.has_failed writer.new ≡ false) }
+    ensures at_once { AtOnce R.Inlet (documents catalog.now limits) reader.old reader.new }
     ensures one_end { AtOneEnd R.Inlet reader.old reader.new }
     ensures few_calls { R.calls_made reader.new ≤ R.calls_made reader.old + limits.reads }
     ensures few_octets { length (R.handed reader.new)
@@ -165,6 +170,7 @@ pub fn convert_with_hasher<H: BuildHasher + Drop, R: Inlet, W: Outlet>(
         (documents catalog.now limits) reader.old reader.new writer.old writer.new) }
     ensures passed_on { OnOk result (W.passed writer.new ≡ W.written writer.new) }
     ensures no_write_failed { OnOk result (W.has_failed writer.new ≡ false) }
+    ensures at_once { AtOnce R.Inlet (documents catalog.now limits) reader.old reader.new }
     ensures one_end { AtOneEnd R.Inlet reader.old reader.new }
     ensures few_calls { R.calls_made reader.new ≤ R.calls_made reader.old + limits.reads }
     ensures few_octets { length (R.handed reader.new)
@@ -211,10 +217,11 @@ pub fn convert_with_hasher<H: BuildHasher + Drop, R: Inlet, W: Outlet>(
 /// the call, and end there where one answered its end. Neither is asked on behind that end.
 ///
 /// One value of each is read in turn: the right device is asked for a value only once that of the
-/// left, or its end, is known, so that a left side that is no document is refused at once. After
-/// the streams parted, and after the right side was refused, both are still read to the end, so that
-/// the left side is refused wherever it is no document, and the right where it alone is none. Offsets
-/// and faults are those of `check`.
+/// left, or its end, is known, and the left one for the next only once the right has given its own,
+/// has ended or is refused. A left side that is no document is refused at once, and a device whose
+/// octets are refused is asked no more. After the streams parted, and after the right side was
+/// refused, both are still read to the end, so that the left side is refused wherever it is no
+/// document, and the right where it alone is none. Offsets and faults are those of `check`.
 pub fn compare<L: Inlet, R: Inlet>(
     alloc: Global,
     left: &mut L,
@@ -228,6 +235,11 @@ pub fn compare<L: Inlet, R: Inlet>(
     ensures in_turn { IsInTurn L.Inlet R.Inlet
         (documents catalog.now limits) (documents catalog.now limits)
         left.old left.new right.old right.new }
+    ensures left_in_turn { LeftInTurn L.Inlet R.Inlet
+        (documents catalog.now limits) (documents catalog.now limits)
+        left.old left.new right.old right.new }
+    ensures at_once { AtOnce L.Inlet (documents catalog.now limits) left.old left.new
+        × AtOnce R.Inlet (documents catalog.now limits) right.old right.new }
     ensures one_end { AtOneEnd L.Inlet left.old left.new × AtOneEnd R.Inlet right.old right.new }
     ensures few_calls { (L.calls_made left.new ≤ L.calls_made left.old + limits.reads)
         × (R.calls_made right.new ≤ R.calls_made right.old + limits.reads) }

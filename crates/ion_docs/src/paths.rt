@@ -5,7 +5,7 @@ ghost use Rattle.ion_atoms.specs.declared.refusal.Reason.TheVariants as reasons;
 ghost use Rattle.ion_docs.specs.Paths.{part_text, path_text};
 
 use ion_model::{Part, Path, Reason};
-use ion_text::spelling_of;
+use ion_text_writer::spelling_of;
 use std::alloc::Global;
 use std::fmt::{self, Display, Formatter};
 

@@ -5,7 +5,7 @@ ghost use Rattle.ion_symtab.specs.declared.fault.Fault.TheVariants as faults;
 
 use ion_binary::{BinaryOut, finish_document};
 use ion_symtab::{Fault, Outlet, flushed, write_whole};
-use ion_text::TextOut;
+use ion_text_writer::TextOut;
 use ion_visiting::Visitor;
 use std::hash::BuildHasher;
 
@@ -98,8 +98,8 @@ impl<S: BuildHasher + Drop> Encoder for BinaryOut<S> {
 }
 
 impl Encoder for TextOut {
-    ghost use Rattle.ion_text.specs.Output.{text_of};
-    ghost use Rattle.ion_text.specs.visiting.TextOut.{no_text};
+    ghost use Rattle.ion_spelling.specs.Output.{text_of};
+    ghost use Rattle.ion_spelling.specs.TextOut.{no_text};
     ghost use Rattle.ion_docs.specs.Encodings.{text_encoding};
     ghost use Rattle.ion_docs.specs.laws.Encodings.{text_fronts};
 

@@ -1,5 +1,5 @@
 -- Texts and symbols: which the types keep, when two are the same, and their order.
-use Rattle.std.specs.Prelude.{ℕ, List, [], ◌∷◌, Bool, false, Option, None, Some, IfSome, nat_eq}
+use Rattle.std.specs.Prelude.{ℕ, List, [], ◌∷◌, ◌≤◌, length, Bool, false, Option, None, Some, IfSome, nat_eq}
 use Rattle.std.specs.Str.{IsUtf8, bytes_eq}
 use Rattle.std.specs.Ordering.{nat_cmp}
 use Rattle.std.specs.Option.{option_eq, option_cmp}
@@ -15,6 +15,10 @@ IsText s = IfSome s IsUtf8
 abbrev pub AreTexts : List (Option (List ℕ)) → Type 0
 AreTexts [] = Unit {0}
 AreTexts (s ∷ ss) = IsText s × AreTexts ss
+
+-- a symbol that takes no memory: it is unknown, or its text has at most 14 octets
+abbrev pub IsFree : Option (List ℕ) → Type 0
+IsFree s = IfSome s (λ t. length t ≤ 14)
 
 -- octet by octet
 abbrev pub text_same : List ℕ → List ℕ → Bool

@@ -108,11 +108,16 @@ impl<'a, T> IntoIterator for &'a Sequence<T> {
 }
 
 impl<T: Drop> Sequence<T> {
-    /// Puts an item at the end; where memory was refused, the items are as they were.
+    /// Puts an item at the end; where memory was refused, the items are as they were. Room grows from
+    /// one item by doubling, since most lists of a document hold few.
     pub fn push(&mut self, item: T) -> Result<(), AllocError>
         ensures ok { OnOk result (self.new ≡ self.old ++ item ∷ []) }
         ensures err { OnErr result (self.new ≡ self.old) }
     {
+        let count = self.items.len();
+        if count == self.items.capacity() {
+            self.items.reserve_exact(count.max(1))?;
+        }
         self.items.push(item)?;
         Ok(())
     }

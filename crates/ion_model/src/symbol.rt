@@ -1,8 +1,8 @@
 //! Symbols: texts that name things, of which some are unknown.
-ghost use Rattle.std.specs.Prelude.{◌≡◌, Some, None, MatchResult, option_map};
+ghost use Rattle.std.specs.Prelude.{◌≡◌, Some, None, MatchResult, is_ok, option_map, true};
 ghost use Rattle.ion_atoms.specs.declared.refusal.Reason.TheVariants as reasons;
 ghost use Rattle.ion_model.specs.Kinds.{names_table};
-ghost use Rattle.ion_model.specs.Symbols.{IsText, has_text, symbol_same, symbol_cmp};
+ghost use Rattle.ion_model.specs.Symbols.{IsFree, IsText, has_text, symbol_same, symbol_cmp};
 
 use ion_atoms::Reason;
 use std::alloc::Global;
@@ -62,9 +62,11 @@ impl Symbol {
         }
     }
 
-    /// The symbol of this text. The only refusal is `Memory`.
+    /// The symbol of this text. The only refusal is `Memory`, and none comes of a text of at most 14
+    /// octets.
     pub fn known(alloc: Global, text: &str) -> Result<Symbol, Reason>
-        ensures { MatchResult result (λ s. s ≡ Some text.now) (λ r. r ≡ reasons.Memory) }
+        ensures free { IsFree (Some text.now) → is_ok result ≡ true }
+        ensures known { MatchResult result (λ s. s ≡ Some text.now) (λ r. r ≡ reasons.Memory) }
     {
         let octets = text.as_bytes();
         let count = octets.len();
@@ -122,9 +124,11 @@ impl Symbol {
         }
     }
 
-    /// An equal symbol, which shares the memory of the text. The only refusal is `Memory`.
+    /// An equal symbol, which shares the memory of the text. The only refusal is `Memory`, and none
+    /// comes of a symbol that takes no memory.
     pub fn copy(&self) -> Result<Symbol, Reason>
-        ensures { MatchResult result (λ s. s ≡ self.now) (λ r. r ≡ reasons.Memory) }
+        ensures free { IsFree self.now → is_ok result ≡ true }
+        ensures copied { MatchResult result (λ s. s ≡ self.now) (λ r. r ≡ reasons.Memory) }
     {
         let held = match &self.held {
             Held::Unknown => Held::Unknown,

@@ -124,11 +124,11 @@ stopped_once R gives refuses l lacking large name first now given W new fault (i
 module _ {X T : Type 0} (R : Inlet X) (gives gave : Name → X → Type 0) (W : Outlet T) (old new : T) (g : the_catalog) (l : Limits) (ending : Ending) where
   pub IsDone-kept : (job : Job) → ((name : Name) (input : X) → Contains (names_of_job job) name → gives name input → gave name input)
       → IsDone R gives W old new job g l ending → IsDone R gave W old new job g l ending
-  IsDone-kept (check file) kept h = (h.0, h.1, kept file h.0 (first_of_names file []) h.2, h.3, h.4, h.5)
-  IsDone-kept (show file) kept h = (h.0, h.1, kept file h.0 (first_of_names file []) h.2, h.3, h.4, h.5)
-  IsDone-kept (convert file to) kept h = (h.0, h.1, kept file h.0 (first_of_names file []) h.2, h.3, h.4, h.5, h.6)
+  IsDone-kept (check file) kept h = (h.0, h.1, kept file h.0 (first_of_names file []) h.2, h.3, h.4, h.5, h.6)
+  IsDone-kept (show file) kept h = (h.0, h.1, kept file h.0 (first_of_names file []) h.2, h.3, h.4, h.5, h.6)
+  IsDone-kept (convert file to) kept h = (h.0, h.1, kept file h.0 (first_of_names file []) h.2, h.3, h.4, h.5, h.6, h.7)
   IsDone-kept (compare left right) kept h =
-      (h.0, h.1, kept left h.0 (first_of_names left (right ∷ [])) h.2, h.3, h.4, kept right h.3 (second_of_names left right) h.5, h.6, h.7, h.8)
+      (h.0, h.1, kept left h.0 (first_of_names left (right ∷ [])) h.2, h.3, h.4, kept right h.3 (second_of_names left right) h.5, h.6, h.7, h.8, h.9)
 
 module _ {X Y : Type 0} (R : Inlet X) (gives gave : Name → X → Type 0) (I : Items Y) (g : the_catalog) (l : Limits) where
   pub NeedsLarge-kept : (job : Job) → ((name : Name) (input : X) → Contains (names_of_job job) name → gives name input → gave name input)
@@ -215,15 +215,25 @@ module _ (catalog : Option Name) (names old mid new : List Name) (before : Opens
   Opens-behind : Opens mid new names → Opens old new (names_with catalog names)
   Opens-behind h = Opens-then old mid new (names_with catalog []) names before h ∙ ap (λ (x : List Name). old ++ x) (names_behind catalog names)
 
-  OpensUpTo-behind : (fault : Fault) → OpensUpTo (Opens mid new) names fault → OpensUpTo (Opens old new) (names_with catalog names) fault
-  OpensUpTo-behind fault (inl all) = inl (Opens-behind all)
-  OpensUpTo-behind fault (inr h) = inr (
+  OpensUpTo-behind : (refuses refused : Name → Type 0) → ((name : Name) → Contains names name → refuses name → refused name) → (fault : Fault)
+      → OpensUpTo (Opens mid new) refuses names fault → OpensUpTo (Opens old new) refused (names_with catalog names) fault
+  OpensUpTo-behind refuses refused kept fault (inl all) = inl (Opens-behind all)
+  OpensUpTo-behind refuses refused kept fault (inr h) = inr (
     names_with catalog [] ++ h.0,
     h.1,
-    append_assoc (names_with catalog []) h.0 h.1 ∙ (ap (λ (x : List Name). names_with catalog [] ++ x) h.2 ∙ names_behind catalog names),
-    Opens-then old mid new (names_with catalog []) h.0 before h.3,
-    h.4,
+    h.2,
+    append_assoc (names_with catalog []) h.0 (h.1 ∷ h.2) ∙ (ap (λ (x : List Name). names_with catalog [] ++ x) h.3 ∙ names_behind catalog names),
+    subst (λ (x : List Name). Opens old new x) (sym (append_assoc (names_with catalog []) h.0 (h.1 ∷ [])))
+        (Opens-then old mid new (names_with catalog []) (h.0 ++ h.1 ∷ []) before h.4),
+    refused_of fault h.5,
   )
+    where
+      within : Contains names h.1
+      within = subst (λ (x : List Name). Contains x h.1) h.3 (Contains-append_right h.0 (h.1 ∷ h.2) h.1 (first_of_names h.1 h.2))
+
+      refused_of : (fault : Fault) → (fault ≡ Open) × refuses h.1 ⊎ (fault ≡ Memory) → (fault ≡ Open) × refused h.1 ⊎ (fault ≡ Memory)
+      refused_of fault (inl none) = inl (none.0, kept h.1 within none.1)
+      refused_of fault (inr memory) = inr memory
 
 module _ {S X Y : Type 0} (R : Inlet X) (gives : S → Name → X → Type 0) (refuses : S → Name → Type 0) (none : Type 0) (I : Items Y) (asked : Asked) (l : Limits)
     (first : S) (old mid new : List Name) where
@@ -232,7 +242,7 @@ module _ {S X Y : Type 0} (R : Inlet X) (gives : S → Name → X → Type 0) (r
       (catalog : IsCatalog R (gives first) asked.catalog l (Ok g)) where
     -- why the documents' job was stopped behind the catalog is why what is asked for was stopped
     pub stopped_behind : Opens old mid (names_with asked.catalog []) → (failed : Bool) (fault : Fault)
-        → OpensUpTo (Opens mid new) (names_of_job asked.job) fault
+        → OpensUpTo (Opens mid new) (refuses then) (names_of_job asked.job) fault
         → IsStopped R (gives then) (refuses then) l (names_of_job asked.job) (JobLacksHasher none asked.job) (NeedsLarge R (gives then) I asked.job g l) failed
         fault → IsStoppedAt R (gives first) (refuses first) (Opens old new) none I asked l failed fault
     stopped_behind before failed fault opened h =
@@ -245,7 +255,8 @@ module _ {S X Y : Type 0} (R : Inlet X) (gives : S → Name → X → Type 0) (r
               fault (λ name within. within) kept_given
               (λ name within refused. kept.refused name (free_of_catalog asked.catalog (names_of_job asked.job) once name within) refused) (λ lacks. lacks)
               (NeedsLarge-kept R (gives then) (gives first) I g l asked.job kept_given) (λ fails. fails) h,
-          OpensUpTo-behind asked.catalog (names_of_job asked.job) old mid new before fault opened,
+          OpensUpTo-behind asked.catalog (names_of_job asked.job) old mid new before (refuses then) (refuses first)
+              (λ name within refused. kept.refused name (free_of_catalog asked.catalog (names_of_job asked.job) once name within) refused) fault opened,
         )
 
 -- where the job was done behind the catalog, what is asked for was answered

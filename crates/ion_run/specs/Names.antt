@@ -1,5 +1,5 @@
 -- What sources give under names, and which names they were asked for.
-use Rattle.std.specs.Prelude.{◌≡◌, ◌⊎◌, List, ◌++◌, codes, Option, Some, ℕ}
+use Rattle.std.specs.Prelude.{◌≡◌, ◌⊎◌, List, [], ◌∷◌, ◌++◌, codes, Option, Some, ℕ}
 use Rattle.ion_symtab.specs.declared.fault.Fault.{Fault}
 use Rattle.ion_symtab.specs.declared.fault.Fault.TheVariants.{Memory, Open}
 
@@ -16,7 +16,8 @@ pub record Keeps {S X : Type 0} (gives : S → Name → X → Type 0) (refuses :
 abbrev pub Opens : List Name → List Name → List Name → Type 0
 Opens old new names = new ≡ old ++ names
 
--- All of these names were opened before a fault; or it came with the last of the first of them, which gave no reader.
-abbrev pub OpensUpTo : (List Name → Type 0) → List Name → Fault → Type 0
-OpensUpTo opens names fault = opens names
-    ⊎ ((front : List Name) × (rest : List Name) × (front ++ rest ≡ names) × opens front × ((fault ≡ Open) ⊎ (fault ≡ Memory)))
+-- All of these names were opened before a fault; or those up to one that gave no reader, which may give none or lacked memory.
+abbrev pub OpensUpTo : (List Name → Type 0) → (Name → Type 0) → List Name → Fault → Type 0
+OpensUpTo opens refuses names fault = opens names
+    ⊎ ((front : List Name) × (last : Name) × (rest : List Name) × (front ++ last ∷ rest ≡ names) × opens (front ++ last ∷ [])
+    × ((fault ≡ Open) × refuses last ⊎ (fault ≡ Memory)))

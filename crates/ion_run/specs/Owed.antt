@@ -18,7 +18,7 @@ use Rattle.ion_symtab.specs.declared.target.Target.{Target}
 use Rattle.ion_streams.specs.Checked.{IsChecked}
 use Rattle.ion_streams.specs.Compared.{IsCompared}
 use Rattle.ion_streams.specs.Listing.{IsShown, ShowsSoFar}
-use Rattle.ion_streams.specs.Loaded.{IsLoaded}
+use Rattle.ion_streams.specs.Loaded.{DescribeTables, IsLoaded}
 use Rattle.ion_streams.specs.declared.comparison.Verdict.{Verdict}
 use Rattle.ion_words.specs.Asked.{Asked, Job, asked, check, compare, convert, names_of, names_of_job, names_with, show}
 use Rattle.ion_words.specs.declared.request.WordsError.{WordsError}
@@ -26,6 +26,7 @@ use Rattle.ion_docs.specs.Conversion.{KeepsStream}
 use Rattle.ion_docs.specs.Converted.{ConvertsSoFar, IsConverted, ReadSoFar}
 use Rattle.ion_docs.specs.Encodings.{encoding_of}
 use Rattle.ion_docs.specs.Formats.{documents}
+use Rattle.ion_run.specs.Asking.{AreAskedSo, IsAskedSo, IsAskedWhile}
 use Rattle.ion_run.specs.Arguments.{Arguments, no_words, words_of}
 use Rattle.ion_run.specs.Endings.{EndsChecked, EndsCompared, EndsShown, PassesOn, answer_line, verdict_line}
 use Rattle.ion_run.specs.Lines.{Reports, fault_line, refusal_line, usage_line}
@@ -59,7 +60,8 @@ module _ {X : Type 0} (R : Inlet X) (gives : Name → X → Type 0) where
   -- what the catalog is: of no tables where none is named
   abbrev pub IsCatalog : Option Name → Limits → Result (List Table) the_refusal → Type 0
   IsCatalog None l answer = answer ≡ Ok []
-  IsCatalog (Some name) l answer = (first : X) × (now : X) × gives name first × IsLoaded R (documents [] l) first now answer
+  IsCatalog (Some name) l answer = (first : X) × (now : X) × gives name first × IsAskedWhile R (documents [] l) l DescribeTables first now
+      × IsLoaded R (documents [] l) first now answer
 
   -- the values that were read of the document need an id above 2^31-1 in the encoding
   module _ {Y : Type 0} (I : Items Y) where
@@ -72,15 +74,17 @@ module _ {X : Type 0} (R : Inlet X) (gives : Name → X → Type 0) where
   module _ {T : Type 0} (W : Outlet T) (old new : T) where
     -- the job was done under this catalog and within these limits, and ended so
     abbrev pub IsDone : Job → the_catalog → Limits → Ending → Type 0
-    IsDone (check file) g l ending = (first : X) × (now : X) × gives file first × (answer : Result ℕ the_refusal)
+    IsDone (check file) g l ending = (first : X) × (now : X) × gives file first × IsAskedSo R (documents g l) l first now × (answer : Result ℕ the_refusal)
         × IsChecked R (documents g l) first now answer × EndsChecked W old new answer ending
-    IsDone (show file) g l ending = (first : X) × (now : X) × gives file first × (answer : Result ℕ the_refusal)
+    IsDone (show file) g l ending = (first : X) × (now : X) × gives file first × IsAskedSo R (documents g l) l first now × (answer : Result ℕ the_refusal)
         × IsShown R W (documents g l) first now old new answer × EndsShown W new answer ending
-    IsDone (convert file to) g l ending = (first : X) × (now : X) × gives file first × (answer : Result ℕ the_refusal)
+    IsDone (convert file to) g l ending = (first : X) × (now : X) × gives file first × IsAskedSo R (documents g l) l first now
+        × (answer : Result ℕ the_refusal)
         × IsConverted R W (encoding_of to) (documents g l) first now old new answer
         × KeepsStream R W (encoding_of to) g l first now old new answer × EndsShown W new answer ending
     IsDone (compare left right) g l ending = (l_first : X) × (l_now : X) × gives left l_first × (r_first : X) × (r_now : X) × gives right r_first
-        × (verdict : Verdict) × IsCompared R R (documents g l) (documents g l) l_first l_now r_first r_now verdict × EndsCompared W old new verdict ending
+        × AreAskedSo R R (documents g l) l l_first l_now r_first r_now × (verdict : Verdict)
+        × IsCompared R R (documents g l) (documents g l) l_first l_now r_first r_now verdict × EndsCompared W old new verdict ending
 
     -- What was asked for was answered, and ended so: done under its catalog, with all of its names opened; or the catalog was refused, and none but that
     -- opened.
@@ -135,7 +139,7 @@ module _ {X : Type 0} (R : Inlet X) (gives : Name → X → Type 0) (refuses : N
   IsStoppedAt opens none I asked l failed fault = IsStopped l (names_with asked.catalog []) ⊥ ⊥ false fault × opens (names_with asked.catalog [])
       ⊎ ((g : the_catalog) × IsCatalog R gives asked.catalog l (Ok g)
       × IsStopped l (names_of_job asked.job) (JobLacksHasher none asked.job) (NeedsLarge R gives I asked.job g l) failed fault
-      × OpensUpTo opens (names_of asked) fault)
+      × OpensUpTo opens refuses (names_of asked) fault)
 
 -- what is told on the errors where a command ended so: whose refusal it was, or nothing
 abbrev pub TellsErrors : {D : Type 0} → Outlet D → D → D → Ending → Type 0

@@ -12,6 +12,7 @@ ghost use Rattle.ion_streams.specs.Compared.{IsCompared};
 ghost use Rattle.ion_docs.specs.Conversion.{KeepsStream};
 ghost use Rattle.ion_docs.specs.Converted.{IsConverted, IsConvertCause, ReadSoFar, ConvertsSoFar};
 ghost use Rattle.ion_words.specs.Asked.{asked, told, names_of, names_of_job, names_with, NamesInputOnce};
+ghost use Rattle.ion_run.specs.Asking.{AreAskedSo, IsAskedSo};
 ghost use Rattle.ion_run.specs.Lines.{fault_line, refusal_line, usage_line, Reports};
 ghost use Rattle.ion_run.specs.Endings.{answer_line, verdict_line, ending_with, EndsChecked, EndsShown, EndsCompared, PassesOn};
 ghost use Rattle.ion_run.specs.Names.{Keeps, Opens, OpensUpTo};
@@ -250,7 +251,7 @@ fn ending_of<N: Sources, H: Hashers, O: Outlet>(
     ensures opened { OnOk result (Opens (N.opened sources.old) (N.opened sources.new)
         (names_of_job (told request.now).job)) }
     ensures opened_up_to { IfErr result (OpensUpTo
-        (Opens (N.opened sources.old) (N.opened sources.new))
+        (Opens (N.opened sources.old) (N.opened sources.new)) (N.refuses sources.old)
         (names_of_job (told request.now).job)) }
     ensures passed_on { OnOk result (PassesOn O.Outlet out.old out.new) }
     ensures so_far { OnErr result (TookFront O.took O.written out.old out.new []
@@ -288,6 +289,8 @@ fn checked<R: Inlet, O: Outlet>(
     ensures ending { IfOk result (λ ending. (answer : Result ℕ Refusal)
         × IsChecked R.Inlet (documents catalog.now limits) reader.old reader.new answer
         × EndsChecked O.Outlet out.old out.new answer ending) }
+    ensures asked { IsAskedSo R.Inlet (documents catalog.now limits) limits
+        reader.old reader.new }
     ensures passed_on { OnOk result (PassesOn O.Outlet out.old out.new) }
     ensures so_far { OnErr result (TookFront O.took O.written out.old out.new []
         ⊎ (answer : Result ℕ Refusal)
@@ -317,6 +320,8 @@ fn shown<R: Inlet, O: Outlet>(
         × IsShown R.Inlet O.Outlet (documents catalog.now limits)
         reader.old reader.new out.old out.new answer
         × EndsShown O.Outlet out.new answer ending) }
+    ensures asked { IsAskedSo R.Inlet (documents catalog.now limits) limits
+        reader.old reader.new }
     ensures passed_on { OnOk result (PassesOn O.Outlet out.old out.new) }
     ensures so_far { OnErr result (ShowsSoFar R.Inlet ⟦<DocReader<'static> as Items>⟧ O.Outlet
         catalog.now limits reader.old reader.new out.old out.new) }
@@ -344,6 +349,8 @@ fn converted<H: Hashers, R: Inlet, O: Outlet>(
         × KeepsStream R.Inlet O.Outlet (encoding_of target) catalog.now limits
         reader.old reader.new out.old out.new answer
         × EndsShown O.Outlet out.new answer ending) }
+    ensures asked { IsAskedSo R.Inlet (documents catalog.now limits) limits
+        reader.old reader.new }
     ensures passed_on { OnOk result (PassesOn O.Outlet out.old out.new) }
     ensures so_far { OnErr result (ConvertsSoFar (encoding_of target)
         (ReadSoFar R.Inlet ⟦<DocReader<'static> as Items>⟧ catalog.now limits reader.old reader.new)
@@ -390,6 +397,8 @@ fn compared<L: Inlet, R: Inlet, O: Outlet>(
         × IsCompared L.Inlet R.Inlet (documents catalog.now limits) (documents catalog.now limits)
         left.old left.new right.old right.new verdict
         × EndsCompared O.Outlet out.old out.new verdict ending) }
+    ensures asked { AreAskedSo L.Inlet R.Inlet (documents catalog.now limits) limits
+        left.old left.new right.old right.new }
     ensures passed_on { OnOk result (PassesOn O.Outlet out.old out.new) }
     ensures so_far { OnErr result (TookFront O.took O.written out.old out.new []
         ⊎ (verdict : Verdict)

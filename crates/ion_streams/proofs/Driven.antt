@@ -2,10 +2,11 @@
 use Rattle.std.proofs.Common.{◌≡◌, ℕ, List, [], ◌∷◌, ◌++◌, length, false, Option, Some, None, inr, append-nil, ap, sym, subst, ◌∙◌}
 use Rattle.std.proofs.lemmas.Grind.{flat_map-append}
 use Rattle.std.proofs.lemmas.List.{length-map, map-append}
-use Rattle.ion_streams.specs.Names.{Catalog, Ended, Event, IfOpen, Inlet, IsReady, IsWithin, Items, Led, Limits, NoReadFailed, NoneFailed, Open, PieceReader, ReadState, Refused, ToldNext, Value, answered, ended, events_of, format_of, plain, stream_events, telling}
+use Rattle.ion_streams.specs.Names.{AskedWhile, AtOnce, Catalog, Ended, Event, IfOpen, Inlet, IsReady, IsWithin, Items, Led, Limits, NoReadFailed, NoneFailed, Open, PieceReader, ReadState, Refused, Sought, Stood, StoodEach, ToldNext, Value, answered, ended, events_of, format_of, plain, stream_events, telling}
 use Rattle.ion_visiting.specs.laws.Led.{led_both, led_more}
 use Rattle.ion_streams.specs.Checked.{IsVisited}
 use Rattle.ion_streams.proofs.Steps.{stood_plain}
+use Rattle.ion_streams.proofs.Turns.{asked_on, at_once_on}
 use Rattle.ion_streams.proofs.Unfailed.{StandsHeard, stands_heard}
 
 -- it can be read on where it is open, no read failed, and so many calls of read were to be made at most
@@ -33,6 +34,22 @@ module _ {S X : Type 0} (R : Inlet S) (I : Items X) where
         heard = record { either = inr (stands_heard I R old now place d.heard unasked answered) };
         within = within first reads d.within;
       }
+
+  -- where its device is asked on, this is so of the values before
+  pub asked_behind : (P : List (Value × ℕ) → Type 0) (g : Catalog) (l : Limits) (first old now : S) (place : ReadState X) (given : List (Value × ℕ))
+      → StoodEach R I g l first old place given → P given → AskedWhile R (format_of I g l) first first old P
+      → ((g : Catalog) (l : Limits) (first : S) (given : List (Value × ℕ)) → StoodEach R I g l first old place given
+      → AskedWhile R (format_of I g l) first old now (λ before. before ≡ given)) → AskedWhile R (format_of I g l) first first now P
+  asked_behind P g l first old now place given stood so was sought =
+      asked_on R (format_of I g l) first old now P (λ before. before ≡ given) (λ before same. rw same so) was (sought g l first given stood)
+
+  -- the same of one that is told to a visitor: it is asked no more behind a refusal
+  pub told_at_once : (g : Catalog) (l : Limits) (first old now : S) (place : ReadState X) (given : List (Value × ℕ))
+      → StoodEach R (telling I []) g l first old place given → AtOnce R (format_of I g l) first old
+      → ((g : Catalog) (l : Limits) (first : S) (s : List Value) → Stood R (telling I []) g l first old place s
+      → Sought R (format_of I g l) first old now (length s)) → AtOnce R (format_of I g l) first now
+  told_at_once g l first old now place given stood was sought =
+      at_once_on R (format_of I g l) first old now _ was (sought g l first (plain given) (stood_plain R (telling I []) g l first old place given stood))
 
 module _ {V : Type 0} (takes : V → Event → V → Type 0) where
   -- a visitor that has heard these values heard one more, and that it ended

@@ -1,11 +1,13 @@
 -- What was told of a document that is read by walks.
-use Rattle.std.proofs.Common.{◌≡◌, ℕ, ◌+◌, ◌-◌, ◌≤◌, List, [], ◌∷◌, ◌++◌, length, Bool, true, false, Option, Some, None, Ok, ap, sym, append-nil}
-use Rattle.ion_streams.specs.Names.{AValue, Catalog, End, Ended, EndsBy, EndsOn, EndsRefused, Event, Format, GaveSoFar, Grows, HasTold, Heard, Hears, Inlet, IsReady, Items, LastAskedFor, Led, Limits, Open, PieceReader, ReachesBy, ReadState, ReadsEach, Refills, Refusal, Refused, StoodEach, Streams, ToldNext, ToldRefusedEach, Value, WalksOn, WentBy, between, events_of, format_of, left_of, plain, telling}
+use Rattle.std.proofs.Common.{◌≡◌, ℕ, ◌+◌, ◌-◌, ◌<◌, ◌≤◌, List, [], ◌∷◌, ◌++◌, length, Bool, true, false, Option, Some, None, Ok, ap, sym, append-nil, arith}
+use Rattle.std.proofs.lemmas.Grind.{common_steps}
+use Rattle.std.proofs.lemmas.List.{length-map}
+use Rattle.ion_streams.specs.Names.{AValue, Catalog, End, Ended, EndsBy, EndsOn, EndsRefused, Event, Format, GaveSoFar, Grows, HandedPiece, HasTold, Heard, Hears, Inlet, IsReady, Items, LastAskedFor, Led, Limits, Open, PieceReader, ReachesBy, ReadState, ReadsEach, Refills, Refusal, Refused, StoodEach, Streams, ToldNext, ToldRefusedEach, Value, WalksOn, WentBy, between, events_of, format_of, left_of, plain, telling}
 use Rattle.ion_visiting.specs.laws.Filters.{hears_both}
 use Rattle.ion_streams.specs.Outcomes.{EndsWell}
 use Rattle.ion_streams.proofs.Pieces.{went}
 use Rattle.ion_streams.proofs.Steps.{gave_so_far, kept_so_far, reads_by, reads_ended, reads_failed, reads_refilled, reads_stopped}
-use Rattle.ion_streams.proofs.Turns.{asked_next}
+use Rattle.ion_streams.proofs.Turns.{asked_next, asked_so}
 use Rattle.ion_streams.proofs.Wholes.{plain_at}
 
 -- a visitor that had heard nothing was led by all that it heard
@@ -106,11 +108,13 @@ module _ {S V X : Type 0} (takes : V → Event → V → Type 0) (R : Inlet S) (
     -- with all octets used and no value more, the device is asked for the next one
     pub tells_asked : (first now new : S) (source : PieceReader X) (given : List (Value × ℕ)) (s : List Value) (es : List Event) (a b : V) → plain given ≡ s
         → TellsOn first now source given es a b → IsReady I source → source.at ≡ source.end → R.calls_made new ≤ R.calls_made now + 1
-        → LastAskedFor R (format_of I g l) first new (length s + 1)
-    tells_asked first now new source given s es a b values h ready used_up once =
-        asked_next (telling I h.0) g l settled (λ r u t told. (has_told r u t h.0 told).given_so_far) R first now new source s
-        (record { given = given; each = h.2; values = values })
-        (record { within = ready.within; fits = ready.fits; piece = ready.piece; room = ready.room; begins = ready.begins; counted = cc }) used_up once
+        → HandedPiece R now new → LastAskedFor R (format_of I g l) first new (length s + 1)
+    tells_asked first now new source given s es a b values h ready used_up once piece =
+        asked_so R (format_of I g l) first new (λ before. before ≡ given) (λ before. length before < length s + 1)
+        (λ before same. grind (arith, common_steps, length-map, values, same))
+        (asked_next (telling I h.0) g l settled (λ r u t told. (has_told r u t h.0 told).given_so_far) (λ r u t told. (has_told r u t h.0 told).not_refused)
+        R first now new source given h.2
+        (record { within = ready.within; fits = ready.fits; piece = ready.piece; room = ready.room; begins = ready.begins; counted = cc }) used_up once piece)
 
 -- a visitor that was told a value to its end by the end of the octets
 pub ended_by : {V : Type 0} (takes : V → Event → V → Type 0) (F : Format) (u : List ℕ) (given : List (Value × ℕ)) (es : List Event) (found : Bool) (total : ℕ)

@@ -54,6 +54,10 @@ pub record NoDocument (F : Format) (octets : List ℕ) (refusal : Refusal) : Typ
   pub tables : List Table
   pub described : catalog_of [] (given_all F octets) ≡ Ok tables
 
+-- each of these values describes a table, and none has the name and version of one before it
+abbrev pub DescribeTables : List (Value × ℕ) → Type 0
+DescribeTables given = (tables : List Table) × (catalog_of [] given ≡ Ok tables)
+
 -- what the octets are as a catalog: a value that they give is refused first, wherever they are no document too
 abbrev pub IsCatalog : Format → List ℕ → Result (List Table) Refusal → Type 0
 IsCatalog F octets (Ok tables) = DescribesTables F octets tables

@@ -1,6 +1,6 @@
 //! All values of a document.
 ghost use Rattle.std.specs.Prelude.{◌≡◌, ◌≢◌, ◌+◌, ◌^◌, ◌<◌, ◌≤◌, ◌++◌, false, List, length, IfOk, IfErr, MatchResult, OnOk, option_to_list, ◌*◌};
-ghost use Rattle.ion_streams.specs.Names.{AtOneEnd, IsFresh, IsReadCause, IsRefused, ToldDocument, ToldRefused, Value, format_of};
+ghost use Rattle.ion_streams.specs.Names.{AtOnce, AtOneEnd, IsFresh, IsReadCause, IsRefused, ToldDocument, ToldRefused, Value, format_of};
 ghost use Rattle.ion_atoms.specs.declared.refusal.Reason.TheVariants as reasons;
 
 use crate::piece_reader::{PieceReader, ReadState};
@@ -25,6 +25,8 @@ pub fn read_items<I: Items + Drop, R: Inlet>(
         IfOk result (λ answer. MatchResult answer
         (λ values. ToldDocument R.Inlet F reader.old reader.new values.items)
         (λ refusal. (s : List Value) × ToldRefused R.Inlet F reader.old reader.new s refusal)) }
+    ensures at_once { AtOnce R.Inlet (format_of I.Items (I.catalog items) (I.limits items))
+        reader.old reader.new }
     ensures one_end { AtOneEnd R.Inlet reader.old reader.new }
     ensures few_calls { R.calls_made reader.new ≤ R.calls_made reader.old + reads }
     ensures few_octets { length (R.handed reader.new) ≤ length (R.handed reader.old) + 4096 *

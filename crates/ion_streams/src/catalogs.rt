@@ -1,6 +1,6 @@
 //! Catalogs from documents.
 ghost use Rattle.std.specs.Prelude.{◌≡◌, ◌⊎◌, ◌+◌, ◌^◌, ◌≤◌, false, OnOk, IfOk, IfErr, MatchResult, Ok, Err, [], ◌∷◌, length, ◌*◌};
-ghost use Rattle.ion_streams.specs.Names.{AtOneEnd, IsFresh, IsLoaded, IsReadCause, added, catalog_of, format_of};
+ghost use Rattle.ion_streams.specs.Names.{AskedWhile, AtOneEnd, DescribeTables, IsFresh, IsLoaded, IsReadCause, added, catalog_of, format_of};
 ghost use Rattle.ion_atoms.specs.declared.refusal.Reason.TheVariants as reasons;
 
 use crate::piece_reader::{PieceReader, ReadState};
@@ -21,6 +21,8 @@ pub fn load_items<I: Items + Drop, R: Inlet>(
     requires reads { reads ≤ 2 ^ 32 }
     ensures loaded { IfOk result (IsLoaded R.Inlet
         (format_of I.Items (I.catalog items) (I.limits items)) reader.old reader.new) }
+    ensures at_once { AskedWhile R.Inlet (format_of I.Items (I.catalog items) (I.limits items))
+        reader.old reader.old reader.new DescribeTables }
     ensures one_end { AtOneEnd R.Inlet reader.old reader.new }
     ensures few_calls { R.calls_made reader.new ≤ R.calls_made reader.old + reads }
     ensures few_octets { length (R.handed reader.new) ≤ length (R.handed reader.old) + 4096 *

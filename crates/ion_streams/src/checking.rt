@@ -1,6 +1,6 @@
 //! Documents whose values a visitor is told, and how many they have.
 ghost use Rattle.std.specs.Prelude.{◌+◌, ◌^◌, ◌≤◌, false, ◌≡◌, IfOk, IfErr, OnOk, length, ◌*◌};
-ghost use Rattle.ion_streams.specs.Names.{AtOneEnd, IsFresh, IsReadCause, format_of};
+ghost use Rattle.ion_streams.specs.Names.{AtOnce, AtOneEnd, IsFresh, IsReadCause, format_of};
 ghost use Rattle.ion_streams.specs.Checked.{IsChecked, IsVisited};
 
 use crate::piece_reader::{PieceReader, ReadState};
@@ -28,6 +28,8 @@ pub fn visit_items<I: Items + Drop, R: Inlet, V: Visitor>(
     ensures verdict { IfOk result (IsVisited V.takes R.Inlet
         (format_of I.Items (I.catalog items) (I.limits items)) reader.old reader.new
         visitor.old visitor.new) }
+    ensures at_once { AtOnce R.Inlet (format_of I.Items (I.catalog items) (I.limits items))
+        reader.old reader.new }
     ensures one_end { AtOneEnd R.Inlet reader.old reader.new }
     ensures few_calls { R.calls_made reader.new ≤ R.calls_made reader.old + reads }
     ensures few_octets { length (R.handed reader.new) ≤ length (R.handed reader.old) + 4096 *
@@ -62,6 +64,8 @@ pub fn check_items<I: Items + Drop, R: Inlet>(
     requires reads { reads ≤ 2 ^ 32 }
     ensures verdict { IfOk result (IsChecked R.Inlet
         (format_of I.Items (I.catalog items) (I.limits items)) reader.old reader.new) }
+    ensures at_once { AtOnce R.Inlet (format_of I.Items (I.catalog items) (I.limits items))
+        reader.old reader.new }
     ensures one_end { AtOneEnd R.Inlet reader.old reader.new }
     ensures few_calls { R.calls_made reader.new ≤ R.calls_made reader.old + reads }
     ensures few_octets { length (R.handed reader.new) ≤ length (R.handed reader.old) + 4096 *

@@ -1,6 +1,6 @@
 //! Whether two documents have equivalent streams.
 ghost use Rattle.std.specs.Prelude.{◌≡◌, ℕ, ◌+◌, ◌*◌, ◌^◌, ◌<◌, ◌≤◌, ◌⊎◌, List, [], true, false, IfOk, IfErr, OnOk, OnErr, IsSome, MatchResult, Option, Result, is_some, length};
-ghost use Rattle.ion_streams.specs.Names.{AreOnTapes, AtOneEnd, Catalog, Event, GaveSoFar, HandedOn, HeldNext, Holds, IfAlike, IfClosed, IfOpen, IsFresh, IsInTurn, IsMet, IsOpen, IsParting, IsReadCause, IsReady, IsWithin, Led, Limits, NoReadFailed, NoneFailed, Sought, StandsUnread, Stood, StoodEach, Value, WasTold, count_of, events_of, format_of, fresh, reads_of, same, telling, verdict_of, work_of};
+ghost use Rattle.ion_streams.specs.Names.{AreAsked, AreOnTapes, AtOnce, AtOneEnd, Catalog, Event, GaveSoFar, HandedOn, HeldNext, Holds, IfAlike, IfClosed, IfOpen, IsFresh, IsInTurn, IsMet, IsOpen, IsParting, IsReadCause, IsReady, IsWithin, Led, LeftInTurn, Limits, NoReadFailed, NoneFailed, Sought, StandsUnread, Stood, StoodEach, Value, WasTold, count_of, events_of, format_of, fresh, reads_of, same, telling, verdict_of, work_of};
 ghost use Rattle.ion_streams.specs.Compared.{IsCompared};
 
 use crate::piece_reader::{PieceReader, ReadState};
@@ -302,9 +302,8 @@ fn compare_places<I: Items + Drop, J: Items + Drop, L: Inlet, R: Inlet>(
     ensures asked { (g h : Catalog) (k l : Limits) →
         Stood L.Inlet (telling I.Items []) g k left.old left.old left_place.old [] →
         Stood R.Inlet (telling J.Items []) h l right.old right.old right_place.old [] →
-        IsInTurn L.Inlet R.Inlet (format_of I.Items g k) (format_of J.Items h l)
-        left.old left.new right.old right.new
-        × (AtOneEnd L.Inlet left.old left.new × AtOneEnd R.Inlet right.old right.new) }
+        AreAsked L.Inlet R.Inlet (format_of I.Items g k) (format_of J.Items h l)
+        left.old left.new right.old right.new }
     ensures few_calls { (L.calls_made left.new ≤ L.calls_made left.old + reads_of left_place.old)
         × (R.calls_made right.new ≤ R.calls_made right.old + reads_of right_place.old) }
     ensures few_octets { (length (L.handed left.new)
@@ -347,9 +346,10 @@ fn compare_places<I: Items + Drop, J: Items + Drop, L: Inlet, R: Inlet>(
 /// Model"), `Different` where both are and the streams part, with the path to where the two values
 /// there part, `Refused` for the left side where that is no document, else for the right one. One
 /// value of each is read in turn: the right device is asked for a value only once that of the left,
-/// or its end, is known, so that a refused left side is answered at once. After the streams parted,
-/// or the right side was refused, both are read to the end, since the left side may still be
-/// refused. Faults are `Memory`, `Read` and `TooManyReads`.
+/// or its end, is known, and the left one for the next only once the right has given its own, has
+/// ended or is refused. A refused left side is answered at once, and none that is refused is asked
+/// on. After the streams parted, or the right side was refused, both are read to the end, since the
+/// left side may still be refused. Faults are `Memory`, `Read` and `TooManyReads`.
 pub fn compare_items<I: Items + Drop, J: Items + Drop, L: Inlet, R: Inlet>(
     alloc: Global,
     reads: u64,
@@ -369,6 +369,14 @@ pub fn compare_items<I: Items + Drop, J: Items + Drop, L: Inlet, R: Inlet>(
         (format_of I.Items (I.catalog left_items) (I.limits left_items))
         (format_of J.Items (J.catalog right_items) (J.limits right_items))
         left.old left.new right.old right.new }
+    ensures left_in_turn { LeftInTurn L.Inlet R.Inlet
+        (format_of I.Items (I.catalog left_items) (I.limits left_items))
+        (format_of J.Items (J.catalog right_items) (J.limits right_items))
+        left.old left.new right.old right.new }
+    ensures at_once { AtOnce L.Inlet
+        (format_of I.Items (I.catalog left_items) (I.limits left_items)) left.old left.new
+        × AtOnce R.Inlet (format_of J.Items (J.catalog right_items) (J.limits right_items))
+        right.old right.new }
     ensures one_end { AtOneEnd L.Inlet left.old left.new × AtOneEnd R.Inlet right.old right.new }
     ensures few_calls { (L.calls_made left.new ≤ L.calls_made left.old + reads)
         × (R.calls_made right.new ≤ R.calls_made right.old + reads) }

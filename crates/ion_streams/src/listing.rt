@@ -1,7 +1,7 @@
 //! A line for each value of a document.
 ghost use Rattle.std.specs.Prelude.{◌≡◌, ℕ, ◌+◌, ◌^◌, ◌<◌, ◌≤◌, ◌⊎◌, ◌++◌, List, length, true, false, IfOk, IfErr, OnOk, OnErr, Option, option_to_list, string_bytes, ◌*◌};
 ghost use Rattle.std.specs.Fmt.{decimal};
-ghost use Rattle.ion_streams.specs.Names.{AtOneEnd, IsFresh, IsReadCause, IsShown, IsWriteCause, ShowsSoFar, Took, TookFront, Value, accepted_line, format_of, line_of, lines_from};
+ghost use Rattle.ion_streams.specs.Names.{AtOnce, AtOneEnd, IsFresh, IsReadCause, IsShown, IsWriteCause, ShowsSoFar, Took, TookFront, Value, accepted_line, format_of, line_of, lines_from};
 
 use crate::piece_reader::{PieceReader, ReadState};
 use ion_model::{Outline, Refusal};
@@ -105,6 +105,8 @@ pub fn show_items<I: Items + Drop, R: Inlet, W: Outlet>(
     ensures no_write_failed { OnOk result (W.has_failed writer.new ≡ false) }
     ensures so_far { OnErr result (ShowsSoFar R.Inlet I.Items W.Outlet (I.catalog items)
         (I.limits items) reader.old reader.new writer.old writer.new) }
+    ensures at_once { AtOnce R.Inlet (format_of I.Items (I.catalog items) (I.limits items))
+        reader.old reader.new }
     ensures one_end { AtOneEnd R.Inlet reader.old reader.new }
     ensures few_calls { R.calls_made reader.new ≤ R.calls_made reader.old + reads }
     ensures few_octets { length (R.handed reader.new) ≤ length (R.handed reader.old) + 4096 *

@@ -1,6 +1,6 @@
 //! A document on a device: its octets are read in pieces, and a reader takes them up.
 ghost use Rattle.std.specs.Prelude.{◌≡◌, ◌≢◌, ℕ, ◌+◌, ◌-◌, ◌*◌, ◌^◌, ◌<◌, ◌≤◌, ◌⊎◌, ◌==◌, true, false, List, [], ◌∷◌, ◌++◌, length, take, drop, IfOk, IfErr, OnOk, OnErr, IfSome, MatchBool, Option, Result, IsSome, IsNone, option_map, option_to_list, is_err};
-ghost use Rattle.ion_streams.specs.Names.{Catalog, EndsRefused, GaveNext, GaveSoFar, HandedOn, HasToAsk, Heard, IfClosed, IfOpen, IsOpen, IsReadCause, IsReady, IsWithin, Limits, MatchClosed, NoReadFailed, NoneFailed, Reads, ReadsEach, Refills, Stood, StoodEach, Value, Went, WereMade, answered, between, format_of, left_of, reads_of, work, work_of};
+ghost use Rattle.ion_streams.specs.Names.{AskedWhile, Catalog, EndsRefused, GaveNext, GaveSoFar, HandedOn, HasToAsk, Heard, IfClosed, IfOpen, IsOpen, IsReadCause, IsReady, IsWithin, Limits, MatchClosed, NoReadFailed, NoneFailed, Reads, ReadsEach, Refills, Stood, StoodEach, Value, Went, WereMade, answered, between, format_of, left_of, reads_of, work, work_of};
 ghost use Rattle.ion_atoms.specs.declared.refusal.Reason.TheVariants as reasons;
 ghost use Rattle.ion_streams.specs.Outcomes.{EndsWell};
 ghost use Rattle.ion_streams.specs.reading.Reached.{IfEnd, IfValue, IsSpent, Reaches};
@@ -173,6 +173,7 @@ impl<I: Items + Drop> PieceReader<I> {
         ensures spent { IfOk result (λ more. more ≡ false → IsSpent I.Items self.new) }
         ensures grew { HandedOn R.Inlet reader.old reader.new }
         ensures once { R.calls_made reader.new ≤ R.calls_made reader.old + 1 }
+        ensures one_piece { length (R.handed reader.new) ≤ length (R.handed reader.old) + 4096 }
         ensures few_calls { R.calls_made reader.new + self.new.reads
             ≤ R.calls_made reader.old + self.old.reads }
         ensures few_octets { length (R.handed reader.new) + 4096 * self.new.reads
@@ -229,6 +230,10 @@ impl<I: Items + Drop> PieceReader<I> {
         ensures kept { OnErr result ((g : Catalog) (l : Limits) (first : R) (s : List Value) →
             Reads R.Inlet I.Items g l first reader.old self.old s →
             GaveSoFar R.Inlet I.Items g l first reader.new s) }
+        ensures sought { (g : Catalog) (l : Limits) (first : R) (given : List (Value × ℕ)) →
+            ReadsEach R.Inlet I.Items g l first reader.old self.old given →
+            AskedWhile R.Inlet (format_of I.Items g l) first reader.old reader.new
+            (λ before. before ≡ given) }
     {
         loop {
             match self.take() {
@@ -347,6 +352,10 @@ impl<I: Items + Drop> ReadState<I> {
         ensures kept { OnErr result ((g : Catalog) (l : Limits) (first : R) (s : List Value) →
             Stood R.Inlet I.Items g l first reader.old self.old s →
             GaveSoFar R.Inlet I.Items g l first reader.new s) }
+        ensures sought { (g : Catalog) (l : Limits) (first : R) (given : List (Value × ℕ)) →
+            StoodEach R.Inlet I.Items g l first reader.old self.old given →
+            AskedWhile R.Inlet (format_of I.Items g l) first reader.old reader.new
+            (λ before. before ≡ given) }
     {
         match self {
             ReadState::Open(source) => match source.read_on(reader) {

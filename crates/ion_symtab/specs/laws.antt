@@ -11,5 +11,6 @@ pub mod Contexts
 pub mod LocalTables
 pub mod WorkedNumbers
 pub mod WorkedTables
+pub mod Pruned
 pub mod ContextTexts
 pub mod Builds

@@ -102,7 +102,7 @@ pub trait Items: Sized {
     /// so that a caller's calls end.
     ghost pending: { Self → ℕ };
 
-    /// How many octets of the unfinished item are kept in memory.
+    /// How many octets of the unfinished item are held, those of it that were let go among them.
     ghost kept: { Self → ℕ };
 
     /// Takes up octets of the piece, at most up to the end of the next value; without a value it

@@ -1,9 +1,12 @@
 -- What a token does to a reader that holds no values: what stages, ends, opens and closes.
-use Rattle.std.proofs.Common.{◌≡◌, ◌≢◌, ℕ, ◌+◌, List, [], ◌∷◌, ◌++◌, Bool, true, false, Option, Some, None, Result, Ok, refl, ap, sym, subst, ◌∙◌}
+use Rattle.std.proofs.Common.{◌≡◌, ◌≢◌, ℕ, ◌+◌, List, [], ◌∷◌, ◌++◌, Bool, true, false, ◌⊎◌, Option, Some, None, Result, Ok, Err, refl, ap, sym, subst, ◌∙◌, inl, inr}
 use Rattle.std.specs.Prelude.{if◌then◌else◌, nat_le}
-use Rattle.ion_text.specs.Names.{AreAround, AreOpen, Bracket, Does, DoesAlone, Event, Frame, Gives, Goes, Hears, Holds, IsShape, ListOrSexp, Payload, Reason, Setting, Spot, Stage, Symbols, TableFilter, TextWalk, Turn, Turned, Value, WasTold, annotated, at, behind_value, brackets_of, calm, ended, events_of, field_of, fresh, gives, goes, has_notes, heard, heard_by, is_inside, is_table, layer_events, next, open_brackets, out-Payload, part, reading_of, refuses, setting_of, spot_of, table_of, told, turned, within}
+use Rattle.ion_text.specs.Names.{AreAround, AreOpen, Bracket, Does, DoesAlone, Event, Frame, Gives, Goes, Hears, Holds, IsShape, ListOrSexp, Memory, Payload, Reason, Setting, Slot, Spot, Stage, Symbols, TableFilter, TextWalk, Turn, Turned, Value, WasTold, annotated, at, behind_value, brackets_of, calm, ended, events_of, field_of, fresh, gives, goes, has_notes, heard, heard_by, is_inside, is_table, layer_events, next, open_brackets, out-Payload, part, reading_of, refuses, setting_of, spot_of, table_of, told, turned, within}
 use Rattle.ion_visiting.specs.declared.table_filter.Table.{Table}
+use Rattle.ion_symtab.specs.laws.Pruned.{next_pruned}
+use Rattle.ion_visiting.specs.Skims.{pruned}
 use Rattle.ion_visiting.specs.laws.Filters.{table_told}
+use Rattle.ion_visiting.specs.laws.Skims.{table_pruned}
 use Rattle.ion_text.specs.walk.Holds.{told_in}
 use Rattle.ion_text.proofs.Holding.{field_told, item_told, part_told}
 use Rattle.ion_text.proofs.Taking.{does_behind}
@@ -68,13 +71,13 @@ module _ (r : TextWalk) (end : ℕ) where
 abbrev pub given : TextWalk → TableFilter → TextWalk
 given r f = record r { start = 0; filter = f }
 
-not_table : (v : Value) (b : Bool) → b ≡ is_table v → None ≡ (if b then Some v else None) → is_table v ≡ false
-not_table v true e n = absurd cc
-not_table v false e n = sym e
+not_table : (v w : Value) (b : Bool) → b ≡ is_table v → None ≡ (if b then Some w else None) → is_table v ≡ false
+not_table v w true e n = absurd cc
+not_table v w false e n = sym e
 
-a_table : (v t : Value) (b : Bool) → b ≡ is_table v → Some t ≡ (if b then Some v else None) → (is_table v ≡ true) × (t ≡ v)
-a_table v t true e n = (sym e, cc)
-a_table v t false e n = absurd cc
+a_table : (v w t : Value) (b : Bool) → b ≡ is_table v → Some t ≡ (if b then Some w else None) → (is_table v ≡ true) × (t ≡ w)
+a_table v w t true e n = (sym e, cc)
+a_table v w t false e n = absurd cc
 
 module _ (setting : Setting) (spot : Spot) (f : TableFilter) (new : TextWalk) (o : Option Value)
     (none : open_brackets new ≡ []) (noted : new.noted ≡ false) (stage : new.stage ≡ Stage.Ready) (start : new.start ≡ 0)
@@ -92,7 +95,7 @@ module _ (setting : Setting) (spot : Spot) (f : TableFilter) (new : TextWalk) (o
   pub gives_out : new.context ≡ spot.context → o ≡ None → (v : Value) → WasTold f (events_of v)
       → DoesAlone (events_of v) (ended setting spot [] v) (Ok Gives) new
   gives_out context is v h =
-      let no = not_table v (is_table v) refl (sym is ∙ (told_end v h).0) in (
+      let no = not_table v (pruned v) (is_table v) refl (sym is ∙ (told_end v h).0) in (
         v,
         ap (λ b. if b then turned setting.limits.item spot.start spot.end (next spot.context v setting.catalog)
             else within setting.limits.item spot.start spot.end (gives v (fresh spot.context))) no
@@ -105,9 +108,10 @@ module _ (setting : Setting) (spot : Spot) (f : TableFilter) (new : TextWalk) (o
   pub table_out : (t : Value) → (is_table t ≡ true → next spot.context t setting.catalog ≡ Ok new.context) → o ≡ Some t
       → (v : Value) → WasTold f (events_of v) → DoesAlone (events_of v) (ended setting spot [] v) (Ok Goes) new
   table_out t applied is v h =
-      let yes = a_table v t (is_table v) refl (sym is ∙ (told_end v h).0) in
+      let yes = a_table v (pruned v) t (is_table v) refl (sym is ∙ (told_end v h).0) in
       let led : next spot.context v setting.catalog ≡ Ok new.context =
-      ap (λ x. next spot.context x setting.catalog) (sym yes.1) ∙ applied (ap is_table yes.1 ∙ yes.0) in (
+      sym (next_pruned spot.context v setting.catalog)
+      ∙ (ap (λ x. next spot.context x setting.catalog) (sym yes.1) ∙ applied (ap is_table yes.1 ∙ (table_pruned v ∙ yes.0))) in (
         [],
         [],
         ap (λ b. if b then turned setting.limits.item spot.start spot.end (next spot.context v setting.catalog)
@@ -117,6 +121,36 @@ module _ (setting : Setting) (spot : Spot) (f : TableFilter) (new : TextWalk) (o
         holds_none v h,
         sym (ap (λ t. heard_by t (events_of v)) (table_told v ∙ ap (λ b. if b then Table.Yes else Table.No) yes.0)),
       )
+
+-- a table that is refused, or too long
+module _ (setting : Setting) (spot : Spot) (new : TextWalk) (o : Option Value) (t : Value) (is : o ≡ Some t) (v : Value) (told_end : o ≡ table_of v) where
+  named : (is_table v ≡ true) × (t ≡ pruned v)
+  named = a_table v (pruned v) t (is_table v) refl (sym is ∙ told_end)
+
+  pub table_is : is_table t ≡ true
+  table_is = ap is_table named.1 ∙ (table_pruned v ∙ named.0)
+
+  table_turns : (d : Result (List Slot) Reason) → next spot.context t setting.catalog ≡ d
+      → ended setting spot [] v ≡ turned setting.limits.item spot.start spot.end d
+  table_turns d h =
+      ap (λ b. if b then turned setting.limits.item spot.start spot.end (next spot.context v setting.catalog)
+      else within setting.limits.item spot.start spot.end (gives v (fresh spot.context))) named.0
+      ∙ ap (turned setting.limits.item spot.start spot.end)
+      (sym (next_pruned spot.context v setting.catalog) ∙ (ap (λ x. next spot.context x setting.catalog) (sym named.1) ∙ h))
+
+  of_two : (reason : Reason) → ((reason ≡ Memory) → ⊥) → (reason ≡ Memory) ⊎ (next spot.context t setting.catalog ≡ Err reason)
+      → next spot.context t setting.catalog ≡ Err reason
+  of_two reason other (inl m) = absurd (other m)
+  of_two reason other (inr e) = e
+
+  pub table_refused : (reason : Reason) → (reason ≡ Memory) ⊎ (next spot.context t setting.catalog ≡ Err reason)
+      → DoesAlone (events_of v) (ended setting spot [] v) (Err reason) new
+  table_refused reason h = λ other. table_turns (Err reason) (of_two reason other h)
+
+  pub table_too_long : (d : List Slot) → next spot.context t setting.catalog ≡ Ok d → nat_le spot.end (spot.start + setting.limits.item) ≡ false
+      → DoesAlone (events_of v) (ended setting spot [] v) (Err Reason.ItemTooLong) new
+  table_too_long d h long = λ other.
+      table_turns (Ok d) h ∙ ap (λ b. if b then goes (fresh d) else refuses Reason.ItemTooLong) long
 
 -- 4. A part is told, and with it a value ends.
 

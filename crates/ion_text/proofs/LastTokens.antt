@@ -6,7 +6,7 @@ use Rattle.std.proofs.lemmas.List.{length-take, length-take-le}
 use Rattle.ion_text.specs.Names.{Ahead, BeginsValue, Bracket, Catalog, Content, Does, Effect, Ended, EndsAtOnce, EndsBy, EndsSo, Event, FoundToken, Frame, Gives, Goes, Held, Holds, IsCalm, IsFound, IsHere, IsStill, Known, Limits, Mark', Part, Passes, Payload, Place, Quiet, Reading, Reason, Rest, RestsBehind, SameSetting, Scanner, Setting, Spot, Stage, State, Strode, StrodeFrom, Symbols, Taken, Takes, TextWalk, TokenKind, TookSo, Turn, Turned, Value, WaitsThere, annotated, at, begun_at, behind_left, close_mark, close_octet, closed, closes, drive, eats, ended, ends_symbol, feed, fresh, gives, go_on, goes, held_payload, is_fields, is_marker, is_null_struct, is_table, is_top, layer_kind, leaves, led, lexeme_at, next, on_said, on_scan, on_settled, paid, past_token, payload_of, place, place_in, reading_of, refuses, released, resting, resting_at, run, said, scanned, setting_of, settle, spot_at, spot_of, state_of, takes as takes_up, takes_colon, token_at, token_of, told, turn, turn_now, turned, under, unsettled, value_took, with_scan, within}
 use Rattle.ion_model.specs.declared.value.Payload.TheVariants as payloads
 use Rattle.ion_model.specs.declared.value.Payload.TheViews as views
-use Rattle.ion_text.specs.laws.deciding.Turns.{no_table}
+use Rattle.ion_text.specs.laws.reading.NoTables.{no_table}
 use Rattle.ion_text.specs.machine.LongStrings.{LongThere}
 use Rattle.ion_text.proofs.TokenSteps.{begun_inner, ended_stays, found_passes, mark_says, ready_turns}
 use Rattle.ion_text.proofs.LongStrings.{long_unsettled, settled_on}

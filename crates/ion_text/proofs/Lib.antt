@@ -1,4 +1,3 @@
-mod Appended
 pub mod Versions
 pub mod Foreseen
 pub mod Meetings
@@ -18,13 +17,9 @@ pub mod Symbols
 pub mod Walks
 pub mod Walking
 pub mod LongStrings
-pub mod Keywords
 pub mod Annotations
 pub mod TopLevel
-mod Transcribed
-pub mod TextTold
 pub mod Calls
-pub mod QuotedRuns
 pub mod Holding
 pub mod Taking
 pub mod Ends
@@ -33,7 +28,6 @@ pub mod Ended
 pub mod Opened
 pub mod SaidThere
 pub mod WholeTokens
-pub mod Untold
 pub mod LastTokens
 pub mod Advancing
 pub mod WalkRuns

@@ -1,6 +1,6 @@
 -- What text documents are (Ion 1.0, "Ion Text Encoding" and "Symbols"), over tokens with blanks alone between them.
-use Rattle.std.specs.Prelude.{◌≡◌, ◌⊎◌, ℕ, ◌+◌, ◌-◌, ◌≤◌, ◌==◌, Bool, true, false, ◌&&◌, ◌||◌, List, [], ◌∷◌, ◌++◌, length, Option, Some, Ok, codes, bytes_eq}
-use Rattle.ion_text.specs.Names.Below.{Blob, Catalog, Clob, Content, Field, Id, IsBlank, IsBody, Kind, Lexes, LexesTo, Limits, Long, Mark, Mark', Number, Number', Operator, Payload, Place, Placed, Quoted, Short, Slot, TokenKind, TypedNull, Value, Word, annotated, depth, field_of, is_digit, is_segment, is_table, next, resolve, system_slots, underscore}
+use Rattle.std.specs.Prelude.{◌≡◌, ◌⊎◌, ℕ, ◌+◌, ◌-◌, ◌≤◌, ◌==◌, Bool, true, false, ◌&&◌, ◌||◌, List, [], ◌∷◌, ◌++◌, length, Option, Some, Ok, codes}
+use Rattle.ion_text.specs.Names.Below.{Blob, Catalog, Clob, Content, Field, Id, IsBlank, IsBody, Kind, Lexes, LexesTo, Limits, Long, Mark, Mark', Number, Number', Operator, Payload, Place, Placed, Quoted, Short, Slot, TokenKind, TypedNull, Value, Word, annotated, depth, field_of, is_digit, is_keyword, is_segment, is_table, next, resolve, system_slots, underscore}
 use Rattle.ion_model.specs.declared.value.Payload.TheVariants as payloads
 
 -- 1. Values of one token.
@@ -10,9 +10,11 @@ pub record Says (p : Place) (t : Placed) (said : Content) : Type 0 where
   pub place : t.place ≡ p
   pub body : IsBody t.lexeme.kind t.lexeme.octets (Ok said)
 
--- the words that are no symbols without quotes; `nan` is a float
-abbrev pub is_keyword : List ℕ → Bool
-is_keyword w = (bytes_eq w (codes "null") || bytes_eq w (codes "true")) || (bytes_eq w (codes "false") || bytes_eq w (codes "nan"))
+-- a word that is no symbol, or a typed null
+abbrev pub IsKeyword : Content → Type 0
+IsKeyword (Word w) = is_keyword w ≡ true
+IsKeyword (TypedNull k) = Unit {0}
+IsKeyword _ = ⊥
 
 -- the token is this symbol: a word, an id of the context, or a text between quotes
 pub data IsSymbol (c : List Slot) : Content → Option (List ℕ) → Type 0 where

@@ -1,8 +1,4 @@
 pub mod Grammar
-pub mod Deciding
-pub mod Output
-pub mod Calls
-pub mod Writing
 pub mod machine
 pub mod walk
 pub mod visiting

@@ -2,4 +2,3 @@
 pub mod reading
 pub mod showing
 pub mod writing
-pub mod deciding

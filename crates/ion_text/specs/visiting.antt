@@ -1,4 +1,2 @@
--- What is found of octets in memory, and what visitors make of what they are told.
+-- What is found of octets in memory.
 pub mod Walks
-pub mod Brackets
-pub mod TextOut

@@ -1,11 +1,10 @@
 //! Laws of text documents. Each stands on an empty function: its contract is the law. What they say
 //! of reading is said of the definitions of `specs/machine/Run.antt`, which read octet by octet;
 //! `TextReader` is proved to answer what they say.
-ghost use Rattle.std.specs.Prelude.{◌≡◌, ◌↔◌, ◌<◌, ◌≤◌, ◌++◌, ◌⊎◌, ℕ, Bool, List, [], ◌∷◌, length, take, codes, Some, None, Ok, Err};
-ghost use Rattle.ion_text.specs.Names.{AreKept, Decides, Document, EndDecides, EndsValues, Event, FitsIn, GivesNoTable, Grows, HasPieces, HasReasons, HasRow, IsFirst, IsKept, IsSmall, ItemTooLong, Led, LexesTo, Limits, Means, NoTables, OpenRest, Place, Placed, Reason, Refusal, Refuses, Shown, Shows, Slot, Streams, Table, Took, Value, Whole, Writes, WritesEach, Written, events_of, lines, no_text, nodes, plain, reason_number, span, stream_events, text_of, trace, value_text, with_item};
+ghost use Rattle.std.specs.Prelude.{◌≡◌, ◌↔◌, ◌<◌, ◌≤◌, ◌++◌, ◌⊎◌, ℕ, Bool, List, [], ◌∷◌, length, Some, None, Err};
+ghost use Rattle.ion_text.specs.Names.{AreKept, Document, EndsValues, FitsIn, GivesNoTable, Grows, HasPieces, HasReasons, IsFirst, IsKept, IsSmall, Led, LexesTo, Limits, Means, NoTables, OpenRest, Place, Placed, Refusal, Refuses, Shown, Shows, Slot, Streams, Table, Took, Value, Whole, Writes, WritesEach, Written, events_of, lines, no_text, nodes, plain, span, stream_events, text_of, trace, value_text, with_item};
 ghost use Rattle.ion_symtab.specs.laws.ContextTexts.{AreTextTables};
 ghost use Rattle.ion_text.specs.laws.reading.Rows.{AreDocuments, worked_documents};
-ghost use Rattle.ion_text.specs.laws.writing.Rows.{worked};
 
 use ion_symtab::Outlet;
 
@@ -29,15 +28,6 @@ pub fn document_values()
         AreTextTables g → Document g l u s → AreKept s }
     ensures no_tables { (g : List Table) (l : Limits) (u : List ℕ) (s : List Value) →
         Document g l u s → NoTables s }
-{}
-
-/// What is written of worked values: a symbol with the text of a version marker, the sign of a
-/// zero, a year, an unknown symbol, a control character, the symbol of no text, annotations, lists,
-/// operators, fields, lobs.
-pub fn worked_text()
-    ensures { text_of worked ≡
-        codes "'$ion_1_0'\n-0d0\n2007T\n$0\n\"a'\\x07\"\n''\na::[null.int,('+' b)]\n"
-        ++ codes "{a:15d-1}\n{{\"\\x00\\\"\\xc8\"}}\n{{AQIDBA==}}\n" }
 {}
 
 /// Octets are a document with these values exactly where the reading of them, octet by octet, ends
@@ -133,47 +123,6 @@ pub fn whole_pieces()
 pub fn first_refused()
     ensures { (g : List Table) (l : Limits) (u : List ℕ) (r : Refusal) →
         (trace g l u).refused ≡ Some r → IsFirst (trace g l) u r }
-{}
-
-/// Where an octet is refused for a symbol, a symbol table, a version or a level, the octets up to
-/// it are such as the table of the format names for that reason, and the last of them shows it
-/// (`octet`). Where the end refuses for one of these reasons, they are all the octets, and the end
-/// shows it (`end`). Octets begin with such as the table names up to one octet at most, and for one
-/// reason (`one_octet`). That octet is refused for it, or for a reason with a smaller number that
-/// has no row here, unless an octet before it was refused since the item became too long
-/// (`refuses`). Where all are such as the end shows, it refuses for that very reason, with all
-/// octets counted, unless one of them was refused since the item became too long (`ends`). The end
-/// shows one reason (`one_end`), and none where octets begin with such as the table names
-/// (`no_octet`). No document begins with octets of a row (`no_document`), and none is octets of
-/// which the end shows one (`none_ends`).
-pub fn deciding()
-    ensures octet { (g : List Table) (l : Limits) (u : List ℕ) (r : Refusal) →
-        (trace g l u).refused ≡ Some r → HasRow r.reason → Decides g l (take r.offset u) r.reason }
-    ensures end { (g : List Table) (l : Limits) (u : List ℕ) (r : Refusal) → (trace g l u).refused
-        ≡ None →
-        (trace g l u).ends ≡ Err r → HasRow r.reason → EndDecides g l u r.reason }
-    ensures one_octet { (g : List Table) (l : Limits) (u : List ℕ) (j k : ℕ) (e f : Reason) →
-        j ≤ length u → k ≤ length u → Decides g l (take j u) e → Decides g l (take k u) f →
-        (j ≡ k) × (e ≡ f) }
-    ensures refuses { (g : List Table) (l : Limits) (u : List ℕ) (k : ℕ) (e : Reason) → k ≤ length u
-        →
-        Decides g l (take k u) e → (r : Refusal) × ((trace g l u).refused ≡ Some r)
-        × (((r.reason ≡ ItemTooLong) × (r.offset < k))
-        ⊎ ((r.offset ≡ k) × (reason_number r.reason ≤ reason_number e)))
-        × (HasRow r.reason → (r.offset ≡ k) × (r.reason ≡ e)) }
-    ensures ends { (g : List Table) (l : Limits) (u : List ℕ) (e : Reason) →
-        EndDecides g l u e → (r : Refusal) × ((trace g l u).ends ≡ Err r) ×
-        (((r.offset ≡ length u) × (r.reason ≡ e))
-        ⊎ (((trace g l u).refused ≡ Some r) × (r.reason ≡ ItemTooLong))) }
-    ensures one_end { (g : List Table) (l : Limits) (u : List ℕ) (e f : Reason) →
-        EndDecides g l u e → EndDecides g l u f → e ≡ f }
-    ensures no_octet { (g : List Table) (l : Limits) (u : List ℕ) (k : ℕ) (e f : Reason) →
-        Decides g l (take k u) f → EndDecides g l u e → ⊥ }
-    ensures no_document { (g : List Table) (l : Limits) (u : List ℕ) (k : ℕ) (e : Reason)
-        (s : List Value) →
-        k ≤ length u → Decides g l (take k u) e → Document g l u s → ⊥ }
-    ensures none_ends { (g : List Table) (l : Limits) (u : List ℕ) (e : Reason) (s : List Value) →
-        EndDecides g l u e → Document g l u s → ⊥ }
 {}
 
 /// Worked documents denote their streams, under every catalog and all limits of at least two levels

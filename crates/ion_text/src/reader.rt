@@ -48,16 +48,16 @@ impl<'a> TextReader<'a> {
 }
 
 impl Items for TextReader<'_> {
-    ghost use Rattle.ion_text.specs.Grammar.{Document, Whole, OpenRest};
+    ghost use Rattle.ion_text.specs.Grammar.{Document, OpenRest, Whole};
     ghost use Rattle.ion_text.specs.machine.Run.{trace};
     ghost use Rattle.ion_text.specs.machine.Pieces.{grows};
     ghost use Rattle.ion_text.specs.walk.Ends.{failed, octets_used};
     ghost use Rattle.ion_text.specs.walk.Builds.{HasBuilt};
     ghost use Rattle.ion_text.specs.walk.Runs.{Told, octets_kept, pending};
-    ghost use Rattle.ion_text.specs.laws.reading.Promises.{exact, one_stream, has_reasons};
-    ghost use Rattle.ion_text.specs.laws.reading.Stops.{decided, unfinished, no_tables};
+    ghost use Rattle.ion_text.specs.laws.reading.Promises.{exact, has_reasons, one_stream};
+    ghost use Rattle.ion_text.specs.laws.reading.Stops.{decided, no_tables, unfinished};
     ghost use Rattle.ion_text.specs.laws.reading.small.Small.{is_small};
-    ghost use Rattle.ion_text.specs.laws.reading.Tells.{reader_told, nothing_told, one_stands};
+    ghost use Rattle.ion_text.specs.laws.reading.Tells.{nothing_told, one_stands, reader_told};
     ghost use Rattle.ion_text.specs.laws.showing.tokens.Alone.{document_pieces, whole_document};
     ghost use Rattle.ion_text.specs.laws.reading.small.Apart.{nodes_between};
     ghost use Rattle.ion_text.specs.laws.showing.tokens.Once.{one_shown};

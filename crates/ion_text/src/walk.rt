@@ -204,10 +204,11 @@ impl TextWalk<'_> {
             result self.new visitor.old visitor.new }
         ensures setting { SameSetting self.old self.new }
     {
-        if self.needs_telling(visitor) {
-            return self.told_scalar_ended(said, end, visitor);
+        if let Some(went_on) = self.filter.any_part(visitor) {
+            heard(went_on)?;
+            return self.ended(end);
         }
-        self.untold_scalar_ended(end, visitor)
+        self.told_scalar_ended(said, end, visitor)
     }
 
     /// The same where it has to be told.
@@ -268,46 +269,6 @@ impl TextWalk<'_> {
         let told = self.filter.symbol(&symbol, visitor);
         drop(symbol);
         heard(told)?;
-        self.ended(end)
-    }
-
-    /// Whether what a part says has to be told: the visitor heeds it, or it may be a local symbol
-    /// table's.
-    #[inline(always)]
-    fn needs_telling<V: Visitor>(&self, visitor: &V) -> bool
-        ensures plain { result ≡ false → is_of_table self.now.filter.table true ≡ false }
-    {
-        !visitor.heeds_nothing() || self.filter.may_be_table()
-    }
-
-    /// Whether a text has to be told with its octets: the visitor heeds more than kinds, or it may
-    /// be a local symbol table's.
-    #[inline(always)]
-    fn needs_octets<V: Visitor>(&self, visitor: &V) -> bool
-        ensures plain { result ≡ false → is_of_table self.now.filter.table true ≡ false }
-    {
-        !visitor.heeds_kinds_alone() || self.filter.may_be_table()
-    }
-
-    /// A part ended at `end`, and with it a value; what it says needn't be told.
-    #[inline(always)]
-    fn untold_scalar_ended<V: Visitor>(
-        &mut self,
-        end: u64,
-        visitor: &mut V,
-    ) -> Result<Effect, Reason>
-        requires now { self.old.stage ≡ stages.Ready }
-        requires plain { is_of_table self.old.filter.table true ≡ false }
-        ensures does { (payload : Payload) →
-            layer_events (out-Payload payload) ≡ part payload ∷ [] →
-            (fs : List Frame) (ss : Symbols) → Holds self.old fs ss →
-            Does V.takes (told fs ss)
-            (ended (setting_of self.old) (spot_of self.old end) fs (annotated ss payload))
-            result self.new visitor.old visitor.new }
-        ensures setting { SameSetting self.old self.new }
-    {
-        heard(visitor.any_part())?;
-        let _passes = self.filter.lets_pass();
         self.ended(end)
     }
 

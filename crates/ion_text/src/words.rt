@@ -6,6 +6,7 @@ ghost use Rattle.ion_atoms.specs.declared.refusal.Reason.TheVariants as reasons;
 
 use crate::state::Held;
 use ion_model::{Kind, Reason};
+use ion_spelling::may_be_keyword;
 use ion_visiting::RecentSymbols;
 
 /// Whether an octet is a digit.
@@ -52,29 +53,6 @@ pub(crate) fn is_version(word: &[u8]) -> bool
         None => false,
         Some(parts) => version_parts(parts),
     }
-}
-
-/// Whether a word begins as those do that are no symbols unquoted, and has no more octets.
-#[inline(always)]
-pub(crate) fn may_be_keyword(word: &str) -> bool
-    ensures { result ≡ false → is_keyword word.now ≡ false }
-{
-    let octets = word.as_bytes();
-    if octets.len() > 5 {
-        return false;
-    }
-    match octets.first() {
-        Some(octet) => *octet == b'n' || *octet == b't' || *octet == b'f',
-        None => false,
-    }
-}
-
-/// Whether a word is no symbol unquoted; `nan` is a float.
-#[inline(always)]
-pub(crate) fn is_keyword(word: &str) -> bool
-    ensures { result ≡ is_keyword word.now }
-{
-    may_be_keyword(word) && matches!(word, "null" | "true" | "false" | "nan")
 }
 
 // What a word is that is a symbol unquoted. The only refusal is `Memory`.

@@ -31,6 +31,8 @@ entry_note t (Entry.Unknown Role.Annotation) x h = ap is_note (same_Some _ x h)
 entry_note t (Entry.Short Role.Annotation n l f) x h = ap is_note (same_Some _ x h)
 entry_note t (Entry.Long Role.Annotation r) x h = ap is_note (some_told (text_at t r) (λ w. annotation (Some w)) x h).2
 entry_note t (Entry.Long z r) x h = ap is_note (some_told (text_at t r) (λ w. role_event z (Some w)) x h).2
+entry_note t (Entry.Shared Role.Annotation n) x h = ap is_note (some_told (slice_get t.symbols.items n) annotation x h).2
+entry_note t (Entry.Shared z n) x h = ap is_note (some_told (slice_get t.symbols.items n) (role_event z) x h).2
 entry_note t (Entry.Text Form.Str r) x h = ap is_note (some_told (text_at t r) (text_event Form.Str) x h).2
 entry_note t (Entry.Text z r) x h = ap is_note (some_told (text_at t r) (text_event z) x h).2
 entry_note t (Entry.Number n) x h = ap is_note (some_told (slice_get t.numbers.items n) (λ m. part (number_payload m)) x h).2
@@ -291,4 +293,4 @@ module _ (t : Tape) where
 
 -- a value that was found on a tape is equivalent to the one that it holds
 pub followed : (t : Tape) (v w : Value) → Holds t v → IsFound t (events_of w) → same v w ≡ true
-followed t v w h f = (value_followed t (told_by (follows t) w f.from f.to f.led) (told_by (walks t) v _ _ h) (sym f.front)).so
+followed t v w h f = (value_followed t (told_by (follows t) w f.from f.to f.led) (told_by (walks t) v _ _ h) (sym f.begins.at)).so

@@ -4,3 +4,4 @@ pub mod Taped
 pub mod Twins
 pub mod Shorts
 mod ToldItems
+pub mod SameOctets

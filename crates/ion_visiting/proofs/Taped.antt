@@ -1,10 +1,10 @@
 -- What a tape was told lies there from front to end.
-use Rattle.std.proofs.Common.{◌≡◌, ℕ, ◌+◌, ◌≤◌, ◌<◌, List, [], ◌∷◌, ◌++◌, length, map, set, slice_get, Option, Some, None, option_map, refl, ap, sym, subst, ◌∙◌, arith}
+use Rattle.std.proofs.Common.{◌≡◌, ℕ, ◌+◌, ◌-◌, ◌^◌, ◌≤◌, ◌<◌, List, [], ◌∷◌, ◌++◌, length, map, set, slice_get, Option, Some, None, option_map, refl, ap, sym, subst, ◌∙◌, arith}
 use Rattle.std.specs.List.{flat_map}
 use Rattle.std.proofs.lemmas.Option.{gets}
 use Rattle.std.proofs.lemmas.Grind.{common_steps}
-use Rattle.ion_visiting.specs.Names.{Bracket, Entry, Event, Field, Led, Number, Payload, Tape, Value, annotated, annotation, closes, events_of, field_events, layer_events, number_payload, opens, out-Payload, outs-Fields, part, within}
-use Rattle.ion_visiting.specs.Tapes.{Closes, Holds, IsBlank, Opens, Passes, Rests, Tells, Walk, Writes, events_before, events_in, tapes, told, walks}
+use Rattle.ion_visiting.specs.Names.{Bracket, Entry, Event, Field, Great, Led, Number, Payload, Range, Role, Tape, Value, annotated, annotation, closes, events_of, field_events, layer_events, number_payload, opens, out-Payload, outs-Fields, part, within}
+use Rattle.ion_visiting.specs.Tapes.{Closes, Grows, Holds, IsBlank, Opens, Passes, Rests, Tells, Walk, Writes, events_before, events_in, range_place, role_event, tapes, text_at, text_event, told, walks}
 use Rattle.ion_visiting.specs.laws.Led.{events_out, led_both, led_more}
 use Rattle.ion_visiting.specs.laws.Trees.{Told, ToldFields, ToldItems, ToldPayload, fields_from, in_one, in_sequence, in_struct, items_from, no_fields, no_items, sequence_events, told_by, value_told}
 
@@ -23,22 +23,134 @@ Keeps t u = (e : Entry) (x : Event) → told t e ≡ Some x → told u e ≡ Som
 abbrev Stays : Tape → Tape → ℕ → Type 0
 Stays t u i = (e : Entry) → slice_get t.entries.items i ≡ Some e → slice_get u.entries.items i ≡ Some e
 
-rests_keeps : (t u : Tape) → Rests t u → Keeps t u
-rests_keeps t u r e x h = grind (arith, common_steps, r.octets, r.numbers, h)
-
 -- of what was there some is there
 pub some_told : {X : Type 0} (o : Option X) (f : X → Event) (x : Event) → option_map f o ≡ Some x → (y : X) × (o ≡ Some y) × (f y ≡ x)
 some_told (Some y) f x h = let e : f y ≡ x = cc in (y, refl, e)
 some_told None f x h = absurd cc
 
+rests_text : {t u : Tape} → Rests t u → (r : Range) → text_at u r ≡ text_at t r
+unfolding text_at
+rests_text h r = grind (arith, common_steps, h.octets, h.greats)
+
+rests_keeps : (t u : Tape) → Rests t u → Keeps t u
+rests_keeps t u r e x h = grind (arith, common_steps, rests_text r, r.numbers, r.symbols, h)
+
+grows_text : {t u : Tape} → Grows t u → (r : Range) (w : List ℕ) → text_at t r ≡ Some w → text_at u r ≡ Some w
+unfolding text_at
+grows_text g r w h = grind (arith, common_steps, gets, g.octets, g.greats, h)
+
+grows_keeps : {t u : Tape} → Grows t u → Keeps t u
+grows_keeps {t = t} g (Entry.Long x r) e h = let y = some_told (text_at t r) (λ w. role_event x (Some w)) e h in grind (arith, common_steps, grows_text g r y.0 y.1, y.2)
+grows_keeps {t = t} g (Entry.Text x r) e h = let y = some_told (text_at t r) (text_event x) e h in grind (arith, common_steps, grows_text g r y.0 y.1, y.2)
+grows_keeps g x e h = grind (arith, common_steps, gets, g.numbers, g.symbols, h)
+
+-- octets that were put behind the others are there
+pub text_there : (b : Tape) (r : Range) (before w : List ℕ) → b.octets.items ≡ before ++ w → range_place r ≡ length before → r.count ≡ length w
+    → length w < 2 ^ 32 - 1 → text_at b r ≡ Some w
+unfolding text_at
+text_there b r before w o p n l = grind (arith, common_steps, o, p, n, l)
+
+pub great_there : (b : Tape) (r : Range) (before w : List ℕ) (greats : List Great) → b.octets.items ≡ before ++ w
+    → b.greats.items ≡ greats ++ (record { from = length before; count = length w }) ∷ [] → range_place r ≡ length greats → r.count ≡ 2 ^ 32 - 1
+    → text_at b r ≡ Some w
+unfolding text_at
+great_there b r before w greats o g p n = grind (arith, common_steps, gets, o, g, p, n)
+
+-- texts that were put behind the others
+pub text_grows : (a b : Tape) (w : List ℕ) → b.octets.items ≡ a.octets.items ++ w → b.numbers ≡ a.numbers → b.symbols ≡ a.symbols → b.greats ≡ a.greats
+    → b.opened ≡ a.opened → Grows a b
+text_grows a b w o n s g k = record {
+  text = w;
+  octets = o;
+  number = [];
+  numbers = grind (arith, common_steps, n);
+  symbol = [];
+  symbols = grind (arith, common_steps, s);
+  great = [];
+  greats = grind (arith, common_steps, g);
+  opened = grind (arith, common_steps, k);
+}
+
+-- the same of a great text
+pub great_grows : (a b : Tape) (w : List ℕ) (g : Great) → b.octets.items ≡ a.octets.items ++ w → b.numbers ≡ a.numbers → b.symbols ≡ a.symbols
+    → b.greats.items ≡ a.greats.items ++ g ∷ [] → b.opened ≡ a.opened → Grows a b
+great_grows a b w g o n s all k = record {
+  text = w;
+  octets = o;
+  number = [];
+  numbers = grind (arith, common_steps, n);
+  symbol = [];
+  symbols = grind (arith, common_steps, s);
+  great = g ∷ [];
+  greats = all;
+  opened = grind (arith, common_steps, k);
+}
+
+-- an entry whose text was put before it
+pub text_writes : (a m b : Tape) (x : Entry) (e : Event) → Grows a m → m.entries ≡ a.entries → b.entries.items ≡ m.entries.items ++ x ∷ [] → Rests m b
+    → b.opened ≡ m.opened → told m x ≡ Some e → Writes a b e
+text_writes a m b x e g same put r k is = record {
+  entry = x;
+  entries = grind (arith, common_steps, same, put);
+  is = rests_keeps m b r x e is;
+  grows = record {
+    text = g.text;
+    octets = grind (arith, common_steps, r.octets, g.octets);
+    number = g.number;
+    numbers = grind (arith, common_steps, r.numbers, g.numbers);
+    symbol = g.symbol;
+    symbols = grind (arith, common_steps, r.symbols, g.symbols);
+    great = g.great;
+    greats = grind (arith, common_steps, r.greats, g.greats);
+    opened = grind (arith, common_steps, k, g.opened);
+  };
+}
+
+-- an entry alone
+pub put_writes : (a b : Tape) (x : Entry) (e : Event) → b.entries.items ≡ a.entries.items ++ x ∷ [] → Rests a b → b.opened ≡ a.opened → told a x ≡ Some e
+    → Writes a b e
+put_writes a b x e put r k is = text_writes a a b x e (text_grows a a [] (grind (arith, common_steps)) refl refl refl refl) refl put r k is
+
 -- a number and its entry
 pub number_writes : (a b : Tape) (n : Number) (i : ℕ) → i ≡ length a.numbers.items → b.entries.items ≡ a.entries.items ++ Entry.Number i ∷ []
-    → b.octets ≡ a.octets → b.opened ≡ a.opened → b.numbers.items ≡ a.numbers.items ++ n ∷ [] → Writes a b (part (number_payload n))
-number_writes a b n i place e o k all = record {
+    → b.octets ≡ a.octets → b.symbols ≡ a.symbols → b.greats ≡ a.greats → b.opened ≡ a.opened → b.numbers.items ≡ a.numbers.items ++ n ∷ []
+    → Writes a b (part (number_payload n))
+number_writes a b n i place e o s g k all = record {
   entry = Entry.Number i;
   entries = e;
   is = grind (arith, common_steps, gets, place, all);
-  grows = record { text = []; octets = grind (arith, common_steps, o); number = n ∷ []; numbers = all; opened = grind (arith, common_steps, k) };
+  grows = record {
+    text = [];
+    octets = grind (arith, common_steps, o);
+    number = n ∷ [];
+    numbers = all;
+    symbol = [];
+    symbols = grind (arith, common_steps, s);
+    great = [];
+    greats = grind (arith, common_steps, g);
+    opened = grind (arith, common_steps, k);
+  };
+}
+
+-- a symbol that is shared, and its entry
+pub symbol_writes : (a b : Tape) (x : Role) (s : Option (List ℕ)) (i : ℕ) → i ≡ length a.symbols.items → b.entries.items ≡ a.entries.items ++ Entry.Shared x i ∷ []
+    → b.octets ≡ a.octets → b.numbers ≡ a.numbers → b.greats ≡ a.greats → b.opened ≡ a.opened → b.symbols.items ≡ a.symbols.items ++ s ∷ []
+    → Writes a b (role_event x s)
+symbol_writes a b x s i place e o n g k all = record {
+  entry = Entry.Shared x i;
+  entries = e;
+  is = grind (arith, common_steps, gets, place, all);
+  grows = record {
+    text = [];
+    octets = grind (arith, common_steps, o);
+    number = [];
+    numbers = grind (arith, common_steps, n);
+    symbol = s ∷ [];
+    symbols = all;
+    great = [];
+    greats = grind (arith, common_steps, g);
+    opened = grind (arith, common_steps, k);
+  };
 }
 
 -- 3. Along the tape.
@@ -85,7 +197,7 @@ wrote_none a = record { keeps = λ e x h. h; stays = λ i e h. h; opened = refl;
 -- an event that is no bracket
 wrote_one : {e : Event} {a b : Tape} → ((x y : Walk) → Passes b x e y → walks b x e y) → Writes a b e → Written (e ∷ []) a b
 wrote_one {a = a} {b = b} to w = record {
-  keeps = λ e x h. grind (arith, common_steps, gets, w.grows.octets, w.grows.numbers, h);
+  keeps = grows_keeps w.grows;
   stays = λ i e h. grind (arith, common_steps, gets, w.entries, h);
   opened = w.grows.opened;
   led = λ s. (

@@ -7,6 +7,7 @@ use Rattle.ion_visiting.specs.Tapes.{Tells}
 abbrev pub is_name : Entry → Bool
 is_name (Entry.Unknown Role.Name) = true
 is_name (Entry.Long Role.Name r) = true
+is_name (Entry.Shared Role.Name j) = true
 is_name (Entry.Short Role.Name n l f) = true
 is_name _ = false
 
@@ -20,6 +21,7 @@ pub record IsField (t : Tape) (i : ℕ) : Type 0 where
 abbrev pub is_annotation : Entry → Bool
 is_annotation (Entry.Unknown Role.Annotation) = true
 is_annotation (Entry.Long Role.Annotation r) = true
+is_annotation (Entry.Shared Role.Annotation j) = true
 is_annotation (Entry.Short Role.Annotation n l f) = true
 is_annotation _ = false
 
@@ -97,9 +99,15 @@ follows t a (closes x) b = Ascends t a x b
 follows t a ended b = b ≡ a
 follows t a e b = Finds t a e b
 
+-- nothing was looked for yet
+pub record Begins (a : Following) : Type 0 where
+  pub at : a.at ≡ 0
+  pub frame : a.frame ≡ record { free = 0; taken = 0 }
+  pub outer : a.outer.items ≡ []
+
 -- events are found on a tape from its front on
 pub record IsFound (t : Tape) (es : List Event) : Type 0 where
   pub from : Following
   pub to : Following
-  pub front : from.at ≡ 0
+  pub begins : Begins from
   pub led : Led (follows t) es from to

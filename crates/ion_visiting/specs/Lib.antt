@@ -4,6 +4,7 @@ pub mod KeptEvents
 pub mod Count
 pub mod Outlining
 pub mod Building
+pub mod Skims
 pub mod Tables
 pub mod Tapes
 pub mod Twins

@@ -30,10 +30,13 @@ pub use Rattle.ion_visiting.specs.declared.following.Frame.{Frame}
 pub use Rattle.ion_visiting.specs.declared.outlining.Outlining.{Outlining}
 pub use Rattle.ion_visiting.specs.declared.short.Short.{Short}
 pub use Rattle.ion_visiting.specs.declared.short.Spelling.{Spelling}
+pub use Rattle.ion_visiting.specs.declared.table_building.Place.{Place}
+pub use Rattle.ion_visiting.specs.declared.table_building.TableBuilding.{TableBuilding}
 pub use Rattle.ion_visiting.specs.declared.table_filter.Table.{Table}
 pub use Rattle.ion_visiting.specs.declared.table_filter.TableFilter.{TableFilter}
 pub use Rattle.ion_visiting.specs.declared.tape.Entry.{Entry}
 pub use Rattle.ion_visiting.specs.declared.tape.Form.{Form}
+pub use Rattle.ion_visiting.specs.declared.tape.Great.{Great}
 pub use Rattle.ion_visiting.specs.declared.tape.Range.{Range}
 pub use Rattle.ion_visiting.specs.declared.tape.Role.{Role}
 pub use Rattle.ion_visiting.specs.declared.tape.Tape.{Tape}

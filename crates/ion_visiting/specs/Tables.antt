@@ -1,7 +1,8 @@
 -- Local symbol tables, which are kept from a visitor: which events of a value of the top level it is told.
 use Rattle.std.specs.Prelude.{◌≡◌, ℕ, List, [], ◌∷◌, ◌++◌, map, Option, Some, None, Bool, true, false, if◌then◌else◌}
-use Rattle.ion_visiting.specs.Names.{Bracket, Built, Event, Kind, Led, Payload, Table, TableFilter, Value, annotation, builds, fresh, is_table, names_table, opens, part}
+use Rattle.ion_visiting.specs.Names.{Bracket, Event, Kind, Led, Payload, Table, TableBuilding, TableFilter, Value, annotation, is_table, names_table, opens, part}
 use Rattle.ion_model.specs.declared.value.Payload.TheVariants as payloads
+use Rattle.ion_visiting.specs.Skims.{none_yet, pruned, skims}
 
 -- what annotations are: texts, or unknown
 abbrev pub Symbols : Type 0
@@ -56,11 +57,11 @@ abbrev pub heard : List Event → List Event
 heard es = heard_by (table_by es) es
 
 -- the annotations that are kept, and what was built, where these events were told
-abbrev pub AreKept : Table → List Event → Symbols → Built → Type 0
-AreKept Table.Unknown es ss b = (es ≡ []) × (ss ≡ []) × (b ≡ fresh)
-AreKept Table.No es ss b = (ss ≡ []) × (b ≡ fresh)
-AreKept Table.Noted es ss b = (es ≡ map annotation ss) × (b ≡ fresh)
-AreKept Table.Yes es ss b = (ss ≡ []) × Led builds es fresh b
+abbrev pub AreKept : Table → List Event → Symbols → TableBuilding → Type 0
+AreKept Table.Unknown es ss b = (es ≡ []) × (ss ≡ []) × (b ≡ none_yet)
+AreKept Table.No es ss b = (ss ≡ []) × (b ≡ none_yet)
+AreKept Table.Noted es ss b = (es ≡ map annotation ss) × (b ≡ none_yet)
+AreKept Table.Yes es ss b = (ss ≡ []) × Led skims es none_yet b
 
 -- a filter was told these events of the value that it is told now
 pub record WasTold (f : TableFilter) (es : List Event) : Type 0 where
@@ -77,18 +78,18 @@ pub record Hears {V : Type 0} (takes : V → Event → V → Type 0) (es fs : Li
 abbrev pub Tells : {V : Type 0} → (V → Event → V → Type 0) → Event → TableFilter → TableFilter → V → V → Type 0
 Tells takes e f g a b = (es : List Event) → WasTold f es → WasTold g (es ++ e ∷ []) × Hears takes (heard es) (heard (es ++ e ∷ [])) a b
 
--- the local symbol table that a value is
+-- the local symbol table that a value is, without its open content
 abbrev pub table_of : Value → Option Value
-table_of v = if is_table v then Some v else None
+table_of v = if is_table v then Some (pruned v) else None
 
 -- a table was begun, of which these events were told
 pub record IsTable (f : TableFilter) (es : List Event) : Type 0 where
   pub table : f.table ≡ Table.Yes
   pub notes : f.notes ≡ []
-  pub built : Led builds es fresh f.tables
+  pub built : Led skims es none_yet f.tables
 
 -- what is told is no table, and nothing is kept
 pub record LetsPass (f : TableFilter) : Type 0 where
   pub table : f.table ≡ Table.No
   pub notes : f.notes ≡ []
-  pub tables : f.tables ≡ fresh
+  pub tables : f.tables ≡ none_yet

@@ -1,9 +1,9 @@
 -- A tape: what events were written down, and how a value lies among them.
-use Rattle.std.specs.Prelude.{◌≡◌, ◌+◌, ◌-◌, ℕ, List, [], ◌∷◌, ◌++◌, length, take, drop, set, slice_get, nat_le, cond, Option, Some, None, option_map}
+use Rattle.std.specs.Prelude.{◌≡◌, ◌+◌, ◌-◌, ◌*◌, ◌^◌, ℕ, List, [], ◌∷◌, ◌++◌, length, take, drop, set, slice_get, nat_le, nat_eq, cond, Option, Some, None, option_map}
 use Rattle.std.specs.Int.{to_le_bytes, w32, w64}
 use Rattle.std.specs.List.{flat_map}
 use Rattle.std.specs.Option.{option_to_list}
-use Rattle.ion_visiting.specs.Names.{Bracket, Entry, Event, Form, Kind, Led, Number, Payload, Range, Role, Short, Spelling, Tape, Value, annotation, closes, decimal_payload, ended, events_of, name, number_payload, opens, part, timestamp_payload}
+use Rattle.ion_visiting.specs.Names.{Bracket, Entry, Event, Form, Great, Kind, Led, Number, Payload, Range, Role, Short, Spelling, Tape, Value, annotation, closes, decimal_payload, ended, events_of, name, number_payload, opens, part, timestamp_payload}
 use Rattle.ion_model.specs.declared.value.Payload.TheVariants as payloads
 
 -- what octets are read as, if there are some
@@ -25,9 +25,22 @@ text_event Form.Str w = part (payloads.Str w)
 text_event Form.Clob w = part (payloads.Clob w)
 text_event Form.Blob w = part (payloads.Blob w)
 
--- the octets of a range, where it ends among those that there are
-abbrev pub text_at : Tape → Range → Option (List ℕ)
-text_at t r = cond (nat_le (r.from + r.count) (length t.octets.items)) (Some (take r.count (drop r.from t.octets.items))) None
+-- so many octets from a place on, where there are as many
+abbrev pub text_from : Tape → ℕ → ℕ → Option (List ℕ)
+text_from t from count = cond (nat_le (from + count) (length t.octets.items)) (Some (take count (drop from t.octets.items))) None
+
+-- where a text begins, or which great one it is
+abbrev pub range_place : Range → ℕ
+range_place r = r.low + r.high * 2 ^ 32
+
+-- the octets of a great text
+abbrev pub great_text : Tape → Option Great → Option (List ℕ)
+great_text t None = None
+great_text t (Some g) = text_from t g.from g.count
+
+-- the octets of a range
+unfoldable pub text_at : Tape → Range → Option (List ℕ)
+text_at t r = cond (nat_eq r.count (2 ^ 32 - 1)) (great_text t (slice_get t.greats.items (range_place r))) (text_from t (range_place r) r.count)
 
 -- few octets: behind its first octets its last four, where it has as many
 abbrev pub short_text : Short → List ℕ
@@ -39,7 +52,7 @@ spelled Spelling.Unknown = None
 spelled (Spelling.Short s) = Some (short_text s)
 spelled (Spelling.Long w) = Some w.now
 
--- what an entry tells; none where its text or its number isn't there
+-- what an entry tells; none where its text, its number or its symbol isn't there
 abbrev pub told : Tape → Entry → Option Event
 told t (Entry.Null k) = Some (part (payloads.Null k))
 told t (Entry.Truth b) = Some (part (payloads.Truth b))
@@ -48,6 +61,7 @@ told t (Entry.Decimal b x m) = Some (part (payloads.Decimal (record { negative =
 told t (Entry.Number i) = option_map (λ n. part (number_payload n)) (slice_get t.numbers.items i)
 told t (Entry.Unknown x) = Some (role_event x None)
 told t (Entry.Short x n l f) = Some (role_event x (Some (short_text (record { count = n; last = l; first = f }))))
+told t (Entry.Shared x i) = option_map (role_event x) (slice_get t.symbols.items i)
 told t (Entry.Long x r) = option_map (λ w. role_event x (Some w)) (text_at t r)
 told t (Entry.Text x r) = option_map (text_event x) (text_at t r)
 told t (Entry.Open x j) = Some (opens x)
@@ -71,13 +85,21 @@ pub record Tells (t : Tape) (i : ℕ) (e : Event) : Type 0 where
 pub record IsBlank (t : Tape) : Type 0 where
   pub entries : t.entries.items ≡ []
   pub opened : t.opened.items ≡ []
+  pub octets : t.octets.items ≡ []
+  pub numbers : t.numbers.items ≡ []
+  pub symbols : t.symbols.items ≡ []
+  pub greats : t.greats.items ≡ []
 
--- the texts and numbers of the one are at the front of the other's, and the same brackets are open
+-- the texts, numbers and symbols of the one are at the front of the other's, and the same brackets are open
 pub record Grows (a b : Tape) : Type 0 where
   pub text : List ℕ
   pub octets : b.octets.items ≡ a.octets.items ++ text
   pub number : List Number
   pub numbers : b.numbers.items ≡ a.numbers.items ++ number
+  pub symbol : List (Option (List ℕ))
+  pub symbols : b.symbols.items ≡ a.symbols.items ++ symbol
+  pub great : List Great
+  pub greats : b.greats.items ≡ a.greats.items ++ great
   pub opened : b.opened.items ≡ a.opened.items
 
 -- one entry more, which tells this
@@ -87,10 +109,12 @@ pub record Writes (a b : Tape) (e : Event) : Type 0 where
   pub is : told b entry ≡ Some e
   pub grows : Grows a b
 
--- texts and numbers are the same
+-- texts, numbers and symbols are the same
 pub record Rests (a b : Tape) : Type 0 where
   pub octets : b.octets ≡ a.octets
   pub numbers : b.numbers ≡ a.numbers
+  pub symbols : b.symbols ≡ a.symbols
+  pub greats : b.greats ≡ a.greats
 
 -- brackets are opened
 pub record Opens (a b : Tape) (x : Bracket) : Type 0 where

@@ -5,4 +5,5 @@ pub mod KeptEvents
 pub mod Built
 pub mod Counted
 pub mod Outlined
+pub mod Skims
 pub mod Filters

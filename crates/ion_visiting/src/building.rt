@@ -207,6 +207,30 @@ impl Visitor for Building {
     }
 
     #[inline(always)]
+    fn symbol(&mut self, symbol: &Symbol) -> bool {
+        match symbol.copy() {
+            Err(_) => false,
+            Ok(copy) => self.put(Payload::Symbol(copy)),
+        }
+    }
+
+    #[inline(always)]
+    fn symbol_annotation(&mut self, symbol: &Symbol) -> bool {
+        match symbol.copy() {
+            Err(_) => false,
+            Ok(copy) => self.notes.push(copy).is_ok(),
+        }
+    }
+
+    #[inline(always)]
+    fn symbol_name(&mut self, symbol: &Symbol) -> bool {
+        match symbol.copy() {
+            Err(_) => false,
+            Ok(copy) => self.place.put_name(copy),
+        }
+    }
+
+    #[inline(always)]
     fn annotation(&mut self, text: Option<&str>) -> bool {
         match symbol_of(&mut self.recent, text) {
             Err(_) => false,

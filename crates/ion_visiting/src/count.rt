@@ -1,11 +1,11 @@
 //! The visitor that counts values.
-ghost use Rattle.std.specs.Prelude.{◌≡◌};
-ghost use Rattle.ion_visiting.specs.Names.{no_values};
+ghost use Rattle.std.specs.Prelude.{◌≡◌, Some, true};
+ghost use Rattle.ion_visiting.specs.Names.{ended, no_values};
 
 use crate::bracket::Bracket;
 use crate::part::Part;
 use crate::visitor::Visitor;
-use ion_model::Kind;
+use ion_model::{Kind, Symbol};
 use ion_scalar::Number;
 
 /// How many values of the top level ended; nothing is made of them, and no memory is taken.
@@ -31,7 +31,7 @@ impl Count {
 }
 
 impl Visitor for Count {
-    ghost use Rattle.ion_visiting.specs.Count.{counts};
+    ghost use Rattle.ion_visiting.specs.Count.{counted, counts};
 
     ghost takes = { counts };
 
@@ -46,52 +46,106 @@ impl Visitor for Count {
     }
 
     #[inline(always)]
-    fn any_part(&mut self) -> bool {
+    fn any_part(&mut self) -> Option<bool>
+        ensures goes { result ≡ Some true }
+        ensures counted { self.new ≡ self.old }
+    {
+        Some(true)
+    }
+
+    #[inline(always)]
+    fn of_kind(&mut self, _kind: Kind) -> Option<bool>
+        ensures goes { result ≡ Some true }
+        ensures counted { self.new ≡ self.old }
+    {
+        Some(true)
+    }
+
+    #[inline(always)]
+    fn part(&mut self, _said: &Part<'_>) -> bool
+        ensures goes { result ≡ true }
+        ensures counted { self.new ≡ self.old }
+    {
         true
     }
 
     #[inline(always)]
-    fn of_kind(&mut self, _kind: Kind) -> bool {
+    fn number(&mut self, _number: Number) -> bool
+        ensures goes { result ≡ true }
+        ensures counted { self.new ≡ self.old }
+    {
         true
     }
 
     #[inline(always)]
-    fn part(&mut self, _said: &Part<'_>) -> bool {
+    fn unknown_symbol(&mut self) -> bool
+        ensures goes { result ≡ true }
+        ensures counted { self.new ≡ self.old }
+    {
         true
     }
 
     #[inline(always)]
-    fn number(&mut self, _number: Number) -> bool {
+    fn annotation(&mut self, _text: Option<&str>) -> bool
+        ensures goes { result ≡ true }
+        ensures counted { self.new ≡ self.old }
+    {
         true
     }
 
     #[inline(always)]
-    fn unknown_symbol(&mut self) -> bool {
+    fn name(&mut self, _text: Option<&str>) -> bool
+        ensures goes { result ≡ true }
+        ensures counted { self.new ≡ self.old }
+    {
         true
     }
 
     #[inline(always)]
-    fn annotation(&mut self, _text: Option<&str>) -> bool {
+    fn symbol(&mut self, _symbol: &Symbol) -> bool
+        ensures goes { result ≡ true }
+        ensures counted { self.new ≡ self.old }
+    {
         true
     }
 
     #[inline(always)]
-    fn name(&mut self, _text: Option<&str>) -> bool {
+    fn symbol_annotation(&mut self, _symbol: &Symbol) -> bool
+        ensures goes { result ≡ true }
+        ensures counted { self.new ≡ self.old }
+    {
         true
     }
 
     #[inline(always)]
-    fn open(&mut self, _bracket: Bracket) -> bool {
+    fn symbol_name(&mut self, _symbol: &Symbol) -> bool
+        ensures goes { result ≡ true }
+        ensures counted { self.new ≡ self.old }
+    {
         true
     }
 
     #[inline(always)]
-    fn close(&mut self, _bracket: Bracket) -> bool {
+    fn open(&mut self, _bracket: Bracket) -> bool
+        ensures goes { result ≡ true }
+        ensures counted { self.new ≡ self.old }
+    {
         true
     }
 
     #[inline(always)]
-    fn ended(&mut self) -> bool {
+    fn close(&mut self, _bracket: Bracket) -> bool
+        ensures goes { result ≡ true }
+        ensures counted { self.new ≡ self.old }
+    {
+        true
+    }
+
+    #[inline(always)]
+    fn ended(&mut self) -> bool
+        ensures goes { result ≡ true }
+        ensures counted { self.new ≡ counted self.old ended }
+    {
         self.values = self.values.saturating_add(1);
         true
     }

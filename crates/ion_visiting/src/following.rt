@@ -2,7 +2,7 @@
 ghost use Rattle.std.specs.Prelude.{◌≡◌, ◌+◌, ◌<◌, ◌^◌, ℕ, true, IfSome, Some, slice_get};
 ghost use Rattle.std.specs.Option.{is_some};
 ghost use Rattle.ion_visiting.specs.Names.{Led, closes, name, opens};
-ghost use Rattle.ion_visiting.specs.Following.{Behind, IsField, IsFound, Seeks, Skips, Takes, behind_payload, follows, is_annotation, is_name};
+ghost use Rattle.ion_visiting.specs.Following.{Begins, Behind, Finds, IsField, IsFound, Seeks, Skips, Takes, behind_payload, follows, is_annotation, is_name};
 ghost use Rattle.ion_visiting.specs.Tapes.{events_in, spelled, told};
 
 use crate::bracket::Bracket;
@@ -34,7 +34,9 @@ pub struct Following {
 
 impl Following {
     /// Of no search yet. Takes no memory.
-    pub fn new(alloc: Global) -> Following {
+    pub fn new(alloc: Global) -> Following
+        ensures { Begins result }
+    {
         Following {
             at: 0,
             frame: Frame { free: 0, taken: 0 },
@@ -51,10 +53,18 @@ impl Following {
     pub fn finds(&mut self, tape: &Tape, other: &Tape) -> bool
         ensures { result ≡ true → IsFound tape.now (events_in other.now) }
     {
+        self.begin();
+        self.goes_on(tape, other)
+    }
+
+    // At the front of a tape.
+    #[inline(always)]
+    fn begin(&mut self)
+        ensures { Begins self.new }
+    {
         self.at = 0;
         self.frame = Frame { free: 0, taken: 0 };
         self.outer.clear();
-        self.goes_on(tape, other)
     }
 
     // Whether all that another tape tells is found from here on. Where it isn't, the state means
@@ -90,6 +100,7 @@ fn is_name(entry: &Entry) -> bool
 {
     match entry {
         Entry::Long(Role::Name, _) => true,
+        Entry::Shared(Role::Name, _) => true,
         Entry::Short(Role::Name, ..) => true,
         Entry::Unknown(Role::Name) => true,
         _ => false,
@@ -115,6 +126,7 @@ fn is_annotation(entry: Entry) -> bool
 {
     match entry {
         Entry::Long(Role::Annotation, _) => true,
+        Entry::Shared(Role::Annotation, _) => true,
         Entry::Short(Role::Annotation, ..) => true,
         Entry::Unknown(Role::Annotation) => true,
         _ => false,
@@ -128,7 +140,7 @@ fn behind_payload(entry: Entry, place: usize) -> usize
     ensures { result ≡ behind_payload entry place }
 {
     match entry {
-        Entry::Open(_, end) => end as usize,
+        Entry::Open(_, end) => end,
         _ => place + 1,
     }
 }
@@ -225,12 +237,26 @@ impl Following {
                 Some(octets) => self.finds_name(tape, Spelling::Long(octets)),
                 None => false,
             },
-            Entry::Open(bracket, _) => self.finds_open(tape, bracket),
-            Entry::Close(bracket) => self.finds_close(tape, bracket),
-            _ => match self.take(tape) {
-                Some(own) => tape.tells_as(own, other, entry),
+            Entry::Shared(Role::Name, place) => match other.symbol(place) {
+                Some(symbol) => self.finds_name(tape, Spelling::of(symbol.text())),
                 None => false,
             },
+            Entry::Open(bracket, _) => self.finds_open(tape, bracket),
+            Entry::Close(bracket) => self.finds_close(tape, bracket),
+            _ => self.finds_same(tape, other, entry),
+        }
+    }
+
+    // Whether the entry there tells the same.
+    #[inline(always)]
+    fn finds_same(&mut self, tape: &Tape, other: &Tape, entry: &Entry) -> bool
+        ensures told { result ≡ true →
+            IfSome (told other.now entry.now) (λ e. Finds tape.now self.old e self.new) }
+        ensures some { result ≡ true → is_some (told other.now entry.now) ≡ true }
+    {
+        match self.take(tape) {
+            Some(own) => tape.tells_as(own, other, entry),
+            None => false,
         }
     }
 

@@ -1,12 +1,13 @@
 //! The visitor that takes the outline of a value.
-ghost use Rattle.std.specs.Prelude.{◌≡◌};
-ghost use Rattle.ion_visiting.specs.Names.{layer_kind, number_payload, out-Payload, payload_of};
+ghost use Rattle.std.specs.Prelude.{◌≡◌, ◌-◌, ◌^◌, ◌<◌, None, Some, option_map, true};
+ghost use Rattle.ion_model.specs.declared.value.Payload.TheVariants as payloads;
+ghost use Rattle.ion_visiting.specs.Names.{Payload, annotation, closes, layer_kind, name, number_payload, opens, out-Payload, part, payload_of};
 ghost use Rattle.ion_visiting.specs.Outlining.{bracket_kind, kind_at, more_nodes, no_outline, outline_in};
 
 use crate::bracket::Bracket;
 use crate::part::Part;
 use crate::visitor::Visitor;
-use ion_model::{Kind, Outline};
+use ion_model::{Kind, Outline, Symbol};
 use ion_scalar::Number;
 
 /// The visitor that takes the outline of a value: its kind, its depth and its number of nodes. It
@@ -103,7 +104,7 @@ fn bracket_kind(bracket: Bracket) -> Kind
 }
 
 impl Visitor for Outlining {
-    ghost use Rattle.ion_visiting.specs.Outlining.{outlines};
+    ghost use Rattle.ion_visiting.specs.Outlining.{outlined, outlines};
 
     ghost takes = { outlines };
 
@@ -119,52 +120,108 @@ impl Visitor for Outlining {
     }
 
     #[inline(always)]
-    fn any_part(&mut self) -> bool {
+    fn any_part(&mut self) -> Option<bool>
+        ensures goes { 0 < self.old.level → result ≡ Some true }
+        ensures told { result ≡ Some true →
+            (payload : Payload) → self.new ≡ outlined self.old (part payload) }
+        ensures none { result ≡ None → self.new ≡ self.old }
+    {
         if self.level == 0 {
-            return false;
+            return None;
         }
         self.count();
-        true
+        Some(true)
     }
 
     #[inline(always)]
-    fn of_kind(&mut self, kind: Kind) -> bool {
-        self.count_value(kind);
-        true
+    fn of_kind(&mut self, _kind: Kind) -> Option<bool>
+        ensures goes { result ≡ Some true }
+        ensures outlined { (payload : Payload) → layer_kind (out-Payload payload) ≡ _kind →
+            self.new ≡ outlined self.old (part payload) }
+    {
+        self.count_value(_kind);
+        Some(true)
     }
 
     #[inline(always)]
-    fn part(&mut self, said: &Part<'_>) -> bool {
+    fn part(&mut self, said: &Part<'_>) -> bool
+        ensures goes { result ≡ true }
+        ensures outlined { self.new ≡ outlined self.old (part (payload_of said.now)) }
+    {
         self.count_value(part_kind(said));
         true
     }
 
     #[inline(always)]
-    fn number(&mut self, number: Number) -> bool {
+    fn number(&mut self, number: Number) -> bool
+        ensures goes { result ≡ true }
+        ensures outlined { self.new ≡ outlined self.old (part (number_payload number)) }
+    {
         self.count_value(number_kind(number));
         true
     }
 
     #[inline(always)]
-    fn unknown_symbol(&mut self) -> bool {
+    fn unknown_symbol(&mut self) -> bool
+        ensures goes { result ≡ true }
+        ensures outlined { self.new ≡ outlined self.old (part (payloads.Symbol None)) }
+    {
         self.count_value(Kind::Symbol);
         true
     }
 
     #[inline(always)]
-    fn annotation(&mut self, _text: Option<&str>) -> bool {
+    fn annotation(&mut self, text: Option<&str>) -> bool
+        ensures goes { result ≡ true }
+        ensures outlined { self.new
+            ≡ outlined self.old (annotation (option_map (λ t. t.now) text.entry)) }
+    {
         self.count();
         true
     }
 
     #[inline(always)]
-    fn name(&mut self, _text: Option<&str>) -> bool {
+    fn name(&mut self, text: Option<&str>) -> bool
+        ensures goes { result ≡ true }
+        ensures outlined { self.new
+            ≡ outlined self.old (name (option_map (λ t. t.now) text.entry)) }
+    {
         self.count();
         true
     }
 
     #[inline(always)]
-    fn open(&mut self, bracket: Bracket) -> bool {
+    fn symbol(&mut self, _symbol: &Symbol) -> bool
+        ensures goes { result ≡ true }
+        ensures outlined { self.new ≡ outlined self.old (part (payloads.Symbol _symbol.now)) }
+    {
+        self.count_value(Kind::Symbol);
+        true
+    }
+
+    #[inline(always)]
+    fn symbol_annotation(&mut self, _symbol: &Symbol) -> bool
+        ensures goes { result ≡ true }
+        ensures outlined { self.new ≡ outlined self.old (annotation _symbol.now) }
+    {
+        self.count();
+        true
+    }
+
+    #[inline(always)]
+    fn symbol_name(&mut self, _symbol: &Symbol) -> bool
+        ensures goes { result ≡ true }
+        ensures outlined { self.new ≡ outlined self.old (name _symbol.now) }
+    {
+        self.count();
+        true
+    }
+
+    #[inline(always)]
+    fn open(&mut self, bracket: Bracket) -> bool
+        ensures goes { self.old.level < 2 ^ 64 - 1 → result ≡ true }
+        ensures outlined { result ≡ true → self.new ≡ outlined self.old (opens bracket) }
+    {
         if self.level == u64::MAX {
             return false;
         }
@@ -175,7 +232,10 @@ impl Visitor for Outlining {
     }
 
     #[inline(always)]
-    fn close(&mut self, _bracket: Bracket) -> bool {
+    fn close(&mut self, bracket: Bracket) -> bool
+        ensures goes { 0 < self.old.level → result ≡ true }
+        ensures outlined { result ≡ true → self.new ≡ outlined self.old (closes bracket) }
+    {
         if self.level == 0 {
             return false;
         }
@@ -184,7 +244,10 @@ impl Visitor for Outlining {
     }
 
     #[inline(always)]
-    fn ended(&mut self) -> bool {
+    fn ended(&mut self) -> bool
+        ensures goes { result ≡ true }
+        ensures outlined { self.new ≡ self.old }
+    {
         true
     }
 }

@@ -1,13 +1,13 @@
 //! Local symbol tables, which are kept from a visitor (Ion 1.0, "Symbols", "Local Symbol Tables").
 ghost use Rattle.std.specs.Prelude.{◌≡◌, ◌++◌, ◌∷◌, [], List, None, Some, map, true, false};
-ghost use Rattle.ion_visiting.specs.Names.{Event, Led, Value as AnyValue, annotation, body_payload, closes, events_of, name, names_table, number_payload, opens, part, payload_of};
+ghost use Rattle.ion_visiting.specs.Names.{Event, Led, Payload, Value as AnyValue, annotation, body_payload, closes, events_of, layer_kind, name, names_table, number_payload, opens, out-Payload, part, payload_of};
 ghost use Rattle.ion_model.specs.declared.value.Payload.TheVariants as payloads;
 ghost use Rattle.ion_visiting.specs.Tables.{Hears, IsTable, LetsPass, Tells, WasTold, heard, is_fields, is_null_struct, is_of_table, table_of};
 ghost use Rattle.ion_visiting.specs.declared.table_filter.Table.TheVariants as tables;
 
 use crate::bracket::Bracket;
-use crate::building::Building;
 use crate::part::{NumberBody, Part};
+use crate::table_building::TableBuilding;
 use crate::telling::{tell_annotation, tell_annotations, tell_name, tell_symbol};
 use crate::visitor::Visitor;
 use ion_model::{Kind, Sequence, Symbol, Value};
@@ -27,7 +27,7 @@ pub enum Table {
 }
 
 /// Tells a visitor the events of values of the top level, but not those of local symbol tables,
-/// which it builds.
+/// which it builds, without their open content.
 ///
 /// What it is told is told on at once, but for annotations that may be those of a table: they are
 /// told on once it is seen that no struct follows. Each call answers `false` where the visitor does,
@@ -38,7 +38,7 @@ pub struct TableFilter {
     table: Table,
     /// The annotations of what may be a table.
     notes: Sequence<Symbol>,
-    tables: Building,
+    tables: TableBuilding,
 }
 
 // Whether a part is the null of structs.
@@ -67,7 +67,7 @@ impl TableFilter {
             alloc,
             table: Table::Unknown,
             notes: Sequence::new(alloc),
-            tables: Building::new(alloc),
+            tables: TableBuilding::new(alloc),
         }
     }
 
@@ -280,7 +280,7 @@ impl TableFilter {
         self.let_pass(visitor) && tell_annotation(symbol, visitor)
     }
 
-    /// The end of a value of the top level: the local symbol table, if it was one. What is told next
+    /// The end of a value of the top level: the local symbol table without its open content, if it was one. What is told next
     /// is another value.
     #[inline(always)]
     pub fn end(&mut self) -> Option<Value>
@@ -370,6 +370,50 @@ impl TableFilter {
                 told
             }
         }
+    }
+
+    /// A part, whatever it says, where the visitor heeds nothing of it. Answers `None`, and does
+    /// nothing, where it has to be told: the visitor heeds it, or it may be a local symbol table's.
+    #[inline(always)]
+    pub fn any_part<V: Visitor>(&mut self, visitor: &mut V) -> Option<bool>
+        ensures told { result ≡ Some true → (payload : Payload) →
+            Tells V.takes (part payload) self.old self.new visitor.old visitor.new }
+        ensures self_kept { result ≡ None → self.new ≡ self.old }
+        ensures visitor_kept { result ≡ None → visitor.new ≡ visitor.old }
+    {
+        if self.may_be_table() || !visitor.heeds_nothing() {
+            return None;
+        }
+        let told = visitor.any_part()?;
+        self.pass();
+        Some(told)
+    }
+
+    /// A part of this kind, whatever it says, where the visitor heeds kinds alone. Answers `None`, and
+    /// does nothing, where it has to be told.
+    #[inline(always)]
+    pub fn of_kind<V: Visitor>(&mut self, kind: Kind, visitor: &mut V) -> Option<bool>
+        ensures told { result ≡ Some true → (payload : Payload) →
+            layer_kind (out-Payload payload) ≡ kind →
+            Tells V.takes (part payload) self.old self.new visitor.old visitor.new }
+        ensures self_kept { result ≡ None → self.new ≡ self.old }
+        ensures visitor_kept { result ≡ None → visitor.new ≡ visitor.old }
+    {
+        if self.may_be_table() || !visitor.heeds_kinds_alone() {
+            return None;
+        }
+        let told = visitor.of_kind(kind)?;
+        self.pass();
+        Some(told)
+    }
+
+    // What is told is no local symbol table.
+    #[inline(always)]
+    fn pass(&mut self)
+        requires { is_of_table self.old.table true ≡ false }
+        ensures { (es : List Event) → WasTold self.old es → LetsPass self.new × (heard es ≡ es) }
+    {
+        self.table = Table::No;
     }
 
     /// Whether a part that is told next is of no local symbol table: then it is noted that what is

@@ -3,24 +3,62 @@ ghost use Rattle.std.specs.Prelude.{◌≡◌, ◌+◌, ◌++◌, ◌∷◌, [],
 ghost use Rattle.std.specs.List.{flat_map};
 ghost use Rattle.std.specs.Option.{is_some, option_to_list};
 ghost use Rattle.ion_visiting.specs.Names.{Led, body_payload, closes, number_payload, opens, part, payload_of};
-ghost use Rattle.ion_visiting.specs.Tapes.{Grows, IsBlank, Rests, Writes, events_before, events_in, short_text, spelled, role_event, text_at, text_event, told};
+ghost use Rattle.ion_visiting.specs.Tapes.{Grows, IsBlank, Rests, Writes, events_before, events_in, range_place, short_text, spelled, role_event, text_at, text_event, text_from, told};
 
 use crate::bracket::Bracket;
 use crate::part::{NumberBody, Part};
 use crate::pushing::push;
+use crate::same_octets::are_same;
 use crate::short::{Short, Spelling};
 use crate::visitor::Visitor;
 use ion_atoms::{Decimal, Whole};
-use ion_model::Kind;
+use ion_model::{Kind, Symbol};
 use ion_scalar::{Number, decimal_of, timestamp_of};
 use std::alloc::Global;
 use std::str;
 
-/// Where a text stands among the octets of a tape.
+/// Which octets of a tape a text is: so many from a place on, of which `high` counts 2^32 each. One of
+/// 2^32-1 octets or more has that count here, and its own at that place among the great ones.
 #[derive(Clone, Copy)]
 pub(crate) struct Range {
-    from: u32,
     count: u32,
+    low: u32,
+    high: u32,
+}
+
+/// Which octets of a tape a text of 2^32-1 octets or more is.
+#[derive(Clone, Copy)]
+struct Great {
+    from: usize,
+    count: usize,
+}
+
+/// So many octets count from one on for a great text.
+const GREAT: usize = 0xFFFF_FFFF;
+
+/// What `high` counts.
+const HIGH: usize = 0x1_0000_0000;
+
+impl Range {
+    // So many octets from a place on, or a great text of that place.
+    #[inline(always)]
+    fn new(place: usize, count: u32) -> Range
+        ensures place { range_place result ≡ place }
+        ensures count { result.count ≡ count }
+    {
+        Range {
+            count,
+            low: (place % HIGH) as u32,
+            high: (place / HIGH) as u32,
+        }
+    }
+
+    #[inline(always)]
+    fn place(self) -> usize
+        ensures { result ≡ range_place self }
+    {
+        self.low as usize + self.high as usize * HIGH
+    }
 }
 
 /// What a symbol is there, or a number that is written down as binary encodes it.
@@ -43,8 +81,8 @@ pub(crate) enum Form {
     Blob,
 }
 
-/// An event as it is written down. Longer texts stand beside the entries, and numbers that don't fit
-/// one.
+/// An event as it is written down. Longer texts stand beside the entries, and so do symbols that were at
+/// hand with longer ones, and numbers that don't fit an entry.
 #[derive(Clone, Copy)]
 pub(crate) enum Entry {
     Null(Kind),
@@ -53,15 +91,17 @@ pub(crate) enum Entry {
     /// By its sign, its exponent and its magnitude.
     Decimal(bool, i32, u64),
     /// Any other number, by its place among the numbers.
-    Number(u32),
+    Number(usize),
     /// A symbol of unknown text.
     Unknown(Role),
     /// At most 12 octets, by the numbers of a `Short`.
     Short(Role, u8, u32, u64),
     Long(Role, Range),
+    /// A symbol that was at hand, by its place among those.
+    Shared(Role, usize),
     Text(Form, Range),
     /// With the entry behind the close, once that is there.
-    Open(Bracket, u32),
+    Open(Bracket, usize),
     Close(Bracket),
 }
 
@@ -69,18 +109,20 @@ const _: () = prove!(size_of::<Entry>() == 16);
 
 /// The visitor that writes down what it is told, to be told again or to be found there by
 /// `Following`. An event takes 16 octets. A string or a lob takes as many more as it has, and so does
-/// what has more than 12 of a symbol or of a number as binary encodes it. Other timestamps take 40
-/// more, and so does an int outside of 64 bits or another decimal whose magnitude is.
+/// what has more than 12 of a symbol's text or of a number as binary encodes it. A symbol of more than
+/// 12 that is at hand takes 16 more, and shares its text. Other timestamps take 40 more, and so does
+/// an int outside of 64 bits or another decimal whose magnitude is.
 ///
-/// It answers `false` where memory was refused, and beyond 2^32-1 events, numbers or octets of
-/// texts; `clear` begins anew.
+/// It answers `false` where memory was refused, or for what is no value's; `clear` begins anew.
 #[derive(Drop)]
 pub struct Tape {
     pub(crate) entries: Vec<Entry>,
     octets: Vec<u8>,
     numbers: Vec<Number>,
+    symbols: Vec<Symbol>,
+    greats: Vec<Great>,
     /// Where the brackets that are open were opened, the innermost last.
-    opened: Vec<u32>,
+    opened: Vec<usize>,
 }
 
 impl Tape {
@@ -92,6 +134,8 @@ impl Tape {
             entries: Vec::new(alloc),
             octets: Vec::new(alloc),
             numbers: Vec::new(alloc),
+            symbols: Vec::new(alloc),
+            greats: Vec::new(alloc),
             opened: Vec::new(alloc),
         }
     }
@@ -103,6 +147,8 @@ impl Tape {
         self.entries.clear();
         self.octets.clear();
         self.numbers.clear();
+        self.symbols.clear();
+        self.greats.clear();
         self.opened.clear();
     }
 
@@ -119,23 +165,43 @@ impl Tape {
 
     // Where this text stands now.
     #[inline(always)]
+    #[tactic(auto, using(crate::proofs::Taped::text_grows, crate::proofs::Taped::text_there))]
     fn put_text(&mut self, text: &[u8]) -> Option<Range>
         ensures text { IfSome result (λ range. text_at self.new range ≡ Some text.now) }
         ensures grows { IfSome result (λ _. Grows self.old self.new) }
         ensures entries { self.new.entries ≡ self.old.entries }
     {
+        let count = text.len();
+        if count >= GREAT {
+            return self.put_great(text);
+        }
         let from = self.octets.len();
-        let all = from + text.len();
-        if all > u32::MAX as usize || !self.octets.extend_from_slice(text).is_ok() {
+        if !self.octets.extend_from_slice(text).is_ok() {
             return None;
         }
-        Some(Range {
-            from: from as u32,
-            count: text.len() as u32,
-        })
+        Some(Range::new(from, count as u32))
+    }
+
+    // The same of a great one.
+    #[inline(never)]
+    #[tactic(auto, using(crate::proofs::Taped::great_grows, crate::proofs::Taped::great_there))]
+    fn put_great(&mut self, text: &[u8]) -> Option<Range>
+        ensures text { IfSome result (λ range. text_at self.new range ≡ Some text.now) }
+        ensures grows { IfSome result (λ _. Grows self.old self.new) }
+        ensures entries { self.new.entries ≡ self.old.entries }
+    {
+        let (from, count) = (self.octets.len(), text.len());
+        let place = self.greats.len();
+        if !self.octets.extend_from_slice(text).is_ok()
+            || !push(&mut self.greats, Great { from, count })
+        {
+            return None;
+        }
+        Some(Range::new(place, GREAT as u32))
     }
 
     #[inline(always)]
+    #[tactic(auto, using(crate::proofs::Taped::put_writes, crate::proofs::Taped::text_writes))]
     pub(crate) fn write(&mut self, role: Role, spelling: Spelling<'_>) -> bool
         ensures { result ≡ true → Writes self.old self.new
             (role_event role (spelled spelling.entry)) }
@@ -152,7 +218,32 @@ impl Tape {
         }
     }
 
+    /// A symbol that is at hand.
     #[inline(always)]
+    pub(crate) fn write_symbol(&mut self, role: Role, symbol: &Symbol) -> bool
+        ensures { result ≡ true → Writes self.old self.new (role_event role symbol.now) }
+    {
+        match Spelling::of(symbol.text()) {
+            Spelling::Long(_) => self.write_shared(role, symbol),
+            spelling => self.write(role, spelling),
+        }
+    }
+
+    // The same, whose text is shared.
+    #[inline(always)]
+    #[tactic(auto, using(crate::proofs::Taped::symbol_writes))]
+    fn write_shared(&mut self, role: Role, symbol: &Symbol) -> bool
+        ensures { result ≡ true → Writes self.old self.new (role_event role symbol.now) }
+    {
+        let Ok(copy) = symbol.copy() else {
+            return false;
+        };
+        let place = self.symbols.len();
+        self.symbols.push(copy).is_ok() && self.put(Entry::Shared(role, place))
+    }
+
+    #[inline(always)]
+    #[tactic(auto, using(crate::proofs::Taped::text_writes))]
     fn write_text(&mut self, form: Form, octets: &[u8]) -> bool
         ensures { result ≡ true → Writes self.old self.new (text_event form octets.now) }
     {
@@ -168,23 +259,54 @@ impl Tape {
         ensures { result ≡ true → Writes self.old self.new (part (number_payload number)) }
     {
         let place = self.numbers.len();
-        if place > u32::MAX as usize || !push(&mut self.numbers, number) {
-            return false;
-        }
-        self.put(Entry::Number(place as u32))
+        push(&mut self.numbers, number) && self.put(Entry::Number(place))
     }
 
     /// The text that stands there.
     #[inline(always)]
+    #[tactic(auto, unfolding(crate::specs::Tapes::text_at))]
     pub(crate) fn text(&self, range: Range) -> Option<&[u8]>
         ensures { option_map (λ t. t.now) result ≡ text_at self.now range }
     {
-        let from = range.from as usize;
-        let to = from + range.count as usize;
-        if to > self.octets.len() {
+        if range.count as usize == GREAT {
+            let great = self.greats.get(range.place())?;
+            return self.text_from(great.from, great.count);
+        }
+        self.text_from(range.place(), range.count as usize)
+    }
+
+    // So many octets from a place on, if there are as many.
+    #[inline(always)]
+    fn text_from(&self, from: usize, count: usize) -> Option<&[u8]>
+        ensures { option_map (λ t. t.now) result ≡ text_from self.now from count }
+    {
+        let all = self.octets.len();
+        if from > all || count > all - from {
             return None;
         }
-        Some(&self.octets[from..to])
+        Some(&self.octets[from..from + count])
+    }
+
+    /// The symbol of this place.
+    #[inline(always)]
+    pub(crate) fn symbol(&self, place: usize) -> Option<&Symbol>
+        ensures { option_map (λ s. s.now) result ≡ slice_get self.now.symbols.items place }
+    {
+        self.symbols.get(place)
+    }
+
+    // Whether the symbol of this place has this text.
+    #[inline(always)]
+    fn has_symbol(&self, place: usize, text: &[u8]) -> bool
+        ensures { result ≡ true → slice_get self.now.symbols.items place ≡ Some (Some text.now) }
+    {
+        match self.symbol(place) {
+            Some(symbol) => match symbol.text() {
+                Some(own) => are_same(own.as_bytes(), text),
+                None => false,
+            },
+            None => false,
+        }
     }
 
     // Whether this text stands there.
@@ -193,7 +315,7 @@ impl Tape {
         ensures { result ≡ true → text_at self.now range ≡ Some text.now }
     {
         match self.text(range) {
-            Some(own) => own == text,
+            Some(own) => are_same(own, text),
             None => false,
         }
     }
@@ -214,6 +336,9 @@ impl Tape {
             }
             (Entry::Long(own, range), Spelling::Long(octets)) => {
                 *own == role && self.has_text(*range, octets)
+            }
+            (Entry::Shared(own, place), Spelling::Long(octets)) => {
+                *own == role && self.has_symbol(*place, octets)
             }
             _ => false,
         }
@@ -271,7 +396,7 @@ impl Tape {
             told self.now entry.now ≡ Some (part (number_payload number.now)) }
     {
         if let Entry::Number(place) = entry {
-            return match self.numbers.get(*place as usize) {
+            return match self.numbers.get(*place) {
                 Some(own) => is_same(own, number),
                 None => false,
             };
@@ -292,7 +417,7 @@ impl Tape {
                 let decimal = Decimal::new(negative, u128::from(magnitude), exponent)?;
                 Some(Number::Decimal(decimal))
             }
-            Entry::Number(place) => self.numbers.get(place as usize).copied(),
+            Entry::Number(place) => self.numbers.get(place).copied(),
             Entry::Short(role, count, last, first) if count <= 12 => {
                 let short = Short { count, last, first };
                 number_of(role, &short.octets()[..count as usize])
@@ -333,6 +458,10 @@ impl Tape {
             }
             Entry::Long(role, range) => match other.text(range) {
                 Some(octets) => self.tells_spelled(own, role, Spelling::Long(octets)),
+                None => false,
+            },
+            Entry::Shared(role, place) => match other.symbol(place) {
+                Some(symbol) => self.tells_spelled(own, role, Spelling::of(symbol.text())),
                 None => false,
             },
             Entry::Text(form, range) => match other.text(range) {
@@ -428,6 +557,10 @@ impl Tape {
                 Some(octets) => tell_known(role, octets, visitor),
                 None => false,
             },
+            Entry::Shared(role, place) => match self.symbol(place) {
+                Some(symbol) => tell_shared(role, symbol, visitor),
+                None => false,
+            },
             Entry::Text(form, range) => match self.text(range) {
                 Some(octets) => tell_text(form, octets, visitor),
                 None => false,
@@ -514,6 +647,19 @@ fn tell_unknown<V: Visitor>(role: Role, visitor: &mut V) -> bool
     }
 }
 
+// What this symbol is in this role.
+#[inline(always)]
+fn tell_shared<V: Visitor>(role: Role, symbol: &Symbol, visitor: &mut V) -> bool
+    ensures { result ≡ true → V.takes visitor.old (role_event role symbol.now) visitor.new }
+{
+    match role {
+        Role::Value => visitor.symbol(symbol),
+        Role::Annotation => visitor.symbol_annotation(symbol),
+        Role::Name => visitor.symbol_name(symbol),
+        Role::Decimal | Role::Timestamp => false,
+    }
+}
+
 // What these octets are in this role.
 #[inline(always)]
 fn tell_known<V: Visitor>(role: Role, octets: &[u8], visitor: &mut V) -> bool
@@ -582,6 +728,7 @@ impl Visitor for Tape {
     ghost takes = { tapes };
 
     #[inline(always)]
+    #[tactic(auto, using(crate::proofs::Taped::put_writes))]
     fn part(&mut self, said: &Part<'_>) -> bool {
         match said {
             Part::Null(kind) => self.put(Entry::Null(*kind)),
@@ -594,6 +741,7 @@ impl Visitor for Tape {
     }
 
     #[inline(always)]
+    #[tactic(auto, using(crate::proofs::Taped::put_writes))]
     fn number(&mut self, number: Number) -> bool {
         match short_entry(&number) {
             Some(entry) => self.put(entry),
@@ -613,8 +761,24 @@ impl Visitor for Tape {
     }
 
     #[inline(always)]
+    #[tactic(auto, using(crate::proofs::Taped::put_writes))]
     fn unknown_symbol(&mut self) -> bool {
         self.put(Entry::Unknown(Role::Value))
+    }
+
+    #[inline(always)]
+    fn symbol(&mut self, symbol: &Symbol) -> bool {
+        self.write_symbol(Role::Value, symbol)
+    }
+
+    #[inline(always)]
+    fn symbol_annotation(&mut self, symbol: &Symbol) -> bool {
+        self.write_symbol(Role::Annotation, symbol)
+    }
+
+    #[inline(always)]
+    fn symbol_name(&mut self, symbol: &Symbol) -> bool {
+        self.write_symbol(Role::Name, symbol)
     }
 
     #[inline(always)]
@@ -630,9 +794,7 @@ impl Visitor for Tape {
     #[inline(always)]
     fn open(&mut self, bracket: Bracket) -> bool {
         let place = self.entries.len();
-        place <= u32::MAX as usize
-            && push(&mut self.opened, place as u32)
-            && self.put(Entry::Open(bracket, 0))
+        push(&mut self.opened, place) && self.put(Entry::Open(bracket, 0))
     }
 
     #[inline(always)]
@@ -641,10 +803,10 @@ impl Visitor for Tape {
             return false;
         };
         let count = self.entries.len();
-        if place as usize >= count || count >= u32::MAX as usize {
+        if place >= count {
             return false;
         }
-        self.entries[place as usize] = Entry::Open(bracket, count as u32 + 1);
+        self.entries[place] = Entry::Open(bracket, count + 1);
         self.put(Entry::Close(bracket))
     }
 

@@ -35,14 +35,14 @@ pub(crate) fn tell_annotations<V: Visitor>(symbols: &[Symbol], visitor: &mut V) 
 pub(crate) fn tell_annotation<V: Visitor>(symbol: &Symbol, visitor: &mut V) -> bool
     ensures { result ≡ true → V.takes visitor.old (annotation symbol.now) visitor.new }
 {
-    visitor.annotation(symbol.text())
+    visitor.symbol_annotation(symbol)
 }
 
 #[inline(always)]
 pub(crate) fn tell_name<V: Visitor>(symbol: &Symbol, visitor: &mut V) -> bool
     ensures { result ≡ true → V.takes visitor.old (name symbol.now) visitor.new }
 {
-    visitor.name(symbol.text())
+    visitor.symbol_name(symbol)
 }
 
 #[cycle(tell)]
@@ -71,10 +71,7 @@ pub(crate) fn tell_symbol<V: Visitor>(symbol: &Symbol, visitor: &mut V) -> bool
     ensures { result ≡ true →
         V.takes visitor.old (part (payloads.Symbol symbol.now)) visitor.new }
 {
-    match symbol.text() {
-        None => visitor.unknown_symbol(),
-        Some(text) => visitor.part(&Part::Symbol(text)),
-    }
+    visitor.symbol(symbol)
 }
 
 #[cycle(tell)]

@@ -9,6 +9,7 @@ use crate::part::{NumberBody, Part};
 use crate::short::Spelling;
 use crate::tape::{Entry, Role, Tape, spelling_of};
 use crate::visitor::Visitor;
+use ion_model::Symbol;
 use ion_scalar::Number;
 use std::alloc::Global;
 
@@ -122,7 +123,28 @@ impl Twin {
         }
     }
 
+    #[inline(always)]
+    #[tactic(auto, using(crate::proofs::Twins::told_along))]
+    fn at_hand(&mut self, role: Role, symbol: &Symbol) -> bool
+        ensures { result ≡ true → TellsSecond self.old (role_event role symbol.now) self.new }
+    {
+        match self.next() {
+            Some(entry)
+                if self
+                    .first
+                    .tells_spelled(entry, role, Spelling::of(symbol.text())) => { self.pass() }
+            _ => self.other_symbol(role, symbol),
+        }
+    }
+
     // What follows tells the second tape what isn't the first's next entry.
+
+    #[inline(never)]
+    fn other_symbol(&mut self, role: Role, symbol: &Symbol) -> bool
+        ensures { result ≡ true → TellsSecond self.old (role_event role symbol.now) self.new }
+    {
+        self.part_ways() && self.second.write_symbol(role, symbol)
+    }
 
     #[inline(never)]
     fn other_spelled(&mut self, role: Role, spelling: Spelling<'_>) -> bool
@@ -204,6 +226,21 @@ impl Visitor for Twin {
     #[inline(always)]
     fn unknown_symbol(&mut self) -> bool {
         self.spelled(Role::Value, Spelling::Unknown)
+    }
+
+    #[inline(always)]
+    fn symbol(&mut self, symbol: &Symbol) -> bool {
+        self.at_hand(Role::Value, symbol)
+    }
+
+    #[inline(always)]
+    fn symbol_annotation(&mut self, symbol: &Symbol) -> bool {
+        self.at_hand(Role::Annotation, symbol)
+    }
+
+    #[inline(always)]
+    fn symbol_name(&mut self, symbol: &Symbol) -> bool {
+        self.at_hand(Role::Name, symbol)
     }
 
     #[inline(always)]

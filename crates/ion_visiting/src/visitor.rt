@@ -9,7 +9,7 @@ ghost use Rattle.ion_visiting.specs.Parts.{body_payload, number_payload, payload
 
 use crate::bracket::Bracket;
 use crate::part::{NumberBody, Part};
-use ion_model::Kind;
+use ion_model::{Kind, Symbol};
 use ion_scalar::Number;
 
 /// What is told values, event by event, symbols by their texts or as unknown. Whoever tells holds
@@ -21,8 +21,8 @@ pub trait Visitor {
     /// From which state to which an event leads it.
     ghost takes: { Self → Event → Self → Type 0 };
 
-    /// Whether it heeds nothing of what the next part says: then that isn't read for it, and it is
-    /// told by `any_part`.
+    /// Whether it heeds nothing of what the next part says: then that needn't be read for it, and it
+    /// is told by `any_part`.
     fn heeds_nothing(&self) -> bool {
         false
     }
@@ -33,19 +33,25 @@ pub trait Visitor {
         false
     }
 
-    /// A part, whatever it says. Only where `heeds_nothing`.
-    fn any_part(&mut self) -> bool
-        ensures { result ≡ true → (payload : Payload) → takes self.old (part payload) self.new }
+    /// A part, whatever it says. Only where `heeds_nothing`. Answers `None`, and does nothing, where it
+    /// has to be told this one as it is.
+    fn any_part(&mut self) -> Option<bool>
+        ensures told { result ≡ Some true →
+            (payload : Payload) → takes self.old (part payload) self.new }
+        ensures none { result ≡ None → self.new ≡ self.old }
     {
-        false
+        None
     }
 
-    /// A part of this kind, whatever it says. Only where `heeds_kinds_alone`.
-    fn of_kind(&mut self, kind: Kind) -> bool
-        ensures { result ≡ true → (payload : Payload) →
-            layer_kind (out-Payload payload) ≡ kind → takes self.old (part payload) self.new }
+    /// A part of this kind, whatever it says. Only where `heeds_kinds_alone`. Answers `None`, and does
+    /// nothing, where it has to be told this one as it is; octets of it that were let go are lost then,
+    /// and whoever tells it answers `Memory`.
+    fn of_kind(&mut self, _kind: Kind) -> Option<bool>
+        ensures told { result ≡ Some true → (payload : Payload) →
+            layer_kind (out-Payload payload) ≡ _kind → takes self.old (part payload) self.new }
+        ensures none { result ≡ None → self.new ≡ self.old }
     {
-        false
+        None
     }
 
     /// A value with no value in it, but no number and no symbol of unknown text.
@@ -85,6 +91,31 @@ pub trait Visitor {
     fn name(&mut self, text: Option<&str>) -> bool
         ensures { result ≡ true →
             takes self.old (name (option_map (λ t. t.now) text.entry)) self.new };
+
+    /// A symbol that is a value, where it is at hand: its text may be shared.
+    fn symbol(&mut self, symbol: &Symbol) -> bool
+        ensures { result ≡ true →
+            takes self.old (part (payloads.Symbol symbol.now)) self.new }
+    {
+        match symbol.text() {
+            None => self.unknown_symbol(),
+            Some(text) => self.part(&Part::Symbol(text)),
+        }
+    }
+
+    /// The same of an annotation.
+    fn symbol_annotation(&mut self, symbol: &Symbol) -> bool
+        ensures { result ≡ true → takes self.old (annotation symbol.now) self.new }
+    {
+        self.annotation(symbol.text())
+    }
+
+    /// The same of a field's name.
+    fn symbol_name(&mut self, symbol: &Symbol) -> bool
+        ensures { result ≡ true → takes self.old (name symbol.now) self.new }
+    {
+        self.name(symbol.text())
+    }
 
     /// The front of a list, an s-expression or a struct.
     fn open(&mut self, bracket: Bracket) -> bool

@@ -3,7 +3,7 @@ use crate::answers::same;
 use ion_docs::{in_memory, visit};
 use ion_model::{Reason, Refusal};
 use ion_symtab::{Catalog, Fault, Limits};
-use ion_text::TextOut;
+use ion_text_writer::TextOut;
 use ion_visiting::{Bracket, Building, Count, Part, Visitor};
 use std::alloc::Global;
 

@@ -3,7 +3,7 @@ use crate::answers::same;
 use ion_devices::{FrailWriter, NEVER};
 use ion_model::Value;
 use ion_symtab::{Fault, ToWrite};
-use ion_text::TextWriter;
+use ion_text_writer::TextWriter;
 use std::alloc::Global;
 
 /// What a put of 1, one of 2 and the end of a writer of text answer.

@@ -1,7 +1,7 @@
 //! Values written on a tape, told again from there, and found there. What is owned is let go by a
 //! call of `drop`, as in `model.rt`.
 use crate::answers::same;
-use ion_model::{Decimal, Payload, Reason, Value, Whole};
+use ion_model::{Decimal, Payload, Reason, Symbol, Value, Whole};
 use ion_scalar::{Number, decimal_of, timestamp_of};
 use ion_visiting::{Bracket, Building, Following, NumberBody, Part, Tape, Twin, Visitor, tell};
 use std::alloc::Global;
@@ -333,5 +333,88 @@ fn a_body_is_told_again_as_its_number(rt: HostRuntime) -> Result<(), Fail> {
         drop(building);
         drop(tape);
     }
+    Ok(())
+}
+
+/// Tells `{name:note::value}`, each of which is this symbol, at hand or by its text.
+fn tell_thrice<V: Visitor>(symbol: &Symbol, at_hand: bool, visitor: &mut V) -> bool {
+    if !visitor.open(Bracket::Fields) {
+        return false;
+    }
+    let told = match (at_hand, symbol.text()) {
+        (false, Some(text)) => {
+            visitor.name(Some(text))
+                && visitor.annotation(Some(text))
+                && visitor.part(&Part::Symbol(text))
+        }
+        (false, None) => {
+            visitor.name(None) && visitor.annotation(None) && visitor.unknown_symbol()
+        }
+        (true, _) => {
+            visitor.symbol_name(symbol)
+                && visitor.symbol_annotation(symbol)
+                && visitor.symbol(symbol)
+        }
+    };
+    told && visitor.close(Bracket::Fields)
+}
+
+/// Whether a symbol is told as another was, and whether it is found on that one's tape.
+fn is_same_symbol(alloc: Global, first: (&Symbol, bool), second: (&Symbol, bool)) -> (bool, bool) {
+    let mut tapes = Twin::new(alloc);
+    let told = tell_thrice(first.0, first.1, &mut tapes.first)
+        && tell_thrice(second.0, second.1, &mut tapes);
+    let alike = told && tapes.are_same();
+    let parted = tapes.part_ways();
+    let mut following = Following::new(alloc);
+    let found = told && parted && following.finds(&tapes.first, &tapes.second);
+    drop(following);
+    drop(tapes);
+    (alike, found)
+}
+
+/// Whether a tape that was told a symbol tells it again as `Building` is told it at once.
+fn is_symbol_again(alloc: Global, symbol: &Symbol, at_hand: bool) -> bool {
+    let (mut tape, mut building) = (Tape::new(alloc), Building::new(alloc));
+    let told = tell_thrice(symbol, at_hand, &mut tape) && tape.tell(&mut building);
+    let again = building.take();
+    let at_once = tell_thrice(symbol, at_hand, &mut building);
+    let built = building.take();
+    let found = told && at_once && built.is_some() && again == built;
+    drop(again);
+    drop(built);
+    drop(building);
+    drop(tape);
+    found
+}
+
+/// A symbol is the same whether it is at hand or told by its text, however long that is.
+#[test]
+fn a_symbol_is_the_same_at_hand(rt: HostRuntime) -> Result<(), Fail> {
+    let alloc = rt.alloc();
+    for row in &[
+        ("", "a"),
+        ("twelve ones.", "twelve onez."),
+        ("thirteen ones", "thirteen onez"),
+        ("more than fifteen ones", "more than fifteen onez"),
+    ] {
+        let (symbol, other) = (Symbol::known(alloc, row.0)?, Symbol::known(alloc, row.1)?);
+        for hands in &[(false, false), (false, true), (true, false), (true, true)] {
+            let found = is_same_symbol(alloc, (&symbol, hands.0), (&symbol, hands.1));
+            same(&rt, (row.0, *hands), found, (true, true));
+            let found = is_same_symbol(alloc, (&symbol, hands.0), (&other, hands.1));
+            same(&rt, (row.1, *hands), found, (false, false));
+            same(&rt, row.0, is_symbol_again(alloc, &symbol, hands.0), true);
+        }
+        drop(symbol);
+        drop(other);
+    }
+    let (unknown, known) = (Symbol::unknown(), Symbol::known(alloc, "thirteen ones")?);
+    let found = is_same_symbol(alloc, (&unknown, true), (&unknown, false));
+    same(&rt, "unknown", found, (true, true));
+    let found = is_same_symbol(alloc, (&unknown, true), (&known, true));
+    same(&rt, "unknown and known", found, (false, false));
+    drop(unknown);
+    drop(known);
     Ok(())
 }

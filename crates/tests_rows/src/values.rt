@@ -8,7 +8,7 @@ use ion_model::{
     Part, Path, Payload, Symbol, Value, equivalent, normalise, order, parting, same_slow,
 };
 use ion_symtab::{Catalog, Limits, ToWrite};
-use ion_text::{TextOut, TextWriter, spelling_of, symbol_text, text_of};
+use ion_text_writer::{TextOut, TextWriter, spelling_of, symbol_text, text_of};
 use ion_visiting::{Visitor, tell};
 use std::alloc::{AllocError, Global};
 use std::cmp::Ordering;

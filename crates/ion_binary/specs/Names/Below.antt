@@ -6,7 +6,7 @@ pub use Rattle.ion_atoms.specs.Reasons.{reason_number}
 pub use Rattle.ion_atoms.specs.Timestamps.{IsTimestamp, TimestampParts}
 pub use Rattle.ion_atoms.specs.declared.kind.Kind.{Kind}
 pub use Rattle.ion_atoms.specs.declared.refusal.Reason.{Reason}
-pub use Rattle.ion_atoms.specs.declared.refusal.Reason.TheVariants.{BadUtf8, Depth, Float, ImportGap, Incomplete, ItemTooLong, Malformed, Memory, SymbolRange, TooLarge, Version}
+pub use Rattle.ion_atoms.specs.declared.refusal.Reason.TheVariants.{BadUtf8, Depth, Float, Incomplete, ItemTooLong, Malformed, Memory, SymbolRange, TooLarge, Version}
 pub use Rattle.ion_atoms.specs.declared.refusal.Refusal.{Refusal}
 pub use Rattle.ion_binary.specs.declared.form.Form.{Form}
 pub use Rattle.ion_binary.specs.declared.form.ListOrSexp.{ListOrSexp}
@@ -39,7 +39,7 @@ pub use Rattle.ion_scalar.specs.binary.Decimal.{IsDecimalField}
 unfoldable pub use Rattle.ion_scalar.specs.binary.Decimal.{decimal_of_body}
 pub use Rattle.ion_scalar.specs.binary.Descriptor.{kind, size, typed}
 unfoldable pub use Rattle.ion_scalar.specs.binary.Descriptor.{descriptor_of}
-pub use Rattle.ion_scalar.specs.binary.Fields.{Digits128, VarInt, VarUInt, is_last, more, none, positional, seven_bits, uint_field}
+pub use Rattle.ion_scalar.specs.binary.Fields.{Digits128, VarInt, VarUInt, more, none, positional, seven_bits, uint_field}
 pub use Rattle.ion_scalar.specs.binary.Spellings.{decimal_octets, uint_octets, var_uint_octets}
 pub use Rattle.ion_scalar.specs.binary.Timestamp.{IsTimestampBody}
 unfoldable pub use Rattle.ion_scalar.specs.binary.Timestamp.{read_offset, timestamp_of_body}
@@ -50,7 +50,7 @@ pub use Rattle.ion_scalar.specs.declared.descriptor.Size.TheVariants.{Follows, K
 pub use Rattle.ion_symtab.specs.Next.{and_then, appends_in, imported, joined, local_slot, local_slots, next_layer}
 unfoldable pub use Rattle.ion_symtab.specs.Next.{next}
 pub use Rattle.ion_symtab.specs.Promises.{BeginsNone, EndsValues, GivesNoTable, HasPieces, HasReasons, HasSpan, IsFirst, IsReadersReason, IsSmall, NoTables, Refuses, Shown, Shows, Spaced}
-pub use Rattle.ion_symtab.specs.Slots.{Slot, gap, greatest_id, slot_symbol, symbol_at, text, unknown}
+pub use Rattle.ion_symtab.specs.Slots.{Slot, greatest_id, slot_symbol, symbol_at}
 unfoldable pub use Rattle.ion_symtab.specs.Slots.{resolve, system_slots, system_texts}
 pub use Rattle.ion_symtab.specs.Steps.{RefusesBy, StepsOver}
 pub use Rattle.ion_symtab.specs.Tables.{Table}
@@ -62,12 +62,12 @@ pub use Rattle.ion_symtab.specs.declared.fault.Fault.{Fault}
 pub use Rattle.ion_symtab.specs.declared.items.Walked.{Walked}
 pub use Rattle.ion_symtab.specs.declared.limits.Limits.{Limits}
 pub use Rattle.ion_symtab.specs.declared.outlet.Outlet.{Ghosts as Outlet}
-pub use Rattle.ion_visiting.specs.Building.{Built, builds, built, fresh, value_in, without_value}
+pub use Rattle.ion_visiting.specs.Building.{Built, builds, fresh, value_in, without_value}
 pub use Rattle.ion_visiting.specs.Events.{Event, Led, annotation, closes, ended, field_events, layer_events, name, part, stream_events, within}
 unfoldable pub use Rattle.ion_visiting.specs.Events.{events_of}
 pub use Rattle.ion_visiting.specs.KeptEvents.{AreKeptEvents, KeptEvent}
 pub use Rattle.ion_visiting.specs.Parts.{number_payload, payload_of}
-pub use Rattle.ion_visiting.specs.Tables.{Hears, LetsPass, Tells, WasTold, begins_struct, heard, heard_by, is_of_table, table_of}
+pub use Rattle.ion_visiting.specs.Tables.{Hears, LetsPass, Tells, WasTold, heard, heard_by, is_of_table, table_of}
 pub use Rattle.ion_visiting.specs.declared.bracket.Bracket.{Bracket}
 pub use Rattle.ion_visiting.specs.declared.part.Part.{Part}
 pub use Rattle.ion_visiting.specs.declared.table_filter.TableFilter.{TableFilter}

@@ -10,12 +10,9 @@
 --   Stops: where a run goes on, and where it is refused
 --   Steady, Decided: no octet is refused for want of memory or octets
 --   Small: a value has no more nodes than its item has octets
--- RefusalLaws: the refusals of the trace are those of the table (laws::refusals)
---   DecidedRows: each row refuses
---     OpenRuns, NumberRuns: what stands open behind octets is what the machine holds there
---     OnlyReasons: what stands in the way does so for few reasons
---   sound: each refusal has a row
---     Openings, RefusedRows: what the machine holds is what stands open, and where it refuses a row stands
+-- sound: each refusal has a row
+--   Openings, RefusedRows: what the machine holds is what stands open (OpenFrames), and where it refuses a row stands
+--   OnlyReasons: what a descriptor is refused for
 -- DocumentKept, GivesKept: the values of octets are kept (laws::document_values, round_trip)
 -- HeaderRows, PlainRows: headers, nulls and bools are those of the specification's table (laws::headers)
 -- Rows: worked documents (laws::worked_documents)
@@ -38,10 +35,7 @@ pub mod Standing
 pub mod Walking
 pub mod GivesKept
 pub mod DocumentKept
-pub mod OpenRuns
-pub mod NumberRuns
+pub mod OpenFrames
 pub mod Openings
 pub mod RefusedRows
 pub mod OnlyReasons
-pub mod DecidedRows
-pub mod RefusalLaws

@@ -176,8 +176,8 @@ pub(super) fn tell_body<V: Visitor>(
         return tell_scalar(context, scalar, octets, filter, visitor);
     }
     body.judge_unread(scalar)?;
-    if visitor.heeds_kinds_alone() && filter.lets_pass() {
-        return heard(visitor.of_kind(scalar.kind()));
+    if let Some(went_on) = filter.of_kind(scalar.kind(), visitor) {
+        return heard(went_on);
     }
     Err(Reason::Memory)
 }

@@ -33,8 +33,10 @@ pub(super) fn tell_scalar<V: Visitor>(
         filter.old filter.new visitor.old visitor.new) }
     ensures refused { IfErr result (RefusedAs (judge context.now scalar body.now)) }
 {
-    if visitor.heeds_nothing() && is_scalar(context, scalar, body) && filter.lets_pass() {
-        return heard(visitor.any_part());
+    if visitor.heeds_nothing() && is_scalar(context, scalar, body) {
+        if let Some(went_on) = filter.any_part(visitor) {
+            return heard(went_on);
+        }
     }
     read_scalar(context, scalar, body, filter, visitor)
 }

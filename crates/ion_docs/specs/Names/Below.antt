@@ -17,9 +17,10 @@ pub use Rattle.ion_model.specs.declared.value.Value.{Value}
 pub use Rattle.ion_streams.specs.Checked.{IsChecked, IsVisited}
 pub use Rattle.ion_streams.specs.Compared.{IsCompared, IsPathOf, IsVerdict, PartAt, parts}
 pub use Rattle.ion_streams.specs.Formats.{Format, format_of}
+pub use Rattle.ion_streams.specs.InTurn.{AskedWhile, AtOnce}
 pub use Rattle.ion_streams.specs.Listing.{IsShown, IsWriteCause, ShowsSoFar, lines_of}
 unfoldable pub use Rattle.ion_streams.specs.Listing.{accepted_line}
-pub use Rattle.ion_streams.specs.Loaded.{AreApart, DescribesUnder, IsCatalog, IsDocumentOf, IsLoaded, added, catalog_of, then_at, with_table}
+pub use Rattle.ion_streams.specs.Loaded.{AreApart, DescribeTables, DescribesUnder, IsCatalog, IsDocumentOf, IsLoaded, added, catalog_of, then_at, with_table}
 pub use Rattle.ion_streams.specs.Outcomes.{AtOneEnd, IsRefused, SaysRefusal, ToldDocument, ToldRefused, given_all, given_last}
 pub use Rattle.ion_streams.specs.declared.comparison.Side.TheVariants.{Left, Right}
 pub use Rattle.ion_streams.specs.declared.comparison.Verdict.{Verdict}
@@ -45,8 +46,8 @@ pub use Rattle.ion_symtab.specs.declared.items.Items.{Ghosts as Items}
 pub use Rattle.ion_symtab.specs.declared.limits.Limits.{Limits}
 pub use Rattle.ion_symtab.specs.declared.outlet.Outlet.{Ghosts as Outlet}
 pub use Rattle.ion_symtab.specs.declared.target.Target.{Target}
-pub use Rattle.ion_text.specs.Output.{FitsIn as FitsInText, text_of}
-unfoldable pub use Rattle.ion_text.specs.Output.{symbol_text, value_text}
+pub use Rattle.ion_spelling.specs.Output.{FitsIn as FitsInText, text_of}
+unfoldable pub use Rattle.ion_spelling.specs.Output.{symbol_text, value_text}
 pub use Rattle.ion_visiting.specs.Building.{Built, builds, built, fresh, value_in, without_value}
 pub use Rattle.ion_visiting.specs.Events.{Event, Led, ended}
 unfoldable pub use Rattle.ion_visiting.specs.Events.{events_of}

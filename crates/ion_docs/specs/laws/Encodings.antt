@@ -3,7 +3,7 @@ use Rattle.std.proofs.Common.{◌≡◌, List, [], ◌∷◌, ◌++◌, ap, sym,
 use Rattle.std.proofs.lemmas.List.{flat_map_more}
 use Rattle.ion_docs.specs.Names.{IsFrontOf, Progress, Value, behind, behind_more, bin_of, bin_puts, nothing_yet, opening, puts, puts_more, text_of}
 use Rattle.ion_binary.specs.Output as binary
-use Rattle.ion_text.specs.Output as text
+use Rattle.ion_spelling.specs.Output as text
 
 -- what the values add, and the end, are the document
 pub binary_ends : (s : List Value) → puts nothing_yet s ++ opening (behind nothing_yet s).begun ≡ bin_of s

@@ -2,7 +2,7 @@
 use Rattle.std.specs.Prelude.{◌≡◌, ℕ, ◌+◌, ◌-◌, ◌*◌, ◌<◌, ◌≤◌, ◌^◌, ◌⊎◌, List, [], ◌∷◌, ◌++◌, length, take, drop, Bool, false, Option, None, IfSome}
 use Rattle.ion_streams.specs.Names.Below.{Catalog, Heard, Inlet, Items, Limits, PieceReader, Value, WereMade, given_at, plain}
 use Rattle.ion_streams.specs.Formats.{Format}
-use Rattle.ion_streams.specs.InTurn.{LastAskedFor}
+use Rattle.ion_streams.specs.InTurn.{AskedWhile}
 
 -- the octets of a piece between two places
 abbrev pub between : List ℕ → ℕ → ℕ → List ℕ
@@ -64,7 +64,7 @@ pub record HandedOn {S : Type 0} (R : Inlet S) (old now : S) : Type 0 where
 
 -- Behind so many values the device wasn't asked between old and now, or it was asked last while its octets gave no more values than these.
 abbrev pub Sought : {S : Type 0} → Inlet S → Format → S → S → S → ℕ → Type 0
-Sought R F first old now values = (now ≡ old) ⊎ LastAskedFor R F first now (values + 1)
+Sought R F first old now values = AskedWhile R F first old now (λ given. length given < values + 1)
 
 -- the calls of read that were made and those that may still be made are so many, and unless the end was answered, none answered it
 pub record IsWithin {S X : Type 0} (R : Inlet S) (reads : ℕ) (first now : S) (source : PieceReader X) : Type 0 where

@@ -7,6 +7,7 @@ pub mod small
 pub mod ValuesKept
 pub mod Promises
 pub mod Stops
+pub mod NoTables
 pub mod Reasons
 pub mod Stands
 pub mod Tells

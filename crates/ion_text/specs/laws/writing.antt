@@ -1,8 +1,4 @@
 -- What is written denotes what it was written of.
-pub mod RawRuns
-pub mod Output
-pub mod Rows
-pub mod Quoted
 pub mod Spelled
 pub mod Written
 pub mod ValuesWritten

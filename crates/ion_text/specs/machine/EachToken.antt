@@ -2,7 +2,8 @@
 use Rattle.std.specs.Prelude.{ℕ, ◌+◌, true, false, List, [], ◌∷◌, ◌++◌, length, nat_lt, nat_le, if◌then◌else◌, Result, Ok, Err, Option, Some, None, codes, bytes_eq}
 use Rattle.ion_text.specs.Names.Below.{Blob, Bracket, Catalog, Clob, Content, Frame, Held, Id, Kind, Limits, ListOrSexp, Long, Mark, Mark', Number', Operator, Payload, Place, Quoted, Reason, Short, Slot, Stage, TypedNull, Value, Word, annotated, field_of, is_table, next, number_payload, resolve, system_slots}
 use Rattle.ion_model.specs.declared.value.Payload.TheVariants as payloads
-use Rattle.ion_text.specs.Grammar.{is_keyword, is_version, the_marker}
+use Rattle.ion_spelling.specs.Keywords.{is_keyword}
+use Rattle.ion_text.specs.Grammar.{is_version, the_marker}
 
 -- symbols, each a text or unknown
 abbrev pub Symbols : Type 0

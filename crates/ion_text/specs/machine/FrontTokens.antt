@@ -1,7 +1,7 @@
 -- Tokens at the front of octets where a container is open: as values, and as names of fields.
 use Rattle.std.specs.Prelude.{◌≡◌, ℕ, ◌==◌, ◌&&◌, ◌||◌, Bool, true, false, not, nat_lt, List, Option, Some, None, IfSome, Ok}
 use Rattle.ion_text.specs.Names.Below.{Content, FoundToken, Frame, Held, IsFound, Payload, Place, Quoted, Rest, Short, TypedNull, Word, annotated, said}
-use Rattle.ion_text.specs.Grammar.{is_keyword}
+use Rattle.ion_spelling.specs.Keywords.{is_keyword}
 use Rattle.ion_text.specs.machine.EachToken.{Setting, Spot, Symbols, ended, held_payload, held_word, on_ready}
 
 -- the octet shows that no `::` follows a symbol: it is no blank, and begins no colon and no comment

@@ -6,8 +6,8 @@ use Rattle.ion_model.specs.declared.value.Payload.TheVariants as payloads
 use Rattle.ion_model.specs.declared.value.Payload.TheViews as views
 use Rattle.ion_symtab.specs.Decided.{Decides, IsDecided}
 use Rattle.ion_symtab.specs.laws.Decided.{next_decides, resolve_decides}
-use Rattle.ion_text.specs.Deciding.{IsKeyword}
-use Rattle.ion_text.specs.Grammar.{is_keyword}
+use Rattle.ion_text.specs.Grammar.{IsKeyword}
+use Rattle.ion_spelling.specs.Keywords.{is_keyword}
 use Rattle.ion_text.specs.machine.EachToken.{Setting, Spot, Symbols, Turn, at, begun_at, behind_item, beyond_depth, closed, ended, first_now, fresh, gives, goes, held_payload, held_symbol, held_word, keyed, late, named, noted, on_after, on_comma, on_name, on_pending, on_ready, opened, opening, paid, refuses, released, resolved, settle, spot_at, token_at, turn_now, turned, under, within}
 use Rattle.ion_text.specs.machine.Nested.{close_mark, open_mark}
 

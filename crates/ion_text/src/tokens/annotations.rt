@@ -3,7 +3,7 @@ ghost use Rattle.std.specs.Prelude.{◌≡◌, ◌<◌, Some, IfSome};
 ghost use Rattle.ion_text.specs.Names.{FoundNote, NoteThere};
 
 use super::symbols::behind_annotation;
-use crate::words::is_keyword;
+use ion_spelling::is_keyword;
 use ion_tokens::{FoundToken, TokenKind, quoted_symbol, word};
 
 /// An annotation at the front of octets, behind which `::` stands.

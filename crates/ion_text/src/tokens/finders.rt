@@ -6,9 +6,9 @@ ghost use Rattle.ion_text.specs.walk.WordKinds.{IsWordKind};
 ghost use Rattle.ion_tokens.specs.Bodies.{content};
 
 use super::symbols::plain_text;
-use crate::words::{is_keyword, may_be_keyword};
 use ion_model::Kind;
 use ion_scalar::{Number, ShortNumber, number_of, plain_number_of};
+use ion_spelling::{is_keyword, may_be_keyword};
 use ion_tokens::{
     Body, FoundToken, Place, TokenKind, number, operator, plain_numeral, quoted_symbol,
     short_string, typed_null, word,

@@ -20,7 +20,7 @@ impl TextWalk<'_> {
             Told self.old u s es → Told self.new u s es }
         ensures setting { SameSettings self.old self.new }
     {
-        if self.needs_octets(visitor) {
+        if !visitor.heeds_kinds_alone() || self.filter.may_be_table() {
             return;
         }
         match self.place() {

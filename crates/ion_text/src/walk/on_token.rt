@@ -11,9 +11,10 @@ use super::{TextWalk, heard};
 use crate::long_text::LongText;
 use crate::state::{Effect, Held, Stage};
 use crate::tokens::long_strings::joined;
-use crate::words::{held_word, is_keyword};
+use crate::words::held_word;
 use ion_atoms::LetGo;
 use ion_model::{Kind, Reason, Symbol, Text};
+use ion_spelling::is_keyword;
 use ion_tokens::{Body, Mark, TextKind, Token};
 use ion_visiting::{Bracket, Part, Visitor};
 
@@ -140,11 +141,10 @@ impl TextWalk<'_> {
             result self.new visitor.old visitor.new }
         ensures setting { SameSetting self.old self.new }
     {
-        if self.needs_octets(visitor) {
+        let Some(went_on) = self.filter.of_kind(kind, visitor) else {
             return Err(Reason::Memory);
-        }
-        heard(visitor.of_kind(kind))?;
-        let _passes = self.filter.lets_pass();
+        };
+        heard(went_on)?;
         self.ended(end)
     }
 

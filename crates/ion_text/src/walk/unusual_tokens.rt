@@ -11,8 +11,9 @@ use super::TextWalk;
 use crate::state::Taken;
 use crate::tokens::finders::{Scalar, unusual_part, word_part};
 use crate::tokens::symbols::behind_waiting;
-use crate::words::{is_keyword, is_version};
+use crate::words::is_version;
 use ion_model::Reason;
+use ion_spelling::is_keyword;
 use ion_tokens::{Body, FoundToken, Place, Rest, TokenReader};
 use ion_visiting::{Part, Visitor};
 

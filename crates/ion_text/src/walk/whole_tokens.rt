@@ -497,16 +497,21 @@ impl TextWalk<'_> {
         ensures { EndsBy V.takes self.old self.new rest.old rest.new octets.now result
             visitor.old visitor.new }
     {
-        if self.needs_telling(visitor) {
+        if !visitor.heeds_nothing() {
             return self.tell_number(rest, octets, visitor);
         }
         let Some(token) = untold_number(octets) else {
             return self.tell_number(rest, octets, visitor);
         };
         let here = self.place();
-        self.start = self.begun_at(rest.used);
+        let start = self.begun_at(rest.used);
+        let Some(went_on) = self.filter.any_part(visitor) else {
+            return self.tell_number(rest, octets, visitor);
+        };
+        heard(went_on)?;
+        self.start = start;
         *rest = rest.past_token(here, token.kind, token.count);
-        value_took(self.untold_scalar_ended(rest.used, visitor), token.left)
+        value_took(self.ended(rest.used), token.left)
     }
 
     /// A number, which is told: by its parts where it has few digits, so that no number of whatever

@@ -4,10 +4,11 @@ use Rattle.std.specs.Prelude.{◌&&◌, if◌then◌else◌}
 use Rattle.std.specs.List.{flat_map}
 use Rattle.std.proofs.lemmas.Bool.{false≢true}
 use Rattle.std.proofs.lemmas.List.{append-nil, append_assoc, map-append}
-use Rattle.ion_visiting.specs.Names.{Bracket, Built, Event, Kind, Layer, Led, Number, Payload, Payload-F, Table, TableFilter, Value, annotation, builds, closes, events_of, field_events, fresh, is_fields, is_table, is_table_of, layer_events, layer_kind, names_table, number_payload, out-Payload, part, value_in, without_value}
+use Rattle.ion_visiting.specs.Names.{Bracket, Event, Kind, Layer, Led, Number, Payload, Payload-F, Table, TableBuilding, TableFilter, Value, annotation, closes, events_of, field_events, is_fields, is_table, is_table_of, layer_events, layer_kind, names_table, number_payload, out-Payload, part, value_in, without_value}
 use Rattle.ion_model.specs.declared.value.Payload.TheVariants as payloads
 use Rattle.ion_visiting.specs.Tables.{AreKept, Hears, IsTable, LetsPass, Symbols, WasTold, begins_struct, heard, heard_by, is_null_struct, is_of_table, table_after, table_behind, table_by, table_of}
-use Rattle.ion_visiting.specs.laws.Built.{value_built}
+use Rattle.ion_visiting.specs.Skims.{none_yet, pruned, skims}
+use Rattle.ion_visiting.specs.laws.Skims.{value_skimmed}
 use Rattle.ion_visiting.specs.laws.Led.{events_out, led_both, led_more}
 
 -- 1. What is known behind events.
@@ -132,12 +133,12 @@ module _ {V : Type 0} (takes : V → Event → V → Type 0) where
   module _ (es : List Event) (e : Event) where
     -- an event of a table is built
     table_takes : (f g : TableFilter) (a : V) → IsTable f es → g.table ≡ Table.Yes → g.notes ≡ [] → table_behind (table_by es) e ≡ Table.Yes
-        → heard es ≡ [] → builds f.tables e g.tables → WasTold g (es ++ e ∷ []) × Hears takes (heard es) (heard (es ++ e ∷ [])) a a
+        → heard es ≡ [] → skims f.tables e g.tables → WasTold g (es ++ e ∷ []) × Hears takes (heard es) (heard (es ++ e ∷ [])) a a
     table_takes f g a h table notes is none k =
         let by = by_more es e ∙ is in (
           record {
             table = table ∙ sym by;
-            kept = subst (λ t. AreKept t (es ++ e ∷ []) g.notes g.tables) (sym table) (notes, led_more builds es e fresh f.tables g.tables h.built k);
+            kept = subst (λ t. AreKept t (es ++ e ∷ []) g.notes g.tables) (sym table) (notes, led_more skims es e none_yet f.tables g.tables h.built k);
           },
           hears_none (heard es) (heard (es ++ e ∷ [])) a (ap (λ t. heard_by t (es ++ e ∷ [])) by ∙ sym none),
         )
@@ -162,7 +163,7 @@ module _ {V : Type 0} (takes : V → Event → V → Type 0) where
   -- an event of a table, which is begun by it or before it
   pub table_tells : (e : Event) (f mid g : TableFilter) (a : V) → IsOther e → is_of_table f.table (begins_struct e) ≡ true
       → ((es : List Event) → WasTold f es → IsTable mid es × (heard es ≡ [])) → g.table ≡ mid.table → g.notes ≡ mid.notes
-      → builds mid.tables e g.tables
+      → skims mid.tables e g.tables
       → (es : List Event) → WasTold f es → WasTold g (es ++ e ∷ []) × Hears takes (heard es) (heard (es ++ e ∷ [])) a a
   table_tells e f mid g a other test enters table notes k es h =
       let i = enters es h in
@@ -228,7 +229,7 @@ module _ {V : Type 0} (takes : V → Event → V → Type 0) where
 
   -- it is kept
   kept_tells : (s : Option (List ℕ)) (es : List Event) (g : TableFilter) (a : V) → g.table ≡ Table.Noted
-      → table_by (es ++ annotation s ∷ []) ≡ Table.Noted → heard es ≡ [] → es ++ annotation s ∷ [] ≡ map annotation g.notes → g.tables ≡ fresh
+      → table_by (es ++ annotation s ∷ []) ≡ Table.Noted → heard es ≡ [] → es ++ annotation s ∷ [] ≡ map annotation g.notes → g.tables ≡ none_yet
       → WasTold g (es ++ annotation s ∷ []) × Hears takes (heard es) (heard (es ++ annotation s ∷ [])) a a
   kept_tells s es g a table by none notes built = (
     record {
@@ -250,7 +251,7 @@ module _ {V : Type 0} (takes : V → Event → V → Type 0) where
 
   -- it is built, where a table is told
   pub yes_noted : (s : Option (List ℕ)) (f g : TableFilter) (a : V) → f.table ≡ Table.Yes → g.table ≡ f.table → g.notes ≡ f.notes
-      → builds f.tables (annotation s) g.tables
+      → skims f.tables (annotation s) g.tables
       → (es : List Event) → WasTold f es
       → WasTold g (es ++ annotation s ∷ []) × Hears takes (heard es) (heard (es ++ annotation s ∷ [])) a a
   yes_noted s f g a is table notes k es h =
@@ -262,24 +263,31 @@ module _ {V : Type 0} (takes : V → Event → V → Type 0) where
 
 -- 6. The end of a value.
 
+-- what was built is taken out
+abbrev taken_out : TableBuilding → TableBuilding
+taken_out b = record {
+  building = record { notes = b.building.notes; place = without_value b.building.place; outer = b.building.outer };
+  place = b.place;
+}
+
 module _ (v : Value) (f : TableFilter) (h : WasTold f (events_of v)) where
   known : f.table ≡ (if is_table v then Table.Yes else Table.No)
   known = h.table ∙ table_told v
 
-  pub yes_ends : (g : TableFilter) (taken : Option Value) → f.table ≡ Table.Yes → taken ≡ value_in f.tables.place → g.table ≡ Table.Unknown
-      → g.notes ≡ f.notes → g.tables ≡ record { notes = f.tables.notes; place = without_value f.tables.place; outer = f.tables.outer }
+  pub yes_ends : (g : TableFilter) (taken : Option Value) → f.table ≡ Table.Yes → taken ≡ value_in f.tables.building.place → g.table ≡ Table.Unknown
+      → g.notes ≡ f.notes → g.tables ≡ taken_out f.tables
       → (taken ≡ table_of v) × WasTold g []
   yes_ends g taken is value table notes left =
       let k = subst (λ t. AreKept t (events_of v) f.notes f.tables) is h.kept in
-      let whole = value_built v f.tables k.1 in
+      let whole = value_skimmed v f.tables k.1 in
       let yes = yes_where (is_table v) (sym is ∙ known) in (
-        value ∙ (ap (λ (b : Built). value_in b.place) whole ∙ sym (ap (λ x. if x then Some v else None) yes)),
+        value ∙ (ap (λ (b : TableBuilding). value_in b.building.place) whole ∙ sym (ap (λ x. if x then Some (pruned v) else None) yes)),
         record {
           table = table;
           kept = subst (λ t. AreKept t [] g.notes g.tables) (sym table) (
             refl,
             notes ∙ k.0,
-            left ∙ ap (λ (b : Built). record { notes = b.notes; place = without_value b.place; outer = b.outer }) whole,
+            left ∙ ap taken_out whole,
           );
         },
       )
@@ -289,7 +297,7 @@ module _ (v : Value) (f : TableFilter) (h : WasTold f (events_of v)) where
   no_ends g is table notes built =
       let k = subst (λ t. AreKept t (events_of v) f.notes f.tables) is h.kept in
       let no = no_where (is_table v) (sym is ∙ known) in (
-        sym (ap (λ x. if x then Some v else None) no),
+        sym (ap (λ x. if x then Some (pruned v) else None) no),
         record {
           table = table;
           kept = subst (λ t. AreKept t [] g.notes g.tables) (sym table) (refl, notes ∙ k.0, built ∙ k.1);

@@ -6,8 +6,7 @@ use Rattle.ion_binary.specs.Deciding as deciding
 use Rattle.ion_binary.specs.Deciding.{Container, MayBegin, Names}
 use Rattle.ion_binary.specs.machine.Frames as frames
 use Rattle.ion_binary.specs.laws.reading.Complete.{header_some}
-use Rattle.ion_binary.specs.laws.reading.NumberRuns.{InFrames, count_in, id_in, length_in, name_in, purpose_of}
-use Rattle.ion_binary.specs.laws.reading.OpenRuns.{Match, items, named, names, noted, nothing_open, same_levels}
+use Rattle.ion_binary.specs.laws.reading.OpenFrames.{InFrames, Match, count_in, id_in, items, length_in, name_in, named, names, noted, nothing_open, purpose_of, same_levels}
 use Rattle.ion_binary.specs.laws.reading.Stands.{BodyMayEnd, Box, Fitting, InFields, Inside, IsStructOf, NumberBegins, NumberGoing, NumberStands, Opened, Receives}
 
 -- where the frames let a descriptor come, one comes next in the containers

@@ -6,9 +6,8 @@ use Rattle.ion_binary.specs.Deciding as deciding
 use Rattle.ion_binary.specs.Deciding.{Container, Names, Reaches, no_fields, too_long}
 use Rattle.ion_binary.specs.machine.EachOctet as machine
 use Rattle.ion_binary.specs.machine.Frames as frames
-use Rattle.ion_binary.specs.laws.reading.NumberRuns.{InFrames, count_in, id_in, length_in, name_in, purpose_of}
+use Rattle.ion_binary.specs.laws.reading.OpenFrames.{InFrames, Match, count_in, id_in, items, length_in, name_in, named, names, noted, nothing_open, purpose_of, same_levels}
 use Rattle.ion_binary.specs.laws.reading.OnlyReasons.{some_if, some_then}
-use Rattle.ion_binary.specs.laws.reading.OpenRuns.{Match, items, named, names, noted, nothing_open, same_levels}
 
 negative_empty : (c : List Slot) → judge c Scalar.NegativeInt [] ≡ Err Malformed
 unfolding judge

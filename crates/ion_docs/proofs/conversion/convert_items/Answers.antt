@@ -2,7 +2,7 @@ use Rattle.std.proofs.Common.{◌≡◌, ◌++◌, ◌∷◌, [], inr, arith, ru
 use Rattle.std.proofs.lemmas.List.{length-map}
 use Rattle.std.proofs.lemmas.Result.{err_from_is_err_and}
 use Rattle.ion_docs.specs.Names.{ReadSoFar, WasTold, in_reading, plain, so_far, telling}
-use Rattle.ion_streams.proofs.Driven.{driven_on}
+use Rattle.ion_streams.proofs.Driven.{driven_on, told_at_once}
 use Rattle.ion_streams.proofs.Fronts.{gave_told}
 use Rattle.ion_streams.proofs.Steps.{on_err, stood_plain, within_begun}
 use Rattle.ion_streams.proofs.Telling.{told_none, told_some}
@@ -85,6 +85,7 @@ loop-encoder-preserved g c =
       driven = driven_on g.R.Inlet g.I.Items c.args.reads c.args.reader.now c.loop-encoder.reader c.advance_by.new.reader c.loop-encoder.place
           c.advance_by.new.self
           i.driven next.ready next.unasked next.no_read_failed next.within;
+      at_once = told_at_once g.R.Inlet g.I.Items _ _ _ _ _ c.loop-encoder.place d.0 d.1 i.at_once next.sought;
       bound = omega (arith, bound, spent);
       asked = omega (arith, asked, next.few_calls);
       handed = omega (arith, handed, next.few_octets);
@@ -148,3 +149,24 @@ returns-clause-one_end g c =
     each_end g.R.Inlet (telling g.I.Items []) _ _ _ c.advance_by.new.reader c.advance_by.new.self d.0
     (told_none g.E.Visitor.takes g.R.Inlet g.I.Items _ _ _ _ c.advance_by.new.self d.0 c.in_ok-advance_by.field-0 c.loop-encoder.encoder
     c.advance_by.new.visitor c.in_default.is (c.in_ok-advance_by.ensures.tells _ _ _ d.0 d.1))
+
+-- it was asked on while it wasn't refused
+pub returns-in_err-advance_by-clause-at_once : goal.returns-in_err-advance_by-clause-at_once
+returns-in_err-advance_by-clause-at_once g c =
+    let i = c.loop-encoder.invariant in
+    told_at_once g.R.Inlet g.I.Items _ _ _ _ _ c.loop-encoder.place i.done.0 i.done.1 i.at_once c.in_err-advance_by.ensures.sought
+
+pub returns-in_err-hand_over-clause-at_once : goal.returns-in_err-hand_over-clause-at_once
+returns-in_err-hand_over-clause-at_once g c =
+    let i = c.loop-encoder.invariant in
+    told_at_once g.R.Inlet g.I.Items _ _ _ _ _ c.loop-encoder.place i.done.0 i.done.1 i.at_once c.in_ok-advance_by.ensures.sought
+
+pub returns-in_err-finish-clause-at_once : goal.returns-in_err-finish-clause-at_once
+returns-in_err-finish-clause-at_once g c =
+    let i = c.loop-encoder.invariant in
+    told_at_once g.R.Inlet g.I.Items _ _ _ _ _ c.loop-encoder.place i.done.0 i.done.1 i.at_once c.in_ok-advance_by.ensures.sought
+
+pub returns-clause-at_once : goal.returns-clause-at_once
+returns-clause-at_once g c =
+    let i = c.loop-encoder.invariant in
+    told_at_once g.R.Inlet g.I.Items _ _ _ _ _ c.loop-encoder.place i.done.0 i.done.1 i.at_once c.in_ok-advance_by.ensures.sought

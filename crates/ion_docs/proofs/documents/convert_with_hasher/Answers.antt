@@ -40,3 +40,9 @@ returns-in-Text-clause-cause g c =
     let few : c.reads-reads.result ≡ c.unread-items.result.walk.limits.reads = rw c.unread-items.ensures.limits asked in
     let cause = rw few at c.convert_items-in-Text.ensures.cause in
     rw (c.in-Text.is, ← c.unread-items.ensures.catalog, ← c.unread-items.ensures.limits) cause
+
+pub returns-in-Ok-clause-at_once : goal.returns-in-Ok-clause-at_once
+returns-in-Ok-clause-at_once g c = rw (← c.unread-items.ensures.catalog, ← c.unread-items.ensures.limits) c.convert_items.ensures.at_once
+
+pub returns-in-Text-clause-at_once : goal.returns-in-Text-clause-at_once
+returns-in-Text-clause-at_once g c = rw (← c.unread-items.ensures.catalog, ← c.unread-items.ensures.limits) c.convert_items-in-Text.ensures.at_once

@@ -18,6 +18,6 @@ returns-in-None c =
 pub returns : goal.returns
 returns c =
     let e : first_untied c.in_ok-left.left.items c.in_ok-right.right.items ≡ Some c.in_ok-copy-in-Some.field-0 =
-    cc (c.in-Some.ensures, c.in_ok-copy-in-Some.ensures, c.deref.ensures.value, c.deref-2.ensures.value) in
+    cc (c.in-Some.ensures, c.in_ok-copy-in-Some.ensures.copied, c.deref.ensures.value, c.deref-2.ensures.value) in
     some-untied c.args.fs.now c.args.gs.now c.in_ok-left.left.items c.in_ok-right.right.items c.in_ok-copy-in-Some.field-0 c.in_ok-left.ensures
     c.in_ok-right.ensures e

@@ -8,17 +8,27 @@ use Rattle.ion_run.proofs.command.ending_of.Goals as goal
 pub returns-in_ok-source-in-Check-clause-done : goal.returns-in_ok-source-in-Check-clause-done
 returns-in_ok-source-in-Check-clause-done g c =
     rw c.in-Check.is (IfOk-weaker c.checked.result _ _ (λ ending ended.
-    (c.in_ok-source-in-Check.field-0, c.checked.new.reader, c.in_ok-source-in-Check.ensures.given, ended.0, ended.1, ended.2)) c.checked.ensures.ending)
+    (c.in_ok-source-in-Check.field-0, c.checked.new.reader, c.in_ok-source-in-Check.ensures.given, c.checked.ensures.asked, ended.0, ended.1, ended.2))
+    c.checked.ensures.ending)
 
 pub returns-in_ok-source-in-Show-clause-done : goal.returns-in_ok-source-in-Show-clause-done
 returns-in_ok-source-in-Show-clause-done g c =
     rw c.in-Show.is (IfOk-weaker c.shown.result _ _ (λ ending ended.
-    (c.in_ok-source-in-Show.field-0, c.shown.new.reader, c.in_ok-source-in-Show.ensures.given, ended.0, ended.1, ended.2)) c.shown.ensures.ending)
+    (c.in_ok-source-in-Show.field-0, c.shown.new.reader, c.in_ok-source-in-Show.ensures.given, c.shown.ensures.asked, ended.0, ended.1, ended.2))
+    c.shown.ensures.ending)
 
 pub returns-in_ok-source-in-Convert-clause-done : goal.returns-in_ok-source-in-Convert-clause-done
 returns-in_ok-source-in-Convert-clause-done g c =
-    rw c.in-Convert.is (IfOk-weaker c.converted.result _ _ (λ ending ended.
-    (c.in_ok-source-in-Convert.source, c.converted.new.reader, c.in_ok-source-in-Convert.ensures.given, ended.0, ended.1, ended.2, ended.3))
+    rw c.in-Convert.is (IfOk-weaker c.converted.result _ _ (λ ending ended. (
+      c.in_ok-source-in-Convert.source,
+      c.converted.new.reader,
+      c.in_ok-source-in-Convert.ensures.given,
+      c.converted.ensures.asked,
+      ended.0,
+      ended.1,
+      ended.2,
+      ended.3,
+    ))
     c.converted.ensures.ending)
 
 pub returns-in_ok-source-in-Check-clause-stopped : goal.returns-in_ok-source-in-Check-clause-stopped

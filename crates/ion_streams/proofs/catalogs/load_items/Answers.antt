@@ -1,6 +1,6 @@
 use Rattle.std.proofs.Common.{◌≡◌, ℕ, List, [], ◌∷◌, ◌++◌, arith, rules, Ok, Err, ◌∙◌}
-use Rattle.ion_streams.specs.Names.{Value, catalog_of, plain}
-use Rattle.ion_streams.proofs.Driven.{driven_on}
+use Rattle.ion_streams.specs.Names.{DescribeTables, Value, catalog_of, plain}
+use Rattle.ion_streams.proofs.Driven.{asked_behind, driven_on}
 use Rattle.ion_streams.proofs.Loads.{catalog_ok, value_refused}
 use Rattle.ion_streams.proofs.Passes.{gave_none}
 use Rattle.ion_streams.proofs.Steps.{stood_plain, within_begun}
@@ -20,6 +20,7 @@ loop-catalog-preserved g c =
     record {
       driven = driven_on g.R.Inlet g.I.Items c.args.reads c.args.reader.now c.loop-catalog.reader c.advance.new.reader c.loop-catalog.place c.advance.new.self
           i.driven next.ready next.unasked next.no_read_failed next.within;
+      at_once = asked_behind g.R.Inlet g.I.Items DescribeTables _ _ _ _ _ c.loop-catalog.place r.0 r.1 (c.loop-catalog.catalog, r.2) i.at_once next.sought;
       asked = omega (arith, i.asked, next.few_calls);
       handed = omega (arith, i.handed, next.few_octets);
       reads = (
@@ -66,3 +67,28 @@ returns-clause-one_end g c =
     let r = c.loop-catalog.invariant.reads in
     each_end g.R.Inlet g.I.Items _ _ _ c.advance.new.reader c.advance.new.self r.0
     (gave_none g.R.Inlet g.I.Items _ _ _ _ c.advance.new.self r.0 c.in_ok-value.field-0 c.in_default.is (c.in_ok-value.ensures.gives _ _ _ r.0 r.1))
+
+-- it was asked on while each value described a table
+pub returns-in_err-value-clause-at_once : goal.returns-in_err-value-clause-at_once
+returns-in_err-value-clause-at_once g c =
+    let i = c.loop-catalog.invariant in
+    let r = i.reads in
+    asked_behind g.R.Inlet g.I.Items DescribeTables _ _ _ _ _ c.loop-catalog.place r.0 r.1 (c.loop-catalog.catalog, r.2) i.at_once c.in_err-value.ensures.sought
+
+pub returns-in_err-refusal-clause-at_once : goal.returns-in_err-refusal-clause-at_once
+returns-in_err-refusal-clause-at_once g c =
+    let i = c.loop-catalog.invariant in
+    let r = i.reads in
+    asked_behind g.R.Inlet g.I.Items DescribeTables _ _ _ _ _ c.loop-catalog.place r.0 r.1 (c.loop-catalog.catalog, r.2) i.at_once c.in_ok-value.ensures.sought
+
+pub returns-in-Err-clause-at_once : goal.returns-in-Err-clause-at_once
+returns-in-Err-clause-at_once g c =
+    let i = c.loop-catalog.invariant in
+    let r = i.reads in
+    asked_behind g.R.Inlet g.I.Items DescribeTables _ _ _ _ _ c.loop-catalog.place r.0 r.1 (c.loop-catalog.catalog, r.2) i.at_once c.in_ok-value.ensures.sought
+
+pub returns-clause-at_once : goal.returns-clause-at_once
+returns-clause-at_once g c =
+    let i = c.loop-catalog.invariant in
+    let r = i.reads in
+    asked_behind g.R.Inlet g.I.Items DescribeTables _ _ _ _ _ c.loop-catalog.place r.0 r.1 (c.loop-catalog.catalog, r.2) i.at_once c.in_ok-value.ensures.sought

@@ -57,12 +57,22 @@ returns-clause-verdict g c =
 pub returns-clause-in_turn : goal.returns-clause-in_turn
 returns-clause-in_turn g c =
     let at = (goal.at.returns-clause-in_turn g c).In_ok-right_source in
-    (c.compare_places-verdict.ensures.asked _ _ _ _ (left_begun g at) (right_begun g at)).0
+    (c.compare_places-verdict.ensures.asked _ _ _ _ (left_begun g at) (right_begun g at)).in_turn
+
+pub returns-clause-left_in_turn : goal.returns-clause-left_in_turn
+returns-clause-left_in_turn g c =
+    let at = (goal.at.returns-clause-left_in_turn g c).In_ok-right_source in
+    (c.compare_places-verdict.ensures.asked _ _ _ _ (left_begun g at) (right_begun g at)).left_in_turn
+
+pub returns-clause-at_once : goal.returns-clause-at_once
+returns-clause-at_once g c =
+    let at = (goal.at.returns-clause-at_once g c).In_ok-right_source in
+    (c.compare_places-verdict.ensures.asked _ _ _ _ (left_begun g at) (right_begun g at)).at_once
 
 pub returns-clause-one_end : goal.returns-clause-one_end
 returns-clause-one_end g c =
     let at = (goal.at.returns-clause-one_end g c).In_ok-right_source in
-    (c.compare_places-verdict.ensures.asked _ _ _ _ (left_begun g at) (right_begun g at)).1
+    (c.compare_places-verdict.ensures.asked _ _ _ _ (left_begun g at) (right_begun g at)).one_end
 
 pub returns-clause-cause : goal.returns-clause-cause
 returns-clause-cause g c =

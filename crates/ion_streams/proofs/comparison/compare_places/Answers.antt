@@ -1,33 +1,47 @@
 use Rattle.std.proofs.Common.{rules, ◌++◌, List, [], inl, inr, arith, subst, option_to_list}
 use Rattle.ion_streams.specs.Names.{Catalog, Led, Limits, ReadState, Stood, TellsSecond, Twin, Value, events_of, tapes, telling}
 use Rattle.ion_streams.proofs.Courses.{Meets, closed_verdict, false_case, left_refused, true_case, works_less}
-use Rattle.ion_streams.proofs.SideBySide.{both_in_turn, both_met, closed_kept, left_goes, left_in_turn, ready_told, right_goes, told_so_far, told_with_next}
+use Rattle.ion_streams.proofs.SideBySide.{Promised, both_met, closed_kept, left_are_asked, left_goes, ready_told, right_goes, told_so_far, told_with_next}
 use Rattle.ion_streams.proofs.Taping.{on_tapes}
-use Rattle.ion_streams.proofs.Turns.{Turn, in_turn, left_failed, right_on, so_far_end, stood_end}
+use Rattle.ion_streams.proofs.Turns.{Turn, are_asked, at_once_on, in_turn, left_failed, left_read, left_turn, right_failed, right_on, so_far_end, stood_end}
 use Rattle.ion_streams.proofs.Unfailed.{heard_alone, stands_heard}
 use Rattle.ion_streams.proofs.comparison.compare_places.Given.{Over}
 use Rattle.ion_streams.proofs.comparison.compare_places.Goals.{In_ok-meet, else-not-is_open-via-else-not-is_open, else-not-is_open-via-then-not-is_open+else-not-is_open-2}
 use Rattle.ion_streams.proofs.comparison.compare_places.Goals as goal
 
+left_kept : (g : Over) → Promised g.I.Items
+left_kept g = record { settled = g.met.I.Items.settled; has_told = g.met.I.Items.has_told }
+
+right_kept : (g : Over) → Promised g.J.Items
+right_kept g = record { settled = g.met.J.Items.settled; has_told = g.met.J.Items.has_told }
+
 -- The left can't be read on.
 
 pub returns-in_err-found-clause-asked : goal.returns-in_err-found-clause-asked
 returns-in_err-found-clause-asked g c = λ a b k l h h'.
-    let w = c.loop-tapes.invariant.stood a b k l h h' in
+    let p = c.loop-tapes in
+    let w = p.invariant.stood a b k l h h' in
     let e = c.in_err-found.ensures in
-    let kept = e.kept a k c.args.left.now w.0 w.2 in (
-      left_failed g.L.Inlet g.R.Inlet (telling g.I.Items []) (telling g.J.Items []) a b k l _ _ (g.met.I.Items.settled a k) _ _ _ _ _ _ (λ no. absurd cc)
-          e.closed e.grew w.5.asked,
-      (so_far_end g.L.Inlet (telling g.I.Items kept.0) a k _ _ w.0 kept.1, stood_end g.R.Inlet (telling g.J.Items []) b l _ _ _ w.1 w.3),
-    )
+    let kept = e.kept a k c.args.left.now w.0 w.2 in
+    let for_next = e.sought a k c.args.left.now w.0 w.2 in
+    record {
+      in_turn = left_failed g.L.Inlet g.R.Inlet (telling g.I.Items []) (telling g.J.Items []) a b k l _ _ (g.met.I.Items.settled a k) _ _ _ _ _ _
+          (λ no. absurd cc) e.closed e.grew w.5.asked;
+      left_in_turn = left_turn g.L.Inlet g.R.Inlet (telling g.I.Items []) (telling g.J.Items []) a b k l _ _ p.right_place _ _ w.1 w.3
+          (left_read g.L.Inlet g.R.Inlet (telling g.I.Items []) (telling g.J.Items []) a b k l _ _ (g.met.J.Items.settled b l)
+          (told_so_far g.J.Items (right_kept g)) (told_with_next g.J.Items (right_kept g)) p.right_place _ _ _ w.0 w.1 w.3
+          (ready_told g.J.Items p.right_place p.invariant.right_ready) w.5.right_level for_next w.5.left_asked);
+      at_once = (at_once_on g.L.Inlet _ _ _ _ _ w.5.at_once.0 for_next, w.5.at_once.1);
+      one_end = (so_far_end g.L.Inlet (telling g.I.Items kept.0) a k _ _ w.0 kept.1, stood_end g.R.Inlet (telling g.J.Items []) b l _ _ _ w.1 w.3);
+    }
 
 -- The left is refused.
 
 pub returns-in-Refused-clause-verdict : goal.returns-in-Refused-clause-verdict
 returns-in-Refused-clause-verdict g c = λ a b k l h h'.
     let e = c.in_ok-found.ensures in
-    let x = left_goes g.L.Inlet g.R.Inlet g.I.Items g.J.Items _ _ _ _ g.met.I.Items.settled _ _ _ _ _ _ _ _ c.in_ok-found.found c.loop-tapes.invariant
-    e.closed e.tells e.none e.grew a b k l h h' in
+    let x = left_goes g.L.Inlet g.R.Inlet g.I.Items g.J.Items _ _ _ _ (left_kept g) (right_kept g) _ _ _ _ _ _ _ _ c.in_ok-found.found c.loop-tapes.invariant
+    e.closed e.tells e.none e.grew e.sought a b k l h h' in
     let s = x.s ++ option_to_list x.next.value in
     left_refused g.L.Inlet (telling g.I.Items []) g.R.Inlet (telling g.J.Items []) a b k l _ _ _ _ c.loop-tapes.right_place s x.t c.in-Refused.refusal
     (subst (λ (y : ReadState _). Stood g.L.Inlet (telling g.I.Items []) a k c.args.left.now c.read_next.new.reader y s) c.in-Refused.is x.next.stood)
@@ -36,38 +50,43 @@ returns-in-Refused-clause-verdict g c = λ a b k l h h'.
 pub returns-in-Refused-clause-asked : goal.returns-in-Refused-clause-asked
 returns-in-Refused-clause-asked g c = λ a b k l h h'.
     let e = c.in_ok-found.ensures in
-    left_in_turn _ _ _ _ _ _ _ _ (left_goes g.L.Inlet g.R.Inlet g.I.Items g.J.Items _ _ _ _ g.met.I.Items.settled _ _ _ _ _ _ _ _ c.in_ok-found.found
-    c.loop-tapes.invariant e.closed e.tells e.none e.grew a b k l h h')
+    left_are_asked _ _ _ _ _ _ _ _ (left_goes g.L.Inlet g.R.Inlet g.I.Items g.J.Items _ _ _ _ (left_kept g) (right_kept g) _ _ _ _ _ _ _ _ c.in_ok-found.found
+    c.loop-tapes.invariant e.closed e.tells e.none e.grew e.sought a b k l h h')
 
 -- The right can't be read on.
 
 pub returns-in_err-other-clause-asked : goal.returns-in_err-other-clause-asked
 returns-in_err-other-clause-asked g c = λ a b k l h h'.
     let e = c.in_ok-found.ensures in
-    let x = left_goes g.L.Inlet g.R.Inlet g.I.Items g.J.Items _ _ _ _ g.met.I.Items.settled _ _ _ _ _ _ _ _ c.in_ok-found.found c.loop-tapes.invariant
-    e.closed e.tells e.none e.grew a b k l h h' in
+    let x = left_goes g.L.Inlet g.R.Inlet g.I.Items g.J.Items _ _ _ _ (left_kept g) (right_kept g) _ _ _ _ _ _ _ _ c.in_ok-found.found c.loop-tapes.invariant
+    e.closed e.tells e.none e.grew e.sought a b k l h h' in
     let r = c.in_err-other.ensures in
-    let told = g.met.I.Items.has_told in
     let place = c.read_next.new.place in
-    let kept = r.kept b l c.args.right.now x.t x.right_stood in (
-      in_turn g.L.Inlet g.R.Inlet (telling g.I.Items []) (telling g.J.Items []) a b k l _ _ place _ _ _ x.next.stood
-          (right_on g.L.Inlet g.R.Inlet (telling g.I.Items []) (telling g.J.Items []) a b k l _ _ (g.met.I.Items.settled a k) (told_so_far g.I.Items told)
-          (told_with_next g.I.Items told) place _ _ _ _ x.t x.next.stood (ready_told g.I.Items place e.ready) c.in_default.not-Refused x.ahead
-          (r.sought b l c.args.right.now x.t x.right_stood) x.asked),
-      (stood_end g.L.Inlet (telling g.I.Items []) a k _ _ place _ x.next.stood, so_far_end g.R.Inlet (telling g.J.Items kept.0) b l _ _ x.t kept.1),
-    )
+    let kept = r.kept b l c.args.right.now x.t x.right_stood in
+    let for_next = r.sought b l c.args.right.now x.t x.right_stood in
+    record {
+      in_turn = in_turn g.L.Inlet g.R.Inlet (telling g.I.Items []) (telling g.J.Items []) a b k l _ _ place _ _ _ x.next.stood
+          (right_on g.L.Inlet g.R.Inlet (telling g.I.Items []) (telling g.J.Items []) a b k l _ _ (g.met.I.Items.settled a k)
+          (told_so_far g.I.Items (left_kept g)) (told_with_next g.I.Items (left_kept g)) place _ _ _ _ x.t x.next.stood
+          (ready_told g.I.Items place e.ready) c.in_default.not-Refused x.ahead for_next x.asked);
+      left_in_turn = right_failed g.L.Inlet g.R.Inlet (telling g.I.Items []) (telling g.J.Items []) a b k l _ _ (g.met.J.Items.settled b l) _ _ _ _ _ _
+          (λ no. absurd cc) r.closed r.grew x.left_asked;
+      at_once = (x.at_once.0, at_once_on g.R.Inlet _ _ _ _ _ x.at_once.1 for_next);
+      one_end = (stood_end g.L.Inlet (telling g.I.Items []) a k _ _ place _ x.next.stood, so_far_end g.R.Inlet (telling g.J.Items kept.0) b l _ _ x.t kept.1);
+    }
 
 -- Both were read on, and what they gave can't be compared.
 
 pub returns-in_err-meet-clause-asked : goal.returns-in_err-meet-clause-asked
 returns-in_err-meet-clause-asked g c = λ a b k l h h'.
     let e = c.in_ok-found.ensures in
-    let x = left_goes g.L.Inlet g.R.Inlet g.I.Items g.J.Items _ _ _ _ g.met.I.Items.settled _ _ _ _ _ _ _ _ c.in_ok-found.found c.loop-tapes.invariant
-    e.closed e.tells e.none e.grew a b k l h h' in
+    let x = left_goes g.L.Inlet g.R.Inlet g.I.Items g.J.Items _ _ _ _ (left_kept g) (right_kept g) _ _ _ _ _ _ _ _ c.in_ok-found.found c.loop-tapes.invariant
+    e.closed e.tells e.none e.grew e.sought a b k l h h' in
     let r = c.in_ok-other.ensures in
-    let told = g.met.I.Items.has_told in
-    both_in_turn _ _ _ _ _ _ _ _ x (right_goes g.L.Inlet g.R.Inlet g.I.Items g.J.Items _ _ _ _ g.met.I.Items.settled (told_so_far g.I.Items told)
-    (told_with_next g.I.Items told) _ _ _ _ _ _ _ _ _ _ _ c.in_ok-other.other e.ready c.in_default.not-Refused r.closed r.tells r.sought a b k l x)
+    let y = right_goes g.L.Inlet g.R.Inlet g.I.Items g.J.Items _ _ _ _ (left_kept g) (right_kept g) _ _ _ _ _ _ _ _ _ _ _ c.in_ok-other.other e.ready
+    c.in_default.not-Refused r.closed r.tells r.none r.grew r.sought a b k l x in
+    are_asked g.L.Inlet g.R.Inlet (telling g.I.Items []) (telling g.J.Items []) a b k l _ _ c.read_next.new.place c.read_next-in-loop-tapes.new.place _ _ _ _
+    x.next.stood y.next.stood y.turn
 
 -- Both were read on, and compared.
 
@@ -78,17 +97,16 @@ both_stood : (g : Over) (c : In_ok-meet g) (a b : Catalog) (k l : Limits)
     × Stood g.R.Inlet (telling g.J.Items []) b l c.args.right.now c.read_next-in-loop-tapes.new.reader c.read_next-in-loop-tapes.new.place t
     × Meets c.meet.new.self c.read_next.new.place c.read_next-in-loop-tapes.new.place s t
     × Turn g.L.Inlet g.R.Inlet (telling g.I.Items []) (telling g.J.Items []) a b k l c.args.left.now c.args.right.now c.read_next.new.place
-    c.read_next.new.reader c.read_next-in-loop-tapes.new.reader s t
+    c.read_next-in-loop-tapes.new.place c.read_next.new.reader c.read_next-in-loop-tapes.new.reader s t
 both_stood g c a b k l h h' =
     let e = c.in_ok-found.ensures in
-    let x = left_goes g.L.Inlet g.R.Inlet g.I.Items g.J.Items _ _ _ _ g.met.I.Items.settled _ _ _ _ _ _ _ _ c.in_ok-found.found c.loop-tapes.invariant
-    e.closed e.tells e.none e.grew a b k l h h' in
+    let x = left_goes g.L.Inlet g.R.Inlet g.I.Items g.J.Items _ _ _ _ (left_kept g) (right_kept g) _ _ _ _ _ _ _ _ c.in_ok-found.found c.loop-tapes.invariant
+    e.closed e.tells e.none e.grew e.sought a b k l h h' in
     let r = c.in_ok-other.ensures in
-    let told = g.met.I.Items.has_told in
-    let y = right_goes g.L.Inlet g.R.Inlet g.I.Items g.J.Items _ _ _ _ g.met.I.Items.settled (told_so_far g.I.Items told) (told_with_next g.I.Items told)
-    _ _ _ _ _ _ _ _ _ _ _ c.in_ok-other.other e.ready c.in_default.not-Refused r.closed r.tells r.sought a b k l x in
+    let y = right_goes g.L.Inlet g.R.Inlet g.I.Items g.J.Items _ _ _ _ (left_kept g) (right_kept g) _ _ _ _ _ _ _ _ _ _ _ c.in_ok-other.other e.ready
+    c.in_default.not-Refused r.closed r.tells r.none r.grew r.sought a b k l x in
     let begun : Twin = record c.clear.new.self { first = c.read_next.new.visitor } in
-    let met = both_met g.L.Inlet g.R.Inlet g.I.Items g.J.Items _ _ _ _ g.met.I.Items.settled c.loop-tapes.course c.meet.new.self _ _ _ _ _ _ _ _
+    let met = both_met g.L.Inlet g.R.Inlet g.I.Items g.J.Items _ _ _ _ (left_kept g) (right_kept g) c.loop-tapes.course c.meet.new.self _ _ _ _ _ _ _ _
     c.compares-compared.result (λ v. Led tapes (events_of v) c.clear.new.self.first c.read_next.new.visitor)
     (λ w. Led TellsSecond (events_of w) begun c.read_next-in-loop-tapes.new.visitor) c.in_ok-found.found c.in_ok-other.other _ _ c.compares-compared.ensures
     (λ v w is_v is_w held. c.in_ok-meet.ensures.met v w is_v is_w (on_tapes c.loop-tapes.course _ begun _ v w c.clear.ensures.first
@@ -106,10 +124,9 @@ returns-then-not-is_open-2-clause-verdict g c = λ a b k l h h'.
 
 pub returns-then-not-is_open-2-clause-asked : goal.returns-then-not-is_open-2-clause-asked
 returns-then-not-is_open-2-clause-asked g c = λ a b k l h h'.
-    let w = both_stood g (goal.at.returns-then-not-is_open-2-clause-asked g c).In_ok-meet a b k l h h' in (
-      in_turn g.L.Inlet g.R.Inlet (telling g.I.Items []) (telling g.J.Items []) a b k l _ _ _ _ _ w.0 w.2 w.5.asked,
-      (stood_end g.L.Inlet (telling g.I.Items []) a k _ _ _ w.0 w.2, stood_end g.R.Inlet (telling g.J.Items []) b l _ _ _ w.1 w.3),
-    )
+    let w = both_stood g (goal.at.returns-then-not-is_open-2-clause-asked g c).In_ok-meet a b k l h h' in
+    are_asked g.L.Inlet g.R.Inlet (telling g.I.Items []) (telling g.J.Items []) a b k l _ _ c.read_next.new.place c.read_next-in-loop-tapes.new.place _ _ _ _
+    w.2 w.3 w.5
 
 pub loop-tapes-preserved : goal.loop-tapes-preserved
 loop-tapes-preserved g c =

@@ -1,14 +1,14 @@
 use Rattle.std.proofs.Common.{◌≡◌, ◌+◌, ◌++◌, ◌∷◌, [], refl, length, length-append, arith, sym, ◌∙◌, ℕ, List}
-use Rattle.ion_streams.specs.Names.{AtOneEnd, StoodEach, Value, in_reading, line_of, lines_of, outlines, plain, telling}
+use Rattle.ion_streams.specs.Names.{AtOnce, AtOneEnd, StoodEach, Value, format_of, in_reading, line_of, lines_of, outlines, plain, telling}
 use Rattle.ion_symtab.specs.laws.Took.{Front-all, Front-behind, Took-kept, Took-nil, Took-trans}
-use Rattle.ion_streams.proofs.Driven.{driven_on}
+use Rattle.ion_streams.proofs.Driven.{driven_on, told_at_once}
 use Rattle.ion_streams.proofs.Fronts.{gave_told, line_next, so_far}
 use Rattle.ion_streams.proofs.Shown.{outlined_next, shown_err, shown_ok, shows_ok}
 use Rattle.ion_streams.proofs.Steps.{on_err, stood_plain}
 use Rattle.ion_streams.proofs.Telling.{told_none}
 use Rattle.ion_streams.proofs.Turns.{each_end, so_far_end}
 use Rattle.ion_streams.proofs.listing.show_items.Given.{Over}
-use Rattle.ion_streams.proofs.listing.show_items.Goals.{After-take, In_default, in-Err+in_ok-flushed-in-Err, in-Ok+in_ok-write_accepted-in-Ok}
+use Rattle.ion_streams.proofs.listing.show_items.Goals.{After-take, In_default, In_ok-advance_by, in-Err+in_ok-flushed-in-Err, in-Ok+in_ok-write_accepted-in-Ok}
 use Rattle.ion_streams.proofs.listing.show_items.Goals as goal
 
 -- One more was told, and its line stands behind those before.
@@ -59,6 +59,7 @@ loop-text-preserved g c =
     record {
       driven = driven_on g.R.Inlet g.I.Items c.args.reads _ _ _ c.loop-text.place c.advance_by.new.self i.driven next.ready next.unasked
           next.no_read_failed next.within;
+      at_once = told_at_once g.R.Inlet g.I.Items _ _ _ _ _ c.loop-text.place i.reads.0 i.reads.1 i.at_once next.sought;
       fresh = c.take.ensures.anew;
       bound = omega (arith, i.bound, spent);
       asked = omega (arith, i.asked, next.few_calls);
@@ -118,3 +119,27 @@ returns-in_err-flushed-in-Err-clause-one_end g c = one_end g (goal.at.returns-in
 
 pub returns-clause-one_end : goal.returns-clause-one_end
 returns-clause-one_end g c = one_end g (goal.at.returns-clause-one_end g c).In_default
+
+-- it was asked on while it wasn't refused
+at_once : (g : Over) (c : In_ok-advance_by g) → AtOnce g.R.Inlet (format_of g.I.Items (g.I.Items.catalog c.args.items) (g.I.Items.limits c.args.items))
+    c.args.reader.now c.advance_by.new.reader
+at_once g c =
+    let i = c.loop-text.invariant in
+    told_at_once g.R.Inlet g.I.Items _ _ _ _ _ c.loop-text.place i.reads.0 i.reads.1 i.at_once c.in_ok-advance_by.ensures.sought
+
+pub returns-in_err-advance_by-clause-at_once : goal.returns-in_err-advance_by-clause-at_once
+returns-in_err-advance_by-clause-at_once g c =
+    let i = c.loop-text.invariant in
+    told_at_once g.R.Inlet g.I.Items _ _ _ _ _ c.loop-text.place i.reads.0 i.reads.1 i.at_once c.in_err-advance_by.ensures.sought
+
+pub returns-in_err-write_line-clause-at_once : goal.returns-in_err-write_line-clause-at_once
+returns-in_err-write_line-clause-at_once g c = at_once g (goal.at.returns-in_err-write_line-clause-at_once g c).In_ok-advance_by
+
+pub returns-in_err-write_accepted-in-Ok-clause-at_once : goal.returns-in_err-write_accepted-in-Ok-clause-at_once
+returns-in_err-write_accepted-in-Ok-clause-at_once g c = at_once g (goal.at.returns-in_err-write_accepted-in-Ok-clause-at_once g c).In_ok-advance_by
+
+pub returns-in_err-flushed-in-Err-clause-at_once : goal.returns-in_err-flushed-in-Err-clause-at_once
+returns-in_err-flushed-in-Err-clause-at_once g c = at_once g (goal.at.returns-in_err-flushed-in-Err-clause-at_once g c).In_ok-advance_by
+
+pub returns-clause-at_once : goal.returns-clause-at_once
+returns-clause-at_once g c = at_once g (goal.at.returns-clause-at_once g c).In_ok-advance_by

@@ -1,4 +1,4 @@
-use Rattle.ion_text.proofs.TextTold.{value_told, values_told}
+use Rattle.ion_spelling.specs.laws.TextTold.{value_told, values_told}
 use Rattle.ion_text.proofs.laws.text_told.Goals as goal
 
 pub returns-clause-value : goal.returns-clause-value

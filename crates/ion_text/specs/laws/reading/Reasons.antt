@@ -3,7 +3,7 @@ use Rattle.std.proofs.Common.{◌≡◌, ℕ, zero, suc, ◌+◌, nat_lt, List, 
 use Rattle.std.specs.Prelude.{◌==◌}
 use Rattle.ion_text.specs.laws.reading.Effects.{noticed_each, said_each}
 use Rattle.std.proofs.lemmas.Bool.{cond_both}
-use Rattle.ion_text.specs.Names.{HasRow, Catalog, Content, Effect, End, Frame, Given, IsBody, IsWordBody, Keep, Kind, Known, Left, Lexeme, Limits, Mode, Next, Stage, Outcome, Place, Reading, ReadsNumber, Reason, Refusal, Refused, Run, Spot, State, Token, TokenKind, Turn, Value, at_end, begun, behind_given, behind_left, cut_short, eats, end_late, end_now, end_of, end_ready, end_said, end_settled, end_turned, end_waiting, ends_at, ends_of, fails, feed, follow, gives, goes, id_of, is_fresh, is_sexp, kind_named, late, leaves, lesser, noticed, null_of, on_scan, on_settled, once_more, or_worse, place, reason_number, refused_of, refuses, run, run_on, said, says, settle, takes, tells, token_of, trace, turn, under, unsettled, uses, with_scan}
+use Rattle.ion_text.specs.Names.{Catalog, Content, Effect, End, Frame, Given, IsBody, IsWordBody, Keep, Kind, Known, Left, Lexeme, Limits, Mode, Next, Outcome, Place, Reading, ReadsNumber, Reason, Refusal, Refused, Run, Spot, Stage, State, Token, TokenKind, Turn, Value, at_end, begun, behind_given, behind_left, cut_short, eats, end_late, end_now, end_of, end_ready, end_said, end_settled, end_turned, end_waiting, ends_at, ends_of, fails, feed, follow, gives, goes, id_of, is_fresh, is_sexp, kind_named, late, leaves, lesser, noticed, null_of, on_scan, on_settled, once_more, or_worse, place, reason_number, refused_of, refuses, run, run_on, said, says, settle, takes, tells, token_of, trace, turn, under, unsettled, uses, with_scan}
 use Rattle.ion_tokens.proofs.bounds.Causes.{IsFair, run_fair}
 use Rattle.ion_tokens.proofs.bounds.Fits.{is_octet_reason}
 use Rattle.ion_symtab.specs.Decided.{IsDecided}
@@ -14,17 +14,37 @@ TurnDecides (refuses e) = IsDecided e
 TurnDecides (late e r) = IsDecided e
 TurnDecides _ = Unit {0}
 
--- What a scanner refuses for, and what a token that says nothing is refused for: octets decide it, and no row of the table has it.
+-- what a scanner refuses for, and what a token that says nothing is refused for
 abbrev pub IsLexical : Reason → Type 0
-IsLexical e = IsDecided e × (HasRow e → ⊥)
+IsLexical Reason.Float = Unit {0}
+IsLexical Reason.BadEscape = Unit {0}
+IsLexical Reason.BadUtf8 = Unit {0}
+IsLexical Reason.BadBase64 = Unit {0}
+IsLexical Reason.Ambiguous = Unit {0}
+IsLexical Reason.Unexpected = Unit {0}
+IsLexical Reason.TooLarge = Unit {0}
+IsLexical Reason.Malformed = Unit {0}
+IsLexical _ = ⊥
+
+-- octets decide it
+lexical_decided : (e : Reason) → IsLexical e → IsDecided e
+lexical_decided Reason.Float h = tt
+lexical_decided Reason.BadEscape h = tt
+lexical_decided Reason.BadUtf8 h = tt
+lexical_decided Reason.BadBase64 h = tt
+lexical_decided Reason.Ambiguous h = tt
+lexical_decided Reason.Unexpected h = tt
+lexical_decided Reason.TooLarge h = tt
+lexical_decided Reason.Malformed h = tt
+lexical_decided _ h = absurd h
 
 octet_lexical : (e : Reason) → is_octet_reason e ≡ true → IsLexical e
-octet_lexical Reason.Float h = (tt, λ i. i)
-octet_lexical Reason.BadEscape h = (tt, λ i. i)
-octet_lexical Reason.BadUtf8 h = (tt, λ i. i)
-octet_lexical Reason.BadBase64 h = (tt, λ i. i)
-octet_lexical Reason.Ambiguous h = (tt, λ i. i)
-octet_lexical Reason.Unexpected h = (tt, λ i. i)
+octet_lexical Reason.Float h = tt
+octet_lexical Reason.BadEscape h = tt
+octet_lexical Reason.BadUtf8 h = tt
+octet_lexical Reason.BadBase64 h = tt
+octet_lexical Reason.Ambiguous h = tt
+octet_lexical Reason.Unexpected h = tt
 octet_lexical _ h = absurd cc
 
 fair_reason : (n : ℕ) (e : Reason) → IsFair (Refused n e) → is_octet_reason e ≡ true
@@ -36,17 +56,17 @@ pub feed_lexical : (p : Place) (s : Known) (o n : ℕ) (e : Reason) → feed p s
 feed_lexical p s o n e h = octet_lexical e (fair_reason n e (subst IsFair (ap (λ y. follow y (λ t. Next t)) h) (run_fair p (o ∷ []) s)))
 
 number_lexical : (octets : List ℕ) (e : Reason) → ReadsNumber octets (Err e) → IsLexical e
-number_lexical octets Reason.TooLarge h = (tt, λ i. i)
-number_lexical octets Reason.Malformed h = (tt, λ i. i)
-number_lexical octets Reason.Float h = (tt, λ i. i)
+number_lexical octets Reason.TooLarge h = tt
+number_lexical octets Reason.Malformed h = tt
+number_lexical octets Reason.Float h = tt
 number_lexical octets _ h = absurd h
 
 word_lexical : (octets : List ℕ) (id : Option ℕ) (e : Reason) → IsWordBody octets id (Err e) → IsLexical e
-word_lexical octets None e h = subst IsLexical (sym h.0) (tt, λ i. i)
+word_lexical octets None e h = subst IsLexical (sym h.0) tt
 word_lexical octets (Some id) e h = absurd cc
 
 null_lexical : (kind : Option Kind) (e : Reason) → Err e ≡ null_of kind → IsLexical e
-null_lexical None e h = let k : Reason.Malformed ≡ e = cc in subst IsLexical k (tt, λ i. i)
+null_lexical None e h = let k : Reason.Malformed ≡ e = cc in subst IsLexical k tt
 null_lexical (Some kind) e h = absurd cc
 
 body_lexical : (k : TokenKind) (octets : List ℕ) (e : Reason) → IsBody k octets (Err e) → IsLexical e
@@ -56,7 +76,7 @@ body_lexical TokenKind.Number octets e h = number_lexical octets e h
 body_lexical TokenKind.Clob octets e h = absurd cc
 body_lexical TokenKind.Blob octets e h = absurd cc
 body_lexical (TokenKind.Mark m) octets e h = absurd cc
-body_lexical _ octets e h = subst IsLexical (sym h.0) (tt, λ i. i)
+body_lexical _ octets e h = subst IsLexical (sym h.0) tt
 
 -- so is what a token that says nothing is refused for
 pub said_lexical : (k : TokenKind) (octets : List ℕ) (e : Reason) → said k octets ≡ Err e → IsLexical e
@@ -120,10 +140,10 @@ module _ (g : Catalog) (l : Limits) where
       → EffectDecides (on_scan g l again r x)
   scan_decides again p s o r (Next t) e f = noticed_decides r t
   scan_decides again p s o r (Given x t) e f = said_each EffectDecides (said x.kind x.octets) _
-      (λ c k. given_decides t (turn g l r (token_of x c)) (turn_decides r (token_of x c))) (λ e i. (said_lexical x.kind x.octets e i).0)
+      (λ c k. given_decides t (turn g l r (token_of x c)) (turn_decides r (token_of x c))) (λ e i. lexical_decided e (said_lexical x.kind x.octets e i))
   scan_decides again p s o r (Left x t) e f = said_each EffectDecides (said x.kind x.octets) _
-      (λ c k. left_decides again t (turn g l r (token_of x c)) f (turn_decides r (token_of x c))) (λ e i. (said_lexical x.kind x.octets e i).0)
-  scan_decides again p s o r (Refused n y) e f = (feed_lexical p s o n y e).0
+      (λ c k. left_decides again t (turn g l r (token_of x c)) f (turn_decides r (token_of x c))) (λ e i. lexical_decided e (said_lexical x.kind x.octets e i))
+  scan_decides again p s o r (Refused n y) e f = lexical_decided y (feed_lexical p s o n y e)
 
   settled_decides : (again : State → Effect) (p : Place) (s : Known) (o : ℕ) (t : Turn) → TurnDecides t → ((m : State) → EffectDecides (again m))
       → EffectDecides (on_settled g l again s (feed p s o) t)
@@ -243,7 +263,7 @@ module _ (g : Catalog) (l : Limits) where
   ready_ends : (used : ℕ) (r : Reading) (x : Result (Option Lexeme) Reason) → EndsWell x → AnswersAtEnd (end_ready g l used r x)
   unfolding EndsWell
   ready_ends used r (Ok None) h = fresh_ends used (is_fresh r)
-  ready_ends used r (Ok (Some x)) h = said_ends used r x (said x.kind x.octets) (λ e i. (said_lexical x.kind x.octets e i).0)
+  ready_ends used r (Ok (Some x)) h = said_ends used r x (said x.kind x.octets) (λ e i. lexical_decided e (said_lexical x.kind x.octets e i))
   ready_ends used r (Err e) h = h
 
   ends_decide : (used : ℕ) (r : Reading) (x : Result (Option Lexeme) Reason) (n : Stage) → EndsWell x → AnswersAtEnd (end_now g l used r x n)

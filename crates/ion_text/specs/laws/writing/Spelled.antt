@@ -11,7 +11,7 @@ use Rattle.ion_tokens.specs.Lexemes.{begins}
 use Rattle.ion_tokens.specs.laws.Blobs.{base64_each}
 use Rattle.ion_tokens.specs.laws.Numerals.{numeric_run}
 use Rattle.ion_text.specs.Grammar.{is_quoted}
-use Rattle.ion_text.specs.laws.writing.Quoted.{clob_quoted, string_between, symbol_between, text_quoted}
+use Rattle.ion_spelling.specs.laws.Quoted.{clob_quoted, string_between, symbol_between, text_quoted}
 
 -- 1. What may follow.
 

@@ -12,7 +12,7 @@ use Rattle.ion_scalar.specs.text.laws.TimestampTexts.{timestamp_reads}
 use Rattle.ion_tokens.specs.Lexemes.{begins}
 use Rattle.ion_tokens.specs.laws.Numerals.{numeric_run}
 use Rattle.ion_text.specs.Grammar.{is_sexp}
-use Rattle.ion_text.specs.laws.writing.Output.{text-out}
+use Rattle.ion_spelling.specs.laws.Output.{text-out}
 use Rattle.ion_text.specs.laws.writing.Spelled.{EndsNumbers, EndsWords, Spelling, blob_spelled, clob_spelled, null_said, null_spelled, number_spelled, string_spelled, symbol_spelled, truth_spelled}
 use Rattle.ion_text.specs.laws.writing.Written.{One, Written, both, both_lex, free_mark, mark_then, mark_written, one, one_written, placed, token_lexes, tokens, white_written, written_as}
 

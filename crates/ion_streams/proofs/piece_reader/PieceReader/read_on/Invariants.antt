@@ -1,5 +1,5 @@
-use Rattle.std.proofs.Common.{◌+◌, ◌≤◌, ℕ, List, length, ◌*◌}
-use Rattle.ion_streams.specs.Names.{Catalog, IsReady, IsWithin, Limits, NoReadFailed, NoneFailed, ReadsEach, Value, work}
+use Rattle.std.proofs.Common.{◌≡◌, ◌+◌, ◌≤◌, ℕ, List, length, ◌*◌}
+use Rattle.ion_streams.specs.Names.{AskedWhile, Catalog, IsReady, IsWithin, Limits, NoReadFailed, NoneFailed, ReadsEach, Value, format_of, work}
 use Rattle.ion_streams.proofs.piece_reader.PieceReader.read_on.Given as goal
 
 -- nothing was given yet
@@ -12,6 +12,9 @@ invariant-loop-refusal g l = record {
   unasked : NoReadFailed g.R.Inlet l.fn.reader l.reader;
   heard : NoneFailed g.R.Inlet g.I.Items l.fn.reader l.fn.self → NoneFailed g.R.Inlet g.I.Items l.reader l.self;
   within : (first : g.row.R.Denot) (reads : ℕ) → IsWithin g.R.Inlet reads first l.fn.reader l.fn.self → IsWithin g.R.Inlet reads first l.reader l.self;
+  sought : (catalog : Catalog) (limits : Limits) (first : g.row.R.Denot) (given : List (Value × ℕ))
+      → ReadsEach g.R.Inlet g.I.Items catalog limits first l.fn.reader l.fn.self given
+      → AskedWhile g.R.Inlet (format_of g.I.Items catalog limits) first l.fn.reader l.reader (λ before. before ≡ given);
   reads : (catalog : Catalog) (limits : Limits) (first : g.row.R.Denot) (given : List (Value × ℕ))
       → ReadsEach g.R.Inlet g.I.Items catalog limits first l.fn.reader l.fn.self given
       → ReadsEach g.R.Inlet g.I.Items catalog limits first l.reader l.self given;

@@ -1,9 +1,9 @@
 use Rattle.std.proofs.Common.{ℕ, ◌+◌, ◌≤◌, List, length, inl, inr, rules, arith}
 use Rattle.std.proofs.lemmas.Result.{err_from_is_err_and}
-use Rattle.ion_streams.specs.Names.{Catalog, Event, Limits, Reads, ReadsEach, Sought, Value, format_of, telling}
+use Rattle.ion_streams.specs.Names.{Catalog, Event, HandedOn, Limits, Reads, ReadsEach, Sought, Value, format_of, telling}
 use Rattle.ion_streams.proofs.Steps.{on_err, within_kept}
 use Rattle.ion_streams.proofs.Telling.{TellsOn, tells_asked, tells_failed, tells_kept, tells_more, tells_refilled, tells_so_far, tells_value}
-use Rattle.ion_streams.proofs.Turns.{on_more}
+use Rattle.ion_streams.proofs.Turns.{on_more, one_piece}
 use Rattle.ion_streams.proofs.piece_reader.PieceReader.read_on_by.Given.{Over}
 use Rattle.ion_streams.proofs.piece_reader.PieceReader.read_on_by.Goals.{In-Ok-false}
 use Rattle.ion_streams.proofs.piece_reader.PieceReader.read_on_by.Goals as goal
@@ -20,13 +20,15 @@ told_on g c catalog limits first given es h =
 
 -- then the device was asked for the next
 sought : (g : Over) (c : In-Ok-false g) (now : g.row.R.Denot) → g.R.Inlet.calls_made now ≤ g.R.Inlet.calls_made c.loop-refusal.reader + 1
+    → HandedOn g.R.Inlet c.loop-refusal.reader now → length (g.R.Inlet.handed now) ≤ length (g.R.Inlet.handed c.loop-refusal.reader) + 4096
     → (catalog : Catalog) (limits : Limits) (first : g.row.R.Denot) (s : List Value) (es : List Event)
     → Reads g.R.Inlet (telling g.I.Items es) catalog limits first c.args.reader.now c.args.self.now s
     → Sought g.R.Inlet (format_of g.I.Items catalog limits) first c.args.reader.now now (length s)
-sought g c now once catalog limits first s es h =
+sought g c now once grew few catalog limits first s es h =
     let t = c.in-Ok-false.ensures in
     inr (tells_asked g.V.Visitor.takes g.R.Inlet g.I.Items catalog limits (g.met.I.Items.settled catalog limits) g.met.I.Items.has_told first _ now
-    c.take_by.new.self _ s es _ _ h.values (told_on g c catalog limits first h.given es h.each) t.ready (t.all c.in-Ok-false.field-0-test) once)
+    c.take_by.new.self _ s es _ _ h.values (told_on g c catalog limits first h.given es h.each) t.ready (t.all c.in-Ok-false.field-0-test) once
+    (one_piece g.R.Inlet _ _ grew few))
 
 pub returns-in-Err-Memory-clause-kept : goal.returns-in-Err-Memory-clause-kept
 returns-in-Err-Memory-clause-kept g c = λ catalog limits first s es h.
@@ -62,6 +64,7 @@ returns-in_err-refill-clause-kept g c = on_err c.from_residual.result _ (λ cata
 pub returns-in_err-refill-clause-sought : goal.returns-in_err-refill-clause-sought
 returns-in_err-refill-clause-sought g c =
     sought g (goal.at.returns-in_err-refill-clause-sought g c).In-Ok-false c.refill.new.reader c.in_err-refill.ensures.once
+    c.in_err-refill.ensures.grew c.in_err-refill.ensures.one_piece
 
 pub returns-then-not-branch-clause-tells : goal.returns-then-not-branch-clause-tells
 returns-then-not-branch-clause-tells g c = λ catalog limits first given es h.
@@ -72,6 +75,7 @@ returns-then-not-branch-clause-tells g c = λ catalog limits first given es h.
 pub returns-then-not-branch-clause-sought : goal.returns-then-not-branch-clause-sought
 returns-then-not-branch-clause-sought g c =
     sought g (goal.at.returns-then-not-branch-clause-sought g c).In-Ok-false c.refill.new.reader c.in_ok-refill.ensures.once
+    c.in_ok-refill.ensures.grew c.in_ok-refill.ensures.one_piece
 
 pub loop-refusal-preserved : goal.loop-refusal-preserved
 loop-refusal-preserved g c =
@@ -88,7 +92,7 @@ loop-refusal-preserved g c =
       heard = λ h. record { either = inl (f.heard (search rules)) };
       within = λ first reads h. f.within (search rules) first reads
           (within_kept g.R.Inlet reads first _ c.loop-refusal.self c.take_by.new.self t.reads t.ended (i.within first reads h));
-      sought = sought g at c.refill.new.reader f.once;
+      sought = sought g at c.refill.new.reader f.once f.grew f.one_piece;
       grew = on_more g.R.Inlet _ _ _ i.grew f.grew;
       reads = λ catalog limits first given es h. tells_refilled g.V.Visitor.takes g.R.Inlet g.I.Items catalog limits first _ _ c.take_by.new.self
           c.refill.new.self given es _ _ f.refills (told_on g at catalog limits first given es h);

@@ -1,7 +1,7 @@
 use Rattle.std.proofs.Common.{rules, ◌≡◌, true, false}
 use Rattle.std.specs.Prelude.{codes}
 use Rattle.std.specs.Str.{bytes_eq}
-use Rattle.ion_text.proofs.Walks.{word_null, word_true, word_false, word_symbol}
+use Rattle.ion_text.proofs.Walks.{word_false, word_null, word_symbol, word_true}
 use Rattle.ion_text.proofs.tokens.finders.word_kind.Goals as goal
 
 pub returns-then-eq : goal.returns-then-eq

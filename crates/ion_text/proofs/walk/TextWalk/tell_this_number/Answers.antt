@@ -3,7 +3,7 @@ use Rattle.ion_text.specs.Names.{is_name, number_payload}
 use Rattle.ion_text.proofs.LastTokens.{value_answer}
 use Rattle.ion_text.proofs.SaidThere.{number_begins}
 use Rattle.ion_text.proofs.WholeTokens.{value_place}
-use Rattle.ion_text.specs.laws.deciding.Turns.{flat_number}
+use Rattle.ion_text.specs.laws.reading.NoTables.{flat_number}
 use Rattle.ion_text.proofs.walk.TextWalk.tell_this_number.Goals as goal
 
 pub returns : goal.returns

@@ -5,7 +5,7 @@ use Rattle.std.proofs.lemmas.Bool.Decides.{nat_tests}
 use Rattle.ion_text.specs.Names.{Annotations, Catalog, Content, IsBody, Leading, Limits, Long, Mark, Mark', Means, Pieces, Place, Placed, Quoted, Reading, Says, Slot, Stage, Symbols, Token, TokenKind, Turn, Value, Walk, Word, adds_adds, adds_none, adds_values, annotated, at, begins, begins_as_long, continues, done, ends_long, first_token, fresh, gives, goes, held_word, holds, in_place, is_segment, is_table, is_top, is_two_quotes, is_version_word, marked, means, no_annotation, on_judged, on_turn, one_annotation, place, reads, reads-append, released, said, said_ok, settle, settle_same, span, spot_at, system_slots, the_marker, then_walk, token_of, turn, turned, turns, under}
 use Rattle.ion_text.specs.Grammar.{end_of}
 use Rattle.ion_text.specs.machine.TokenLists.{walked}
-use Rattle.ion_text.specs.laws.reading.complete.Complete.{body_kind, Begins, LeadsToTurn, at_once, by_held, by_long', means_begins, means_read, pending_goes, segment_kind, starts, word_token}
+use Rattle.ion_text.specs.laws.reading.complete.Complete.{Begins, LeadsToTurn, at_once, body_kind, by_held, by_long', means_begins, means_read, pending_goes, segment_kind, starts, word_token}
 
 -- a token that goes on behind a long string at the top level: a segment, or `''`
 abbrev pub GoesOn : Token → Type 0

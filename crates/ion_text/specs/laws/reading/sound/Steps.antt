@@ -1,7 +1,7 @@
 -- Each octet leads from what stands for octets to what stands for those and that one.
 use Rattle.std.proofs.Common.{◌≡◌, ℕ, ◌+◌, List, [], ◌∷◌, ◌++◌, Bool, true, false, ◌&&◌, Result, Ok, Err, refl, sym, subst, arith, append_assoc, append-nil, inl, inr}
 use Rattle.ion_text.specs.laws.reading.Effects.{GivesSo, LeavesSo, ScansSo, SettlesSo, takes_each}
-use Rattle.ion_text.specs.Names.{Frame, Catalog, Content, Continues, Effect, Follows, Given, Known, Leading, Left, Lexeme, Limits, Next, Outcome, Pieces, Place, Placed, Reading, Refusal, Refused, Run, Scanned, Slot, State, Turn, Value, begins, begun, eats, fails, feed, gives, goes, in_segment, initial, is_quoted, is_sane, is_top, leaves, once_more, place, plain, run, run_on, said, said_passes, settle, settle_same, system_slots, takes, tells, token_of, turn, uses, waits, with_scan, with_value}
+use Rattle.ion_text.specs.Names.{Catalog, Content, Continues, Effect, Follows, Frame, Given, Known, Leading, Left, Lexeme, Limits, Next, Outcome, Pieces, Place, Placed, Reading, Refusal, Refused, Run, Scanned, Slot, State, Turn, Value, begins, begun, eats, fails, feed, gives, goes, in_segment, initial, is_quoted, is_sane, is_top, leaves, once_more, place, plain, run, run_on, said, said_passes, settle, settle_same, system_slots, takes, tells, token_of, turn, uses, waits, with_scan, with_value}
 use Rattle.ion_tokens.specs.machine.Told.{Begun}
 use Rattle.ion_tokens.specs.laws.Follows.{feed_follows}
 use Rattle.ion_tokens.proofs.runs.Scans.{scanned_given, scanned_left, scanned_next}

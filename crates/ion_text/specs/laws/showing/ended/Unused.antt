@@ -10,7 +10,7 @@ use Rattle.ion_text.specs.laws.reading.complete.Going.{InsideTurn, closes_kind, 
 use Rattle.ion_text.specs.laws.reading.sound.Admits.{at_end_fine, late_never}
 use Rattle.ion_text.specs.laws.reading.Effects.{GivesSo, LeavesSo, ScansSo, SettlesSo, takes_each}
 use Rattle.ion_text.specs.laws.reading.sound.Spans.{IsClose, IsTopNow, SettlesWithin, Spans, settle_spans, turn_spans}
-use Rattle.ion_text.specs.machine.Ways.{SettledWay, TokenWay, ValueWay, now_way, settled_free, settled_held, settled_marker, settled_name, settled_text, settled_way, token_deep, token_held, token_long_name, token_more, token_more_name, token_name, token_noted, token_open, token_refused, token_text, token_unnamed, token_unnoted, token_value, token_list, token_sexp, token_struct, value_field, value_item, value_table}
+use Rattle.ion_text.specs.machine.Ways.{SettledWay, TokenWay, ValueWay, now_way, settled_free, settled_held, settled_marker, settled_name, settled_text, settled_way, token_deep, token_held, token_list, token_long_name, token_more, token_more_name, token_name, token_noted, token_open, token_refused, token_sexp, token_struct, token_text, token_unnamed, token_unnoted, token_value, value_field, value_item, value_table}
 use Rattle.ion_text.specs.laws.reading.sound.StandsOpen.{NowStands, start_now}
 
 -- 1. What an octet does where neither a quoted text nor a lob is open, nor a brace that may begin a lob.

@@ -8,7 +8,7 @@ use Rattle.ion_text.specs.machine.TokenLists.{walked}
 use Rattle.ion_text.specs.laws.reading.complete.Accepts.{accepts}
 use Rattle.ion_text.specs.laws.reading.complete.Complete.{segment_kind}
 use Rattle.ion_text.specs.laws.reading.complete.Going.{Going, TurnGoes, added, going_said, going_settle, mark_kind}
-use Rattle.ion_text.specs.laws.reading.complete.Pieces.{walked_now, GoesOn, ReadSoFar, pieces_read, quoted_kind}
+use Rattle.ion_text.specs.laws.reading.complete.Pieces.{GoesOn, ReadSoFar, pieces_read, quoted_kind, walked_now}
 use Rattle.ion_text.specs.laws.reading.sound.Steps.{StoodBehind, begun_stood, run_ran}
 use Rattle.ion_text.specs.laws.showing.shown.Fronts.{stood_front}
 use Rattle.ion_text.specs.laws.showing.shown.Opened.{blank_token, colons_token, long_token, quoted_token, segment_is}

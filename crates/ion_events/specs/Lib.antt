@@ -1,0 +1,6 @@
+pub mod Names
+pub mod Entries
+pub mod Layouts
+pub mod Drafts
+pub mod Drawing
+pub mod laws

@@ -1,8 +1,0 @@
-use Rattle.std.proofs.Common.{◌<◌, length, arith}
-use Rattle.ion_text.proofs.Keywords.{long_free}
-use Rattle.ion_text.proofs.words.may_be_keyword.Goals as goal
-
-pub returns-then-octets-gt5 : goal.returns-then-octets-gt5
-returns-then-octets-gt5 c = λ e.
-    let long : 5 < length c.args.word.now = omega (arith, c.if-octets-gt5.true, c.as_bytes-octets.ensures) in
-    long_free c.args.word.now long

@@ -1,0 +1,4 @@
+mod Appended
+mod Transcribed
+pub mod RawRuns
+pub mod QuotedRuns

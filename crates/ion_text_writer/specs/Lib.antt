@@ -1,0 +1,3 @@
+pub mod Writing
+pub mod laws
+pub mod Names

@@ -1,0 +1,2 @@
+-- What follows for what is written.
+pub mod Rows
