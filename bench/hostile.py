@@ -5,7 +5,8 @@ Each case is measured at a quarter, a half and the whole of its size: processor 
 the octets read. A cost that grows with the octets doubles from column to column; one that grows with their square takes four times
 as long. PART (usually 1) is a factor on all sizes. A run is stopped after 120 seconds, and has no more memory than the limit that
 is printed (as by `ulimit -v`); the script ends with 1 where one was stopped or told of a fault. A CASE may be a part of a name. The octets
-are the same at each call. Of a shared library (`bindings/build.sh`) the colliding symbols are converted in process, by the Python package, which draws a seed; the interpreter's own time and memory are part of it.
+are the same at each call. Of a shared library (`bindings/build.sh`) the colliding symbols are converted in process, by the Python
+package, which draws a seed, and documents that might ask for much memory are tried; the interpreter's own time and memory are part of it.
 """
 import os
 import random
@@ -514,17 +515,28 @@ def measured(program, words, folder, limit):
     return used.ru_utime + used.ru_stime, used.ru_maxrss * 1024, told
 
 
-IN_PROCESS = "import pathlib, sys, pureefjord; pureefjord.to_binary(pathlib.Path(sys.argv[1]), item=1 << 30)"
+# What a call of the Python package is, by the words of the command.
+CALLS = {"check": "check", "show": "show", "convert": "to_binary", "compare": "compare"}
+CALL = "import pathlib, sys, pureefjord; pureefjord.{}(*map(pathlib.Path, sys.argv[1:]), item=1 << 30)"
+ROOM = "import pureefjord; print(next(line.split()[1] for line in open('/proc/self/status') if line.startswith('VmPeak')))"
+
+
+def in_process(words):
+    call, *names = words.replace("--to binary", "").split()
+    return ["-c", CALL.format(CALLS[call]), *names]
 
 
 def cases(program):
-    """Those of the program; of a library, the one whose time rests on a seed, and with which words it is run."""
+    """Those of the program; of a library, the one whose time rests on a seed, and those that might ask for much memory, with which words it is
+    run. The interpreter's own room is added to theirs."""
     if not program.endswith(".so"):
         return CASES, program, lambda words: words.split()
     os.environ["PUREEFJORD_LIBRARY"] = program
     os.environ["PYTHONPATH"] = os.path.join(os.path.dirname(os.path.abspath(__file__)), "..", "bindings", "python")
-    in_process = ("colliding symbols, to binary in process", "A", [colliding], MILLION, LARGE)
-    return [in_process], sys.executable, lambda words: ["-c", IN_PROCESS, *words.split()]
+    room = int(subprocess.run([sys.executable, "-c", ROOM], capture_output=True, check=True).stdout) * 1024
+    colliding_symbols = ("colliding symbols, to binary in process", "convert A", [colliding], MILLION, LARGE)
+    amplified = [(name, words, documents, size, room + limit) for name, words, documents, size, limit in amplifying() if "catalog" not in name]
+    return [colliding_symbols, *amplified], sys.executable, in_process
 
 
 def main():

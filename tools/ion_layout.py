@@ -36,11 +36,12 @@ def triples(plain):
 
 
 WORDS, ENDED = "true|false|null", r"(?=[\]}\n]|,(?!-?[0-9]))"  # of ints all that stand together in a list
-AS_IT_IS = triples(rf'{STRING}"|(?:{WORDS}|{INT}){ENDED}')
+SIMPLE = r'"[^"\\]*"'  # a string without an escape; of those too, all that stand together in a list
+AS_IT_IS = triples(rf'{SIMPLE}|{STRING}"|(?:{WORDS}|{INT}){ENDED}')
 NOTHING = triples("(?!)")
 AS_IN_JSON = r'"[^"\\]*(?:\\[^x][^"\\]*)*"'
-OF_JSON = triples(rf"{AS_IN_JSON}|(?:{WORDS}|{INT}(?:,{INT}){{0,99}})(?=[,\]}}\n])")
-OF_INDENTED_JSON = triples(rf"{AS_IN_JSON}|(?:{WORDS}|{INT}){ENDED}")
+OF_JSON = triples(rf"{SIMPLE}(?:,{SIMPLE}){{0,99}}|{AS_IN_JSON}|(?:{WORDS}|{INT}(?:,{INT}){{0,99}})(?=[,\]}}\n])")
+OF_INDENTED_JSON = triples(rf"{SIMPLE}|{AS_IN_JSON}|(?:{WORDS}|{INT}){ENDED}")
 
 
 def kind_of(token):
