@@ -1,28 +1,22 @@
 -- Values that begin in a reader that holds no values, and what only moves it on.
-use Rattle.std.proofs.Common.{◌≡◌, ℕ, List, [], ◌∷◌, ◌++◌, Bool, true, Option, Result, Ok, Err, refl, ap, sym, subst, ◌∙◌}
-use Rattle.std.specs.Prelude.{if◌then◌else◌}
+use Rattle.std.proofs.Common.{◌≡◌, ℕ, List, [], ◌∷◌, ◌++◌, Bool, true, Option, Result, Ok, Err, refl, ap, sym, ◌∙◌}
 use Rattle.std.proofs.lemmas.List.{append-nil}
 use Rattle.std.proofs.lemmas.Bool.{false≢true}
-use Rattle.ion_binary.specs.Names.{AreAround, AreOpen, BinaryWalk, Bracket, Container, Does, DoesAlone, Effect, Event, Fourth, Frame, Goes, Hears, Holds, HoldsNoWrapper, IsBehind, IsInside, IsNamedBy, IsPart, IsTop, Malformed, Mark, Outcome, Payload, Ready, Reason, Slot, TableFilter, Tells, TellsAs, Value, Version, WasTold, anew, at, bare, container_of, deliver, events_of, goes, heard, is_named, judge_leaf, judged, machine_of, name, name_of, on_marker, open_containers, part, proceed, refuses, setting_of, spot_of, system_slots, told}
+use Rattle.ion_binary.specs.Names.{AreAround, AreOpen, BinaryWalk, Bracket, Container, Does, DoesAlone, Effect, Event, Fourth, Frame, Goes, Hears, Holds, HoldsNoWrapper, IsBehind, IsInside, IsNamedBy, IsPart, IsTop, Mark, Outcome, Payload, Ready, Reason, Slot, TableFilter, Tells, TellsAs, Value, WasTold, bare, container_of, deliver, events_of, goes, heard, is_named, judge_leaf, judged, machine_of, name, name_of, on_marker, open_containers, part, proceed, setting_of, spot_of, system_slots, told}
 use Rattle.ion_visiting.specs.Events.{opens}
 use Rattle.ion_visiting.specs.laws.Filters.{hears_both}
 use Rattle.ion_binary.specs.declared.walking.whole_leaves.Leaf.{Leaf}
 use Rattle.ion_binary.specs.machine.Frames as frames
-use Rattle.ion_binary.specs.walking.Holds.{Name, told_in}
-use Rattle.ion_binary.proofs.Ending.{bare_in, does_same, is_at}
+use Rattle.ion_binary.specs.walking.Holds.{told_in}
+use Rattle.ion_binary.proofs.Ending.{bare_in}
 use Rattle.ion_binary.proofs.Tellings.{does_more, name_told, part_told}
 
 -- 1. Readers that only move on.
 
 pub stays : (r new : BinaryWalk) (fs : List Frame) → open_containers new ≡ open_containers r → name_of new ≡ name_of r → new.filter ≡ r.filter
     → IsInside new.phase fs → Holds r fs → Holds new fs
-stays r new fs same named kept inside h = record {
-  containers = same ∙ h.containers;
-  named = subst (λ n. IsNamedBy n fs) (sym named) h.named;
-  open_there = h.open_there;
-  inside = inside;
-  was_told = subst (λ f. WasTold f (told fs)) (sym kept) h.was_told;
-}
+stays r new fs same named kept inside h =
+    record { containers = same ∙ h.containers; named = rw named h.named; open_there = h.open_there; inside = inside; was_told = rw kept h.was_told }
 
 pub goes_alone : (r new : BinaryWalk) (fs : List Frame) (o : Outcome) → o ≡ goes (machine_of new fs) → open_containers new ≡ open_containers r
     → name_of new ≡ name_of r → new.filter ≡ r.filter → IsInside new.phase fs → Holds r fs → DoesAlone (told fs) o (Ok Goes) new
@@ -30,22 +24,15 @@ goes_alone r new fs o is same named kept inside h = (fs, is, stays r new fs same
 
 -- 2. The name of the field whose value begins.
 
-abbrev symbol_in : Option (List ℕ) → Name → Option (List ℕ)
-symbol_in t (Ok s) = s
-symbol_in t (Err e) = t
-
 module _ {V : Type 0} (takes : V → Event → V → Type 0) where
   pub value_named : (r : BinaryWalk) (g : TableFilter) (s : Option (List ℕ)) (a b : V) → is_named (open_containers r) ≡ true → name_of r ≡ Ok s
       → Tells takes (name s) r.filter g a b
       → (fs : List Frame) → Holds r fs → AreAround fs → WasTold g (told_in fs) × Hears takes (heard (told fs)) (heard (told_in fs)) a b
   value_named r g s a b some is tells (frames.Named end ms (Err e) ∷ fs) h around = absurd around
   value_named r g s a b some is tells (frames.Named end ms (Ok t) ∷ fs) h around =
-      let same : s ≡ t = ap (symbol_in t) (sym is ∙ sym h.named) in
-      let all = ap (λ x. told (frames.Named end ms (Ok t) ∷ fs) ++ name x ∷ []) same ∙ name_told end fs ms t in
-      let i = tells (told (frames.Named end ms (Ok t) ∷ fs)) h.was_told in (
-        subst (λ es. WasTold g es) all i.0,
-        subst (λ es. Hears takes (heard (told (frames.Named end ms (Ok t) ∷ fs))) (heard es) a b) all i.1,
-      )
+      let one : Ok s ≡ Ok t = sym is ∙ sym h.named in
+      let same : s ≡ t = cc in
+      rw (same, name_told end fs ms t) at (tells (told (frames.Named end ms (Ok t) ∷ fs)) h.was_told)
   value_named r g s a b some is tells _ h around = absurd (false≢true (sym (ap is_named h.containers) ∙ some))
 
 -- 3. Values and containers whose front was told.
@@ -59,18 +46,9 @@ module _ {V : Type 0} (takes : V → Event → V → Type 0) (r : BinaryWalk) (g
       → ((fs : List Frame) (v : Value) → IsBehind mid fs v → Does takes (told_in fs ++ events_of v) (deliver (setting_of mid) (spot_of mid) fs v) result new n b)
       → Does takes (told fs) o result new a b
   part_does mid new p o result n b leaf tells same is ends =
-      let i = tells (told_in fs) begun.0 in
-      let e = part_told fs p leaf in
-      does_same takes (told fs) o _ result new a b is
-      (does_more takes (told fs) (told_in fs ++ events_of (bare p)) _ result new a n b
-      (hears_both takes (heard (told fs)) (heard (told_in fs)) (heard (told_in fs ++ events_of (bare p))) a m n begun.1
-      (subst (λ es. Hears takes (heard (told_in fs)) (heard es) m n) e i.1))
-      (ends fs (bare p) (record {
-        containers = same ∙ h.containers;
-        around = around;
-        bare = bare_in fs p;
-        was_told = subst (λ es. WasTold mid.filter es) e i.0;
-      })))
+      let i = rw (part_told fs p leaf) at (tells (told_in fs) begun.0) in
+      rw is (does_more takes (told fs) (told_in fs ++ events_of (bare p)) _ result new a n b (hears_both takes _ _ _ a m n begun.1 i.1)
+      (ends fs (bare p) (record { containers = same ∙ h.containers; around = around; bare = bare_in fs p; was_told = i.0 })))
 
   -- a container
   pub front_does : (mid new : BinaryWalk) (f : Frame) (x : Bracket) (o : Outcome) (result : Result Effect Reason) (n b : V)
@@ -81,36 +59,27 @@ module _ {V : Type 0} (takes : V → Event → V → Type 0) (r : BinaryWalk) (g
       → ((gs : List Frame) → Holds mid gs → Does takes (told gs) (proceed (setting_of mid) (spot_of mid) gs) result new n b)
       → Does takes (told fs) o result new a b
   front_does mid new f x o result n b tells e inner opened named inside pushed is goes_on =
-      let i = tells (told_in fs) begun.0 in
-      does_same takes (told fs) o _ result new a b is
-      (does_more takes (told fs) (told (f ∷ fs)) _ result new a n b
-      (hears_both takes (heard (told fs)) (heard (told_in fs)) (heard (told (f ∷ fs))) a m n begun.1
-      (subst (λ es. Hears takes (heard (told_in fs)) (heard es) m n) (sym e) i.1))
-      (goes_on (f ∷ fs) (record {
-        containers = pushed ∙ ap (λ cs. container_of f ∷ cs) h.containers;
-        named = named;
-        open_there = opened;
-        inside = inside;
-        was_told = subst (λ es. WasTold mid.filter es) (sym e) i.0;
-      })))
+      let i = rw (← e) at (tells (told_in fs) begun.0) in
+      rw is (does_more takes (told fs) (told (f ∷ fs)) _ result new a n b (hears_both takes _ _ _ a m n begun.1 i.1)
+      (goes_on (f ∷ fs) (record { containers = rw (pushed, h.containers) refl; named = named; open_there = opened; inside = inside; was_told = i.0 })))
 
   -- a wrapper
   pub wrapper_does : (new : BinaryWalk) (end : ℕ) (o : Outcome) → HoldsNoWrapper fs → new.filter ≡ g
       → open_containers new ≡ Container.Annotated end ∷ open_containers r → IsInside new.phase (frames.Annotated end [] ∷ fs)
       → o ≡ goes (machine_of new (frames.Annotated end [] ∷ fs)) → Does takes (told fs) o (Ok Goes) new a m
   wrapper_does new end o bare_there kept pushed inside is =
-      let e : told_in fs ++ [] ≡ told_in fs = append-nil (told_in fs) in (
+      let e = append-nil (told_in fs) in (
         frames.Annotated end [] ∷ fs,
         is,
         record {
           holds = record {
-            containers = pushed ∙ ap (λ cs. Container.Annotated end ∷ cs) h.containers;
+            containers = rw (pushed, h.containers) refl;
             named = tt;
             open_there = (bare_there, around);
             inside = inside;
-            was_told = subst (λ f. WasTold f (told_in fs ++ [])) (sym kept) (subst (λ es. WasTold g es) (sym e) begun.0);
+            was_told = rw (kept, e) begun.0;
           };
-          hears = subst (λ es. Hears takes (heard (told fs)) (heard es) a m) (sym e) begun.1;
+          hears = rw e begun.1;
         },
       )
 
@@ -125,17 +94,13 @@ module _ {V : Type 0} (takes : V → Event → V → Type 0) (r s : BinaryWalk) 
       → Tells takes (part p) s.filter g m n
       → (fs : List Frame) → Holds r fs → AreAround fs → Does takes (told fs) (deliver (setting_of r) (spot_of r) fs (bare p)) result new a b
   whole_does p leaf tells fs h around =
-      part_does takes r s.filter fs h around a m (begun fs h around) (record s { filter = g }) new p (deliver (setting_of r) (spot_of r) fs (bare p)) result n b leaf tells
-      (ap (λ (w : BinaryWalk). open_containers w) kept) (ap (λ (w : BinaryWalk). deliver (setting_of w) (spot_of w) fs (bare p)) (sym kept)) ends
+      part_does takes r s.filter fs h around a m (begun fs h around) (record s { filter = g }) new p _ result n b leaf tells (rw kept refl) (rw kept refl) ends
 
   -- a leaf
   pub leaf_does : (leaf : Leaf) (body : List ℕ)
       → TellsAs takes (judge_leaf s.context leaf body) s.filter g m n → (fs : List Frame) → Holds r fs → AreAround fs
       → Does takes (told fs) (judged (setting_of r) (spot_of r) fs (judge_leaf r.context leaf body)) result new a b
-  leaf_does leaf body said fs h around =
-      does_same takes (told fs) (judged (setting_of r) (spot_of r) fs (judge_leaf r.context leaf body)) (deliver (setting_of r) (spot_of r) fs (bare said.0)) result new a b
-      (ap (judged (setting_of r) (spot_of r) fs) (ap (λ (w : BinaryWalk). judge_leaf w.context leaf body) (sym kept) ∙ said.1))
-      (whole_does said.0 said.2 said.3 fs h around)
+  leaf_does leaf body said fs h around = let is = rw kept at said.1 in rw is (whole_does said.0 said.2 said.3 fs h around)
 
 -- 5. A version marker ends.
 
@@ -144,10 +109,7 @@ pub marker_ends : (r : BinaryWalk) (mark : Mark) (good : Bool) (octet : ℕ) (d 
     → DoesAlone (told fs) (on_marker (spot_of r) fs mark good octet) (Ok Goes) (record r { start = r.used; context = d; phase = Ready })
 marker_ends r mark good octet d is last fine reset [] h top = (
   [],
-  ap (λ k. on_marker (spot_of r) [] k good octet) is
-      ∙ (ap (λ b. if b then (if good then goes (at (anew r.used system_slots) [] Ready) else refuses Version) else refuses Malformed) (is_at octet 234 last)
-      ∙ (ap (λ b. if b then goes (at (anew r.used system_slots) [] Ready) else refuses Version) fine
-      ∙ ap (λ x. goes (at (anew r.used x) [] Ready)) (sym reset))),
+  rw (is, last, fine, reset) refl,
   record { containers = h.containers; named = tt; open_there = tt; inside = tt; was_told = h.was_told },
   refl,
 )

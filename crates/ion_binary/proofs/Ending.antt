@@ -1,9 +1,9 @@
 -- Values and containers that end, and those that begin, in a reader that holds no values.
-use Rattle.std.proofs.Common.{◌≡◌, ◌≢◌, ℕ, List, [], ◌∷◌, ◌++◌, reverse, Bool, true, false, Result, Ok, Err, refl, ap, sym, subst, subst₂, ◌∙◌, arith}
+use Rattle.std.proofs.Common.{◌≡◌, ◌≢◌, ℕ, List, [], ◌∷◌, ◌++◌, reverse, Bool, true, false, Result, Ok, Err, refl, ap, sym, ◌∙◌, arith}
 use Rattle.std.specs.Prelude.{◌==◌, if◌then◌else◌}
 use Rattle.std.proofs.lemmas.List.{reverse-append}
 use Rattle.std.proofs.lemmas.Bool.Decides.{nat_tests}
-use Rattle.ion_binary.specs.Names.{AreAround, AreOpen, BinaryWalk, Bracket, Closes, Container, Does, DoesAlone, Effect, EndedIn, Event, Field, Frame, Goes, Hears, HoldsNoWrapper, IsBareIn, IsBehind, IsInside, IsNamedBy, ListOrSexp, Outcome, Payload, Phase, Reason, Setting, Spot, Tells, Value, WasTold, annotated, at, bare, closes, container_of, containers_of, deliver, events_of, field_of, goes, heard, machine_of, name_of, open_containers, proceed, setting_of, spot_of, told}
+use Rattle.ion_binary.specs.Names.{AreAround, AreOpen, BinaryWalk, Bracket, Closes, Container, Does, DoesAlone, Effect, EndedIn, Event, Field, Frame, Goes, HoldsNoWrapper, IsBareIn, IsBehind, IsInside, IsNamedBy, ListOrSexp, Outcome, Payload, Phase, Reason, Setting, Spot, Tells, Value, WasTold, annotated, at, bare, closes, container_of, containers_of, deliver, events_of, field_of, goes, heard, machine_of, name_of, open_containers, proceed, setting_of, spot_of, told}
 use Rattle.ion_visiting.specs.laws.Filters.{hears_none}
 use Rattle.ion_binary.specs.machine.Frames as frames
 use Rattle.ion_binary.specs.walking.Holds.{told_in}
@@ -13,7 +13,7 @@ use Rattle.ion_binary.proofs.Tellings.{closes_more, does_behind, does_more, fiel
 
 pub does_same : {V : Type 0} (takes : V → Event → V → Type 0) (es : List Event) (o p : Outcome) (result : Result Effect Reason) (r : BinaryWalk) (a b : V)
     → o ≡ p → Does takes es p result r a b → Does takes es o result r a b
-does_same takes es o p result r a b h d = subst (λ x. Does takes es x result r a b) (sym h) d
+does_same takes es o p result r a b h d = rw h d
 
 pub bare_in : (fs : List Frame) (p : Payload) → IsBareIn fs (bare p)
 bare_in (frames.Annotated end ss ∷ fs) p = refl
@@ -25,7 +25,7 @@ unwrapped _ v h = tt
 
 -- the innermost container in memory is the last
 pub pushed : (old new : List Container) (k : Container) → new ≡ old ++ k ∷ [] → reverse new ≡ k ∷ reverse old
-pushed old new k e = ap reverse e ∙ reverse-append old (k ∷ [])
+pushed old new k e = rw e (reverse-append old (k ∷ []))
 
 pub is_at : (m n : ℕ) → m ≡ n → (m == n) ≡ true
 is_at m n h = grind (arith, nat_tests)
@@ -49,16 +49,10 @@ module _ {V : Type 0} (takes : V → Event → V → Type 0) where
         → new.filter ≡ r.filter → Closing (Ok false) new a a
     container_goes new a test is pushed open_there named inside kept = (
       f ∷ fs,
-      is_either ∙ (ap (λ t. if t then deliver (setting_of r) (spot_of r) fs (bare p) else goes (at (spot_of r) (f ∷ fs) phase)) test ∙ ap goes (sym is)),
+      rw (is_either, test, is) refl,
       record {
-        holds = record {
-          containers = pushed ∙ ap (λ cs. container_of f ∷ cs) same;
-          named = named;
-          open_there = open_there;
-          inside = inside;
-          was_told = subst (λ g. WasTold g (told (f ∷ fs))) (sym kept) was;
-        };
-        hears = hears_none takes (heard (told (f ∷ fs))) (heard (told (f ∷ fs))) a refl;
+        holds = record { containers = rw (pushed, same) refl; named = named; open_there = open_there; inside = inside; was_told = rw kept was };
+        hears = hears_none takes _ _ a refl;
       },
     )
 
@@ -69,12 +63,8 @@ module _ {V : Type 0} (takes : V → Event → V → Type 0) where
         let h = tells (told (f ∷ fs)) was in (
           fs,
           bare p,
-          is_either ∙ (ap (λ t. if t then deliver (setting_of r) (spot_of r) fs (bare p) else goes (at (spot_of r) (f ∷ fs) phase)) test
-              ∙ (ap (λ s. deliver s (spot_of r) fs (bare p)) (sym setting) ∙ ap (λ s. deliver (setting_of new) s fs (bare p)) (sym spot))),
-          record {
-            behind = record { containers = left ∙ same; around = around; bare = bare_in fs p; was_told = subst (λ es. WasTold new.filter es) e h.0 };
-            hears = subst (λ es. Hears takes (heard (told (f ∷ fs))) (heard es) a b) e h.1;
-          },
+          rw (is_either, test, setting, spot) refl,
+          record { behind = record { containers = left ∙ same; around = around; bare = bare_in fs p; was_told = rw e at h.0 }; hears = rw e at h.1 },
         )
 
   -- 3. The same behind a value.
@@ -91,15 +81,10 @@ module _ {V : Type 0} (takes : V → Event → V → Type 0) where
         → Closes takes (told_in (frames.Items end x vs ∷ fs)) (proceed s t (frames.Items end x vs ∷ fs)) result new a b)
         → BehindValue
     items_behind end x is close (frames.Items to y vs) fs v e same around bare_there was =
-        let one : Container.Items end x ≡ Container.Items to y = sym is ∙ e in
-        let ends : end ≡ to = cc in
-        let listings : x ≡ y = cc in
-        let told_more = item_told to y fs vs v in
-        subst (λ es. Closes takes es (proceed s t (frames.Items to y (vs ++ v ∷ []) ∷ fs)) result new a b) (sym told_more)
-        (subst₂ (λ n z. (fs : List Frame) (vs : List Value) → open_containers r ≡ containers_of fs → AreAround fs
-        → WasTold r.filter (told_in (frames.Items n z vs ∷ fs))
-        → Closes takes (told_in (frames.Items n z vs ∷ fs)) (proceed s t (frames.Items n z vs ∷ fs)) result new a b) ends listings close
-        fs (vs ++ v ∷ []) same around (subst (λ es. WasTold r.filter es) told_more was))
+        let ends : to ≡ end = cc in
+        let listings : y ≡ x = cc in
+        let more = item_told end x fs vs v in
+        rw (ends, listings, more) (close fs (vs ++ v ∷ []) same around (rw (listings, more) at was))
     items_behind end x is close f fs v e same around bare_there was = absurd (let q : Container.Items end x ≡ container_of f = sym is ∙ e in cc)
 
     pub named_behind : (end : ℕ) → k ≡ Container.Named end
@@ -108,14 +93,9 @@ module _ {V : Type 0} (takes : V → Event → V → Type 0) where
         → Closes takes (told_in (frames.Fields end ms ∷ fs)) (proceed s t (frames.Fields end ms ∷ fs)) result new a b)
         → BehindValue
     named_behind end is close (frames.Named to ms (Ok n)) fs v e same around bare_there was =
-        let one : Container.Named end ≡ Container.Named to = sym is ∙ e in
-        let ends : end ≡ to = cc in
-        let told_more = field_told to fs ms n v in
-        subst (λ es. Closes takes es (proceed s t (frames.Fields to (ms ++ field_of n v ∷ []) ∷ fs)) result new a b) (sym told_more)
-        (subst (λ (n : ℕ). (fs : List Frame) (ms : List Field) → open_containers r ≡ containers_of fs → AreAround fs
-        → WasTold r.filter (told_in (frames.Fields n ms ∷ fs))
-        → Closes takes (told_in (frames.Fields n ms ∷ fs)) (proceed s t (frames.Fields n ms ∷ fs)) result new a b) ends close
-        fs (ms ++ field_of n v ∷ []) same around (subst (λ es. WasTold r.filter es) told_more was))
+        let ends : to ≡ end = cc in
+        let more = field_told end fs ms n v in
+        rw (ends, more) (close fs (ms ++ field_of n v ∷ []) same around (rw more at was))
     named_behind end is close (frames.Named to ms (Err n)) fs v e same around bare_there was = absurd around
     named_behind end is close f fs v e same around bare_there was = absurd (let q : Container.Named end ≡ container_of f = sym is ∙ e in cc)
 
@@ -124,13 +104,12 @@ module _ {V : Type 0} (takes : V → Event → V → Type 0) where
       → BehindValue (setting_of r) (spot_of r) r k (Ok true) new a a
   wrapper_behind r new k end a is kept (frames.Annotated to ss) fs v e same around bare_there was =
       let more = wrapped_told to ss fs v bare_there in
-      subst (λ n. Closes takes (told_in (frames.Annotated to ss ∷ fs) ++ events_of v) (deliver (setting_of r) (spot_of r) (frames.Annotated to ss ∷ fs) v) (Ok true) n a a)
-      (sym kept) (
+      rw kept (
         fs,
         annotated ss v.payload,
         refl,
         record {
-          behind = record { containers = same; around = around.1; bare = unwrapped fs (annotated ss v.payload) around.0; was_told = subst (λ es. WasTold r.filter es) more was };
+          behind = record { containers = same; around = around.1; bare = unwrapped fs (annotated ss v.payload) around.0; was_told = rw more at was };
           hears = hears_none takes _ _ a (ap heard (sym more));
         },
       )
@@ -154,13 +133,9 @@ module _ {V : Type 0} (takes : V → Event → V → Type 0) where
         inside (f ∷ gs) e h =
             let w = left.1 in
             let both : k ∷ open_containers p ≡ container_of f ∷ containers_of gs = sym pops ∙ h.behind.containers in
-            let first_one : k ≡ container_of f = cc in
-            let others : open_containers p ≡ containers_of gs = cc in
-            subst (λ x. Closes takes es x result new first b)
-            (sym (e ∙ (ap (λ s. deliver s (spot_of r) (f ∷ gs) w) (sym setting) ∙ ap (λ t. deliver (setting_of p) t (f ∷ gs) w) (sym spot))))
-            (closes_more takes es (told_in (f ∷ gs) ++ events_of w) _ result new first m b h.hears
-            (behind f gs w first_one others h.behind.around h.behind.bare
-            (subst (λ x. WasTold x (told_in (f ∷ gs) ++ events_of w)) (sym kept) h.behind.was_told)))
+            let same : deliver (setting_of r) (spot_of r) (f ∷ gs) w ≡ deliver (setting_of p) (spot_of p) (f ∷ gs) w = cc in
+            rw (e, same) (closes_more takes es (told_in (f ∷ gs) ++ events_of w) _ result new first m b h.hears
+            (behind f gs w (cc) (cc) h.behind.around h.behind.bare (rw kept h.behind.was_told)))
 
     -- the innermost container that is left goes on
     pub left_goes : (r new : BinaryWalk) (m : V) → IsLeft r m
@@ -186,10 +161,10 @@ module _ {V : Type 0} (takes : V → Event → V → Type 0) where
       → Does takes (told_in fs ++ events_of v) (deliver (setting_of mid) (spot_of mid) fs v) result new m b)
       → Closes takes es o (Ok closed) mid a m → Does takes es o result new a b
   ends_behind es o mid new result closed a m b is ended d =
-      let c = subst (λ (x : Bool). Closes takes es o (Ok x) mid a m) is d in
+      let c = rw is at d in
       does_same takes es o _ result new a b c.2
       (does_more takes es (told_in c.0 ++ events_of c.1) _ result new a m b c.3.hears (ended c.0 c.1 c.3.behind))
 
   pub goes_behind : (es : List Event) (o : Outcome) (mid : BinaryWalk) (closed : Bool) (a m : V) → closed ≡ false → Closes takes es o (Ok closed) mid a m
       → Does takes es o (Ok Goes) mid a m
-  goes_behind es o mid closed a m is d = subst (λ (x : Bool). Closes takes es o (Ok x) mid a m) is d
+  goes_behind es o mid closed a m is d = rw is at d

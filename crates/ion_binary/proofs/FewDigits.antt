@@ -18,14 +18,12 @@ two_digits b n two some more small none = one_more b n _ two some (one_digit b (
 pub var_two : (n : ℕ) → 128 ≤ n → n < 16384 → (n / 128 % 128) ∷ (128 + n % 128) ∷ [] ≡ var_uint_octets n
 var_two n great small =
     let e : n / 128 % 128 ≡ n / 128 = omega arith in
-    ap (λ (d : ℕ). d ∷ (128 + n % 128) ∷ []) e
-    ∙ ap (λ w. w ++ (128 + n % 128) ∷ []) (sym (one_digit 128 (n / 128) (omega arith) (omega arith) (omega arith) (omega arith)))
+    rw (e, one_digit 128 (n / 128) (omega arith) (omega arith) (omega arith) (omega arith)) refl
 
 pub var_three : (n : ℕ) → 16384 ≤ n → n < 2097152 → (n / 16384) ∷ (n / 128 % 128) ∷ (128 + n % 128) ∷ [] ≡ var_uint_octets n
 var_three n great small =
     let e : n / 16384 ≡ n / 128 / 128 = omega arith in
-    ap (λ (d : ℕ). d ∷ (n / 128 % 128) ∷ (128 + n % 128) ∷ []) e
-    ∙ ap (λ w. w ++ (128 + n % 128) ∷ []) (sym (two_digits 128 (n / 128) (omega arith) (omega arith) (omega arith) (omega arith) (omega arith)))
+    rw (e, two_digits 128 (n / 128) (omega arith) (omega arith) (omega arith) (omega arith) (omega arith)) refl
 
 -- 2. Magnitudes of one to four octets behind their descriptor.
 
@@ -66,26 +64,17 @@ framed_four code m great small =
 
 -- 3. Octets that are pushed one behind the other.
 
-one_pushed : (old w0 w1 : List ℕ) (a : ℕ) → w0 ≡ old → w1 ≡ w0 ++ a ∷ [] → w1 ≡ old ++ a ∷ []
-one_pushed old w0 w1 a h e = e ∙ ap (λ w. w ++ a ∷ []) h
+pub two_pushed : {old w0 w1 w2 : List ℕ} (a b : ℕ) → w0 ≡ old → w1 ≡ w0 ++ a ∷ [] → w2 ≡ w1 ++ b ∷ [] → w2 ≡ old ++ a ∷ b ∷ []
+two_pushed a b h e f = rw (f, e, h) (simp append_assoc)
 
--- one more behind these
-one_behind : (old front w new : List ℕ) (d : ℕ) → w ≡ old ++ front → new ≡ w ++ d ∷ [] → new ≡ old ++ (front ++ d ∷ [])
-one_behind old front w new d h e = e ∙ (ap (λ w. w ++ d ∷ []) h ∙ append_assoc old front (d ∷ []))
-
-pub two_pushed : (old w0 w1 w2 : List ℕ) (a b : ℕ) → w0 ≡ old → w1 ≡ w0 ++ a ∷ [] → w2 ≡ w1 ++ b ∷ [] → w2 ≡ old ++ a ∷ b ∷ []
-two_pushed old w0 w1 w2 a b h e f = one_behind old (a ∷ []) w1 w2 b (one_pushed old w0 w1 a h e) f
-
-pub three_pushed : (old w0 w1 w2 w3 : List ℕ) (a b c : ℕ) → w0 ≡ old → w1 ≡ w0 ++ a ∷ [] → w2 ≡ w1 ++ b ∷ [] → w3 ≡ w2 ++ c ∷ []
+pub three_pushed : {old w0 w1 w2 w3 : List ℕ} (a b c : ℕ) → w0 ≡ old → w1 ≡ w0 ++ a ∷ [] → w2 ≡ w1 ++ b ∷ [] → w3 ≡ w2 ++ c ∷ []
     → w3 ≡ old ++ a ∷ b ∷ c ∷ []
-three_pushed old w0 w1 w2 w3 a b c h e f g = one_behind old (a ∷ b ∷ []) w2 w3 c (two_pushed old w0 w1 w2 a b h e f) g
+three_pushed a b c h e f g = rw (g, f, e, h) (simp append_assoc)
 
-pub four_pushed : (old w0 w1 w2 w3 w4 : List ℕ) (a b c d : ℕ) → w0 ≡ old → w1 ≡ w0 ++ a ∷ [] → w2 ≡ w1 ++ b ∷ [] → w3 ≡ w2 ++ c ∷ [] → w4 ≡ w3 ++ d ∷ []
+pub four_pushed : {old w0 w1 w2 w3 w4 : List ℕ} (a b c d : ℕ) → w0 ≡ old → w1 ≡ w0 ++ a ∷ [] → w2 ≡ w1 ++ b ∷ [] → w3 ≡ w2 ++ c ∷ [] → w4 ≡ w3 ++ d ∷ []
     → w4 ≡ old ++ a ∷ b ∷ c ∷ d ∷ []
-four_pushed old w0 w1 w2 w3 w4 a b c d h e f g i =
-    one_behind old (a ∷ b ∷ c ∷ []) w3 w4 d (three_pushed old w0 w1 w2 w3 a b c h e f g) i
+four_pushed a b c d h e f g i = rw (i, g, f, e, h) (simp append_assoc)
 
-pub five_pushed : (old w0 w1 w2 w3 w4 w5 : List ℕ) (a b c d x : ℕ) → w0 ≡ old → w1 ≡ w0 ++ a ∷ [] → w2 ≡ w1 ++ b ∷ [] → w3 ≡ w2 ++ c ∷ []
+pub five_pushed : {old w0 w1 w2 w3 w4 w5 : List ℕ} (a b c d x : ℕ) → w0 ≡ old → w1 ≡ w0 ++ a ∷ [] → w2 ≡ w1 ++ b ∷ [] → w3 ≡ w2 ++ c ∷ []
     → w4 ≡ w3 ++ d ∷ [] → w5 ≡ w4 ++ x ∷ [] → w5 ≡ old ++ a ∷ b ∷ c ∷ d ∷ x ∷ []
-five_pushed old w0 w1 w2 w3 w4 w5 a b c d x h e f g i j =
-    one_behind old (a ∷ b ∷ c ∷ d ∷ []) w4 w5 x (four_pushed old w0 w1 w2 w3 w4 a b c d h e f g i) j
+five_pushed a b c d x h e f g i j = rw (j, i, g, f, e, h) (simp append_assoc)

@@ -1,8 +1,7 @@
 -- Values of the top level that were told and ended: given, or local symbol tables.
-use Rattle.std.proofs.Common.{◌≡◌, ◌⊎◌, List, [], Bool, true, false, Option, Some, None, Result, Ok, Err, refl, ap, sym, subst, ◌∙◌, inl, inr}
+use Rattle.std.proofs.Common.{◌≡◌, ◌⊎◌, List, [], Bool, true, false, Option, Some, None, Result, Ok, Err, refl, ap, sym, ◌∙◌, inl, inr}
 use Rattle.std.specs.Prelude.{if◌then◌else◌}
-use Rattle.ion_binary.specs.Names.{BinaryWalk, DoesAlone, Effect, Gives, Goes, Holds, IsInside, Memory, Ready, Reason, Slot, Value, WasTold, anew, at, deliver, events_of, gives, goes, heard, heard_by, is_table, machine_of, next, open_containers, setting_of, spot_of, table_of, turned}
-use Rattle.ion_visiting.specs.declared.table_filter.Table.{Table}
+use Rattle.ion_binary.specs.Names.{BinaryWalk, DoesAlone, Effect, Gives, Goes, Holds, Memory, Ready, Reason, Slot, Value, WasTold, anew, at, deliver, events_of, heard, is_table, machine_of, next, open_containers, setting_of, spot_of, table_of}
 use Rattle.ion_symtab.specs.laws.Pruned.{next_pruned}
 use Rattle.ion_visiting.specs.Skims.{pruned}
 use Rattle.ion_visiting.specs.laws.Filters.{table_told}
@@ -26,11 +25,11 @@ same_of false v t h = absurd cc
 
 -- what is no table is heard
 heard_value : (v : Value) → is_table v ≡ false → heard (events_of v) ≡ events_of v
-heard_value v plain = ap (λ t. heard_by t (events_of v)) (table_told v ∙ ap (λ b. if b then Table.Yes else Table.No) plain)
+heard_value v plain = rw (table_told v, plain) refl
 
 -- a table isn't
 heard_table : (v : Value) → is_table v ≡ true → heard (events_of v) ≡ []
-heard_table v named = ap (λ t. heard_by t (events_of v)) (table_told v ∙ ap (λ b. if b then Table.Yes else Table.No) named)
+heard_table v named = rw (table_told v, named) refl
 
 -- the table that was taken is one
 pub table_is : (v : Value) (taken : Option Value) (t : Value) → taken ≡ Some t → taken ≡ table_of v → is_table t ≡ true
@@ -39,7 +38,7 @@ table_is v taken t is h =
 
 module _ (r new : BinaryWalk) (none : open_containers new ≡ []) (phase : new.phase ≡ Ready) (v : Value) where
   held : WasTold new.filter [] → Holds new []
-  held was = record { containers = none; named = tt; open_there = tt; inside = subst (λ p. IsInside p []) (sym phase) tt; was_told = was }
+  held was = record { containers = none; named = tt; open_there = tt; inside = rw phase tt; was_told = was }
 
   -- it is given
   pub gives_out : (taken : Option Value) → taken ≡ None → (taken ≡ table_of v) × WasTold new.filter []
@@ -48,8 +47,7 @@ module _ (r new : BinaryWalk) (none : open_containers new ≡ []) (phase : new.p
   gives_out taken is h machine =
       let plain = none_of (is_table v) (pruned v) (sym is ∙ h.0) in (
         v,
-        ap (λ b. if b then turned r.used (next r.context v r.catalog.now) else gives v (at (anew r.used r.context) [] Ready)) plain
-            ∙ ap (gives v) (sym machine),
+        rw (plain, machine) refl,
         held h.1,
         sym (heard_value v plain),
       )
@@ -62,10 +60,7 @@ module _ (r new : BinaryWalk) (none : open_containers new ≡ []) (phase : new.p
       let named = some_of (is_table v) (pruned v) t (sym is ∙ h.0) in
       let same = same_of (is_table v) (pruned v) t (sym is ∙ h.0) in (
         [],
-        ap (λ b. if b then turned r.used (next r.context v r.catalog.now) else gives v (at (anew r.used r.context) [] Ready)) named
-            ∙ (ap (turned r.used) (sym (next_pruned r.context v r.catalog.now))
-            ∙ (ap (λ w. turned r.used (next r.context w r.catalog.now)) (sym same)
-            ∙ (ap (turned r.used) (applied (ap is_table same ∙ (table_pruned v ∙ named))) ∙ ap goes (sym machine)))),
+        rw (named, ← next_pruned r.context v r.catalog.now, ← same, applied (rw (same, table_pruned v) named), machine) refl,
         held h.1,
         sym (heard_table v named),
       )
@@ -77,9 +72,7 @@ pub table_refused : (r new : BinaryWalk) (v : Value) (taken : Option Value) (t :
 table_refused r new v taken t reason result is h refused err =
     let named = some_of (is_table v) (pruned v) t (sym is ∙ h) in
     let same = same_of (is_table v) (pruned v) t (sym is ∙ h) in
-    subst (λ a. DoesAlone (events_of v) (deliver (setting_of r) (spot_of r) [] v) a new) (sym err) (λ other.
-    ap (λ b. if b then turned r.used (next r.context v r.catalog.now) else gives v (at (anew r.used r.context) [] Ready)) named
-    ∙ ap (turned r.used) (sym (next_pruned r.context v r.catalog.now) ∙ (ap (λ w. next r.context w r.catalog.now) (sym same) ∙ of_two other refused)))
+    rw err (λ other. rw (named, ← next_pruned r.context v r.catalog.now, ← same, of_two other refused) refl)
   where
     of_two : ((reason ≡ Memory) → ⊥) → (reason ≡ Memory) ⊎ (next r.context t r.catalog.now ≡ Err reason) → next r.context t r.catalog.now ≡ Err reason
     of_two other (inl m) = absurd (other m)

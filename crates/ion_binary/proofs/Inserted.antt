@@ -1,5 +1,5 @@
 -- The digits of a number in front of octets, inserted from the last on.
-use Rattle.std.proofs.Common.{◌≡◌, ℕ, zero, suc, ◌/◌, ◌%◌, ◌<◌, ◌≤◌, List, [], ◌∷◌, ◌++◌, length, take, drop, refl, sym, ap, ap₂, ◌∙◌, append_assoc, arith}
+use Rattle.std.proofs.Common.{◌≡◌, ℕ, zero, suc, ◌/◌, ◌%◌, ◌<◌, ◌≤◌, List, [], ◌∷◌, ◌++◌, length, take, drop, refl, ap, append_assoc, arith}
 use Rattle.std.specs.List.{insert}
 use Rattle.std.specs.Int.Digits.{digits_of}
 use Rattle.std.proofs.lemmas.Int.Digits.{digits_of_step}
@@ -18,19 +18,17 @@ rest_moved (x ∷ w) (suc i) o le = rest_moved w i o (omega arith)
 pub digit_inserted : (w more : List ℕ) (i o : ℕ) → i ≤ length w → take i (insert w i o) ++ (more ++ drop i (insert w i o)) ≡ take i w
     ++ ((more ++ o ∷ []) ++ drop i w)
 digit_inserted w more i o le =
-    ap₂ (λ (a b : List ℕ). a ++ (more ++ b)) (front_kept w i o le) (rest_moved w i o le)
-    ∙ ap (λ (a : List ℕ). take i w ++ a) (sym (append_assoc more (o ∷ []) (drop i w)))
+    rw (front_kept w i o le, rest_moved w i o le, append_assoc more) refl
 
 -- one digit less is left
 pub digit_next : (w all : List ℕ) (i n : ℕ) → i ≤ length w → 0 < n → take i w ++ (digits_of 128 n ++ drop i w) ≡ all
     → take i (insert w i (n % 128)) ++ (digits_of 128 (n / 128) ++ drop i (insert w i (n % 128))) ≡ all
 digit_next w all i n le some e =
-    digit_inserted w (digits_of 128 (n / 128)) i (n % 128) le
-    ∙ ap (λ (d : List ℕ). take i w ++ (d ++ drop i w)) (sym (digits_of_step 128 n (omega arith) some)) ∙ e
+    rw (digit_inserted w (digits_of 128 (n / 128)) i (n % 128) le, ← digits_of_step 128 n (omega arith) some) e
 
 -- where no digit is left to be inserted, the octets are as they should be
 pub digits_done : (w all : List ℕ) (i n : ℕ) → n ≡ 0 → take i w ++ (digits_of 128 n ++ drop i w) ≡ all → w ≡ all
-digits_done w all i n none e = sym (take_append w i) ∙ ap (λ (k : ℕ). take i w ++ (digits_of 128 k ++ drop i w)) (sym none) ∙ e where
+digits_done w all i n none e = rw (none, take_append w i) at e where
   take_append : (w : List ℕ) (i : ℕ) → take i w ++ drop i w ≡ w
   take_append w zero = refl
   take_append [] (suc i) = refl

@@ -6,8 +6,6 @@ pub mod Inserted
 pub mod Insides
 pub mod Encoded
 pub mod Appended
-pub mod Ids
-pub mod Later
 pub mod Tabled
 pub mod Calls
 pub mod BinaryTold

@@ -1,5 +1,5 @@
 -- How a run over a piece ends.
-use Rattle.std.proofs.Common.{◌≡◌, ℕ, ◌+◌, ◌<◌, ◌≤◌, List, [], ◌∷◌, ◌++◌, length, take, drop, ap, sym, ◌∙◌, arith, Ok, append_assoc, subst, ◌-◌, length-take, length-drop}
+use Rattle.std.proofs.Common.{◌≡◌, ℕ, ◌+◌, ◌<◌, ◌≤◌, List, [], ◌∷◌, ◌++◌, length, take, drop, ap, sym, ◌∙◌, arith, Ok, append_assoc, ◌-◌, length-take, length-drop}
 use Rattle.std.proofs.lemmas.Grind.{common_steps}
 use Rattle.std.proofs.lemmas.List.{length-take-le}
 use Rattle.std.proofs.Math.Seq.{take-add}
@@ -29,14 +29,9 @@ module _ (g : Catalog) (l : Limits) (to : ℕ) where
   pub leads_through : (start m n : Machine) (piece : List ℕ) (i k : ℕ) → LeadsFromStart g l to start piece i m
       → LeadsFromStart g l (to + i) m (drop i piece) k n → LeadsFromStart g l to start piece (i + k) n
   leads_through start m n piece i k before behind = record {
-    onward =
-        λ rest.
+    onward = λ rest.
         let place : to + i + k ≡ to + (i + k) = omega arith in
-        ap (λ w. run g l to start (w ++ rest)) (take-add i k piece)
-        ∙ (ap (run g l to start) (append_assoc (take i piece) (take k (drop i piece)) rest)
-        ∙ (before.onward (take k (drop i piece) ++ rest)
-        ∙ (behind.onward rest
-        ∙ ap (λ p. run g l p n rest) place)));
+        rw (take-add i k piece, append_assoc (take i piece), before.onward (take k (drop i piece) ++ rest), behind.onward rest, place);
   }
 
 -- as much as is behind an octet is all behind it
@@ -44,35 +39,22 @@ pub whole_rest : (piece : List ℕ) (i : ℕ) → take (length piece - i) (drop 
 whole_rest piece i = grind (arith, common_steps)
 
 -- octets of the rest of the piece that were taken up at once lead on
-pub leads_by : (g : Catalog) (l : Limits) (to : ℕ) (start m n : Machine) (piece : List ℕ) (i k used : ℕ) (cat : Catalog) (lim : Limits) → cat ≡ g → lim ≡ l
-    → used ≡ to + i →
-    k ≤ length (take (length piece - i) (drop i piece)) → run cat lim used m (take k (take (length piece - i) (drop i piece))) ≡ led n →
-    LeadsFromStart g l to start piece i m → LeadsFromStart g l to start piece (i + k) n
-leads_by g l to start m n piece i k used cat lim same_catalog same_limits place within e before =
-    let part = take k (take (length piece - i) (drop i piece)) in
+pub leads_by : {g cat : Catalog} {l lim : Limits} {to used i : ℕ} {start m n : Machine} {piece : List ℕ} (k : ℕ) → cat ≡ g → lim ≡ l → used ≡ to + i
+    → k ≤ length (take (length piece - i) (drop i piece)) → run cat lim used m (take k (take (length piece - i) (drop i piece))) ≡ led n
+    → LeadsFromStart g l to start piece i m → LeadsFromStart g l to start piece (i + k) n
+leads_by {g = g} {l = l} {to = to} {i = i} {start = start} {m = m} {n = n} {piece = piece} k same_catalog same_limits place within e before =
     let rest = whole_rest piece i in
     leads_through g l to start m n piece i k before
-    (led_leads g l (to + i) m n (drop i piece) k (subst (λ (w : List ℕ). k ≤ length w) rest within)
-    (ap (λ w. run g l (to + i) m (take k w)) (sym rest)
-    ∙ (ap (λ p. run g l p m part) (sym place)
-    ∙ (ap (λ y. run g y used m part) (sym same_limits)
-    ∙ (ap (λ x. run x lim used m part) (sym same_catalog) ∙ e)))))
+    (led_leads g l (to + i) m n (drop i piece) k (rw rest at within) (rw (same_catalog, same_limits, place, rest) at e))
 
 -- octets of the rest of the piece with whose last a value came
-pub leads_to_value : (g : Catalog) (l : Limits) (to : ℕ) (start m n : Machine) (piece : List ℕ) (i k used : ℕ) (cat : Catalog) (lim : Limits) (v : Value) → cat ≡ g
-    → lim ≡ l → used ≡ to + i →
-    run cat lim used m (take k (take (length piece - i) (drop i piece))) ≡ record { given = (v, used + k) ∷ []; now = Ok n } →
-    LeadsFromStart g l to start piece i m → run g l to start (take (i + k) piece) ≡ record { given = (v, to + (i + k)) ∷ []; now = Ok n }
-leads_to_value g l to start m n piece i k used cat lim v same_catalog same_limits place e before =
-    let part = take k (take (length piece - i) (drop i piece)) in
+pub leads_to_value : {g cat : Catalog} {l lim : Limits} {to used i : ℕ} {start m n : Machine} {piece : List ℕ} (k : ℕ) (v : Value) → cat ≡ g → lim ≡ l
+    → used ≡ to + i → run cat lim used m (take k (take (length piece - i) (drop i piece))) ≡ record { given = (v, used + k) ∷ []; now = Ok n }
+    → LeadsFromStart g l to start piece i m → run g l to start (take (i + k) piece) ≡ record { given = (v, to + (i + k)) ∷ []; now = Ok n }
+leads_to_value {to = to} {used = used} {i = i} {piece = piece} k v same_catalog same_limits place e before =
     let behind : used + k ≡ to + (i + k) = omega arith in
-    ap (run g l to start) (take-add i k piece)
-    ∙ (before.onward (take k (drop i piece))
-    ∙ (ap (λ w. run g l (to + i) m (take k w)) (sym (whole_rest piece i))
-    ∙ (ap (λ p. run g l p m part) (sym place)
-    ∙ (ap (λ y. run g y used m part) (sym same_limits)
-    ∙ (ap (λ x. run x lim used m part) (sym same_catalog)
-    ∙ (e ∙ ap (λ j. record { given = (v, j) ∷ []; now = Ok n }) behind))))))
+    let on = rw (behind, same_catalog, same_limits, place, whole_rest piece i) at e in
+    rw (take-add i k piece, before.onward (take k (drop i piece))) on
 
 pub within_rest : (piece : List ℕ) (i k : ℕ) → 0 < k → k ≤ length (take (length piece - i) (drop i piece)) → i + k ≤ length piece
 within_rest piece i k some within = omega (arith, length-take {A = ℕ}, length-drop {A = ℕ})

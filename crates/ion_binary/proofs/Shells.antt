@@ -1,6 +1,6 @@
 -- What may stand in open containers is told by their shells, in which nothing is.
 use Rattle.std.proofs.Common.{◌≡◌, ℕ, suc, List, [], ◌∷◌, map, Bool, false, Option, Some, None, Ok, Err, refl, ap, sym, ◌∙◌}
-use Rattle.std.specs.Prelude.{nat_lt, if◌then◌else◌}
+use Rattle.std.specs.Prelude.{nat_lt}
 use Rattle.ion_binary.specs.Names.{AreAround, AreOpen, BinaryWalk, Field, Form, Frame, Holds, HoldsNoWrapper, IsNamedBy, MayBegin, Outcome, Reason, containers_of, is_pad, levels, misfits, name_of, nameless, or_else, refuses, shell, shells, stray, unfit, unless}
 use Rattle.ion_binary.specs.machine.Frames as frames
 use Rattle.ion_binary.specs.walking.Holds.{Name}
@@ -23,11 +23,11 @@ levels_same n (_ ∷ fs) = ap suc (levels_same n fs)
 -- the same of readers
 
 pub levels_of : (r : BinaryWalk) (fs : List Frame) → Holds r fs → levels (shells r) ≡ levels fs
-levels_of r fs h = ap levels (shells_of r fs h) ∙ levels_same (name_of r) fs
+levels_of r fs h = rw h.containers (levels_same (name_of r) fs)
 
 pub deepens : (r : BinaryWalk) (fs : List Frame) (may : Bool) → Holds r fs → may ≡ nat_lt (levels (shells r)) r.limits.depth
     → nat_lt (levels fs) r.limits.depth ≡ may
-deepens r fs may h is = ap (λ k. nat_lt k r.limits.depth) (sym (levels_of r fs h)) ∙ sym is
+deepens r fs may h is = rw (is, levels_of r fs h) refl
 
 -- where a form may not stand: their shells tell
 
@@ -47,15 +47,12 @@ nameless_by (Err e) form end ms fs gs = refl
 
 nameless_same : (n : Name) (fs : List Frame) (form : Form) → IsNamedBy n fs → nameless (emptied n fs) form ≡ nameless fs form
 nameless_same n (frames.Named end ms m ∷ fs) form h =
-    ap (λ x. nameless (frames.Named end [] x ∷ emptied n fs) form) (sym h) ∙ nameless_by m form end ms (emptied n fs) fs
+    rw (← h) (nameless_by m form end ms (emptied n fs) fs)
 nameless_same n _ form h = refl
 
 unfit_same : (item start : ℕ) (n : Name) (fs : List Frame) (form : Form) (to : ℕ) → IsNamedBy n fs
     → unfit item start (emptied n fs) form to ≡ unfit item start fs form to
-unfit_same item start n fs form to h =
-    ap (λ o. or_else o (or_else (misfits item start (emptied n fs) form to) (nameless (emptied n fs) form))) (stray_same n fs form)
-    ∙ (ap (λ o. or_else (stray fs form) (or_else o (nameless (emptied n fs) form))) (misfits_same item start n fs form to)
-    ∙ ap (λ o. or_else (stray fs form) (or_else (misfits item start fs form to) o)) (nameless_same n fs form h))
+unfit_same item start n fs form to h = rw (stray_same n fs form, misfits_same item start n fs form to, nameless_same n fs form h) refl
 
 first_none : (a b : Option Reason) → or_else a b ≡ None → a ≡ None
 first_none None b h = refl
@@ -69,7 +66,7 @@ second_none (Some e) b h = absurd cc
 around_open : (fs : List Frame) (form : Form) → AreOpen fs → is_pad form ≡ false → nameless fs form ≡ None → AreAround fs
 around_open [] form h plain named = tt
 around_open (frames.Named end ms (Err e) ∷ fs) form h plain named =
-    let refused : Some e ≡ None = ap (λ b. if b then None else Some e) (sym plain) ∙ named in absurd cc
+    let refused = rw plain at named in absurd cc
 around_open (_ ∷ fs) form h plain named = h
 
 unwrapped_open : (fs : List Frame) → stray fs Form.Wrapper ≡ None → HoldsNoWrapper fs
@@ -86,33 +83,30 @@ begins_open fs Form.Wrapper h fits named = (unwrapped_open fs fits, around_open 
 
 module _ (r : BinaryWalk) (fs : List Frame) (h : Holds r fs) (form : Form) (to : ℕ) where
   unfit_of : unfit r.limits.item r.start (shells r) form to ≡ unfit r.limits.item r.start fs form to
-  unfit_of = ap (λ gs. unfit r.limits.item r.start gs form to) (shells_of r fs h)
-      ∙ unfit_same r.limits.item r.start (name_of r) fs form to h.named
+  unfit_of = rw h.containers (unfit_same r.limits.item r.start (name_of r) fs form to h.named)
 
   -- what may not stand there is refused
   pub unfit_refused : (o : Outcome) (e : Reason) → Some e ≡ unfit r.limits.item r.start (shells r) form to
       → unless (unfit r.limits.item r.start fs form to) o ≡ refuses e
-  unfit_refused o e is = ap (λ x. unless x o) (sym unfit_of ∙ sym is)
+  unfit_refused o e is = rw (← unfit_of, ← is) refl
 
   -- what may stand there goes on
   pub fits : (o : Outcome) → None ≡ unfit r.limits.item r.start (shells r) form to → unless (unfit r.limits.item r.start fs form to) o ≡ o
-  fits o is = ap (λ x. unless x o) (sym unfit_of ∙ sym is)
+  fits o is = rw (← unfit_of, ← is) refl
+
+  may_stand : None ≡ unfit r.limits.item r.start (shells r) form to
+      → (stray fs form ≡ None) × (misfits r.limits.item r.start fs form to ≡ None) × (nameless fs form ≡ None)
+  may_stand is =
+      let none : unfit r.limits.item r.start fs form to ≡ None = sym unfit_of ∙ sym is in
+      let rest = second_none (stray fs form) (or_else (misfits r.limits.item r.start fs form to) (nameless fs form)) none in (
+        first_none (stray fs form) _ none,
+        first_none (misfits r.limits.item r.start fs form to) _ rest,
+        second_none (misfits r.limits.item r.start fs form to) (nameless fs form) rest,
+      )
 
   -- and there is room for it
   pub has_room : None ≡ unfit r.limits.item r.start (shells r) form to → Admits fs form × BodyMayEnd r.limits r.start fs form to
-  has_room is =
-      let none : unfit r.limits.item r.start fs form to ≡ None = sym unfit_of ∙ sym is in
-      let rest = second_none (stray fs form) (or_else (misfits r.limits.item r.start fs form to) (nameless fs form)) none in (
-        record {
-          fitting = first_none (stray fs form) _ none;
-          named = second_none (misfits r.limits.item r.start fs form to) (nameless fs form) rest;
-        },
-        misfits_ends r.limits r.start fs form to (first_none (misfits r.limits.item r.start fs form to) _ rest),
-      )
+  has_room is = let s = may_stand is in (record { fitting = s.0; named = s.2 }, misfits_ends r.limits r.start fs form to s.1)
 
   pub may_begin : None ≡ unfit r.limits.item r.start (shells r) form to → MayBegin form fs
-  may_begin is =
-      let none : unfit r.limits.item r.start fs form to ≡ None = sym unfit_of ∙ sym is in
-      let rest = second_none (stray fs form) (or_else (misfits r.limits.item r.start fs form to) (nameless fs form)) none in
-      begins_open fs form h.open_there (first_none (stray fs form) _ none)
-      (second_none (misfits r.limits.item r.start fs form to) (nameless fs form) rest)
+  may_begin is = let s = may_stand is in begins_open fs form h.open_there s.0 s.2

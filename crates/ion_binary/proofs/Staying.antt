@@ -1,10 +1,9 @@
 -- Containers that go on behind a value in them, in a reader that holds no values.
-use Rattle.std.proofs.Common.{◌≡◌, ℕ, ◌-◌, List, [], ◌∷◌, ◌++◌, length, reverse, false, Some, None, Ok, Err, refl, ap, sym, subst, ◌∙◌, arith, length-append}
-use Rattle.std.specs.Prelude.{◌==◌, if◌then◌else◌, slice_set}
+use Rattle.std.proofs.Common.{◌≡◌, ℕ, ◌-◌, List, [], ◌∷◌, ◌++◌, length, reverse, false, Some, None, Ok, Err, refl, ap, sym, ◌∙◌, arith, length-append}
+use Rattle.std.specs.Prelude.{◌==◌, slice_set}
 use Rattle.std.proofs.lemmas.List.{reverse-append, reverse-reverse}
 use Rattle.std.proofs.Math.Seq.{set-append_seam}
-use Rattle.ion_binary.specs.Names.{BinaryWalk, Container, DoesAlone, Frame, Goes, Holds, InNumber, IsBehind, Purpose, Ready, Value, WasTold, at, bare, containers_of, deliver, events_of, field_of, fields_end, goes, heard, items_end, listed, named_end, open_containers, proceed, setting_of, spot_of, told}
-use Rattle.ion_model.specs.declared.value.Payload.TheVariants as payloads
+use Rattle.ion_binary.specs.Names.{BinaryWalk, Container, DoesAlone, Frame, Goes, Holds, InNumber, IsBehind, Purpose, Ready, Value, deliver, events_of, field_of, fields_end, heard, items_end, named_end, open_containers, proceed, setting_of, spot_of, told}
 use Rattle.ion_binary.specs.machine.Frames as frames
 use Rattle.ion_binary.specs.walking.Holds.{told_in}
 use Rattle.ion_binary.proofs.Tellings.{field_told, item_told}
@@ -14,9 +13,7 @@ pub last_set : {A : Type 0} (xs ks : List A) (n : ℕ) (x y : A) → length xs �
 last_set xs ks n x y size e =
     let whole : xs ≡ reverse ks ++ x ∷ [] = sym (reverse-reverse xs) ∙ (ap reverse e ∙ reverse-append (x ∷ []) ks) in
     let last : n - 1 ≡ length (reverse ks) = omega (arith, size, ap length whole, length-append (reverse ks) (x ∷ [])) in
-    ap (λ i. reverse (slice_set xs i y)) last
-    ∙ (ap (λ w. reverse (slice_set w (length (reverse ks)) y)) whole
-    ∙ (ap reverse (set-append_seam (reverse ks) x [] y) ∙ (reverse-append (reverse ks) (y ∷ []) ∙ ap (λ l. y ∷ l) (reverse-reverse ks))))
+    rw (last, whole, set-append_seam (reverse ks) x [] y, reverse-append (reverse ks), reverse-reverse ks) refl
 
 module _ (r : BinaryWalk) (end : ℕ) (test : (r.used == end) ≡ false) where
   -- a list or an s-expression goes on
@@ -24,20 +21,11 @@ module _ (r : BinaryWalk) (end : ℕ) (test : (r.used == end) ≡ false) where
       → DoesAlone (told_in fs ++ events_of v) (deliver (setting_of r) (spot_of r) fs v) (Ok Goes) (record r { phase = Ready })
   items_stay is (frames.Items to x vs ∷ fs) v h =
       let e : Some end ≡ Some to = is ∙ ap items_end h.containers in
-      let same : end ≡ to = cc in
+      let same : to ≡ end = cc in
       let more = item_told to x fs vs v in (
         frames.Items to x (vs ++ v ∷ []) ∷ fs,
-        ap (λ b. if b then deliver (setting_of r) (spot_of r) fs (bare (listed x (vs ++ v ∷ []))) else goes (at (spot_of r) (frames.Items to x
-            (vs ++ v ∷ []) ∷ fs) Ready))
-            (ap (λ n. r.used == n) (sym same) ∙ test),
-        record {
-          containers = h.containers;
-          named = tt;
-          open_there = h.around;
-          inside = tt;
-          was_told = subst
-              (λ es. WasTold r.filter es) more h.was_told;
-        },
+        rw (same, test) refl,
+        record { containers = h.containers; named = tt; open_there = h.around; inside = tt; was_told = rw more at h.was_told },
         ap heard (sym more),
       )
   items_stay is _ v h = let e : Some end ≡ None = is ∙ ap items_end h.containers in absurd cc
@@ -51,20 +39,16 @@ module _ (r : BinaryWalk) (end : ℕ) (test : (r.used == end) ≡ false) where
     named_stay is (frames.Named to ms (Err n) ∷ fs) v h = absurd h.around
     named_stay is (frames.Named to ms (Ok n) ∷ fs) v h =
         let e : Some end ≡ Some to = is ∙ ap named_end h.containers in
-        let same : end ≡ to = cc in
-        let more = field_told to fs ms n v in
-        let all = ms ++ field_of n v ∷ [] in (
-          frames.Fields to all ∷ fs,
-          ap (λ b. if b then deliver (setting_of r) (spot_of r) fs (bare (payloads.Fields all))
-              else goes (at (spot_of r) (frames.Fields to all ∷ fs) (InNumber Purpose.FieldName 0))) (ap (λ k. r.used == k) (sym same) ∙ test)
-              ∙ ap (λ (w : BinaryWalk). goes (at (spot_of w) (frames.Fields to all ∷ fs) (InNumber Purpose.FieldName 0))) (sym kept),
+        let same : to ≡ end = cc in
+        let more = field_told to fs ms n v in (
+          frames.Fields to (ms ++ field_of n v ∷ []) ∷ fs,
+          rw (same, test, kept) refl,
           record {
-            containers = there (Container.Named to) (containers_of fs) h.containers ∙ ap (λ k. Container.Fields k ∷ containers_of fs) same;
+            containers = rw same (there _ _ h.containers);
             named = tt;
             open_there = h.around;
             inside = tt;
-            was_told = subst (λ (w : BinaryWalk). WasTold w.filter (told_in (frames.Fields to all ∷ fs))) (sym kept)
-                (subst (λ es. WasTold r.filter es) more h.was_told);
+            was_told = rw kept (rw more at h.was_told);
           },
           ap heard (sym more),
         )
@@ -75,10 +59,9 @@ module _ (r : BinaryWalk) (end : ℕ) (test : (r.used == end) ≡ false) where
       → DoesAlone (told fs) (proceed (setting_of r) (spot_of r) fs) (Ok Goes) (record r { phase = Ready })
   items_proceed is (frames.Items to x vs ∷ fs) h =
       let e : Some end ≡ Some to = is ∙ ap items_end h.containers in
-      let same : end ≡ to = cc in (
+      let same : to ≡ end = cc in (
         frames.Items to x vs ∷ fs,
-        ap (λ b. if b then deliver (setting_of r) (spot_of r) fs (bare (listed x vs)) else goes (at (spot_of r) (frames.Items to x vs ∷ fs) Ready))
-            (ap (λ n. r.used == n) (sym same) ∙ test),
+        rw (same, test) refl,
         record { containers = h.containers; named = tt; open_there = h.open_there; inside = tt; was_told = h.was_told },
         refl,
       )
@@ -89,10 +72,9 @@ module _ (r : BinaryWalk) (end : ℕ) (test : (r.used == end) ≡ false) where
       → DoesAlone (told fs) (proceed (setting_of r) (spot_of r) fs) (Ok Goes) (record r { phase = InNumber Purpose.FieldName 0 })
   fields_proceed is (frames.Fields to ms ∷ fs) h =
       let e : Some end ≡ Some to = is ∙ ap fields_end h.containers in
-      let same : end ≡ to = cc in (
+      let same : to ≡ end = cc in (
         frames.Fields to ms ∷ fs,
-        ap (λ b. if b then deliver (setting_of r) (spot_of r) fs (bare (payloads.Fields ms))
-            else goes (at (spot_of r) (frames.Fields to ms ∷ fs) (InNumber Purpose.FieldName 0))) (ap (λ n. r.used == n) (sym same) ∙ test),
+        rw (same, test) refl,
         record { containers = h.containers; named = tt; open_there = h.open_there; inside = tt; was_told = h.was_told },
         refl,
       )

@@ -1,10 +1,11 @@
 -- VarUInts that have come, in a reader that holds no values: names, annotations, and what goes on.
-use Rattle.std.proofs.Common.{◌≡◌, ℕ, zero, suc, take, ◌+◌, ◌-◌, ◌*◌, ◌^◌, ◌≤◌, ◌<◌, List, [], ◌∷◌, ◌++◌, Bool, true, false, Option, Some, None, Ok, refl, ap, sym, subst, ◌∙◌, arith}
+use Rattle.std.proofs.Common.{◌≡◌, ℕ, zero, suc, take, ◌+◌, ◌-◌, ◌*◌, ◌^◌, ◌≤◌, ◌<◌, List, [], ◌∷◌, ◌++◌, Bool, true, false, Option, Some, None, Ok, refl, ap, sym, ◌∙◌, arith}
 use Rattle.std.specs.Prelude.{◌==◌, nat_lt, if◌then◌else◌}
 use Rattle.std.proofs.lemmas.Bool.Decides.{nat_tests}
-use Rattle.ion_binary.specs.Names.{BinaryWalk, Container, Does, DoesAlone, Event, Frame, Goes, Hears, Holds, InNumber, IsInside, Malformed, Purpose, Ready, Setting, Spot, Tells, TooLarge, VarUInt, WasTold, annotation, annotation_came, at, behind_annotation, body_so_far, containers_of, fields_end, goes, heard, longer, name_came, name_of, number_came, on_number, open_containers, refuses, resolve, spot_of, told, wrapper_end}
+use Rattle.ion_binary.specs.Names.{BinaryWalk, Container, Does, DoesAlone, Event, Frame, Goes, Holds, InNumber, IsInside, Purpose, Ready, Setting, Spot, Tells, TooLarge, VarUInt, annotation, annotation_came, at, behind_annotation, body_so_far, fields_end, goes, longer, name_came, name_of, number_came, on_number, Outcome, open_containers, refuses, resolve, spot_of, told, wrapper_end}
 use Rattle.ion_binary.specs.machine.Frames as frames
 use Rattle.ion_binary.specs.walking.Holds.{Name}
+use Rattle.ion_symtab.specs.laws.Reasons.{either}
 use Rattle.ion_binary.specs.laws.reading.Complete.{length_VarUInt}
 use Rattle.ion_binary.proofs.Tellings.{note_told}
 
@@ -21,19 +22,17 @@ pub name_does : (r new : BinaryWalk) (id end : ℕ) → Some end ≡ fields_end 
     → new.filter ≡ r.filter → new.phase ≡ Ready → (fs : List Frame) → Holds r fs → DoesAlone (told fs) (name_came (spot_of r) fs id) (Ok Goes) new
 name_does r new id end some left there named spot kept phase (frames.Fields to ms ∷ fs) h =
     let e : Some end ≡ Some to = some ∙ ap fields_end h.containers in
-    let is : end ≡ to = cc in
-    let test : nat_lt r.used to ≡ true = grind (arith, nat_tests) in
+    let is : to ≡ end = cc in
+    let test : nat_lt r.used end ≡ true = grind (arith, nat_tests) in
     let s = resolve r.context id in (
       frames.Named to ms s ∷ fs,
-      ap (λ b. if b then goes (at (spot_of r) (frames.Named to ms s ∷ fs) Ready) else refuses Malformed) test
-          ∙ (ap (λ t. goes (at t (frames.Named to ms s ∷ fs) Ready)) (sym spot)
-          ∙ ap (λ p. goes (record { spot = spot_of new; frames = frames.Named to ms s ∷ fs; phase = p; body = body_so_far p new.body })) (sym phase)),
+      rw (is, test, phase) (ap (λ t. goes (at t (frames.Named end ms s ∷ fs) Ready)) (sym spot)),
       record {
-        containers = there (Container.Fields to) (containers_of fs) h.containers ∙ ap (λ k. Container.Named k ∷ containers_of fs) is;
+        containers = rw is (there _ _ h.containers);
         named = sym named;
         open_there = h.open_there;
-        inside = subst (λ p. IsInside p (frames.Named to ms s ∷ fs)) (sym phase) tt;
-        was_told = subst (λ f. WasTold f (told (frames.Fields to ms ∷ fs))) (sym kept) h.was_told;
+        inside = rw phase tt;
+        was_told = rw kept h.was_told;
       },
       refl,
     )
@@ -55,24 +54,19 @@ module _ {V : Type 0} (takes : V → Event → V → Type 0) (r new : BinaryWalk
     (phase : new.phase ≡ behind_annotation r.used stop) (tells : Tells takes (annotation s) r.filter new.filter a b) where
   pub note_does : (fs : List Frame) → Holds r fs → Does takes (told fs) (annotation_came (spot_of r) fs stop name) (Ok Goes) new a b
   note_does (frames.Annotated to ss ∷ fs) h =
-      let more = note_told to fs ss s in
-      let i = tells (told (frames.Annotated to ss ∷ fs)) h.was_told in
-      let gs = frames.Annotated to (ss ++ s ∷ []) ∷ fs in
-      let next = behind_annotation r.used stop in (
+      let i = rw (note_told to fs ss s) at (tells (told (frames.Annotated to ss ∷ fs)) h.was_told) in
+      let gs = frames.Annotated to (ss ++ s ∷ []) ∷ fs in (
         gs,
-        ap (annotation_came (spot_of r) (frames.Annotated to ss ∷ fs) stop) is
-            ∙ (ap (λ t. goes (at t gs next)) (sym spot)
-            ∙ (ap (λ w. goes (record { spot = spot_of new; frames = gs; phase = next; body = w })) (sym (keeps_none (r.used == stop) stop new.body))
-            ∙ ap (λ p. goes (record { spot = spot_of new; frames = gs; phase = p; body = body_so_far p new.body })) (sym phase))),
+        rw (is, phase, keeps_none (r.used == stop) stop new.body) (ap (λ t. goes (at t gs (behind_annotation r.used stop))) (sym spot)),
         record {
           holds = record {
             containers = same ∙ h.containers;
             named = tt;
             open_there = h.open_there;
-            inside = subst (λ p. IsInside p gs) (sym phase) (is_inside (r.used == stop) stop gs);
-            was_told = subst (λ es. WasTold new.filter es) more i.0;
+            inside = rw phase (is_inside (r.used == stop) stop gs);
+            was_told = i.0;
           };
-          hears = subst (λ es. Hears takes (heard (told (frames.Annotated to ss ∷ fs))) (heard es) a b) more i.1;
+          hears = i.1;
         },
       )
   note_does _ h = let n : Some end ≡ None = some ∙ ap wrapper_end h.containers in absurd cc
@@ -84,26 +78,16 @@ module _ (setting : Setting) (spot : Spot) (fs : List Frame) (p : Purpose) (a b 
   number_large large =
       let more : nat_lt (128 * a + b) (2 ^ 63) ≡ false = grind (arith, nat_tests) in
       let last : nat_lt (128 * a + (b - 128)) (2 ^ 63) ≡ false = grind (arith, nat_tests) in
-      either (nat_lt b 128) more last
-    where
-      either : (t : Bool) → nat_lt (128 * a + b) (2 ^ 63) ≡ false → nat_lt (128 * a + (b - 128)) (2 ^ 63) ≡ false
-          → (if t then (if nat_lt (128 * a + b) (2 ^ 63) then longer setting spot fs p (128 * a + b) else refuses TooLarge)
-          else (if nat_lt (128 * a + (b - 128)) (2 ^ 63) then number_came setting spot fs p (128 * a + (b - 128)) else refuses TooLarge)) ≡ refuses TooLarge
-      either true more last = ap (λ x. if x then longer setting spot fs p (128 * a + b) else refuses TooLarge) more
-      either false more last = ap (λ x. if x then number_came setting spot fs p (128 * a + (b - 128)) else refuses TooLarge) last
+      either (λ (o : Outcome). o ≡ refuses TooLarge) (nat_lt b 128) _ _ (rw more refl) (rw last refl)
 
   pub number_goes_on : a < 2 ^ 56 → b < 128 → on_number setting spot fs p a b ≡ longer setting spot fs p (128 * a + b)
   number_goes_on small high =
       let t : nat_lt b 128 ≡ true = grind (arith, nat_tests) in
       let u : nat_lt (128 * a + b) (2 ^ 63) ≡ true = grind (arith, nat_tests) in
-      ap (λ x. if x then (if nat_lt (128 * a + b) (2 ^ 63) then longer setting spot fs p (128 * a + b) else refuses TooLarge)
-      else (if nat_lt (128 * a + (b - 128)) (2 ^ 63) then number_came setting spot fs p (128 * a + (b - 128)) else refuses TooLarge)) t
-      ∙ ap (λ x. if x then longer setting spot fs p (128 * a + b) else refuses TooLarge) u
+      rw (t, u) refl
 
   pub number_ends : a < 2 ^ 56 → 128 ≤ b → b < 256 → on_number setting spot fs p a b ≡ number_came setting spot fs p (128 * a + (b - 128))
   number_ends small high octet =
       let t : nat_lt b 128 ≡ false = grind (arith, nat_tests) in
       let u : nat_lt (128 * a + (b - 128)) (2 ^ 63) ≡ true = grind (arith, nat_tests) in
-      ap (λ x. if x then (if nat_lt (128 * a + b) (2 ^ 63) then longer setting spot fs p (128 * a + b) else refuses TooLarge)
-      else (if nat_lt (128 * a + (b - 128)) (2 ^ 63) then number_came setting spot fs p (128 * a + (b - 128)) else refuses TooLarge)) t
-      ∙ ap (λ x. if x then number_came setting spot fs p (128 * a + (b - 128)) else refuses TooLarge) u
+      rw (t, u) refl

@@ -1,10 +1,10 @@
 -- Runs over octets in a reader that holds no values.
-use Rattle.std.proofs.Common.{◌≡◌, ℕ, ◌+◌, ◌-◌, ◌≤◌, ◌<◌, List, [], ◌∷◌, ◌++◌, length, take, drop, get_or, append-nil, length-append, None, Bool, true, false, Result, Ok, Err, refl, ap, sym, subst, ◌∙◌, arith, ne_eqb}
+use Rattle.std.proofs.Common.{◌≡◌, ℕ, ◌+◌, ◌-◌, ◌≤◌, ◌<◌, List, [], ◌∷◌, ◌++◌, length, take, drop, get_or, append-nil, length-append, None, Bool, true, false, Result, Ok, Err, refl, ap, sym, ◌∙◌, arith, ne_eqb}
 use Rattle.std.specs.Prelude.{◌==◌, if◌then◌else◌}
 use Rattle.std.specs.Option.{is_some}
 use Rattle.std.proofs.lemmas.Bool.{false≢true}
 use Rattle.std.proofs.lemmas.List.{length-take-le, take-append-drop, take_all}
-use Rattle.ion_binary.specs.Names.{Answers, AreAround, BinaryWalk, Catalog, Does, Effect, EndsOn, Event, Frame, Gives, Goes, Holds, InBody, InMarker, InNumber, InPad, Incomplete, IsInside, Limits, Machine, Outcome, Phase, Reached, Ready, Reason, Refusal, Run, SameSetting, Scalar, StandsFor, StepsOver, Told, Value, Walked, Walks, WalksOn, WentOn, awaits, ends_of, failed, feed, heard, if_ended, initial, judge, judged, led, machine_of, name_of, pending, refused_at, run, run-append, run_after, run_of, setting_of, shells, spot_of, taken, then_run, told, trace, trace_of, under, whole}
+use Rattle.ion_binary.specs.Names.{Answers, AreAround, BinaryWalk, Catalog, Does, Effect, EndsOn, Event, Frame, Gives, Goes, Holds, InBody, Incomplete, IsInside, Limits, Machine, Outcome, Phase, Reached, Ready, Reason, Refusal, Run, SameSetting, Scalar, StandsFor, StepsOver, Told, Value, Walked, Walks, WalksOn, WentOn, awaits, failed, feed, heard, if_ended, initial, judge, judged, machine_of, name_of, pending, run, run-append, run_after, run_of, setting_of, shells, spot_of, taken, told, trace, under, whole}
 use Rattle.ion_visiting.specs.laws.Filters.{hears_none}
 use Rattle.ion_symtab.specs.Walks.{DoesWalk}
 use Rattle.ion_symtab.proofs.Walking.{not_failed, went_over, went_to_end}
@@ -13,13 +13,13 @@ use Rattle.ion_binary.specs.walking.Holds.{Name}
 use Rattle.ion_binary.specs.walking.Runs.{CountsOn, Led, TakesUp, Took, gave}
 use Rattle.ion_binary.proofs.Insides.{body_ends, refused_whole}
 use Rattle.ion_binary.proofs.PieceEnds.{LeadsFromStart, leads_by, leads_to_end, leads_to_value, whole_rest, within_rest}
-use Rattle.ion_binary.proofs.Shells.{emptied, shells_of}
+use Rattle.ion_binary.proofs.Shells.{emptied}
 use Rattle.ion_binary.proofs.Tellings.{gave_behind, went_behind}
 
 -- 1. Octets at the front of a piece.
 
 pub around_body : (phase : Phase) (t : Scalar) (n : ℕ) (fs : List Frame) → phase ≡ InBody t n → IsInside phase fs → AreAround fs
-around_body phase t n fs is h = subst (λ p. IsInside p fs) is h
+around_body phase t n fs is h = rw is at h
 
 -- no octets were kept where their number is 0
 pub empty_where : {A : Type 0} (w : List A) → (length w == 0) ≡ true → w ≡ []
@@ -36,8 +36,8 @@ module _ {V : Type 0} (takes : V → Event → V → Type 0) (es : List Event) w
   -- a run that a method's outcome ends
   pub reached_by : (o : Outcome) (effect : Effect) (r : BinaryWalk) (ran : Run) (to : ℕ) (a b : V) → ran ≡ run_after to o
       → Does takes es o (Ok effect) r a b → Reached takes es ran to effect r a b
-  reached_by o Goes r ran to a b e d = (d.0, e ∙ ap (run_after to) d.1, d.2)
-  reached_by o Gives r ran to a b e d = (d.0, e ∙ ap (run_after to) d.1, d.2)
+  reached_by o Goes r ran to a b e d = (d.0, rw d.1 at e, d.2)
+  reached_by o Gives r ran to a b e d = (d.0, rw d.1 at e, d.2)
 
 module _ {V : Type 0} (takes : V → Event → V → Type 0) (r : BinaryWalk) (fs : List Frame) (h : Holds r fs) (piece : List ℕ) (new : BinaryWalk) (a b : V) where
   -- octets at the front of a piece that come to an outcome
@@ -45,13 +45,10 @@ module _ {V : Type 0} (takes : V → Event → V → Type 0) (r : BinaryWalk) (f
     pub front_did : (result : Result Effect Reason) → new.used ≡ r.used + k → Does takes (told fs) o result new a b
         → Took takes (told fs) r.used (run_of r fs) piece result new a b
     front_did (Ok effect) used does =
-        let count : k ≡ new.used - r.used = omega arith in
-        subst (λ (j : ℕ). Reached takes (told fs) (run_of r fs (take j piece)) new.used effect new a b) count
-        (subst (λ (to : ℕ). Reached takes (told fs) (run_of r fs (take k piece)) to effect new a b) (sym used)
-        (reached_by takes (told fs) o effect new (run_of r fs (take k piece)) (r.used + k) a b ran does))
+        let count : new.used - r.used ≡ k = omega arith in
+        rw count (rw (← used) at (reached_by takes (told fs) o effect new (run_of r fs (take k piece)) (r.used + k) a b ran does))
     front_did (Err reason) used does = λ other.
-        refused_whole r.catalog.now r.limits r.used (machine_of r fs) piece k reason within (ran ∙ ap (run_after (r.used + k)) (does other))
-        ∙ ap (λ j. refused_at (record { offset = j; reason = reason })) (sym used)
+        rw used (refused_whole r.catalog.now r.limits r.used (machine_of r fs) piece k reason within (rw (does other) at ran))
 
   -- octets with whose last a scalar ends
   module _ (t : Scalar) (k : ℕ) (phase : r.phase ≡ InBody t (k - 1)) (some : 0 < k) (within : k ≤ length piece) where
@@ -71,16 +68,15 @@ module _ {V : Type 0} (takes : V → Event → V → Type 0) (r : BinaryWalk) (f
         → ((gs : List Frame) → Holds r gs → AreAround gs → Does takes (told gs)
         (judged (setting_of r) (moved (spot_of r) (r.used + length (take k piece))) gs (judge r.context t (r.body ++ take k piece))) result new a b)
         → Does takes (told fs) (ends_with k) result new a b
-    ends_does result does = subst (λ (j : ℕ). Does takes (told fs) (ends_with j) result new a b) size
-        (does fs h (around_body r.phase t (k - 1) fs phase h.inside))
+    ends_does result does = rw size at (does fs h (around_body r.phase t (k - 1) fs phase h.inside))
 
 -- octets that a body or a pad goes on behind
 pub inside_took : {V : Type 0} (takes : V → Event → V → Type 0) (r new : BinaryWalk) (fs : List Frame) (piece : List ℕ) (k : ℕ) (a : V) → new.used ≡ r.used + k
     → Led (run_of r fs (take k piece)) new fs → Took takes (told fs) r.used (run_of r fs) piece (Ok Goes) new a a
 inside_took takes r new fs piece k a used leads =
-    let count : k ≡ new.used - r.used = omega arith in (
+    let count : new.used - r.used ≡ k = omega arith in (
       fs,
-      subst (λ (j : ℕ). run_of r fs (take j piece) ≡ led (machine_of new fs)) count leads.0,
+      rw count leads.0,
       record { holds = leads.1; hears = hears_none takes (heard (told fs)) (heard (told fs)) a refl },
     )
 
@@ -107,11 +103,8 @@ module _ {V : Type 0} (takes : V → Event → V → Type 0) (r : BinaryWalk) (f
   -- they led where the reader is
   pub led_took : (i : ℕ) (s : BinaryWalk) (a b : V) → s.used ≡ r.used + i → LedOn i s a b → Took takes (told fs) r.used (run_of r fs) piece (Ok Goes) s a b
   led_took i s a b used h =
-      let count : i ≡ s.used - r.used = omega (arith, used) in (
-        h.frames,
-        ap (λ j. run_of r fs (take j piece)) (sym count) ∙ (ap (run_of r fs) (sym (append-nil (take i piece))) ∙ h.leads.onward []),
-        h.went,
-      )
+      let count : s.used - r.used ≡ i = omega (arith, used) in
+      (h.frames, rw count (rw (append-nil (take i piece)) at (h.leads.onward [])), h.went)
 
   module _ (i : ℕ) (s : BinaryWalk) (a m b : V) (catalog : s.catalog ≡ r.catalog) (limits : s.limits ≡ r.limits) (used : s.used ≡ r.used + i) (before : LedOn i s a m) (new : BinaryWalk) where
     abbrev rest : List ℕ
@@ -126,10 +119,9 @@ module _ {V : Type 0} (takes : V → Event → V → Type 0) (r : BinaryWalk) (f
     led_on_more up took =
         let on : i + count ≡ new.used - r.used = omega (arith, up.0, used) in
         let within : count ≤ length rest = omega (arith, up.1) in
-        subst (λ (j : ℕ). LedOn j new a b) on (record {
+        rw (← on) (record {
           frames = took.0;
-          leads = leads_by r.catalog.now r.limits r.used (machine_of r fs) (machine_of s before.frames) (machine_of new took.0) piece i count s.used s.catalog.now
-              s.limits (ap (λ (x : _). x.now) catalog) limits used within took.1 before.leads;
+          leads = leads_by count (ap (λ (x : _). x.now) catalog) limits used within took.1 before.leads;
           went = went_behind takes (told fs) (told before.frames) new took.0 a m b before.went.hears took.2;
         })
 
@@ -138,7 +130,7 @@ module _ {V : Type 0} (takes : V → Event → V → Type 0) (r : BinaryWalk) (f
         → Took takes (told before.frames) s.used (run_of s before.frames) rest (Ok Goes) new m b → LedOn (i + k) new a b
     led_on_by k some within to took =
         let on : new.used - r.used ≡ i + k = omega (arith, to, used) in
-        subst (λ (j : ℕ). LedOn j new a b) on (led_on_more (omega (arith, some, to), omega (arith, within, to)) took)
+        rw on at (led_on_more (omega (arith, some, to), omega (arith, within, to)) took)
 
     pub led_on_gives : TakesUp s.used new.used rest (Ok Gives) → Took takes (told before.frames) s.used (run_of s before.frames) rest (Ok Gives) new m b
         → Walks takes (told fs) r.used (run_of r fs) piece (Ok (record { used = new.used - r.used; ended = true })) new a b
@@ -147,14 +139,14 @@ module _ {V : Type 0} (takes : V → Event → V → Type 0) (r : BinaryWalk) (f
         let some : 0 < count = omega (arith, up.0) in
         let within : count ≤ length rest = omega (arith, up.1) in
         let to : new.used ≡ s.used + count = omega (arith, up.0) in
-        subst (λ (j : ℕ). Walks takes (told fs) r.used (run_of r fs) piece (Ok (record { used = j; ended = true })) new a b) on (
+        rw (← on) (
           within_rest piece i count some within,
           (
             omega (arith, some),
             (
               took.0,
-              leads_to_value r.catalog.now r.limits r.used (machine_of r fs) (machine_of s before.frames) (machine_of new []) piece i count s.used s.catalog.now
-                  s.limits took.0 (ap (λ (x : _). x.now) catalog) limits used (took.1 ∙ ap (λ (j : ℕ). gave took.0 j new) to) before.leads,
+              leads_to_value count took.0 (ap (λ (x : _). x.now) catalog) limits used (took.1 ∙ ap (λ (j : ℕ). gave took.0 j new) to)
+                  before.leads,
               gave_behind takes (told fs) (told before.frames) new took.0 a m b before.went.hears took.2,
             ),
           ),
@@ -163,12 +155,8 @@ module _ {V : Type 0} (takes : V → Event → V → Type 0) (r : BinaryWalk) (f
     pub led_on_refused : (reason : Reason) → i ≤ length piece → Took takes (told before.frames) s.used (run_of s before.frames) rest (Err reason) new m b
         → Walks takes (told fs) r.used (run_of r fs) piece (Err (record { offset = new.used; reason = reason })) new a b
     led_on_refused reason small took = λ other.
-        ap (run_of r fs) (sym (take-append-drop i piece))
-        ∙ (before.leads.onward (drop i piece)
-        ∙ (ap (λ w. run r.catalog.now r.limits (r.used + i) (machine_of s before.frames) w) (sym (whole_rest piece i))
-        ∙ (ap (λ k. run r.catalog.now r.limits k (machine_of s before.frames) rest) (sym used)
-        ∙ (ap (λ l. run r.catalog.now l s.used (machine_of s before.frames) rest) (sym limits)
-        ∙ (ap (λ (g : _). run g.now s.limits s.used (machine_of s before.frames) rest) (sym catalog) ∙ took other)))))
+        let there = rw (take-append-drop i piece, ← whole_rest piece i) at (before.leads.onward (drop i piece)) in
+        rw (there, ← used, ← limits, ← catalog) (took other)
 
     -- what a method did behind them is what it did with them
     pub led_on_took : (result : Result Effect Reason) → i ≤ length piece → CountsOn s.used new.used rest
@@ -177,7 +165,7 @@ module _ {V : Type 0} (takes : V → Event → V → Type 0) (r : BinaryWalk) (f
     led_on_took (Ok Goes) small up took = led_took (new.used - r.used) new a b (omega (arith, up.0, used)) (led_on_more up took)
     led_on_took (Ok Gives) small up took =
         let to : r.used + (new.used - r.used) ≡ new.used = omega (arith, up.0, used) in
-        subst (λ (j : ℕ). Reached takes (told fs) (run_of r fs (take (new.used - r.used) piece)) j Gives new a b) to (led_on_gives up took).1.1
+        rw to at (led_on_gives up took).1.1
     led_on_took (Err reason) small up took = led_on_refused reason small took
 
   pub led_on_end : (i : ℕ) (s : BinaryWalk) (a b : V) → length piece ≤ i → LedOn i s a b
@@ -198,11 +186,7 @@ module _ {V : Type 0} (takes : V → Event → V → Type 0) (old new : BinaryWa
       → run new.catalog.now new.limits 0 initial (u ++ w) ≡ record { given = s ++ given; now = Ok (machine_of new gs) }
   ran_behind w given gs e =
       let place : old.used ≡ 0 + length u = omega (arith, h.counted) in
-      subst (λ (g : _). run g.now new.limits 0 initial (u ++ w) ≡ record { given = s ++ given; now = Ok (machine_of new gs) }) (sym catalog)
-      (subst (λ (l : _). run old.catalog.now l 0 initial (u ++ w) ≡ record { given = s ++ given; now = Ok (machine_of new gs) }) (sym limits)
-      (run-append old.catalog.now old.limits 0 old.used u w place initial
-      ∙ (ap (λ r. then_run r (λ n. run old.catalog.now old.limits old.used n w)) h.ran
-      ∙ ap (λ r. record { given = s ++ r.given; now = r.now }) e)))
+      rw (catalog, limits, run-append old.catalog.now old.limits 0 old.used u w place initial, h.ran, e) refl
 
   walk_tells : (used : ℕ) (ended : Bool) → new.used ≡ old.used + used
       → Walks takes (told fs) old.used (run_of old fs) piece (Ok (record { used = used; ended = ended })) new a b
@@ -216,8 +200,7 @@ module _ {V : Type 0} (takes : V → Event → V → Type 0) (old new : BinaryWa
             fine = fine;
             counted = omega (arith, h.counted, counts, length-append u (take used piece), length-take-le used piece w.0);
             holds = w.1.1.2.holds;
-            ran = ran_behind (take used piece) [] w.1.1.0 (ap (run_of old fs) all ∙ w.1.1.1)
-                ∙ ap (λ given. record { given = given; now = Ok (machine_of new w.1.1.0) }) (append-nil s);
+            ran = rw (append-nil s) at (ran_behind (take used piece) [] w.1.1.0 (rw all w.1.1.1));
           },
           refl,
         ),
@@ -231,8 +214,7 @@ module _ {V : Type 0} (takes : V → Event → V → Type 0) (old new : BinaryWa
         fine = fine;
         counted = omega (arith, h.counted, counts, length-append u (take used piece), length-take-le used piece w.0);
         holds = w.1.1.2.holds;
-        ran = ran_behind (take used piece) ((w.1.1.0, old.used + used) ∷ []) [] w.1.1.1
-            ∙ ap (λ n. record { given = s ++ (w.1.1.0, n + used) ∷ []; now = Ok (machine_of new []) }) h.counted;
+        ran = rw (← h.counted) (ran_behind (take used piece) ((w.1.1.0, old.used + used) ∷ []) [] w.1.1.1);
       },
       refl,
     ),
@@ -292,10 +274,8 @@ pub walk_answers : {V : Type 0} (takes : V → Event → V → Type 0) (old new 
     → Answers (trace old.catalog.now old.limits) u s piece (Err refusal)
 walk_answers takes old new u s fs h piece refusal a b w = λ other.
     let place : old.used ≡ 0 + length u = omega (arith, h.counted) in
-    let after = run-append old.catalog.now old.limits 0 old.used u piece place initial
-    ∙ (ap (λ r. then_run r (λ n. run old.catalog.now old.limits old.used n piece)) h.ran
-    ∙ ap (λ r. record { given = s ++ r.given; now = r.now }) (w other)) in
-    (ap (λ (x : Run). (trace_of x).given) after ∙ append-nil s, ap (λ (x : Run). (trace_of x).refused) after)
+    let after = rw (h.ran, w other) at (run-append old.catalog.now old.limits 0 old.used u piece place initial) in
+    (rw after (append-nil s), rw after refl)
 
 -- 4. The end of the octets.
 
@@ -307,25 +287,21 @@ whole_same _ n _ = refl
 none_open : (p : Phase) (fs : List Frame) → whole p fs ≡ true → fs ≡ []
 none_open p [] e = refl
 none_open Ready (f ∷ fs) e = absurd (false≢true e)
-none_open (InMarker k good) (f ∷ fs) e = absurd (false≢true e)
-none_open (InNumber k a) (f ∷ fs) e = absurd (false≢true e)
-none_open (InBody t missing) (f ∷ fs) e = absurd (false≢true e)
-none_open (InPad missing) (f ∷ fs) e = absurd (false≢true e)
+none_open _ (f ∷ fs) e = absurd (false≢true e)
 
 module _ {V : Type 0} (takes : V → Event → V → Type 0) (r : BinaryWalk) (u : List ℕ) (s : List (Value × ℕ)) (es : List Event) (h : Told r u s es)
     (is_whole : Bool) (is : is_whole ≡ whole r.phase (shells r)) (a : V) where
   ends_there : is_whole ≡ whole r.phase h.0
-  ends_there = is ∙ (ap (whole r.phase) (shells_of r h.0 h.1.holds) ∙ whole_same r.phase (name_of r) h.0)
+  ends_there = rw (is, h.1.holds.containers) (whole_same r.phase (name_of r) h.0)
 
   ends_at : (trace r.catalog.now r.limits u).ends ≡ (if is_whole then Ok None else Err (record { offset = r.used; reason = Incomplete }))
-  ends_at = ap (λ x. ends_of x.now) h.1.ran
-      ∙ ap (λ (t : Bool). if t then Ok None else Err (record { offset = r.used; reason = Incomplete })) (sym ends_there)
+  ends_at = rw (h.1.ran, ends_there) refl
 
   pub ends_whole : is_whole ≡ true → EndsOn takes (trace r.catalog.now r.limits u) es (Ok false) a a
   ends_whole e = (
-    ends_at ∙ ap (λ (t : Bool). if t then Ok None else Err (record { offset = r.used; reason = Incomplete })) e,
-    hears_none takes es [] a (sym (h.2 ∙ ap (λ fs. heard (told fs)) (none_open r.phase h.0 (sym ends_there ∙ e)))),
+    rw e at ends_at,
+    hears_none takes es [] a (rw (h.2, none_open r.phase h.0 (rw e at (sym ends_there))) refl),
   )
 
   pub ends_cut : is_whole ≡ false → EndsOn takes (trace r.catalog.now r.limits u) es (Err (record { offset = r.used; reason = Incomplete })) a a
-  ends_cut e = λ other. ends_at ∙ ap (λ (t : Bool). if t then Ok None else Err (record { offset = r.used; reason = Incomplete })) e
+  ends_cut e = λ other. rw e at ends_at

@@ -1,8 +1,8 @@
 -- Fields that lie whole in a piece, or whose names do, in a reader that holds no values.
-use Rattle.std.proofs.Common.{◌≡◌, ◌≤◌, ℕ, ◌+◌, ◌-◌, Option, Some, None, List, [], ◌∷◌, ◌++◌, length, take, drop, Result, Ok, Err, refl, ap, sym, subst, ◌∙◌, arith}
+use Rattle.std.proofs.Common.{◌≡◌, ◌≤◌, ℕ, ◌+◌, ◌-◌, Option, Some, None, List, [], ◌∷◌, ◌++◌, length, take, drop, Result, Ok, Err, refl, ap, sym, ◌∙◌, arith}
 use Rattle.std.specs.Prelude.{◌≢◌}
 use Rattle.std.proofs.lemmas.List.{length-take-le}
-use Rattle.ion_binary.specs.Names.{BinaryWalk, Does, DoesAlone, Effect, Event, Field, Frame, Goes, HasField, HasName, Hears, Holds, InNumber, IsInside, IsTelling, IsWithin, Memory, Outcome, Phase, Purpose, Reason, TableFilter, Tells, TellsAs, WasTold, bare, containers_of, field_of, fields_end, heard, judge_leaf, judged, name, name_came, open_containers, part, proceed, resolve, run, run_after, run_of, setting_of, spot_of, told}
+use Rattle.ion_binary.specs.Names.{BinaryWalk, Does, DoesAlone, Effect, Event, Field, Frame, Goes, HasField, HasName, Holds, IsTelling, IsWithin, Memory, Outcome, Purpose, Reason, TableFilter, Tells, TellsAs, bare, containers_of, field_of, fields_end, judge_leaf, judged, name, name_came, open_containers, part, proceed, resolve, run_after, run_of, setting_of, spot_of, told}
 use Rattle.ion_binary.specs.declared.walking.whole_leaves.WholeLeaf.{WholeLeaf}
 use Rattle.ion_binary.specs.machine.EachOctet.{moved}
 use Rattle.ion_binary.specs.machine.Frames as frames
@@ -10,8 +10,7 @@ use Rattle.ion_binary.specs.walking.Holds.{told_in}
 use Rattle.ion_binary.specs.walking.Runs.{Took}
 use Rattle.ion_binary.specs.laws.reading.Complete.{name_run, number_run}
 use Rattle.ion_binary.specs.laws.reading.Stands.{InRoom}
-use Rattle.ion_binary.proofs.Ending.{does_same, isnt_at}
-use Rattle.ion_binary.proofs.Insides.{with_phase}
+use Rattle.ion_binary.proofs.Ending.{isnt_at}
 use Rattle.ion_binary.proofs.Staying.{fields_proceed}
 use Rattle.ion_binary.proofs.Tellings.{does_alone, does_more, field_told, name_told, part_told}
 use Rattle.ion_binary.proofs.WalkRuns.{LedOn, front_did, led_on_took}
@@ -27,9 +26,8 @@ came_run : (r : BinaryWalk) (fs : List Frame) → Holds r fs → (piece : List �
     → run_of r fs (take size piece) ≡ run_after (r.used + size) (name_came (moved (spot_of r) (r.used + size)) fs id)
 came_run r fs h piece id size n =
     let count : length (take size piece) ≡ size = length-take-le size piece n.within in
-    ap (λ (p : Phase). run r.catalog.now r.limits r.used (with_phase (spot_of r) fs r.body p) (take size piece)) n.phase
-    ∙ number_run r.catalog.now r.limits (spot_of r) fs Purpose.FieldName (take size piece) id (r.used + size) n.is (omega (arith, count))
-    (in_room fs (r.used + size) (subst (λ cs. IsWithin cs (r.used + size)) h.containers n.inside))
+    rw n.phase (number_run r.catalog.now r.limits (spot_of r) fs Purpose.FieldName (take size piece) id (r.used + size) n.is (omega (arith, count))
+    (in_room fs (r.used + size) (rw h.containers at n.inside)))
 
 module _ {V : Type 0} (takes : V → Event → V → Type 0) (r : BinaryWalk) (piece : List ℕ) (id named : ℕ) (n : HasName r piece id named) where
   -- a name alone
@@ -61,11 +59,9 @@ module _ {V : Type 0} (takes : V → Event → V → Type 0) (r : BinaryWalk) (p
         let inside = has.1 in
         let few = has.0.few in
         let behind = has.0.behind in
-        ap (λ (p : Phase). run r.catalog.now r.limits r.used (with_phase (spot_of r) (frames.Fields end ms ∷ fs) r.body p) (take field.to piece)) n.phase
-        ∙ behind_run piece named field has.0 r.catalog.now r.limits r.used
-        (with_phase (spot_of r) (frames.Fields end ms ∷ fs) r.body (InNumber Purpose.FieldName 0)) (moved (spot_of r) mid) (frames.Named end ms (Ok s) ∷ fs) to
+        rw n.phase (behind_run piece named field has.0 r.catalog.now r.limits r.used _ (moved (spot_of r) mid) (frames.Named end ms (Ok s) ∷ fs) to
         (name_run r.catalog.now r.limits (spot_of r) fs end ms (take named piece) id mid (Ok s) n.is known (omega (arith, count)) (omega arith))
-        refl refl refl inside
+        refl refl refl inside)
 
     -- a field's name is told, and behind it what its value does is done
     field_does : (new : BinaryWalk) (result : Result Effect Reason) (b : V) → new.used ≡ to
@@ -75,22 +71,12 @@ module _ {V : Type 0} (takes : V → Event → V → Type 0) (r : BinaryWalk) (p
     field_does new result b used does (frames.Fields x ms ∷ fs) h =
         let same : Some x ≡ Some end = sym (is ∙ ap fields_end h.containers) in
         let e : x ≡ end = cc in
-        subst (λ (j : ℕ). Holds r (frames.Fields j ms ∷ fs)
-        → Took takes (told (frames.Fields j ms ∷ fs)) r.used (run_of r (frames.Fields j ms ∷ fs)) piece result new a b) (sym e)
-        (λ k.
+        let k = rw e at h in
         let before = told (frames.Fields end ms ∷ fs) in
-        let i = tells before k.was_told in
-        let t = name_told end fs ms s in
-        front_did takes r (frames.Fields end ms ∷ fs) k piece new a b field.to (ends ms fs) has.0.within (field_run ms fs) result used
-        (does_more takes before (told_in (frames.Named end ms (Ok s) ∷ fs)) (ends ms fs) result new a m b
-        (subst (λ es. Hears takes (heard before) (heard es) a m) t i.1)
-        (does ms fs (record {
-          containers = k.containers;
-          around = k.open_there;
-          phase = n.phase;
-          was_told = subst (λ es. WasTold g es) t i.0;
-        }))))
-        h
+        let i = rw (name_told end fs ms s) at (tells before k.was_told) in
+        rw e (front_did takes r (frames.Fields end ms ∷ fs) k piece new a b field.to (ends ms fs) has.0.within (field_run ms fs) result used
+        (does_more takes before (told_in (frames.Named end ms (Ok s) ∷ fs)) (ends ms fs) result new a m b i.1
+        (does ms fs (record { containers = k.containers; around = k.open_there; phase = n.phase; was_told = i.0 }))))
     field_does new result b used does _ h = let e : Some end ≡ None = is ∙ ap fields_end h.containers in absurd cc
 
     -- the value is told, and the struct goes on or ends
@@ -102,18 +88,10 @@ module _ {V : Type 0} (takes : V → Event → V → Type 0) (r : BinaryWalk) (p
     field_took f v said new result b used goes_on = field_does new result b used (λ ms fs h.
         let before = told_in (frames.Named end ms (Ok s) ∷ fs) in
         let now = frames.Fields end (ms ++ field_of s (bare said.0) ∷ []) ∷ fs in
-        let e : before ++ part said.0 ∷ [] ≡ told now = part_told (frames.Named end ms (Ok s) ∷ fs) said.0 said.2 ∙ field_told end fs ms s (bare said.0) in
-        let i = said.3 before h.was_told in
-        does_same takes before (ends ms fs) (proceed (setting_of r) (moved (spot_of r) to) now) result new m b
-        (ap (judged (setting_of r) (moved (spot_of r) to) (frames.Named end ms (Ok s) ∷ fs)) said.1)
-        (does_more takes before (told now) _ result new m v b (subst (λ es. Hears takes (heard before) (heard es) m v) e i.1)
-        (goes_on now (record {
-          containers = h.containers;
-          named = tt;
-          open_there = h.around;
-          inside = subst (λ p. IsInside p now) (sym h.phase) tt;
-          was_told = subst (λ es. WasTold f es) e i.0;
-        }))))
+        let more : before ++ part said.0 ∷ [] ≡ told now = part_told (frames.Named end ms (Ok s) ∷ fs) said.0 said.2 ∙ field_told end fs ms s (bare said.0) in
+        let i = rw more at (said.3 before h.was_told) in
+        rw said.1 (does_more takes before (told now) _ result new m v b i.1
+        (goes_on now (record { containers = h.containers; named = tt; open_there = h.around; inside = rw h.phase tt; was_told = i.0 }))))
 
     -- it goes on with the next name
     pub field_goes : (f : TableFilter) (v : V) → TellsAs takes (judge_leaf r.context field.leaf body) g f m v → to ≢ end
@@ -123,15 +101,13 @@ module _ {V : Type 0} (takes : V → Event → V → Type 0) (r : BinaryWalk) (p
         field_took f v said new (Ok Goes) v refl (λ gs h.
         let o = proceed (setting_of r) (moved (spot_of r) to) gs in
         does_alone takes (told gs) o (Ok Goes) new v
-        (subst (λ (p : Phase). DoesAlone (told gs) o (Ok Goes) (record new { phase = p })) (sym n.phase)
-        (fields_proceed new end (isnt_at to end other) is gs h)))
+        (rw n.phase (fields_proceed new end (isnt_at to end other) is gs h)))
 
     -- or the value is refused
     pub field_refused : (new : BinaryWalk) (b : V) (reason : Reason) → new.used ≡ to
         → (reason ≢ Memory → judge_leaf r.context field.leaf body ≡ Err reason)
         → (fs : List Frame) → Holds r fs → Took takes (told fs) r.used (run_of r fs) piece (Err reason) new a b
-    field_refused new b reason used refused = field_does new (Err reason) b used (λ ms fs h other.
-        ap (judged (setting_of r) (moved (spot_of r) to) (frames.Named end ms (Ok s) ∷ fs)) (refused other))
+    field_refused new b reason used refused = field_does new (Err reason) b used (λ ms fs h other. rw (refused other) refl)
 
 -- a name alone, behind other octets of a piece
 pub name_behind : {V : Type 0} (takes : V → Event → V → Type 0) (r : BinaryWalk) (fs : List Frame) (piece : List ℕ) (i : ℕ) (s : BinaryWalk) (a m : V)

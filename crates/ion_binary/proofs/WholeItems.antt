@@ -1,7 +1,7 @@
 -- Leaves of a list or an s-expression that lie whole in a piece, in a reader that holds no values.
-use Rattle.std.proofs.Common.{◌≡◌, ℕ, ◌+◌, Some, None, List, ◌∷◌, ◌++◌, take, false, Ok, Err, refl, ap, sym, subst, ◌∙◌, arith}
+use Rattle.std.proofs.Common.{◌≡◌, ℕ, ◌+◌, Some, None, List, ◌∷◌, ◌++◌, take, false, Ok, Err, refl, ap, ◌∙◌, arith}
 use Rattle.std.specs.Prelude.{◌==◌, ◌≢◌}
-use Rattle.ion_binary.specs.Names.{AreAround, BinaryWalk, Does, Event, Frame, Goes, HasItem, Hears, Holds, Memory, Outcome, Phase, Ready, Reason, TableFilter, TellsAs, WasTold, deliver, events_of, heard, items_end, judge_leaf, judged, open_containers, run_after, run_of, setting_of, spot_of, told}
+use Rattle.ion_binary.specs.Names.{AreAround, BinaryWalk, Does, Event, Frame, Goes, HasItem, Hears, Holds, Memory, Outcome, Ready, Reason, TableFilter, TellsAs, WasTold, deliver, events_of, heard, items_end, judge_leaf, judged, open_containers, run_after, run_of, setting_of, spot_of, told}
 use Rattle.ion_binary.specs.declared.walking.whole_leaves.WholeLeaf.{WholeLeaf}
 use Rattle.ion_binary.specs.machine.EachOctet.{moved}
 use Rattle.ion_binary.specs.machine.Frames as frames
@@ -53,8 +53,7 @@ module _ {V : Type 0} (takes : V → Event → V → Type 0) (r : BinaryWalk) (e
         let mid = record r { used = r.used + item.to } in
         let before = has.1 in
         let test : (r.used + item.to == end) ≡ false = isnt_at (r.used + item.to) end (λ e. omega (arith, before, e)) in
-        subst (λ (p : Phase). Does takes (told fs) (ends fs) (Ok Goes) (record new { phase = p }) a b) (sym ready)
-        (leaf_does takes mid mid refl g a a b b (begun a) (Ok Goes) (record new { phase = Ready })
+        rw ready (leaf_does takes mid mid refl g a a b b (begun a) (Ok Goes) (record new { phase = Ready })
         (λ gs v k. does_alone takes (told_in gs ++ events_of v) (deliver (setting_of mid) (spot_of mid) gs v) (Ok Goes) (record new { phase = Ready }) b
         (items_stay new end test is gs v k))
         item.leaf body said fs (moved_on r fs h item.to) (items_around fs h))
@@ -70,4 +69,4 @@ module _ {V : Type 0} (takes : V → Event → V → Type 0) (r : BinaryWalk) (e
         → Took takes (told fs) r.used (run_of r fs) piece (Err reason) new a b
     item_refused reason refused fs h =
         front_did takes r fs h piece new a b item.to (ends fs) has.0.within (item_run fs h) (Err reason) refl
-        (λ other. ap (judged (setting_of r) (moved (spot_of r) (r.used + item.to)) fs) (refused other))
+        (λ other. rw (refused other) refl)

@@ -1,9 +1,9 @@
 -- Leaves that lie whole in a piece, in a reader that holds no values.
-use Rattle.std.proofs.Common.{◌≡◌, ℕ, ◌+◌, ◌-◌, ◌≤◌, List, [], ◌∷◌, ◌++◌, length, take, drop, None, refl, ap, sym, subst, ◌∙◌, arith}
+use Rattle.std.proofs.Common.{◌≡◌, ℕ, ◌+◌, ◌-◌, ◌≤◌, List, [], ◌∷◌, ◌++◌, length, take, drop, None, refl, ap, arith}
 use Rattle.std.proofs.lemmas.Grind.{common_steps}
 use Rattle.std.proofs.lemmas.List.{drop-drop, length-take-le}
 use Rattle.std.proofs.Math.Seq.{take-add}
-use Rattle.ion_binary.specs.Names.{Catalog, Form, Frame, HasLeaf, LeafHeader, Limits, Machine, Ready, Spot, at, judge_leaf, judged, led, nameless, on_descriptor, run, run_after, run_via, under}
+use Rattle.ion_binary.specs.Names.{Catalog, Form, Frame, HasLeaf, LeafHeader, Limits, Machine, Ready, Spot, at, judge_leaf, judged, led, nameless, run, run_after, run_via, under}
 use Rattle.ion_model.specs.declared.value.Payload.TheVariants as payloads
 use Rattle.ion_binary.specs.declared.walking.whole_leaves.Leaf.{Leaf}
 use Rattle.ion_binary.specs.declared.walking.whole_leaves.WholeLeaf.{WholeLeaf}
@@ -18,14 +18,10 @@ module _ (g : Catalog) (l : Limits) (spot : Spot) (fs : List Frame) where
       → run g l spot.used (at spot fs Ready) (h ++ body) ≡ run_after to (judged (under g l) (moved spot to) fs (judge_leaf spot.context leaf body))
   leaf_run (Leaf.Null k) h [] to i named e r =
       let one : to ≡ spot.used + 1 = omega (arith, e, ap (λ w. length (w ++ [])) i.1) in
-      ap (λ w. run g l spot.used (at spot fs Ready) (w ++ [])) i.1
-      ∙ (ap (λ x. run_after (spot.used + 1) (on_descriptor (under g l) (moved spot (spot.used + 1)) fs x)) i.2
-      ∙ one_run g l spot fs to (payloads.Null k) one named r)
+      rw (i.1, i.2) (one_run g l spot fs to (payloads.Null k) one named r)
   leaf_run (Leaf.Truth t) h [] to i named e r =
       let one : to ≡ spot.used + 1 = omega (arith, e, ap (λ w. length (w ++ [])) i.1) in
-      ap (λ w. run g l spot.used (at spot fs Ready) (w ++ [])) i.1
-      ∙ (ap (λ x. run_after (spot.used + 1) (on_descriptor (under g l) (moved spot (spot.used + 1)) fs x)) i.2
-      ∙ one_run g l spot fs to (payloads.Truth t) one named r)
+      rw (i.1, i.2) (one_run g l spot fs to (payloads.Truth t) one named r)
   leaf_run (Leaf.Scalar t) h body to i named e r =
       scalar_run g l spot fs t h body to i.0 i.1 (admits_plain fs (Form.Scalar t) refl refl named) e (ends_as l spot.start fs (Form.Scalar t) to r)
   leaf_run (Leaf.Null k) h (b ∷ bs) to i named e r = absurd (omega (arith, i.3))
@@ -36,11 +32,7 @@ pub three_parts : (w : List ℕ) (i j k : ℕ) → i ≤ j → j ≤ k → take 
 three_parts w i j k few more =
     let whole : i + ((j - i) + (k - j)) ≡ k = omega arith in
     let there : i + (j - i) ≡ j = omega arith in
-    ap (λ n. take n w) (sym whole)
-    ∙ (take-add i ((j - i) + (k - j)) w
-    ∙ ap (λ v. take i w ++ v)
-    (take-add (j - i) (k - j) (drop i w)
-    ∙ ap (λ v. take (j - i) (drop i w) ++ take (k - j) v) (drop-drop (j - i) i w ∙ ap (λ n. drop n w) there)))
+    rw (whole, take-add (j - i) (k - j) (drop i w), drop-drop (j - i) i w, there) at (take-add i ((j - i) + (k - j)) w)
 
 -- the body of a leaf in a piece
 abbrev pub body_in : List ℕ → WholeLeaf → List ℕ
@@ -63,7 +55,6 @@ module _ (piece : List ℕ) (skipped : ℕ) (it : WholeLeaf) (has : HasLeaf piec
       let body = body_in piece it in
       let size : length body ≡ it.to - it.front = grind (arith, common_steps) in
       let all : length (header_in ++ body) ≡ it.to - skipped = grind (arith, common_steps) in
-      ap (run g l to m) (three_parts piece skipped it.front it.to (omega arith) few)
-      ∙ run_via g l to spot.used m (at spot fs Ready) _ (take skipped piece) (header_in ++ body) (omega (arith, front, at_spot)) before
-      (leaf_run g l spot fs it.leaf header_in body end (subst (λ k. LeafHeader it.leaf k header_in) (sym size) has.header) named
-      (omega (arith, all, at_spot, ends, behind, few)) room)
+      rw (three_parts piece skipped it.front it.to (omega arith) few)
+      (run_via g l to spot.used m (at spot fs Ready) _ (take skipped piece) (header_in ++ body) (omega (arith, front, at_spot)) before
+      (leaf_run g l spot fs it.leaf header_in body end (rw size has.header) named (omega (arith, all, at_spot, ends, behind, few)) room))

@@ -1,9 +1,9 @@
 -- Wrappers with one annotation, in a reader that holds no values.
-use Rattle.std.proofs.Common.{◌≡◌, ℕ, ◌+◌, ◌-◌, ◌<◌, List, [], ◌∷◌, ◌++◌, length, take, drop, Option, Ok, Err, Result, true, refl, ap, subst, ◌∙◌, arith}
-use Rattle.std.specs.Prelude.{◌==◌, ◌≢◌, if◌then◌else◌}
+use Rattle.std.proofs.Common.{◌≡◌, ℕ, ◌+◌, ◌-◌, ◌<◌, List, [], ◌∷◌, ◌++◌, length, take, drop, Option, Ok, Err, Result, true, refl, ◌∙◌, arith}
+use Rattle.std.specs.Prelude.{◌==◌, ◌≢◌}
 use Rattle.std.proofs.lemmas.Grind.{common_steps}
 use Rattle.std.proofs.lemmas.List.{length-take-le}
-use Rattle.ion_binary.specs.Names.{AreAround, BinaryWalk, Container, Does, Effect, Event, Form, Frame, Goes, HasLeaf, HasNote, Hears, Holds, HoldsNoWrapper, InNumber, IsBehind, Memory, Opens, Outcome, Purpose, Ready, Reason, TableFilter, Tells, TellsAs, Value, WasTold, annotated, annotation, annotation_came, at, bare, deliver, events_of, goes, heard, judge_leaf, judged, led, machine_of, open_containers, part, resolve, run_after, run_of, run_via, setting_of, spot_of, told}
+use Rattle.ion_binary.specs.Names.{AreAround, BinaryWalk, Container, Does, Effect, Event, Form, Frame, Goes, HasLeaf, HasNote, Hears, Holds, HoldsNoWrapper, InNumber, IsBehind, Memory, Opens, Outcome, Purpose, Ready, Reason, TableFilter, Tells, TellsAs, Value, WasTold, annotated, annotation, annotation_came, at, bare, deliver, events_of, heard, judge_leaf, judged, led, machine_of, open_containers, part, resolve, run_after, run_of, run_via, setting_of, spot_of, told}
 use Rattle.ion_binary.specs.declared.walking.whole_leaves.WholeLeaf.{WholeLeaf}
 use Rattle.ion_binary.specs.declared.walking.whole_wrappers.Note.{Note}
 use Rattle.ion_binary.specs.machine.EachOctet.{moved}
@@ -12,7 +12,7 @@ use Rattle.ion_binary.specs.walking.Holds.{told_in}
 use Rattle.ion_binary.specs.walking.Runs.{Took}
 use Rattle.ion_binary.specs.laws.reading.Complete.{count_goes, length_VarUInt, number_run}
 use Rattle.ion_visiting.specs.laws.Filters.{hears_both}
-use Rattle.ion_binary.proofs.Ending.{does_same, is_at, unwrapped}
+use Rattle.ion_binary.proofs.Ending.{is_at, unwrapped}
 use Rattle.ion_binary.proofs.Shells.{may_begin}
 use Rattle.ion_binary.proofs.Tellings.{does_more, part_told, wrapped_told}
 use Rattle.ion_binary.proofs.WalkRuns.{front_did}
@@ -54,24 +54,22 @@ module _ (r : BinaryWalk) (piece : List ℕ) (front size : ℕ) (note : Note) (o
       let some : 0 < note.to - note.id_at = omega (arith, length_VarUInt id note.id n.is, size3) in
       let ends : mid2 + (note.to - note.id_at) ≡ stop = omega arith in
       let fs2 = frames.Annotated end [] ∷ fs in
-      ap (run_of r fs) (three_parts piece front note.id_at note.to behind few)
-      ∙ run_via r.catalog.now r.limits r.used mid _ (at (moved (spot_of r) mid) fs2 (InNumber Purpose.AnnotationsLength 0)) _ header (count ++ id)
+      rw (three_parts piece front note.id_at note.to behind few)
+      (run_via r.catalog.now r.limits r.used mid _ (at (moved (spot_of r) mid) fs2 (InNumber Purpose.AnnotationsLength 0)) _ header (count ++ id)
       (omega (arith, size1)) (front_run r fs h piece front size Form.Wrapper o)
       (run_via r.catalog.now r.limits mid mid2 _ (at (moved (spot_of r) mid2) fs2 (InNumber (Purpose.Annotation stop) 0)) _ count id
       (omega (arith, size2))
-      (number_run r.catalog.now r.limits (moved (spot_of r) mid) fs2 Purpose.AnnotationsLength count (note.to - note.id_at) mid2 n.count (omega (arith, size2)) (omega arith)
-      ∙ (ap (run_after mid2) (count_goes r.catalog.now r.limits (moved (spot_of r) mid2) fs end (note.to - note.id_at) [] some (omega arith))
-      ∙ ap (λ k. run_after mid2 (goes (at (moved (spot_of r) mid2) fs2 (InNumber (Purpose.Annotation k) 0)))) ends))
-      (number_run r.catalog.now r.limits (moved (spot_of r) mid2) fs2 (Purpose.Annotation stop) id note.id stop n.is (omega (arith, size3)) (omega arith)))
+      (rw (count_goes r.catalog.now r.limits (moved (spot_of r) mid2) fs end (note.to - note.id_at) [] some (omega arith), ends) at
+      (number_run r.catalog.now r.limits (moved (spot_of r) mid) fs2 Purpose.AnnotationsLength count (note.to - note.id_at) mid2 n.count (omega (arith, size2))
+      (omega arith)))
+      (number_run r.catalog.now r.limits (moved (spot_of r) mid2) fs2 (Purpose.Annotation stop) id note.id stop n.is (omega (arith, size3)) (omega arith))))
 
   -- where its id has a symbol, the value comes
   noted_run : (s : Option (List ℕ)) → resolve r.context note.id ≡ Ok s → (fs : List Frame) → Holds r fs
       → run_of r fs (take note.to piece) ≡ led (at (moved (spot_of r) stop) (frames.Annotated end (s ∷ []) ∷ fs) Ready)
   noted_run s is fs h =
       let last : (stop == stop) ≡ true = is_at stop stop refl in
-      note_run fs h
-      ∙ (ap (λ x. run_after stop (annotation_came (moved (spot_of r) stop) (frames.Annotated end [] ∷ fs) stop x)) is
-      ∙ ap (λ t. led (at (moved (spot_of r) stop) (frames.Annotated end (s ∷ []) ∷ fs) (if t then Ready else InNumber (Purpose.Annotation stop) 0))) last)
+      rw (is, last) at (note_run fs h)
 
   module _ (leaf : WholeLeaf) (v : HasLeaf piece note.to leaf) (ends : r.used + leaf.to ≡ end) where
     -- the leaf is judged in the wrapper
@@ -97,10 +95,7 @@ module _ (r : BinaryWalk) (piece : List ℕ) (front size : ℕ) (note : Note) (o
         × Hears takes (heard (told fs)) (heard (told_in fs ++ annotation s ∷ [])) a b
     noted_told fs h =
         let start = begun fs (moved_on r fs h note.to) (may fs h).1 in
-        let i = tells (told_in fs) start.0 in (
-          i.0,
-          hears_both takes (heard (told fs)) (heard (told_in fs)) (heard (told_in fs ++ annotation s ∷ [])) a m b start.1 i.1,
-        )
+        let i = tells (told_in fs) start.0 in (i.0, hears_both takes _ _ _ a m b start.1 i.1)
 
     -- the wrapper is open
     module _ (w : BinaryWalk) (pushes : open_containers w ≡ Container.Annotated end ∷ open_containers r) where
@@ -113,15 +108,9 @@ module _ (r : BinaryWalk) (piece : List ℕ) (front size : ℕ) (note : Note) (o
           let i = noted_told fs h in
           let k : stop - r.used ≡ note.to = omega arith in (
             frames.Annotated end (s ∷ []) ∷ fs,
-            ap (λ j. run_of r fs (take j piece)) k ∙ noted_run s is fs h,
+            rw k (noted_run s is fs h),
             record {
-              holds = record {
-                containers = pushes ∙ ap (λ cs. Container.Annotated end ∷ cs) h.containers;
-                named = tt;
-                open_there = around;
-                inside = tt;
-                was_told = i.0;
-              };
+              holds = record { containers = rw (pushes, h.containers) refl; named = tt; open_there = around; inside = tt; was_told = i.0 };
               hears = i.1;
             },
           )
@@ -141,21 +130,12 @@ module _ (r : BinaryWalk) (piece : List ℕ) (front size : ℕ) (note : Note) (o
           let i = noted_told fs h in
           let p = said.0 in
           let es = told_in fs ++ annotation s ∷ [] in
-          let to = moved (spot_of r) (r.used + leaf.to) in
           let more : es ++ part p ∷ [] ≡ told_in fs ++ events_of (annotated (s ∷ []) p) =
           part_told (frames.Annotated end (s ∷ []) ∷ fs) p said.2 ∙ wrapped_told end (s ∷ []) fs (bare p) refl in
-          let k = said.3 es i.0 in
-          does_same takes (told fs) (judged_noted leaf v ends s fs) (deliver (setting_of r) to fs (annotated (s ∷ []) p)) result new a d
-          (ap (judged (setting_of r) to (frames.Annotated end (s ∷ []) ∷ fs)) said.1)
-          (does_more takes (told fs) (told_in fs ++ events_of (annotated (s ∷ []) p)) _ result new a c d
-          (subst (λ w. Hears takes (heard (told fs)) (heard w) a c) more
-          (hears_both takes (heard (told fs)) (heard es) (heard (es ++ part p ∷ [])) a b c i.1 k.1))
-          (ended fs (annotated (s ∷ []) p) (record {
-            containers = h.containers;
-            around = around.1;
-            bare = unwrapped fs (annotated (s ∷ []) p) around.0;
-            was_told = subst (λ w. WasTold f w) more k.0;
-          })))
+          let k = rw more at (said.3 es i.0) in
+          rw said.1 (does_more takes (told fs) (told_in fs ++ events_of (annotated (s ∷ []) p)) _ result new a c d (hears_both takes _ _ _ a b c i.1 k.1)
+          (ended fs (annotated (s ∷ []) p)
+          (record { containers = h.containers; around = around.1; bare = unwrapped fs (annotated (s ∷ []) p) around.0; was_told = k.0 })))
 
       pub noted_leaf_took : TellsAs takes (judge_leaf r.context leaf.leaf (body_in piece leaf)) g f b c
           → ((fs : List Frame) (x : Value) → IsBehind closed fs x
@@ -170,11 +150,11 @@ module _ (r : BinaryWalk) (piece : List ℕ) (front size : ℕ) (note : Note) (o
           → (fs : List Frame) → Holds r fs → Took takes (told fs) r.used (run_of r fs) piece (Err reason) new a d
       noted_leaf_refused reason refused fs h =
           front_did takes r fs h piece new a d leaf.to (judged_noted leaf v ends s fs) v.within (noted_leaf_run leaf v ends s is fs h) (Err reason) used
-          (λ other. ap (judged (setting_of r) (moved (spot_of r) (r.used + leaf.to)) (frames.Annotated end (s ∷ []) ∷ fs)) (refused other))
+          (λ other. rw (refused other) refl)
 
   -- the id has no symbol
   pub note_refused : {V : Type 0} (takes : V → Event → V → Type 0) (new : BinaryWalk) (reason : Reason) (a b : V) → resolve r.context note.id ≡ Err reason → new.used ≡ stop
       → (fs : List Frame) → Holds r fs → Took takes (told fs) r.used (run_of r fs) piece (Err reason) new a b
   note_refused takes new reason a b is used fs h =
       front_did takes r fs h piece new a b note.to (came fs) n.within (note_run fs h) (Err reason) used
-      (λ other. ap (annotation_came (moved (spot_of r) stop) (frames.Annotated end [] ∷ fs) stop) is)
+      (λ other. rw is refl)

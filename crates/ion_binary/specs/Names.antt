@@ -22,7 +22,7 @@ pub use Rattle.ion_binary.specs.visiting.Brackets.{bracket_of, code_in}
 pub use Rattle.ion_binary.specs.walking.Holds.{AreAround, AreOpen, Closes, Does, DoesAlone, EndedIn, GaveOut, Holds, HoldsNoWrapper, IsBareIn, IsBehind, IsInside, IsNamedBy, IsPart, IsTelling, IsTop, IsWithin, MayBegin, Moves, RefusedAs, SameSetting, Steps, StepsAlone, StepsInside, TellsAs, WentOn, behind_annotation, container_of, containers_of, fields_end, is_named, items_end, machine_of, name_of, named_end, open_containers, setting_of, shell, shells, spot_of, told, wrapper_end}
 pub use Rattle.ion_binary.specs.walking.Leaves.{HasLeaf, LeafHeader, judge_leaf}
 pub use Rattle.ion_binary.specs.walking.Runs.{HasField, HasItem, HasName, HasNote, Opens, Reached, Reads, StandsFor, Told, Walks, awaits, failed, pending, refused_at, run_of, taken}
-pub use Rattle.ion_binary.specs.writer.Later.{IsLater}
-pub use Rattle.ion_binary.specs.writer.Names.{AreAmong, AreKnown, Grown, IsAmong, Resolves, all_among_more, among_last, grown, id_few, id_stays, names_resolve, names_resolve_still, same_is_equal, slots, slots_more, slots_system, starts_more, unknown_among}
+pub use Rattle.ion_binary.specs.writer.Names.{AreKnown, Grown, Resolves, grown, names_resolve, names_resolve_still, slots, slots_more, slots_system, starts_more, unknown_among}
 pub use Rattle.ion_binary.specs.writer.Puts.{behind, bin_puts, puts}
-pub use Rattle.ion_binary.specs.writer.Texts.{name_fed}
+pub use Rattle.ion_names.specs.Among.{AreAmong, IsAmong, all_among_more, among_last, id_few, id_stays, same_is_equal}
+pub use Rattle.ion_names.specs.Later.{IsLater}

@@ -1,31 +1,13 @@
 -- The one binary document that is written for a stream of values (Ion 1.0, "Ion Binary Encoding" and "Symbols").
 use Rattle.std.specs.Prelude.{if◌then◌else◌, ◌<◌, ◌≤◌, ℕ, suc, ℤ, pos, int_lt, unsigned_abs, ◌+◌, ◌*◌, Bool, true, false, nat_lt, List, [], ◌∷◌, ◌++◌, length, drop, map, Option, None, Some, codes}
-use Rattle.std.specs.List.{list_any, position_or_len, flat_map, fold}
-use Rattle.ion_binary.specs.Names.Below.{Field, Kind, Layer, Limits, Payload-F, Value, annotated, bare, decimal_octets, depth, field_of, fold-Value, greatest_id, symbol_same, system_texts, timestamp_octets, uint_octets, var_uint_octets}
+use Rattle.std.specs.List.{flat_map}
+use Rattle.ion_binary.specs.Names.Below.{Field, Kind, Layer, Limits, Payload-F, Value, annotated, bare, decimal_octets, depth, field_of, fold-Value, greatest_id, timestamp_octets, uint_octets, var_uint_octets}
 use Rattle.ion_model.specs.declared.value.Payload.TheVariants as payloads
 use Rattle.ion_binary.specs.Grammar.{the_marker}
+pub use Rattle.ion_names.specs.Ids.{Names, id_of, with_name, with_names}
+unfoldable pub use Rattle.ion_names.specs.Ids.{system_names}
 
--- 1. Ids. A list of names has the symbol of each id at its place: first, of the id 0, the one of unknown text.
-
--- symbols, each at the place of its id
-abbrev pub Names : Type 0
-Names = List (Option (List ℕ))
-
--- those that every document begins with ("System Symbols")
-unfoldable pub system_names : Names
-system_names = None ∷ map Some system_texts
-
--- the id of a symbol
-abbrev pub id_of : Names → Option (List ℕ) → ℕ
-id_of names s = position_or_len (symbol_same s) names
-
--- the names with one at the end, unless it is there
-abbrev pub with_name : Names → Option (List ℕ) → Names
-with_name names s = if list_any (symbol_same s) names then names else names ++ s ∷ []
-
--- the names with each of these at the end, unless it is there
-abbrev pub with_names : Names → List (Option (List ℕ)) → Names
-with_names names ss = fold with_name names ss
+-- 1. Symbols.
 
 -- of one level, in which each value inside is its symbols already
 abbrev pub symbols_step : Payload-F Names Names Names → Names

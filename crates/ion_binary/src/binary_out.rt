@@ -9,10 +9,8 @@ use crate::writer::framing::{
     code_of, frame, insert_length, put_decimal_value, put_digits, put_framed, put_null, put_symbol,
     put_timestamp_value, put_truth, put_whole,
 };
-use crate::writer::name::Name;
-use crate::writer::names::Names;
 use crate::writer::put_front;
-use crate::writer::recent_ids::{Guesses, place_of};
+use ion_names::{Guesses, Name, Names, place_of};
 use ion_scalar::Number;
 use ion_symtab::Fault;
 use ion_visiting::{Bracket, Part, Visitor, number_kept, part_kept, text_kept};

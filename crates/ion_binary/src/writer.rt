@@ -5,9 +5,9 @@ ghost use Rattle.ion_symtab.specs.declared.fault.Fault.TheVariants as faults;
 
 use crate::binary_out::BinaryOut;
 use ion_model::Value;
+use ion_names::Names;
 use ion_symtab::{Fault, Outlet, flushed, write_whole};
 use ion_visiting::{Visitor, tell};
-use names::Names;
 use std::alloc::Global;
 use std::fmt::{self, Debug, Formatter};
 use std::hash::{BuildHasher, BuildHasherDefault, FoldHasher};
@@ -15,9 +15,6 @@ use std::marker::Model;
 use table::put_table;
 
 pub(crate) mod framing;
-pub(crate) mod name;
-pub(crate) mod names;
-pub(crate) mod recent_ids;
 mod table;
 
 /// The marker of Ion 1.0 (Ion 1.0, "Ion Binary Encoding", "Value Streams").

@@ -1,5 +1,5 @@
-//! Whole Ion documents in memory, for C and for every language that calls C: check, show, compare
-//! and convert.
+//! Whole Ion documents in memory, for C and for every language that calls C: check, show, compare,
+//! convert and lay out.
 //!
 //! Each call is given octets, tells what it found by an `Answer`, and returns the status, which is
 //! the command's: 0 accepted or equivalent, 1 different, 2 refused, 3 wrong limits, 4 a fault.
@@ -16,7 +16,7 @@ ghost use Rattle.std.specs.Prelude.{◌≡◌, ◌<◌, ◌≤◌, ℕ, List, le
 ghost use Rattle.ion_atoms.specs.Reasons.{reason_number, reason_name};
 ghost use Rattle.ion_atoms.specs.declared.refusal.Reason.{Reason as AnyReason};
 ghost use Rattle.ion_symtab.specs.declared.target.Target.TheVariants.{Text, Binary};
-ghost use Rattle.ion_memory.specs.Outcomes.{IsOutcome, IsChecked, IsShown, IsCompared, IsConverted};
+ghost use Rattle.ion_memory.specs.Outcomes.{IsOutcome, IsChecked, IsShown, IsCompared, IsConverted, IsLaidOut};
 ghost use Rattle.ion_c.specs.Telling.{IsAnsweredPair, IsTold, Tells, laid};
 ghost use Rattle.ion_c.specs.declared.answer.Answer.{Answer as AnAnswer};
 ghost use Rattle.ion_c.specs.declared.pairs.Pair.{Pair as APair};
@@ -27,7 +27,9 @@ use crate::pairs::compare_each;
 use crate::seeded::SeededHasher;
 pub use answer::Answer;
 use ion_docs::Target;
-use ion_memory::{Outcome, checked, compared, converted_with_hasher, reason_of_number, shown};
+use ion_memory::{
+    Outcome, checked, compared, converted_with_hasher, laid_out, reason_of_number, shown,
+};
 pub use pairs::Pair;
 use std::alloc::Global;
 
@@ -41,9 +43,9 @@ pub struct Options<'a> {
     pub item: u64,
     /// The greatest depth, 1 to 128.
     pub depth: u32,
-    /// The seed of the hash by which `pureefjord_to_binary` finds the ids of symbols, in two words
-    /// of 64 bits. Texts that are chosen to collide under a seed that is known make that slow, so
-    /// it is drawn at random where documents aren't trusted. No answer depends on it.
+    /// The seed of the hash by which `pureefjord_to_binary` and `pureefjord_events` find symbols, in
+    /// two words of 64 bits. Texts that are chosen to collide under a seed that is known make that
+    /// slow, so it is drawn at random where documents aren't trusted. No answer depends on it.
     pub seed_low: u64,
     pub seed_high: u64,
 }
@@ -146,6 +148,25 @@ pub extern "C" fn pureefjord_to_binary(
         × (buffer.new ≡ laid text buffer.old) }
 {
     let outcome = converted_by(alloc, input, Target::Binary, options);
+    tell_whole(&outcome, buffer, answer)
+}
+
+/// The layout of the values of a document (docs/EVENTS.md), which is the layout of no other stream;
+/// on a refusal, that of the values before it.
+#[unsafe(no_mangle)]
+pub extern "C" fn pureefjord_events(
+    alloc: Global,
+    input: &[u8],
+    options: &Options<'_>,
+    buffer: &mut [u8],
+    answer: &mut Answer,
+) -> u32
+    ensures { (text : List ℕ) × IsTold options.now (IsLaidOut input.now) text answer.new result
+        × (buffer.new ≡ laid text buffer.old) }
+{
+    let hasher = SeededHasher::new(options.seed_low, options.seed_high);
+    let (catalog, depth, item) = (options.catalog, options.depth, options.item);
+    let outcome = laid_out(alloc, hasher, input, catalog, depth, item);
     tell_whole(&outcome, buffer, answer)
 }
 

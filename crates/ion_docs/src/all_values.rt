@@ -56,6 +56,6 @@ pub fn read_document<R: Inlet>(
     ensures no_read_failed { OnOk result (R.has_failed reader.new ≡ false) }
     ensures cause { IfErr result (IsReadCause R.Inlet limits.reads reader.old reader.new) }
 {
-    let items = DocReader::new(alloc, catalog, limits).map_err(|_| Fault::Memory)?;
+    let items = DocReader::unread(alloc, catalog, limits);
     read_items(alloc, items, limits.reads(), reader)
 }

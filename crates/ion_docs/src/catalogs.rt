@@ -36,6 +36,6 @@ pub fn load_catalog<R: Inlet>(
     ensures cause { IfErr result (IsReadCause R.Inlet limits.reads reader.old reader.new) }
 {
     let none = Catalog::new(alloc);
-    let items = DocReader::new(alloc, &none, limits).map_err(|_| Fault::Memory)?;
+    let items = DocReader::unread(alloc, &none, limits);
     load_items(alloc, items, limits.reads(), reader)
 }

@@ -68,7 +68,7 @@ pub fn visit<R: Inlet, V: Visitor>(
     ensures no_read_failed { OnOk result (R.has_failed reader.new ≡ false) }
     ensures cause { IfErr result (IsReadCause R.Inlet limits.reads reader.old reader.new) }
 {
-    let items = DocReader::new(alloc, catalog, limits).map_err(|_| Fault::Memory)?;
+    let items = DocReader::unread(alloc, catalog, limits);
     visit_items(alloc, items, limits.reads(), reader, visitor)
 }
 
@@ -102,7 +102,7 @@ pub fn show<R: Inlet, W: Outlet>(
         IsReadCause R.Inlet limits.reads reader.old reader.new fault
         ⊎ IsWriteCause W.Outlet writer.new fault) }
 {
-    let items = DocReader::new(alloc, catalog, limits).map_err(|_| Fault::Memory)?;
+    let items = DocReader::unread(alloc, catalog, limits);
     show_items(alloc, items, limits.reads(), reader, writer)
 }
 

@@ -9,6 +9,7 @@ mod doc_reader;
 mod doc_walk;
 mod documents;
 pub mod laws;
+mod layouts;
 mod memory;
 mod paths;
 mod writers;
@@ -19,10 +20,11 @@ pub use conversion::convert_items;
 pub use doc_reader::DocReader;
 pub use documents::{check, compare, convert, convert_with_hasher, show, visit};
 pub use ion_streams::{
-    Side, Verdict, check_items, compare_items, load_items, read_items, read_octets, show_items,
-    visit_items,
+    LaidOut, Side, Verdict, check_items, compare_items, lay_out_items, load_items, read_items,
+    read_octets, show_items, visit_items,
 };
 pub use ion_symtab::Target;
+pub use layouts::lay_out;
 pub use memory::{InMemory, in_memory};
 pub use paths::{PathText, path_text, spelling_of_path};
 pub use writers::Encoder;

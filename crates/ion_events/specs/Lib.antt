@@ -3,4 +3,5 @@ pub mod Entries
 pub mod Layouts
 pub mod Drafts
 pub mod Drawing
+pub mod Laying
 pub mod laws

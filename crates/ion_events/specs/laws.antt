@@ -4,3 +4,4 @@ pub mod OneStream
 pub mod Worked
 pub mod Drawn
 pub mod HandedOver
+pub mod LaidDown

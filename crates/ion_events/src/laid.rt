@@ -1,5 +1,5 @@
 //! The layout of values that ended.
-ghost use Rattle.std.specs.Prelude.{◌≡◌, IfSome};
+ghost use Rattle.std.specs.Prelude.{◌≡◌, ◌<◌, ◌^◌, IfSome, length};
 ghost use Rattle.ion_events.specs.Drafts.{IsEmpty, joined};
 
 use crate::entry::ENTRY;
@@ -36,7 +36,8 @@ impl Laid {
 
     /// The whole layout; `None` where memory was refused.
     pub fn into_octets(self) -> Option<Vec<u8>>
-        ensures { IfSome result (λ octets. octets.items ≡ joined self) }
+        ensures joined { IfSome result (λ octets. octets.items ≡ joined self) }
+        ensures few { IfSome result (λ _. length self.entries.items < 2 ^ 64) }
     {
         let Laid { mut entries, texts } = self;
         let all = entries.len();

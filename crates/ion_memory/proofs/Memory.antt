@@ -5,8 +5,9 @@ use Rattle.ion_symtab.specs.Tables.{Table}
 use Rattle.ion_symtab.specs.Took.{Took}
 use Rattle.ion_streams.specs.Listing.{IsShown}
 use Rattle.ion_docs.specs.Converted.{IsConverted}
-use Rattle.ion_docs.proofs.Told.{conversion_told, listing_told, whole}
-use Rattle.ion_memory.specs.Octets.{IsConversion, IsListing}
+use Rattle.ion_streams.specs.LaidOut.{IsLaidOut}
+use Rattle.ion_docs.proofs.Told.{conversion_told, document_whole, listing_told, refused_whole, whole}
+use Rattle.ion_memory.specs.Octets.{IsConversion, IsLayout, IsListing}
 
 module _ {S : Type 0} (R : Inlet S) (some : (device : S) → (rest : List ℕ) × R.tells device rest) (w : List ℕ) (first now : S)
     (only : TellsOnly R first w) where
@@ -15,6 +16,16 @@ module _ {S : Type 0} (R : Inlet S) (some : (device : S) → (rest : List ℕ) �
   loaded_all F answer h =
       let (more, follows, e) = whole R some first now h.octets w h.ended h.heard only in
       subst (λ (x : List ℕ). IsCatalog F x answer) e (h.decided more follows)
+
+  -- what it is laid out as is the layout of what they are
+  pub laid_all : (g : Catalog) (l : Limits) (answer : Result ℕ Refusal) (layout : List ℕ) → IsLaidOut R (documents g l) first now answer layout
+      → IsLayout (documents g l) w answer layout
+  laid_all g l (Ok values) layout (s, told, many, lies) =
+      let denoted = document_whole R some (documents g l) first now s w told only in
+      record { counted = (s, denoted, many); lies = (s, denoted, lies) }
+  laid_all g l (Err refusal) layout (s, told, lies) =
+      let refused = refused_whole R some (documents g l) first now s refusal w told only in
+      record { counted = (s, refused); lies = (s, refused, lies) }
 
   -- what was written went after nothing
   module _ {T : Type 0} (W : Outlet T) (old new : T) (all : List ℕ) (none : W.took old ≡ Some []) (taken : W.took new ≡ Some all) (g : Catalog) (l : Limits)

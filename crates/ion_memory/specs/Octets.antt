@@ -1,6 +1,7 @@
 -- What octets in memory are as documents, and what is written of them.
 use Rattle.std.specs.Prelude.{◌≡◌, ◌≤◌, ℕ, List, ◌++◌, length, Result, Ok, Err, ⊤}
 use Rattle.ion_memory.specs.Names.{DenotesAnywhere, Encoding, Fault, Format, IsFront, Limits, Memory, Open, Read, Refusal, TooLarge, TooManyReads, Value, Write, accepted_line, lines_of, plain}
+use Rattle.ion_events.specs.Layouts.{LaysStream}
 use Rattle.ion_streams.specs.Outcomes.{IsRefused}
 
 -- These octets denote s; or they are no document, and s are the values before the refusal.
@@ -23,6 +24,11 @@ pub record IsConversion (E : Encoding) (F : Format) (octets : List ℕ) (answer 
   pub counted : IsCount F octets answer
   pub same : (s : List Value) × IsRead F octets answer s × DenotesAnywhere E written s
   pub spelled : (s : List Value) × IsRead F octets answer s × (written ≡ E.document s)
+
+-- The layout is that of the values that were read.
+pub record IsLayout (F : Format) (octets : List ℕ) (answer : Result ℕ Refusal) (layout : List ℕ) : Type 0 where
+  pub counted : IsCount F octets answer
+  pub lies : (s : List Value) × IsRead F octets answer s × LaysStream s layout
 
 -- The values s were read of the octets so far: these give them, or a front of these with the octet that a reader awaited behind it begins with them. Or s are
 -- all that was read of the octets.

@@ -6,7 +6,7 @@ use Rattle.ion_symtab.specs.declared.target.Target.{Target}
 use Rattle.ion_streams.specs.declared.comparison.Verdict.{Verdict}
 use Rattle.ion_docs.specs.Paths.{path_text}
 use Rattle.ion_memory.specs.Endings.{ending_of, whose_side}
-use Rattle.ion_memory.specs.Octets.{IsConversion, IsCount, IsFaultInMemory, IsListing, NeedsTooLargeId}
+use Rattle.ion_memory.specs.Octets.{IsConversion, IsCount, IsFaultInMemory, IsLayout, IsListing, NeedsTooLargeId}
 
 -- a fault for which there is a cause, and no text
 abbrev pub IsFault : (Fault → Type 0) → Ending → List ℕ → Type 0
@@ -31,6 +31,11 @@ abbrev pub IsConverted : Target → List ℕ → IsRight
 IsConverted target input g l e text =
     ((answer : Result ℕ Refusal) × IsConversion (encoding_of target) (documents g l) input answer text × (e ≡ ending_of answer))
     ⊎ IsFault (IsFaultInMemory l input (NeedsTooLargeId (encoding_of target) (documents g l) input)) e text
+
+-- of a layout
+abbrev pub IsLaidOut : List ℕ → IsRight
+IsLaidOut input g l e text =
+    ((answer : Result ℕ Refusal) × IsLayout (documents g l) input answer text × (e ≡ ending_of answer)) ⊎ IsFault (IsFaultInMemory l input ⊥) e text
 
 -- a verdict is told by this ending and text
 abbrev pub EndsVerdict : Verdict → Ending → List ℕ → Type 0

@@ -3,9 +3,9 @@
 ghost use Rattle.std.specs.Prelude.{◌≡◌, ◌⊎◌, ℕ, List, [], IfOk, IfErr};
 ghost use Rattle.ion_memory.specs.Names.{Faulted, Memory};
 ghost use Rattle.ion_memory.specs.Endings.{ending_of, whose_side};
-ghost use Rattle.ion_memory.specs.Outcomes.{EndsVerdict, IsChecked, IsCompared, IsConverted, IsNoSetting, IsOutcome, IsSetting, IsShown};
+ghost use Rattle.ion_memory.specs.Outcomes.{EndsVerdict, IsChecked, IsCompared, IsConverted, IsLaidOut, IsNoSetting, IsOutcome, IsSetting, IsShown};
 
-use crate::documents::{Written, check, compare, convert_with_hasher, show};
+use crate::documents::{Written, check, compare, convert_with_hasher, lay_out, show};
 use crate::ending::{Ending, Whose};
 use crate::setting::{Setting, set_up};
 use ion_docs::{Side, Target, Verdict, path_text};
@@ -13,7 +13,7 @@ use ion_symtab::Fault;
 use std::alloc::Global;
 use std::hash::{BuildHasher, BuildHasherDefault, FoldHasher};
 
-/// How a call ended, and its text: the lines, the document, or the path to a difference.
+/// How a call ended, and its text: the lines, the document, the layout, or the path to a difference.
 #[derive(Debug, Drop)]
 pub struct Outcome {
     pub ending: Ending,
@@ -116,6 +116,27 @@ pub fn converted_with_hasher<H: BuildHasher + Drop>(
     }
 }
 
+/// The layout of the values of a document, as `lay_out` makes it: this hasher finds symbols again.
+pub fn laid_out<H: BuildHasher + Drop>(
+    alloc: Global,
+    hasher: H,
+    input: &[u8],
+    catalog: &[u8],
+    depth: u32,
+    item: u64,
+) -> Outcome
+    ensures { IsOutcome catalog.now depth item (IsLaidOut input.now)
+        result.ending result.text.items }
+{
+    match set_up(alloc, catalog, depth, item) {
+        Ok(setting) => laid_out_in(alloc, hasher, input, &setting),
+        Err(ending) => {
+            drop(hasher);
+            without_text(alloc, ending)
+        }
+    }
+}
+
 fn checked_in(alloc: Global, input: &[u8], setting: &Setting) -> Outcome
     ensures { IsChecked input.now setting.now.catalog setting.now.limits
         result.ending result.text.items }
@@ -154,6 +175,21 @@ fn converted_in<H: BuildHasher + Drop>(
         &setting.catalog,
         setting.limits,
     ) {
+        Ok(written) => with_text(written),
+        Err(fault) => without_text(alloc, Ending::Faulted { fault }),
+    }
+}
+
+fn laid_out_in<H: BuildHasher + Drop>(
+    alloc: Global,
+    hasher: H,
+    input: &[u8],
+    setting: &Setting,
+) -> Outcome
+    ensures { IsLaidOut input.now setting.now.catalog setting.now.limits
+        result.ending result.text.items }
+{
+    match lay_out(alloc, hasher, input, &setting.catalog, setting.limits) {
         Ok(written) => with_text(written),
         Err(fault) => without_text(alloc, Ending::Faulted { fault }),
     }

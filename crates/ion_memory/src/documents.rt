@@ -2,7 +2,7 @@
 //! octets.
 ghost use Rattle.std.specs.Prelude.{◌≡◌, ◌⊎◌, [], IfOk, IfErr, Result};
 ghost use Rattle.ion_memory.specs.Names.{IsCatalog, IsVerdict, documents, encoding_of};
-ghost use Rattle.ion_memory.specs.Octets.{IsConversion, IsCount, IsFaultInMemory, IsListing, NeedsTooLargeId, fault_in_memory};
+ghost use Rattle.ion_memory.specs.Octets.{IsConversion, IsCount, IsFaultInMemory, IsLayout, IsListing, NeedsTooLargeId, fault_in_memory};
 
 use ion_docs::laws::catalog_documents;
 use ion_docs::{Target, Verdict, in_memory};
@@ -121,6 +121,33 @@ pub fn convert_with_hasher<H: BuildHasher + Drop>(
             Ok(Written { answer, octets })
         }
         Err(fault) => Err(fault_of_memory(fault)),
+    }
+}
+
+/// The layout of the values of a document (docs/EVENTS.md), which is the layout of no other stream.
+/// This hasher finds symbols again; the layout doesn't depend on it.
+///
+/// The answer is that of `check`; on a refusal the layout is that of the values before it. Faults
+/// are those of `check`; `Memory` also for a text of 2^32 octets, and for as many values in one
+/// container.
+pub fn lay_out<H: BuildHasher + Drop>(
+    alloc: Global,
+    hasher: H,
+    input: &[u8],
+    catalog: &Catalog,
+    limits: Limits,
+) -> Result<Written, Fault>
+    ensures layout { IfOk result (λ written. IsLayout (documents catalog.now limits)
+        input.now written.answer written.octets.items) }
+    ensures cause { IfErr result (IsFaultInMemory limits input.now ⊥) }
+{
+    let mut reader = in_memory(input);
+    match ion_docs::lay_out(alloc, hasher, &mut reader, catalog, limits) {
+        Ok(out) => Ok(Written {
+            answer: out.answer,
+            octets: out.layout,
+        }),
+        Err(fault) => Err(fault),
     }
 }
 

@@ -14,3 +14,4 @@ pub mod SideBySide
 pub mod Fronts
 pub mod Loads
 pub mod Turns
+pub mod LaidNext

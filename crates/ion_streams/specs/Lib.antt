@@ -1,6 +1,7 @@
 pub mod Formats
 pub mod Outcomes
 pub mod Checked
+pub mod LaidOut
 pub mod Compared
 pub mod InTurn
 pub mod Loaded

@@ -32,3 +32,4 @@ pub mod LastTokens
 pub mod Advancing
 pub mod WalkRuns
 pub mod Builds
+pub mod Inside

@@ -2,6 +2,7 @@
 pub mod Holds
 pub mod Takes
 pub mod WholeTokens
+pub mod Inside
 pub mod WordKinds
 pub mod Ends
 pub mod Fronts

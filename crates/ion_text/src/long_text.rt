@@ -1,7 +1,8 @@
 //! What a long string says, whose segments come one by one.
-ghost use Rattle.std.specs.Prelude.{◌≡◌, ◌+◌, ◌++◌, ◌<◌, ◌^◌, length, true, MatchResult, IfSome};
+ghost use Rattle.std.specs.Prelude.{◌≡◌, ◌++◌, [], false, MatchResult, IfSome};
 ghost use Rattle.ion_atoms.specs.declared.refusal.Reason.TheVariants as reasons;
 
+use boxcar::tag::{Names, Tag};
 use ion_atoms::LetGo;
 use ion_model::{Reason, Text};
 use std::alloc::Global;
@@ -10,30 +11,53 @@ use std::marker::Model;
 /// So few octets aren't let go.
 const FEW: usize = 1024;
 
-/// From so many octets on, none are let go of one text.
-const MOST: u64 = 1 << 62;
-
 /// What the segments of a long string say so far, of which the front may have been let go, since
 /// nobody asks for it. In clauses it is all of it.
 #[derive(Drop)]
 pub struct LongText {
-    gone: LetGo,
+    /// Whether some may have been let go.
+    is_cut: bool,
+    /// What was let go, which exists in proofs alone.
+    gone: Tag,
     text: Text,
 }
 
 impl Model for LongText {
-    ghost use Rattle.std.specs.Prelude.{List, ℕ, ◌++◌};
+    ghost use Rattle.std.specs.Prelude.{◌≡◌, List, ℕ, ◌++◌, [], false};
 
     ghost Value = { List ℕ };
 
-    ghost view = { λ l. l.gone ++ l.text };
+    ghost view = { λ l. l.gone.numbers ++ l.text };
+
+    ghost invariant = { λ l. l.is_cut ≡ false → l.gone.numbers ≡ [] };
 }
 
-// Whether so many octets more may be let go of one text.
-fn is_room(gone: &LetGo, more: u64) -> bool
-    ensures { result ≡ true → length gone.now + more < 2 ^ 63 }
-{
-    gone.count() < MOST && more <= MOST
+/// What was let go, and a text behind it that is.
+#[derive(Drop)]
+struct Longer<'a> {
+    before: &'a Tag,
+    text: &'a [u8],
+}
+
+/// What was let go, and behind it what was elsewhere.
+#[derive(Drop)]
+struct Sides<'a> {
+    before: &'a Tag,
+    behind: &'a LetGo,
+}
+
+struct Joined;
+
+impl<'a> Names<Longer<'a>> for Joined {
+    ghost use Rattle.std.specs.Prelude.{◌++◌};
+
+    ghost numbers = { λ longer. longer.before.now.numbers ++ longer.text.now };
+}
+
+impl<'a> Names<Sides<'a>> for Joined {
+    ghost use Rattle.std.specs.Prelude.{◌++◌};
+
+    ghost numbers = { λ both. both.before.now.numbers ++ both.behind.now };
 }
 
 impl LongText {
@@ -42,29 +66,42 @@ impl LongText {
         ensures { result ≡ text }
     {
         LongText {
-            gone: LetGo::nothing(),
+            is_cut: false,
+            gone: Tag::empty(),
             text,
         }
     }
 
-    /// A text of which nothing is kept.
-    pub fn gone(alloc: Global, gone: LetGo) -> LongText
-        ensures { result ≡ gone }
+    // A text of which nothing is kept.
+    fn cut(alloc: Global, gone: Tag) -> LongText
+        ensures { result ≡ gone.numbers }
     {
         LongText {
+            is_cut: true,
             gone,
             text: Text::from_string(String::new(alloc)),
         }
+    }
+
+    /// A text of which octets were let go, so that nothing is kept of it.
+    pub fn gone(alloc: Global, gone: &LetGo) -> LongText
+        ensures { result ≡ gone.now }
+    {
+        let tag = Tag::of::<Sides<'_>, Joined>(&Sides {
+            before: &Tag::empty(),
+            behind: gone,
+        });
+        LongText::cut(alloc, tag)
     }
 
     /// The text, unless octets of it were let go.
     pub fn as_str(&self) -> Option<&str>
         ensures { IfSome result (λ text. text.now ≡ self.now) }
     {
-        if self.gone.is_nothing() {
-            Some(self.text.as_str())
-        } else {
+        if self.is_cut {
             None
+        } else {
+            Some(self.text.as_str())
         }
     }
 
@@ -73,33 +110,29 @@ impl LongText {
         ensures { MatchResult result (λ joined. joined ≡ self ++ more.now)
             (λ reason. reason ≡ reasons.Memory) }
     {
-        let LongText { gone, text } = self;
+        let LongText { is_cut, gone, text } = self;
         let mut text = text.into_string();
         text.push_str(more.as_str())?;
         Ok(LongText {
+            is_cut,
             gone,
             text: Text::from_string(text),
         })
     }
 
-    /// Another segment follows, of which octets were let go. The only refusal is `Memory`, which
-    /// comes where they are too many.
-    pub fn join_gone(self, alloc: Global, more: &LetGo) -> Result<LongText, Reason>
-        ensures { MatchResult result (λ joined. joined ≡ self ++ more.now)
-            (λ reason. reason ≡ reasons.Memory) }
+    /// Another segment follows, of which octets were let go.
+    pub fn join_gone(self, alloc: Global, more: &LetGo) -> LongText
+        ensures { result ≡ self ++ more.now }
     {
-        let LongText { gone, text } = self;
-        let mut gone = gone;
-        if !is_room(&gone, text.as_str().len() as u64) {
-            return Err(Reason::Memory);
-        }
-        gone.add(text.as_str().as_bytes());
-        drop(text);
-        if !is_room(&gone, more.count()) {
-            return Err(Reason::Memory);
-        }
-        gone.join(more);
-        Ok(LongText::gone(alloc, gone))
+        let front = Tag::of::<Longer<'_>, Joined>(&Longer {
+            before: &self.gone,
+            text: self.text.as_str().as_bytes(),
+        });
+        let tag = Tag::of::<Sides<'_>, Joined>(&Sides {
+            before: &front,
+            behind: more,
+        });
+        LongText::cut(alloc, tag)
     }
 
     /// Lets go the text, if it isn't short. What it says stays the same.
@@ -107,10 +140,15 @@ impl LongText {
         ensures { self.new ≡ self.old }
     {
         let octets = self.text.as_str().as_bytes();
-        if octets.len() < FEW || !is_room(&self.gone, octets.len() as u64) {
+        if octets.len() < FEW {
             return;
         }
-        self.gone.add(octets);
+        let tag = Tag::of::<Longer<'_>, Joined>(&Longer {
+            before: &self.gone,
+            text: octets,
+        });
+        self.is_cut = true;
+        self.gone = tag;
         self.text = Text::from_string(String::new(alloc));
     }
 }

@@ -10,3 +10,4 @@ pub mod runs
 pub mod sound
 pub mod texts
 pub mod traces
+pub mod Usual

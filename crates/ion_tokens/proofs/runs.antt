@@ -2,6 +2,7 @@
 -- tokens in memory, `WholeTokens`), and from one call to the next (`Answered`, `Scans`, `Moved`).
 pub mod Answered
 pub mod Base64Groups
+pub mod Behind
 pub mod BlobsLetGo
 pub mod LobsAtOnce
 pub mod Cutting
@@ -13,6 +14,7 @@ pub mod Lendings
 pub mod LetGo
 pub mod Moved
 pub mod Runs
+pub mod SaidBehind
 pub mod Scans
 pub mod Splits
 pub mod WholeComments

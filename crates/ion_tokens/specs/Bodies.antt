@@ -39,6 +39,11 @@ content (Body.LetGo TextKind.Long t) = Long t
 content (Body.LetGo TextKind.Clob t) = Clob t
 content (Body.LetGo TextKind.Blob t) = Blob t
 
+-- no octets of it were let go
+abbrev pub IsWhole : Body → Type 0
+IsWhole (Body.LetGo k t) = ⊥
+IsWhole _ = Unit {0}
+
 abbrev pub every_kind : List Kind
 every_kind = Kind.Null ∷ Kind.Bool ∷ Kind.Int ∷ Kind.Float ∷ Kind.Decimal ∷ Kind.Timestamp ∷ Kind.Symbol
     ∷ Kind.Str ∷ Kind.Clob ∷ Kind.Blob ∷ Kind.List ∷ Kind.Sexp ∷ Kind.Fields ∷ []

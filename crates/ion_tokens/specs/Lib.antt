@@ -11,3 +11,4 @@ pub mod Quoted
 pub mod laws
 pub mod machine
 pub mod Names
+pub mod Usual

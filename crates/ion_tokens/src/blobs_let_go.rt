@@ -1,17 +1,15 @@
 //! Blobs of which the front is let go, since nobody asks what they say. Their base64 is judged group
 //! by group, and what the groups stand for is counted.
-ghost use Rattle.std.specs.Prelude.{◌≡◌, ◌≢◌, ◌+◌, ◌-◌, ◌<◌, ◌≤◌, ◌^◌, ℕ, List, length, min, take, true, false, IfOk, IfErr, IfSome};
+ghost use Rattle.std.specs.Prelude.{◌≡◌, ◌≢◌, ◌+◌, ◌-◌, ◌<◌, ◌≤◌, ◌^◌, ℕ, List, [], length, min, take, true, false, IfOk, IfErr, IfSome};
 ghost use Rattle.ion_tokens.specs.Names.{Answers, BorrowsAt, IsSteady, Memory, answered, deciding, run};
-ghost use Rattle.ion_tokens.specs.machine.LetGo.{Decodes, StandsFor, behind_gone, front_in};
+ghost use Rattle.ion_tokens.specs.machine.LetGo.{IsBehind, StandsFor, behind_gone, front_in, in_base64};
 ghost use Rattle.ion_tokens.specs.machine.Machines.{known};
-ghost use Rattle.ion_tokens.specs.declared.mode.Lob.TheVariants.{Base64};
-ghost use Rattle.ion_tokens.specs.declared.mode.Mode.TheVariants as modes;
 
 use crate::blob::decoded;
 use crate::gone_front::GoneFront;
-use crate::let_go::{FEW, MOST};
+use crate::let_go::{FEW, MOST, in_base64};
 use crate::machine::{Machine, Taken};
-use crate::mode::{Lob, Mode, Place};
+use crate::mode::Place;
 use crate::token::Scan;
 use ion_atoms::{Reason, Refusal};
 
@@ -19,7 +17,7 @@ use ion_atoms::{Reason, Refusal};
 // octets of the others. `None` where one is no group, and where memory runs out.
 fn groups(text: &[u8], octets: &mut Vec<u8>) -> Option<usize>
     requires { 4 ≤ length text.now }
-    ensures within { IfSome result (λ count. count ≤ length text.now) }
+    ensures within { IfSome result (λ count. count < length text.now) }
     ensures fewer { IfSome result (λ count. length octets.new.items ≤ count) }
     ensures stands { IfSome result (λ count.
         StandsFor (take count text.now) octets.new.items) }
@@ -38,7 +36,11 @@ impl Machine {
     /// Lets go base64 of the open blob, but for the last group or two. Where some of it doesn't decode
     /// the blob is refused at its close, so it is tried once.
     pub fn let_go_base64(&mut self, gone: &mut GoneFront)
-        ensures known { behind_gone gone.new (known self.new) ≡ behind_gone gone.old (known self.old) }
+        requires blob { in_base64 self.old.mode ≡ true }
+        requires behind { IsBehind gone.old (known self.old) }
+        ensures behind { IsBehind gone.new (known self.new) }
+        ensures known { behind_gone gone.new.octets (known self.new)
+            ≡ behind_gone gone.old.octets (known self.old) }
         ensures looked { self.new.looked ≡ self.old.looked }
         ensures left { self.new.left ≡ self.old.left }
     {
@@ -55,25 +57,21 @@ impl Machine {
         self.kept.truncate(count - spare);
     }
 
-    // Whether base64 goes on of which the front was let go.
-    fn goes_on_base64(&self, gone: &GoneFront) -> bool
-        ensures decodes { result ≡ true → Decodes gone.now }
-        ensures some { result ≡ true → 0 < length self.now.kept.items }
-    {
-        gone.is_base64() && !self.kept.is_empty()
-    }
-
     // No token came in a blob of which base64 was let go: behind its end it is what that stands for.
-    fn follows(&mut self, gone: &mut GoneFront) -> bool
-        requires { Decodes gone.old }
-        ensures front { result ≡ true → (octets : List ℕ) × StandsFor gone.old octets
-            × (gone.new ≡ front_in self.old.mode gone.old octets) }
+    fn follows(&mut self, gone: &mut GoneFront)
+        requires { gone.old.is_base64 ≡ true }
+        ensures front { (octets : List ℕ) × StandsFor gone.old.octets octets
+            × (gone.new.octets ≡ front_in self.old.mode gone.old.octets octets) }
+        ensures base64 { in_base64 self.old.mode ≡ true → gone.new.is_base64 ≡ true }
         ensures known { known self.new ≡ known self.old }
         ensures looked { self.new.looked ≡ self.old.looked }
         ensures left { self.new.left ≡ false }
     {
+        gone.stands();
         self.left = false;
-        matches!(self.mode, Mode::Lob(Lob::Base64)) || gone.decode()
+        if !in_base64(self.mode) {
+            gone.decode();
+        }
     }
 
     /// The same as `scan_behind` in a blob of which base64 was let go. Behind its base64 what that
@@ -85,13 +83,17 @@ impl Machine {
         place: Place,
     ) -> Result<Scan<'p>, Refusal>
         requires room { self.old.used + length piece.now < 2 ^ 63 }
-        requires blob { self.old.mode ≡ modes.Lob Base64 }
+        requires blob { in_base64 self.old.mode ≡ true }
+        requires base64 { gone.old.is_base64 ≡ true }
+        requires some { 0 < length self.old.kept.items }
+        requires steady { IsSteady (behind_gone gone.old.octets (known self.old)) self.old.looked }
         ensures answers { Answers self.old.used
-            (run place piece.now (behind_gone gone.old (known self.old)))
-            (answered result self.new.left) (behind_gone gone.new (known self.new)) }
+            (run place piece.now (behind_gone gone.old.octets (known self.old)))
+            (answered result self.new.left) (behind_gone gone.new.octets (known self.new)) }
+        ensures behind { IfOk result (λ _. IsBehind gone.new (known self.new)) }
+        ensures taken { IfOk result (λ scan. IfSome scan.token (λ _. gone.new.octets ≡ [])) }
         ensures steady { IfOk result (λ _.
-            IsSteady (behind_gone gone.old (known self.old)) self.old.looked →
-            IsSteady (behind_gone gone.new (known self.new)) self.new.looked) }
+            IsSteady (behind_gone gone.new.octets (known self.new)) self.new.looked) }
         ensures lends { IfOk result (λ scan. IfSome scan.token (λ token.
             BorrowsAt self.old.used token.start token.end piece.now token.body)) }
         ensures looked { IfOk result (λ scan. self.new.looked
@@ -101,32 +103,26 @@ impl Machine {
         ensures memory { IfErr result (λ refusal. refusal.reason ≡ Memory →
             refusal.offset ≡ self.old.used) }
     {
+        gone.stands();
         let before = self.used;
-        let memory = Refusal {
-            offset: before,
-            reason: Reason::Memory,
-        };
-        if !self.goes_on_base64(gone) {
-            return Err(memory);
-        }
         match self.run(place, piece) {
+            Err(_) => Err(Refusal {
+                offset: before,
+                reason: Reason::Memory,
+            }),
             Ok(Taken::Next) => {
-                if !self.follows(gone) {
-                    return Err(memory);
-                }
+                self.follows(gone);
                 Ok(Scan {
                     used: piece.len(),
                     token: None,
                 })
             }
             Ok(Taken::Given(lexeme)) => {
-                if !gone.decode() {
-                    return Err(memory);
-                }
+                gone.decode();
                 self.given_behind(lexeme, before, gone)
             }
+            Ok(Taken::Left(_)) => unreachable!(),
             Ok(Taken::Refused(refusal)) => Err(refusal),
-            _ => Err(memory),
         }
     }
 }

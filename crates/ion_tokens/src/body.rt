@@ -3,7 +3,7 @@ ghost use Rattle.std.specs.Prelude.{◌≡◌, ◌≢◌, ◌^◌, ◌-◌, ℕ,
 ghost use Rattle.std.specs.Cow.{cow_str_bytes, IsBorrowedStr, IsOwnedStr};
 ghost use Rattle.std.specs.List.{list_all};
 ghost use Rattle.ion_tokens.specs.Names.{BadUtf8, BorrowsFrom, IsBody, Memory, Passes, id_of, is_digit, kind_named, number_in};
-ghost use Rattle.ion_tokens.specs.Bodies.{content};
+ghost use Rattle.ion_tokens.specs.Bodies.{IsWhole, content};
 
 use crate::mode::TokenKind;
 use crate::octets::is_digit;
@@ -107,6 +107,7 @@ fn word_body<'p>(alloc: Global, octets: &[u8], lent: &'p [u8]) -> Result<Body<'p
     ensures ok { IfOk result (λ body. IsBody TokenKind.Word octets.now (Ok (content body))) }
     ensures err { IfErr result (λ e. e ≢ Memory → IsBody TokenKind.Word octets.now (Err e)) }
     ensures lends { IfOk result (λ body. BorrowsFrom lent.now body) }
+    ensures whole { IfOk result IsWhole }
 {
     match id_of(octets) {
         Some(id) => Ok(Body::Id(id)),
@@ -119,6 +120,7 @@ fn null_body<'p>(name: &[u8]) -> Result<Body<'p>, Reason>
     ensures ok { IfOk result (λ body. IsBody TokenKind.KindName name.now (Ok (content body))) }
     ensures err { IfErr result (λ e. IsBody TokenKind.KindName name.now (Err e)) }
     ensures lends { (lent : List ℕ) → IfOk result (λ body. BorrowsFrom lent body) }
+    ensures whole { IfOk result IsWhole }
 {
     match kind_named(name) {
         Some(kind) => Ok(Body::TypedNull(kind)),
@@ -147,6 +149,7 @@ pub fn body_of<'p>(
     ensures err { IfErr result (λ e. e ≢ Memory → IsBody kind octets.old.items (Err e)) }
     ensures passes { IfOk result (λ _. Passes kind octets.old.items) }
     ensures lends { IfOk result (λ body. BorrowsFrom lent.now body) }
+    ensures whole { IfOk result IsWhole }
 {
     match kind {
         TokenKind::Word => word_body(alloc, octets.as_slice(), lent),

@@ -1,11 +1,14 @@
 //! Octets at the front of a piece with which the mode goes on as it is: they are taken up at once.
-ghost use Rattle.std.specs.Prelude.{◌≡◌, ◌+◌, ◌-◌, ◌^◌, ◌<◌, ◌≤◌, min, length, take, IfOk, IfSome, IsUtf8, false};
+ghost use Rattle.std.specs.Prelude.{◌≡◌, ◌+◌, ◌-◌, ◌^◌, ◌<◌, ◌≤◌, min, length, slice_index, take, IfOk, IfSome, IsUtf8, false};
 ghost use Rattle.std.specs.List.{take_while};
+ghost use Rattle.ion_tokens.specs.Usual.{is_usual};
 ghost use Rattle.ion_tokens.specs.Names.{AreKept, Each, GoesOver, goes_on, gone_on, is_base64, is_between, is_digit, is_numeric, is_plain, is_plain_operator, is_raw, is_white, is_word_octet, keeps_them};
 ghost use Rattle.ion_tokens.specs.declared.mode.Mode.TheVariants as modes;
 ghost use Rattle.ion_tokens.specs.machine.Machines.{known};
 
-use crate::lanes::{base64_ends, digit_ends, number_ends, raw_ends, stars, text_ends, word_ends};
+use crate::lanes::{
+    base64_ends, digit_ends, number_ends, raw_ends, stars, text_ends, usual_ends, word_ends,
+};
 use crate::machine::{Machine, start_of};
 use crate::mode::{Lob, Mode, Style, Within};
 use crate::octets::{is_base64, is_line_end, is_operator_octet, is_stop, is_white, is_word_octet};
@@ -109,6 +112,48 @@ fn characters_between(long: bool, quote: u8, octets: &[u8]) -> usize
         Ok(_) => count,
         Err(error) => error.valid_up_to(),
     }
+}
+
+/// The same where sixteen octets are there: most texts end among them.
+#[inline(always)]
+pub fn usual_ahead(quote: u8, octets: &[u8]) -> Option<usize>
+    requires { 16 ≤ length octets.now }
+    ensures usual { IfSome result (λ count. count ≡ length (take_while (is_usual quote) octets.now)) }
+    ensures within { IfSome result (λ count. count < length octets.now) }
+    ensures quote { IfSome result (λ count. slice_index octets.now count ≡ quote) }
+{
+    let ends = usual_ends(quote, u8x16::from_slice(octets));
+    if ends == 0 {
+        return usual_before(quote, octets);
+    }
+    let count = ends.trailing_zeros() as usize;
+    if octets[count] != quote {
+        return None;
+    }
+    Some(count)
+}
+
+/// How many usual characters stand before the quote at which a text in these quotes ends, if no other
+/// ones do and sixteen octets show it.
+#[inline(never)]
+pub fn usual_before(quote: u8, octets: &[u8]) -> Option<usize>
+    ensures usual { IfSome result (λ count. count ≡ length (take_while (is_usual quote) octets.now)) }
+    ensures within { IfSome result (λ count. count < length octets.now) }
+    ensures quote { IfSome result (λ count. slice_index octets.now count ≡ quote) }
+{
+    let mut at = 0;
+    while octets.len() - at >= 16 {
+        let ends = usual_ends(quote, u8x16::from_slice(&octets[at..]));
+        if ends != 0 {
+            let count = at + ends.trailing_zeros() as usize;
+            if octets[count] == quote {
+                return Some(count);
+            }
+            return None;
+        }
+        at += 16;
+    }
+    None
 }
 
 // Whether octets with which the mode goes on are kept; those of a blank aren't.

@@ -1,6 +1,6 @@
 //! What was let go of the front of the open text.
-ghost use Rattle.std.specs.Prelude.{◌≡◌, ◌+◌, ◌<◌, ◌≤◌, ◌^◌, ◌++◌, ◌↔◌, [], length, true, false};
-ghost use Rattle.ion_tokens.specs.machine.LetGo.{StandsFor, Decodes};
+ghost use Rattle.std.specs.Prelude.{◌≡◌, ◌≢◌, ◌+◌, ◌<◌, ◌≤◌, ◌^◌, ◌++◌, ◌↔◌, [], length, true};
+ghost use Rattle.ion_tokens.specs.machine.LetGo.{Decodes, StandsFor};
 
 use ion_atoms::LetGo;
 use std::marker::Model;
@@ -9,7 +9,7 @@ use std::mem;
 /// Octets at the front of the open string, clob or blob that were let go. Of a blob they are base64
 /// of whole groups, or what that decodes to.
 ///
-/// In clauses it is the list of these octets.
+/// In clauses it is the list of these octets, and whether they are base64.
 #[derive(Drop)]
 pub struct GoneFront {
     gone: LetGo,
@@ -21,12 +21,11 @@ pub struct GoneFront {
 }
 
 impl Model for GoneFront {
-    ghost use Rattle.std.specs.Prelude.{List, ℕ};
-    ghost use Rattle.ion_tokens.specs.machine.LetGo.{IsFront};
+    ghost use Rattle.ion_tokens.specs.machine.LetGo.{Front, IsFront};
 
-    ghost Value = { List ℕ };
+    ghost Value = { Front };
 
-    ghost view = { λ f. f.gone };
+    ghost view = { λ f. record { octets = f.gone; is_base64 = f.is_base64 } };
 
     ghost invariant = { λ f. IsFront f.gone f.octets f.is_base64 };
 }
@@ -34,7 +33,7 @@ impl Model for GoneFront {
 impl GoneFront {
     /// None.
     pub fn nothing() -> GoneFront
-        ensures { result ≡ [] }
+        ensures { result.octets ≡ [] }
     {
         GoneFront {
             gone: LetGo::nothing(),
@@ -46,14 +45,14 @@ impl GoneFront {
 
     /// Whether there are none.
     pub fn is_nothing(&self) -> bool
-        ensures { result ≡ true ↔ self.now ≡ [] }
+        ensures { result ≡ true ↔ self.now.octets ≡ [] }
     {
         self.gone.is_nothing()
     }
 
     /// How many there are.
     pub fn count(&self) -> u64
-        ensures count { result ≡ length self.now }
+        ensures count { result ≡ length self.now.octets }
         ensures few { result < 2 ^ 63 }
     {
         self.gone.count()
@@ -61,8 +60,8 @@ impl GoneFront {
 
     /// Lets go octets of a text behind those.
     pub fn add(&mut self, octets: &[u8])
-        requires { length self.old + length octets.now < 2 ^ 63 }
-        ensures { self.new ≡ self.old ++ octets.now }
+        requires { length self.old.octets + length octets.now < 2 ^ 63 }
+        ensures { self.new.octets ≡ self.old.octets ++ octets.now }
     {
         self.gone.add(octets);
         self.is_base64 = false;
@@ -70,7 +69,9 @@ impl GoneFront {
 
     // None are base64 of no groups.
     fn begin_base64(&mut self)
-        ensures { self.new ≡ self.old }
+        requires { self.old.octets ≢ [] → self.old.is_base64 ≡ true }
+        ensures same { self.new.octets ≡ self.old.octets }
+        ensures begun { self.new.is_base64 ≡ true }
     {
         if self.gone.is_nothing() {
             self.octets = LetGo::nothing();
@@ -80,25 +81,22 @@ impl GoneFront {
 
     /// Lets go base64 behind those, which decodes to these octets whatever follows.
     pub fn add_base64(&mut self, text: &[u8], octets: &[u8])
-        requires room { length self.old + length text.now < 2 ^ 63 }
+        requires room { length self.old.octets + length text.now < 2 ^ 63 }
         requires fewer { length octets.now ≤ length text.now }
         requires stands { StandsFor text.now octets.now }
-        ensures { self.new ≡ self.old ++ text.now }
+        requires base64 { self.old.octets ≢ [] → self.old.is_base64 ≡ true }
+        ensures added { self.new.octets ≡ self.old.octets ++ text.now }
+        ensures base64 { self.new.is_base64 ≡ true }
     {
         self.begin_base64();
         self.gone.add(text);
         self.octets.add(octets);
     }
 
-    /// Whether they are known to be base64 of whole groups.
-    pub fn is_base64(&self) -> bool
-        ensures { result ≡ true → Decodes self.now }
-    {
-        self.is_base64
-    }
-
     /// Whether base64 may be let go behind them.
-    pub fn takes_base64(&self) -> bool {
+    pub fn takes_base64(&self) -> bool
+        ensures { result ≡ true → self.now.octets ≢ [] → self.now.is_base64 ≡ true }
+    {
         !self.is_doubted && (self.is_base64 || self.gone.is_nothing())
     }
 
@@ -109,23 +107,26 @@ impl GoneFront {
         self.is_doubted = true;
     }
 
-    /// What they decode to stands for them from now on, if they are known to be base64.
-    pub fn decode(&mut self) -> bool
-        ensures decoded { result ≡ true → StandsFor self.old self.new }
-        ensures same { result ≡ false → self.new ≡ self.old }
+    /// Base64 of whole groups decodes whatever follows. Nothing is done.
+    pub fn stands(&self)
+        ensures { self.now.is_base64 ≡ true → Decodes self.now.octets }
     {
-        if !self.is_base64 {
-            return false;
-        }
+        let _ = &self.gone;
+    }
+
+    /// What they decode to stands for them from now on.
+    pub fn decode(&mut self)
+        requires { self.old.is_base64 ≡ true }
+        ensures { StandsFor self.old.octets self.new.octets }
+    {
         self.gone = mem::replace(&mut self.octets, LetGo::nothing());
         self.is_base64 = false;
-        true
     }
 
     /// Takes them all.
     pub fn take(&mut self) -> LetGo
-        ensures taken { result ≡ self.old }
-        ensures none { self.new ≡ [] }
+        ensures taken { result ≡ self.old.octets }
+        ensures none { self.new.octets ≡ [] }
     {
         self.octets = LetGo::nothing();
         self.is_base64 = false;

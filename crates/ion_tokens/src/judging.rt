@@ -1,5 +1,6 @@
 //! The tokens of the scanner's machine, judged: what they say, or why they say nothing.
 ghost use Rattle.std.specs.Prelude.{◌≡◌, ◌≢◌, ◌+◌, ◌-◌, ◌≤◌, ◌<◌, ◌^◌, length, [], IfOk, IfErr, IfSome, min};
+ghost use Rattle.ion_tokens.specs.Bodies.{IsWhole};
 ghost use Rattle.ion_tokens.specs.Names.{Answers, BorrowsAt, GivesToken, IsSteady, IsToken, Memory, RefusesToken, StandIn, answered, at_end, deciding, run};
 ghost use Rattle.ion_tokens.specs.machine.Machines.{known, lexeme_in};
 ghost use Rattle.ion_tokens.specs.machine.Steps.{Ends};
@@ -44,6 +45,7 @@ impl Machine {
         ensures left { self.new.left ≡ self.old.left }
         ensures lends { IfOk result (λ token.
             BorrowsAt before token.start token.end piece.now token.body) }
+        ensures whole { IfOk result (λ token. IsWhole token.body) }
     {
         let Lexeme { start, end, kind } = lexeme;
         let lent = lent(piece, before, lexeme);
@@ -81,6 +83,7 @@ impl Machine {
         ensures left { self.new.left ≡ left }
         ensures lends { IfOk result (λ scan. IfSome scan.token (λ token.
             BorrowsAt before token.start token.end piece.now token.body)) }
+        ensures whole { IfOk result (λ scan. IfSome scan.token (λ token. IsWhole token.body)) }
     {
         self.left = left;
         let used = (self.used - before) as usize;
@@ -118,6 +121,7 @@ impl Machine {
             ≡ min (self.old.looked + (refusal.offset - self.old.used)) (2 ^ 64 - 1)) }
         ensures memory { IfErr result (λ refusal. refusal.reason ≡ Memory →
             refusal.offset ≡ self.old.used) }
+        ensures whole { IfOk result (λ scan. IfSome scan.token (λ token. IsWhole token.body)) }
     {
         let before = self.used;
         match self.run(place, piece) {
@@ -145,6 +149,7 @@ impl Machine {
             refusal.offset ≡ self.old.used) }
         ensures lends { IfOk result (λ token. IfSome token (λ token.
             BorrowsAt self.old.used token.start token.end [] token.body)) }
+        ensures whole { IfOk result (λ token. IfSome token (λ token. IsWhole token.body)) }
     {
         let used = self.used;
         match self.end(place) {

@@ -1,6 +1,7 @@
 //! Which of sixteen octets end a run, as the bits of a number, the first octet's lowest.
 ghost use Rattle.std.specs.Prelude.{◌≡◌, map, not, if◌then◌else◌};
 ghost use Rattle.std.specs.Simd.Lanes.{mask_l};
+ghost use Rattle.ion_tokens.specs.Usual.{is_usual};
 ghost use Rattle.ion_tokens.specs.Names.{goes_on, is_base64, is_between, is_digit, is_numeric, is_raw, is_word_octet};
 ghost use Rattle.ion_tokens.specs.declared.mode.Mode.TheVariants as modes;
 
@@ -24,6 +25,16 @@ pub fn text_ends(long: bool, quote: u8, octets: u8x16) -> u64
         | octets.simd_eq(u8x16::splat(line_end))
         | (octets - u8x16::splat(b'\r')).simd_lt(u8x16::splat(b' ' - b'\r'))
         | octets.simd_ge(u8x16::splat(0x80))
+        | octets.simd_eq(u8x16::splat(b'\\'))
+        | octets.simd_eq(u8x16::splat(quote))).to_bitmask()
+}
+
+/// The octets that are no usual characters of a text in these quotes.
+#[inline(always)]
+pub fn usual_ends(quote: u8, octets: u8x16) -> u64
+    ensures { result ≡ mask_l (map (λ o. not (is_usual quote o)) octets) }
+{
+    ((octets - u8x16::splat(b' ')).simd_ge(u8x16::splat(0x60))
         | octets.simd_eq(u8x16::splat(b'\\'))
         | octets.simd_eq(u8x16::splat(quote))).to_bitmask()
 }

@@ -1,17 +1,15 @@
 //! Texts of which the front is let go, since nobody asks what they say. What is known of them stays
 //! the same.
-ghost use Rattle.std.specs.Prelude.{◌≡◌, ◌≢◌, ◌+◌, ◌-◌, ◌<◌, ◌≤◌, ◌^◌, ◌++◌, ℕ, List, [], length, min, true, false, IfOk, IfErr, IfSome};
-ghost use Rattle.ion_tokens.specs.Bodies.{content};
-ghost use Rattle.ion_tokens.specs.Names.{Answers, BorrowsAt, GivesToken, IsBody, IsSteady, Memory, Passes, answered, at_end, deciding, run};
+ghost use Rattle.std.specs.Prelude.{◌≡◌, ◌≢◌, ◌+◌, ◌-◌, ◌<◌, ◌≤◌, ◌^◌, ◌++◌, ℕ, List, Ok, Err, [], length, min, take, true, false, IfOk, IfErr, IfSome, IsNone, IsUtf8};
+ghost use Rattle.ion_tokens.specs.Bodies.{IsWhole, content};
+ghost use Rattle.ion_tokens.specs.Names.{Answers, BadUtf8, BorrowsAt, GivesToken, IsBody, IsSteady, Memory, Passes, RefusesToken, answered, at_end, deciding, run};
 ghost use Rattle.ion_tokens.specs.machine.Steps.{Ends};
-ghost use Rattle.ion_tokens.specs.machine.LetGo.{behind_gone, begun_gone, goes_on_behind, may_let_go, quotes_kept};
+ghost use Rattle.ion_tokens.specs.machine.LetGo.{IsBehind, behind_gone, begun_gone, in_base64, in_string, is_string_kind, is_text_kind, may_let_go, quotes_kept, text_content};
 ghost use Rattle.ion_tokens.specs.machine.Machines.{known, lexeme_in};
 
 use crate::gone_front::GoneFront;
 use crate::machine::{Lexeme, Machine, Taken};
-use crate::mode::{End, Lob, Mode, Place, Style, TokenKind, Within};
-use crate::quoted::is_clob;
-use crate::table::end_of;
+use crate::mode::{Lob, Mode, Place, Style, TokenKind, Within};
 use crate::token::{Body, Scan, TextKind, Token};
 use ion_atoms::{LetGo, Reason, Refusal};
 use std::mem;
@@ -27,6 +25,8 @@ fn may_let_go(mode: Mode) -> bool
     ensures { result ≡ may_let_go mode }
 {
     match mode {
+        // a short clob has no raw quotes
+        Mode::Text(Style::ShortClob, Within::OneQuote | Within::TwoQuotes) => false,
         Mode::Text(style, _) => !matches!(style, Style::QuotedSymbol),
         Mode::Lob(lob) => matches!(
             lob,
@@ -41,15 +41,24 @@ fn may_let_go(mode: Mode) -> bool
     }
 }
 
-// How many octets that were kept last may be quotes of the close.
-fn quotes_kept(mode: Mode) -> usize
-    ensures { result ≡ quotes_kept mode }
+/// Whether base64 is being read.
+pub fn in_base64(mode: Mode) -> bool
+    ensures { result ≡ in_base64 mode }
 {
-    match mode {
-        Mode::Text(_, Within::OneQuote) => 1,
-        Mode::Text(_, Within::TwoQuotes) => 2,
-        _ => 0,
-    }
+    matches!(mode, Mode::Lob(Lob::Base64))
+}
+
+// Whether it is in a string, which has to be UTF-8.
+fn in_string(mode: Mode) -> bool
+    ensures { result ≡ in_string mode }
+{
+    matches!(mode, Mode::Text(Style::ShortString | Style::LongString, _))
+}
+
+fn is_string(kind: TokenKind) -> bool
+    ensures { result ≡ is_string_kind kind }
+{
+    matches!(kind, TokenKind::ShortString | TokenKind::LongString)
 }
 
 // Whether what begins with an octet is a character, and not the rest of one (RFC 3629, section 3).
@@ -57,34 +66,40 @@ fn begins_character(octet: &u8) -> bool {
     *octet < 0x80 || 0xbf < *octet
 }
 
-// What a text says of which octets were let go before these, unless it may not be UTF-8.
+// What a text says of which octets were let go.
+fn said<'p>(kind: TokenKind, gone: LetGo) -> Body<'p>
+    ensures says { content result ≡ text_content kind gone }
+    ensures lends { (before start end : ℕ) (piece : List ℕ) →
+        BorrowsAt before start end piece result }
+{
+    match kind {
+        TokenKind::ShortString => Body::LetGo(TextKind::Short, gone),
+        TokenKind::LongString => Body::LetGo(TextKind::Long, gone),
+        TokenKind::Clob => Body::LetGo(TextKind::Clob, gone),
+        _ => Body::LetGo(TextKind::Blob, gone),
+    }
+}
+
+// The same, of which octets were let go before these; `None` where they make no string.
 fn body_behind<'p>(kind: TokenKind, gone: LetGo, rest: &[u8]) -> Option<Body<'p>>
+    requires room { length gone + length rest.now < 2 ^ 63 }
+    requires text { is_text_kind kind ≡ true }
+    requires utf8 { is_string_kind kind ≡ true → IsUtf8 gone }
     ensures says { IfSome result (λ body. IsBody kind (gone ++ rest.now) (Ok (content body))) }
     ensures passes { IfSome result (λ _. Passes kind (gone ++ rest.now)) }
     ensures lends { (before start end : ℕ) (piece : List ℕ) →
         IfSome result (λ body. BorrowsAt before start end piece body) }
+    ensures refuses { IsNone result → IsBody kind (gone ++ rest.now) (Err BadUtf8) }
 {
-    let mut gone = gone;
-    if gone.count() >= MOST || rest.len() as u64 > MOST {
+    if is_string(kind) && !simdutf8::is_utf8(rest) {
         return None;
     }
+    let mut gone = gone;
     gone.add(rest);
-    match kind {
-        TokenKind::ShortString if gone.is_text() => Some(Body::LetGo(TextKind::Short, gone)),
-        TokenKind::LongString if gone.is_text() => Some(Body::LetGo(TextKind::Long, gone)),
-        TokenKind::Clob => Some(Body::LetGo(TextKind::Clob, gone)),
-        TokenKind::Blob => Some(Body::LetGo(TextKind::Blob, gone)),
-        _ => None,
-    }
+    Some(said(kind, gone))
 }
 
 impl Machine {
-    // Whether a text goes on whose front was let go.
-    fn goes_on_behind(&self) -> bool
-        ensures { result ≡ goes_on_behind self.now.mode self.now.kept.items }
-    {
-        may_let_go(self.mode) && quotes_kept(self.mode) <= self.kept.len()
-    }
     // A token ended, of which octets were let go before those that are kept of it.
     pub fn given_behind<'p>(
         &mut self,
@@ -93,12 +108,17 @@ impl Machine {
         gone: &mut GoneFront,
     ) -> Result<Scan<'p>, Refusal>
         requires before { before ≤ self.old.used }
-        ensures known { behind_gone gone.new (known self.new) ≡ known self.old }
+        requires room { length gone.old.octets + length self.old.ended.items < 2 ^ 63 }
+        requires text { is_text_kind lexeme.kind ≡ true }
+        requires utf8 { is_string_kind lexeme.kind ≡ true → IsUtf8 gone.old.octets }
+        ensures none { gone.new.octets ≡ [] }
+        ensures known { behind_gone gone.new.octets (known self.new) ≡ known self.old }
         ensures token { IfOk result (λ scan.
-            GivesToken (begun_gone gone.old (lexeme_in lexeme self.old)) scan.token
+            GivesToken (begun_gone gone.old.octets (lexeme_in lexeme self.old)) scan.token
             × (self.old.used ≡ before + scan.used)) }
-        ensures memory { IfErr result (λ refusal. (refusal.reason ≡ Memory)
-            × (refusal.offset ≡ before)) }
+        ensures refuses { IfErr result (λ refusal. (refusal.reason ≡ BadUtf8)
+            × RefusesToken (begun_gone gone.old.octets (lexeme_in lexeme self.old))
+            self.old.used refusal) }
         ensures lends { (piece : List ℕ) → IfOk result (λ scan. IfSome scan.token (λ token.
             BorrowsAt before token.start token.end piece token.body)) }
         ensures looked { self.new.looked ≡ self.old.looked }
@@ -117,28 +137,33 @@ impl Machine {
                 }),
             }),
             None => Err(Refusal {
-                offset: before,
-                reason: Reason::Memory,
+                offset: self.used,
+                reason: Reason::BadUtf8,
             }),
         }
     }
 
     /// Takes up octets of a piece up to the first token, and judges it, where octets of the open
-    /// text may have been let go. Where that is so and the end of a text doesn't come, or what was
-    /// let go may be no UTF-8, it answers `Memory`.
+    /// text may have been let go.
     pub fn scan_behind<'p>(
         &mut self,
         gone: &mut GoneFront,
         piece: &'p [u8],
         place: Place,
     ) -> Result<Scan<'p>, Refusal>
-        requires { self.old.used + length piece.now < 2 ^ 63 }
+        requires room { self.old.used + length piece.now < 2 ^ 63 }
+        requires behind { IsBehind gone.old (known self.old) }
+        requires steady { IsSteady (behind_gone gone.old.octets (known self.old)) self.old.looked }
         ensures answers { Answers self.old.used
-            (run place piece.now (behind_gone gone.old (known self.old)))
-            (answered result self.new.left) (behind_gone gone.new (known self.new)) }
+            (run place piece.now (behind_gone gone.old.octets (known self.old)))
+            (answered result self.new.left) (behind_gone gone.new.octets (known self.new)) }
+        ensures behind { IfOk result (λ _. IsBehind gone.new (known self.new)) }
+        ensures nothing_gone { gone.old.octets ≡ [] → (gone.new.octets ≡ [])
+            × IfOk result (λ scan. IfSome scan.token (λ token. IsWhole token.body)) }
+        ensures taken { IfOk result (λ scan. IfSome scan.token (λ _. gone.new.octets ≡ [])) }
         ensures steady { IfOk result (λ _.
-            IsSteady (behind_gone gone.old (known self.old)) self.old.looked →
-            IsSteady (behind_gone gone.new (known self.new)) self.new.looked) }
+            IsSteady (behind_gone gone.old.octets (known self.old)) self.old.looked →
+            IsSteady (behind_gone gone.new.octets (known self.new)) self.new.looked) }
         ensures lends { IfOk result (λ scan. IfSome scan.token (λ token.
             BorrowsAt self.old.used token.start token.end piece.now token.body)) }
         ensures looked { IfOk result (λ scan. self.new.looked
@@ -151,18 +176,15 @@ impl Machine {
         if gone.is_nothing() {
             return self.scan(piece, place);
         }
-        if matches!(self.mode, Mode::Lob(Lob::Base64)) {
+        if in_base64(self.mode) {
             return self.scan_base64(gone, piece, place);
         }
         let before = self.used;
-        let memory = Refusal {
-            offset: before,
-            reason: Reason::Memory,
-        };
-        if !self.goes_on_behind() {
-            return Err(memory);
-        }
         match self.run(place, piece) {
+            Err(_) => Err(Refusal {
+                offset: before,
+                reason: Reason::Memory,
+            }),
             Ok(Taken::Next) => {
                 self.left = false;
                 Ok(Scan {
@@ -171,52 +193,56 @@ impl Machine {
                 })
             }
             Ok(Taken::Given(lexeme)) => self.given_behind(lexeme, before, gone),
+            Ok(Taken::Left(_)) => unreachable!(),
             Ok(Taken::Refused(refusal)) => Err(refusal),
-            _ => Err(memory),
         }
     }
-    /// What the end of the octets shows, where octets of the open text may have been let go.
+    /// What the end of the octets shows, where octets of the open text may have been let go: no such
+    /// text ends there.
     pub fn finish_behind<'p>(
         &mut self,
         gone: &GoneFront,
         place: Place,
     ) -> Result<Option<Token<'p>>, Refusal>
+        requires { IsBehind gone.now (known self.old) }
         ensures ends { Ends self.old.used
-            (at_end place (behind_gone gone.now (known self.old))) result }
+            (at_end place (behind_gone gone.now.octets (known self.old))) result }
         ensures memory { IfErr result (λ refusal. refusal.reason ≡ Memory →
             refusal.offset ≡ self.old.used) }
         ensures lends { IfOk result (λ token. IfSome token (λ token.
             BorrowsAt self.old.used token.start token.end [] token.body)) }
+        ensures whole { IfOk result (λ token. IfSome token (λ token. IsWhole token.body)) }
     {
         if gone.is_nothing() {
             return self.finish(place);
         }
-        // no text ends there
-        let reason = match end_of(place, self.mode) {
-            End::Refuse(reason) => reason,
-            _ => Reason::Memory,
-        };
         Err(Refusal {
             offset: self.used,
-            reason,
+            reason: Reason::Incomplete,
         })
     }
 
     // How many of the octets that are kept may be let go: none of few. Whole characters of a string
     // are, and of a close no quotes.
     fn spare(&self) -> usize
-        ensures { result ≤ length self.now.kept.items }
+        ensures within { result ≤ length self.now.kept.items }
+        ensures kept { 0 < result → result + 4 ≤ length self.now.kept.items }
+        ensures text { 0 < result → may_let_go self.now.mode ≡ true }
+        ensures utf8 { in_string self.now.mode ≡ true → IsUtf8 (take result self.now.kept.items) }
     {
         let kept = self.kept.as_slice();
         if kept.len() < FEW || !may_let_go(self.mode) {
             return 0;
         }
         let front = &kept[..kept.len() - 4];
-        match self.mode {
-            Mode::Text(style, _) if !is_clob(style) => {
-                front.iter().rposition(begins_character).unwrap_or(0)
-            }
-            _ => front.len(),
+        if !in_string(self.mode) {
+            return front.len();
+        }
+        let whole = front.iter().rposition(begins_character).unwrap_or(0);
+        if simdutf8::is_utf8(&kept[..whole]) {
+            whole
+        } else {
+            0
         }
     }
 
@@ -224,11 +250,14 @@ impl Machine {
     /// those before it. It is some of a kibibyte or more of a string, a clob or a blob, unless memory
     /// was refused for the others.
     pub fn let_go(&mut self, gone: &mut GoneFront)
-        ensures known { behind_gone gone.new (known self.new) ≡ behind_gone gone.old (known self.old) }
+        requires { IsBehind gone.old (known self.old) }
+        ensures behind { IsBehind gone.new (known self.new) }
+        ensures known { behind_gone gone.new.octets (known self.new)
+            ≡ behind_gone gone.old.octets (known self.old) }
         ensures looked { self.new.looked ≡ self.old.looked }
         ensures left { self.new.left ≡ self.old.left }
     {
-        if matches!(self.mode, Mode::Lob(Lob::Base64)) {
+        if in_base64(self.mode) {
             return self.let_go_base64(gone);
         }
         let spare = self.spare();

@@ -4,9 +4,10 @@ ghost use Rattle.std.specs.Prelude.{◌≡◌, ◌≢◌, ◌+◌, ◌-◌, ◌<
 ghost use Rattle.std.specs.List.{take_while};
 ghost use Rattle.ion_tokens.specs.Names.{IsFound, IsPassed, Number, Place, ReadsNumber, is_digit, is_name, is_white, kind_named, past_blank, past_token};
 ghost use Rattle.ion_scalar.specs.text.PlainNumerals.{HasNumeral, PlainToken};
+ghost use Rattle.ion_tokens.specs.Usual.{WholeNumeral};
 
 use crate::body::kind_named;
-use crate::front::{characters, few_digits, of_number, of_operator, of_word, white};
+use crate::front::{characters, few_digits, of_number, of_operator, of_word, usual_ahead, white};
 use crate::machine::takes_colon;
 use crate::mode::{Place, Style, TokenKind};
 use crate::octets::{begins_word, is_digit, is_stop};
@@ -66,6 +67,17 @@ pub fn blanks(octets: &[u8]) -> usize
     ensures passed { IsPassed octets.now result }
 {
     white(octets)
+}
+
+/// The same where none is there or one space, which an octet behind it shows.
+#[inline(always)]
+pub fn one_blank(octets: &[u8]) -> Option<usize>
+    requires { 2 ≤ length octets.now }
+    ensures few { IfSome result (λ count. count ≤ 1) }
+    ensures passed { IfSome result (λ count. IsPassed octets.now count) }
+{
+    let one = if octets[0] == b' ' { 1 } else { 0 };
+    if octets[one] > b' ' { Some(one) } else { None }
 }
 
 /// How many octets the word at the front has, if the octet behind it shows its end; `None` also
@@ -201,6 +213,36 @@ pub fn plain_numeral(octets: &[u8]) -> Option<Numeral>
     })
 }
 
+// The int of these digits at the front, if the octet behind it shows its end.
+#[inline(always)]
+fn with_end(octets: &[u8], whole: usize) -> Option<usize>
+    requires digits { whole ≡ length (take_while is_digit octets.now) }
+    requires some { 0 < whole }
+    requires few { whole ≤ 19 }
+    requires first { 1 < whole → get_or octets.now 0 0 ≢ 48 }
+    ensures { IfSome result (λ count. WholeNumeral octets.now count count) }
+{
+    if whole >= octets.len() || !is_stop(octets[whole]) {
+        return None;
+    }
+    Some(whole)
+}
+
+/// The same of an int of few digits without a sign: how many octets it has.
+#[inline(always)]
+pub fn plain_int(octets: &[u8]) -> Option<usize>
+    ensures { IfSome result (λ count. WholeNumeral octets.now count count) }
+{
+    let whole = few_digits(octets)?;
+    if whole == 0 || whole > MOST_OF_NUMERAL || octets.is_empty() {
+        return None;
+    }
+    if octets[0] == b'0' && whole > 1 {
+        return None;
+    }
+    with_end(octets, whole)
+}
+
 /// How many octets the operator at the front has, if it has no `/` and the octet behind it shows
 /// its end; `None` also before a digit and before `i`. It stands in an s-expression.
 pub fn operator(octets: &[u8]) -> Option<usize>
@@ -235,6 +277,23 @@ pub fn short_string(octets: &[u8]) -> Option<usize>
     if count >= content.len() || content[count] != b'"' {
         return None;
     }
+    Some(count + 2)
+}
+
+/// The same of a string of usual characters, if sixteen octets show its end.
+#[inline(always)]
+pub fn usual_string(octets: &[u8]) -> Option<usize>
+    requires { 17 ≤ length octets.now }
+    ensures found { IfSome result (λ count. (place : Place) (rest : Rest) →
+        IsFound place rest octets.now TokenKind.ShortString
+        (take (count - 2) (drop 1 octets.now)) count false) }
+    ensures text { IfSome result (λ count. IsUtf8 (take (count - 2) (drop 1 octets.now))) }
+    ensures size { IfSome result (λ count. (2 ≤ count) × (count ≤ length octets.now)) }
+{
+    if octets[0] != b'"' {
+        return None;
+    }
+    let count = usual_ahead(b'"', &octets[1..])?;
     Some(count + 2)
 }
 

@@ -1,7 +1,7 @@
 //! The scanner, to which the octets come in pieces.
 ghost use Rattle.std.specs.Prelude.{◌≡◌, None};
 ghost use Rattle.ion_tokens.specs.machine.Bounds.{IsSteady};
-ghost use Rattle.ion_tokens.specs.machine.LetGo.{behind_gone};
+ghost use Rattle.ion_tokens.specs.machine.LetGo.{IsBehind, behind_gone};
 ghost use Rattle.ion_tokens.specs.machine.Machines.{known};
 
 use crate::begun::{is_idle, shown};
@@ -27,9 +27,11 @@ pub struct Scanner {
     gone: GoneFront,
     /// The refusal that each call answers from now on.
     failed: Option<Refusal>,
-    /// Unless a call was refused, what the machine knows goes with the octets that it took up.
+    /// Unless a call was refused, what the machine knows goes with the octets that it took up and
+    /// with those that were let go.
     pub ghost steady: { failed ≡ None →
-        IsSteady (behind_gone gone (known machine)) machine.looked },
+        IsSteady (behind_gone gone.octets (known machine)) machine.looked
+        × IsBehind gone (known machine) },
 }
 
 impl Debug for Scanner {
@@ -43,8 +45,9 @@ impl Scanner {
     ghost use Rattle.ion_atoms.specs.declared.refusal.Reason.TheVariants.{Memory};
     ghost use Rattle.ion_tokens.specs.machine.Scanning.{Next, run, at_end, initial, feed, start_of};
     ghost use Rattle.ion_tokens.specs.machine.Bounds.{debt};
-    ghost use Rattle.ion_tokens.specs.machine.Views.{scanned, failure, left_in, looks, begun_in, held_in, open_in, foresight};
+    ghost use Rattle.ion_tokens.specs.machine.Views.{scanned, gone_in, failure, left_in, looks, begun_in, held_in, open_in, foresight};
     ghost use Rattle.ion_tokens.specs.machine.AtOnce.{GoesOver};
+    ghost use Rattle.ion_tokens.specs.Bodies.{IsWhole};
     ghost use Rattle.ion_tokens.specs.Lexed.{Placed};
     ghost use Rattle.ion_tokens.specs.machine.Foreseen.{Foresees};
     ghost use Rattle.ion_tokens.specs.machine.Lent.{LendsWhole, OwnsLast};
@@ -62,6 +65,7 @@ impl Scanner {
         ensures begins { (place : Place) → Scanned place (scanned result) [] [] [] }
         ensures traced { (places : Places) → IsTraced places (scanned result) [] [] [] }
         ensures left { left_in result ≡ false }
+        ensures nothing_gone { gone_in result ≡ [] }
     {
         Scanner {
             machine: Machine::new(alloc),
@@ -76,6 +80,8 @@ impl Scanner {
     /// A token may be given before the octet that showed its end, where that octet isn't part of
     /// it: then `used` doesn't count the octet, `left()` says so from then on, and the next piece
     /// has to begin with it.
+    ///
+    /// A token's body is `Body::LetGo` only where octets of that token were let go.
     ///
     /// A refusal's offset counts the octets of the document up to the one that decides.
     /// `Malformed`, `TooLarge` and `Float` come from numbers as in `number_of`, `Malformed` from
@@ -126,6 +132,9 @@ impl Scanner {
         ensures fails { IfErr result (λ refusal. failure self.new ≡ Some refusal) }
         ensures goes_on { IfOk result (λ _. failure self.new ≡ None) }
         ensures again { IfSome (failure self.old) (λ refusal. result ≡ Err refusal) }
+        ensures nothing_gone { gone_in self.old ≡ [] → (gone_in self.new ≡ [])
+            × IfOk result (λ scan. IfSome scan.token (λ token. IsWhole token.body)) }
+        ensures taken { IfOk result (λ scan. IfSome scan.token (λ _. gone_in self.new ≡ [])) }
     {
         if let Some(refusal) = self.failed {
             return Err(refusal);
@@ -158,6 +167,7 @@ impl Scanner {
         ensures memory { IfErr result (λ refusal. refusal.reason ≡ Memory → IsNone (failure self) →
             refusal.offset ≡ (scanned self).used) }
         ensures again { IfSome (failure self) (λ refusal. result ≡ Err refusal) }
+        ensures whole_body { IfOk result (λ token. IfSome token (λ token. IsWhole token.body)) }
     {
         if let Some(refusal) = self.failed {
             return Err(refusal);
@@ -193,6 +203,7 @@ impl Scanner {
         ensures steady { IsSteady (scanned self.old) (looks self.old) →
             IsSteady (scanned self.new) (looks self.new) }
         ensures left { left_in self.new ≡ false }
+        ensures nothing_gone { gone_in self.new ≡ [] }
     {
         if !self.gone.is_nothing() {
             self.gone = GoneFront::nothing();
@@ -244,6 +255,7 @@ impl Scanner {
         ensures fails { IfErr result (λ refusal. failure self.new ≡ Some refusal) }
         ensures goes_on { OnOk result (failure self.new ≡ None) }
         ensures again { IfSome (failure self.old) (λ refusal. result ≡ Err refusal) }
+        ensures gone { gone_in self.new ≡ gone_in self.old }
     {
         if let Some(refusal) = self.failed {
             return Err(refusal);
@@ -317,14 +329,17 @@ impl Scanner {
     }
 
     /// Lets go octets of the open string, clob or blob, but for the last. Who does so is told no more
-    /// what it says: its token is `Body::LetGo`, and nothing else changes.
+    /// what it says: its token is `Body::LetGo`, and nothing else changes. Behind a refusal there is
+    /// nothing to let go.
     pub fn let_go(&mut self)
         ensures scanned { scanned self.new ≡ scanned self.old }
         ensures failure { failure self.new ≡ failure self.old }
         ensures looked { looks self.new ≡ looks self.old }
         ensures left { left_in self.new ≡ left_in self.old }
     {
-        self.machine.let_go(&mut self.gone);
+        if self.failed.is_none() {
+            self.machine.let_go(&mut self.gone);
+        }
     }
 
     /// What an octet would show of a token that may go on. It isn't taken up.

@@ -32,7 +32,9 @@ pub enum Body<'p> {
     Clob(Bytes),
     Blob(Bytes),
     Mark(Mark),
-    /// A text or a blob of which octets were let go, so that nobody can be told what it says.
+    /// A text or a blob of which octets were let go, so that nobody can be told what it says: only a
+    /// scanner that was asked to let go gives it. Two of one kind are equal where they have as many
+    /// octets, whichever these are.
     LetGo(TextKind, LetGo),
 }
 

@@ -2,9 +2,10 @@
 //! read by a machine beside the scanner's.
 ghost use Rattle.std.specs.Prelude.{◌≡◌, ◌≢◌, ◌+◌, ◌<◌, ◌^◌, [], length, Ok, Err, IfOk, IfErr, IfSome, IsNone};
 ghost use Rattle.ion_atoms.specs.declared.refusal.Reason.TheVariants.{Memory};
-ghost use Rattle.ion_tokens.specs.Bodies.{content};
+ghost use Rattle.ion_tokens.specs.Bodies.{IsWhole, content};
 ghost use Rattle.ion_tokens.specs.machine.Rests.{resting, past_token, lexeme_at, IsFound};
 ghost use Rattle.ion_tokens.specs.machine.Said.{said};
+ghost use Rattle.ion_tokens.specs.machine.Contents.{StandsWhole};
 
 use crate::body::body_of;
 use crate::machine::{Lexeme, Machine, Taken, takes_colon};
@@ -70,6 +71,17 @@ impl TokenReader {
         self.machine.token(place, rest, octets)
     }
 
+    /// The text in quotes at the front of these octets, wherever a scanner rests, if its characters
+    /// stand as they are or are escapes. `None` also of hidden line ends, and where memory runs out.
+    /// Where none is found no octets are kept.
+    #[inline(never)]
+    pub fn text(&mut self, octets: &[u8]) -> Option<FoundToken>
+        ensures found { IfSome result (λ found. StandsWhole octets.now (octets_in self.new) found) }
+        ensures none { IsNone result → octets_in self.new ≡ [] }
+    {
+        self.machine.text(octets)
+    }
+
     /// The octets of the token found last; of a text, a clob or a blob what they mean.
     pub fn octets(&self) -> &[u8]
         ensures { result.now ≡ octets_in self.now }
@@ -83,6 +95,7 @@ impl TokenReader {
         ensures says { IfOk result (λ body. said kind (octets_in self.old) ≡ Ok (content body)) }
         ensures refused { IfErr result (λ reason. reason ≢ Memory →
             said kind (octets_in self.old) ≡ Err reason) }
+        ensures whole { IfOk result IsWhole }
     {
         body_of(self.machine.alloc, kind, &mut self.machine.ended, &[])
     }
@@ -100,6 +113,21 @@ impl Machine {
         ensures none_open { self.new.kept.items ≡ [] }
     {
         let found = self.find(place, rest, octets);
+        self.kept.clear();
+        if found.is_none() {
+            self.ended.clear();
+        }
+        found
+    }
+
+    // The text in quotes at the front of octets. No octets are kept of another token.
+    fn text(&mut self, octets: &[u8]) -> Option<FoundToken>
+        ensures found { IfSome result (λ found.
+            StandsWhole octets.now self.new.ended.items found) }
+        ensures none { IsNone result → self.new.ended.items ≡ [] }
+        ensures none_open { self.new.kept.items ≡ [] }
+    {
+        let found = self.found_at_once(octets);
         self.kept.clear();
         if found.is_none() {
             self.ended.clear();

@@ -36,8 +36,8 @@ pub use Rattle.ion_visiting.specs.declared.table_filter.Table.{Table}
 pub use Rattle.ion_visiting.specs.declared.table_filter.TableFilter.{TableFilter}
 pub use Rattle.ion_visiting.specs.declared.tape.Entry.{Entry}
 pub use Rattle.ion_visiting.specs.declared.tape.Form.{Form}
-pub use Rattle.ion_visiting.specs.declared.tape.Great.{Great}
-pub use Rattle.ion_visiting.specs.declared.tape.Range.{Range}
+pub use Rattle.ion_visiting.specs.declared.range.Great.{Great}
+pub use Rattle.ion_visiting.specs.declared.range.Range.{Range}
 pub use Rattle.ion_visiting.specs.declared.tape.Role.{Role}
 pub use Rattle.ion_visiting.specs.declared.tape.Tape.{Tape}
 pub use Rattle.ion_visiting.specs.declared.twin.Twin.{Twin}

@@ -13,6 +13,7 @@ mod outlining;
 mod part;
 mod payloads;
 mod pushing;
+mod range;
 mod recent_symbols;
 mod same_octets;
 mod short;

@@ -435,6 +435,14 @@ impl TableFilter {
         }
     }
 
+    /// Whether what is told is seen to be no local symbol table.
+    #[inline(always)]
+    pub fn is_plain(&self) -> bool
+        ensures { result ≡ true → self.now.table ≡ tables.No }
+    {
+        matches!(self.table, Table::No)
+    }
+
     /// Whether what is told may be a local symbol table.
     #[inline(always)]
     pub fn may_be_table(&self) -> bool

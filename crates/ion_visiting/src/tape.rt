@@ -3,11 +3,12 @@ ghost use Rattle.std.specs.Prelude.{◌≡◌, ◌+◌, ◌++◌, ◌∷◌, [],
 ghost use Rattle.std.specs.List.{flat_map};
 ghost use Rattle.std.specs.Option.{is_some, option_to_list};
 ghost use Rattle.ion_visiting.specs.Names.{Led, body_payload, closes, number_payload, opens, part, payload_of};
-ghost use Rattle.ion_visiting.specs.Tapes.{Grows, IsBlank, Rests, Writes, events_before, events_in, range_place, short_text, spelled, role_event, text_at, text_event, text_from, told};
+ghost use Rattle.ion_visiting.specs.Tapes.{Grows, IsBlank, Rests, Writes, events_before, events_in, short_text, spelled, role_event, text_at, text_event, text_from, told};
 
 use crate::bracket::Bracket;
 use crate::part::{NumberBody, Part};
 use crate::pushing::push;
+use crate::range::{GREAT, Great, Range};
 use crate::same_octets::are_same;
 use crate::short::{Short, Spelling};
 use crate::visitor::Visitor;
@@ -16,50 +17,6 @@ use ion_model::{Kind, Symbol};
 use ion_scalar::{Number, decimal_of, timestamp_of};
 use std::alloc::Global;
 use std::str;
-
-/// Which octets of a tape a text is: so many from a place on, of which `high` counts 2^32 each. One of
-/// 2^32-1 octets or more has that count here, and its own at that place among the great ones.
-#[derive(Clone, Copy)]
-pub(crate) struct Range {
-    count: u32,
-    low: u32,
-    high: u32,
-}
-
-/// Which octets of a tape a text of 2^32-1 octets or more is.
-#[derive(Clone, Copy)]
-struct Great {
-    from: usize,
-    count: usize,
-}
-
-/// So many octets count from one on for a great text.
-const GREAT: usize = 0xFFFF_FFFF;
-
-/// What `high` counts.
-const HIGH: usize = 0x1_0000_0000;
-
-impl Range {
-    // So many octets from a place on, or a great text of that place.
-    #[inline(always)]
-    fn new(place: usize, count: u32) -> Range
-        ensures place { range_place result ≡ place }
-        ensures count { result.count ≡ count }
-    {
-        Range {
-            count,
-            low: (place % HIGH) as u32,
-            high: (place / HIGH) as u32,
-        }
-    }
-
-    #[inline(always)]
-    fn place(self) -> usize
-        ensures { result ≡ range_place self }
-    {
-        self.low as usize + self.high as usize * HIGH
-    }
-}
 
 /// What a symbol is there, or a number that is written down as binary encodes it.
 #[derive(Clone, Copy, PartialEq, Eq)]

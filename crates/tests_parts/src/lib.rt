@@ -11,6 +11,8 @@ mod devices;
 #[cfg(test)]
 mod events;
 #[cfg(test)]
+mod layouts;
+#[cfg(test)]
 mod model;
 #[cfg(test)]
 mod scanner;

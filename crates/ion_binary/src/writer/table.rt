@@ -7,8 +7,7 @@ ghost use Rattle.ion_binary.specs.Names.{framed, name_text, named_octets, table_
 ghost use Rattle.ion_symtab.specs.declared.fault.Fault.TheVariants as faults;
 
 use super::framing::{frame, insert_length, put_digits, put_framed, put_symbol};
-use super::name::Name;
-use super::names::Names;
+use ion_names::{Name, Names};
 use ion_symtab::Fault;
 use std::alloc::Global;
 use std::hash::BuildHasher;

@@ -6,6 +6,7 @@ pub use Rattle.ion_atoms.specs.declared.timestamp.Local.{Local}
 pub use Rattle.ion_atoms.specs.declared.timestamp.Precision.{Precision}
 pub use Rattle.ion_model.specs.Kept.{AreKept, IsKept, KeptPayload}
 pub use Rattle.ion_model.specs.Measures.{Layer}
+pub use Rattle.ion_model.specs.Symbols.{IsText}
 pub use Rattle.ion_model.specs.declared.value.Payload.{Payload}
 pub use Rattle.ion_model.specs.declared.value.Payload.TheOpen.{Payload-F}
 pub use Rattle.ion_model.specs.declared.value.Payload.TheViews.{out-Payload}

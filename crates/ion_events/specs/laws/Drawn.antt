@@ -51,7 +51,7 @@ next_is a b es w n h = grind (arith, common_steps, h.entries, h.stays.entries)
 pub used_is : (a b : Draft) (es : List Entry) (w : List ℕ) (n : ℕ) → Adds a b es w n → text_place b ≡ text_place a + length w
 used_is a b es w n h = grind (arith, common_steps, h.texts, h.stays.texts)
 
-adds_both : (a m b : Draft) (es fs : List Entry) (v w : List ℕ) (n k : ℕ) → Adds a m es v n → Adds m b fs w k → Adds a b (es ++ fs) (v ++ w) (n + k)
+pub adds_both : (a m b : Draft) (es fs : List Entry) (v w : List ℕ) (n k : ℕ) → Adds a m es v n → Adds m b fs w k → Adds a b (es ++ fs) (v ++ w) (n + k)
 adds_both a m b es fs v w n k g h = record {
   entries = h.entries ∙ ap (λ x. x ++ fs) g.entries ∙ append_assoc a.entries.items es fs;
   texts = h.texts ∙ ap (λ x. x ++ w) g.texts ∙ append_assoc a.texts.items v w;

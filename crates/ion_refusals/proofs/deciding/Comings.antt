@@ -27,18 +27,18 @@ receives _ h = tt
 module _ (l : Limits) (c : List Slot) where
   -- where a value may come
   pub place_there : (ks : List Container) (fs : List Frame) → containers fs ≡ ks → place_of ks ≡ value_place fs
-  place_there ks fs e = sym (place_same fs ∙ ap place_of e)
+  place_there ks fs e = rw (← e, place_same fs) refl
 
   noted_so : (ks : List Container) (fs : List Frame) (notes : List Placed) (ss : Symbols) → containers fs ≡ ks → Annotations c (place_of ks) notes ss
       → Annotations c (value_place fs) notes ss
-  noted_so ks fs notes ss e a = subst (λ p. Annotations c p notes ss) (place_there ks fs e) a
+  noted_so ks fs notes ss e a = rw (place_there ks fs e) at a
 
   says_so : (ks : List Container) (fs : List Frame) (t : Placed) (d : Content) → containers fs ≡ ks → Says (place_of ks) t d → Says (value_place fs) t d
-  says_so ks fs t d e h = subst (λ p. Says p t d) (place_there ks fs e) h
+  says_so ks fs t d e h = rw (place_there ks fs e) at h
 
   -- as many containers are held as stand open
   pub same_levels : (ks : List Container) (fs : List Frame) → containers fs ≡ ks → length fs ≡ length ks
-  same_levels ks fs e = sym (levels_same fs) ∙ ap length e
+  same_levels ks fs e = rw (← e, levels_same fs) refl
 
   shallow : (ks : List Container) (fs : List Frame) (n : ℕ) → containers fs ≡ ks → n + suc (length ks) ≤ l.depth → n + suc (length fs) ≤ l.depth
   shallow ks fs n e h = omega (arith, h, same_levels ks fs e)
@@ -48,10 +48,9 @@ module _ (l : Limits) (c : List Slot) where
       → Framed l c (InField ∷ ks) (ts ++ (ns ++ colon ∷ []))
   named_frames ks ts ns s colon n k (Frame.Fields ss ms ∷ fs) e o d =
       let rest : containers fs ≡ ks = cc in
-      let name : List Placed = ns ++ colon ∷ [] in
       record {
         held = Frame.Named ss ms s ∷ fs;
-        same = ap (λ x. InField ∷ x) rest;
+        same = rw rest refl;
         opened = record {
           front = o.front;
           notes = o.notes;
@@ -59,8 +58,7 @@ module _ (l : Limits) (c : List Slot) where
           name = ns;
           open' = o.open';
           colon = colon;
-          whole = ap (λ x. x ++ name) o.whole ∙ (append_assoc o.front (o.notes ++ o.open' ∷ o.body) name
-              ∙ ap (λ x. o.front ++ x) (append_assoc o.notes (o.open' ∷ o.body) name));
+          whole = simp (o.whole, append_assoc);
           outer = o.outer;
           receives = o.receives;
           noted = o.noted;
@@ -85,7 +83,7 @@ module _ (l : Limits) (c : List Slot) where
     open' = t;
     whole = refl;
     outer = f.opened;
-    receives = receives f.held (subst TakesValue (sym f.same) takes);
+    receives = receives f.held (rw f.same takes);
     noted = noted_so ks f.held notes ss f.same a;
     opens = says_so ks f.held t (Mark' (open_mark bracket)) f.same says;
     items = items;
@@ -95,19 +93,19 @@ module _ (l : Limits) (c : List Slot) where
   framed _ _ none_open = record { held = []; same = refl; opened = refl; deep = tt }
   framed _ _ (list_open ks ts notes us ss t vs o takes a says items deep) = let f = framed ks ts o in record {
     held = Frame.Items ListOrSexp.List ss vs ∷ f.held;
-    same = ap (λ x. InList ∷ x) f.same;
+    same = rw f.same refl;
     opened = around Bracket.List (Items c ListOrSexp.List vs true) ks ts notes us ss t f takes a says items;
     deep = (shallow ks f.held _ f.same deep, f.deep);
   }
   framed _ _ (sexp_open ks ts notes us ss t vs o takes a says items deep) = let f = framed ks ts o in record {
     held = Frame.Items ListOrSexp.Sexp ss vs ∷ f.held;
-    same = ap (λ x. InSexp ∷ x) f.same;
+    same = rw f.same refl;
     opened = around Bracket.Sexp (Items c ListOrSexp.Sexp vs true) ks ts notes us ss t f takes a says items;
     deep = (shallow ks f.held _ f.same deep, f.deep);
   }
   framed _ _ (struct_open ks ts notes us ss t ms o takes a says items deep) = let f = framed ks ts o in record {
     held = Frame.Fields ss ms ∷ f.held;
-    same = ap (λ x. InStruct ∷ x) f.same;
+    same = rw f.same refl;
     opened = around Bracket.Fields (λ body. Members c body ms true) ks ts notes us ss t f takes a says items;
     deep = (shallow ks f.held _ f.same deep, f.deep);
   }
@@ -127,15 +125,12 @@ module _ (g : Catalog) (l : Limits) where
       → ts ≡ front ++ (notes ++ t ∷ body) → Annotations c (value_place fs) notes ss → Says (value_place fs) t d → (d ≡ Mark' Mark.Colons → ⊥)
       → ((x : List Placed) → Begins g l (value_place fs) x → Begins g l Place.Top (front ++ x)) → Begins g l Place.Top (ts ++ us)
   item_begins c fs ts us front notes body ss t d cut a says n f =
-      let whole : ts ++ us ≡ front ++ (notes ++ t ∷ (body ++ us)) =
-      ap (λ x. x ++ us) cut ∙ (append_assoc front (notes ++ t ∷ body) us ∙ ap (λ x. front ++ x) (append_assoc notes (t ∷ body) us)) in
-      subst (Begins g l Place.Top) (sym whole)
-      (f (notes ++ t ∷ (body ++ us)) (notes_begin g l c (value_place fs) notes (t ∷ (body ++ us)) ss a
+      simp (cut, append_assoc) (f (notes ++ t ∷ (body ++ us)) (notes_begin g l c (value_place fs) notes (t ∷ (body ++ us)) ss a
       (record { first = t; later = body ++ us; said = d; cut = refl; says = says; no_colons = n })))
 
   opened_begins : (c : List Slot) (fs : List Frame) (ts us : List Placed) → Opened c fs ts true → Begins g l (value_place fs) us
       → Begins g l Place.Top (ts ++ us)
-  opened_begins c [] ts us o b = subst (λ x. Begins g l Place.Top (x ++ us)) (sym o) b
+  opened_begins c [] ts us o b = rw o b
   opened_begins c (Frame.Items listing ss vs ∷ fs) ts us o b = item_begins c fs ts us o.front o.notes o.body ss o.open'
       (Mark' (open_mark (bracket_in listing))) o.whole o.noted o.opens (no_colons (bracket_in listing)) (λ x d. opened_begins c fs o.front x o.outer d)
   opened_begins c (Frame.Fields ss ms ∷ fs) ts us o b = item_begins c fs ts us o.front o.notes o.body ss o.open' (Mark' Mark.FieldsOpen) o.whole o.noted
@@ -161,7 +156,7 @@ module _ (g : Catalog) (l : Limits) where
 
     -- the tokens are those before the one that comes, and then this one
     pub cut : ts ≡ before ++ h.token ∷ []
-    cut = h.parts ∙ sym (append_assoc h.front item (h.token ∷ []))
+    cut = rw (append_assoc h.front item (h.token ∷ [])) h.parts
 
     -- what the reader would hold of the item that stands open
     pub f : Framed l c ks h.item
@@ -182,13 +177,13 @@ module _ (g : Catalog) (l : Limits) where
         notes = h.notes;
         whole = refl;
         outer = f.opened;
-        receives = receives f.held (subst TakesValue (sym f.same) takes);
+        receives = receives f.held (rw f.same takes);
         noted = noted;
       }
 
       -- the tokens before it lead the reader to the place in which it comes
       pub came : Came g l before (place_of ks)
-      came = subst (Came g l before) (sym here) (stands_read g l c h.front h.values f.held h.symbols Stage.Ready item h.pieces f.deep ready h.apart)
+      came = rw here (stands_read g l c h.front h.values f.held h.symbols Stage.Ready item h.pieces f.deep ready h.apart)
 
       -- behind the tokens before it the reader settles to where a value may come
       pub settles : (s : ℕ) × SettlesTo g l before (at s c f.held h.symbols Stage.Ready)
@@ -203,15 +198,11 @@ module _ (g : Catalog) (l : Limits) where
           let first = opened_begins c f.held h.item (h.notes ++ t ∷ more) f.opened
           (notes_begin g l c (value_place f.held) h.notes (t ∷ more) h.symbols noted
           (record { first = t; later = more; said = d; cut = refl; says = says'; no_colons = a.colons })) in
-          let join : h.item ++ (h.notes ++ t ∷ more) ≡ item ++ t ∷ more = sym (append_assoc h.item h.notes (t ∷ more)) in (
+          let join = append_assoc h.item h.notes (t ∷ more) in (
             starts g l (starts g l 0 [] h.item) f.held h.notes,
-            ap (reads g l (origin g l)) (append_assoc h.front item (t ∷ more))
-                ∙ (more_read g l h.front (item ++ t ∷ more) h.values c (pieces_read g l h.front h.values c h.pieces) (subst (Begins g l Place.Top) join first)
-                (stays_apart h.front item t d more (place_of ks) h.apart says a)
-                ∙ ap (adds_values h.values)
-                (ap (reads g l (fresh c)) (sym join)
-                ∙ token_behind g l c f.held h.item f.opened (ready_outer g l c f.held h.symbols item f.deep ready) h.notes h.symbols noted t d more says'
-                a.colons a.long)),
+            rw (append_assoc h.front item (t ∷ more)) (more_read g l h.front (item ++ t ∷ more) h.values c (pieces_read g l h.front h.values c h.pieces)
+                (rw join first) (stays_apart h.front item t d more (place_of ks) h.apart says a) ∙ ap (adds_values h.values) (rw join
+                (token_behind g l c f.held h.item f.opened (ready_outer g l c f.held h.symbols item f.deep ready) h.notes h.symbols noted t d more says' a.colons a.long))),
           )
 
   -- where a name may come
@@ -234,7 +225,7 @@ module _ (g : Catalog) (l : Limits) where
     struct = let f = framed l c (InStruct ∷ ks) h.item h.open' in struct_of c ks h.item f.held f.same f.opened f.deep
 
     bare : h.item ++ h.notes ≡ h.item
-    bare = ap (λ x. h.item ++ x) h.may ∙ append-nil h.item
+    bare = rw h.may (append-nil h.item)
 
     -- the tokens before the name
     abbrev pub up_to : List Placed
@@ -242,10 +233,10 @@ module _ (g : Catalog) (l : Limits) where
 
     -- the tokens are those before the name, and then the name
     pub cut_name : ts ≡ up_to ++ h.token ∷ []
-    cut_name = h.parts ∙ (ap (λ x. h.front ++ (x ++ h.token ∷ [])) bare ∙ sym (append_assoc h.front h.item (h.token ∷ [])))
+    cut_name = rw (append_assoc h.front h.item (h.token ∷ [])) (rw bare at h.parts)
 
     apart : (ends_long h.front && begins_as_long h.item) ≡ false
-    apart = subst (λ x. (ends_long h.front && begins_as_long x) ≡ false) bare h.apart
+    apart = rw bare at h.apart
 
     -- the tokens before the name lead the reader to the place of names
     pub came_name : Came g l up_to Place.Name
@@ -264,8 +255,7 @@ module _ (g : Catalog) (l : Limits) where
         let b : Begins g l Place.Name (t ∷ []) = record { first = t; later = []; said = d; cut = refl; says = says; no_colons = a.colons } in
         let first = opened_begins c (Frame.Fields struct.notes struct.fields ∷ struct.outer) h.item (t ∷ []) struct.opened b in (
           starts g l 0 [] h.item,
-          ap (reads g l (origin g l)) (append_assoc h.front h.item (t ∷ []))
-              ∙ (more_read g l h.front (h.item ++ t ∷ []) h.values c (pieces_read g l h.front h.values c h.pieces) first
+          rw (append_assoc h.front h.item (t ∷ [])) (more_read g l h.front (h.item ++ t ∷ []) h.values c (pieces_read g l h.front h.values c h.pieces) first
               (stays_apart h.front h.item t d [] Place.Name apart says a)
               ∙ ap (adds_values h.values) (name_there g l c struct.notes struct.fields struct.outer h.item struct.deep struct.opened [] (t ∷ []) b)),
         )

@@ -5,7 +5,7 @@ use Rattle.ion_refusals.specs.BinaryNames.{Before, Catalog, Count, Digits128, En
 use Rattle.ion_binary.specs.Deciding as deciding
 use Rattle.ion_binary.specs.Deciding.{Container, Names}
 use Rattle.ion_binary.specs.machine.Frames as frames
-use Rattle.ion_binary.specs.laws.reading.Complete.{begin_wrapper, count_goes, digits_more, ids_run, last_step, number_run, too_long_none}
+use Rattle.ion_binary.specs.laws.reading.Complete.{count_goes, digits_more, ids_run, last_step, number_run, too_long_none}
 use Rattle.ion_refusals.proofs.refusals.OpenRuns.{Leads, headed_run, may_admit, open_run, phase_of, takes_phase}
 use Rattle.ion_binary.specs.laws.reading.OpenFrames.{InFrames, Match, count_in, id_in, items, length_in, name_in, named, names, noted, nothing_open, purpose_of}
 
@@ -144,8 +144,7 @@ module _ (g : Catalog) (l : Limits) where
               (ap (λ p. run g l (length h.before) (at (spot_at (length h.before) start c) d.fs p) (h.header ++ []))
               (takes_phase g l c start ks Form.Wrapper h.begins)
               ∙ (headed_run g l c start ks d.fs Form.Wrapper end u [] (Open g l c start ks) h (cond-false _ _ _ (ne_eqb h.n 0 (λ x. omega arith))) d.match
-              ∙ (ap (run_on (length u) (λ n. run g l (length u) n [])) (begin_wrapper g l (spot_at (length u) start c) d.fs h.n)
-              ∙ ap (λ x. led (at (spot_at (length u) start c) (frames.Annotated x [] ∷ d.fs) (InNumber Purpose.AnnotationsLength 0))) here)));
+              ∙ ap (λ x. led (at (spot_at (length u) start c) (frames.Annotated x [] ∷ d.fs) (InNumber Purpose.AnnotationsLength 0))) here));
         }
 
     -- before the annotations, none has come yet

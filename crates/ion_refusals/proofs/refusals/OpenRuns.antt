@@ -5,7 +5,7 @@ use Rattle.ion_refusals.specs.BinaryNames.{Catalog, Field, Form, Frame, Headed, 
 use Rattle.ion_binary.specs.Deciding.{Container, MayBegin, Names}
 use Rattle.ion_binary.specs.machine.EachOctet as machine
 use Rattle.ion_binary.specs.machine.Frames as frames
-use Rattle.ion_binary.specs.laws.reading.Complete.{Admits, begin_ordered, begin_wrapper, count_goes, fields_go, fields_run, header_run, ids_run, items_go, items_run, name_run, number_run}
+use Rattle.ion_binary.specs.laws.reading.Complete.{Admits, count_goes, fields_go, fields_run, header_run, ids_run, items_go, items_run, name_run, number_run}
 use Rattle.ion_binary.specs.laws.reading.Documents.{pieces_run}
 use Rattle.ion_binary.specs.laws.reading.OpenFrames.{Match, items, named, names, noted, nothing_open, same_levels}
 use Rattle.ion_binary.specs.laws.reading.Stands.{BodyMayEnd}
@@ -90,7 +90,7 @@ module _ (g : Catalog) (l : Limits) (c : List Slot) (start : ℕ) where
   struct_opens : (fs : List Frame) (form : Form) (n : ℕ) (used : ℕ) → IsStruct form → 0 < n → begin (under g l) (spot_at used start c) fs form n
       ≡ open_struct (under g l) (spot_at used start c) fs n
   struct_opens fs Form.Struct n used i h = refl
-  struct_opens fs Form.OrderedStruct n used i h = begin_ordered g l (spot_at used start c) fs n
+  struct_opens fs Form.OrderedStruct n used i h = refl
   struct_opens fs _ n used i h = absurd i
 
   struct_hollow : (form : Form) (n : ℕ) → IsStruct form → 0 < n → hollow form n ≡ None
@@ -181,10 +181,9 @@ module _ (g : Catalog) (l : Limits) (c : List Slot) (start : ℕ) where
       let there : length u ≡ mid2 + length o.ids = omega arith in
       behind_header ks _ Form.Wrapper end o.front _ u _ _ o.headed
       (cond-false _ _ _ (ne_eqb o.headed.n 0 (λ x. omega arith))) d o.parts (noted end o.symbols d.fs ks d.match)
-      (ap (run_on mid (λ n. run g l mid n (o.count ++ o.ids))) (begin_wrapper g l (spot_at mid start c) d.fs o.headed.n)
-      ∙ (rw here (run_via g l mid mid2 _ _ _ o.count o.ids refl
+      (rw here (run_via g l mid mid2 _ _ _ o.count o.ids refl
       (number_run g l (spot_at mid start c) (frames.Annotated end [] ∷ d.fs) Purpose.AnnotationsLength o.count (length o.ids) mid2 o.number refl (omega arith)
       ∙ ap (run_after mid2) (count_goes g l (spot_at mid2 start c) d.fs end (length o.ids) [] some (omega arith)))
       (ids_run g l _ d.fs end _ o.ids o.symbols _ o.come (omega arith) there (omega arith)
       ∙ ap (λ ph. led (at (spot_at (length u) start c) (frames.Annotated end o.symbols ∷ d.fs) ph))
-      (cond-true _ _ _ (eq-eqb (length u) (mid2 + length o.ids) there))))))
+      (cond-true _ _ _ (eq-eqb (length u) (mid2 + length o.ids) there)))))

@@ -1,9 +1,10 @@
 //! Tokens at the front of octets that are a value or a field's name, with what they say. Of a token
 //! that isn't whole, isn't plain or may be a symbol's id nothing is found.
-ghost use Rattle.std.specs.Prelude.{◌≡◌, ◌<◌, false, true, length, take, IfSome, Ok, Some};
+ghost use Rattle.std.specs.Prelude.{◌≡◌, ◌<◌, ◌≤◌, ◌-◌, false, true, length, take, drop, IfSome, IsUtf8, Ok, Some};
 ghost use Rattle.ion_text.specs.Names.{BeginsName, FoundNumber, FoundPart, FoundSymbol, HasParts, IsFound, IsFree, IsValue, Number as AnyNumber, Number', Rest, held_payload, held_word, is_name, payload_of, said};
 ghost use Rattle.ion_text.specs.walk.WordKinds.{IsWordKind};
 ghost use Rattle.ion_tokens.specs.Bodies.{content};
+ghost use Rattle.ion_tokens.specs.declared.mode.TokenKind.TheVariants as kinds;
 
 use super::symbols::plain_text;
 use ion_model::Kind;
@@ -11,7 +12,7 @@ use ion_scalar::{Number, ShortNumber, number_of, plain_number_of};
 use ion_spelling::{is_keyword, may_be_keyword};
 use ion_tokens::{
     Body, FoundToken, Place, TokenKind, number, operator, plain_numeral, quoted_symbol,
-    short_string, typed_null, word,
+    short_string, typed_null, usual_string, word,
 };
 use ion_visiting::Part;
 
@@ -158,6 +159,38 @@ pub(crate) fn string_at(octets: &[u8]) -> Option<(Scalar, Part<'_>)>
     ))
 }
 
+// The short string there, of other characters than usual ones.
+#[inline(never)]
+fn other_string(octets: &[u8]) -> Option<usize>
+    ensures found { IfSome result (λ count. (place : Place) (rest : Rest) →
+        IsFound place rest octets.now TokenKind.ShortString
+        (take (count - 2) (drop 1 octets.now)) count false) }
+    ensures text { IfSome result (λ count. IsUtf8 (take (count - 2) (drop 1 octets.now))) }
+    ensures size { IfSome result (λ count. (2 ≤ count) × (count ≤ length octets.now)) }
+{
+    let count = short_string(octets)?;
+    if count > octets.len() || count < 2 {
+        return None;
+    }
+    Some(count)
+}
+
+/// How many octets the short string there has, most often of usual characters.
+#[inline(always)]
+pub(crate) fn text_count(octets: &[u8]) -> Option<usize>
+    requires { 17 ≤ length octets.now }
+    ensures found { IfSome result (λ count. (place : Place) (rest : Rest) →
+        IsFound place rest octets.now TokenKind.ShortString
+        (take (count - 2) (drop 1 octets.now)) count false) }
+    ensures text { IfSome result (λ count. IsUtf8 (take (count - 2) (drop 1 octets.now))) }
+    ensures size { IfSome result (λ count. (2 ≤ count) × (count ≤ length octets.now)) }
+{
+    match usual_string(octets) {
+        Some(count) => Some(count),
+        None => other_string(octets),
+    }
+}
+
 /// The int or decimal there by its parts, if 64 bits hold its digits; the octet behind it shows its
 /// end.
 #[inline(always)]
@@ -166,6 +199,7 @@ pub(crate) fn short_number_at(octets: &[u8]) -> Option<(FoundToken, ShortNumber)
         (here : Place) (rest : Rest) → is_name here ≡ false →
         FoundNumber here rest octets.now found.0 x) }
     ensures left { IfSome result (λ found. found.0.left ≡ true) }
+    ensures kind { IfSome result (λ found. found.0.kind ≡ kinds.Number) }
     ensures within { IfSome result (λ found. found.0.count < length octets.now) }
 {
     let numeral = plain_numeral(octets)?;
@@ -187,6 +221,7 @@ pub(crate) fn number_at(octets: &[u8]) -> Option<(FoundToken, Number)>
     ensures says { IfSome result (λ found. said TokenKind.Number (take found.0.count octets.now)
         ≡ Ok (Number' found.1)) }
     ensures left { IfSome result (λ found. found.0.left ≡ true) }
+    ensures kind { IfSome result (λ found. found.0.kind ≡ kinds.Number) }
     ensures within { IfSome result (λ found. found.0.count < length octets.now) }
 {
     let count = number(octets)?;
@@ -225,6 +260,7 @@ pub(crate) fn operator_at(here: Place, octets: &[u8]) -> Option<(Scalar, Part<'_
     ensures found { IfSome result (λ found. (rest : Rest) →
         FoundPart here rest octets.now found.0 (payload_of found.1)) }
     ensures waits { IfSome result (λ found. found.0.waits ≡ false) }
+    ensures kind { IfSome result (λ found. found.0.token.kind ≡ kinds.Operator) }
 {
     if !matches!(here, Place::Sexp) {
         return None;
@@ -286,7 +322,7 @@ fn text_name(octets: &[u8]) -> Option<(FoundToken, &str)>
 
 // A word there that is a field's name.
 #[inline(always)]
-fn word_name(octets: &[u8]) -> Option<(FoundToken, &str)>
+pub(crate) fn word_name(octets: &[u8]) -> Option<(FoundToken, &str)>
     ensures { IfSome result (λ found. (here : Place) (rest : Rest) →
         BeginsName here rest octets.now found.0 (Some found.1.now)) }
 {

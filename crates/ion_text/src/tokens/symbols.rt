@@ -8,7 +8,8 @@ use ion_tokens::{
 
 // Whether an octet shows that no `::` follows a symbol: it is no blank, and begins no colon and no
 // comment.
-pub(super) fn ends_symbol(octet: u8) -> bool
+#[inline(always)]
+pub(crate) fn ends_symbol(octet: u8) -> bool
     ensures { result ≡ ends_symbol octet }
 {
     b' ' < octet && !(octet == b':' || octet == b'/')
@@ -60,6 +61,36 @@ pub(crate) fn behind_name(octets: &[u8], count: usize) -> Option<usize>
         return None;
     }
     Some(between)
+}
+
+// The same, where most often none stands there.
+#[inline(always)]
+pub(crate) fn colon_behind(octets: &[u8], count: usize) -> Option<usize>
+    ensures passed { IfSome result (λ between. IsPassed (drop count octets.now) between) }
+    ensures within { IfSome result (λ between. count + between + 1 < length octets.now) }
+    ensures colon { IfSome result (λ between. get_or octets.now (count + between) 0 ≡ 58) }
+    ensures one { IfSome result (λ between. get_or octets.now (count + between + 1) 0 ≢ 58) }
+{
+    if count >= octets.len() || octets.len() - count < 2 {
+        return None;
+    }
+    if octets[count] != b':' {
+        return spaced_colon(octets, count);
+    }
+    if octets[count + 1] == b':' {
+        return None;
+    }
+    Some(0)
+}
+
+#[inline(never)]
+fn spaced_colon(octets: &[u8], count: usize) -> Option<usize>
+    ensures passed { IfSome result (λ between. IsPassed (drop count octets.now) between) }
+    ensures within { IfSome result (λ between. count + between + 1 < length octets.now) }
+    ensures colon { IfSome result (λ between. get_or octets.now (count + between) 0 ≡ 58) }
+    ensures one { IfSome result (λ between. get_or octets.now (count + between + 1) 0 ≢ 58) }
+{
+    behind_name(octets, count)
 }
 
 // How many octets of a blank stand behind an annotation of so many, if `::` and one octet more

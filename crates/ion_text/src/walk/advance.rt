@@ -14,27 +14,6 @@ use ion_model::{Reason, Refusal};
 use ion_symtab::{Walked, Went};
 use ion_visiting::Visitor;
 
-// The refusal for this reason, with an octet of a piece of so many octets behind `before`. One with
-// another octet couldn't come, and would be told as memory that ran out, which says nothing of the
-// octets.
-#[inline(always)]
-fn within_piece(before: u64, length: usize, offset: u64, reason: Reason) -> Refusal
-    requires room { before + length < 2 ^ 63 }
-    ensures memory { result.reason ≡ Memory → result.offset ≡ before }
-    ensures other { result.reason ≢ Memory →
-        result ≡ record { offset = offset; reason = reason } }
-    ensures decides { result.reason ≢ Memory →
-        (before < result.offset) × (result.offset ≤ before + length) }
-{
-    if before < offset && offset <= before + length as u64 {
-        return with_memory_at(before, Refusal { offset, reason });
-    }
-    Refusal {
-        offset: before,
-        reason: Reason::Memory,
-    }
-}
-
 impl TextWalk<'_> {
     /// How many octets the scanner has moved from where so many were used.
     #[inline(always)]
@@ -66,6 +45,9 @@ impl TextWalk<'_> {
         ensures on { IfOk result (λ _.
             (scanned self.old.scanner).used ≤ (scanned self.new.scanner).used) }
         ensures within { IfOk result (IsWithin (length piece.now) (gone self.old self.new)) }
+        ensures decides { IfErr result (λ reason. reason ≢ Memory →
+            ((scanned self.old.scanner).used < refused.new)
+            × (refused.new ≤ (scanned self.old.scanner).used + length piece.now)) }
         ensures fine { IfOk result (λ _. IsFine self.new) }
         ensures steady { IfOk result (λ _. StaysSteady self.old self.new) }
         ensures same { SameReader self.old self.new }
@@ -117,6 +99,9 @@ impl TextWalk<'_> {
         ensures on { IfOk result (λ _.
             (scanned self.old.scanner).used ≤ (scanned self.new.scanner).used) }
         ensures within { IfOk result (IsWithin (length piece.now) (gone self.old self.new)) }
+        ensures decides { IfErr result (λ reason. reason ≢ Memory →
+            ((scanned self.old.scanner).used < refused.new)
+            × (refused.new ≤ (scanned self.old.scanner).used + length piece.now)) }
         ensures fine { IfOk result (λ _. IsFine self.new) }
         ensures steady { IfOk result (λ _. StaysSteady self.old self.new) }
         ensures same { SameReader self.old self.new }
@@ -172,7 +157,10 @@ impl TextWalk<'_> {
         let mut i = 0;
         while i < piece.len() {
             match self.read_piece(&piece[i..], &mut refused, visitor) {
-                Err(reason) => return Err(within_piece(before, piece.len(), refused, reason)),
+                Err(reason) => {
+                    let offset = refused;
+                    return Err(with_memory_at(before, Refusal { offset, reason }));
+                }
                 Ok(Taken::Uses) => i = self.gone(before),
                 Ok(Taken::Tells) => {
                     return Ok(Walked {

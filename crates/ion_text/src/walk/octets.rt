@@ -1,6 +1,6 @@
 //! What each octet does: the scanner takes it up, and behind it the reader of tokens.
-ghost use Rattle.std.specs.Prelude.{◌≡◌, ◌+◌, ◌<◌, ◌≤◌, ◌^◌, List, length, IfOk, true, false};
-ghost use Rattle.ion_text.specs.Names.{DidMeet, DidTake, Frame, Holds, IsFine, IsMet, MeetsWith, Notices, SameReader, SameSetting, StaysSteady, Symbols, begun_in, behind_given, behind_left, comes_again, count_of, feed, has_segment, noticed, on_scan, reaches, reading_of, scan as run, scanned, state_of, takes, told, turn, unsettled};
+ghost use Rattle.std.specs.Prelude.{◌≡◌, ◌≢◌, ◌+◌, ◌<◌, ◌≤◌, ◌^◌, List, length, IfErr, IfOk, true, false};
+ghost use Rattle.ion_text.specs.Names.{DidMeet, DidTake, Frame, Holds, IsFine, IsMet, MeetsWith, Memory, Notices, SameReader, SameSetting, StaysSteady, Symbols, begun_in, behind_given, behind_left, comes_again, count_of, feed, has_segment, noticed, on_scan, reaches, reading_of, scan as run, scanned, state_of, takes, told, turn, unsettled};
 ghost use Rattle.ion_text.specs.machine.Views.{token_in};
 
 use super::TextWalk;
@@ -159,6 +159,10 @@ impl TextWalk<'_> {
         ensures used { IfOk result (λ met.
             (scanned self.new.scanner).used ≡ (scanned self.old.scanner).used + met.0) }
         ensures within { IfOk result (λ met. met.0 ≤ length piece.now) }
+        ensures decides { IsFine self.old → 0 < length piece.now →
+            IfErr result (λ refusal. refusal.reason ≢ Memory →
+            ((scanned self.old.scanner).used < refusal.offset)
+            × (refusal.offset ≤ (scanned self.old.scanner).used + length piece.now)) }
         ensures fine { IfOk result (λ _. IsFine self.new) }
         ensures steady { IfOk result (λ _. StaysSteady self.old self.new) }
         ensures same { SameReader self.old self.new }

@@ -116,7 +116,11 @@ impl TextWalk<'_> {
         ensures setting { SameSetting self.old self.new }
     {
         match kind {
-            TextKind::Long => self.wait_long(LongText::gone(self.alloc, gone), end),
+            TextKind::Long => {
+                let text = LongText::gone(self.alloc, &gone);
+                drop(gone);
+                self.wait_long(text, end)
+            }
             TextKind::Short => self.let_go_ended(Kind::Str, end, visitor),
             TextKind::Clob => self.let_go_ended(Kind::Clob, end, visitor),
             TextKind::Blob => self.let_go_ended(Kind::Blob, end, visitor),
@@ -267,7 +271,7 @@ impl TextWalk<'_> {
             Body::LetGo(TextKind::Long, more) => {
                 let text = text.join_gone(self.alloc, &more);
                 drop(more);
-                self.set_stage(Stage::Long(text?, end));
+                self.set_stage(Stage::Long(text, end));
                 Ok(Effect::Goes)
             }
             other => {

@@ -1,7 +1,7 @@
 //! Octets that are handed to the scanner at once: up to the next token, where nothing has to be
 //! looked at before it.
-ghost use Rattle.std.specs.Prelude.{◌≡◌, ◌+◌, ◌<◌, ◌≤◌, ◌^◌, List, length, IfOk};
-ghost use Rattle.ion_text.specs.Names.{Frame, Holds, IsCalm, IsFine, IsWithin, SameReader, StaysSteady, Symbols, TookFront, base, floor, scanned, state_of, told};
+ghost use Rattle.std.specs.Prelude.{◌≡◌, ◌≢◌, ◌+◌, ◌<◌, ◌≤◌, ◌^◌, List, length, IfErr, IfOk};
+ghost use Rattle.ion_text.specs.Names.{Frame, Holds, IsCalm, IsFine, IsWithin, Memory, SameReader, StaysSteady, Symbols, TookFront, base, floor, scanned, state_of, told};
 
 use super::TextWalk;
 use crate::reasons::worse;
@@ -73,6 +73,9 @@ impl TextWalk<'_> {
         ensures used { IfOk result (λ took.
             (scanned self.new.scanner).used ≡ (scanned self.old.scanner).used + took.0) }
         ensures within { IfOk result (λ took. IsWithin (length piece.now) took.0 took.1) }
+        ensures decides { IfErr result (λ refusal. refusal.reason ≢ Memory →
+            ((scanned self.old.scanner).used < refusal.offset)
+            × (refusal.offset ≤ (scanned self.old.scanner).used + length piece.now)) }
         ensures fine { IfOk result (λ _. IsFine self.new) }
         ensures steady { IfOk result (λ _. StaysSteady self.old self.new) }
         ensures same { SameReader self.old self.new }

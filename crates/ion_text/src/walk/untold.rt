@@ -2,6 +2,7 @@
 //! is enough, and no value is built.
 ghost use Rattle.std.specs.Prelude.{◌≡◌, ◌<◌, Ok, false, true, length, take, IfSome};
 ghost use Rattle.ion_text.specs.Names.{FoundNumber, IsFound, Number, Place, ReadsNumber, Rest, is_name};
+ghost use Rattle.ion_tokens.specs.declared.mode.TokenKind.TheVariants as kinds;
 
 use ion_scalar::number_of;
 use ion_tokens::{FoundToken, TokenKind, number, plain_numeral};
@@ -46,6 +47,7 @@ pub(super) fn untold_number(octets: &[u8]) -> Option<FoundToken>
     ensures found { IfSome result (λ token. (number : Number) × ((here : Place) (rest : Rest) →
         is_name here ≡ false → FoundNumber here rest octets.now token number)) }
     ensures left { IfSome result (λ token. token.left ≡ true) }
+    ensures kind { IfSome result (λ token. token.kind ≡ kinds.Number) }
     ensures within { IfSome result (λ token. token.count < length octets.now) }
 {
     match numeral(octets) {

@@ -30,7 +30,7 @@ use ion_visiting::{Bracket, Part, Visitor};
 
 // Goes behind so many octets of a blank.
 #[inline(always)]
-fn go_past_blank(rest: &mut Rest, count: usize)
+pub(super) fn go_past_blank(rest: &mut Rest, count: usize)
     requires { rest.old.used + count < 2 ^ 63 }
     ensures { rest.new ≡ past_blank rest.old count }
 {
@@ -178,7 +178,7 @@ impl TextWalk<'_> {
         let first = rest.used;
         let mut at = 0;
         loop {
-            let taken = self.read_next(rest, &octets[at..], visitor)?;
+            let taken = self.read_some(rest, &octets[at..], visitor)?;
             let now = (rest.used - first) as usize;
             if now == at {
                 return Ok(taken);
@@ -192,7 +192,7 @@ impl TextWalk<'_> {
 
     /// A blank, and the token behind it; behind a comma the name of a field too, if one comes next.
     #[inline(always)]
-    fn read_next<V: Visitor>(
+    pub(super) fn read_next<V: Visitor>(
         &mut self,
         rest: &mut Rest,
         octets: &[u8],
@@ -329,7 +329,7 @@ impl TextWalk<'_> {
 
     /// A close, but that of what may be a local symbol table, which may end no value.
     #[inline(always)]
-    fn read_close<V: Visitor>(
+    pub(super) fn read_close<V: Visitor>(
         &mut self,
         rest: &mut Rest,
         octets: &[u8],
@@ -464,7 +464,7 @@ impl TextWalk<'_> {
 
     /// The open of a container.
     #[inline(always)]
-    fn read_open<V: Visitor>(
+    pub(super) fn read_bracket<V: Visitor>(
         &mut self,
         bracket: Bracket,
         rest: &mut Rest,

@@ -1,5 +1,5 @@
 -- How long a run of octets of a class q is, by the masks of those that end it.
-use Rattle.std.proofs.Common.{◌≡◌, ℕ, zero, suc, ◌+◌, ◌*◌, ◌<◌, ◌≤◌, Bool, true, false, not, cond, eqb, List, [], ◌∷◌, map, length, drop, refl, sym, ap, ap₂, ◌∙◌, arith}
+use Rattle.std.proofs.Common.{◌≡◌, ◌≢◌, ℕ, zero, suc, ◌+◌, ◌*◌, ◌<◌, ◌≤◌, Bool, true, false, not, cond, eqb, List, [], ◌∷◌, map, length, drop, refl, sym, ap, ap₂, ◌∙◌, arith}
 use Rattle.std.proofs.lemmas.Simd.{chunk-drop, length-chunk, leading_from_mask_l, trailing_mask_l}
 use Rattle.std.proofs.lemmas.List.Folds.{prefix_len-append, length-prefix_len}
 use Rattle.std.proofs.lemmas.List.Sums.{prefix_len-le-length}
@@ -64,6 +64,18 @@ module _ (q : ℕ → Bool) where
   stops_at d i n found on room short e some =
       let run = stops d i n room short (omega arith) ∙ ap (count_trailing_zeros 64) (sym e) in
       omega (arith, length-prefix_len q d)
+
+  -- it stands among them
+  pub stops_within : (d : List ℕ) (i n found : ℕ) → i + n ≤ length d → n ≤ 64 → found ≡ mask_l (map (λ x. not (q x)) (chunk i n d)) → 0 < found
+      → count_trailing_zeros 64 found < n
+  stops_within d i n found room short e some =
+      let c = chunk i n d in
+      let size = length-chunk i n d room in
+      let is : prefix_len q c ≡ count_trailing_zeros 64 found =
+      same_run c ∙ (sym (trailing_mask_l (λ x. not (q x)) 64 c (omega (arith, size)) (omega arith)) ∙ ap (count_trailing_zeros 64) (sym e)) in
+      let few = prefix_len-le-length q c in
+      let other : prefix_len q c ≢ length c = λ f. omega (arith, none_marked c f) in
+      omega arith
 
   -- so it does from a place before
   earlier : (d : List ℕ) (j : ℕ) → j ≤ prefix_len q d → prefix_len q d ≡ j + prefix_len q (drop j d)

@@ -5,7 +5,7 @@ use Rattle.std.proofs.lemmas.Bool.{and_parts}
 use Rattle.std.proofs.lemmas.Bool.Decides.{nat_tests}
 use Rattle.std.proofs.lemmas.List.{length-append}
 use Rattle.std.proofs.Math.Seq.{take-append-add}
-use Rattle.ion_tokens.specs.Names.{Action, Answers, Given, GivesToken, Keep, Known, Left, Lexeme, Memory, Mode, Next, Outcome, Place, Refusal, Refused, Scan, acts, answered, cut, feed, follow, go_to, gone_on, keeps_them, kept_after, past, run}
+use Rattle.ion_tokens.specs.Names.{Action, Answers, BadUtf8, Given, GivesToken, Keep, Known, Left, Lexeme, Mode, Next, Outcome, Place, Refusal, Refused, RefusesToken, Scan, acts, answered, cut, feed, follow, go_to, gone_on, keeps_them, kept_after, past, run}
 use Rattle.ion_tokens.specs.laws.ByRows.{by_rows_where}
 use Rattle.ion_tokens.specs.machine.LetGo.{behind_gone, goes_on_behind, may_let_go, outcome_behind, quotes_kept}
 use Rattle.ion_tokens.specs.machine.Table.{next}
@@ -21,13 +21,13 @@ goes_so n m (Keep.One o) = may_let_go m && nat_le (quotes_kept m) (n + 1)
 goes_so n m k = may_let_go m && nat_le (drops k) n && nat_le (quotes_kept m) 0
 
 -- what an action does is the same whatever stands before what is kept
-abbrev is_alike : ℕ → Action → Bool
+abbrev pub is_alike : ℕ → Action → Bool
 is_alike n (Action.Go m k) = goes_so n m k
 is_alike n (Action.Give kind k) = nat_le (drops k) n
 is_alike n (Action.Refuse e) = true
 is_alike n _ = false
 
-next_alike : (p : Place) (colon : Bool) (m : Mode) (o : ℕ) → may_let_go m ≡ true → is_alike (quotes_kept m) (next p colon m o) ≡ true
+pub next_alike : (p : Place) (colon : Bool) (m : Mode) (o : ℕ) → may_let_go m ≡ true → is_alike (quotes_kept m) (next p colon m o) ≡ true
 next_alike = by_rows_where may_let_go (λ sexp m. is_alike (quotes_kept m)) (λ c t. refl)
 
 kept_behind : (k : Keep) (gone kept : List ℕ) → drops k ≤ length kept → kept_after k (gone ++ kept) ≡ gone ++ kept_after k kept
@@ -42,7 +42,7 @@ kept_behind Keep.DropQuotes gone kept d =
     ap (λ n. take n (gone ++ kept)) n ∙ take-append-add gone kept (length kept - 2)
 
 -- so many are kept, of which so many may be dropped
-at_most : (a b : ℕ) → nat_le a b ≡ true → a ≤ b
+pub at_most : (a b : ℕ) → nat_le a b ≡ true → a ≤ b
 at_most a b h = grind (arith, nat_tests)
 
 dropped : (n : ℕ) (m : Mode) (k : Keep) → goes_so n m k ≡ true → drops k ≤ n
@@ -62,14 +62,14 @@ acts_alike p gone s o n (Action.Refuse e) many h = refl
 acts_alike p gone s o n _ many h = absurd cc
 
 -- what comes of octets, if it is no token, is a text of which more may be let go
-abbrev Lasts : Outcome → Type 0
+abbrev pub Lasts : Outcome → Type 0
 Lasts (Next s) = goes_on_behind s.mode s.kept ≡ true
 Lasts _ = Unit {0}
 
 lasts : (may : Bool) (a b : ℕ) → may ≡ true → a ≤ b → (may && nat_le a b) ≡ true
 lasts may a b m h = grind (arith, nat_tests)
 
-acts_last : (p : Place) (s : Known) (o n : ℕ) (a : Action) → n ≤ length s.kept → is_alike n a ≡ true → Lasts (acts p s o a)
+pub acts_last : (p : Place) (s : Known) (o n : ℕ) (a : Action) → n ≤ length s.kept → is_alike n a ≡ true → Lasts (acts p s o a)
 acts_last p s o n (Action.Go m (Keep.One k)) many h =
     let both = and_parts (may_let_go m) (nat_le (quotes_kept m) (n + 1)) h in
     let l = length-append s.kept (k ∷ []) in
@@ -104,12 +104,12 @@ run_alike p gone (o ∷ os) s h =
     (acts_last p s o (quotes_kept s.mode) (next p s.colon s.mode o) many alike)
     (λ t l. run_alike p gone os t l)
 
--- A token that octets gave was answered so, if it is judged with what was let go, or memory ran out.
+-- A token that octets gave was answered so, if it is judged with what was let go.
 pub given_answered : (l : Lexeme) (t now : Known) (before : ℕ) (left : Bool) → left ≡ false → now ≡ t → (r : Result Scan Refusal)
-    → IfOk r (λ scan. GivesToken l scan.token × (t.used ≡ before + scan.used)) → IfErr r (λ refusal. (refusal.reason ≡ Memory) × (refusal.offset ≡ before))
+    → IfOk r (λ scan. GivesToken l scan.token × (t.used ≡ before + scan.used)) → IfErr r (λ refusal. (refusal.reason ≡ BadUtf8) × RefusesToken l t.used refusal)
     → Answers before (Given l t) (answered r left) now
 given_answered l t now before left f same (Ok scan) g m = (record { known = same; counted = ap (λ (t : Known). t.used) same ∙ g.1 }, g.0, f)
-given_answered l t now before left f same (Err r) g m = λ other. absurd (other m.0)
+given_answered l t now before left f same (Err r) g m = λ other. m.1
 
 -- Octets with which the mode goes on lead so, too.
 pub gone_on_behind : (gone : List ℕ) (s t : Known) (w : List ℕ) → t ≡ gone_on s w → behind_gone gone t ≡ gone_on (behind_gone gone s) w

@@ -114,6 +114,16 @@ unsigned os whole count b h more stop =
           (no_slash _ stop);
     }
 
+no_minus : (os : List ℕ) → IsPlainDigit (get_or os 0 0) → BeginsWithMinus false os
+no_minus [] d = refl
+no_minus (o ∷ os) d = ((λ t. absurd cc), (λ (e : o ≡ 45). let low = d.0 in absurd (omega arith)))
+
+-- So are digits alone, without a sign.
+pub int_found : (os : List ℕ) (whole : ℕ) → whole ≡ length (take_while is_digit os) → 0 < whole → whole ≤ 19 → (1 < whole → get_or os 0 0 ≢ 48)
+    → whole < length os → is_stop (slice_index os whole) ≡ true → WholeNumeral os whole whole
+int_found os whole e some few first more stop =
+    unsigned os whole whole (no_minus os (each_digit os whole e 0 some)) (int_there os whole e some few first) more stop
+
 signed : (os : List ℕ) (whole count : ℕ) → HasNumeral os whole count → count < length os → is_stop (slice_index os count) ≡ true
     → WholeNumeral (45 ∷ os) whole (suc count)
 signed os whole count h more stop =

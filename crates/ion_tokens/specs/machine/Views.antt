@@ -16,9 +16,13 @@ octets_in t = t.machine.ended.items
 abbrev pub open_in_reader : TokenReader → List ℕ
 open_in_reader t = t.machine.kept.items
 
--- what a scanner knows between two octets, with what it let go
+-- what a scanner let go of the open token
+abbrev pub gone_in : Scanner → List ℕ
+gone_in s = s.gone.octets
+
+-- what it knows between two octets, with what it let go
 abbrev pub scanned : Scanner → Known
-scanned s = behind_gone s.gone (known s.machine)
+scanned s = behind_gone s.gone.octets (known s.machine)
 
 -- the refusal that it answers from now on
 abbrev pub failure : Scanner → Option Refusal

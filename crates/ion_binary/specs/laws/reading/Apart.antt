@@ -1,5 +1,5 @@
 -- No whole pieces end within a piece. So a value's item lies between any with the values before it and any with one more.
-use Rattle.std.proofs.Common.{◌≡◌, ℕ, zero, suc, ◌+◌, ◌≤◌, ◌<◌, List, [], ◌∷◌, ◌++◌, length, refl, ap, sym, ◌∙◌, subst, arith, append_assoc, append-nil, length-append, inl, inr}
+use Rattle.std.proofs.Common.{◌≡◌, ℕ, zero, suc, ◌+◌, ◌≤◌, ◌<◌, List, [], ◌∷◌, ◌++◌, length, refl, ap, sym, ◌∙◌, arith, append_assoc, append-nil, length-append, inl, inr}
 use Rattle.std.proofs.lemmas.Bool.{cases_lt}
 use Rattle.ion_binary.specs.Names.{Binary, Catalog, Follows, Form, Header, IsPad, Known, Limits, Marker, Opening, Payload, Pieces, Plain, Refused, Sized, Slot, Value, VarUInt, Whole, begins, descriptor_of, document, holds, is_listing, is_null, is_ordered, is_scalar, is_struct, is_truth, long, marked, no_piece, nodes, opening_of, short, skipped, skips, the_marker, trace, turns, unannotated, wrapped}
 use Rattle.ion_scalar.specs.binary.laws.VarUInt.{one_var_uint}
@@ -28,8 +28,7 @@ pub record IsPiece (w : List ℕ) : Type 0 where
 sized_alike : (o : Opening) (rest other x y : List ℕ) → IsSizedBy o rest → IsSizedBy o other → rest ++ x ≡ other ++ y → length rest ≡ length other
 sized_alike (Refused reason) rest other x y h k e = absurd h
 sized_alike (Sized form Follows) rest other x y (number, body, parts, is) (number', body', parts', is') e =
-    let same : number ++ (body ++ x) ≡ number' ++ (body' ++ y) =
-    sym (append_assoc number body x) ∙ (ap (λ w. w ++ x) (sym parts) ∙ (e ∙ (ap (λ w. w ++ y) parts' ∙ append_assoc number' body' y))) in
+    let same = rw (parts, parts', append_assoc number, append_assoc number') at e in
     let one = one_var_uint number number' (body ++ x) (body' ++ y) (length body) (length body') is is' same in
     omega (arith, one.0, one.1, ap length parts, ap length parts', length-append number body, length-append number' body')
 sized_alike _ rest other x y h k e = h ∙ sym k
@@ -37,10 +36,10 @@ sized_alike _ rest other x y h k e = h ∙ sym k
 -- two pieces at one place are equally long
 piece_alike : (p q x y : List ℕ) → IsPiece p → IsPiece q → p ++ x ≡ q ++ y → length p ≡ length q
 piece_alike p q x y a b e =
-    let whole : a.descriptor ∷ (a.rest ++ x) ≡ b.descriptor ∷ (b.rest ++ y) = ap (λ w. w ++ x) (sym a.whole) ∙ (e ∙ ap (λ w. w ++ y) b.whole) in
+    let whole : a.descriptor ∷ (a.rest ++ x) ≡ b.descriptor ∷ (b.rest ++ y) = rw (a.whole, b.whole) at e in
     let head : a.descriptor ≡ b.descriptor = cc in
     let tail : a.rest ++ x ≡ b.rest ++ y = cc in
-    let k = sized_alike (opening_of b.descriptor) a.rest b.rest x y (subst (λ o. IsSizedBy (opening_of o) a.rest) head a.sized) b.sized tail in
+    let k = sized_alike (opening_of b.descriptor) a.rest b.rest x y (rw head at a.sized) b.sized tail in
     omega (arith, k, ap length a.whole, ap length b.whole)
 
 piece_some : (p : List ℕ) → IsPiece p → 0 < length p
@@ -51,25 +50,15 @@ unfolding opening_of descriptor_of
 marker_opens = refl
 
 marker_piece : IsPiece the_marker
-marker_piece = record {
-  descriptor = 0xE0;
-  rest = 1 ∷ 0 ∷ 0xEA ∷ [];
-  whole = refl;
-  sized = subst (λ o. IsSizedBy o (1 ∷ 0 ∷ 0xEA ∷ [])) (sym marker_opens) refl;
-}
+marker_piece = record { descriptor = 0xE0; rest = 1 ∷ 0 ∷ 0xEA ∷ []; whole = refl; sized = rw marker_opens refl }
 
 headed : (form : Form) (n : ℕ) (h body : List ℕ) → n ≡ length body → Header form n h → IsPiece (h ++ body)
-headed form n _ body e (short b o) = record { descriptor = b; rest = body; whole = refl; sized = subst (λ x. IsSizedBy x body) (sym o) (sym e) }
-headed form n _ body e (long b w o v) = record {
-  descriptor = b;
-  rest = w ++ body;
-  whole = refl;
-  sized = subst (λ x. IsSizedBy x (w ++ body)) (sym o) (w, body, refl, subst (VarUInt w) e v);
-}
+headed form n _ body e (short b o) = record { descriptor = b; rest = body; whole = refl; sized = rw o (sym e) }
+headed form n _ body e (long b w o v) = record { descriptor = b; rest = w ++ body; whole = refl; sized = rw o (w, body, refl, rw e at v) }
 
 plain_piece : (c : List Slot) (w : List ℕ) (p : Payload) → Plain c w p → IsPiece w
-plain_piece c _ _ (is_null b k o) = record { descriptor = b; rest = []; whole = refl; sized = subst (λ x. IsSizedBy x []) (sym o) refl }
-plain_piece c _ _ (is_truth b t o) = record { descriptor = b; rest = []; whole = refl; sized = subst (λ x. IsSizedBy x []) (sym o) refl }
+plain_piece c _ _ (is_null b k o) = record { descriptor = b; rest = []; whole = refl; sized = rw o refl }
+plain_piece c _ _ (is_truth b t o) = record { descriptor = b; rest = []; whole = refl; sized = rw o refl }
 plain_piece c _ _ (is_scalar h body t p d i) = headed (Form.Scalar t) (length body) h body refl d
 plain_piece c _ _ (is_listing h body x vs d q) = headed (Form.ListOrSexp x) (length body) h body refl d
 plain_piece c _ _ (is_struct h body ms d q) = headed Form.Struct (length body) h body refl d
@@ -171,7 +160,7 @@ module _ (g : Catalog) (l : Limits) where
           | inl lt ↦
               let k = cut_nowhere (length front) front u w span (omega arith) (whole_row front before a) (in_row u s c d) (value_piece c w v b) (sym e) lt in
               let none : span ≡ [] = nothing span (omega (arith, k, ap length e, length-append front span)) in
-              let same : front ≡ u ++ w = sym (e ∙ (ap (λ x. front ++ x) none ∙ append-nil front)) in
+              let same : front ≡ u ++ w = sym (rw (none, append-nil front) at e) in
               let one = one_whole g l front (u ++ w) before (before ++ v ∷ []) same a all in
               absurd (omega (arith, ap length one, length-append before (v ∷ [])))
           | inr le ↦ omega (arith, binary_nodes c w v b, ap length e, length-append u w, length-append front span)
@@ -184,12 +173,12 @@ module _ (g : Catalog) (l : Limits) where
     further : (w : List ℕ) (t : List Value) (c : List Slot) → Pieces g l w t c → t ≡ before ++ v ∷ [] → (span : List ℕ) → w ≡ front ++ span
         → nodes v ≤ length span
     further _ _ _ begins e span h = absurd (omega (arith, ap length e, length-append before (v ∷ [])))
-    further _ _ _ (marked u s c d) e span h = not_last u the_marker c (subst (λ x. Pieces g l u x c) e d) (further u s c d e) span h
-    further _ _ _ (skips u w s c d p) e span h = not_last u w c (subst (λ x. Pieces g l u x c) e d) (further u s c d e) span h
-    further _ _ _ (turns u w s c f x d b t n p q) e span h = not_last u w c (subst (λ x. Pieces g l u x c) e d) (further u s c d e) span h
+    further _ _ _ (marked u s c d) e span h = not_last u the_marker c (rw e at d) (further u s c d e) span h
+    further _ _ _ (skips u w s c d p) e span h = not_last u w c (rw e at d) (further u s c d e) span h
+    further _ _ _ (turns u w s c f x d b t n p q) e span h = not_last u w c (rw e at d) (further u s c d e) span h
     further _ _ _ (holds u w s c x d b t p q) e span h =
         let same : x ≡ v = same_last s before x v e in
-        last_one u w s c d (subst (Binary c w) same b) (subst (Whole g l (u ++ w)) e (document (u ++ w) (s ++ x ∷ []) c (holds u w s c x d b t p q))) span h
+        last_one u w s c d (rw same at b) (rw (← e) (document (u ++ w) (s ++ x ∷ []) c (holds u w s c x d b t p q))) span h
 
   -- between whole pieces with the values before a value and whole pieces with it stand at least as many octets as it has nodes
   pub nodes_between : (front span : List ℕ) (before : List Value) (v : Value) → Whole g l front before → Whole g l (front ++ span) (before ++ v ∷ [])

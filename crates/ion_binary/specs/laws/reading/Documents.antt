@@ -1,8 +1,7 @@
 -- What the octets of a document lead to.
-use Rattle.std.proofs.Common.{◌≡◌, ℕ, List, [], ◌∷◌, ◌++◌, length, Ok, refl, ap, ◌∙◌, arith, length-append, append-nil}
-use Rattle.std.proofs.lemmas.Bool.{cond-true, cond-false}
+use Rattle.std.proofs.Common.{◌≡◌, ℕ, List, [], ◌∷◌, ◌++◌, length, Ok, refl, arith, length-append, append-nil}
 use Rattle.std.proofs.lemmas.List.{map-append}
-use Rattle.ion_binary.specs.Names.{Catalog, Form, Limits, Pieces, Ready, Slot, Spaced, Value, anew, at, begins, holds, initial, marked, plain, run, run-append, run_after, skips, system_slots, the_marker, then_run, turned, turns}
+use Rattle.ion_binary.specs.Names.{Catalog, Form, Limits, Pieces, Ready, Slot, Spaced, Value, anew, at, begins, holds, initial, marked, plain, run, run-append, skips, system_slots, the_marker, turns}
 use Rattle.ion_binary.specs.laws.reading.Complete.{Admits, binary_run, marker_run, skip_run}
 use Rattle.ion_binary.specs.laws.reading.Small.{binary_nodes, spaced_more, spaced_on}
 
@@ -23,9 +22,8 @@ module _ (g : Catalog) (l : Limits) where
       → plain later ≡ t → Spaced l.item 0 (d.given ++ later) (length (u ++ w)) → Reads (u ++ w) (s ++ t) e
   behind u w s t c e later d r p small = record {
     given = d.given ++ later;
-    ran = run-append g l 0 (length u) u w (omega arith) initial
-        ∙ (ap (λ x. then_run x (λ n. run g l (length u) n w)) d.ran ∙ ap (λ x. record { given = d.given ++ x.given; now = x.now }) r);
-    gave = map-append (λ (x : Value × ℕ). x.0) d.given later ∙ (ap (λ x. x ++ plain later) d.gave ∙ ap (λ x. s ++ x) p);
+    ran = rw (run-append g l 0 (length u) u w (omega arith) initial, d.ran, r) refl;
+    gave = rw (map-append (λ (x : Value × ℕ). x.0) d.given later, d.gave, p) refl;
     spaced = small;
   }
 
@@ -47,14 +45,14 @@ module _ (g : Catalog) (l : Limits) where
       let r = pieces_run u s c d in
       let k = length-append u w in
       let to = length (u ++ w) in
-      rw append-nil at (behind u w s [] c e [] r (binary_run g l _ [] to w v b top k (λ i. omega arith) (omega arith)
-      ∙ (ap (run_after to) (cond-true _ _ _ t) ∙ ap (λ x. run_after to (turned to x)) n)) refl (rw append-nil (longer_spaced u w r.given r.spaced)))
+      let ran = rw (t, n) at (binary_run g l (anew (length u) c) [] to w v b top k (λ i. omega arith) (omega arith)) in
+      rw append-nil at (behind u w s [] c e [] r ran refl (rw append-nil (longer_spaced u w r.given r.spaced)))
   pieces_run _ _ _ (holds u w s c v d b t p q) =
       let r = pieces_run u s c d in
       let k = length-append u w in
       let n = binary_nodes c w v b in
       let to = length (u ++ w) in
       behind u w s (v ∷ []) c c ((v, to) ∷ []) r
-      (binary_run g l (anew (length u) c) [] to w v b top k (λ i. omega arith) (omega arith) ∙ ap (run_after to) (cond-false _ _ _ t))
+      (rw t at (binary_run g l (anew (length u) c) [] to w v b top k (λ i. omega arith) (omega arith)))
       refl (spaced_more l.item 0 r.given (length u) v to r.spaced
       (record { start = length u; end = to; behind = omega arith; within = omega arith; fits = omega arith; holds = omega arith }))

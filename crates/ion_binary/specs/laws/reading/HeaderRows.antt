@@ -19,7 +19,7 @@ module _ (code length : ℕ) where
   by_form form z row f y e =
       let same : form ≡ f = cc in
       let how : z ≡ y = cc in
-      subst (λ x. Row x y code length) same (subst (λ x. Row form x code length) how row)
+      rw (same, how) at row
 
   sized_opens : (form : Form) → length < 15 → code ≡ type_code form → long_code form ≡ 14 → (length < 14 → IsBodyLength form length)
       → Opens (Sized form (size length))
@@ -116,8 +116,8 @@ header_told form n _ (long b w e is) =
     inr (w, is, ap (λ x. x ∷ w) codes)
 
 header_from : (form : Form) (n : ℕ) (octets : List ℕ) → IsHeader form n octets → Header form n octets
-header_from form n octets (inl (few, is, e)) = subst (Header form n) (sym e) (short (16 * type_code form + n) (known form n is few))
-header_from form n octets (inr (w, is, e)) = subst (Header form n) (sym e) (long (16 * type_code form + long_code form) w (follows form) is)
+header_from form n octets (inl (few, is, e)) = rw e (short (16 * type_code form + n) (known form n is few))
+header_from form n octets (inr (w, is, e)) = rw e (long (16 * type_code form + long_code form) w (follows form) is)
 
 -- octets are a header just where type code and length code say so
 pub header_rows : (form : Form) (n : ℕ) (octets : List ℕ) → Header form n octets ↔ IsHeader form n octets

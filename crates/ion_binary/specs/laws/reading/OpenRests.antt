@@ -1,6 +1,6 @@
 -- What octets that were not refused are: whole pieces, and then an open rest.
-use Rattle.std.proofs.Common.{◌≡◌, ℕ, ◌+◌, ◌^◌, ◌<◌, ◌≤◌, List, [], ◌∷◌, ◌++◌, length, refl, ap, sym, ◌∙◌, subst, inl, inr, arith, length-append, append_assoc, append-nil, Bool, false, ◌⊎◌}
-use Rattle.ion_binary.specs.Names.{Catalog, First, Follows, Form, Fourth, Frame, Header, InBody, InMarker, InNumber, InPad, Limits, Mark, OpenRest, Phase, Purpose, Ready, Scalar, Second, Sized, Slot, Third, Value, Whole, document, end_of, is_pad, no_piece, of_item, of_marker, of_pad, of_pad_length}
+use Rattle.std.proofs.Common.{◌≡◌, ℕ, ◌+◌, ◌<◌, ◌≤◌, List, [], ◌∷◌, ◌++◌, length, refl, ap, sym, ◌∙◌, inl, inr, arith, length-append, append_assoc, append-nil, Bool, false, ◌⊎◌}
+use Rattle.ion_binary.specs.Names.{Catalog, First, Form, Fourth, Frame, InBody, InMarker, InNumber, InPad, Limits, Mark, OpenRest, Phase, Purpose, Ready, Scalar, Second, Slot, Third, Value, Whole, document, end_of, is_pad, no_piece, of_item, of_marker, of_pad, of_pad_length}
 use Rattle.ion_binary.specs.machine.Frames as frames
 use Rattle.ion_binary.specs.laws.reading.Stands.{BodyMayEnd, BodyStands, Box, Front, MarkCame, MarkerStands, NumberBegins, NumberGoing, NumberStands, Opened, Standing}
 use Rattle.ion_binary.specs.laws.reading.sound.Bounds.{struct_sized}
@@ -36,8 +36,8 @@ module _ (g : Catalog) (l : Limits) where
 
   module _ (start : ℕ) (c : List Slot) (s : List Value) where
     cut_on : (before w u : List ℕ) → u ≡ before ++ w → Cut start s before → Cut start s u
-    cut_on before w u e k = subst (Cut start s) (sym e)
-        (record { front = k.front; rest = k.rest ++ w; parts = ap (λ x. x ++ w) k.parts ∙ append_assoc k.front k.rest w; whole = k.whole; at = k.at })
+    cut_on before w u e k =
+        rw e (record { front = k.front; rest = k.rest ++ w; parts = ap (λ x. x ++ w) k.parts ∙ append_assoc k.front k.rest w; whole = k.whole; at = k.at })
 
     box_cut : (Outer : List ℕ → Type 0) (fs : List Frame) (form : Form) (end : ℕ) (u : List ℕ) → (o : Box l start Outer fs form end u) → Cut start s o.before
         → Cut start s u
@@ -56,7 +56,7 @@ module _ (g : Catalog) (l : Limits) where
         cut_on o.front _ u o.whole (box_cut _ fs Form.Wrapper end o.front o.box (opened_cut fs o.box.before o.box.outer))
 
     front_cut : (u : List ℕ) → Front g l start c s u → Cut start s u
-    front_cut u (inl h) = record { front = []; rest = u; parts = refl; whole = subst (Whole g l []) (sym h.1) no_piece; at = sym h.2 }
+    front_cut u (inl h) = record { front = []; rest = u; parts = refl; whole = rw h.1 no_piece; at = sym h.2 }
     front_cut u (inr h) = opened_cut [] u h
 
     front_long : (u : List ℕ) → Front g l start c s u → length u ≡ start
@@ -141,11 +141,11 @@ module _ (g : Catalog) (l : Limits) where
               cut = record {
                 front = i.before;
                 rest = i.b ∷ o.digits;
-                parts = o.whole ∙ (ap (λ x. x ++ o.digits) i.whole ∙ append_assoc i.before (i.b ∷ []) o.digits);
+                parts = rw (i.whole, append_assoc i.before) at o.whole;
                 whole = document i.before s c i.outer.0;
                 at = i.outer.1;
               };
-              open_rest = of_pad_length i.b o.digits (i.head ∙ ap (λ f. Sized f Follows) p) o.small (subst (λ n. n < 2 ^ 63) o.value o.bound);
+              open_rest = of_pad_length i.b o.digits (rw p at i.head) o.small (rw o.value at o.bound);
             }
         go (inr p) = item_open u (cut_on o.front o.digits u o.whole (begins_cut [] (Purpose.Length form) o.front o.begins)) (o.going p)
     number_open [] _ a u o = absurd o.begins
@@ -170,7 +170,7 @@ module _ (g : Catalog) (l : Limits) where
         go : (form ≡ Form.Pad) ⊎ (is_pad form ≡ false) → OpenCut start s u
         go (inl p) = record {
           cut = record { front = o.before; rest = o.header ++ came; parts = o.whole; whole = document o.before s c o.outer.0; at = o.outer.1 };
-          open_rest = of_pad o.header came o.size (subst (λ f. Header f o.size o.header) p o.head) (omega (arith, o.sizes));
+          open_rest = of_pad o.header came o.size (rw p at o.head) (omega (arith, o.sizes));
         }
         go (inr p) = item_open u (body_cut [] form n came u o) (omega (arith, body_long [] form n came u o, body_ends [] form n came u p o))
 

@@ -1,7 +1,6 @@
 -- What stands for octets is what stands open behind them.
-use Rattle.std.proofs.Common.{◌≡◌, ℕ, ◌<◌, ◌≤◌, ◌||◌, List, [], ◌∷◌, length, Result, Ok, Err, Option, Some, None, Bool, true, false, cond, refl, ap, sym, ◌∙◌, subst, subst₂, arith, length-append}
-use Rattle.std.proofs.lemmas.Bool.{cond-false}
-use Rattle.ion_binary.specs.Names.{Catalog, Count, Field, Form, Frame, Headed, Id, Items, LastOctet, Length, Limits, Malformed, MayGoOn, MayReach, Name, Named, Noted, Number, Open, Purpose, Reason, Slot, TakesValue, Value, a_count, a_length, a_name, an_id, is_pad, is_wrapper, nameless, of_container, resolve}
+use Rattle.std.proofs.Common.{◌≡◌, ℕ, ◌<◌, ◌≤◌, ◌||◌, List, [], ◌∷◌, length, Result, Ok, Err, Option, Some, None, Bool, true, false, cond, refl, ap, arith, length-append}
+use Rattle.ion_binary.specs.Names.{Catalog, Count, Field, Form, Frame, Headed, Id, Items, LastOctet, Length, Limits, Malformed, MayGoOn, MayReach, Name, Named, Noted, Number, Open, Purpose, Reason, Slot, TakesValue, Value, a_count, a_length, a_name, an_id, is_pad, is_wrapper, of_container, resolve}
 use Rattle.ion_binary.specs.Deciding as deciding
 use Rattle.ion_binary.specs.Deciding.{Container, MayBegin, Names}
 use Rattle.ion_binary.specs.machine.Frames as frames
@@ -29,9 +28,7 @@ may_begin c _ _ form (named end id ms fs ks m) h = λ p. go (resolve c id) refl 
     go : (r : Result (Option (List ℕ)) Reason) → resolve c id ≡ r → is_pad form ≡ false → (s : Option (List ℕ)) × (resolve c id ≡ Ok s)
     go (Ok s) e p = (s, e)
     go (Err x) e p =
-        let n : nameless (frames.Named end ms (Err x) ∷ fs) form ≡ None = ap (λ r. nameless (frames.Named end ms r ∷ fs) form) (sym e) ∙ h.named in
-        let k : cond (is_pad form) None (Some x) ≡ Some x = cond-false _ _ _ p in
-        absurd (let q : Some x ≡ None = sym k ∙ n in cc)
+        let q : Some x ≡ None = rw (e, p) at h.named in absurd cc
 may_begin c _ _ form _ h = tt
 
 -- a body may reach in the containers up to where it may end in the frames
@@ -131,7 +128,7 @@ module _ (g : Catalog) (l : Limits) (start : ℕ) (c : List Slot) (s : List Valu
       let w = o.within in
       record {
         ks = Named end o.k ∷ p.ks;
-        match = subst (λ r. Match c (frames.Named end ms r ∷ fs) (Named end o.k ∷ p.ks)) (sym o.named) (named end o.k ms fs p.ks p.match);
+        match = rw o.named (named end o.k ms fs p.ks p.match);
         open' = record {
           front = o.front;
           name = o.id;
@@ -184,10 +181,10 @@ module _ (g : Catalog) (l : Limits) (start : ℕ) (c : List Slot) (s : List Valu
   may_go : (ks : List Container) (q : Number) (fs : List Frame) (used : ℕ) → InFrames c ks q fs → NumberGoing l start fs (purpose_of q) used
       → MayGoOn g l c start ks q used
   may_go _ _ _ used (length_in _ form _ nothing_open) h = h
-  may_go _ _ _ used (name_in _ _ _ (names _ _ _ _ _)) h = λ last r. subst (λ n. used < n) (sym (is_last _ _ last r)) h
-  may_go _ _ _ used (count_in [] _ _ _) h = λ last r. subst (λ n. used < n) (sym (is_last _ _ last r)) h
-  may_go _ _ _ used (id_in [] _ _ _ _ _) h = λ last r. subst (λ n. used < n) (sym (is_last _ _ last r)) h
-  may_go _ _ _ used _ h = λ last r. subst (λ n. used < n) (sym (is_last _ _ last r)) h
+  may_go _ _ _ used (name_in _ _ _ (names _ _ _ _ _)) h = λ last r. rw (is_last _ _ last r) h
+  may_go _ _ _ used (count_in [] _ _ _) h = λ last r. rw (is_last _ _ last r) h
+  may_go _ _ _ used (id_in [] _ _ _ _ _) h = λ last r. rw (is_last _ _ last r) h
+  may_go _ _ _ used _ h = λ last r. rw (is_last _ _ last r) h
 
   -- before a number
   record Begun (fs : List Frame) (p : Purpose) (u : List ℕ) : Type 0 where
@@ -206,8 +203,7 @@ module _ (g : Catalog) (l : Limits) (start : ℕ) (c : List Slot) (s : List Valu
         q = Length form;
         same = refl;
         frames' = length_in p.ks form fs p.match;
-        comes = subst (deciding.Before g l c start p.ks (Length form)) (sym o.whole)
-            (a_length p.ks o.before o.b form p.open' o.head (may_begin c fs p.ks form p.match o.admits));
+        comes = rw o.whole (a_length p.ks o.before o.b form p.open' o.head (may_begin c fs p.ks form p.match o.admits));
       }
   begun (frames.Fields end ms ∷ fs) Purpose.FieldName u used few o h =
       let left : used < end = h in
@@ -228,7 +224,7 @@ module _ (g : Catalog) (l : Limits) (start : ℕ) (c : List Slot) (s : List Valu
         ks = p.ks;
         q = Count end;
         same = refl;
-        frames' = subst (λ x. InFrames c p.ks (Count end) (frames.Annotated end x ∷ fs)) (sym o.none_yet) (count_in p.ks end fs p.match);
+        frames' = rw o.none_yet (count_in p.ks end fs p.match);
         comes = a_count p.ks end u (headed fs Form.Wrapper end u o.box p);
       }
   begun (frames.Annotated end ss ∷ fs) (Purpose.Annotation stop) u used few o h =
@@ -238,8 +234,7 @@ module _ (g : Catalog) (l : Limits) (start : ℕ) (c : List Slot) (s : List Valu
         q = Id stop;
         same = refl;
         frames' = id_in p.ks end stop ss fs p.match;
-        comes = subst₂ (λ x w. deciding.Before g l c start p.ks (Id x) w) (sym o.stops) (sym o.whole)
-            (an_id p.ks end o.n o.front o.count o.ids ss (headed fs Form.Wrapper end o.front o.box p) o.number o.some o.symbols
+        comes = rw (o.stops, o.whole) (an_id p.ks end o.n o.front o.count o.ids ss (headed fs Form.Wrapper end o.front o.box p) o.number o.some o.symbols
             (omega (arith, o.stops, o.room)));
       }
   begun _ _ u used few o h = absurd o
@@ -261,6 +256,6 @@ module _ (g : Catalog) (l : Limits) (start : ℕ) (c : List Slot) (s : List Valu
           small = o.small;
           value = o.value;
           bound = o.bound;
-          goes_on = may_go n.ks n.q fs (length u) n.frames' (subst (λ p. NumberGoing l start fs p (length u)) (sym n.same) o.going);
+          goes_on = may_go n.ks n.q fs (length u) n.frames' (rw n.same o.going);
         };
       }

@@ -60,7 +60,7 @@ other_int_opens = refl
 
 null_told : (b : ℕ) (k : Kind) → b < 256 → opening_of b ≡ Null k → (b ≡ null_octet k) ⊎ ((k ≡ Kind.Int) × (b ≡ 0x3F))
 null_told b k less e =
-    let holds : row_holds (Null k) b ≡ true = subst (λ (o : Opening). row_holds o b ≡ true) e (row b less) in
+    let holds = rw e at (row b less) in
     elim (either (b == null_octet k) (is_int k && (b == 0x3F)) holds) [
       | inl own ↦ inl (eqb-true b (null_octet k) own)
       | inr other ↦ inr (int_alone k (both_first (is_int k) (b == 0x3F) other), eqb-true b 0x3F (both_second (is_int k) (b == 0x3F) other))
@@ -81,7 +81,7 @@ truth_opens false = refl
 truth_opens true = refl
 
 truth_told : (b : ℕ) (t : Bool) → b < 256 → opening_of b ≡ Truth t → b ≡ truth_octet t
-truth_told b t less e = eqb-true b (truth_octet t) (subst (λ (o : Opening). row_holds o b ≡ true) e (row b less))
+truth_told b t less e = eqb-true b (truth_octet t) (rw e at (row b less))
 
 -- an octet opens a bool just where it is that of the bool
 pub truth_rows : (b : ℕ) (t : Bool) → b < 256 → (opening_of b ≡ Truth t) ↔ (b ≡ truth_octet t)

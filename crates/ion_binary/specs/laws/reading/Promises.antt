@@ -1,7 +1,7 @@
 -- The promises of the reader, over the grammar.
-use Rattle.std.proofs.Common.{◌≡◌, ◌↔◌, ℕ, ◌+◌, ◌≤◌, ◌<◌, List, [], ◌∷◌, ◌++◌, length, Result, Ok, Err, Option, Some, None, false, refl, ap, sym, ◌∙◌, subst, arith, append_assoc, append-nil, length-append, Bool, cond, option_to_list, inl, inr}
+use Rattle.std.proofs.Common.{◌≡◌, ◌↔◌, ℕ, ◌+◌, ◌≤◌, ◌<◌, List, [], ◌∷◌, ◌++◌, length, Result, Ok, Err, Option, Some, None, false, refl, ap, sym, ◌∙◌, subst, arith, append_assoc, append-nil, length-append, Bool, cond, inl, inr}
 use Rattle.std.proofs.lemmas.Bool.{cases_lt}
-use Rattle.ion_binary.specs.Names.{BeginsNone, Catalog, Decides, Document, EndsValues, Frame, GivesNoTable, Grows, HasPieces, HasReasons, Incomplete, IsFirst, IsReadersReason, IsSmall, Limits, Machine, NoTables, OpenRest, Phase, Pieces, Ready, Reason, Refusal, Refuses, Run, Shown, Shows, Slot, Spaced, Streams, Value, Whole, anew, at, begins, document, ends_of, holds, initial, is_table, marked, no_piece, of_marker, on_now, plain, refused_of, run, run-append, skips, the_marker, then_run, trace, trace_of, turns, whole}
+use Rattle.ion_binary.specs.Names.{Catalog, Decides, Document, EndsValues, Frame, GivesNoTable, Grows, HasPieces, HasReasons, Incomplete, IsFirst, IsReadersReason, IsSmall, Limits, Machine, NoTables, OpenRest, Phase, Pieces, Ready, Reason, Refusal, Refuses, Run, Shown, Shows, Slot, Spaced, Streams, Value, Whole, anew, at, begins, document, ends_of, holds, initial, is_table, marked, no_piece, of_marker, on_now, plain, refused_of, run, run-append, skips, the_marker, trace, trace_of, turns, whole}
 use Rattle.ion_symtab.specs.Decided.{IsDecided}
 use Rattle.ion_symtab.specs.laws.Promises.{first_refused, shown_once}
 use Rattle.ion_symtab.specs.laws.Reasons.{either}
@@ -9,7 +9,7 @@ use Rattle.ion_binary.specs.laws.reading.Decided.{row_decides}
 use Rattle.ion_binary.specs.laws.reading.Documents.{pieces_run}
 use Rattle.ion_binary.specs.laws.reading.OpenRests.{OpenCut, standing_open}
 use Rattle.ion_binary.specs.laws.reading.Small.{spaced_on}
-use Rattle.ion_binary.specs.laws.reading.Stands.{Leaves, MachineStands, Standing}
+use Rattle.ion_binary.specs.laws.reading.Stands.{MachineStands, Standing}
 use Rattle.ion_binary.specs.laws.reading.Stops.{Stop, begins_none, stop_of, stop_taken, stopped, whole_within}
 use Rattle.ion_binary.specs.laws.reading.sound.Sound.{Ended, feed_stands, initial_stands, run_stands}
 
@@ -28,18 +28,11 @@ ended_well g l u given (Err e) last o h = absurd cc
 admits : (g : Catalog) (l : Limits) (u : List ℕ) (s : List Value) → Streams (trace g l u) s → Document g l u s
 admits g l u s t =
     let d = ended_well g l u (run g l 0 initial u).given (run g l 0 initial u).now t.last (run_stands g l 0 initial [] u [] (initial_stands g l)) t.ends in
-    let e : plain (run g l 0 initial u).given ++ option_to_list t.last ≡ plain (run g l 0 initial u).given =
-    ap (λ o. plain (run g l 0 initial u).given ++ option_to_list o) d.0 ∙ append-nil _ in
-    subst (Document g l u) (sym (t.values ∙ e)) d.1
+    rw (t.values, d.0, append-nil) d.1
 
 accepts : (g : Catalog) (l : Limits) (u : List ℕ) (s : List Value) → Document g l u s → Streams (trace g l u) s
 accepts g l u s d =
-    let r = pieces_run g l u s d.0 d.1 in
-    record {
-      last = None;
-      ends = ap (λ x. (trace_of x).ends) r.ran;
-      values = sym (append-nil _ ∙ (ap (λ x. plain x.given) r.ran ∙ r.gave));
-    }
+    let r = pieces_run g l u s d.0 d.1 in record { last = None; ends = rw r.ran refl; values = rw (append-nil, r.ran) (sym r.gave) }
 
 -- octets denote a stream exactly where they end well
 pub exact : (g : Catalog) (l : Limits) (u : List ℕ) (s : List Value) → Streams (trace g l u) s ↔ Document g l u s
@@ -55,17 +48,17 @@ one_stream g l u s t a b =
 -- pieces have an octet
 pieces_some : (g : Catalog) (l : Limits) (u : List ℕ) (s : List Value) (c : List Slot) → Pieces g l u s c → 0 < length u
 pieces_some g l _ _ _ begins = omega arith
-pieces_some g l _ _ _ (marked u s c d) = let i = pieces_some g l u s c d in let k = length-append u the_marker in omega arith
-pieces_some g l _ _ _ (skips u w s c d p) = let i = pieces_some g l u s c d in let k = length-append u w in omega arith
-pieces_some g l _ _ _ (turns u w s c e v d b t n p q) = let i = pieces_some g l u s c d in let k = length-append u w in omega arith
-pieces_some g l _ _ _ (holds u w s c v d b t p q) = let i = pieces_some g l u s c d in let k = length-append u w in omega arith
+pieces_some g l _ _ _ (marked u s c d) = omega (arith, pieces_some g l u s c d, length-append u the_marker)
+pieces_some g l _ _ _ (skips u w s c d p) = omega (arith, pieces_some g l u s c d, length-append u w)
+pieces_some g l _ _ _ (turns u w s c e v d b t n p q) = omega (arith, pieces_some g l u s c d, length-append u w)
+pieces_some g l _ _ _ (holds u w s c v d b t p q) = omega (arith, pieces_some g l u s c d, length-append u w)
 
 -- whole pieces have one stream
 pub one_whole : (g : Catalog) (l : Limits) (u w : List ℕ) (s t : List Value) → u ≡ w → Whole g l u s → Whole g l w t → s ≡ t
 one_whole g l _ _ _ _ e no_piece no_piece = refl
-one_whole g l _ _ _ _ e no_piece (document w t c d) = let k : 0 ≡ length w = ap length e in let i = pieces_some g l w t c d in absurd (omega arith)
-one_whole g l _ _ _ _ e (document u s c d) no_piece = let k : length u ≡ 0 = ap length e in let i = pieces_some g l u s c d in absurd (omega arith)
-one_whole g l _ _ _ _ e (document u s c d) (document w t b f) = one_stream g l w s t (subst (λ x. Document g l x s) e (c, d)) (b, f)
+one_whole g l _ _ _ _ e no_piece (document w t c d) = absurd (omega (arith, ap length e, pieces_some g l w t c d))
+one_whole g l _ _ _ _ e (document u s c d) no_piece = absurd (omega (arith, ap length e, pieces_some g l u s c d))
+one_whole g l _ _ _ _ e (document u s c d) (document w t b f) = one_stream g l w s t (c, rw e at d) (b, f)
 
 -- octets show one stream
 pub one_shown : (g : Catalog) (l : Limits) (u : List ℕ) (s t : List Value) → Shown (λ front following s. Whole g l front s) u s
@@ -75,7 +68,7 @@ one_shown g l u s t a b = shown_once (λ front following s. Whole g l front s) u
 -- what the machine holds behind octets stands for them
 pub ran_stands : (g : Catalog) (l : Limits) (u : List ℕ) (given : List (Value × ℕ)) (m : Machine) → run g l 0 initial u ≡ record { given = given; now = Ok m }
     → MachineStands g l u (plain given) m
-ran_stands g l u given m e = subst (λ (r : Run). Ended g l u [] r.given r.now) e (run_stands g l 0 initial [] u [] (initial_stands g l))
+ran_stands g l u given m e = rw e at (run_stands g l 0 initial [] u [] (initial_stands g l))
 
 cut_of : (g : Catalog) (l : Limits) (u : List ℕ) (given : List (Value × ℕ)) (m : Machine) → run g l 0 initial u ≡ record { given = given; now = Ok m }
     → OpenCut g l m.spot.start (plain given) u
@@ -86,10 +79,7 @@ pub front_of : (before w v rest : List ℕ) → before ++ w ≡ v ++ rest → le
 front_of before w [] rest e h = (before, refl)
 front_of [] w (x ∷ v) rest e h = absurd (omega arith)
 front_of (y ∷ before) w (x ∷ v) rest e h =
-    let head : y ≡ x = cc in
-    let tail : before ++ w ≡ v ++ rest = cc in
-    let p = front_of before w v rest tail (omega arith) in
-    (p.0, ap (λ z. z ∷ before) head ∙ ap (λ zs. x ∷ zs) p.1)
+    let p = front_of before w v rest (cc) (omega arith) in (p.0, cc)
 
 shows_now : (g : Catalog) (l : Limits) (u : List ℕ) (given : List (Value × ℕ)) (now : Result Machine Refusal)
     → run g l 0 initial u ≡ record { given = given; now = now } → refused_of now ≡ None
@@ -105,9 +95,7 @@ shows_now g l u given (Ok m) ran h =
         parts = c.cut.parts;
         whole = λ following octets. c.cut.whole;
         longest = λ v rest t e w.
-            let now : (run g l 0 initial (v ++ rest)).now ≡ Ok m = ap (λ x. (run g l 0 initial x).now) (sym e) ∙ ap (λ (r : Run). r.now) ran in
-            let k = whole_within g l v rest t m (w [] tt) now in
-            omega arith;
+            let k = whole_within g l v rest t m (w [] tt) (rw (← e, ran) refl) in omega arith;
       };
       rest = c.open_rest;
     }
@@ -138,22 +126,21 @@ stop_shown g l u r p =
     inside : (v rest : List ℕ) (t : List Value) → p.before ++ p.b ∷ [] ≡ v ++ rest → length v ≤ length p.before → Whole g l v t → length v ≤ p.n.spot.start
     inside v rest t e h w =
         let q = front_of p.before (p.b ∷ []) v rest e h in
-        whole_within g l v q.0 t p.n w (ap (λ x. (run g l 0 initial x).now) (sym q.1) ∙ ap (λ (x : Run). x.now) p.ran)
+        whole_within g l v q.0 t p.n w (rw (← q.1, p.ran) refl)
 
     all : (v : List ℕ) (t : List Value) → p.before ++ p.b ∷ [] ≡ v → length p.before < length v → Whole g l v t → ⊥
     all _ _ e h no_piece = absurd (omega arith)
     all _ _ e h (document v t c d) = begins_none g l (p.before ++ p.b ∷ []) _ (stopped g l u r p) [] t
-        (subst (λ x. Document g l x t) (sym (append-nil (p.before ++ p.b ∷ []) ∙ e)) (c, d))
+        (rw (append-nil (p.before ++ p.b ∷ []), e) (c, d))
 
     no_rest : (v rest : List ℕ) → p.before ++ p.b ∷ [] ≡ v ++ rest → length p.before < length v → rest ≡ []
     no_rest v [] e h = refl
-    no_rest v (x ∷ xs) e h = let k : length (p.before ++ p.b ∷ []) ≡ length (v ++ x ∷ xs) = ap length e in let i = length-append p.before (p.b ∷ []) in let j =
-        length-append v (x ∷ xs) in absurd (omega arith)
+    no_rest v (x ∷ xs) e h = absurd (omega (arith, ap length e, length-append p.before (p.b ∷ []), length-append v (x ∷ xs)))
 
     longest : (v rest : List ℕ) (t : List Value) → p.before ++ p.b ∷ [] ≡ v ++ rest → Whole g l v t → length v ≤ p.n.spot.start
     longest v rest t e w =
         elim (cases_lt (length p.before) (length v)) [
-          | inl lt ↦ absurd (all v t (e ∙ (ap (λ x. v ++ x) (no_rest v rest e lt) ∙ append-nil v)) lt w)
+          | inl lt ↦ absurd (all v t (rw (no_rest v rest e lt, append-nil v) at e) lt w)
           | inr le ↦ inside v rest t e le w
         ]
 
@@ -161,8 +148,7 @@ stop_shown g l u r p =
 pub stopped_decides : (g : Catalog) (l : Limits) (u : List ℕ) (r : Refusal) → (p : Stop g l 0 initial u r) → Decides g l (p.before ++ p.b ∷ []) r.reason
 stopped_decides g l u r p =
     let s = ran_stands g l p.before (run g l 0 initial u).given p.n p.ran in
-    subst (Leaves g l (p.before ++ p.b ∷ []) (plain (run g l 0 initial u).given)) p.refused
-    (feed_stands g l p.n p.before (plain (run g l 0 initial u).given) p.b s)
+    rw p.refused at (feed_stands g l p.n p.before (plain (run g l 0 initial u).given) p.b s)
 
 stop_decides : (g : Catalog) (l : Limits) (u : List ℕ) (r : Refusal) (p : Stop g l 0 initial u r) → IsDecided r.reason
 stop_decides g l u r p = row_decides g l (p.before ++ p.b ∷ []) r.reason (stopped_decides g l u r p)
@@ -177,8 +163,8 @@ refused g l u r h =
     let d = stop_decides g l u r p in
     record {
       within = t.0;
-      none = subst (BeginsNone (Document g l)) (sym t.1) (begins_none g l (p.before ++ p.b ∷ []) _ (stopped g l u r p));
-      shown = subst (λ w. Shown (λ front following s. Whole g l front s) w (plain (run g l 0 initial u).given)) (sym t.1) (stop_shown g l u r p);
+      none = rw t.1 (begins_none g l (p.before ++ p.b ∷ []) _ (stopped g l u r p));
+      shown = rw t.1 (stop_shown g l u r p);
       ends = ap ends_of e;
       whole_memory = λ i. subst IsDecided i d;
       before_end = λ i. subst IsDecided i d;
@@ -213,10 +199,9 @@ step_reason g l u r e = readers_reason r.reason (stop_decides g l u r (stop_of g
 
 end_reason : (g : Catalog) (l : Limits) (u : List ℕ) (now : Result Machine Refusal) (r : Refusal) → (run g l 0 initial u).now ≡ now → ends_of now ≡ Err r
     → IsReadersReason r.reason
-end_reason g l u (Err q) r ran h = let same : q ≡ r = cc in subst (λ (x : Refusal). IsReadersReason x.reason) same (step_reason g l u q ran)
+end_reason g l u (Err q) r ran h = let same : q ≡ r = cc in rw same at (step_reason g l u q ran)
 end_reason g l u (Ok m) r ran h =
-    subst (λ (q : Refusal). IsReadersReason q.reason) (sym (ends g l u r (ap refused_of ran) (ap ends_of ran ∙ h)))
-    (record { whole_memory = λ i. cc; no_duplicate = λ i. cc; no_bad_table = λ i. cc })
+    rw (ends g l u r (ap refused_of ran) (ap ends_of ran ∙ h)) (record { whole_memory = λ i. cc; no_duplicate = λ i. cc; no_bad_table = λ i. cc })
 
 -- neither a step nor the end refuses for want of memory, or for what only a catalog is refused
 pub reasons : (g : Catalog) (l : Limits) (u : List ℕ) → HasReasons (trace g l u)
@@ -239,28 +224,25 @@ spaced_whole : (g : Catalog) (l : Limits) (front rest : List ℕ) (s : List Valu
 spaced_whole g l _ rest _ given m no_piece ran e =
     let k = plain_long given in
     let n : length (plain given) ≡ 0 = ap length e in
-    subst (λ (x : List (Value × ℕ)). Spaced l.item 0 x (length rest)) (sym (no_values given (omega arith))) (omega arith)
+    rw (no_values given (omega arith)) (omega arith)
 spaced_whole g l _ rest _ given m (document front s c d) ran e =
     let r = pieces_run g l front s c d in
     let later = (run g l (length front) (at (anew (length front) c) [] Ready) rest).given in
-    let whole_run = sym ran ∙ (run-append g l 0 (length front) front rest (omega arith) initial
-    ∙ ap (λ x. then_run x (λ n. run g l (length front) n rest)) r.ran) in
+    let whole_run = rw (ran, r.ran) at (run-append g l 0 (length front) front rest (omega arith) initial) in
     let cut : given ≡ r.given ++ later = ap (λ (x : Run). x.given) whole_run in
     let n : length given ≡ length r.given + length later = ap length cut ∙ length-append r.given later in
     let p = plain_long given in
     let q = plain_long r.given in
     let same : length (plain given) ≡ length (plain r.given) = ap length (e ∙ sym r.gave) in
-    let alone : given ≡ r.given = cut ∙ (ap (λ x. r.given ++ x) (no_values later (omega arith)) ∙ append-nil r.given) in
+    let alone : given ≡ r.given = rw (no_values later (omega arith), append-nil) at cut in
     let long = length-append front rest in
-    subst (λ (x : List (Value × ℕ)). Spaced l.item 0 x (length (front ++ rest))) (sym alone)
-    (spaced_on l.item 0 r.given (length front) (length (front ++ rest)) r.spaced (omega arith))
+    rw alone (spaced_on l.item 0 r.given (length front) (length (front ++ rest)) r.spaced (omega arith))
 
 spaced_ok : (g : Catalog) (l : Limits) (u : List ℕ) (given : List (Value × ℕ)) (m : Machine) → run g l 0 initial u ≡ record { given = given; now = Ok m }
     → Spaced l.item 0 given (length u)
 spaced_ok g l u given m ran =
     let c = cut_of g l u given m ran in
-    subst (λ x. Spaced l.item 0 given (length x)) (sym c.cut.parts)
-    (spaced_whole g l c.cut.front c.cut.rest (plain given) given m c.cut.whole (ap (run g l 0 initial) (sym c.cut.parts) ∙ ran) refl)
+    rw c.cut.parts (spaced_whole g l c.cut.front c.cut.rest (plain given) given m c.cut.whole (rw (← c.cut.parts) ran) refl)
 
 spaced_now : (g : Catalog) (l : Limits) (u : List ℕ) (now : Result Machine Refusal) → (run g l 0 initial u).now ≡ now
     → Spaced l.item 0 (run g l 0 initial u).given (length u)
@@ -288,8 +270,7 @@ grows_on given (Err refusal) rest = record { given = ([], sym (append-nil given)
 pub grows : (g : Catalog) (l : Limits) (u w : List ℕ) → Grows (trace g l u) (trace g l (u ++ w))
 grows g l u w =
     let r = run g l 0 initial u in
-    let P : Run → Type 0 = λ r. Grows (trace g l u) (trace_of r) in
-    subst P (sym (run-append g l 0 (length u) u w (omega arith) initial)) (grows_on r.given r.now (λ n. run g l (length u) n w))
+    rw (run-append g l 0 (length u) u w (omega arith) initial) (grows_on r.given r.now (λ n. run g l (length u) n w))
 
 -- a refusal names the octet that decides
 pub decided : (g : Catalog) (l : Limits) (u : List ℕ) (r : Refusal) → (trace g l u).refused ≡ Some r → IsFirst (trace g l) u r

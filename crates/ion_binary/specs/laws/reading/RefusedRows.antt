@@ -39,18 +39,16 @@ module _ (g : Catalog) (l : Limits) (c : List Slot) (start : ℕ) where
   pub hollow_row : (fs : List Frame) (form : Form) (n : ℕ) (u : List ℕ) → HeaderEnds fs form n u → (x : Reason) → hollow form n ≡ Some x → Decides g l u x
   hollow_row fs (Form.Scalar Scalar.NegativeInt) n u h x e =
       let p = some_then (n == 0) Malformed x e in
-      subst (Decides g l u) p.1 (bad_empty_body c start h.ks Scalar.NegativeInt u Malformed
-      (subst (λ k. EndsHeader g l c start h.ks (Form.Scalar Scalar.NegativeInt) k u) (eqb-true n 0 p.0) h.ends) (negative_empty c))
+      rw (← p.1) (bad_empty_body c start h.ks Scalar.NegativeInt u Malformed (rw (eqb-true n 0 p.0) at h.ends) (negative_empty c))
   hollow_row fs (Form.Scalar Scalar.Timestamp) n u h x e =
       let p = some_then (n == 0) Malformed x e in
-      subst (Decides g l u) p.1 (bad_empty_body c start h.ks Scalar.Timestamp u Malformed
-      (subst (λ k. EndsHeader g l c start h.ks (Form.Scalar Scalar.Timestamp) k u) (eqb-true n 0 p.0) h.ends) (timestamp_empty c))
+      rw (← p.1) (bad_empty_body c start h.ks Scalar.Timestamp u Malformed (rw (eqb-true n 0 p.0) at h.ends) (timestamp_empty c))
   hollow_row fs Form.OrderedStruct n u h x e =
       let p = some_then (n == 0) Malformed x e in
-      subst (Decides g l u) p.1 (no_fields c start h.ks u (subst (λ k. EndsHeader g l c start h.ks Form.OrderedStruct k u) (eqb-true n 0 p.0) h.ends))
+      rw (← p.1) (no_fields c start h.ks u (rw (eqb-true n 0 p.0) at h.ends))
   hollow_row fs Form.Wrapper n u h x e =
       let p = some_then (n == 0) Malformed x e in
-      subst (Decides g l u) p.1 (no_count c start h.ks u (subst (λ k. EndsHeader g l c start h.ks Form.Wrapper k u) (eqb-true n 0 p.0) h.ends))
+      rw (← p.1) (no_count c start h.ks u (rw (eqb-true n 0 p.0) at h.ends))
   hollow_row fs _ n u h x e = absurd cc
 
   past_row : (k : Container) (ks : List Container) (pad : Bool) (to end : ℕ) (u : List ℕ) (x : Reason) → deciding.container_end k ≡ end
@@ -58,22 +56,22 @@ module _ (g : Catalog) (l : Limits) (c : List Slot) (start : ℕ) where
   past_row k ks pad to end u x i r e =
       let p = some_if (nat_le to end) Malformed x e in
       let q = leb-false to end p.0 in
-      subst (Decides g l u) p.1 (past_container c start k ks pad to u r (omega arith))
+      rw (← p.1) (past_container c start k ks pad to u r (omega arith))
 
   pub misfit_row : (fs : List Frame) (ks : List Container) (form : Form) (to : ℕ) (u : List ℕ) → Match c fs ks → Reaches g l c start ks (is_pad form) to u
       → (x : Reason) → misfits l.item start fs form to ≡ Some x → Decides g l u x
   misfit_row _ _ form to u nothing_open r x e =
       let p = some_if (is_pad form || nat_le to (start + l.item)) ItemTooLong x e in
       let q = or_false (is_pad form) (nat_le to (start + l.item)) p.0 in
-      subst (Decides g l u) p.1 (too_long c start to u (subst (λ b. Reaches g l c start [] b to u) q.0 r) (leb-false to (start + l.item) q.1))
+      rw (← p.1) (too_long c start to u (rw q.0 at r) (leb-false to (start + l.item) q.1))
   misfit_row _ _ form to u (noted end ss fs ks m) r x e = by (cases_lt end to)
     where
       p : (to == end ≡ false) × (Malformed ≡ x)
       p = some_if (to == end) Malformed x e
 
       by : (end < to) ⊎ (to ≤ end) → Decides g l u x
-      by (inl h) = subst (Decides g l u) p.1 (past_container c start (Noted end) ks (is_pad form) to u r h)
-      by (inr h) = let q = eqb-false to end p.0 in subst (Decides g l u) p.1 (wrapper_unfilled c start end ks (is_pad form) to u r (omega (arith, q, h)))
+      by (inl h) = rw (← p.1) (past_container c start (Noted end) ks (is_pad form) to u r h)
+      by (inr h) = let q = eqb-false to end p.0 in rw (← p.1) (wrapper_unfilled c start end ks (is_pad form) to u r (omega (arith, q, h)))
   misfit_row _ _ form to u _ r x e = past_row _ _ (is_pad form) to _ u x refl r e
 
   -- the id of a name
@@ -82,10 +80,9 @@ module _ (g : Catalog) (l : Limits) (c : List Slot) (start : ℕ) where
   name_row _ _ form u b (named end id ms fs ks m) o n x e = go (resolve c id) refl
     where
       go : (r : Result (Option (List ℕ)) Reason) → resolve c id ≡ r → Decides g l (u ++ b ∷ []) x
-      go (Ok s) i = absurd (let q : None ≡ Some x = ap (λ r. nameless (frames.Named end ms r ∷ fs) form) (sym i) ∙ e in cc)
+      go (Ok s) i = let q : None ≡ Some x = rw i at e in absurd cc
       go (Err y) i =
-          let q : cond (is_pad form) None (Some y) ≡ Some x = ap (λ r. nameless (frames.Named end ms r ∷ fs) form) (sym i) ∙ e in
-          let p = some_if (is_pad form) y x q in
+          let p = some_if (is_pad form) y x (rw i at e) in
           no_name c start end id ks u b x o (i ∙ ap (λ z. Err z) p.1) (λ size. n size p.0)
   name_row _ _ form u b _ o n x e = absurd cc
 
@@ -94,7 +91,7 @@ module _ (g : Catalog) (l : Limits) (c : List Slot) (start : ℕ) where
       → opening_of b ≡ Sized form size → (x : Reason) → stray fs form ≡ Some x → Decides g l (u ++ b ∷ []) x
   stray_row _ _ form size u b (noted end ss fs ks m) o i x e =
       let p = some_then (is_pad form || is_wrapper form) Malformed x e in
-      subst (Decides g l (u ++ b ∷ [])) p.1 (in_wrapper c start end ks u b form size o i p.0)
+      rw (← p.1) (in_wrapper c start end ks u b form size o i p.0)
   stray_row _ _ form size u b _ o i x e = absurd cc
 
   sized_pad : (form : Form) (size z : Size) → is_pad form ≡ false → Sized form size ≡ Sized Form.Pad z → ⊥
@@ -131,7 +128,7 @@ module _ (g : Catalog) (l : Limits) (c : List Slot) (start : ℕ) where
   last_row k ks u b form end q o t i x e =
       let p = some_if (nat_lt (length u + 1) end) Malformed x e in
       let z = ltb-false (length u + 1) end p.0 in
-      subst (Decides g l (u ++ b ∷ [])) p.1 (no_length c start k ks u b form o t i (omega arith))
+      rw (← p.1) (no_length c start k ks u b form o t i (omega arith))
 
   -- at a descriptor whose length follows
   pub unending_row : (fs : List Frame) (ks : List Container) (form : Form) (u : List ℕ) (b : ℕ) → Match c fs ks → Open g l c start ks u → TakesValue ks
@@ -163,7 +160,7 @@ module _ (g : Catalog) (l : Limits) (c : List Slot) (start : ℕ) where
       → LastOctet g l c start ks q last → (x : Reason) → cond (nat_lt (length u + 1) last) None (Some Malformed) ≡ Some x → Decides g l (u ++ b ∷ []) x
   going_row last ks q a u b o h r x e =
       let p = some_if (nat_lt (length u + 1) last) Malformed x e in
-      subst (Decides g l (u ++ b ∷ [])) p.1 (number_past c start last ks q a u b o h r (ltb-false (length u + 1) last p.0))
+      rw (← p.1) (number_past c start last ks q a u b o h r (ltb-false (length u + 1) last p.0))
 
   -- a VarUInt that may not go on has a row
   pub number_row : (ks : List Container) (q : Number) (fs : List Frame) (a : ℕ) (u : List ℕ) (b : ℕ) → InFrames c ks q fs
@@ -172,7 +169,7 @@ module _ (g : Catalog) (l : Limits) (c : List Slot) (start : ℕ) where
   number_row _ _ _ a u b (length_in _ form _ nothing_open) o h x e =
       let p = some_if (is_pad form || nat_le (length u + 1) (start + l.item)) ItemTooLong x e in
       let q = or_false (is_pad form) (nat_le (length u + 1) (start + l.item)) p.0 in
-      subst (Decides g l (u ++ b ∷ [])) p.1 (header_too_long c start form a u b o q.0 h (leb-false (length u + 1) (start + l.item) q.1))
+      rw (← p.1) (header_too_long c start form a u b o q.0 h (leb-false (length u + 1) (start + l.item) q.1))
   number_row _ _ _ a u b (length_in _ form _ _) o h x e = going_row _ _ _ a u b o h (of_container _ _ form) x e
   number_row _ _ _ a u b (name_in _ _ _ (names end ms fs ks m)) o h x e = going_row end (Names end ∷ ks) Name a u b o h (of_struct end ks) x e
   number_row _ _ _ a u b (count_in ks end fs m) o h x e = going_row end ks (Count end) a u b o h (of_wrapper ks end) x e
@@ -204,7 +201,7 @@ module _ (g : Catalog) (l : Limits) (c : List Slot) (start : ℕ) where
   -- a wrapper with no annotation octets has a row
   pub none_row : (ks : List Container) (q : Number) (fs : List Frame) (n : ℕ) (u : List ℕ) → InFrames c ks q fs → purpose_of q ≡ Purpose.AnnotationsLength
       → EndsNumber g l c start ks q n u → n ≡ 0 → Decides g l u Malformed
-  none_row _ _ _ n u (count_in ks end' hs m) e o h = no_annotations c start end' ks u (subst (λ x. EndsNumber g l c start ks (Count end') x u) h o)
+  none_row _ _ _ n u (count_in ks end' hs m) e o h = no_annotations c start end' ks u (rw h at o)
   none_row _ _ _ n u _ e o h = absurd cc
 
   -- an annotation whose id has no symbol has a row

@@ -25,69 +25,44 @@ nodes-fields ms = nodes-bare (payloads.Fields ms) _ (views.outs-Fields ms)
 -- one field more adds its nodes
 pub fields-more : (ms : List Field) (m : Field) → sum (map field_nodes (ms ++ m ∷ [])) ≡ sum (map field_nodes ms) + field_nodes m
 fields-more ms m =
-    let all = sum-map field_nodes (ms ++ m ∷ []) in
-    let front = sum-map field_nodes ms in
-    let cut = sum_by-append field_nodes ms (m ∷ []) in
-    let one = sum_by-cons field_nodes m [] in
     let none : sum_by field_nodes [] ≡ 0 = refl in
-    omega arith
+    omega (arith, sum-map field_nodes (ms ++ m ∷ []), sum-map field_nodes ms, sum_by-append field_nodes ms (m ∷ []), sum_by-cons field_nodes m [])
 
 -- each annotation is a node
 pub nodes-annotated : (ss : List (Option (List ℕ))) (p : Payload) → nodes (annotated ss p) ≡ length ss + nodes (bare p)
-nodes-annotated ss p =
-    let a = nodes-out (annotated ss p) in
-    let b = nodes-out (bare p) in
-    omega arith
+nodes-annotated ss p = omega (arith, nodes-out (annotated ss p), nodes-out (bare p))
 
 pub ids_long : (c : List Slot) (us : List ℕ) (ss : List (Option (List ℕ))) → Ids c us ss → length ss ≤ length us
 ids_long c _ _ no_ids = omega arith
-ids_long c _ _ (one_id us w ss k s b v r) = let i = ids_long c us ss b in let j = length-append us w in let m = length-append ss (s ∷ []) in let n =
-    length_VarUInt w k v in omega arith
+ids_long c _ _ (one_id us w ss k s b v r) = omega (arith, ids_long c us ss b, length-append us w, length-append ss (s ∷ []), length_VarUInt w k v)
 
 mutual
   plain_nodes : (c : List Slot) (w : List ℕ) (p : Payload) → Plain c w p → nodes (bare p) ≤ length w
   plain_nodes c _ _ (is_null b k d) = let n = nodes-Null k in omega arith
   plain_nodes c _ _ (is_truth b t d) = let n = nodes-Truth t in omega arith
   plain_nodes c _ _ (is_scalar h body t p d i) = let n = nodes-bare p _ refl ∙ (scalar_leaf c body t p i).node in let a = header_some _ _ h d in let e = length-append h body in omega arith
-  plain_nodes c _ _ (is_listing h body x vs d q) = let n = nodes-listed x vs in let a = header_some _ _ h d in let e = length-append h body in let i =
-      sequence_nodes c body vs q in omega arith
-  plain_nodes c _ _ (is_struct h body ms d q) = let n = nodes-fields ms in let a = header_some _ _ h d in let e = length-append h body in let i =
-      fields_nodes c body ms q in omega arith
-  plain_nodes c _ _ (is_ordered h body ms d k q) = let n = nodes-fields ms in let a = header_some _ _ h d in let e = length-append h body in let i =
-      fields_nodes c body ms q in omega arith
+  plain_nodes c _ _ (is_listing h body x vs d q) = omega (arith, nodes-listed x vs, header_some _ _ h d, length-append h body, sequence_nodes c body vs q)
+  plain_nodes c _ _ (is_struct h body ms d q) = omega (arith, nodes-fields ms, header_some _ _ h d, length-append h body, fields_nodes c body ms q)
+  plain_nodes c _ _ (is_ordered h body ms d k q) = omega (arith, nodes-fields ms, header_some _ _ h d, length-append h body, fields_nodes c body ms q)
 
   -- a value has at most as many nodes as octets
   pub binary_nodes : (c : List Slot) (w : List ℕ) (v : Value) → Binary c w v → nodes v ≤ length w
   binary_nodes c _ _ (unannotated w p b) = plain_nodes c w p b
   binary_nodes c _ _ (wrapped h count ids w ss p d v n i b) =
-      let k = plain_nodes c w p b in
-      let a = nodes-annotated ss p in
-      let j = ids_long c ids ss i in
-      let e0 = length-append h (count ++ (ids ++ w)) in
-      let e1 = length-append count (ids ++ w) in
-      let e2 = length-append ids w in
-      omega arith
+      let long = length-append h (count ++ (ids ++ w)) in
+      omega (arith, plain_nodes c w p b, nodes-annotated ss p, ids_long c ids ss i, length-append count (ids ++ w), length-append ids w)
 
   pub sequence_nodes : (c : List Slot) (w : List ℕ) (vs : List Value) → Sequence c w vs → sum (map nodes vs) ≤ length w
   sequence_nodes c _ _ nothing = omega arith
-  sequence_nodes c _ _ (one_more us w vs v q b) = let a = sequence_nodes c us vs q in let e = binary_nodes c w v b in let l = length-append us w in let n =
-      nodes-more vs v in omega arith
-  sequence_nodes c _ _ (padded us w vs q b) = let a = sequence_nodes c us vs q in let l = length-append us w in omega arith
+  sequence_nodes c _ _ (one_more us w vs v q b) = omega (arith, sequence_nodes c us vs q, binary_nodes c w v b, length-append us w, nodes-more vs v)
+  sequence_nodes c _ _ (padded us w vs q b) = omega (arith, sequence_nodes c us vs q, length-append us w)
 
   pub fields_nodes : (c : List Slot) (w : List ℕ) (ms : List Field) → Fields c w ms → sum (map field_nodes ms) ≤ length w
   fields_nodes c _ _ no_fields = omega arith
   fields_nodes c _ _ (one_field us id w ms k s v q n r b) =
-      let a = fields_nodes c us ms q in
-      let e = binary_nodes c w v b in
-      let l0 = length-append us (id ++ w) in
-      let l1 = length-append id w in
-      let i = length_VarUInt id k n in
-      let m = fields-more ms (field_of s v) in
-      omega arith
-  fields_nodes c _ _ (padded_field us id w ms k q n b) =
-      let a = fields_nodes c us ms q in
-      let l0 = length-append us (id ++ w) in
-      omega arith
+      let long = length-append us (id ++ w) in
+      omega (arith, fields_nodes c us ms q, binary_nodes c w v b, length-append id w, length_VarUInt id k n, fields-more ms (field_of s v))
+  fields_nodes c _ _ (padded_field us id w ms k q n b) = omega (arith, fields_nodes c us ms q, length-append us (id ++ w))
 
 -- more octets change nothing
 pub spaced_on : (item from : ℕ) (given : List (Value × ℕ)) (to later : ℕ) → Spaced item from given to → to ≤ later → Spaced item from given later

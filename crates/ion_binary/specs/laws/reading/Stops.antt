@@ -1,14 +1,14 @@
 -- Where a run goes on, and where it is refused.
-use Rattle.std.proofs.Common.{◌≡◌, ℕ, ◌+◌, ◌≤◌, List, [], ◌∷◌, ◌++◌, length, take, Ok, Err, refl, ap, sym, ◌∙◌, subst, arith, length-append}
+use Rattle.std.proofs.Common.{◌≡◌, ℕ, ◌+◌, ◌≤◌, List, [], ◌∷◌, ◌++◌, length, take, Ok, Err, refl, ap, ◌∙◌, arith, length-append}
 use Rattle.std.proofs.Math.Seq.{take-append-add}
-use Rattle.ion_binary.specs.Names.{BeginsNone, Catalog, Document, Limits, Machine, Outcome, Ready, Refusal, Run, Value, Whole, anew, at, document, feed, gives, goes, initial, no_piece, on_now, refuses, run, run-append, run_on, then_run, under}
+use Rattle.ion_binary.specs.Names.{BeginsNone, Catalog, Document, Limits, Machine, Outcome, Ready, Refusal, Run, Value, Whole, anew, at, document, feed, gives, goes, initial, no_piece, on_now, refuses, run, run-append, run_on, under}
 use Rattle.ion_binary.specs.laws.reading.Documents.{pieces_run}
 use Rattle.ion_binary.specs.laws.reading.Steady.{Steady, feed_steady}
 
 -- the start of the open piece never moves back
 pub run_onward : (g : Catalog) (l : Limits) (to : ℕ) (m : Machine) (w : List ℕ) (n : Machine) → m.spot.start ≤ m.spot.used → (run g l to m w).now ≡ Ok n
     → m.spot.start ≤ n.spot.start
-run_onward g l to m [] n h e = let k : m ≡ n = cc in subst (λ (x : Machine). m.spot.start ≤ x.spot.start) k (omega arith)
+run_onward g l to m [] n h e = let k : n ≡ m = cc in rw k (omega arith)
 run_onward g l to m (b ∷ bs) n h e = go (feed (under g l) m b) (feed_steady (under g l) m b h) (λ k i. run_onward g l (to + 1) k bs n i) e
   where
     go : (o : Outcome) → Steady m.spot.start o → ((k : Machine) → k.spot.start ≤ k.spot.used → (run g l (to + 1) k bs).now ≡ Ok n → k.spot.start ≤ n.spot.start)
@@ -44,9 +44,7 @@ stop_of g l to m (b ∷ bs) r h = go (feed (under g l) m b) refl (λ n. stop_of 
       rest = p.rest;
       n = p.n;
       parts = ap (λ xs. b ∷ xs) p.parts;
-      ran = ap (on p.before) e
-          ∙ (same p.before ∙ (ap (λ (x : Run). record { given = front ++ x.given; now = x.now }) p.ran
-          ∙ ap (λ (x : Run). record { given = x.given; now = Ok p.n }) (sym (ap (on bs) e ∙ same bs))));
+      ran = rw (e, same p.before, same bs, p.ran) refl;
       offset = omega (arith, p.offset);
       refused = p.refused;
     }
@@ -64,7 +62,7 @@ stop_of g l to m (b ∷ bs) r h = go (feed (under g l) m b) refl (λ n. stop_of 
           rest = bs;
           n = m;
           parts = refl;
-          ran = ap (λ o. record { given = (run_on (to + 1) (λ n. run g l (to + 1) n bs) o).given; now = Ok m }) (sym e);
+          ran = rw e refl;
           offset = omega arith;
           refused = e ∙ ap (λ (q : Refusal). refuses q.reason) is;
         }
@@ -76,16 +74,14 @@ stop_taken g l u r p =
     let o = p.offset in
     let at : r.offset ≡ length p.before + 1 = omega arith in (
       omega (arith, at, ap length p.parts, length-append p.before (p.b ∷ p.rest)),
-      ap (λ (x : ℕ). take x u) at ∙ (ap (take (length p.before + 1)) p.parts ∙ take-append-add p.before (p.b ∷ p.rest) 1),
+      rw (at, p.parts, take-append-add p.before (p.b ∷ p.rest) 1) refl,
     )
 
 -- the octets up to the refused one are refused
 pub stopped : (g : Catalog) (l : Limits) (u : List ℕ) (r : Refusal) (p : Stop g l 0 initial u r) → (run g l 0 initial (p.before ++ p.b ∷ [])).now
     ≡ Err (record { offset = length p.before + 1; reason = r.reason })
 stopped g l u r p =
-    ap (λ x. x.now) (run-append g l 0 (length p.before) p.before (p.b ∷ []) (omega arith) initial)
-    ∙ (ap (λ x. (then_run x (λ n. run g l (length p.before) n (p.b ∷ []))).now) p.ran
-    ∙ ap (λ o. (run_on (length p.before + 1) (λ n. run g l (length p.before + 1) n []) o).now) p.refused)
+    rw (run-append g l 0 (length p.before) p.before (p.b ∷ []) (omega arith) initial, p.ran, p.refused) refl
 
 -- no document begins with octets that are refused
 pub begins_none : (g : Catalog) (l : Limits) (u : List ℕ) (r : Refusal) → (run g l 0 initial u).now ≡ Err r → BeginsNone (Document g l) u
@@ -100,6 +96,5 @@ pub whole_within : (g : Catalog) (l : Limits) (v rest : List ℕ) (t : List Valu
     → length v ≤ n.spot.start
 whole_within g l _ rest t n no_piece h = omega arith
 whole_within g l _ rest t n (document v s c d) h =
-    let i = ap (λ x. x.now) (run-append g l 0 (length v) v rest (omega arith) initial) in
-    let j = ap (λ x. (then_run x (λ n. run g l (length v) n rest)).now) (pieces_run g l v s c d).ran in
-    run_onward g l (length v) (at (anew (length v) c) [] Ready) rest n (omega arith) (sym j ∙ (sym i ∙ h))
+    let e = rw (run-append g l 0 (length v) v rest (omega arith) initial, (pieces_run g l v s c d).ran) at h in
+    run_onward g l (length v) (at (anew (length v) c) [] Ready) rest n (omega arith) e

@@ -1,5 +1,5 @@
 -- What is written of a stream of values is a document with these values.
-use Rattle.std.proofs.Common.{◌≡◌, ℕ, suc, ◌≤◌, ◌<◌, true, false, List, [], ◌∷◌, ◌++◌, length, refl, sym, ap, subst, ◌∙◌, arith, append_assoc, append-nil}
+use Rattle.std.proofs.Common.{◌≡◌, ℕ, suc, ◌≤◌, ◌<◌, true, false, List, [], ◌∷◌, ◌++◌, length, refl, sym, subst, arith, append_assoc, append-nil}
 use Rattle.ion_binary.specs.Names.{AreAmong, AreKept, AreKnown, Catalog, Document, FitBehind, FitsIn, Grown, IsKept, Limits, Names, NoTables, Pieces, Progress, Value, ValueFits, all_among_more, begins, bin_from, bin_of, greatest_id, grown, holds, is_table, names_after, names_resolve, slots, slots_system, starts_more, symbols_of, system_names, system_texts, table_octets, the_marker, unknown_among, value_octets}
 use Rattle.ion_binary.specs.writer.Names.{Starts}
 use Rattle.ion_binary.specs.laws.writing.KeptTexts.{value_texts}
@@ -17,8 +17,7 @@ module _ (g : Catalog) (l : Limits) where
 
   turn : (u : List ℕ) (s : List Value) (names new more : Names) → new ≡ names ++ more → Starts names → AreAmong names table_symbols → AreKnown more
       → Pieces g l u s (slots names) → Turns u s names new
-  turn u s names new more e b a k pieces =
-      subst (Turns u s names) (sym e) (λ few deep fits. names_turn g l u s names more b a k few deep fits pieces)
+  turn u s names new more e b a k pieces = rw e (λ few deep fits. names_turn g l u s names more b a k few deep fits pieces)
 
   -- one value more, behind the table that it needs
   one_value : (u : List ℕ) (s : List Value) (names : Names) (v : Value) → Starts names → AreAmong names table_symbols → IsKept v → is_table v ≡ false
@@ -38,22 +37,16 @@ module _ (g : Catalog) (l : Limits) where
   values_are : (vs : List Value) (u : List ℕ) (s : List Value) (names : Names) → Starts names → AreAmong names table_symbols → AreKept vs → NoTables vs
       → FitBehind l names vs → Pieces g l u s (slots names)
       → Document g l (u ++ bin_from (begun names) vs) (s ++ vs)
-  values_are [] u s names b a k no_tables fits pieces = (
-    slots names,
-    subst (λ (w : List ℕ). Pieces g l w (s ++ []) (slots names)) (sym (append-nil u))
-        (subst (λ (t : List Value). Pieces g l u t (slots names)) (sym (append-nil s)) pieces),
-  )
+  values_are [] u s names b a k no_tables fits pieces = (slots names, rw (append-nil u, append-nil s) pieces)
   values_are (v ∷ vs) u s names b a k no_tables fits pieces =
       let new = names_after names v in
       let t = table_octets names new in
       let w = value_octets new v in
-      let rest = bin_from (begun new) vs in
       let n = grown (symbols_of v) names (unknown_among names b) (value_texts v k.0) in
       let starts = subst Starts (sym n.whole) (starts_more names n.more b) in
       let among = subst (λ (ns : Names). AreAmong ns table_symbols) (sym n.whole) (all_among_more names n.more table_symbols a) in
       let all = values_are vs (u ++ t ++ w) (s ++ v ∷ []) new starts among k.1 no_tables.1 fits.1 (one_value u s names v b a k.0 no_tables.0 fits.0 n pieces) in
-      let octets : u ++ t ++ w ++ rest ≡ u ++ (t ++ w ++ rest) = ap (λ (x : List ℕ). x ++ rest) (append_assoc u t w) ∙ append_assoc u (t ++ w) rest in
-      subst (λ (x : List ℕ). Document g l x (s ++ v ∷ vs)) octets (subst (Document g l (u ++ t ++ w ++ rest)) (append_assoc s (v ∷ []) vs) all)
+      rw (append_assoc u t, append_assoc u (t ++ w), append_assoc s) at all
 
   starts_system : Starts system_names
   unfolding system_names
@@ -65,7 +58,7 @@ module _ (g : Catalog) (l : Limits) where
 
   one_marker : (s : List Value) → AreKept s → NoTables s → FitsIn l s → Document g l (the_marker ++ bin_from (begun system_names) s) s
   one_marker s k no_tables fits = values_are s the_marker [] system_names starts_system among_system k no_tables fits
-      (subst (Pieces g l the_marker []) (sym slots_system) begins)
+      (rw slots_system begins)
 
   -- the document that is written for a stream of values has these values
   pub round_trip : (s : List Value) → AreKept s → NoTables s → FitsIn l s → Document g l (bin_of s) s

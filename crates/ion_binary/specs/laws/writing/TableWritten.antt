@@ -1,16 +1,16 @@
 -- The local symbol table that is written makes the context that of the names behind it.
-use Rattle.std.proofs.Common.{if◌then◌else◌, ◌≡◌, ℕ, suc, ◌+◌, ◌≤◌, ◌<◌, true, false, List, [], ◌∷◌, ◌++◌, length, map, drop, Option, None, Some, Result, Ok, codes, refl, sym, ap, subst, ◌∙◌, arith, length-append, append-nil, le-leb, lt-ltb, le-ltb}
+use Rattle.std.proofs.Common.{◌≡◌, ℕ, suc, ◌+◌, ◌≤◌, ◌<◌, true, false, List, [], ◌∷◌, ◌++◌, length, map, drop, Option, None, Some, Ok, codes, refl, sym, ap, subst, ◌∙◌, arith, length-append, append-nil, le-leb, lt-ltb, le-ltb}
 use Rattle.std.specs.Prelude.{nat_lt}
 use Rattle.std.specs.List.{flat_map}
 use Rattle.std.specs.Str.{IsUtf8}
 use Rattle.std.proofs.Math.Seq.{drop-append_seam}
 use Rattle.std.proofs.lemmas.List.{length-map}
-use Rattle.ion_binary.specs.Names.{AreAmong, AreKnown, Catalog, Field, IsKept, KeptItems, Layer, Limits, Names, Payload-F, Pieces, Reason, Resolves, Slot, Value, a_field, an_item, and_then, appends_in, bare, depth, field_of, greatest, greatest_id, imported, is_table, is_table_of, joined, kept, kept_fields, kept_list, kept_string, kept_symbol, layer_depth, layer_kind, layer_symbols, local_slot, local_slots, name_text, names_resolve_still, next, next_layer, no_items, slots, slots_more, string_value, symbols_of, system_slots, table_octets, table_value, turns, value_octets}
+use Rattle.ion_binary.specs.Names.{AreAmong, AreKnown, Catalog, Field, IsKept, KeptItems, Layer, Limits, Names, Pieces, Resolves, Slot, Value, a_field, an_item, bare, depth, field_of, greatest, greatest_id, is_table, is_table_of, joined, kept, kept_fields, kept_list, kept_string, kept_symbol, layer_depth, layer_kind, local_slot, local_slots, name_text, names_resolve_still, next, no_items, slots, slots_more, string_value, symbols_of, table_octets, table_value, turns, value_octets}
 use Rattle.ion_model.specs.Kept.{no_fields}
 use Rattle.ion_model.specs.declared.value.Payload.TheVariants as payloads
 use Rattle.ion_model.specs.declared.value.Payload.TheViews as views
 use Rattle.ion_model.specs.laws.Measures.{depth-List, depth-at-Fields, depth-out}
-use Rattle.ion_symtab.specs.Fields.{elements_in, layer_symbol, symbol_of}
+use Rattle.ion_symtab.specs.Fields.{symbol_of}
 use Rattle.ion_binary.specs.writer.Names.{Starts}
 use Rattle.ion_binary.specs.laws.writing.Output.{symbols-out}
 use Rattle.ion_binary.specs.laws.writing.Written.{value_is}
@@ -88,55 +88,40 @@ depth_table more =
 -- 2. Its symbols are system symbols.
 
 string_symbols : (s : Option (List ℕ)) → symbols_of (string_value s) ≡ []
-string_symbols s = symbols-out (string_value s) ∙ ap layer_symbols (views.outs-Str (name_text s))
+string_symbols s = rw (symbols-out (string_value s), views.outs-Str (name_text s)) refl
 
 no_symbols : (more : Names) → flat_map symbols_of (map string_value more) ≡ []
 no_symbols [] = refl
-no_symbols (s ∷ more) = ap (λ (ss : Names). ss ++ flat_map symbols_of (map string_value more)) (string_symbols s) ∙ no_symbols more
+no_symbols (s ∷ more) = rw (string_symbols s) (no_symbols more)
 
 imports_symbols : symbols_of imports_value ≡ table_word ∷ []
-imports_symbols = symbols-out imports_value ∙ ap layer_symbols (views.outs-Symbol table_word)
+imports_symbols = rw (symbols-out imports_value, views.outs-Symbol table_word) refl
 
 list_symbols : (more : Names) → symbols_of (symbols_value more) ≡ []
-list_symbols more = symbols-out (symbols_value more) ∙ (ap layer_symbols (views.outs-List (map string_value more)) ∙ no_symbols more)
+list_symbols more = rw (symbols-out (symbols_value more), views.outs-List (map string_value more)) (no_symbols more)
 
 symbols_table : (more : Names) → symbols_of (table_value more) ≡ table_symbols
-symbols_table more = symbols-out _ ∙ (ap (λ (d : Layer). table_word ∷ layer_symbols d) (views.outs-Fields (table_fields more))
-    ∙ (ap (λ (ss : Names). table_word ∷ imports_word ∷ (ss ++ ((symbols_word ∷ symbols_of (symbols_value more)) ++ []))) imports_symbols
-    ∙ ap (λ (ss : Names). table_word ∷ imports_word ∷ table_word ∷ symbols_word ∷ (ss ++ [])) (list_symbols more)))
+symbols_table more = rw (symbols-out (table_value more), views.outs-Fields (table_fields more), imports_symbols, list_symbols more) refl
 
 -- 3. The context behind it.
 
 texts_back : (more : Names) → AreKnown more → map symbol_of (map string_value more) ≡ more
 texts_back [] h = refl
 texts_back (None ∷ more) h = absurd h
-texts_back (Some t ∷ more) h =
-    ap (λ (d : Layer). layer_symbol d ∷ map symbol_of (map string_value more)) (views.outs-Str t) ∙ ap (λ (ss : Names). Some t ∷ ss) (texts_back more h.1)
+texts_back (Some t ∷ more) h = rw (views.outs-Str t, texts_back more h.1) refl
 
 local_are : (more : Names) → AreKnown more → local_slots (Some (symbols_value more)) ≡ map local_slot more
-local_are more h =
-    ap (λ (d : Layer). map local_slot (map symbol_of (elements_in (Some d)))) (views.outs-List (map string_value more))
-    ∙ ap (map local_slot) (texts_back more h)
+local_are more h = rw (views.outs-List (map string_value more), texts_back more h) refl
 
 joined_ok : (c more : List Slot) → length c + length more ≤ greatest_id → joined c more ≡ Ok (c ++ more)
 joined_ok c more h = rw (le-leb (length c + length more) greatest_id h) refl
 
-extended_of : List Slot → Catalog → Option Value → Layer → Result (List Slot) Reason
-extended_of c g symbols d =
-    and_then (imported g (if appends_in (Some d) then c else system_slots) (elements_in (Some d))) (λ more. joined more (local_slots symbols))
-
 next_is : (c : List Slot) (g : Catalog) (more : Names) → AreKnown more → length c + length more ≤ greatest_id → next c (table_value more) g
     ≡ Ok (c ++ map local_slot more)
-unfolding next extended_of
+unfolding next
 next_is c g more h few =
-    let symbols = Some (symbols_value more) in
-    let e0 : next c (table_value more) g ≡ next_layer c (Payload-F.Fields (table_fields more)) g =
-    ap (λ (d : Layer). next_layer c d g) (views.outs-Fields (table_fields more)) in
-    let e1 : next_layer c (Payload-F.Fields (table_fields more)) g ≡ extended_of c g symbols (views.out-Payload (payloads.Symbol table_word)) = refl in
-    let e2 : extended_of c g symbols (views.out-Payload (payloads.Symbol table_word)) ≡ joined c (local_slots symbols) =
-    ap (extended_of c g symbols) (views.outs-Symbol table_word) in
     let n = length-map more local_slot in
-    e0 ∙ (e1 ∙ (e2 ∙ (ap (joined c) (local_are more h) ∙ joined_ok c (map local_slot more) (omega arith))))
+    rw (views.outs-Fields (table_fields more), views.outs-Symbol table_word, local_are more h) (joined_ok c (map local_slot more) (omega arith))
 
 -- 4. Pieces.
 
@@ -169,8 +154,7 @@ module _ (g : Catalog) (l : Limits) where
       let e = append-nil names in
       let same = ap length e in
       let none : nat_lt (length names) (length (names ++ [])) ≡ false = le-ltb (length names) (length (names ++ [])) (omega arith) in
-      rw none (subst (λ (w : List ℕ). Pieces g l w s (slots (names ++ []))) (sym (append-nil u))
-      (subst (λ (ns : Names). Pieces g l u s (slots ns)) (sym e) pieces))
+      rw (none, append-nil u, e) pieces
   names_turn u s names (x ∷ more) b a k few deep fits pieces =
       let both = length-append names (x ∷ more) in
       let longer : length names < length (names ++ x ∷ more) = omega arith in

@@ -1,5 +1,5 @@
 -- The octets that are written of a value are that value.
-use Rattle.std.proofs.Common.{◌≡◌, ◌≢◌, ℕ, ℤ, suc, pos, negsuc, neg_ℤ, ◌^◌, ◌<◌, ◌≤◌, Bool, true, false, List, [], ◌∷◌, ◌++◌, length, Option, Ok, refl, sym, ap, subst, ◌∙◌, arith, length-append, append_assoc, append-nil, le-ltb}
+use Rattle.std.proofs.Common.{◌≡◌, ◌≢◌, ℕ, ℤ, suc, pos, negsuc, neg_ℤ, ◌^◌, ◌<◌, ◌≤◌, Bool, true, false, List, [], ◌∷◌, ◌++◌, length, Option, Ok, refl, ap, subst, arith, length-append, append_assoc, append-nil, le-ltb}
 use Rattle.std.specs.Prelude.{nat_lt}
 use Rattle.std.specs.List.{flat_map}
 use Rattle.ion_binary.specs.Names.{Binary, DecimalParts, Field, Fields, Form, Ids, IsBodyLength, IsDecimal, IsKept, IsScalar, IsTimestamp, IsTimestampBody, IsWhole, KeptFields, KeptItems, KeptPayload, Kind, Layer, ListOrSexp, Names, Payload, Plain, Resolves, Scalar, Sequence, Slot, TimestampParts, Value, VarInt, a_field, an_item, annotated, decimal_octets, field_octets, field_of, field_symbols, framed, header, id_of, ids_octets, is_blob, is_clob, is_decimal, is_int, is_listing, is_negative, is_null, is_scalar, is_string, is_struct, is_symbol, is_timestamp, is_truth, kept, kept_blob, kept_clob, kept_decimal, kept_fields, kept_int, kept_list, kept_null, kept_sexp, kept_string, kept_symbol, kept_timestamp, kept_truth, layer_octets, layer_symbols, listed, no_ids, no_items, nothing, null_octet, one_field, one_id, one_more, opening_of, padded_field, positional, resolve, symbols_of, timestamp_octets, truth_octet, type_code, uint_octets, unannotated, value_octets, var_uint_octets, whole_octets, with_count}
@@ -75,8 +75,7 @@ var_int_some _ _ _ (short octet h) = omega arith
 var_int_some _ _ _ (long octet digits last h s b) = omega arith
 
 body_some : (body : List ℕ) (t : TimestampParts) → IsTimestampBody body t → 0 < length body
-body_some body t h = let k = var_int_some h.ahead h.below h.minutes h.is_ahead in let e = length-append h.ahead h.fields in let whole = ap length h.cut in
-    omega arith
+body_some body t h = omega (arith, var_int_some h.ahead h.below h.minutes h.is_ahead, length-append h.ahead h.fields, ap length h.cut)
 
 timestamp_is : (c : List Slot) (t : TimestampParts) → IsTimestamp t → length (framed 6 (timestamp_octets t)) < 2 ^ 63
     → Plain c (framed 6 (timestamp_octets t)) (payloads.Timestamp t)
@@ -88,7 +87,7 @@ symbol_is : (c : List Slot) (n : ℕ) (s : Option (List ℕ)) → resolve c n �
     → Plain c (framed 7 (uint_octets n)) (payloads.Symbol s)
 symbol_is c n s r few small =
     let e = positional_digits_of 256 n (omega arith) in
-    framed_scalar c Scalar.Symbol (uint_octets n) (payloads.Symbol s) tt (is_symbol s (omega (arith, e)) (ap (resolve c) e ∙ r)) small
+    framed_scalar c Scalar.Symbol (uint_octets n) (payloads.Symbol s) tt (is_symbol s (omega (arith, e)) (rw e r)) small
 
 -- 3. Values.
 
@@ -118,12 +117,11 @@ module _ (c : List Slot) (names : Names) where
   resolves_rest (s ∷ ss) ts r = resolves_rest ss ts r.1
 
   ids_from : (us : List ℕ) (before ss : Names) → Ids c us before → Resolves c names ss → Ids c (us ++ ids_octets names ss) (before ++ ss)
-  ids_from us before [] i r = subst (λ (w : List ℕ). Ids c w (before ++ [])) (sym (append-nil us)) (subst (Ids c us) (sym (append-nil before)) i)
+  ids_from us before [] i r = rw (append-nil us, append-nil before) i
   ids_from us before (s ∷ ss) i r =
       let w = var_uint_octets (id_of names s) in
       let rest = ids_from (us ++ w) (before ++ s ∷ []) ss (one_id us w before (id_of names s) s i (var_uint_spelled (id_of names s) r.0.1) r.0.0) r.1 in
-      subst (λ (x : List ℕ). Ids c x (before ++ s ∷ ss)) (append_assoc us w (ids_octets names ss))
-      (subst (Ids c (us ++ w ++ ids_octets names ss)) (append_assoc before (s ∷ []) ss) rest)
+      rw (append_assoc us w, append_assoc before) at rest
 
   some_ids : (s : Option (List ℕ)) (ss : Names) → Resolves c names (s ∷ ss) → 0 < length (ids_octets names (s ∷ ss))
   some_ids s ss r =
@@ -150,8 +148,7 @@ module _ (c : List Slot) (names : Names) where
       let j = plain_some c w p b in
       let body = count ++ (ids ++ w) in
       let head = header_is Form.Wrapper (length body) (omega arith) (omega arith) in
-      subst (λ (x : List ℕ). Binary c (framed 14 x) (annotated (s ∷ ss) p)) (sym e)
-      (grammar.wrapped (header 14 (length body)) count ids w (s ∷ ss) p head number some (ids_from [] [] (s ∷ ss) no_ids r) b)
+      rw e (grammar.wrapped (header 14 (length body)) count ids w (s ∷ ss) p head number some (ids_from [] [] (s ∷ ss) no_ids r) b)
 
   wrapped_long : (ss : Names) (w : List ℕ) → length w ≤ length (output.wrapped names ss w)
   wrapped_long [] w = omega arith
@@ -165,7 +162,7 @@ module _ (c : List Slot) (names : Names) where
   PlainFor p d = Resolves c names (layer_symbols d) → length (layer_octets names d) < 2 ^ 63 → Plain c (layer_octets names d) p
 
   by_layer : (p : Payload) (d : Layer) → views.out-Payload p ≡ d → PlainFor p d → PlainFor p (views.out-Payload p)
-  by_layer p d e f = subst (PlainFor p) (sym e) f
+  by_layer p d e f = rw e f
 
   listing_is : (x : ListOrSexp) (body : List ℕ) (vs : List Value) → Sequence c body vs → length (framed (type_code (Form.ListOrSexp x)) body) < 2 ^ 63
       → Plain c (framed (type_code (Form.ListOrSexp x)) body) (listed x vs)
@@ -179,13 +176,12 @@ module _ (c : List Slot) (names : Names) where
     -- the octets that are written of a kept value are that value, where its symbols have these ids
     pub value_is : (v : Value) → IsKept v → Resolves c names (symbols_of v) → length (value_octets names v) < 2 ^ 63 → Binary c (value_octets names v) v
     value_is _ (kept ss p ts k) r small =
-        let r' = subst (Resolves c names) (symbols-out (annotated ss p)) r in
+        let r' = rw (symbols-out (annotated ss p)) at r in
         let e = octets-out names (annotated ss p) in
         let whole : length (output.wrapped names ss (layer_octets names (views.out-Payload p))) < 2 ^ 63 = omega (arith, ap length e, small) in
         let inside = wrapped_long ss (layer_octets names (views.out-Payload p)) in
         let plain = payload_is p k (resolves_rest ss (layer_symbols (views.out-Payload p)) r') (omega arith) in
-        subst (λ (w : List ℕ). Binary c w (annotated ss p)) (sym e)
-        (wrapped_is ss p (layer_octets names (views.out-Payload p)) (resolves_front ss (layer_symbols (views.out-Payload p)) r') plain whole)
+        rw e (wrapped_is ss p (layer_octets names (views.out-Payload p)) (resolves_front ss (layer_symbols (views.out-Payload p)) r') plain whole)
 
     payload_is : (p : Payload) → KeptPayload p → PlainFor p (views.out-Payload p)
     payload_is _ (kept_null k) = by_layer (payloads.Null k) _ (views.outs-Null k) (λ r small. null_is c k)
@@ -206,8 +202,7 @@ module _ (c : List Slot) (names : Names) where
 
     items_are : (us : List ℕ) (before vs : List Value) → Sequence c us before → KeptItems vs → Resolves c names (flat_map symbols_of vs)
         → length (flat_map (value_octets names) vs) < 2 ^ 63 → Sequence c (us ++ flat_map (value_octets names) vs) (before ++ vs)
-    items_are us before _ q no_items r small = subst (λ (w : List ℕ). Sequence c w (before ++ [])) (sym (append-nil us))
-        (subst (Sequence c us) (sym (append-nil before)) q)
+    items_are us before _ q no_items r small = rw (append-nil us, append-nil before) q
     items_are us before _ q (an_item v vs k ks) r small =
         let w = value_octets names v in
         let rest = flat_map (value_octets names) vs in
@@ -215,13 +210,11 @@ module _ (c : List Slot) (names : Names) where
         let one = value_is v k (resolves_front (symbols_of v) (flat_map symbols_of vs) r) (omega arith) in
         let all = items_are (us ++ w) (before ++ v ∷ []) vs (one_more us w before v q one) ks (resolves_rest (symbols_of v) (flat_map symbols_of vs) r)
         (omega arith) in
-        subst (λ (x : List ℕ). Sequence c x (before ++ v ∷ vs)) (append_assoc us w rest)
-        (subst (Sequence c (us ++ w ++ rest)) (append_assoc before (v ∷ []) vs) all)
+        rw (append_assoc us w, append_assoc before) at all
 
     fields_are : (us : List ℕ) (before ms : List Field) → Fields c us before → KeptFields ms → Resolves c names (flat_map field_symbols ms)
         → length (flat_map (field_octets names) ms) < 2 ^ 63 → Fields c (us ++ flat_map (field_octets names) ms) (before ++ ms)
-    fields_are us before _ q keeping.no_fields r small = subst (λ (w : List ℕ). Fields c w (before ++ [])) (sym (append-nil us))
-        (subst (Fields c us) (sym (append-nil before)) q)
+    fields_are us before _ q keeping.no_fields r small = rw (append-nil us, append-nil before) q
     fields_are us before _ q (a_field s v ms t k ks) r small =
         let id = var_uint_octets (id_of names s) in
         let w = value_octets names v in
@@ -232,5 +225,4 @@ module _ (c : List Slot) (names : Names) where
         let more = one_field us id w before (id_of names s) s v q (var_uint_spelled (id_of names s) r.0.1) r.0.0 one in
         let all = fields_are (us ++ (id ++ w)) (before ++ field_of s v ∷ []) ms more ks (resolves_rest (symbols_of v) (flat_map field_symbols ms) r.1)
         (omega arith) in
-        subst (λ (x : List ℕ). Fields c x (before ++ field_of s v ∷ ms)) (append_assoc us (id ++ w) rest)
-        (subst (Fields c (us ++ (id ++ w) ++ rest)) (append_assoc before (field_of s v ∷ []) ms) all)
+        rw (append_assoc us (id ++ w), append_assoc before) at all

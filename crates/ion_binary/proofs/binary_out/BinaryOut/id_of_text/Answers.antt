@@ -1,7 +1,7 @@
 use Rattle.std.proofs.Common.{◌≡◌, ◌∙◌, Some, ap, sym, subst}
 use Rattle.ion_binary.specs.Names.{IsLater}
 use Rattle.ion_binary.specs.visiting.BinaryOut.{Encoded}
-use Rattle.ion_binary.proofs.Later.{id_later}
+use Rattle.ion_names.specs.laws.Later.{id_later}
 use Rattle.ion_binary.proofs.binary_out.BinaryOut.id_of_text.Goals as goal
 
 pub returns-then-is_text_at-clause-id : goal.returns-then-is_text_at-clause-id

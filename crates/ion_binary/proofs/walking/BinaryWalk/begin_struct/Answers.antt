@@ -1,6 +1,6 @@
 use Rattle.std.proofs.Common.{[], ◌∷◌, refl, ap, sym, ◌∙◌}
-use Rattle.std.specs.Prelude.{◌+◌, if◌then◌else◌}
-use Rattle.ion_binary.specs.Names.{BinaryWalk, Bracket, Container, Depth, Ready, open_containers, proceed, refuses, setting_of, spot_of}
+use Rattle.std.specs.Prelude.{◌+◌}
+use Rattle.ion_binary.specs.Names.{BinaryWalk, Bracket, Container, Ready, open_containers, proceed, setting_of, spot_of}
 use Rattle.ion_binary.specs.machine.Frames as frames
 use Rattle.ion_binary.proofs.Beginning.{front_does}
 use Rattle.ion_binary.proofs.Ending.{pushed}
@@ -10,8 +10,7 @@ use Rattle.ion_binary.proofs.walking.BinaryWalk.begin_struct.Goals as goal
 pub returns-then-not-may_deepen-clause-does : goal.returns-then-not-may_deepen-clause-does
 returns-then-not-may_deepen-clause-does g c = λ fs h around other.
     let r = c.args.self.now in
-    ap (λ b. if b then proceed (setting_of r) (spot_of r) (frames.Fields (r.used + c.args.size) [] ∷ fs) else refuses Depth)
-    (deepens r fs c.may_deepen.result h c.may_deepen.ensures ∙ c.if-not-may_deepen.true)
+    rw (deepens r fs c.may_deepen.result h c.may_deepen.ensures ∙ c.if-not-may_deepen.true) refl
 
 pub returns-clause-does : goal.returns-clause-does
 returns-clause-does g c = λ fs h around.
@@ -23,7 +22,6 @@ returns-clause-does g c = λ fs h around.
     c.proceed.result c.open.new.visitor c.proceed.new.visitor (c.open.ensures c.in_ok-heard.ensures.ok) refl around around tt tt
     (pushed s.frames.items c.push.new.self.items (Container.Fields (s.used + c.args.size)) c.in_ok-push.ensures.items
     ∙ ap (λ (w : BinaryWalk). Container.Fields (s.used + c.args.size) ∷ open_containers w) e)
-    (ap (λ b. if b then proceed (setting_of r) (spot_of r) (frames.Fields (r.used + c.args.size) [] ∷ fs) else refuses Depth)
-    (deepens r fs c.may_deepen.result h c.may_deepen.ensures ∙ c.if-not-may_deepen.false)
-    ∙ ap (λ (w : BinaryWalk). proceed (setting_of w) (spot_of w) (frames.Fields (w.used + c.args.size) [] ∷ fs)) (sym e))
+    (rw (deepens r fs c.may_deepen.result h c.may_deepen.ensures ∙ c.if-not-may_deepen.false)
+    (ap (λ (w : BinaryWalk). proceed (setting_of w) (spot_of w) (frames.Fields (w.used + c.args.size) [] ∷ fs)) (sym e)))
     c.proceed.ensures.does

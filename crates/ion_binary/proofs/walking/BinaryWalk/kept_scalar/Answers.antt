@@ -1,5 +1,4 @@
-use Rattle.std.proofs.Common.{List, ℕ, ap, subst}
-use Rattle.ion_binary.specs.Names.{BinaryWalk, Does, judge, judged, setting_of, spot_of, told}
+use Rattle.std.proofs.Common.{◌≡◌, refl}
 use Rattle.ion_binary.specs.declared.walking.whole_leaves.Leaf.{Leaf}
 use Rattle.ion_binary.proofs.Beginning.{leaf_does}
 use Rattle.ion_binary.proofs.walking.BinaryWalk.kept_scalar.Goals as goal
@@ -8,8 +7,7 @@ pub returns-clause-does : goal.returns-clause-does
 returns-clause-does g c = λ fs h around.
     let r = c.args.self.now in
     let s = c.begin_value.new.self in
-    subst (λ (w : List ℕ). Does g.V.Visitor.takes (told fs) (judged (setting_of r) (spot_of r) fs (judge r.context c.args.scalar w)) c.ended.result c.ended.new.self
-    c.args.visitor.now c.ended.new.visitor) (ap (λ (w : BinaryWalk). w.body) {y = record r { filter = s.filter }} c.begin_value.ensures.same)
-    (leaf_does g.V.Visitor.takes r s c.begin_value.ensures.same c.tell_body.new.filter c.args.visitor.now
+    let same : s.body ≡ r.body = rw c.begin_value.ensures.same refl in
+    rw same at (leaf_does g.V.Visitor.takes r s c.begin_value.ensures.same c.tell_body.new.filter c.args.visitor.now
     c.begin_value.new.visitor c.tell_body.new.visitor c.ended.new.visitor c.in_ok-begin_value.ensures.told c.ended.result c.ended.new.self c.ended.ensures.does
     (Leaf.Scalar c.args.scalar) s.body c.in_ok-tell_body.ensures.told fs h around)

@@ -1,13 +1,10 @@
-use Rattle.std.proofs.Common.{◌+◌, ◌∷◌, ◌++◌, List, refl, ap, sym, subst, ◌∙◌}
-use Rattle.ion_binary.specs.Names.{BinaryWalk, Container, Does, Form, Frame, Goes, IsBehind, Ready, TellsAs, Value, deliver, events_of, judge_leaf, open_containers, resolve, run_of, setting_of, spot_of, told}
+use Rattle.std.proofs.Common.{◌+◌, ◌∷◌, refl, ap, ◌∙◌}
+use Rattle.ion_binary.specs.Names.{BinaryWalk, Container, Form, Goes, open_containers}
 use Rattle.std.specs.Prelude.{Ok}
-use Rattle.ion_binary.specs.walking.Holds.{told_in}
-use Rattle.ion_binary.specs.walking.Runs.{Took}
 use Rattle.ion_binary.proofs.Ending.{pushed}
 use Rattle.ion_binary.proofs.Shells.{may_begin}
 use Rattle.ion_binary.proofs.WalkRuns.{front_did}
 use Rattle.ion_binary.proofs.WholeHeaders.{front_run, moved_on}
-use Rattle.ion_binary.proofs.WholeLeaves.{body_in}
 use Rattle.ion_binary.proofs.WholeWrappers.{note_refused, noted_leaf_refused, noted_leaf_took, noted_took}
 use Rattle.ion_binary.proofs.walking.BinaryWalk.read_wrapper.Goals as goal
 
@@ -16,7 +13,7 @@ returns-in-Err-clause-does g c =
     let same = c.begin_value.ensures.same in
     note_refused c.args.self.now c.args.piece.now c.args.front c.args.size c.in-Some.note c.requires.opens c.in-Some.ensures g.V.Visitor.takes c.begin_value.new.self
     c.in-Err.reason c.args.visitor.now c.begin_value.new.visitor
-    (ap (λ (w : BinaryWalk). resolve w.context c.in-Some.note.id) (sym same) ∙ c.in-Err.ensures) (ap (λ (w : BinaryWalk). w.used) same)
+    (rw same at c.in-Err.ensures) (rw same refl)
 
 pub returns-in-Ok-tell_leaf-clause-does : goal.returns-in-Ok-tell_leaf-clause-does
 returns-in-Ok-tell_leaf-clause-does g c =
@@ -31,14 +28,10 @@ returns-in-Ok-tell_leaf-clause-does g c =
     let b = c.tell_leaf.new.visitor in
     let d = c.ended.new.visitor in
     noted_leaf_took r c.args.piece.now c.args.front c.args.size c.in-Some.note c.requires.opens c.in-Some.ensures g.V.Visitor.takes s.filter c.annotation.new.self
-    c.in-Ok.symbol.now (ap (λ (w : BinaryWalk). resolve w.context c.in-Some.note.id) (sym same) ∙ c.in-Ok.ensures) c.args.visitor.now c.begin_value.new.visitor
+    c.in-Ok.symbol.now (rw same at c.in-Ok.ensures) c.args.visitor.now c.begin_value.new.visitor
     c.annotation.new.visitor c.in_ok-begin_value.ensures.told (c.annotation.ensures c.in_ok-heard.ensures.ok) leaf c.in-Some-leaf_at.ensures c.if-to-end.true f new
     result b d c.ended.ensures.moves.used
-    (subst (λ (w : BinaryWalk). TellsAs g.V.Visitor.takes (judge_leaf w.context leaf.leaf (body_in c.args.piece.now leaf)) c.annotation.new.self f
-    c.annotation.new.visitor b) same c.in-Ok-tell_leaf.ensures.told)
-    (subst (λ (w : BinaryWalk). (fs : List Frame) (x : Value) → IsBehind (record w { used = to; filter = f }) fs x
-    → Does g.V.Visitor.takes (told_in fs ++ events_of x)
-    (deliver (setting_of (record w { used = to; filter = f })) (spot_of (record w { used = to; filter = f })) fs x) result new b d) same c.ended.ensures.does)
+    (rw same at c.in-Ok-tell_leaf.ensures.told) (rw same at c.ended.ensures.does)
 
 pub returns-in-Err-tell_leaf-clause-does : goal.returns-in-Err-tell_leaf-clause-does
 returns-in-Err-tell_leaf-clause-does g c =
@@ -49,10 +42,10 @@ returns-in-Err-tell_leaf-clause-does g c =
     let f = c.tell_leaf.new.filter in
     let b = c.tell_leaf.new.visitor in
     noted_leaf_refused r c.args.piece.now c.args.front c.args.size c.in-Some.note c.requires.opens c.in-Some.ensures g.V.Visitor.takes s.filter c.annotation.new.self
-    c.in-Ok.symbol.now (ap (λ (w : BinaryWalk). resolve w.context c.in-Some.note.id) (sym same) ∙ c.in-Ok.ensures) c.args.visitor.now c.begin_value.new.visitor
+    c.in-Ok.symbol.now (rw same at c.in-Ok.ensures) c.args.visitor.now c.begin_value.new.visitor
     c.annotation.new.visitor c.in_ok-begin_value.ensures.told (c.annotation.ensures c.in_ok-heard.ensures.ok) leaf c.in-Some-leaf_at.ensures c.if-to-end.true f
     (record s { used = r.used + leaf.to; filter = f }) (Ok Goes) b b refl c.in-Err-tell_leaf.reason
-    (λ other. ap (λ (w : BinaryWalk). judge_leaf w.context leaf.leaf (body_in c.args.piece.now leaf)) (sym same) ∙ c.in-Err-tell_leaf.ensures.refused other)
+    (λ other. rw same at (c.in-Err-tell_leaf.ensures.refused other))
 
 pub returns-clause-does : goal.returns-clause-does
 returns-clause-does g c = λ fs h.
@@ -64,10 +57,8 @@ returns-clause-does g c = λ fs h.
     let a = c.args.visitor.now in
     let b = c.annotation.new.visitor in
     let end = r.used + c.args.front + c.args.size in
-    subst (λ (w : BinaryWalk). Took g.V.Visitor.takes (told fs) r.used (run_of r fs) piece (Ok Goes)
-    (record w { frames = c.push.new.self; phase = Ready; filter = f }) a b) (sym same)
-    (noted_took r piece c.args.front c.args.size c.in-Some.note c.requires.opens c.in-Some.ensures g.V.Visitor.takes s.filter f c.in-Ok.symbol.now
-    (ap (λ (w : BinaryWalk). resolve w.context c.in-Some.note.id) (sym same) ∙ c.in-Ok.ensures) a c.begin_value.new.visitor b c.in_ok-begin_value.ensures.told
+    rw same (noted_took r piece c.args.front c.args.size c.in-Some.note c.requires.opens c.in-Some.ensures g.V.Visitor.takes s.filter f c.in-Ok.symbol.now
+    (rw same at c.in-Ok.ensures) a c.begin_value.new.visitor b c.in_ok-begin_value.ensures.told
     (c.annotation.ensures c.in_ok-heard.ensures.ok) (record s { frames = c.push.new.self })
     (pushed s.frames.items c.push.new.self.items (Container.Annotated end) c.in_ok-push.ensures.items
     ∙ ap (λ (w : BinaryWalk). Container.Annotated end ∷ open_containers w) same) fs h)

@@ -1,5 +1,5 @@
-use Rattle.std.proofs.Common.{◌≤◌, List, ℕ, Result, Ok, Err, OnOk, OnErr, ap, subst, ◌∙◌, length, suc, MatchBool}
-use Rattle.ion_binary.specs.Names.{Names, NeedsLargeId, Progress, Took, TookFront, Writing, greatest_id}
+use Rattle.std.proofs.Common.{Result, Ok, Err, OnOk, ap, ◌∙◌}
+use Rattle.ion_binary.specs.Names.{Progress, Writing}
 use Rattle.ion_binary.specs.visiting.BinaryOut.{Encoded}
 use Rattle.ion_binary.proofs.BinaryTold.{end_told, names_told, value_kept}
 use Rattle.ion_binary.proofs.writer.BinaryWriter.put_next.Goals as goal
@@ -19,9 +19,8 @@ returns-then-needs_large_id-clause-cause g c =
     let is = ap (λ (w : Writing). w.progress) c.self.view_is in
     let names = names_told p (progress_of c.self.inside.visitor) is c.args.value.now c.go_on.new.self c.tell.new.visitor c.go_on.ensures
     (c.tell.ensures c.if-not-tell.false) in
-    let large = subst (λ b. MatchBool b (NeedsLargeId c.tell.new.visitor.names) (length c.tell.new.visitor.names ≤ suc greatest_id)) c.if-needs_large_id.true
-    c.needs_large_id.ensures in
-    subst NeedsLargeId names large
+    let large = rw c.if-needs_large_id.true at c.needs_large_id.ensures in
+    rw names at large
 
 pub returns-clause-in_range : goal.returns-clause-in_range
 returns-clause-in_range g c =
@@ -29,9 +28,8 @@ returns-clause-in_range g c =
     let is = ap (λ (w : Writing). w.progress) c.self.view_is in
     let names = names_told p (progress_of c.self.inside.visitor) is c.args.value.now c.go_on.new.self c.tell.new.visitor c.go_on.ensures
     (c.tell.ensures c.if-not-tell.false) in
-    let few = subst (λ b. MatchBool b (NeedsLargeId c.tell.new.visitor.names) (length c.tell.new.visitor.names ≤ suc greatest_id)) c.if-needs_large_id.false
-    c.needs_large_id.ensures in
-    on_ok c.write_whole.result (subst (λ (n : Names). length n ≤ suc greatest_id) names few)
+    let few = rw c.if-needs_large_id.false at c.needs_large_id.ensures in
+    on_ok c.write_whole.result (rw names at few)
 
 pub returns-clause-kept : goal.returns-clause-kept
 returns-clause-kept g c =
@@ -46,8 +44,7 @@ returns-clause-ok g c =
     let is = ap (λ (w : Writing). w.progress) c.self.view_is in
     let told = end_told p (progress_of c.self.inside.visitor) is c.args.value.now c.go_on.new.self c.tell.new.visitor c.go_on.ensures
     (c.tell.ensures c.if-not-tell.false) c.ended.new.self (c.ended.ensures c.if-not-ended.false) in
-    subst (λ (w : List ℕ). OnOk c.write_whole.result (Took g.W.Outlet.took g.W.Outlet.written c.args.out.now c.write_whole.new.writer w))
-    (c.octets.ensures ∙ ap (λ (e : Encoded). e.whole) told) c.write_whole.ensures.whole
+    rw (c.octets.ensures ∙ ap (λ (e : Encoded). e.whole) told) at c.write_whole.ensures.whole
 
 pub returns-clause-front : goal.returns-clause-front
 returns-clause-front g c =
@@ -55,8 +52,7 @@ returns-clause-front g c =
     let is = ap (λ (w : Writing). w.progress) c.self.view_is in
     let told = end_told p (progress_of c.self.inside.visitor) is c.args.value.now c.go_on.new.self c.tell.new.visitor c.go_on.ensures
     (c.tell.ensures c.if-not-tell.false) c.ended.new.self (c.ended.ensures c.if-not-ended.false) in
-    subst (λ (w : List ℕ). OnErr c.write_whole.result (TookFront g.W.Outlet.took g.W.Outlet.written c.args.out.now c.write_whole.new.writer w))
-    (c.octets.ensures ∙ ap (λ (e : Encoded). e.whole) told) c.write_whole.ensures.front
+    rw (c.octets.ensures ∙ ap (λ (e : Encoded). e.whole) told) at c.write_whole.ensures.front
 
 pub returns-clause-after : goal.returns-clause-after
 returns-clause-after g c =

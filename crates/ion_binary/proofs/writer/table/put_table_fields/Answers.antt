@@ -14,8 +14,7 @@ frame-requires-clause-place g c =
     let base = framed 7 (uint_octets c.args.base) in
     let symbols = var_uint_octets c.in_ok-symbols.symbols in
     let old = c.args.out.now.items in
-    let whole = appended_four c.push.new.self.items c.put_digits.new.out.items c.put_symbol.new.out.items c.put_digits-2.new.out.items c.put_texts.new.out.items
-    imports base symbols texts c.in_ok-put_digits.ensures.ok c.in_ok-put_symbol.ensures.ok c.in_ok-put_digits-2.ensures.ok c.in_ok-put_texts.ensures.ok in
+    let whole = appended_four c.push.new.self.items imports base symbols texts c.in_ok-put_digits.ensures.ok c.in_ok-put_symbol.ensures.ok c.in_ok-put_digits-2.ensures.ok c.in_ok-put_texts.ensures.ok in
     let body = (imports ++ base) ++ (symbols ++ texts) in
     stands_before c.len-place.result (vec_len c.put_texts.new.out) old body c.put_texts.new.out.items (c.len-place.ensures ∙ c.args.out.now.ok.0)
     (whole ∙ ap (λ w. w ++ body) c.in_ok-push.ensures.items) c.put_texts.new.out.ok.0
@@ -27,8 +26,7 @@ returns-clause-ok g c =
     let texts = λ (n : Names). framed 11 (flat_map (λ s. framed 8 (name_text s)) n) in
     let symbols = λ (n : Names). named_octets names (Some (codes "symbols")) (texts n) in
     let old = c.args.out.now.items in
-    let whole = appended_four c.push.new.self.items c.put_digits.new.out.items c.put_symbol.new.out.items c.put_digits-2.new.out.items c.put_texts.new.out.items
-    (var_uint_octets c.in_ok-imports.imports) (framed 7 (uint_octets c.args.base)) (var_uint_octets c.in_ok-symbols.symbols) (texts c.from.result.now)
+    let whole = appended_four c.push.new.self.items (var_uint_octets c.in_ok-imports.imports) (framed 7 (uint_octets c.args.base)) (var_uint_octets c.in_ok-symbols.symbols) (texts c.from.result.now)
     c.in_ok-put_digits.ensures.ok c.in_ok-put_symbol.ensures.ok c.in_ok-put_digits-2.ensures.ok c.in_ok-put_texts.ensures.ok in
     let named = rw (c.in_ok-imports.ensures.id, c.in_ok-symbols.ensures.id, c.from.ensures, c.in_ok-push.ensures.items) at whole in
     on_ok_weaker c.frame.result (framed_at 13 c.len-place.result old (imports ++ symbols (drop c.args.first names)) c.put_texts.new.out.items

@@ -1,11 +1,11 @@
 -- What an octet of a scalar's body or of a pad leaves stands for the octets.
-use Rattle.std.proofs.Common.{◌≡◌, ℕ, zero, suc, List, [], ◌∷◌, ◌++◌, length, refl, ap, sym, ◌∙◌, subst, arith, length-append, append_assoc}
-use Rattle.ion_binary.specs.Names.{Catalog, Decides, Form, Frame, Header, Limits, Scalar, Spot, Value, bad_body, bare, deliver, is_scalar, length-one, on_body, on_pad, proceed, skipped, under}
+use Rattle.std.proofs.Common.{◌≡◌, ℕ, zero, suc, List, [], ◌∷◌, ◌++◌, length, refl, ap, ◌∙◌, arith, length-append, append_assoc}
+use Rattle.ion_binary.specs.Names.{Catalog, Form, Frame, Limits, Scalar, Spot, Value, bad_body, bare, is_scalar, length-one, on_body, on_pad, skipped, under}
 use Rattle.ion_binary.specs.machine.AtOnce.{body_more, pad_more}
 use Rattle.ion_binary.specs.laws.reading.Complete.{header_some}
 use Rattle.ion_binary.specs.laws.reading.Judged.{judge_sound, scalar_flat}
 use Rattle.ion_binary.specs.laws.reading.Openings.{ends_inside, may_begin, may_reach, opened_open}
-use Rattle.ion_binary.specs.laws.reading.Stands.{BodyMayEnd, BodyStands, Leaves}
+use Rattle.ion_binary.specs.laws.reading.Stands.{BodyStands, Leaves}
 use Rattle.ion_binary.specs.laws.reading.sound.Bounds.{ends_back, judged_leaves, named_struct}
 use Rattle.ion_binary.specs.laws.reading.sound.Containers.{deliver_stands, length_3, plain_comes, regroup, shallow, skip_stands}
 
@@ -62,8 +62,7 @@ module _ (g : Catalog) (l : Limits) (spot : Spot) (s : List Value) (fs : List Fr
       let sp = opened_open g l spot.start spot.context s fs o.before o.outer
       (ends_inside l spot.start fs _ o.end (length o.before) o.room (omega arith)) in
       judged_leaves g l _ s spot fs _
-      (λ x j. subst (λ y. Decides g l y x) (append_assoc o.before o.header body ∙ sym whole)
-      (bad_body spot.context spot.start o.end sp.ks t (o.before ++ o.header) body x
+      (λ x j. rw (whole, ← append_assoc o.before o.header body) (bad_body spot.context spot.start o.end sp.ks t (o.before ++ o.header) body x
       (record {
         before = o.before;
         header = o.header;
@@ -78,13 +77,12 @@ module _ (g : Catalog) (l : Limits) (spot : Spot) (s : List Value) (fs : List Fr
       (omega arith) (omega arith) j)) (λ p j.
       let is = judge_sound spot.context t body p j in
       let flat = scalar_flat spot.context body t p is in
-      subst (λ y. Leaves g l y s (deliver (under g l) spot fs (bare p))) (sym whole)
-      (deliver_stands g l spot s fs o.before (o.header ++ body) (bare p) o.outer
-      (plain_comes spot.context fs _ _ (is_scalar o.header body t p (subst (λ n. Header (Form.Scalar t) n o.header) full o.head) is))
-      (e ∙ ap length whole) (omega arith) (ends_back l spot.start fs _ spot.used refl
-      (subst (BodyMayEnd l spot.start fs (Form.Scalar t)) here o.room)) o.admits.receives (named_struct fs _ refl o.admits.named)))
+      rw whole (deliver_stands g l spot s fs o.before (o.header ++ body) (bare p) o.outer
+      (plain_comes spot.context fs _ _ (is_scalar o.header body t p (rw full at o.head) is))
+      (e ∙ ap length whole) (omega arith) (ends_back l spot.start fs _ spot.used refl (rw here at o.room)) o.admits.receives
+      (named_struct fs _ refl o.admits.named)))
   body_stands t (suc n) came o =
-      subst (Leaves g l (u ++ b ∷ []) s) (sym (body_more g l spot fs t n came b)) (record { used = e; standing = goes_on (Form.Scalar t) n came o })
+      rw (body_more g l spot fs t n came b) (record { used = e; standing = goes_on (Form.Scalar t) n came o })
 
   -- what an octet of a pad leads to stands for the octets
   pub pad_stands : (n : ℕ) (came : List ℕ) → BodyStands g l spot.start spot.context s fs Form.Pad n came u
@@ -92,9 +90,7 @@ module _ (g : Catalog) (l : Limits) (spot : Spot) (s : List Value) (fs : List Fr
   pad_stands zero came o =
       let whole = whole_on Form.Pad 0 came o in
       let i = ends Form.Pad came o in
-      subst (λ y. Leaves g l y s (proceed (under g l) spot fs)) (sym whole)
-      (skip_stands g l spot s fs o.before (o.header ++ (came ++ b ∷ [])) o.outer o.accepts.0 o.accepts.1
-      (skipped o.header (came ++ b ∷ []) (subst (λ n. Header Form.Pad n o.header) i.full o.head))
-      (e ∙ ap length whole) (subst (BodyMayEnd l spot.start fs Form.Pad) i.here o.room))
+      rw whole (skip_stands g l spot s fs o.before (o.header ++ (came ++ b ∷ [])) o.outer o.accepts.0 o.accepts.1
+      (skipped o.header (came ++ b ∷ []) (rw i.full at o.head)) (e ∙ ap length whole) (rw i.here at o.room))
   pad_stands (suc n) came o =
-      subst (Leaves g l (u ++ b ∷ []) s) (sym (pad_more g l spot fs n)) (record { used = e; standing = (came ++ b ∷ [], goes_on Form.Pad n came o) })
+      rw (pad_more g l spot fs n) (record { used = e; standing = (came ++ b ∷ [], goes_on Form.Pad n came o) })

@@ -1,5 +1,5 @@
 -- A value or a pad that ends, and each container that ends with it, stands for its octets.
-use Rattle.std.proofs.Common.{◌≡◌, ℕ, ◌+◌, ◌≤◌, List, [], ◌∷◌, ◌++◌, length, Result, Ok, Err, Some, None, refl, ap, sym, ◌∙◌, subst, arith, length-append, true, append_assoc, eqb-true, ◌==◌}
+use Rattle.std.proofs.Common.{◌≡◌, ℕ, ◌+◌, ◌≤◌, List, [], ◌∷◌, ◌++◌, length, Result, Ok, Err, Some, None, refl, ap, sym, ◌∙◌, arith, length-append, true, append_assoc, eqb-true, ◌==◌}
 use Rattle.std.proofs.lemmas.Bool.{cond_both, eqb-false}
 use Rattle.ion_binary.specs.Names.{Binary, Catalog, Field, Fields, Form, Frame, Header, IsPad, Limits, ListOrSexp, Payload, Pieces, Plain, Reason, Slot, Spot, Value, annotated, bad_table, bare, deliver, depth, field_of, holds, is_listing, is_ordered, is_struct, is_table, levels, listed, nameless, next, one_field, one_more, padded, padded_field, proceed, skips, turned, turns, unannotated, under, wrapped, Purpose}
 use Rattle.ion_model.specs.declared.value.Payload.TheVariants as payloads
@@ -26,17 +26,17 @@ binary_comes c _ w v i h = h
 -- a whole struct
 struct_is : (c : List Slot) (form : Form) (n : ℕ) (h body : List ℕ) (ms : List Field) → IsStructOf form n → Header form n h → n ≡ length body → Fields c body ms
     → Plain c (h ++ body) (payloads.Fields ms)
-struct_is c Form.Struct n h body ms i d e b = is_struct h body ms (subst (λ n. Header Form.Struct n h) e d) b
-struct_is c Form.OrderedStruct n h body ms i d e b = is_ordered h body ms (subst (λ n. Header Form.OrderedStruct n h) e d) (omega arith) b
+struct_is c Form.Struct n h body ms i d e b = is_struct h body ms (rw e at d) b
+struct_is c Form.OrderedStruct n h body ms i d e b = is_ordered h body ms (rw e at d) (omega arith) b
 struct_is c _ n h body ms i d e b = absurd i
 
 -- three pieces, bracketed from the right
 pub regroup : (a b c d : List ℕ) → a ++ (b ++ c) ++ d ≡ a ++ (b ++ (c ++ d))
-regroup a b c d = append_assoc a (b ++ c) d ∙ ap (λ x. a ++ x) (append_assoc b c d)
+regroup a b c d = simp append_assoc
 
 -- three parts have as many octets as each has alone, together
 pub length_3 : (a b c : List ℕ) → length (a ++ (b ++ c)) ≡ length a + length b + length c
-length_3 a b c = let i = length-append a (b ++ c) in let j = length-append b c in omega arith
+length_3 a b c = omega (arith, length-append a (b ++ c), length-append b c)
 
 module _ (g : Catalog) (l : Limits) where
   table_stands : (spot : Spot) (s : List Value) (u w : List ℕ) (v : Value) → Pieces g l u s spot.context → Binary spot.context w v → is_table v ≡ true
@@ -68,13 +68,10 @@ module _ (g : Catalog) (l : Limits) where
       (λ h.
       let here : spot.used ≡ end = eqb-true spot.used end h in
       let full : o.box.n ≡ length o.body = omega arith in
-      let outside : u ≡ o.box.before ++ (o.box.header ++ o.body) =
-      o.whole ∙ (ap (λ y. y ++ o.body) o.box.whole ∙ append_assoc o.box.before o.box.header o.body) in
-      subst (λ y. Leaves g l y s (deliver (under g l) spot fs (bare (listed x vs)))) (sym outside)
-      (k o.box.before (o.box.header ++ o.body) (bare (listed x vs)) o.box.outer
-      (plain_comes spot.context fs _ _ (is_listing o.box.header o.body x vs (subst (λ n. Header (Form.ListOrSexp x) n o.box.header) full o.box.head) o.items))
-      (e ∙ ap length outside) (omega arith) (ends_back l spot.start fs (Form.ListOrSexp x) spot.used refl
-      (subst (BodyMayEnd l spot.start fs (Form.ListOrSexp x)) (sym here) o.box.room)) o.box.admits.receives
+      let outside = rw (o.box.whole, append_assoc o.box.before) at o.whole in
+      rw outside (k o.box.before (o.box.header ++ o.body) (bare (listed x vs)) o.box.outer
+      (plain_comes spot.context fs _ _ (is_listing o.box.header o.body x vs (rw full at o.box.head) o.items))
+      (e ∙ ap length outside) (omega arith) (ends_back l spot.start fs (Form.ListOrSexp x) spot.used refl (rw here o.box.room)) o.box.admits.receives
       (named_struct fs (Form.ListOrSexp x) refl o.box.admits.named)))
       (λ h. let apart = eqb-false spot.used end h in let in_it = o.within in
       record { used = e; standing = record { opened = o; receives = tt; more = omega arith } })
@@ -94,13 +91,11 @@ module _ (g : Catalog) (l : Limits) where
       (λ h.
       let here : spot.used ≡ end = eqb-true spot.used end h in
       let full : o.box.n ≡ length o.body = omega arith in
-      let outside : u ≡ o.box.before ++ (o.box.header ++ o.body) =
-      o.whole ∙ (ap (λ y. y ++ o.body) o.box.whole ∙ append_assoc o.box.before o.box.header o.body) in
-      subst (λ y. Leaves g l y s (deliver (under g l) spot fs (bare (payloads.Fields ms)))) (sym outside)
-      (k o.box.before (o.box.header ++ o.body) (bare (payloads.Fields ms)) o.box.outer
+      let outside = rw (o.box.whole, append_assoc o.box.before) at o.whole in
+      rw outside (k o.box.before (o.box.header ++ o.body) (bare (payloads.Fields ms)) o.box.outer
       (plain_comes spot.context fs _ _ (struct_is spot.context o.form o.box.n o.box.header o.body ms o.kind o.box.head full o.items))
-      (e ∙ ap length outside) (omega arith) (ends_back l spot.start fs o.form spot.used (struct_sized o.form o.box.n o.kind)
-      (subst (BodyMayEnd l spot.start fs o.form) (sym here) o.box.room)) o.box.admits.receives
+      (e ∙ ap length outside) (omega arith)
+      (ends_back l spot.start fs o.form spot.used (struct_sized o.form o.box.n o.kind) (rw here o.box.room)) o.box.admits.receives
       (named_struct fs o.form (struct_sized o.form o.box.n o.kind) o.box.admits.named)))
       (λ h. let apart = eqb-false spot.used end h in record {
         used = e;
@@ -122,26 +117,22 @@ module _ (g : Catalog) (l : Limits) where
   deliver_stands spot s (frames.Fields end ms ∷ fs) u w v o b e d r rc nm = absurd rc
   deliver_stands spot s (frames.Annotated end ss ∷ fs) u w v o b e d r rc nm =
       let whole : u ++ w ≡ o.front ++ (o.count ++ (o.ids ++ w)) = ap (λ y. y ++ w) o.whole ∙ regroup o.front o.count o.ids w in
-      let outside : u ++ w ≡ o.box.before ++ (o.box.header ++ (o.count ++ (o.ids ++ w))) =
-      whole ∙ (ap (λ y. y ++ (o.count ++ (o.ids ++ w))) o.box.whole ∙ append_assoc o.box.before o.box.header (o.count ++ (o.ids ++ w))) in
+      let outside = rw (o.box.whole, append_assoc o.box.before) at whole in
       let k1 = ap length whole in
       let k2 = length-append o.front (o.count ++ (o.ids ++ w)) in
       let ends = o.box.ends in
       let da : depth (annotated ss v.payload) ≡ depth v = depth-out (annotated ss v.payload) ∙ sym (depth-out v) in
       let full : o.box.n ≡ length (o.count ++ (o.ids ++ w)) = omega arith in
-      subst (λ y. Leaves g l y s (deliver (under g l) spot fs (annotated ss v.payload))) (sym outside)
-      (deliver_stands spot s fs o.box.before (o.box.header ++ (o.count ++ (o.ids ++ w))) (annotated ss v.payload) o.box.outer
-      (binary_comes spot.context fs _ _ o.bare (wrapped o.box.header o.count o.ids w ss v.payload
-      (subst (λ n. Header Form.Wrapper n o.box.header) full o.box.head) o.number o.some o.symbols b))
-      (e ∙ ap length outside) (omega arith) (ends_back l spot.start fs Form.Wrapper spot.used refl
-      (subst (BodyMayEnd l spot.start fs Form.Wrapper) (sym r) o.box.room)) o.box.admits.receives (named_struct fs Form.Wrapper refl o.box.admits.named))
+      rw outside (deliver_stands spot s fs o.box.before (o.box.header ++ (o.count ++ (o.ids ++ w))) (annotated ss v.payload) o.box.outer
+      (binary_comes spot.context fs _ _ o.bare (wrapped o.box.header o.count o.ids w ss v.payload (rw full at o.box.head) o.number o.some o.symbols b))
+      (e ∙ ap length outside) (omega arith) (ends_back l spot.start fs Form.Wrapper spot.used refl (rw r o.box.room)) o.box.admits.receives
+      (named_struct fs Form.Wrapper refl o.box.admits.named))
   deliver_stands spot s (frames.Named end ms (Err x) ∷ fs) u w v o b e d r rc nm = absurd (let q : Some x ≡ None = nm in cc)
   deliver_stands spot s (frames.Named end ms (Ok n) ∷ fs) u w v o b e d r rc nm =
       let i = o.inside in
       let m = field_deepest-more ms (field_of n v) in
       let deep = i.deep in
-      let whole : u ++ w ≡ i.front ++ (i.body ++ (o.id ++ w)) =
-      ap (λ y. y ++ w) o.whole ∙ (append_assoc o.front o.id w ∙ (ap (λ y. y ++ (o.id ++ w)) i.whole ∙ append_assoc i.front i.body (o.id ++ w))) in
+      let whole : u ++ w ≡ i.front ++ (i.body ++ (o.id ++ w)) = rw (o.whole, append_assoc o.front, i.whole, append_assoc i.front) refl in
       fields_stand spot s fs _ end _ (deliver_stands spot s fs)
       (record {
         front = i.front;
@@ -158,16 +149,9 @@ module _ (g : Catalog) (l : Limits) where
       let m = deepest-more vs v in
       let deep = o.deep in
       let whole : u ++ w ≡ o.front ++ (o.body ++ w) = ap (λ y. y ++ w) o.whole ∙ append_assoc o.front o.body w in
+      let items = one_more o.body w vs v o.items b in
       items_stand spot s fs (u ++ w) end x (vs ++ v ∷ []) (deliver_stands spot s fs)
-      (record {
-        front = o.front;
-        body = o.body ++ w;
-        whole = whole;
-        box = o.box;
-        items = one_more o.body w vs v o.items b;
-        deep = omega arith;
-        within = omega arith;
-      }) e
+      (record { front = o.front; body = o.body ++ w; whole = whole; box = o.box; items = items; deep = omega arith; within = omega arith }) e
 
   -- a pad ends here
   pub skip_stands : (spot : Spot) (s : List Value) (fs : List Frame) (u w : List ℕ) → Opened g l spot.start spot.context s fs u → Receives fs → IsBare fs
@@ -183,8 +167,7 @@ module _ (g : Catalog) (l : Limits) where
       (record { front = o.front; body = o.body ++ w; whole = whole; box = o.box; items = padded o.body w vs o.items b; deep = deep; within = omega arith }) e
   skip_stands spot s (frames.Named end ms name ∷ fs) u w o j y b e r =
       let i = o.inside in
-      let whole : u ++ w ≡ i.front ++ (i.body ++ (o.id ++ w)) =
-      ap (λ y. y ++ w) o.whole ∙ (append_assoc o.front o.id w ∙ (ap (λ y. y ++ (o.id ++ w)) i.whole ∙ append_assoc i.front i.body (o.id ++ w))) in
+      let whole : u ++ w ≡ i.front ++ (i.body ++ (o.id ++ w)) = rw (o.whole, append_assoc o.front, i.whole, append_assoc i.front) refl in
       fields_stand spot s fs _ end ms (deliver_stands spot s fs)
       (record {
         front = i.front;

@@ -1,16 +1,16 @@
 -- What a descriptor leaves stands for the octets, and so does what the end of a header begins.
 use Rattle.std.proofs.Common.{◌≡◌, ℕ, zero, suc, ◌+◌, ◌≤◌, List, [], ◌∷◌, ◌++◌, length, Some, None, refl, ap, sym, ◌∙◌, subst, inr, arith, length-append, false, append-nil, ltb-true, ltb-false, nat_lt}
 use Rattle.std.proofs.lemmas.Bool.{cond_both}
-use Rattle.ion_binary.specs.Names.{Catalog, Decides, Depth, Follows, Form, Frame, Header, IsPad, Known, Limits, Malformed, Marker, Null, Opening, Payload, Plain, Purpose, Reason, Refused, Sized, Slot, Spot, Truth, Value, a_null, a_truth, bad_empty_body, bare, begin, by_descriptor, deliver, depth, hollow, is_null, is_scalar, is_truth, judge, length-one, levels, misfits, nameless, no_descriptor, no_fields, nothing, on_descriptor, one_octet, open_struct, opening_of, or_else, short, sized, skipped, stray, under, unending, unfit}
+use Rattle.ion_binary.specs.Names.{Catalog, Decides, Depth, Follows, Form, Frame, Header, Known, Limits, Malformed, Marker, Null, Opening, Payload, Plain, Purpose, Reason, Refused, Sized, Slot, Spot, Truth, Value, a_null, a_truth, bad_empty_body, bare, begin, by_descriptor, deliver, depth, hollow, is_null, is_scalar, is_truth, judge, length-one, levels, misfits, nameless, no_descriptor, no_fields, nothing, on_descriptor, one_octet, open_struct, opening_of, or_else, short, sized, skipped, stray, under, unending, unfit}
 use Rattle.ion_model.specs.declared.value.Payload.TheVariants as payloads
 use Rattle.ion_model.specs.laws.Measures.{depth-Null, depth-Truth}
 use Rattle.ion_binary.specs.Deciding as deciding
 use Rattle.ion_binary.specs.machine.Frames as frames
-use Rattle.ion_binary.specs.laws.reading.Complete.{begin_ordered, begin_pad, begin_scalar, begin_wrapper}
+use Rattle.ion_binary.specs.laws.reading.Complete.{begin_pad, begin_scalar}
 use Rattle.ion_binary.specs.laws.reading.Judged.{judge_sound, scalar_flat}
 use Rattle.ion_binary.specs.laws.reading.Openings.{opened_open, takes}
 use Rattle.ion_binary.specs.laws.reading.RefusedRows.{HeaderEnds, deep_row, follows_name, follows_stray, hollow_row, marker_row, one_row, short_row, unending_row}
-use Rattle.ion_binary.specs.laws.reading.Stands.{Accepts, AwaitsDescriptor, BodyMayEnd, BodyStands, Box, Fitting, Going, Inside, IsStructOf, Leaves, Opened, Receives}
+use Rattle.ion_binary.specs.laws.reading.Stands.{Accepts, AwaitsDescriptor, BodyMayEnd, BodyStands, Box, Fitting, Inside, IsStructOf, Leaves, Opened, Receives}
 use Rattle.ion_binary.specs.laws.reading.sound.Bounds.{ends_back, judged_leaves, misfits_ends, named_struct, number_awaited, or_none, stray_accepts, unending_going, unless_leaves}
 use Rattle.ion_binary.specs.laws.reading.sound.Containers.{deliver_stands, fields_stand, items_stand, plain_comes, shallow, skip_stands}
 use Rattle.ion_binary.specs.laws.reading.sound.Markers.{marker_is}
@@ -66,11 +66,10 @@ module _ (g : Catalog) (l : Limits) where
       → HeaderEnds g l spot.context spot.start fs form n (u ++ h) → hollow form n ≡ None
       → Leaves g l (u ++ h) s (begin (under g l) spot fs form n)
   begin_stands spot s fs u h Form.Pad zero o a d e r ad hr h0 =
-      skip_stands g l spot s fs u h o a.0 a.1 (subst IsPad (append-nil h) (skipped h [] d)) e (subst (BodyMayEnd l spot.start fs Form.Pad) (omega arith) r)
+      skip_stands g l spot s fs u h o a.0 a.1 (rw (append-nil h) at (skipped h [] d)) e (subst (BodyMayEnd l spot.start fs Form.Pad) (omega arith) r)
   begin_stands spot s fs u h Form.Pad (suc n) o a d e r ad hr h0 =
       let k = length-append u h in
-      subst (Leaves g l (u ++ h) s) (sym (begin_pad g l spot fs n))
-      (record {
+      rw (begin_pad g l spot fs n) (record {
         used = e;
         standing = ([], awaits_body spot.start spot.context s fs u h Form.Pad n (spot.used + suc n) o a ad d (omega arith) r);
       })
@@ -79,14 +78,12 @@ module _ (g : Catalog) (l : Limits) where
       judged_leaves g l (u ++ h) s spot fs (judge spot.context t []) (λ x j. bad_empty_body spot.context spot.start hr.ks t (u ++ h) x hr.ends j) (λ p j.
       let is = judge_sound spot.context t [] p j in
       let flat = scalar_flat spot.context [] t p is in
-      deliver_stands g l spot s fs u h (bare p) o (plain_comes spot.context fs h p (subst (λ x. Plain spot.context x p) (append-nil h)
-      (is_scalar h [] t p d is))) e (omega arith)
+      deliver_stands g l spot s fs u h (bare p) o (plain_comes spot.context fs h p (rw (append-nil h) at (is_scalar h [] t p d is))) e (omega arith)
       (ends_back l spot.start fs (Form.Scalar t) spot.used refl (subst (BodyMayEnd l spot.start fs (Form.Scalar t)) (omega arith) r)) ad.receives
       (named_struct fs (Form.Scalar t) refl ad.named))
   begin_stands spot s fs u h (Form.Scalar t) (suc n) o a d e r ad hr h0 =
       let k = length-append u h in
-      subst (Leaves g l (u ++ h) s) (sym (begin_scalar g l spot fs t n))
-      (record {
+      rw (begin_scalar g l spot fs t n) (record {
         used = e;
         standing = awaits_body spot.start spot.context s fs u h (Form.Scalar t) n (spot.used + suc n) o a ad d (omega arith) r;
       })
@@ -105,20 +102,14 @@ module _ (g : Catalog) (l : Limits) where
       (λ j. deep_row g l spot.context spot.start fs _ n _ hr tt (ltb-false (levels fs) l.depth j))
   begin_stands spot s fs u h Form.Struct n o a d e r ad hr h0 =
       struct_begins spot s fs u h Form.Struct n tt o d e r ad (λ j. deep_row g l spot.context spot.start fs Form.Struct n (u ++ h) hr tt j)
-  begin_stands spot s fs u h Form.OrderedStruct (suc n) o a d e r ad hr h0 = subst (Leaves g l (u ++ h) s) (sym (begin_ordered g l spot fs (suc n)))
-      (struct_begins spot s fs u h Form.OrderedStruct _ (omega arith) o d e r ad (λ j. deep_row g l spot.context spot.start fs Form.OrderedStruct _ _ hr tt j))
+  begin_stands spot s fs u h Form.OrderedStruct (suc n) o a d e r ad hr h0 =
+      struct_begins spot s fs u h Form.OrderedStruct _ (omega arith) o d e r ad (λ j. deep_row g l spot.context spot.start fs Form.OrderedStruct _ _ hr tt j)
   begin_stands spot s fs u h Form.Wrapper (suc n) o a d e r ad hr h0 =
-      subst (Leaves g l (u ++ h) s) (sym (begin_wrapper g l spot fs (suc n)))
-      (record {
+      let box = boxed spot.start spot.context s fs u h Form.Wrapper (suc n) (spot.used + suc n) o d (omega arith) r ad in record {
         used = e;
         standing = number_awaited g l spot.start spot.context s (frames.Annotated (spot.used + suc n) [] ∷ fs) Purpose.AnnotationsLength (u ++ h)
-            (record {
-              box = boxed spot.start spot.context s fs u h Form.Wrapper (suc n) (spot.used + suc n) o d (omega arith) r ad;
-              bare = a;
-              none_yet = refl;
-            })
-            (omega arith);
-      })
+            (record { box = box; bare = a; none_yet = refl }) (omega arith);
+      }
   begin_stands spot s fs u h _ _ o a d e r ad hr h0 = let q : Some Malformed ≡ None = h0 in absurd cc
 
   -- what a whole header leads to stands for the octets
@@ -205,5 +196,5 @@ module _ (g : Catalog) (l : Limits) where
               more = o.more;
               head = i;
             })
-            (subst (Going l spot.start fs form) e (unending_going l spot.start fs form spot.used j2));
+            (rw e at (unending_going l spot.start fs form spot.used j2));
       })))

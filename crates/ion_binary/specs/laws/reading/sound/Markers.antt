@@ -1,7 +1,7 @@
 -- What an octet of a version marker leaves stands for the octets.
-use Rattle.std.proofs.Common.{◌≡◌, ℕ, ◌/◌, ◌%◌, List, [], ◌∷◌, ◌++◌, length, Result, Ok, Err, refl, ap, sym, ◌∙◌, subst, subst₂, inl, inr, arith, Bool, true, false, ◌&&◌, ◌||◌, cond, append_assoc, eqb-true, eq-eqb, ◌==◌}
+use Rattle.std.proofs.Common.{◌≡◌, ℕ, ◌/◌, ◌%◌, List, [], ◌∷◌, ◌++◌, length, Result, Ok, Err, refl, ap, sym, ◌∙◌, inl, inr, arith, Bool, true, false, ◌&&◌, ◌||◌, cond, append_assoc, eqb-true, eq-eqb, ◌==◌}
 use Rattle.std.proofs.lemmas.Bool.{and_parts, cond_both, eqb-false}
-use Rattle.ion_binary.specs.Names.{Catalog, Decides, Descriptor, First, Float, Fourth, Frame, Limits, Malformed, Mark, Marker, Opening, Pieces, Ready, Reason, Second, Slot, Spot, Third, Value, Version, anew, at, begins, descriptor_of, goes, kind, marked, no_marker, on_marker, opening_of, opens, other_marker, other_version, refuses, size, system_slots, the_marker, typed}
+use Rattle.ion_binary.specs.Names.{Catalog, Descriptor, First, Float, Fourth, Frame, Limits, Malformed, Mark, Marker, Opening, Pieces, Ready, Reason, Second, Slot, Spot, Third, Value, Version, anew, at, begins, descriptor_of, goes, kind, marked, no_marker, on_marker, opening_of, opens, other_marker, other_version, refuses, size, system_slots, the_marker, typed}
 use Rattle.ion_symtab.specs.laws.Reasons.{either}
 use Rattle.ion_binary.specs.Deciding as deciding
 use Rattle.ion_binary.specs.laws.reading.OnlyReasons.{body_all}
@@ -60,10 +60,10 @@ module _ (g : Catalog) (l : Limits) where
   marked_stands : (to : ℕ) (c : List Slot) (s : List Value) (fs : List Frame) (u v : List ℕ) (start : ℕ) → fs ≡ [] → Front g l start c s u → v ≡ u ++ the_marker
       → to ≡ length v → MachineStands g l v s (at (anew to system_slots) fs Ready)
   marked_stands to c s fs u v start i (inl h) e k =
-      let d : Pieces g l v s system_slots = subst₂ (λ x y. Pieces g l x y system_slots) (sym (e ∙ ap (λ x. x ++ the_marker) h.0)) (sym h.1) begins in
+      let d : Pieces g l v s system_slots = rw (e, h.0, h.1) begins in
       rw i (record { used = k; standing = record { opened = (d, sym k); receives = tt; more = tt } })
   marked_stands to c s fs u v start i (inr h) e k =
-      let d : Pieces g l v s system_slots = subst (λ x. Pieces g l x s system_slots) (sym e) (marked u s c h.0) in
+      let d : Pieces g l v s system_slots = rw e (marked u s c h.0) in
       rw i (record { used = k; standing = record { opened = (d, sym k); receives = tt; more = tt } })
 
   front_is : (start : ℕ) (c : List Slot) (s : List Value) (u : List ℕ) → Front g l start c s u → deciding.IsFront g l u
@@ -76,12 +76,10 @@ module _ (g : Catalog) (l : Limits) where
       → Leaves g l u s (cond good (goes (at (anew spot.used system_slots) fs Ready)) (refuses Version))
   ended_marker spot s fs u front x y b true whole f top is last e =
       let p = and_parts (x == 1) (y == 0) (sym is) in
-      let octets : 224 ∷ x ∷ y ∷ b ∷ [] ≡ the_marker = λ i. 224 ∷ eqb-true x 1 p.0 i ∷ eqb-true y 0 p.1 i ∷ last i ∷ [] in
-      marked_stands spot.used spot.context s fs front u spot.start top f (whole ∙ ap (λ w. front ++ w) octets) e
+      marked_stands spot.used spot.context s fs front u spot.start top f (rw (eqb-true x 1 p.0, eqb-true y 0 p.1, last) at whole) e
   ended_marker spot s fs u front x y b false whole f top is last e =
-      subst (λ w. Decides g l w Version) (sym (whole ∙ ap (λ o. front ++ (224 ∷ x ∷ y ∷ o ∷ [])) last))
-      (other_version front x y (front_is spot.start spot.context s front f) (λ q.
-      let z : false ≡ true = is ∙ (ap (λ t. (true && t) && (y == 0)) (eq-eqb x 1 q.0) ∙ eq-eqb y 0 q.1) in cc))
+      rw (whole, last) (other_version front x y (front_is spot.start spot.context s front f)
+      (λ q. let z : false ≡ true = rw (eq-eqb x 1 q.0, eq-eqb y 0 q.1) at is in cc))
 
   -- what an octet of a version marker leads to stands for the octets
   pub marker_stands : (spot : Spot) (s : List Value) (fs : List Frame) (u : List ℕ) (b : ℕ) (m : Mark) (good : Bool)
@@ -94,8 +92,7 @@ module _ (g : Catalog) (l : Limits) where
             (ap (λ x. x ++ b ∷ []) o.octets.0 ∙ ap (λ x. x ∷ []) (eqb-true b 224 h), o.octets.1) tt;
       })
       (λ h.
-      let nothing : u ≡ [] = o.whole ∙ (ap (λ x. x ++ o.came) o.first ∙ o.octets.0) in
-      subst (λ x. Decides g l (x ++ b ∷ []) Malformed) (sym nothing) (no_marker b (λ q. let z = eqb-false b 224 h in absurd (z q))))
+      let nothing : u ≡ [] = rw (o.first, o.octets.0) at o.whole in rw nothing (no_marker b (λ q. let z = eqb-false b 224 h in absurd (z q))))
   marker_stands spot s fs u b Second good o e = record {
     used = e;
     standing = goes_on spot.start spot.context s fs u b Second Third good _ o
@@ -109,9 +106,7 @@ module _ (g : Catalog) (l : Limits) where
   marker_stands spot s fs u b Fourth good o e =
       let x = o.octets.0 in
       let y = o.octets.1 in
-      let whole : u ++ b ∷ [] ≡ o.before ++ (224 ∷ x ∷ y ∷ b ∷ []) =
-      ap (λ w. w ++ b ∷ []) o.whole ∙ (append_assoc o.before o.came (b ∷ []) ∙ ap (λ w. o.before ++ (w ++ b ∷ [])) o.octets.2) in
+      let whole : u ++ b ∷ [] ≡ o.before ++ (224 ∷ x ∷ y ∷ b ∷ []) = rw (o.whole, append_assoc o.before, o.octets.2) refl in
       cond_both (b == 234) _ _ (Leaves g l (u ++ b ∷ []) s)
       (λ h. ended_marker spot s fs (u ++ b ∷ []) o.before x y b good whole o.front o.top o.octets.3 (eqb-true b 234 h) e)
-      (λ h. subst (λ w. Decides g l w Malformed) (sym whole) (other_marker o.before x y b (front_is spot.start spot.context s o.before o.front)
-      (λ q. let z = eqb-false b 234 h in absurd (z q))))
+      (λ h. rw whole (other_marker o.before x y b (front_is spot.start spot.context s o.before o.front) (λ q. let z = eqb-false b 234 h in absurd (z q))))

@@ -1,12 +1,12 @@
 -- What an octet of a VarUInt leaves stands for the octets: of a length, a field's name, or annotations.
-use Rattle.std.proofs.Common.{◌≡◌, ℕ, ◌+◌, ◌-◌, ◌*◌, ◌^◌, ◌<◌, ◌≤◌, List, [], ◌∷◌, ◌++◌, length, Result, Ok, Err, Option, refl, ap, sym, ◌∙◌, subst, arith, length-append, append_assoc, append-nil, ltb-true, ltb-false, eqb-true, nat_lt, ◌==◌}
+use Rattle.std.proofs.Common.{◌≡◌, ℕ, ◌+◌, ◌-◌, ◌*◌, ◌^◌, ◌<◌, ◌≤◌, List, [], ◌∷◌, ◌++◌, length, Result, Ok, Err, Option, refl, ap, sym, ◌∙◌, arith, length-append, append_assoc, append-nil, ltb-true, ltb-false, eqb-true, nat_lt, ◌==◌}
 use Rattle.std.proofs.lemmas.Bool.{cond_both, eqb-false, cond-true, cond-false, lt-leb, le-leb}
-use Rattle.ion_binary.specs.Names.{Catalog, Digits128, EndsNumber, Frame, Ids, Limits, Purpose, Reason, Spot, Value, VarUInt, annotation_came, at, length-one, long, longer, more, no_ids, number_came, on_number, one_id, past, positional, positional_push, resolve, seven_bits, sized, under}
+use Rattle.ion_binary.specs.Names.{Catalog, Digits128, EndsNumber, Frame, Ids, Limits, Purpose, Reason, Spot, Value, VarUInt, annotation_came, at, length-one, long, longer, more, no_ids, number_came, on_number, one_id, past, positional, positional_push, resolve, seven_bits, under}
 use Rattle.ion_binary.specs.Deciding as deciding
 use Rattle.ion_binary.specs.machine.Frames as frames
 use Rattle.ion_binary.specs.laws.reading.Openings.{Numbered, numbered}
-use Rattle.ion_binary.specs.laws.reading.RefusedRows.{HeaderEnds, annotation_row, count_row, header_here, long_row, none_row, number_row, value_row}
-use Rattle.ion_binary.specs.laws.reading.Stands.{Leaves, MachineStands, NumberGoing, NumberStands}
+use Rattle.ion_binary.specs.laws.reading.RefusedRows.{annotation_row, count_row, header_here, long_row, none_row, number_row, value_row}
+use Rattle.ion_binary.specs.laws.reading.Stands.{Leaves, MachineStands, NumberStands}
 use Rattle.ion_binary.specs.laws.reading.sound.Bounds.{number_awaited, past_going, unless_leaves}
 use Rattle.ion_binary.specs.laws.reading.sound.Containers.{length_3, regroup}
 use Rattle.ion_binary.specs.laws.reading.sound.Headers.{sized_stands}
@@ -44,7 +44,7 @@ module _ (g : Catalog) (l : Limits) (spot : Spot) (s : List Value) (u : List ℕ
           small = more o.digits b o.small h;
           value = let v = o.value in let i = positional_push 128 o.digits b in omega arith;
           bound = bound;
-          going = subst (NumberGoing l spot.start fs p) e (past_going l spot.start fs p spot.used j);
+          going = rw e at (past_going l spot.start fs p spot.used j);
         };
       })
 
@@ -54,12 +54,9 @@ module _ (g : Catalog) (l : Limits) (spot : Spot) (s : List Value) (u : List ℕ
       → VarUInt (o.digits ++ b ∷ []) n → Leaves g l (u ++ b ∷ []) s (number_came (under g l) spot fs p n)
   came_stands fs (Purpose.Length form) a n o w en v =
       let i = o.begins in
-      let whole : u ++ b ∷ [] ≡ i.before ++ (i.b ∷ (o.digits ++ b ∷ [])) =
-      number_on fs (Purpose.Length form) a o ∙ (ap (λ x. x ++ (o.digits ++ b ∷ [])) i.whole ∙ append_assoc i.before (i.b ∷ []) (o.digits ++ b ∷ [])) in
-      let here = subst (HeaderEnds g l spot.context spot.start fs form n) whole
-      (header_here g l spot.context spot.start w.ks w.q fs form n (u ++ b ∷ []) w.frames' w.same en) in
-      subst (λ y. Leaves g l y s (sized (under g l) spot fs form n)) (sym whole)
-      (sized_stands g l spot s fs i.before (i.b ∷ (o.digits ++ b ∷ [])) form n i.outer (λ k. i.accepts) (long i.b (o.digits ++ b ∷ []) i.head v)
+      let whole = rw (i.whole, append_assoc i.before) at (number_on fs (Purpose.Length form) a o) in
+      let here = rw whole at (header_here g l spot.context spot.start w.ks w.q fs form n (u ++ b ∷ []) w.frames' w.same en) in
+      rw whole (sized_stands g l spot s fs i.before (i.b ∷ (o.digits ++ b ∷ [])) form n i.outer (λ k. i.accepts) (long i.b (o.digits ++ b ∷ []) i.head v)
       (e ∙ ap length whole) i.admits.receives here (long_row g l spot.context spot.start fs form n _ here i.admits.fitting i.admits.named))
   came_stands (frames.Fields end ms ∷ fs) Purpose.FieldName a n o w en v =
       cond_both (nat_lt spot.used end) _ _ (Leaves g l (u ++ b ∷ []) s)
@@ -109,7 +106,7 @@ module _ (g : Catalog) (l : Limits) (spot : Spot) (s : List Value) (u : List ℕ
               number = v;
               some = omega arith;
               stops = omega arith;
-              symbols = subst (Ids spot.context []) (sym o.begins.none_yet) no_ids;
+              symbols = rw o.begins.none_yet no_ids;
               room = room;
             })
             (omega arith);
@@ -152,7 +149,7 @@ module _ (g : Catalog) (l : Limits) (spot : Spot) (s : List Value) (u : List ℕ
                 whole = whole;
                 box = i.box;
                 bare = i.bare;
-                number = subst (VarUInt i.count) full i.number;
+                number = rw full at i.number;
                 some = omega arith;
                 symbols = symbols;
                 within = omega arith;

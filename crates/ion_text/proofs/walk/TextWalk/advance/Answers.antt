@@ -86,7 +86,7 @@ returns-in-Err-clause-does g c = λ fs ss holds other.
     let m = c.loop-i.self in
     let h = c.loop-i.invariant in
     let x = h.ran fs ss holds in
-    let same = c.within_piece.ensures.other other in
+    let same = c.with_memory_at.ensures.other other in
     led_refused g.V.Visitor.takes first m c.args.piece.now c.loop-i.i fs ss c.args.visitor.now c.loop-i.visitor x
     (ap (λ (b : _). b.now) h.setting.catalog) h.setting.limits h.used
     (record { offset = c.read_piece.new.refused; reason = c.in-Err.reason }) c.loop-i-test.true
@@ -165,3 +165,15 @@ returns-in-Ok-Leaves-clause-next g c =
     let on = c.in-Ok-Leaves.ensures.on in
     let all : i + k ≡ c.gone-used.result = omega (arith, c.loop-i.invariant.used, c.gone-used.ensures, c.used-before.ensures) in
     (drop (suc c.gone-used.result) piece, drop-cons piece c.gone-used.result 0 (omega (arith, size, within, all)))
+
+pub returns-in-Err-clause-decides : goal.returns-in-Err-clause-decides
+returns-in-Err-clause-decides g c = λ other.
+    let same = c.with_memory_at.ensures.other other in
+    let h = c.loop-i.invariant in
+    let i = c.loop-i.i in
+    let piece = c.args.piece.now in
+    let within = c.in-Err.ensures.decides (λ e. other (ap (λ (q : Refusal). q.reason) same ∙ e)) in
+    let at = ap (λ (q : Refusal). q.offset) same in
+    let few = h.i in
+    let size : length (take (length piece - i) (drop i piece)) ≡ length piece - i = ap (λ (w : List ℕ). length w) (take_rest piece i) ∙ length-drop i piece in
+    (omega (arith, within.0, at, h.used), omega (arith, within.1, at, h.used, size))

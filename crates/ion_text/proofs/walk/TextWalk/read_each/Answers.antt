@@ -8,8 +8,8 @@ use Rattle.ion_text.proofs.walk.TextWalk.read_each.Goals as goal
 pub loop-taken-init : goal.loop-taken-init
 loop-taken-init g c = (strode_none g.V.Visitor.takes c.args.self.now c.args.rest.now c.args.octets.now c.args.visitor.now, settings_none c.args.self.now)
 
-pub read_next-requires : goal.read_next-requires
-read_next-requires g c =
+pub read_some-requires : goal.read_some-requires
+read_some-requires g c =
     let octets = c.args.octets.now in
     let at = c.loop-taken.at in
     let size : length (take (length octets - at) (drop at octets)) ≡ length octets - at =
@@ -24,16 +24,16 @@ loop-taken-preserved g c =
     let octets = c.args.octets.now in
     let at = c.loop-taken.at in
     let two = c.in_ok-taken.ensures in
-    let moved = c.read_next.new.rest.used - c.loop-taken.rest.used in
-    let y = subst (λ t. Ended g.V.Visitor.takes c.loop-taken.self c.read_next.new.self c.loop-taken.rest c.read_next.new.rest
-    (take (length octets - at) (drop at octets)) (moved, t) c.loop-taken.visitor c.read_next.new.visitor) c.in-Uses.is two.ended in
-    let now : at + moved ≡ c.read_next.new.rest.used - c.args.rest.now.used = omega (arith, c.loop-taken.invariant.0.used, y.used) in (
-      subst (λ (n : ℕ). Strode g.V.Visitor.takes c.args.self.now c.read_next.new.self c.args.rest.now c.read_next.new.rest octets n
-          c.args.visitor.now c.read_next.new.visitor) now
-          (strode_on g.V.Visitor.takes c.args.self.now c.loop-taken.self c.read_next.new.self c.args.rest.now c.loop-taken.rest c.read_next.new.rest octets
-          (take (length octets - at) (drop at octets)) at moved c.args.visitor.now c.loop-taken.visitor c.read_next.new.visitor (take_rest octets at)
+    let moved = c.read_some.new.rest.used - c.loop-taken.rest.used in
+    let y = subst (λ t. Ended g.V.Visitor.takes c.loop-taken.self c.read_some.new.self c.loop-taken.rest c.read_some.new.rest
+    (take (length octets - at) (drop at octets)) (moved, t) c.loop-taken.visitor c.read_some.new.visitor) c.in-Uses.is two.ended in
+    let now : at + moved ≡ c.read_some.new.rest.used - c.args.rest.now.used = omega (arith, c.loop-taken.invariant.0.used, y.used) in (
+      subst (λ (n : ℕ). Strode g.V.Visitor.takes c.args.self.now c.read_some.new.self c.args.rest.now c.read_some.new.rest octets n
+          c.args.visitor.now c.read_some.new.visitor) now
+          (strode_on g.V.Visitor.takes c.args.self.now c.loop-taken.self c.read_some.new.self c.args.rest.now c.loop-taken.rest c.read_some.new.rest octets
+          (take (length octets - at) (drop at octets)) at moved c.args.visitor.now c.loop-taken.visitor c.read_some.new.visitor (take_rest octets at)
           c.loop-taken.invariant.1 c.loop-taken.invariant.0 y),
-      settings_on c.args.self.now c.loop-taken.self c.read_next.new.self c.loop-taken.invariant.1 two.same,
+      settings_on c.args.self.now c.loop-taken.self c.read_some.new.self c.loop-taken.invariant.1 two.same,
     )
 
 pub loop-taken-smaller : goal.loop-taken-smaller
@@ -49,14 +49,14 @@ pub returns-then-now-at : goal.returns-then-now-at
 returns-then-now-at g c =
     let octets = c.args.octets.now in
     let at = c.loop-taken.at in
-    ends_on g.V.Visitor.takes c.args.self.now c.loop-taken.self c.read_next.new.self c.args.rest.now c.loop-taken.rest c.read_next.new.rest octets
-    (take (length octets - at) (drop at octets)) at c.args.visitor.now c.loop-taken.visitor c.read_next.new.visitor (take_rest octets at)
+    ends_on g.V.Visitor.takes c.args.self.now c.loop-taken.self c.read_some.new.self c.args.rest.now c.loop-taken.rest c.read_some.new.rest octets
+    (take (length octets - at) (drop at octets)) at c.args.visitor.now c.loop-taken.visitor c.read_some.new.visitor (take_rest octets at)
     c.loop-taken.invariant.1 c.loop-taken.invariant.0 (Ok c.in_ok-taken.taken) c.in_ok-taken.ensures
 
 pub returns-in_default : goal.returns-in_default
 returns-in_default g c =
     let octets = c.args.octets.now in
     let at = c.loop-taken.at in
-    ends_on g.V.Visitor.takes c.args.self.now c.loop-taken.self c.read_next.new.self c.args.rest.now c.loop-taken.rest c.read_next.new.rest octets
-    (take (length octets - at) (drop at octets)) at c.args.visitor.now c.loop-taken.visitor c.read_next.new.visitor (take_rest octets at)
+    ends_on g.V.Visitor.takes c.args.self.now c.loop-taken.self c.read_some.new.self c.args.rest.now c.loop-taken.rest c.read_some.new.rest octets
+    (take (length octets - at) (drop at octets)) at c.args.visitor.now c.loop-taken.visitor c.read_some.new.visitor (take_rest octets at)
     c.loop-taken.invariant.1 c.loop-taken.invariant.0 (Ok c.in_ok-taken.taken) c.in_ok-taken.ensures

@@ -50,3 +50,17 @@ read_while_waiting-requires-clause-waiting_run g c = λ fs ss.
     subst (λ (n : ℕ). MayWaitOver r.limits (reading_of r fs ss) (scanned r.scanner) n)
     (sym (length-take-le c.waiting_run-waiting_run.result c.args.piece.now c.waiting_run-waiting_run.ensures.within))
     (c.waiting_run-waiting_run.ensures.waiting_run c.if-waiting_run-gt0.true fs ss)
+
+pub returns-in-Err-clause-decides : goal.returns-in-Err-clause-decides
+returns-in-Err-clause-decides g c = λ other.
+    let within = c.in-Err.ensures.decides other in
+    let size = length-take-le c.run_to_token-run_to_token.result c.args.piece.now c.run_to_token-run_to_token.ensures.within in
+    (within.0, omega (arith, within.1, size, c.run_to_token-run_to_token.ensures.within))
+
+pub returns-in-Err-read_while_waiting-clause-decides : goal.returns-in-Err-read_while_waiting-clause-decides
+returns-in-Err-read_while_waiting-clause-decides g c = λ other. absurd (other c.in-Err-read_while_waiting.ensures.memory)
+
+pub returns-in-Err-read_octet-clause-decides : goal.returns-in-Err-read_octet-clause-decides
+returns-in-Err-read_octet-clause-decides g c = λ other.
+    let some = c.requires.some in
+    (omega (arith, c.used-offset.ensures), omega (arith, some, c.used-offset.ensures))

@@ -1,6 +1,7 @@
-use Rattle.std.proofs.Common.{◌≡◌, ◌-◌, ◌+◌, ◌<◌, ap, subst, arith, length, take, drop}
+use Rattle.std.proofs.Common.{◌≡◌, ◌≢◌, ◌≤◌, ◌-◌, ◌+◌, ◌<◌, ◌∙◌, List, ℕ, ap, subst, arith, length, length-drop, take, drop}
 use Rattle.std.proofs.lemmas.List.{take_rest}
-use Rattle.ion_text.specs.Names.{Known, Taken, TookSo, scanned}
+use Rattle.std.proofs.lemmas.Result.{IfErr-weaker}
+use Rattle.ion_text.specs.Names.{Known, Memory, Taken, TookSo, scanned}
 use Rattle.ion_text.specs.walk.Advances.{gone, with_offset}
 use Rattle.ion_text.proofs.Advancing.{both_took, left_reached, told_reached, with_offset_if}
 use Rattle.ion_text.proofs.walk.TextWalk.read_piece.Goals as goal
@@ -54,3 +55,20 @@ returns-in-Ok-Leaves-clause-took g c = λ fs ss h.
     left_reached g.V.Visitor.takes old new fs ss piece (gone old new) c.args.visitor.now c.read_tokens.new.visitor inside
     (subst (λ (t : Taken). TookSo g.V.Visitor.takes fs ss old new piece (gone old new) c.args.visitor.now c.read_tokens.new.visitor t)
     c.in-Ok-Leaves.field-0-is (c.in-Ok-Leaves.ensures.took fs ss h))
+
+pub returns-in-Ok-Uses-clause-decides : goal.returns-in-Ok-Uses-clause-decides
+returns-in-Ok-Uses-clause-decides g c =
+    let piece = c.args.piece.now in
+    let k = c.gone-count.result in
+    let begun : (scanned c.args.self.now.scanner).used ≡ c.in-Some.rest.used = ap (λ (x : Known). x.used) c.in-Some.ensures.rests in
+    let on = c.in-Ok-Uses.ensures.on in
+    let within = c.in-Ok-Uses.ensures.within in
+    let some = c.requires.some in
+    let used : (scanned c.read_tokens.new.self.scanner).used ≡ (scanned c.args.self.now.scanner).used + k = omega (arith, c.gone-count.ensures) in
+    let inside : k < length piece = omega (arith, c.gone-count.ensures) in
+    let size : length (take (length piece - k) (drop k piece)) ≡ length piece - k = ap (λ (w : List ℕ). length w) (take_rest piece k) ∙ length-drop k piece in
+    let mid = (scanned c.read_tokens.new.self.scanner).used in
+    let refused = c.read_front-in-Ok-Uses.new.refused in
+    IfErr-weaker c.read_front-in-Ok-Uses.result
+    (λ reason. reason ≢ Memory → (mid < refused) × (refused ≤ mid + length (take (length piece - k) (drop k piece)))) _
+    (λ reason decides other. let d = decides other in (omega (arith, d.0), omega (arith, d.1, size))) c.read_front-in-Ok-Uses.ensures.decides

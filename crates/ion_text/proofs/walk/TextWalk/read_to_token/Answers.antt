@@ -134,3 +134,21 @@ returns-in-Ok-Leaves-clause-within g c =
     left_within _ _ _ _ c.meet.new.self _ (c.in-Ok-default-Again.ensures.behind c.requires.fine) c.in-Ok-default-Again.ensures.used
     (ap comes_again c.in-Ok-default-Again.field-0-1-is) in
     inside
+
+pub returns-in-Err-clause-decides : goal.returns-in-Err-clause-decides
+returns-in-Err-clause-decides g c = c.in-Err.ensures.decides c.requires.fine c.requires.some
+
+pub returns-in-Err-read_octet-clause-decides : goal.returns-in-Err-read_octet-clause-decides
+returns-in-Err-read_octet-clause-decides g c = λ other.
+    let inside : c.in-Ok-default-Again.count < length c.args.piece.now =
+    left_within _ _ _ _ c.meet.new.self _ (c.in-Ok-default-Again.ensures.behind c.requires.fine) c.in-Ok-default-Again.ensures.used
+    (ap comes_again c.in-Ok-default-Again.field-0-1-is) in
+    (omega (arith, c.used-offset.ensures, c.in-Ok-default-Again.ensures.used), omega (arith, inside, c.used-offset.ensures, c.in-Ok-default-Again.ensures.used))
+
+pub returns-in-Ok-default-Late-clause-decides : goal.returns-in-Ok-default-Late-clause-decides
+returns-in-Ok-default-Late-clause-decides g c = λ other.
+    let inside : c.in-Ok-default-Late.count < length c.args.piece.now =
+    left_within _ _ _ _ c.meet.new.self _ (c.in-Ok-default-Late.ensures.behind c.requires.fine) c.in-Ok-default-Late.ensures.used
+    (ap comes_again c.in-Ok-default-Late.field-0-1-is) in
+    let at = c.used-offset-in-Ok-default-Late.ensures in
+    (omega (arith, at, c.in-Ok-default-Late.ensures.used), omega (arith, inside, at, c.in-Ok-default-Late.ensures.used))

@@ -194,13 +194,10 @@ module _ (g : Catalog) (l : Limits) where
   notes_read c p start fs _ _ here no_annotation = refl
   notes_read c p start fs _ _ here (one_annotation ts ss t colons said s d h i j) =
       let w = symbol_held t.lexeme.end (begun_at (starts start fs ts) t.lexeme.start fs ss) c fs ss said s i in
-      read_behind (at start c fs [] Stage.Ready) (at (starts start fs ts) c fs ss Stage.Ready) ts (t ∷ colons ∷ []) (notes_read c p start fs ts ss here d)
-      ∙ (first_token g l p (at (starts start fs ts) c fs ss Stage.Ready) t said (colons ∷ []) h here (inr refl)
-      ∙ (ap (λ x. on_turn x (λ k. reads g l k (colons ∷ []))) w.waits
-      ∙ (first_token g l p (at (begun_at (starts start fs ts) t.lexeme.start fs ss) c fs ss (Stage.Pending w.held t.lexeme.end)) colons (Mark' Mark.Colons) [] j
-      (here ∙ sym (pending_at fs w.held t.lexeme.end)) (inl refl)
-      ∙ (ap (λ x. on_turn (noted (begun_at (starts start fs ts) t.lexeme.start fs ss) c fs ss x) (λ k. reads g l k [])) w.is.0
-      ∙ ap (λ x. done (at x c fs (ss ++ s ∷ []) Stage.Ready)) (begun_behind c p start fs ts ss t (colons ∷ []) d)))))
+      read_behind _ _ ts (t ∷ colons ∷ []) (notes_read c p start fs ts ss here d)
+      ∙ (first_token g l p _ t said (colons ∷ []) h here (inr refl)
+      ∙ rw w.waits (first_token g l p _ colons (Mark' Mark.Colons) [] j (here ∙ sym (pending_at fs w.held t.lexeme.end)) (inl refl)
+      ∙ rw (w.is.0, begun_behind c p start fs ts ss t (colons ∷ []) d) refl))
 
   -- The tokens lead to this turn: with the last of them, or once it is known that nothing of what waits goes on.
   pub data LeadsToTurn (c : List Slot) (fs : List Frame) (r : Reading) (ts : List Placed) (t : Turn) : Type 0 where
@@ -216,12 +213,9 @@ module _ (g : Catalog) (l : Limits) where
       → reads g l (at start c fs ss Stage.Ready) ts ≡ done (at (begun_at start (first_start 0 ts) fs ss) c fs ss (Stage.Long w (end_of 0 ts)))
   segments_read c p start fs ss _ _ here (segment t w h) = first_token g l p (at start c fs ss Stage.Ready) t (Long w) [] h here (inr refl)
   segments_read c p start fs ss _ _ here (joined ts v w t d h) =
-      read_behind (at start c fs ss Stage.Ready) (at (begun_at start (first_start 0 ts) fs ss) c fs ss (Stage.Long v (end_of 0 ts))) ts (t ∷ [])
-      (segments_read c p start fs ss ts v here d)
-      ∙ (first_token g l p (at (begun_at start (first_start 0 ts) fs ss) c fs ss (Stage.Long v (end_of 0 ts))) t (Long w) [] h
-      (here ∙ sym (long_at fs v (end_of 0 ts))) (inl refl)
-      ∙ (ap (λ x. done (at (begun_at start (first_start 0 ts) fs ss) c fs ss (Stage.Long (v ++ w) x))) (sym (end_more ts t 0))
-      ∙ ap (λ x. done (at (begun_at start x fs ss) c fs ss (Stage.Long (v ++ w) (end_of 0 (ts ++ t ∷ []))))) (first_more ts (segments_some ts v d))))
+      read_behind _ _ ts (t ∷ []) (segments_read c p start fs ss ts v here d)
+      ∙ (first_token g l p _ t (Long w) [] h (here ∙ sym (long_at fs v (end_of 0 ts))) (inl refl)
+      ∙ rw (end_more ts t 0, ← first_more ts (segments_some ts v d)) refl)
     where
       first_more : (ts : List Placed) → (first : Placed) × (more : List Placed) × (ts ≡ first ∷ more) → first_start 0 ts ≡ first_start 0 (ts ++ t ∷ [])
       first_more [] h = absurd cc
@@ -368,8 +362,7 @@ module _ (g : Catalog) (l : Limits) where
     first = b.first;
     later = b.later ++ us;
     said = b.said;
-    cut =
-        ap (λ x. x ++ us) b.cut;
+    cut = rw b.cut refl;
     says = b.says;
     no_colons = b.no_colons;
   }
@@ -380,15 +373,8 @@ module _ (g : Catalog) (l : Limits) where
   segments_begin p _ _ (joined ts v w t d h) = begins_more p ts (t ∷ []) (segments_begin p ts v d)
 
   plain_begins : (c : List Slot) (p : Place) (ts : List Placed) (q : Payload) → Plain c p ts q → Begins p ts
-  plain_begins c p _ _ (one_token p' t said q h i) = record {
-    first = t;
-    later = [];
-    said = said;
-    cut = refl;
-    says =
-        h;
-    no_colons = scalar_no_colons c said q i;
-  }
+  plain_begins c p _ _ (one_token p' t said q h i) =
+      record { first = t; later = []; said = said; cut = refl; says = h; no_colons = scalar_no_colons c said q i }
   plain_begins c p ts _ (long_string p' _ w d) = segments_begin p ts w d
   plain_begins c p _ _ (is_list p' o e ts vs more h d i) = record { first = o; later = ts ++ e ∷ []; said = _; cut = refl; says = h; no_colons = λ e. cc }
   plain_begins c p _ _ (is_sexp p' o e ts vs h d i) = record { first = o; later = ts ++ e ∷ []; said = _; cut = refl; says = h; no_colons = λ e. cc }
@@ -398,16 +384,8 @@ module _ (g : Catalog) (l : Limits) where
   pub notes_begin : (c : List Slot) (p : Place) (ts us : List Placed) (ss : Symbols) → Annotations c p ts ss → Begins p us → Begins p (ts ++ us)
   notes_begin c p _ us _ no_annotation b = b
   notes_begin c p _ us _ (one_annotation ts ss t colons said s d h i j) b =
-      subst (Begins p) (sym (append_assoc ts (t ∷ colons ∷ []) us))
-      (notes_begin c p ts (t ∷ colons ∷ us) ss d (record {
-        first = t;
-        later = colons ∷ us;
-        said = said;
-        cut = refl;
-        says =
-            h;
-        no_colons = symbol_no_colons c said s i;
-      }))
+      rw (append_assoc ts (t ∷ colons ∷ []) us) (notes_begin c p ts (t ∷ colons ∷ us) ss d
+      (record { first = t; later = colons ∷ us; said = said; cut = refl; says = h; no_colons = symbol_no_colons c said s i }))
 
   -- a value begins with a token, which isn't `::`
   pub means_begins : (c : List Slot) (p : Place) (ts : List Placed) (v : Value) → Means c p ts v → Begins p ts
@@ -436,11 +414,8 @@ module _ (g : Catalog) (l : Limits) where
   pub item_behind : (c : List Slot) (p : Place) (r n : Reading) (ts us : List Placed) → settle g l n ≡ goes n → p ≡ place n → Reached c r ts n → Begins p us
       → (ends_long ts && begins_long us) ≡ false → reads g l r (ts ++ us) ≡ reads g l n us
   item_behind c p r n ts us s here d b e =
-      read_behind r d.now ts us d.read
-      ∙ (ap (reads g l d.now) b.cut
-      ∙ (behind_waiting g l p d.now n b.first b.said b.later b.says here (first_shut c p r n ts us d b e) d.settles
-      ∙ (sym (first_token g l p n b.first b.said b.later b.says here (inr s))
-      ∙ sym (ap (reads g l n) b.cut))))
+      read_behind r d.now ts us d.read ∙ rw b.cut (behind_waiting g l p d.now n b.first b.said b.later b.says here (first_shut c p r n ts us d b e) d.settles
+      ∙ sym (first_token g l p n b.first b.said b.later b.says here (inr s)))
 
   -- without annotations the payload's tokens are the value's
   unnoted : (c : List Slot) (p : Place) (notes ts : List Placed) (ss : Symbols) (fs : List Frame) → Annotations c p notes ss
@@ -460,17 +435,13 @@ module _ (g : Catalog) (l : Limits) where
       → LeadsToTurn c fs (at start c fs [] Stage.Ready) (notes ++ t ∷ us)
       (ended (under g l) (spot_at (end_of 0 (notes ++ t ∷ us)) (starts start fs (notes ++ t ∷ us)) c) fs (annotated ss q))
   noted_leads c p start fs notes t us ss q here a d =
-      subst (λ (n : ℕ). LeadsToTurn c fs (at start c fs [] Stage.Ready) (notes ++ t ∷ us)
-      (ended (under g l) (spot_at n (starts start fs (notes ++ t ∷ us)) c) fs (annotated ss q))) (sym (end_of_front notes us t 0))
-      (subst (λ (n : ℕ). LeadsToTurn c fs (at start c fs [] Stage.Ready) (notes ++ t ∷ us)
-      (ended (under g l) (spot_at (end_of 0 (t ∷ us)) n c) fs (annotated ss q))) (begun_behind c p start fs notes ss t us a)
-      (leads_behind c fs (at start c fs [] Stage.Ready) (at (starts start fs notes) c fs ss Stage.Ready) notes (t ∷ us) _
-      (notes_read c p start fs notes ss here a) d))
+      rw (end_of_front notes us t 0, ← begun_behind c p start fs notes ss t us a)
+      (leads_behind c fs _ _ notes (t ∷ us) _ (notes_read c p start fs notes ss here a) d)
 
   -- what stands between brackets, and the close
   closed_by : (c : List Slot) (p : Place) (r n : Reading) (ts : List Placed) (t : Placed) (m : Mark) (x : Turn) → p ≡ place n → Reached c r ts n
       → Says p t (Mark' m) → (m ≡ Mark.Colons → ⊥) → turn g l n (token_of t.lexeme (Mark' m)) ≡ x → reads g l r (ts ++ t ∷ []) ≡ on_turn x done
-  closed_by c p r n ts t m x here d h k e = mark_behind c p r n ts t m here d h k ∙ ap (λ y. on_turn y done) e
+  closed_by c p r n ts t m x here d h k e = rw (← e) (mark_behind c p r n ts t m here d h k)
 
   -- tokens behind which nothing waits lead to the state that they are read to
   pub ready_reached : (c : List Slot) (r n : Reading) (ts : List Placed) → settle g l n ≡ goes n → ((t : Token) → continues n t ≡ false)
@@ -488,22 +459,19 @@ module _ (g : Catalog) (l : Limits) where
       → InList c start fs ss ts vs more → Says Place.List t (Mark' Mark.ListClose)
       → reads g l (at start c (opened Bracket.List ss ∷ fs) [] Stage.Ready) (ts ++ t ∷ [])
       ≡ on_turn (ended (under g l) (spot_at t.lexeme.end start c) fs (annotated ss (payloads.List vs))) done
-  list_ends c start fs ss ts vs true t h i = closed_by c Place.List (at start c (opened Bracket.List ss ∷ fs) [] Stage.Ready)
-      (at start c (Frame.Items ListOrSexp.List ss vs ∷ fs) [] Stage.Ready) ts t Mark.ListClose _ refl
-      (ready_reached c (at start c (opened Bracket.List ss ∷ fs) [] Stage.Ready) (at start c (Frame.Items ListOrSexp.List ss vs ∷ fs) [] Stage.Ready) ts refl
-      (λ t. refl) h) i (λ e. cc) refl
-  list_ends c start fs ss ts vs false t h i = closed_by c Place.List (at start c (opened Bracket.List ss ∷ fs) [] Stage.Ready)
-      (at start c (Frame.Items ListOrSexp.List ss vs ∷ fs) [] Stage.After) ts t Mark.ListClose _ refl h i (λ e. cc) refl
+  list_ends c start fs ss ts vs true t h i =
+      closed_by c Place.List _ (at start c (Frame.Items ListOrSexp.List ss vs ∷ fs) [] Stage.Ready) ts t Mark.ListClose _ refl
+      (ready_reached c _ _ ts refl (λ t. refl) h) i (λ e. cc) refl
+  list_ends c start fs ss ts vs false t h i =
+      closed_by c Place.List _ (at start c (Frame.Items ListOrSexp.List ss vs ∷ fs) [] Stage.After) ts t Mark.ListClose _ refl h i (λ e. cc) refl
 
   -- the open of a container is read
   pub open_read : (bracket : Bracket) (c : List Slot) (p : Place) (start s : ℕ) (fs : List Frame) (ss : Symbols) (o : Placed) (us : List Placed)
       → p ≡ place_in fs Stage.Ready → length fs < l.depth → Says p o (Mark' (open_mark bracket)) → begun_at start o.lexeme.start fs ss ≡ s
       → reads g l (at start c fs ss Stage.Ready) (o ∷ us) ≡ reads g l (at s c (opened bracket ss ∷ fs) [] (first_now bracket)) us
   open_read bracket c p start s fs ss o us here deep h e =
-      first_token g l p (at start c fs ss Stage.Ready) o (Mark' (open_mark bracket)) us h here (inr refl)
-      ∙ (ap (λ x. on_turn x (λ k. reads g l k us)) (open_turns bracket (under g l) (spot_at o.lexeme.end (begun_at start o.lexeme.start fs ss) c) fs ss
-      ∙ cond-true _ _ _ (lt-ltb (length fs) l.depth deep))
-      ∙ ap (λ x. reads g l (at x c (opened bracket ss ∷ fs) [] (first_now bracket)) us) e)
+      first_token g l p _ o (Mark' (open_mark bracket)) us h here (inr refl)
+      ∙ rw (open_turns bracket (under g l) (spot_at o.lexeme.end (begun_at start o.lexeme.start fs ss) c) fs ss, lt-ltb (length fs) l.depth deep, e) refl
 
   -- in a struct: where a name may come, or behind a field
   abbrev pub InStruct : List Slot → ℕ → List Frame → Symbols → List Placed → List Field → Bool → Type 0
@@ -516,12 +484,11 @@ module _ (g : Catalog) (l : Limits) where
       → InStruct c start fs ss ts ms more → Says (close_place more) t (Mark' Mark.FieldsClose)
       → reads g l (at start c (Frame.Fields ss [] ∷ fs) [] Stage.Name) (ts ++ t ∷ [])
       ≡ on_turn (ended (under g l) (spot_at t.lexeme.end start c) fs (annotated ss (payloads.Fields ms))) done
-  struct_ends c start fs ss ts ms true t h i = closed_by c Place.Name (at start c (Frame.Fields ss [] ∷ fs) [] Stage.Name)
-      (at start c (Frame.Fields ss ms ∷ fs) [] Stage.Name) ts t Mark.FieldsClose _ refl
-      (ready_reached c (at start c (Frame.Fields ss [] ∷ fs) [] Stage.Name) (at start c (Frame.Fields ss ms ∷ fs) [] Stage.Name) ts refl (λ t. refl) h) i
-      (λ e. cc) refl
-  struct_ends c start fs ss ts ms false t h i = closed_by c Place.FieldValue (at start c (Frame.Fields ss [] ∷ fs) [] Stage.Name)
-      (at start c (Frame.Fields ss ms ∷ fs) [] Stage.After) ts t Mark.FieldsClose _ refl h i (λ e. cc) refl
+  struct_ends c start fs ss ts ms true t h i =
+      closed_by c Place.Name _ (at start c (Frame.Fields ss ms ∷ fs) [] Stage.Name) ts t Mark.FieldsClose _ refl
+      (ready_reached c _ _ ts refl (λ t. refl) h) i (λ e. cc) refl
+  struct_ends c start fs ss ts ms false t h i =
+      closed_by c Place.FieldValue _ (at start c (Frame.Fields ss ms ∷ fs) [] Stage.After) ts t Mark.FieldsClose _ refl h i (λ e. cc) refl
 
   -- a symbol is a name
   pub symbol_named : (c : List Slot) (start end : ℕ) (fs : List Frame) (said : Content) (s : Option (List ℕ)) → IsSymbol c said s
@@ -535,7 +502,7 @@ module _ (g : Catalog) (l : Limits) where
       → Segments Place.Name ts w → reads g l (at start c fs [] Stage.Name) ts ≡ done (at start c fs [] (Stage.LongName w))
   long_named c start fs _ _ here (segment t w h) = first_token g l Place.Name (at start c fs [] Stage.Name) t (Long w) [] h here (inr refl)
   long_named c start fs _ _ here (joined ts v w t d h) =
-      read_behind (at start c fs [] Stage.Name) (at start c fs [] (Stage.LongName v)) ts (t ∷ []) (long_named c start fs ts v here d)
+      read_behind _ _ ts (t ∷ []) (long_named c start fs ts v here d)
       ∙ first_token g l Place.Name (at start c fs [] (Stage.LongName v)) t (Long w) [] h (here ∙ sym (name_at fs v)) (inl refl)
 
   -- A name and its colon are read.
@@ -544,14 +511,13 @@ module _ (g : Catalog) (l : Limits) where
       → reads g l (at start c (Frame.Fields ss ms ∷ fs) [] Stage.Name) (ns ++ colon ∷ us) ≡ reads g l (at start c (Frame.Named ss ms s ∷ fs) [] Stage.Ready) us
   name_read c start fs ss ms _ _ colon us (by_symbol t said s h i) k =
       first_token g l Place.Name (at start c (Frame.Fields ss ms ∷ fs) [] Stage.Name) t said (colon ∷ us) h refl (inr refl)
-      ∙ (ap (λ x. on_turn x (λ k. reads g l k (colon ∷ us))) (symbol_named c start t.lexeme.end (Frame.Fields ss ms ∷ fs) said s i)
-      ∙ first_token g l Place.Name (at start c (Frame.Fields ss ms ∷ fs) [] (Stage.Keyed s)) colon (Mark' Mark.Colon) us k refl (inr refl))
+      ∙ rw (symbol_named c start t.lexeme.end (Frame.Fields ss ms ∷ fs) said s i)
+      (first_token g l Place.Name (at start c (Frame.Fields ss ms ∷ fs) [] (Stage.Keyed s)) colon (Mark' Mark.Colon) us k refl (inr refl))
   name_read c start fs ss ms _ _ colon us (by_short t w h) k =
       first_token g l Place.Name (at start c (Frame.Fields ss ms ∷ fs) [] Stage.Name) t (Short w) (colon ∷ us) h refl (inr refl)
       ∙ first_token g l Place.Name (at start c (Frame.Fields ss ms ∷ fs) [] (Stage.Keyed (Some w))) colon (Mark' Mark.Colon) us k refl (inr refl)
   name_read c start fs ss ms _ _ colon us (by_long ts w d) k =
-      read_behind (at start c (Frame.Fields ss ms ∷ fs) [] Stage.Name) (at start c (Frame.Fields ss ms ∷ fs) [] (Stage.LongName w)) ts (colon ∷ us)
-      (long_named c start (Frame.Fields ss ms ∷ fs) ts w refl d)
+      read_behind _ _ ts (colon ∷ us) (long_named c start (Frame.Fields ss ms ∷ fs) ts w refl d)
       ∙ behind_waiting g l Place.Name (at start c (Frame.Fields ss ms ∷ fs) [] (Stage.LongName w))
       (at start c (Frame.Fields ss ms ∷ fs) [] (Stage.Keyed (Some w))) colon (Mark' Mark.Colon) us k refl refl refl
 
@@ -568,21 +534,18 @@ module _ (g : Catalog) (l : Limits) where
         let s = begun_at start o.lexeme.start fs ss in
         let dl = depth-list ss vs in
         at_once (open_read Bracket.List c p start s fs ss o (ts ++ e ∷ []) here (omega arith) h refl
-        ∙ (list_ends c s fs ss ts vs more e (elements_read c s fs ss ts vs more d (omega arith)) i
-        ∙ ap (λ (n : ℕ). on_turn (ended (under g l) (spot_at n s c) fs (annotated ss (payloads.List vs))) done) (sym (end_of_front (o ∷ ts) [] e 0))))
+        ∙ rw (end_of_front (o ∷ ts) [] e 0) (list_ends c s fs ss ts vs more e (elements_read c s fs ss ts vs more d (omega arith)) i))
     plain_read c p start fs ss _ _ here (is_sexp p' o e ts vs h d i) v deep =
         let s = begun_at start o.lexeme.start fs ss in
         let dl = depth-sexp ss vs in
         at_once (open_read Bracket.Sexp c p start s fs ss o (ts ++ e ∷ []) here (omega arith) h refl
-        ∙ (closed_by c Place.Sexp (at s c (opened Bracket.Sexp ss ∷ fs) [] Stage.Ready) (at s c (Frame.Items ListOrSexp.Sexp ss vs ∷ fs) [] Stage.Ready) ts e
-        Mark.SexpClose _ refl (row_read c s fs ss ts vs d (omega arith)) i (λ e. cc) refl
-        ∙ ap (λ (n : ℕ). on_turn (ended (under g l) (spot_at n s c) fs (annotated ss (payloads.Sexp vs))) done) (sym (end_of_front (o ∷ ts) [] e 0))))
+        ∙ rw (end_of_front (o ∷ ts) [] e 0)
+        (closed_by c Place.Sexp _ _ ts e Mark.SexpClose _ refl (row_read c s fs ss ts vs d (omega arith)) i (λ e. cc) refl))
     plain_read c p start fs ss _ _ here (is_struct p' o e ts ms more h d i) v deep =
         let s = begun_at start o.lexeme.start fs ss in
         let dl = depth-struct ss ms in
         at_once (open_read Bracket.Fields c p start s fs ss o (ts ++ e ∷ []) here (omega arith) h refl
-        ∙ (struct_ends c s fs ss ts ms more e (members_read c s fs ss ts ms more d (omega arith)) i
-        ∙ ap (λ (n : ℕ). on_turn (ended (under g l) (spot_at n s c) fs (annotated ss (payloads.Fields ms))) done) (sym (end_of_front (o ∷ ts) [] e 0))))
+        ∙ rw (end_of_front (o ∷ ts) [] e 0) (struct_ends c s fs ss ts ms more e (members_read c s fs ss ts ms more d (omega arith)) i))
 
     -- A value is read.
     pub means_read : (c : List Slot) (p : Place) (start : ℕ) (fs : List Frame) (ts : List Placed) (v : Value) → p ≡ place_in fs Stage.Ready → Means c p ts v
@@ -590,12 +553,8 @@ module _ (g : Catalog) (l : Limits) where
         → LeadsToTurn c fs (at start c fs [] Stage.Ready) ts (ended (under g l) (spot_at (end_of 0 ts) (starts start fs ts) c) fs v)
     means_read c p start fs _ _ here (means p' notes ts ss q a d) v deep =
         let b = plain_begins c p ts q d in
-        subst (λ x. LeadsToTurn c fs (at start c fs [] Stage.Ready) (notes ++ x)
-        (ended (under g l) (spot_at (end_of 0 (notes ++ x)) (starts start fs (notes ++ x)) c) fs (annotated ss q))) (sym b.cut)
-        (noted_leads c p start fs notes b.first b.later ss q here a
-        (subst (λ x. LeadsToTurn c fs (at (starts start fs notes) c fs ss Stage.Ready) x
-        (ended (under g l) (spot_at (end_of 0 x) (begun_at (starts start fs notes) (first_start 0 x) fs ss) c) fs (annotated ss q))) b.cut
-        (plain_read c p (starts start fs notes) fs ss ts q here d (unnoted c p notes ts ss fs a v) deep)))
+        rw b.cut (noted_leads c p start fs notes b.first b.later ss q here a
+        (rw b.cut at (plain_read c p (starts start fs notes) fs ss ts q here d (unnoted c p notes ts ss fs a v) deep)))
 
     -- the elements of a list lead the reader from its `[` to a list of them
     pub elements_read : (c : List Slot) (start : ℕ) (fs : List Frame) (ss : Symbols) (ts : List Placed) (vs : List Value) (more : Bool) → Elements c ts vs more
@@ -604,35 +563,22 @@ module _ (g : Catalog) (l : Limits) where
     elements_read c start fs ss _ _ _ (element ts us vs v d m) deep =
         let k = deepest-more vs v in
         let f = Frame.Items ListOrSexp.List ss vs in
-        let r = at start c (opened Bracket.List ss ∷ fs) [] Stage.Ready in
-        let before = at start c (f ∷ fs) [] Stage.Ready in
-        let n = at start c (Frame.Items ListOrSexp.List ss (vs ++ v ∷ []) ∷ fs) [] Stage.After in
-        reached c f fs r n (ts ++ us) refl (λ t. refl)
-        (leads_behind c (f ∷ fs) r before ts us (goes n) (elements_read c start fs ss ts vs true d (omega arith))
-        (subst (λ (x : ℕ). LeadsToTurn c (f ∷ fs) before us (goes (at x c (Frame.Items ListOrSexp.List ss (vs ++ v ∷ []) ∷ fs) [] Stage.After)))
-        (starts_in start f fs us) (means_read c Place.List start (f ∷ fs) us v refl m (λ e. absurd cc) (omega arith))))
+        reached c f fs _ _ (ts ++ us) refl (λ t. refl) (leads_behind c (f ∷ fs) _ _ ts us _ (elements_read c start fs ss ts vs true d (omega arith))
+        (rw (starts_in start f fs us) at (means_read c Place.List start (f ∷ fs) us v refl m (λ e. absurd cc) (omega arith))))
     elements_read c start fs ss _ _ _ (comma ts vs t d h) deep =
-        mark_behind c Place.List (at start c (opened Bracket.List ss ∷ fs) [] Stage.Ready)
-        (at start c (Frame.Items ListOrSexp.List ss vs ∷ fs) [] Stage.After) ts t
-        Mark.Comma refl (elements_read c start fs ss ts vs false d deep) h (λ e. cc)
+        mark_behind c Place.List _ _ ts t Mark.Comma refl (elements_read c start fs ss ts vs false d deep) h (λ e. cc)
 
     -- the elements of an s-expression lead the reader from its `(` to an s-expression of them
     pub row_read : (c : List Slot) (start : ℕ) (fs : List Frame) (ss : Symbols) (ts : List Placed) (vs : List Value) → Row c ts vs
         → depths vs + suc (length fs) ≤ l.depth
         → Reached c (at start c (opened Bracket.Sexp ss ∷ fs) [] Stage.Ready) ts (at start c (Frame.Items ListOrSexp.Sexp ss vs ∷ fs) [] Stage.Ready)
-    row_read c start fs ss _ _ no_item deep = ready_reached c (at start c (opened Bracket.Sexp ss ∷ fs) [] Stage.Ready)
-        (at start c (opened Bracket.Sexp ss ∷ fs) [] Stage.Ready) [] refl (λ t. refl) refl
+    row_read c start fs ss _ _ no_item deep = ready_reached c _ _ [] refl (λ t. refl) refl
     row_read c start fs ss _ _ (item ts us vs v d m apart) deep =
         let k = deepest-more vs v in
         let f = Frame.Items ListOrSexp.Sexp ss vs in
-        let r = at start c (opened Bracket.Sexp ss ∷ fs) [] Stage.Ready in
-        let before = at start c (f ∷ fs) [] Stage.Ready in
-        let n = at start c (Frame.Items ListOrSexp.Sexp ss (vs ++ v ∷ []) ∷ fs) [] Stage.Ready in
-        reached c f fs r n (ts ++ us) refl (λ t. refl)
-        (leads_as c (f ∷ fs) r before ts us (goes n)
-        (item_behind c Place.Sexp r before ts us refl refl (row_read c start fs ss ts vs d (omega arith)) (means_begins c Place.Sexp us v m) apart)
-        (subst (λ (x : ℕ). LeadsToTurn c (f ∷ fs) before us (goes (at x c (Frame.Items ListOrSexp.Sexp ss (vs ++ v ∷ []) ∷ fs) [] Stage.Ready)))
-        (starts_in start f fs us) (means_read c Place.Sexp start (f ∷ fs) us v refl m (λ e. absurd cc) (omega arith))))
+        reached c f fs _ _ (ts ++ us) refl (λ t. refl) (leads_as c (f ∷ fs) _ (at start c (f ∷ fs) [] Stage.Ready) ts us _
+        (item_behind c Place.Sexp _ _ ts us refl refl (row_read c start fs ss ts vs d (omega arith)) (means_begins c Place.Sexp us v m) apart)
+        (rw (starts_in start f fs us) at (means_read c Place.Sexp start (f ∷ fs) us v refl m (λ e. absurd cc) (omega arith))))
 
     -- the fields of a struct lead the reader from its `{` to a struct of them
     pub members_read : (c : List Slot) (start : ℕ) (fs : List Frame) (ss : Symbols) (ts : List Placed) (ms : List Field) (more : Bool) → Members c ts ms more
@@ -640,20 +586,11 @@ module _ (g : Catalog) (l : Limits) where
     members_read c start fs ss _ _ _ no_field deep = refl
     members_read c start fs ss _ _ _ (field ts ns us colon ms s v d m i w) deep =
         let k = field_deepest-more ms (field_of s v) in
-        let n = at start c (Frame.Fields ss (ms ++ field_of s v ∷ []) ∷ fs) [] Stage.After in
-        let r = at start c (Frame.Fields ss [] ∷ fs) [] Stage.Name in
-        let before = at start c (Frame.Named ss ms s ∷ fs) [] Stage.Ready in
-        let cut : ts ++ (ns ++ colon ∷ us) ≡ (ts ++ (ns ++ colon ∷ [])) ++ us = ap (λ x. ts ++ x) (sym (append_assoc ns (colon ∷ []) us))
-        ∙ sym (append_assoc ts (ns ++ colon ∷ []) us) in
-        subst (λ x. Reached c r x n) (sym cut)
-        (reached c (Frame.Named ss ms s) fs r n ((ts ++ (ns ++ colon ∷ [])) ++ us) refl (λ t. refl)
-        (leads_as c (Frame.Named ss ms s ∷ fs) r before (ts ++ (ns ++ colon ∷ [])) us (goes n)
-        (ap (reads g l r) (sym cut)
-        ∙ (read_behind r (at start c (Frame.Fields ss ms ∷ fs) [] Stage.Name) ts (ns ++ colon ∷ us) (members_read c start fs ss ts ms true d (omega arith))
-        ∙ name_read c start fs ss ms ns s colon us m i))
-        (subst (λ (x : ℕ). LeadsToTurn c (Frame.Named ss ms s ∷ fs) before us (goes (at x c (Frame.Fields ss (ms ++ field_of s v ∷ []) ∷ fs) [] Stage.After)))
-        (starts_in start (Frame.Named ss ms s) fs us)
-        (means_read c Place.FieldValue start (Frame.Named ss ms s ∷ fs) us v refl w (λ e. absurd cc) (omega arith)))))
+        let f = Frame.Named ss ms s in
+        let cut : ts ++ (ns ++ colon ∷ us) ≡ (ts ++ (ns ++ colon ∷ [])) ++ us = simp append_assoc in
+        rw cut (reached c f fs _ _ ((ts ++ (ns ++ colon ∷ [])) ++ us) refl (λ t. refl)
+        (leads_as c (f ∷ fs) _ (at start c (f ∷ fs) [] Stage.Ready) (ts ++ (ns ++ colon ∷ [])) us _
+        (rw (← cut) (read_behind _ _ ts (ns ++ colon ∷ us) (members_read c start fs ss ts ms true d (omega arith)) ∙ name_read c start fs ss ms ns s colon us m i))
+        (rw (starts_in start f fs us) at (means_read c Place.FieldValue start (f ∷ fs) us v refl w (λ e. absurd cc) (omega arith)))))
     members_read c start fs ss _ _ _ (field_comma ts ms t d h) deep =
-        mark_behind c Place.FieldValue (at start c (Frame.Fields ss [] ∷ fs) [] Stage.Name) (at start c (Frame.Fields ss ms ∷ fs) [] Stage.After) ts t
-        Mark.Comma refl (members_read c start fs ss ts ms false d deep) h (λ e. cc)
+        mark_behind c Place.FieldValue _ _ ts t Mark.Comma refl (members_read c start fs ss ts ms false d deep) h (λ e. cc)

@@ -46,59 +46,59 @@ pub returns-in_default-result-clause-used : goal.returns-in_default-result-claus
 returns-in_default-result-clause-used c =
     let s = scanned c.args.self.now in
     used_within (run c.args.place c.args.piece.now s) c.scan_behind-result.result c.scan_behind-result.new.self.left s.used (length c.args.piece.now)
-    (behind_gone c.scan_behind-result.new.gone (known c.scan_behind-result.new.self))
+    (behind_gone c.scan_behind-result.new.gone.octets (known c.scan_behind-result.new.self))
     (run_between c.args.place c.args.piece.now s) c.scan_behind-result.ensures.answers
 
 pub returns-in_default-result-clause-all : goal.returns-in_default-result-clause-all
 returns-in_default-result-clause-all c =
     let s = scanned c.args.self.now in
     used_whole (run c.args.place c.args.piece.now s) c.scan_behind-result.result c.scan_behind-result.new.self.left s.used (length c.args.piece.now)
-    (behind_gone c.scan_behind-result.new.gone (known c.scan_behind-result.new.self))
+    (behind_gone c.scan_behind-result.new.gone.octets (known c.scan_behind-result.new.self))
     (run_between c.args.place c.args.piece.now s) c.scan_behind-result.ensures.answers
 
 pub returns-in_default-result-clause-reasons : goal.returns-in_default-result-clause-reasons
 returns-in_default-result-clause-reasons c = λ _. fair c.args.place (scanned c.args.self.now) c.args.piece.now c.scan_behind-result.new.self.left
-    (behind_gone c.scan_behind-result.new.gone (known c.scan_behind-result.new.self)) c.scan_behind-result.result c.scan_behind-result.ensures.answers
+    (behind_gone c.scan_behind-result.new.gone.octets (known c.scan_behind-result.new.self)) c.scan_behind-result.result c.scan_behind-result.ensures.answers
 
 pub returns-in-Err-clause-reasons : goal.returns-in-Err-clause-reasons
 returns-in-Err-clause-reasons c = λ _. fair c.args.place (scanned c.args.self.now) c.args.piece.now c.scan_behind-result.new.self.left
-    (behind_gone c.scan_behind-result.new.gone (known c.scan_behind-result.new.self)) c.scan_behind-result.result c.scan_behind-result.ensures.answers
+    (behind_gone c.scan_behind-result.new.gone.octets (known c.scan_behind-result.new.self)) c.scan_behind-result.result c.scan_behind-result.ensures.answers
 
 pub returns-in_default-result-clause-goes : goal.returns-in_default-result-clause-goes
 returns-in_default-result-clause-goes c = λ none. goes c.args.place (scanned c.args.self.now) c.args.piece.now c.scan_behind-result.new.self.left
-    (behind_gone c.scan_behind-result.new.gone (known c.scan_behind-result.new.self)) c.scan_behind-result.result c.scan_behind-result.ensures.answers
+    (behind_gone c.scan_behind-result.new.gone.octets (known c.scan_behind-result.new.self)) c.scan_behind-result.result c.scan_behind-result.ensures.answers
 
 pub returns-in-Err-clause-refuses : goal.returns-in-Err-clause-refuses
 returns-in-Err-clause-refuses c = λ none. refuses c.args.place (scanned c.args.self.now) c.args.piece.now c.scan_behind-result.new.self.left
-    (behind_gone c.scan_behind-result.new.gone (known c.scan_behind-result.new.self)) c.scan_behind-result.result c.scan_behind-result.ensures.answers
+    (behind_gone c.scan_behind-result.new.gone.octets (known c.scan_behind-result.new.self)) c.scan_behind-result.result c.scan_behind-result.ensures.answers
 
 pub returns-in-Err-clause-within : goal.returns-in-Err-clause-within
 returns-in-Err-clause-within c =
     let s = scanned c.args.self.now in
     λ none. refused_within (run c.args.place c.args.piece.now s) c.scan_behind-result.result c.scan_behind-result.new.self.left s.used (length c.args.piece.now)
-    (behind_gone c.scan_behind-result.new.gone (known c.scan_behind-result.new.self))
+    (behind_gone c.scan_behind-result.new.gone.octets (known c.scan_behind-result.new.self))
     (run_between c.args.place c.args.piece.now s) c.scan_behind-result.ensures.answers
 
 pub returns-in_default-result-clause-traced : goal.returns-in_default-result-clause-traced
 returns-in_default-result-clause-traced c = λ none. traced c.args.place (scanned c.args.self.now) c.args.piece.now c.scan_behind-result.new.self.left
-    (behind_gone c.scan_behind-result.new.gone (known c.scan_behind-result.new.self)) c.scan_behind-result.result c.scan_behind-result.ensures.answers
+    (behind_gone c.scan_behind-result.new.gone.octets (known c.scan_behind-result.new.self)) c.scan_behind-result.result c.scan_behind-result.ensures.answers
 
 pub returns-in-Err-clause-traced : goal.returns-in-Err-clause-traced
 returns-in-Err-clause-traced c = λ none. traced c.args.place (scanned c.args.self.now) c.args.piece.now c.scan_behind-result.new.self.left
-    (behind_gone c.scan_behind-result.new.gone (known c.scan_behind-result.new.self)) c.scan_behind-result.result c.scan_behind-result.ensures.answers
+    (behind_gone c.scan_behind-result.new.gone.octets (known c.scan_behind-result.new.self)) c.scan_behind-result.result c.scan_behind-result.ensures.answers
 
 pub returns-in_default-result-clause-few_pending : goal.returns-in_default-result-clause-few_pending
 returns-in_default-result-clause-few_pending c =
     let s = scanned c.args.self.now in
-    few_owed (run c.args.place c.args.piece.now s) c.scan_behind-result.result c.scan_behind-result.new.self.left (debt s.mode) s.used (behind_gone c.scan_behind-result.new.gone (known c.scan_behind-result.new.self))
+    few_owed (run c.args.place c.args.piece.now s) c.scan_behind-result.result c.scan_behind-result.new.self.left (debt s.mode) s.used (behind_gone c.scan_behind-result.new.gone.octets (known c.scan_behind-result.new.self))
     (run_owes c.args.place c.args.piece.now s) c.scan_behind-result.ensures.answers
 
 pub returns-in_default-result-clause-progress : goal.returns-in_default-result-clause-progress
 returns-in_default-result-clause-progress c =
     let s = scanned c.args.self.now in
-    fewer_owed (run c.args.place c.args.piece.now s) c.scan_behind-result.result c.scan_behind-result.new.self.left (debt s.mode) s.used (behind_gone c.scan_behind-result.new.gone (known c.scan_behind-result.new.self))
+    fewer_owed (run c.args.place c.args.piece.now s) c.scan_behind-result.result c.scan_behind-result.new.self.left (debt s.mode) s.used (behind_gone c.scan_behind-result.new.gone.octets (known c.scan_behind-result.new.self))
     (run_owes c.args.place c.args.piece.now s) c.scan_behind-result.ensures.answers
 
 pub returns-in_default-result-clause-lends : goal.returns-in_default-result-clause-lends
 returns-in_default-result-clause-lends c = λ none. lends c.args.place (scanned c.args.self.now) c.args.piece.now c.scan_behind-result.new.self.left
-    (behind_gone c.scan_behind-result.new.gone (known c.scan_behind-result.new.self)) c.scan_behind-result.result c.scan_behind-result.ensures.answers c.scan_behind-result.ensures.lends
+    (behind_gone c.scan_behind-result.new.gone.octets (known c.scan_behind-result.new.self)) c.scan_behind-result.result c.scan_behind-result.ensures.answers c.scan_behind-result.ensures.lends

@@ -1,0 +1,2 @@
+-- What follows of names that have others behind them.
+pub mod Later
