@@ -1,6 +1,7 @@
 #!/bin/sh
 # Makes all that other languages link or import: bindings/build.sh [FOLDER], by default bindings/out. In FOLDER it puts
-#   include, lib   the header, both objects, and hints for pkg-config and CMake
+#   include, lib   the headers, both objects, and hints for pkg-config and CMake
+#   c              examples
 #   python, *.whl  the Python package, as a folder for PYTHONPATH and as a wheel for pip
 #   rust           a crate for Cargo
 # The proved archive is made first, by `rt lib`, unless PROVED=1 says that it was. CC and AR name other tools.
@@ -18,7 +19,7 @@ memory=$kit/c/liblibc_c.a # malloc, realloc and free, as the proved code calls t
 mkdir -p "$folder"
 folder=$(cd "$folder" && pwd)
 lib=$folder/lib
-mkdir -p "$folder/include" "$lib/pkgconfig" "$lib/cmake/pureefjord" "$folder/python/pureefjord" "$folder/rust/lib"
+mkdir -p "$folder/include" "$lib/pkgconfig" "$lib/cmake/pureefjord" "$folder/c" "$folder/python/pureefjord" "$folder/rust/lib"
 
 # with_version FILE TO: copies a file, with the version in it.
 with_version() { sed "s/@VERSION@/$version/" "$1" > "$2"; }
@@ -42,7 +43,8 @@ objects() {
 }
 
 hints() {
-    cp "$here/pureefjord.h" "$folder/include"
+    cp "$here"/pureefjord*.h "$folder/include"
+    cp "$here"/c/*.c "$folder/c"
     with_version "$here/pkgconfig/pureefjord.pc" "$lib/pkgconfig/pureefjord.pc"
     cp "$here/cmake/pureefjord-config.cmake" "$lib/cmake/pureefjord"
     with_version "$here/cmake/pureefjord-config-version.cmake" "$lib/cmake/pureefjord/pureefjord-config-version.cmake"
@@ -60,7 +62,7 @@ python_package() {
 
 rust_crate() {
     with_version "$here/rust/Cargo.toml" "$folder/rust/Cargo.toml"
-    cp "$here/rust/build.rs" "$here/rust/pureefjord.rs" "$folder/rust"
+    cp "$here"/rust/*.rs "$folder/rust"
     cp "$lib/libpureefjord.a" "$folder/rust/lib"
 }
 

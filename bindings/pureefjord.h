@@ -1,4 +1,4 @@
-/* Whole Amazon Ion 1.0 documents in memory, binary or text: check, show, compare, convert.
+/* Amazon Ion 1.0 documents in memory, binary or text: check, show, compare, convert, and lay out values one by one.
  *
  * Link libpureefjord.a or libpureefjord.so, which build.sh makes (docs/BINDINGS.md). The answers are those of the command
  * ion_cmd, whose statuses these are.
@@ -13,8 +13,8 @@
  * In return: nothing is kept between calls and nothing is shared, so any number of threads may call at once; nothing has to be
  * freed; no call fails but by its status, none aborts, writes to a file or calls back.
  *
- * A text (the lines of show, the path of compare, the document of a conversion) goes into the buffer where that has room for all
- * of it. Else not one octet of the buffer changes. answer->length tells how long the text is either way, so a second call with so
+ * A text (the lines of show, the path of compare, the document of a conversion, a layout) goes into the buffer where that has room
+ * for all of it. Else not one octet of the buffer changes. answer->length tells how long the text is either way, so a second call with so
  * large a buffer gets it. No zero stands after it. */
 #ifndef PUREEFJORD_H
 #define PUREEFJORD_H
@@ -90,9 +90,9 @@ typedef struct {
     uint32_t reason; /* refused: why; a fault: which; else 0 */
 } pureefjord_answer;
 
-/* What a call is given beside its documents. pureefjord_to_binary finds the ids of symbols by a hash that begins with the seed. No
- * answer depends on it, but texts that are chosen to collide under a seed that is known make that call slow: its time grows with the
- * square of their number. So a program that converts documents of strangers draws a seed, as by getentropy, and tells it nobody. */
+/* What a call is given beside its documents. pureefjord_to_binary and pureefjord_events find symbols by a hash that begins with the seed.
+ * No answer depends on it, but texts that are chosen to collide under a seed that is known make those calls slow: their time grows with
+ * the square of their number. So a program that takes documents of strangers draws a seed, as by getentropy, and tells it nobody. */
 typedef struct {
     const uint8_t *catalog; /* a document of the shared symbol tables that the input may import */
     size_t catalog_length;  /* 0: none */
@@ -135,6 +135,11 @@ size_t pureefjord_compare_each(const pureefjord_pair *pairs, size_t pairs_length
 uint32_t pureefjord_to_text(const uint8_t *input, size_t input_length,
     const pureefjord_options *options, uint8_t *buffer, size_t buffer_length, pureefjord_answer *answer);
 uint32_t pureefjord_to_binary(const uint8_t *input, size_t input_length,
+    const pureefjord_options *options, uint8_t *buffer, size_t buffer_length, pureefjord_answer *answer);
+
+/* The layout of the values, over which pureefjord_events.h walks; after a refusal that of the values before it. It takes 2 to 3 times
+ * the octets of usual text and 4 to 6 times those of binary; at worst, reckoned, 32 times, 16 more, and the texts of the catalog. */
+uint32_t pureefjord_events(const uint8_t *input, size_t input_length,
     const pureefjord_options *options, uint8_t *buffer, size_t buffer_length, pureefjord_answer *answer);
 
 /* The name of a reason into the buffer, whole or not at all; returns its length (14 at most). For a number of none it returns 0 and

@@ -46,30 +46,44 @@ build() {
     same 'the version of the header' "$(sed -n 's/^#define PUREEFJORD_VERSION "\(.*\)"/\1/p' "$top/bindings/pureefjord.h")" "$version"
 }
 
-# calls NAME COMPILER OPTION..: builds the calls in C with these options, and runs them.
-calls() {
-    name=$1 compiler=$2
+# program NAME SOURCE OPTION..: builds a program in C with these options, as the name of its source.
+program() {
+    built=$1 source=$2
     shift 2
     # shellcheck disable=SC2086
-    tried "$name, built" "$compiler" $warnings -g "$@" -I"$top/bindings" -Wl,--wrap=malloc,--wrap=realloc -pthread \
-        -o "$folder/calls" "$top/tests/bindings/calls.c" "$library"
+    tried "$built, built" "$cc" $warnings -g "$@" -I"$top/bindings" -pthread -o "$folder/$source" "$top/tests/bindings/$source.c" "$library"
+}
+
+# in_c_by NAME OPTION..: the calls and the cursor in C, built with these options; and builds what prints values, for the random ones.
+in_c_by() {
+    under=$1
+    shift
+    program "$under, calls" calls -std=c11 -Wl,--wrap=malloc,--wrap=realloc "$@"
+    program "$under, values" values -std=c11 "$@"
+    program "$under, lines" lines -std=c11 "$@"
 }
 
 in_c() {
-    calls C "$cc" -std=c11 -O2
-    tried C "$folder/calls"
+    in_c_by C -O2
+    tried 'C, calls' "$folder/calls"
+    tried 'C, values' "$folder/values"
     if has valgrind; then
-        calls 'C under valgrind' "$cc" -std=c11 -O1
-        tried 'C under valgrind' valgrind -q --error-exitcode=9 --leak-check=full --errors-for-leak-kinds=all "$folder/calls"
+        in_c_by 'C under valgrind' -O1
+        for source in calls values; do
+            tried "C under valgrind, $source" valgrind -q --error-exitcode=9 --leak-check=full --errors-for-leak-kinds=all "$folder/$source"
+        done
     else
         left_out 'C under valgrind'
     fi
     if echo 'int main(void) { return 0; }' | "$cc" -fsanitize=address,undefined -x c -o "$folder/probe" - 2> /dev/null && "$folder/probe"; then
-        calls 'C under the sanitizers' "$cc" -std=c11 -O1 -fsanitize=address,undefined -fno-sanitize-recover=undefined
-        tried 'C under the sanitizers' "$folder/calls"
+        in_c_by 'C under the sanitizers' -O1 -fsanitize=address,undefined -fno-sanitize-recover=undefined
+        for source in calls values; do tried "C under the sanitizers, $source" "$folder/$source"; done
     else
         left_out 'C under the sanitizers'
     fi
+    # Numbers of a layout are read as they lie there.
+    printf '#undef __BYTE_ORDER__\n#define __BYTE_ORDER__ __ORDER_BIG_ENDIAN__\n#include "pureefjord_events.h"\n' > "$folder/big.c"
+    same 'no big-endian machine' "$("$cc" -w -I"$top/bindings" -fsyntax-only "$folder/big.c" 2>&1 | grep -o 'has to be little-endian' | uniq)" 'has to be little-endian'
 }
 
 # Values as deep as may be, in no more stack than the header says.
@@ -88,6 +102,9 @@ examples() {
         # shellcheck disable=SC2086
         tried 'C++, built' "${CXX:-g++}" $warnings -I"$top/bindings" -o "$folder/plus" "$folder/plus.cc" "$library"
         tried 'C++' "$folder/plus"
+        # shellcheck disable=SC2086
+        tried 'C++, values, built' "${CXX:-g++}" $warnings -std=c++11 -I"$top/bindings" -o "$folder/plus" -x c++ "$top/tests/bindings/values.c" -x none "$library"
+        tried 'C++, values' "$folder/plus"
     else
         left_out 'C++'
     fi
@@ -101,16 +118,54 @@ examples() {
 1"
     same 'the example, refused' "$("$folder/shared" "$top/examples/short.ion" "$top/examples/cut.10n" 2>&1; echo $?)" "refused right 7 Incomplete
 2"
+    printf '{"id": 1, "size": 20}\n{size: 22, id: 2} {id: 3} {id: 4, size: x::-2, size: 100} "size" {size: 1.5}\n' > "$folder/log.ion"
+    # shellcheck disable=SC2086
+    tried 'the sum, built' "$cc" $warnings -I"$top/bindings" -o "$folder/sum" "$top/bindings/c/sum.c" "$library"
+    same 'the sum' "$("$folder/sum" size "$folder/log.ion"; echo $?)" "40 in 3 records
+0"
+    same 'the sum before a refusal' "$(printf '{size: 7} ]' > "$folder/log.ion"; "$folder/sum" size "$folder/log.ion" 2> "$folder/refused"; cat "$folder/refused")" "7 in 1 records
+refused 11 Unexpected"
 }
 
 in_other_languages() {
     tried Python python3 "$top/tests/bindings/calls.py" "$folder/python"
     tried 'few documents of every kind' python3 "$top/tests/exhaustive.py" "$folder/python" --few
+    set -- "$folder/lines"
     if has rustc; then
-        tried 'Rust, built' rustc --edition 2024 -D warnings -o "$folder/calls_rs" "$top/tests/bindings/calls.rs" -L "native=$folder/lib" -l static=pureefjord
+        for source in calls lines; do
+            tried "Rust, $source, built" rustc --edition 2024 -D warnings -o "$folder/${source}_rs" "$top/tests/bindings/$source.rs" -L "native=$folder/lib" -l static=pureefjord
+        done
         tried Rust "$folder/calls_rs"
+        set -- "$folder/lines" "$folder/lines_rs"
     else
         left_out Rust
+    fi
+    tried 'values, in all of these languages' python3 "$top/tests/bindings/values.py" "$folder/python" "$@"
+}
+
+# block LANGUAGE: the block of docs/BINDINGS.md in a language.
+block() { sed -n "/^\`\`\`$1\$/,/^\`\`\`\$/p" "$top/docs/BINDINGS.md" | grep -v '^```'; }
+
+# Its blocks in C and Rust, over two records.
+blocks() {
+    {
+        block c
+        printf '#include <stdio.h>\nint main(void) { static const uint8_t log[] = "{size: 2} {size: 3, a: \\"b\\"}"; uint8_t layout[512];\n'
+        printf 'const pureefjord_options usual = PUREEFJORD_USUAL; pureefjord_answer answer;\n'
+        printf 'pureefjord_events(log, sizeof log - 1, &usual, layout, sizeof layout, &answer); printf("%%d", (int)sum(layout, &answer)); return 0; }\n'
+    } > "$folder/block.c"
+    # shellcheck disable=SC2086
+    tried 'the page: C, built' "$cc" $warnings -I"$top/bindings" -o "$folder/block" "$folder/block.c" "$library"
+    same 'the page: C' "$("$folder/block")" 5
+    if has rustc; then
+        {
+            printf '#[path = "%s/bindings/rust/pureefjord.rs"]\nmod pureefjord;\nfn main() -> Result<(), Box<dyn std::error::Error>> {\n' "$top"
+            printf 'let octets = b"{size: 2} {size: 3, a: \\"b\\"}";\n'
+            block rust
+            printf 'print!("{sizes} {strings}");\nOk(())\n}\n'
+        } > "$folder/block.rs"
+        tried 'the page: Rust, built' rustc --edition 2024 -D warnings -o "$folder/block_rs" "$folder/block.rs" -L "native=$folder/lib" -l static=pureefjord
+        same 'the page: Rust' "$("$folder/block_rs")" '5 1'
     fi
 }
 
@@ -128,7 +183,7 @@ page() {
         mkdir "$folder/cmake"
         {
             printf 'cmake_minimum_required(VERSION 3.16)\nproject(user C)\nadd_executable(example %s/bindings/c/example.c)\n' "$top"
-            sed -n '/^```cmake/,/^```$/p' "$top/docs/BINDINGS.md" | grep -v '^```'
+            block cmake
         } > "$folder/cmake/CMakeLists.txt"
         tried 'the page: CMake' sh -c 'cd "$1" && cmake -S . -B out -DCMAKE_PREFIX_PATH="$2" && cmake --build out && out/example "$3/short.ion" "$3/short.10n"' - \
             "$folder/cmake" "$folder" "$top/examples"
@@ -146,6 +201,7 @@ in_c
 in_little_stack
 examples
 in_other_languages
+blocks
 page
 echo "$passed passed, $failed failed"
 [ "$failed" = 0 ]

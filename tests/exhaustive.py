@@ -6,8 +6,9 @@ octets after the marker under several limits, all texts of up to three octets of
 (usually 200000); with --few a part of them. For binary without a catalog the rows of the format (tests/deciding.py) say which
 refusal it has to be. What else has to hold needs no second reader:
 
-- show, to_text and to_binary refuse as check does, and count as many values;
+- show, to_text, to_binary and events refuse as check does, and count as many values;
 - a document is equivalent to its conversions, and those of either encoding are the same, from whichever they are made;
+- what is laid out keeps each rule of docs/EVENTS.md, and the conversions have the layout of the document;
 - a document compared with itself is equivalent, or refused on the left as check does;
 - what is refused before its end stays refused, at that octet and for that reason, however it goes on;
 - no front that is shorter than the octet that decides is refused but by its end, which in binary is Incomplete;
@@ -26,9 +27,12 @@ sys.dont_write_bytecode = True
 FOLDER = os.path.abspath(sys.argv[1]) if __name__ == "__main__" and sys.argv[1:] else os.environ["EXHAUSTIVE_FOLDER"]
 os.environ["EXHAUSTIVE_FOLDER"] = FOLDER
 sys.path.insert(0, FOLDER)
+sys.path[:0] = [os.path.join(os.path.dirname(os.path.abspath(__file__)), name) for name in ("bindings", "../tools")]
 from pureefjord import _library
 
 import deciding
+import layouts
+from ion_spelling import plain
 from rows import DOCUMENTS, MARKER
 
 ALPHABET = b"{}[](),:'\"/*\\\n ._-+0123abedlnuxT$=<\xc3\xa9\0\x7f9"
@@ -76,6 +80,9 @@ class Calls:
     def to_binary(self, octets, options):
         return self.written(self.library.pureefjord_to_binary, octets, options)
 
+    def events(self, octets, options):
+        return self.written(self.library.pureefjord_events, octets, options)
+
     def compare(self, left, right, options):
         self.library.pureefjord_compare(left, len(left), right, len(right), options, self.buffer, ROOM, self.answer)
         return self.told()
@@ -117,14 +124,26 @@ class Trial:
         shown, self.lines = calls.show(octets, options)
         in_text, self.text = calls.to_text(octets, options)
         in_binary, self.binary = calls.to_binary(octets, options)
+        in_events, self.layout = calls.events(octets, options)
         self.hold("show answers as check", shown == self.found)
         self.hold("to_text answers as check", in_text == self.found)
         self.hold("to_binary answers as check", in_binary == self.found)
+        self.hold("events answers as check", in_events == self.found)
         status, number, whose, reason = self.found
         wanted = self.found if status == 0 else (2, number, 2, reason)
         self.hold("compared with itself", calls.compare(octets, octets, options) == wanted)
+        self.laid_out()
         if status == 0:
             self.hold("as many lines", self.lines.count(b"\n") == number + 1 and self.lines.endswith(b"accepted %d\n" % number))
+
+    def laid_out(self):
+        """The layout has as many values as the text has lines, and each is that of its line."""
+        try:
+            lines = [plain(value) for value in layouts.values_of(self.layout)]
+        except ValueError as wrong:
+            self.wrong.append(f"a layout: {wrong}")
+        else:
+            self.hold("the layout has the values of the text", lines == self.text.decode().split("\n")[:-1])
 
     def converted(self):
         """The conversions of a document, under limits that admit them."""
@@ -136,6 +155,8 @@ class Trial:
         self.hold("text of the binary", calls.to_text(self.binary, usual) == (same, self.text))
         self.hold("binary of the text", calls.to_binary(self.text, usual) == (same, self.binary))
         self.hold("text again", calls.to_text(self.text, usual) == (same, self.text))
+        self.hold("layout of the binary", calls.events(self.binary, usual) == (same, self.layout))
+        self.hold("layout of the text", calls.events(self.text, usual) == (same, self.layout))
 
     def fronts(self):
         """Below the octet that decides only the end of a front refuses it."""

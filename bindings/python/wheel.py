@@ -16,8 +16,8 @@ NEWEST = (2, 17)
 METADATA = """Metadata-Version: 2.1
 Name: pureefjord
 Version: {version}
-Summary: Whole Amazon Ion 1.0 documents in memory: check, show, compare, convert, by proved code
-Requires-Python: >=3.9
+Summary: Amazon Ion 1.0 documents in memory: their values, and check, show, compare, convert, by proved code
+Requires-Python: >=3.8
 """
 WHEEL = "Wheel-Version: 1.0\nGenerator: bindings/python/wheel.py\nRoot-Is-Purelib: false\n"
 

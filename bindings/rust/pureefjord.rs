@@ -1,8 +1,17 @@
-//! Whole Amazon Ion 1.0 documents in memory, from Rust: what `pureefjord.h` declares, and a safe wrapper over it.
+//! Amazon Ion 1.0 documents in memory, from Rust: their values, and check, show, compare and convert. What `pureefjord.h` declares, and
+//! a safe wrapper over it.
 //!
-//! Take it as a crate, or this file as a module and link `libpureefjord.a` (docs/BINDINGS.md). The answers are those of the command
+//! Take it as a crate, or this file and those beside it as a module, and link `libpureefjord.a` (docs/BINDINGS.md). The answers are those of the command
 //! `ion_cmd`, whose code is proved; of this file only tests speak. A call needs 256 KiB of stack, whatever the depth.
-#![allow(dead_code)]
+#![allow(dead_code, unused_imports)]
+
+#[path = "events.rs"]
+mod events;
+#[path = "value.rs"]
+mod value;
+
+pub use events::{Decimal, Event, Events, Iter, Kind, Precision, Stopped, Timestamp, events};
+pub use value::{Value, from_slice};
 
 use std::fmt;
 use std::hash::{BuildHasher, RandomState};
@@ -56,6 +65,9 @@ pub mod raw {
             input: *const u8, input_length: usize, options: *const Options, buffer: *mut u8, buffer_length: usize, answer: *mut Answer,
         ) -> u32;
         pub fn pureefjord_to_binary(
+            input: *const u8, input_length: usize, options: *const Options, buffer: *mut u8, buffer_length: usize, answer: *mut Answer,
+        ) -> u32;
+        pub fn pureefjord_events(
             input: *const u8, input_length: usize, options: *const Options, buffer: *mut u8, buffer_length: usize, answer: *mut Answer,
         ) -> u32;
         pub fn pureefjord_reason_name(reason: u32, buffer: *mut u8, buffer_length: usize) -> usize;
@@ -143,18 +155,18 @@ pub fn check(input: &[u8], options: &Options<'_>) -> Result<u64, Error> {
 
 /// A line for each value, and `accepted VALUES`.
 pub fn show(input: &[u8], options: &Options<'_>) -> Result<String, Error> {
-    let lines = written(raw::pureefjord_show, input, options)?;
+    let lines = written(raw::pureefjord_show, input, options, 2 * input.len() + 256)?;
     Ok(String::from_utf8(lines).expect("lines are ASCII"))
 }
 
 /// A text document of the same stream.
 pub fn to_text(input: &[u8], options: &Options<'_>) -> Result<Vec<u8>, Error> {
-    written(raw::pureefjord_to_text, input, options)
+    written(raw::pureefjord_to_text, input, options, 2 * input.len() + 256)
 }
 
 /// A binary document of the same stream. Symbols are found by a hash whose seed is drawn at random.
 pub fn to_binary(input: &[u8], options: &Options<'_>) -> Result<Vec<u8>, Error> {
-    written(raw::pureefjord_to_binary, input, options)
+    written(raw::pureefjord_to_binary, input, options, 2 * input.len() + 256)
 }
 
 /// Whether two documents have equivalent streams, and else where they part.
@@ -175,8 +187,8 @@ pub fn compare(left: &[u8], right: &[u8], options: &Options<'_>) -> Result<Verdi
     accepted(&answer, path).map(|_| Verdict::Equivalent { values: answer.number })
 }
 
-fn written(call: raw::Writes, input: &[u8], options: &Options<'_>) -> Result<Vec<u8>, Error> {
-    let (answer, text) = with_room(2 * input.len() + 256, |buffer, answer| {
+fn written(call: raw::Writes, input: &[u8], options: &Options<'_>, room: usize) -> Result<Vec<u8>, Error> {
+    let (answer, text) = with_room(room, |buffer, answer| {
         // SAFETY: the slice is lent for the call; buffer and answer are our own.
         unsafe {
             call(input.as_ptr(), input.len(), &options_of(options), buffer.as_mut_ptr(), buffer.len(), answer)

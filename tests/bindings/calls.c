@@ -99,15 +99,38 @@ static void texts(void) {
     is("show", tells(pureefjord_show(OCTETS("[5, true] 1"), &usual, b, sizeof b, &a), PUREEFJORD_ACCEPTED, 2, 56, 0, 0) && holds(b, "1 list depth 1 nodes 3\n2 int depth 0 nodes 1\naccepted 2\n"));
 }
 
-/* Under whatever seed the same document is written. */
+/* Under whatever seed the same document, and the same layout, is written. */
 static void seeds(void) {
-    uint8_t wanted[512], b[512];
-    pureefjord_to_binary(OCTETS(deep), &usual, wanted, sizeof wanted, &a);
-    for (uint64_t seed = 1; seed; seed <<= 7) {
-        const pureefjord_options seeded = {OCTETS(""), 1 << 24, 64, seed, ~seed};
-        uint64_t length = a.length;
-        uint32_t status = pureefjord_to_binary(OCTETS(deep), &seeded, b, sizeof b, &a);
-        is("a seed", tells(status, PUREEFJORD_ACCEPTED, 3, length, 0, 0) && !memcmp(b, wanted, length));
+    static uint32_t (*const written[])(const uint8_t *, size_t, const pureefjord_options *, uint8_t *, size_t, pureefjord_answer *) = {
+        pureefjord_to_binary, pureefjord_events};
+    for (int i = 0; i < 2; i++) {
+        uint8_t wanted[2048], b[2048];
+        written[i](OCTETS(deep), &usual, wanted, sizeof wanted, &a);
+        for (uint64_t seed = 1; seed; seed <<= 7) {
+            const pureefjord_options seeded = {OCTETS(""), 1 << 24, 64, seed, ~seed};
+            uint64_t length = a.length;
+            uint32_t status = written[i](OCTETS(deep), &seeded, b, sizeof b, &a);
+            is("a seed", tells(status, PUREEFJORD_ACCEPTED, 3, length, 0, 0) && length <= sizeof b && !memcmp(b, wanted, length));
+        }
+    }
+}
+
+/* The layout of 5 true, as docs/EVENTS.md has it, and of values before a refusal. */
+static void layouts(void) {
+    static const uint8_t wanted[48] = {'p', 'j', 'e', 'v', 'e', 'n', 't', '1', 3, 0, 0, 0, 0, 0, 0, 0, 2, 0, 0, 0, 0, 0, 0, 0, 5, 0, 0, 0, 0, 0, 0, 0, 1, 0, 0, 0, 0, 0, 0, 0, 1};
+    uint8_t b[64];
+    is("a layout", tells(pureefjord_events(OCTETS("5 true"), &usual, b, sizeof b, &a), PUREEFJORD_ACCEPTED, 2, 48, 0, 0) && !memcmp(b, wanted, 48));
+    is("a layout before a refusal", tells(pureefjord_events(OCTETS("5 true ]"), &usual, b, sizeof b, &a), PUREEFJORD_REFUSED, 8, 48, PUREEFJORD_ONLY, PUREEFJORD_UNEXPECTED) && !memcmp(b, wanted, 48));
+    is("of no values", tells(pureefjord_events(OCTETS(""), &usual, b, sizeof b, &a), PUREEFJORD_ACCEPTED, 0, 16, 0, 0) && b[8] == 1);
+    for (size_t room = 0; room <= 64; room++) {
+        uint8_t *exact = __real_malloc(room ? room : 1);
+        memset(exact, 7, room ? room : 1);
+        memset(b, 7, sizeof b);
+        if (room >= 48)
+            memcpy(b, wanted, 48);
+        uint32_t status = pureefjord_events(OCTETS("5 true"), &usual, exact, room, &a);
+        is("a layout, a buffer of each size", tells(status, PUREEFJORD_ACCEPTED, 2, 48, 0, 0) && !memcmp(exact, b, room));
+        free(exact);
     }
 }
 
@@ -182,6 +205,7 @@ static uint32_t call_check(void) { return pureefjord_check(OCTETS(deep), &starve
 static uint32_t call_show(void) { return pureefjord_show(OCTETS(deep), &starved, wide, sizeof wide, &a); }
 static uint32_t call_text(void) { return pureefjord_to_text(OCTETS(deep), &starved, wide, sizeof wide, &a); }
 static uint32_t call_binary(void) { return pureefjord_to_binary(OCTETS(deep), &starved, wide, sizeof wide, &a); }
+static uint32_t call_events(void) { return pureefjord_events(OCTETS(deep), &starved, wide, sizeof wide, &a); }
 static uint32_t call_compare(void) { return pureefjord_compare(OCTETS(deep), OCTETS(other), &starved, wide, sizeof wide, &a); }
 
 static void *in_thread(void *unused) {
@@ -217,6 +241,7 @@ int main(void) {
     verdicts();
     catalogs();
     texts();
+    layouts();
     seeds();
     buffers();
     names();
@@ -225,6 +250,7 @@ int main(void) {
     refused_blocks("show, a block refused", call_show);
     refused_blocks("to text, a block refused", call_text);
     refused_blocks("to binary, a block refused", call_binary);
+    refused_blocks("events, a block refused", call_events);
     refused_blocks("compare, a block refused", call_compare);
     threads();
     printf("%d passed, %d failed\n", passed, failed);

@@ -80,6 +80,7 @@ static void one(const char *name, document it) {
     is(name, "show", pureefjord_show(it.octets, it.length, &deep, room, ROOM, &a) == PUREEFJORD_ACCEPTED && a.number == 1);
     is(name, "to text", pureefjord_to_text(it.octets, it.length, &deep, room, ROOM, &a) == PUREEFJORD_ACCEPTED && a.number == 1);
     is(name, "to binary", pureefjord_to_binary(it.octets, it.length, &deep, room, ROOM, &a) == PUREEFJORD_ACCEPTED && a.number == 1);
+    is(name, "events", pureefjord_events(it.octets, it.length, &deep, room, ROOM, &a) == PUREEFJORD_ACCEPTED && a.number == 1);
 }
 
 static void two(const char *name, document left, document right, uint32_t verdict) {

@@ -1,12 +1,19 @@
-"""Whole Amazon Ion 1.0 documents in memory, text or binary: check, show, compare, convert.
+"""Amazon Ion 1.0 documents in memory, text or binary: their values, and check, show, compare, convert.
 
 The answers are those of the command `ion_cmd`, whose code is proved; of this module only tests speak. A document is bytes,
 a bytearray, a memoryview, an mmap, or the path of a file (`pathlib.Path`). Nothing is copied of it, and Python's lock is let go of
 for the call: no other thread may write to a bytearray, a memoryview, an mmap or a mapped file before the call returns, nor another
 process to the file. What a call would answer of octets that change isn't said.
 
+    >>> loads("{id: 7, price: 38.01, tags: [new, 'on sale']}")
+    {'id': 7, 'price': Decimal('38.01'), 'tags': [Symbol('new'), Symbol('on sale')]}
     >>> compare(b"{a: [1, 2]}", b"{a: [1, 3]}")
     Different(index=1, path='a [2]')
+
+Values are None, bool, int, `decimal.Decimal`, str, bytes of a blob, list and dict, and the types of this module for what Python
+hasn't: `Null` of a type, `Timestamp`, `Symbol`, `Clob`, `Sexp`, `Struct` where a name repeats or is unknown, and `Annotated` around
+a value with annotations. `==` is that of these types, to which 1.0 and 1.00 are equal, and a symbol and a string of the same text;
+whether documents are equivalent in Ion is for `compare` to say.
 
 A call needs 256 KiB of stack, whatever the depth; a thread has more, unless `threading.stack_size` said less.
 
@@ -15,28 +22,45 @@ may go (1 to 128), and `item`, how many octets a top-level value may have (1 to 
 """
 from __future__ import annotations
 
+import io
+import os
+import pathlib
 from dataclasses import dataclass
-from typing import Callable, List, Sequence, Tuple, Union
+from typing import IO, Any, Callable, Iterator, List, Sequence, Tuple, Union
 
 from . import _library
 from ._library import Document
+from ._loading import each
+from ._values import Annotated, Clob, Null, Sexp, Struct, Symbol, Timestamp
 
 __all__ = [
+    "Annotated",
+    "Clob",
     "Different",
     "Document",
     "Equivalent",
     "Fault",
+    "Null",
     "Refused",
+    "Sexp",
+    "Struct",
+    "Symbol",
+    "Timestamp",
     "assert_same_ion",
     "check",
     "compare",
     "compare_each",
+    "events",
+    "load",
+    "loads",
     "show",
     "to_binary",
     "to_text",
+    "values",
 ]
 __version__ = _library.VERSION
 
+Source = Union[Document, str, IO[Any], io.IOBase]  # of `loads` and `values`
 _DEPTH, _ITEM = 64, 1 << 24
 _SIDES = ("", "", "left", "right", "catalog")
 
@@ -47,12 +71,12 @@ class Refused(ValueError):
     offset: the octet that decides: no document begins with so many of the first octets, or the input ended there
     reason: why, as "Malformed"; `man ion_cmd` has each in words
     side: "left", "right", "catalog", or "" for the only document
-    before: what was written of the values before, by `show`, `to_text` and `to_binary`
+    before: what was made of the values before: octets by `show`, `to_text`, `to_binary` and `events`, a list by `load` and `loads`
     """
 
     __match_args__ = ("side", "offset", "reason")
 
-    def __init__(self, side: str, offset: int, reason: str, before: bytes = b"") -> None:
+    def __init__(self, side: str, offset: int, reason: str, before: Any = b"") -> None:
         super().__init__(side, offset, reason, before)
         self.side, self.offset, self.reason, self.before = side, offset, reason, before
 
@@ -98,11 +122,11 @@ class Different:
         return False
 
 
-def _refusal(answer: _library.Answer, before: bytes = b"") -> Refused:
+def _refusal(answer: _library.Answer, before: Any = b"") -> Refused:
     return Refused(_SIDES[answer.whose], answer.number, _library.REASONS[answer.reason], before)
 
 
-def _raise(answer: _library.Answer, before: bytes = b"") -> None:
+def _raise(answer: _library.Answer, before: Any = b"") -> None:
     """Raises what an answer is neither a document nor a verdict for."""
     if answer.status == _library.REFUSED:
         raise _refusal(answer, before)
@@ -115,7 +139,7 @@ def _raise(answer: _library.Answer, before: bytes = b"") -> None:
 
 def check(document: Document, *, catalog: Document = b"", depth: int = _DEPTH, item: int = _ITEM) -> int:
     """How many values the document has. Raises Refused, Fault, MemoryError; ValueError where the limits are none."""
-    answer, _ = _library.call(_library.check, (document,), catalog, depth, item, -1)
+    answer = _library.counted(_library.check, document, catalog, depth, item)
     _raise(answer)
     return answer.number
 
@@ -138,11 +162,69 @@ def to_binary(document: Document, *, catalog: Document = b"", depth: int = _DEPT
     return _written(_library.to_binary, document, catalog, depth, item)
 
 
+def events(document: Document, *, catalog: Document = b"", depth: int = _DEPTH, item: int = _ITEM) -> bytes:
+    """The layout of the values, 16 octets for each event and behind them all texts, as docs/EVENTS.md tells. Raises what `check` does."""
+    answer, layout = _library.laid(document, catalog, depth, item)
+    _raise(answer, bytes(layout))
+    return bytes(layout)
+
+
 def _written(function: Callable[..., int], document: Document, catalog: Document, depth: int, item: int) -> bytes:
-    length = 0 if hasattr(document, "__fspath__") else len(document)  # type: ignore[arg-type]
-    answer, text = _library.call(function, (document,), catalog, depth, item, 2 * length + 256)
+    answer, text = _library.written(function, (document,), catalog, depth, item, 256, 2)
     _raise(answer, text)
     return text
+
+
+def loads(
+    document: Source, *, single_value: bool = True, catalog: Document = b"", depth: int = _DEPTH, item: int = _ITEM
+) -> Any:
+    """The one value of a document; without `single_value` the list of all of them. A str is text of Ion; an open file is read, too.
+
+    Raises what `check` does, and ValueError where there are more values than one, or none. A refusal has in `before` the list of the
+    values before.
+    """
+    answer, layout = _library.laid(_octets(document), catalog, depth, item)
+    if single_value and answer.status == _library.ACCEPTED and answer.number != 1:
+        raise ValueError(f"the document has {answer.number} values and not one; values() gives each")
+    found = list(each(layout)) if layout else []
+    _raise(answer, found)
+    return found[0] if single_value else found
+
+
+def load(
+    source: Union[str, "os.PathLike[Any]", IO[Any], io.IOBase],
+    *,
+    single_value: bool = True,
+    catalog: Document = b"",
+    depth: int = _DEPTH,
+    item: int = _ITEM,
+) -> Any:
+    """What `loads` gives of a file: of what an open one still has, or of that at a path. Raises what `loads` does, and OSError."""
+    document = source.read() if hasattr(source, "read") else pathlib.Path(os.fsdecode(source))
+    return loads(document, single_value=single_value, catalog=catalog, depth=depth, item=item)
+
+
+def values(document: Source, *, catalog: Document = b"", depth: int = _DEPTH, item: int = _ITEM) -> Iterator[Any]:
+    """The values of a document, made one by one. A str is text of Ion; a file is named by a `pathlib.Path`, or open.
+
+    The document is read as a whole before the first one is made. Where it is refused that is raised behind the values before, and
+    what `check` raises else at once.
+    """
+    answer, layout = _library.laid(_octets(document), catalog, depth, item)
+    if answer.status != _library.REFUSED or _SIDES[answer.whose]:
+        _raise(answer, [])
+    return _given(answer, layout)
+
+
+def _given(answer: _library.Answer, layout: memoryview) -> Iterator[Any]:
+    yield from each(layout)
+    _raise(answer, [])
+
+
+def _octets(document: Source) -> Document:
+    if isinstance(document, io.IOBase):
+        document = document.read()
+    return document.encode() if isinstance(document, str) else document
 
 
 def compare(
@@ -152,7 +234,7 @@ def compare(
 
     Only Equivalent is true. Raises Refused of the catalog, Fault, MemoryError; ValueError where the limits are none.
     """
-    return _verdict(*_library.call(_library.compare, (left, right), catalog, depth, item, 256))
+    return _verdict(*_library.written(_library.compare, (left, right), catalog, depth, item, 256))
 
 
 def _verdict(answer: _library.Answer, path: bytes) -> Union[Equivalent, Different, Refused]:

@@ -7,7 +7,7 @@ import mmap
 import os
 import pathlib
 import secrets
-from typing import Any, Callable, List, Sequence, Tuple, Union
+from typing import Any, Callable, List, Sequence, Tuple, TypeVar, Union
 
 Document = Union[bytes, bytearray, memoryview, mmap.mmap, "os.PathLike[str]", "os.PathLike[bytes]"]
 
@@ -80,10 +80,11 @@ def _loaded() -> ctypes.CDLL:
     library.pureefjord_compare.argtypes = [*octets, *octets, options, *octets, answer]
     library.pureefjord_to_text.argtypes = [*octets, options, *octets, answer]
     library.pureefjord_to_binary.argtypes = [*octets, options, *octets, answer]
+    library.pureefjord_events.argtypes = [*octets, options, *octets, answer]
     library.pureefjord_compare_each.argtypes = [ctypes.POINTER(_Pair), ctypes.c_size_t, options, answer, ctypes.c_size_t]
     library.pureefjord_reason_name.argtypes = [ctypes.c_uint32, *octets]
     library.pureefjord_version.argtypes = octets
-    for name in ("check", "show", "compare", "to_text", "to_binary"):
+    for name in ("check", "show", "compare", "to_text", "to_binary", "events"):
         getattr(library, "pureefjord_" + name).restype = ctypes.c_uint32
     for name in ("compare_each", "reason_name", "version"):
         getattr(library, "pureefjord_" + name).restype = ctypes.c_size_t
@@ -96,7 +97,9 @@ show = _library.pureefjord_show
 compare = _library.pureefjord_compare
 to_text = _library.pureefjord_to_text
 to_binary = _library.pureefjord_to_binary
+events = _library.pureefjord_events
 _NOTHING = ctypes.cast(b"", ctypes.c_void_p)  # a place of no octets
+_MAPPED = 1 << 16  # from so many octets on memory is mapped
 
 
 def _short(call: Callable[..., int], *words: int) -> str:
@@ -179,29 +182,74 @@ def _without_catalog(depth: int, item: int) -> _Options:
     return _options(_NOTHING, 0, depth, item)
 
 
-def call(
-    function: Callable[..., int], documents: Sequence[Document], catalog: Document, depth: int, item: int, room: int
-) -> Tuple[Answer, bytes]:
-    """The answer and the text of a call, made again with more room where the text didn't fit; `room` -1 is a call without a text."""
+_Words = List[Any]
+_Told = TypeVar("_Told")
+
+
+def _with(told: Callable[[_Words, _Options], _Told], documents: Sequence[Document], catalog: Document, depth: int, item: int) -> _Told:
+    """What is told of documents that are lent: of each its place and its length, and the options."""
     if catalog == b"" and all(type(it) is bytes for it in documents):  # ctypes lends bytes as they are, sooner than _Lent
         words = [word for it in documents for word in (it, len(it))]  # type: ignore[arg-type]
-        return _told(function, words, _without_catalog(depth, item), room)
+        return told(words, _without_catalog(depth, item))
     with _LentAll([catalog, *documents]) as (lent_catalog, *lent):
         words = [word for it in lent for word in (it.place, it.length)]
-        return _told(function, words, _options(lent_catalog.place, lent_catalog.length, depth, item), room)
+        return told(words, _options(lent_catalog.place, lent_catalog.length, depth, item))
 
 
-def _told(function: Callable[..., int], words: List[Any], options: _Options, room: int) -> Tuple[Answer, bytes]:
-    answer = Answer()
-    if room < 0:
+def counted(function: Callable[..., int], document: Document, catalog: Document, depth: int, item: int) -> Answer:
+    """The answer of a call without a text."""
+
+    def told(words: _Words, options: _Options) -> Answer:
+        answer = Answer()
         function(*words, options, answer)
-        return answer, b""
-    while True:
-        buffer = (ctypes.c_char * room)()
-        function(*words, options, buffer, room, answer)
-        if answer.length <= room:
-            return answer, ctypes.string_at(buffer, answer.length) if answer.length else b""
-        room = answer.length
+        return answer
+
+    return _with(told, (document,), catalog, depth, item)
+
+
+def written(
+    function: Callable[..., int], documents: Sequence[Document], catalog: Document, depth: int, item: int, room: int, times: int = 0
+) -> Tuple[Answer, bytes]:
+    """The answer and the text of a call, made again with more room where the text didn't fit; at first there is room for so many
+    octets, and for so many times the first document."""
+
+    def told(words: _Words, options: _Options) -> Tuple[Answer, bytes]:
+        answer, least = Answer(), room + times * words[1]
+        while True:
+            buffer = (ctypes.c_char * least)()
+            function(*words, options, buffer, least, answer)
+            if answer.length <= least:
+                return answer, ctypes.string_at(buffer, answer.length) if answer.length else b""
+            least = answer.length
+
+    return _with(told, documents, catalog, depth, item)
+
+
+def _memory(room: int) -> Any:
+    """So many octets, all 0; of many, those that nobody writes to cost nothing."""
+    if room < _MAPPED:
+        return bytearray(room)
+    try:
+        return mmap.mmap(-1, room, mmap.MAP_PRIVATE | mmap.MAP_ANONYMOUS)
+    except OSError:
+        raise MemoryError() from None
+
+
+def laid(document: Document, catalog: Document, depth: int, item: int) -> Tuple[Answer, memoryview]:
+    """The answer and the layout of a document, in memory of its own."""
+
+    def told(words: _Words, options: _Options) -> Tuple[Answer, memoryview]:
+        answer, room = Answer(), 8 * words[1] + 1024
+        while True:
+            memory = _memory(room)
+            first = ctypes.c_char.from_buffer(memory)
+            events(*words, options, ctypes.byref(first), room, answer)
+            del first
+            if answer.length <= room:
+                return answer, memoryview(memory)[: answer.length]
+            room = answer.length
+
+    return _with(told, (document,), catalog, depth, item)
 
 
 def compare_each(pairs: Sequence[Tuple[Document, Document]], catalog: Document, depth: int, item: int) -> Sequence[Answer]:
