@@ -1,11 +1,11 @@
 #!/usr/bin/env python3
-"""Writes docs/API.md and docs/API_ALL.md, or says whether they are up to date: tests/api.py [--check | --run].
+"""Writes docs/API.md, or says whether it is up to date, or writes every call: tests/api.py [--check | --run | --all FILE].
 
-The first has what `ion` gives, by task: types with their variants and public fields, calls by signature and the first sentences of
-their comments, and for each task lines of tests/calls_by_task/lines.rattle. The second has every public type and call of the library
-crates, by signature and comment, the laws apart. What a call promises stands in its contract, in the file that is named. --run runs
-those lines, unproved, in a repository made by tools/vendor.sh, and compares what they print; it needs `rt` and some minutes. The
-status is 1 where --check finds that a line has changed, that `ion` gives a name that no task has, or an item as below.
+That page has what `ion` gives, by task: types with their variants and public fields, calls by signature and the first sentences of
+their comments, and for each task lines of tests/calls_by_task/lines.rattle. FILE has every public type and call of the library
+crates, by signature and comment, the laws apart; a release has it as docs/API_ALL.md. What a call promises stands in its contract,
+in the file that is named. --run runs those lines, unproved, in a repository made by tools/vendor.sh, and compares what they print;
+it needs `rt` and some minutes. The status is 1 where --check finds that a line has changed, that `ion` gives a name that no task has, or an item as below.
 
 --check also looks for what is public for no reason that is written down: of every library each type and call is
 one of PLAIN, or a law that docs/PROVED.md names, or has a row in the table of docs/DECISIONS.md; and that table
@@ -18,7 +18,7 @@ import sys
 import tempfile
 
 TOP = pathlib.Path(__file__).resolve().parent.parent
-PAGE, WHOLE_PAGE = TOP / "docs" / "API.md", TOP / "docs" / "API_ALL.md"
+PAGE = TOP / "docs" / "API.md"
 LINES = TOP / "tests" / "calls_by_task"
 TABLE = "## What the crates give beside values, readers, writers and the calls over documents"
 CRATES = (
@@ -38,7 +38,7 @@ Functions that do nothing when they are called: a proof cites their clauses.
 TASK_HEAD = """# Calls by task
 
 What `use ion::{..}` gives, in the order in which one needs it, made by `tests/api.py`. It is for **Rattle**, a dialect of Rust with
-contracts: Cargo doesn't build it. From C, Python and Rust there are [bindings](BINDINGS.md) for whole documents.
+contracts: Cargo doesn't build it. From C, Python and Rust there are [bindings](BINDINGS.md).
 `tools/vendor.sh . >> crates.txt` copies the crates into a repository; a crate that lists `ion` then proves them once for a machine.
 
 Each block of lines is run by `tests/api.py --run`. `crates/ion_example` has more, proved: a file that an argument names is read there,
@@ -49,7 +49,7 @@ and its decimals are summed (`src/uses/summing.rt`). Three things that all calls
   hands both on.
 - A call that is generic over a reader wants `R: Read + Drop`.
 
-[Every call](API_ALL.md) of every crate is on another page, with the laws. [What is proved](PROVED.md) says what each promises.
+`tests/api.py --all FILE` writes a page of every call of every crate, with the laws; a release has it. [What is proved](PROVED.md) says what each promises.
 """
 # The headings of tests/calls_by_task/lines.rattle, with the names that one needs for them first.
 TASKS = {
@@ -277,7 +277,7 @@ def page():
             parts += entry(name, *types[name], methods.get(name, {}))
         if heading == "Make a value":
             parts.append("\n".join(method_row(it, *methods["Value"][it][:2]) for it in MAKING) + "\n")
-    parts.append("## Laws\n\n`ion::laws` has the laws of documents, for who proves on: [laws](API_ALL.md#laws-for-who-proves).\n")
+    parts.append("## Laws\n\n`ion::laws` has the laws of documents, for who proves on.\n")
     return "\n".join(parts)
 
 
@@ -329,7 +329,8 @@ def rows():
 
 def unexplained():
     """What is public for no reason that is written down, and what the table names that isn't public."""
-    proved = (TOP / "docs" / "PROVED.md").read_text(encoding="utf-8")
+    pages = [TOP / "docs" / "PROVED.md", *(TOP / "docs" / "proved").glob("*.md")]
+    proved = "".join(path.read_text(encoding="utf-8") for path in pages)
     table = list(rows())
     there = {}
     for root in sorted(TOP.glob("crates/*/src/lib.rt")):
@@ -350,21 +351,21 @@ def unexplained():
 
 
 def main():
-    pages = {PAGE: page(), WHOLE_PAGE: whole_page()}
     if sys.argv[1:] == ["--check"]:
         found = [*unexplained(), *without_task()]
-        for path, text in pages.items():
-            if not path.is_file() or path.read_text(encoding="utf-8") != text:
-                found.append(f"docs/{path.name} isn't up to date: run tests/api.py")
+        if not PAGE.is_file() or PAGE.read_text(encoding="utf-8") != page():
+            found.append("docs/API.md isn't up to date: run tests/api.py")
         print("\n".join(found), end="\n" if found else "")
         return 1 if found else 0
     if sys.argv[1:] == ["--run"]:
         return run()
+    if len(sys.argv) == 3 and sys.argv[1] == "--all":
+        pathlib.Path(sys.argv[2]).write_text(whole_page(), encoding="utf-8")
+        return 0
     if sys.argv[1:]:
         print(__doc__.splitlines()[0])
         return 3
-    for path, text in pages.items():
-        path.write_text(text, encoding="utf-8")
+    PAGE.write_text(page(), encoding="utf-8")
     return 0
 
 

@@ -1,7 +1,7 @@
 #!/usr/bin/env python3
-"""Does what the documents cite stand where they say? Of docs/PROVED.md each row's functions, clauses and definitions in the
-files of the row; of README and all of docs/ each path, and each link with its heading. Prints what it doesn't find, and ends with 1
-then."""
+"""Does what the documents cite stand where they say? Of docs/PROVED.md and docs/proved/ each row's functions, clauses and
+definitions in the files of the row; of README and all of docs/ each path, and each link with its heading. Prints what it doesn't
+find, and ends with 1 then."""
 import functools
 import os
 import re
@@ -80,9 +80,15 @@ def paths_of(cell, crates):
 
 
 def proved():
+    for page in sorted(p for p in FILES if re.fullmatch(r"docs/(PROVED|proved/\w+)\.md", p)):
+        yield from (f"{page}:{number}: not there: {name}" for number, name in rows(page))
+
+
+def rows(page):
+    """What the rows of a page cite that isn't there, each with the line's number."""
     crates = []
-    for number, line in enumerate(open(f"{ROOT}/docs/PROVED.md"), 1):
-        if line.startswith("## "):
+    for number, line in enumerate(open(f"{ROOT}/{page}"), 1):
+        if line.startswith("# "):
             crates = re.findall(r"`(\w+)`", line)
         cells = [cell.strip() for cell in line.strip().strip("|").split(" | ")]
         if not line.startswith("| ") or len(cells) != 3 or cells[1] == "By":
@@ -93,12 +99,11 @@ def proved():
             cited = [re.findall(r"`([A-Za-z_][\w:]*)`", side.replace("\0", "::")) for side in (before, after)]
             for name in cited[0]:
                 missing += stands(name, cited[1], paths) if paths else []
-        for name in missing:
-            yield f"docs/PROVED.md:{number}: not there: {name}"
+        yield from ((number, name) for name in missing)
 
 
 def cited_paths():
-    for document in ["README.md"] + sorted(p for p in FILES if re.fullmatch(r"docs/\w+\.md", p) and "API" not in p):
+    for document in ["README.md"] + sorted(p for p in FILES if re.fullmatch(r"docs/(proved/)?\w+\.md", p) and "API" not in p):
         for number, line in enumerate(open(f"{ROOT}/{document}"), 1):
             for path in re.findall(r"`([^` ]+)", line):
                 if PATH.search(path) and not SKIPPED.search(path):
@@ -114,7 +119,7 @@ def anchors(path):
 
 
 def links():
-    for document in ["README.md", "CHANGELOG.md"] + sorted(p for p in FILES if re.fullmatch(r"(docs|bench)/\w+\.md", p)):
+    for document in ["README.md", "CHANGELOG.md"] + sorted(p for p in FILES if re.fullmatch(r"(docs|docs/proved|bench)/\w+\.md", p)):
         for number, line in enumerate(open(f"{ROOT}/{document}"), 1):
             for target in re.findall(r"\]\(([^)\s]+)\)", re.sub(r"`[^`]*`", "", line)):
                 path, _, anchor = target.partition("#")

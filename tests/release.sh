@@ -117,7 +117,8 @@ debian() {
     is 'nothing is left' "$(find "$root/usr" -type f 2> /dev/null)" ''
 }
 
-# in_c PREFIX: the lines of docs/BINDINGS.md for C, over what was installed there; each has to say that its documents are equivalent.
+# in_c PREFIX: the lines of docs/BINDINGS.md for C, over what was installed there; each has to say that its documents are equivalent. And the
+# example of a cursor over values.
 in_c() (
     set -e
     rm -rf "$folder/c"
@@ -127,6 +128,8 @@ in_c() (
         grep -v -e python -e venv -e cargo -e main.rs | sed "s|^P=.*|P='$1'|" > lines
     [ "$(bash -e lines | sort | uniq -c | tr -s ' ')" = ' 3 equivalent 1' ]
     PKG_CONFIG_PATH="$1/lib/pkgconfig" pkg-config --exact-version="${version}" pureefjord
+    cc -I"$1/include" bindings/c/sum.c "$1/lib/libpureefjord.a" -o sum
+    [ "$(./sum id examples/order.json)" = '7 in 1 records' ]
 )
 
 cmake_targets() (
@@ -180,9 +183,14 @@ def test_differs():
         raise AssertionError("they differ")
 
 
+def test_values():
+    assert pureefjord.loads("{a: [1]}") == {"a": [1]}
+
+
 if __name__ == "__main__":
     test_same()
     test_differs()
+    test_values()
 END
     well 'a Python test' "$folder/venv/bin/python" "$folder/test_writer.py"
     well 'removed by pip' "$folder/venv/bin/pip" uninstall -q -y pureefjord
@@ -205,11 +213,12 @@ edition = "2024"
 pureefjord = { path = "pureefjord-rust" }
 END
     cat > "$folder/user/src/main.rs" << 'END'
-use pureefjord::{Options, Verdict, compare};
+use pureefjord::{Options, Verdict, compare, from_slice};
 
 fn main() {
     let verdict = compare(b"{a: 1}", b"{a: 2}", &Options::default());
     assert_eq!(verdict, Ok(Verdict::Different { index: 1, path: "a".to_string() }));
+    assert_eq!(from_slice(b"{a: 1}", &Options::default()).unwrap()[0].to_string(), "{a:1}");
 }
 END
     well 'a program by Cargo' sh -c 'cd "$1" && cargo run -q --offline' - "$folder/user"

@@ -101,8 +101,10 @@ tree() {
     cp "$top/bench/README.md" "$about/bench"
     cp "$top/README.md" "$top/CHANGELOG.md" "$top/VERSION" "$about"
     cp "$top"/docs/*.md "$about/docs"
+    cp -R "$top/docs/proved" "$about/docs"
+    python3 "$top/tests/api.py" --all "$about/docs/API_ALL.md"
     cp -R "$top/examples" "$about"
-    cp "$top/bindings/c/example.c" "$about/bindings/c"
+    cp "$top"/bindings/c/*.c "$about/bindings/c"
     echo 'Licence: none chosen yet.' > "$about/copyright"
     if [ "$proved" = yes ]; then cp "$work/out/PROOF.txt" "$about"; fi
 }
