@@ -28,6 +28,8 @@ pub fn values<'r, 'a, R: Inlet>(
     ensures reads { IfOk result (λ values. reads_of values.place ≡ limits.reads) }
     ensures cause { IfErr result (λ fault. fault ≡ Fault.Memory) }
 {
-    let items = DocReader::new(alloc, catalog, limits).map_err(|_| Fault::Memory)?;
+    let Ok(items) = DocReader::new(alloc, catalog, limits) else {
+        return Err(Fault::Memory);
+    };
     values_by(alloc, items, limits.reads(), reader)
 }
